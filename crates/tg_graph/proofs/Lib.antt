@@ -1,0 +1,17 @@
+pub mod Outcomes
+pub mod Sets
+pub mod Shown
+pub mod Changes
+pub mod Vertices
+pub mod Listed
+pub mod Ends
+pub mod Agreement
+pub mod Opened
+pub mod Kept
+pub mod SameEdges
+pub mod Replies
+pub mod Stays
+pub mod Alike
+pub mod EdgeLists
+pub mod SearchLemmas
+pub mod OtherWords

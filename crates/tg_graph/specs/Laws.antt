@@ -1,0 +1,96 @@
+-- Laws of the rules, and the definitions of openings and edge lists in other words.
+use Rattle.std.specs.Prelude.{◌≡◌, ◌≤◌, ℕ, Bool, ◌==◌, true, false, List, [], ◌∷◌, ◌++◌, IsTrue, Some, None, ◌↔◌}
+use Rattle.std.specs.Ordering.{nat_cmp}
+use Rattle.std.specs.Cmp.Lexicographic.{pointwise}
+use Rattle.std.specs.FinMap.Entries.{is_sorted}
+use Rattle.std.specs.FinSet as set
+use Rattle.tg_rights.specs.Letters.{Letters, has}
+use Rattle.tg_rights.specs.Membership.{Holds}
+use Rattle.tg_rights.specs.declared.kind.Kind.TheVariants as kind
+use Rattle.tg_rights.specs.declared.command.Command.{Command}
+use Rattle.tg_rights.specs.declared.outcome.Outcome.{Outcome}
+use Rattle.tg_rights.specs.declared.outcome.Reply.{Reply}
+use Rattle.tg_graph.specs.declared.config.Config.{Config}
+use Rattle.tg_graph.specs.Triples.{Triple}
+use Rattle.tg_graph.specs.Protection.{Protection, IsGraph, IsSubject, IsVertex, IsEdge, vertex, label}
+use Rattle.tg_graph.specs.Opening.{Edge, first_fault, has_twice, is_principal, principal_count, opening, same_pair}
+use Rattle.tg_graph.specs.Paths.{Agree}
+use Rattle.tg_graph.specs.Agreement.{IsRepliedAlike, KeepsViewers}
+use Rattle.tg_graph.specs.Rules.{Judged, Allowed, Applies, after, allowed_reply, edges_of, is_create}
+
+-- each command is either allowed or denied for one cause
+abbrev pub ExactlyOneOutcome : Type 0
+ExactlyOneOutcome =
+    (G : Protection) (x : ℕ) (c : Command) → (o : Outcome) × Judged G x c o × ((p : Outcome) → Judged G x c p → p ≡ o)
+
+-- what the rules decide in one graph, they decide in each that agrees with it for the actor
+abbrev pub OutcomesAgree : Type 0
+OutcomesAgree = (G H : Protection) (x : ℕ) (c : Command) (o : Outcome) → Agree G H x → Judged G x c o → Judged H x c o
+
+-- an allowed command that makes no vertex is answered alike in graphs that agree for the actor
+abbrev pub RepliesAgree : Type 0
+RepliesAgree =
+    (G H : Protection) (x : ℕ) (c : Command) → IsGraph G → IsGraph H → Agree G H x → Allowed G x c → is_create c ≡ false → allowed_reply G c ≡ allowed_reply H c
+
+-- a subject's command, carried out or refused, has the same reply in each graph that agrees for it, but for a new
+-- vertex's serial and for fullness; and graphs that agree for some subjects go on agreeing for them
+abbrev pub AnswersAgree : Type 0
+AnswersAgree =
+    (G K : Protection) (x : ℕ) (c : Command) (answer : Reply) → IsGraph G → Applies G x c answer K → IsRepliedAlike G x c answer × KeepsViewers G x c answer K
+
+-- an allowed command of a subject leaves a graph, in which each subject is still one
+abbrev pub CommandsKeepGraphs : Type 0
+CommandsKeepGraphs =
+    (G : Protection) (x : ℕ) (c : Command) → IsGraph G → IsSubject G x → Allowed G x c →
+    IsGraph (after G x c) × ((v : ℕ) → IsSubject G v → IsSubject (after G x c) v)
+
+-- a configuration without a fault opens a graph of its principals, who are few
+abbrev pub OpeningsAreSound : Type 0
+OpeningsAreSound =
+    (c : Config) → first_fault c ≡ None →
+    (principal_count c ≤ 64) × ((k : ℕ) → is_principal (principal_count c) k ≡ true → IsSubject (opening c) k)
+
+-- a graph of some of the vertices, with all their edges, agrees for each of these that is a subject
+abbrev pub PartsAgree : Type 0
+PartsAgree =
+    (G H : Protection) →
+    ((v : ℕ) → IsVertex H v → vertex G v ≡ vertex H v) →
+    ((v w : ℕ) → IsVertex H v → label G v w ≡ label H v w) →
+    ((v w : ℕ) → IsVertex H v → IsEdge G v w → IsVertex H w) →
+    (x : ℕ) → IsVertex H x → IsSubject G x → Agree G H x
+
+-- a configuration opens the graph of its list: the vertices are its principals, subjects of no text with the serials
+-- from 1 on, and a triple is there exactly where some edge of the list has it
+pub record IsOpened (c : Config) : Type 0 where
+  pub vertices : (v : ℕ) → IsVertex (opening c) v ↔ ((1 ≤ v) × (v ≤ principal_count c))
+  pub subjects : (v : ℕ) → IsVertex (opening c) v → vertex (opening c) v ≡ Some (record { kind = kind.Subject; text = [] })
+  pub next : (opening c).next ≡ c.next
+  pub triples : (t : Triple) →
+      (set.contains (opening c).triples t ≡ true) ↔ ((e : Edge) × Holds c.edges.items e × (e.0 ≡ t.from) × (e.2 ≡ t.to) × (has e.1 t.right ≡ true))
+
+abbrev pub OpeningsAreAsListed : Type 0
+OpeningsAreAsListed = (c : Config) → IsOpened c
+
+-- the edge list of a vertex has each vertex over which it has rights, with the label and nothing else, by rising serial
+pub record IsEdgeList (G : Protection) (z : ℕ) : Type 0 where
+  pub edges : (y : ℕ) (l : Letters) → Holds (edges_of G z) (y, l) ↔ ((l ≡ label G z y) × IsEdge G z y)
+  pub rising : IsTrue (is_sorted nat_cmp (edges_of G z))
+
+abbrev pub EdgesAreListed : Type 0
+EdgesAreListed = (G : Protection) (z : ℕ) → IsGraph G → IsEdgeList G z
+
+-- some element of the list stands before one that the test finds the same
+pub record StandsTwice {X : Type 0} (same : X → X → Bool) (xs : List X) : Type 0 where
+  pub before : List X
+  pub first : X
+  pub between : List X
+  pub again : X
+  pub after : List X
+  pub is : xs ≡ before ++ first ∷ (between ++ again ∷ after)
+  pub alike : IsTrue (same first again)
+
+-- a pair of vertices, or a name, is found twice exactly where it stands at two places of the list
+abbrev pub TwiceIsTwoPlaces : Type 0
+TwiceIsTwoPlaces =
+    ((es : List Edge) → (has_twice same_pair es ≡ true) ↔ StandsTwice same_pair es)
+    × ((names : List (List ℕ)) → (has_twice (pointwise (λ a b. a == b)) names ≡ true) ↔ StandsTwice (pointwise (λ a b. a == b)) names)

@@ -1,0 +1,14 @@
+pub mod Triples
+pub mod Protection
+pub mod Rules
+pub mod Fullness
+pub mod Paths
+pub mod Agreement
+pub mod Searching
+pub mod Derivations
+pub mod Laws
+pub mod Views
+pub mod Codes
+pub mod Opening
+pub use Rattle.tg_rights.specs.Letters
+pub use Rattle.tg_rights.specs.Command

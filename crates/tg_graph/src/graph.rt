@@ -1,0 +1,424 @@
+//! The plain graph, which is never collected.
+ghost use Rattle.std.specs.Prelude.{◌≡◌, ◌≢◌, ◌≤◌, ◌+◌, ◌<◌, ◌↔◌, true, [], ◌∷◌, None, IsTrue, MatchBool, OnOk, OnErr, IfOk, IfErr};
+ghost use Rattle.std.specs.Option.{option_map};
+ghost use Rattle.std.specs.FinMap as map;
+ghost use Rattle.std.specs.FinSet as set;
+ghost use Rattle.tg_graph.specs.Agreement.{IsRepliedAlike, KeepsViewers};
+ghost use Rattle.tg_graph.specs.Paths.{Agree, Reaches};
+ghost use Rattle.tg_graph.specs.Protection.{Protection, IsGraph, IsSubject, IsVertex, kind_of, label, vertex};
+ghost use Rattle.tg_graph.specs.Rules.{Judged, Applies, text_of, with_text, Allowed, after, allowed_reply, edges_of, need, needs, unmet_cause, first_unmet, last_serial, is_create};
+ghost use Rattle.tg_graph.specs.Searching.{IsSearching, work_left};
+ghost use Rattle.tg_graph.specs.Opening.{first_fault, opening, subjects, IsRefusal};
+ghost use Rattle.tg_graph.specs.Triples.{edge};
+
+use crate::config::{Config, OpenFault, first_fault};
+use crate::rules::{document_of, is_create, is_distinct, names_rights};
+use crate::search::Search;
+use crate::vertex::Vertex;
+use std::alloc::{AllocError, Global};
+use std::collections::BTreeMap;
+use std::marker::Model;
+use tg_rights::{Cause, Command, EdgeList, Kind, Outcome, Reply, Rights, Text, Which};
+
+/// The last serial that a vertex may have. Serials are counted up from 1, and none is given twice.
+pub const LAST_SERIAL: u64 = 18_446_744_073_709_551_614;
+
+/// A protection graph (Lipton and Snyder 1977; Bishop, Computer Security) in which nothing is ever collected: the
+/// model of every other crate. Contracts see its vertices, the next serial and its triples of two vertices and a right.
+#[derive(Drop)]
+pub struct Graph {
+    vertices: BTreeMap<u64, Vertex>,
+    labels: BTreeMap<(u64, u64), Rights>,
+    next: u64,
+    alloc: Global,
+}
+
+impl Model for Graph {
+    ghost use Rattle.tg_graph.specs.Protection.{Protection, IsGraph};
+    ghost use Rattle.tg_graph.specs.Views.{protection_of};
+
+    ghost Value = { Protection };
+
+    ghost use Rattle.tg_graph.specs.Codes.{protection_code};
+
+    ghost coded = { protection_code };
+
+    ghost view = { λ a. protection_of a.vertices.entries a.labels.entries a.next };
+
+    ghost invariant = { λ a. IsGraph (protection_of a.vertices.entries a.labels.entries a.next) };
+}
+
+impl Graph {
+    /// The graph that the configuration opens: principal k of its list is the subject of serial k, counted from 1.
+    /// Otherwise the first of its faults in the order of `OpenFault`, each asked over the whole configuration;
+    /// `OutOfMemory` only where there is no other.
+    pub fn build(alloc: Global, config: &Config) -> Result<Graph, OpenFault>
+        ensures ok { IfOk result (λ graph. graph ≡ opening config.now) }
+        ensures sound { IfOk result (λ _. first_fault config.now ≡ None) }
+        ensures graph { IfOk result IsGraph }
+        ensures err { IfErr result (λ fault. IsRefusal config.now fault) }
+    {
+        match first_fault(config) {
+            Some(fault) => Err(fault),
+            None => match Graph::open(alloc, config) {
+                Ok(graph) => {
+                    graph.soundness();
+                    Ok(graph)
+                }
+                Err(_) => Err(OpenFault::OutOfMemory),
+            },
+        }
+    }
+
+    /// The graph of a sound configuration.
+    fn open(alloc: Global, config: &Config) -> Result<Graph, AllocError>
+        requires { first_fault config.now ≡ None }
+        ensures { IfOk result (λ graph. graph ≡ opening config.now) }
+    {
+        let principals = config.principals.as_slice();
+        let count = principals.len() as u64;
+        let mut graph = Graph::with_subjects(alloc, count, config.next)?;
+        for edge in &config.edges {
+            graph.add_rights(edge.0, edge.2, edge.1)?;
+        }
+        Ok(graph)
+    }
+
+    /// A graph of this many subjects, with no edge.
+    fn with_subjects(alloc: Global, count: u64, next: u64) -> Result<Graph, AllocError>
+        requires { count < next }
+        ensures { IfOk result (λ graph. graph ≡ record { vertices = subjects count; next = next; triples = set.empty }) }
+    {
+        let mut vertices = BTreeMap::new(alloc);
+        for index in 0..count {
+            let subject = Vertex {
+                kind: Kind::Subject,
+                text: Text::empty(alloc),
+            };
+            vertices.insert(index + 1, subject)?;
+        }
+        Ok(Graph {
+            vertices,
+            labels: BTreeMap::new(alloc),
+            next,
+            alloc,
+        })
+    }
+
+    /// Does nothing. By its clause a caller learns what every graph has: the ends of each triple are distinct
+    /// vertices, and the next serial is above every vertex's.
+    pub fn soundness(&self)
+        ensures { IsGraph self.now }
+    {
+        let _ = &self.next;
+    }
+
+    /// The label from one vertex to another: the rights that `from` has over `to`. It is empty where there is no edge,
+    /// and where one of the serials is no vertex's.
+    pub fn rights(&self, from: u64, to: u64) -> Rights
+        ensures { result ≡ label self.now from to }
+    {
+        match self.labels.get(&(from, to)) {
+            Some(rights) => *rights,
+            None => Rights::empty(),
+        }
+    }
+
+    /// What the vertex of this serial is; `None` where there is none.
+    pub fn kind(&self, vertex: u64) -> Option<Kind>
+        ensures { result ≡ kind_of self.now vertex }
+    {
+        match self.vertices.get(&vertex) {
+            Some(found) => Some(found.kind),
+            None => None,
+        }
+    }
+
+    /// How the rules alone decide a command of the actor: allowed, or denied for the first cause that holds, in the
+    /// order of `Cause`; never full. A subject's command is judged alike in all graphs that agree for it: those where the
+    /// same paths lead from it, to vertices of the same kind, text and labels.
+    pub fn judge(&self, actor: u64, command: &Command) -> Outcome
+        requires { IsSubject self.now actor }
+        ensures decided { Judged self.now actor command.now result }
+        ensures agrees { (H : Protection) → Agree self.now H actor → Judged H actor command.now result }
+    {
+        self.decide(actor, command)
+    }
+
+    /// The first cause for which the rules deny a command of the actor, if there is one.
+    fn decide(&self, actor: u64, command: &Command) -> Outcome
+        ensures { Judged self.now actor command.now result }
+    {
+        let rule = command.rule();
+        if !names_rights(command) {
+            return Outcome::Denied(rule, Cause::Empty);
+        }
+        if !is_distinct(actor, command) {
+            return Outcome::Denied(rule, Cause::NotDistinct);
+        }
+        if let Some(cause) = self.first_missing(actor, command) {
+            return Outcome::Denied(rule, cause);
+        }
+        match document_of(command) {
+            Some(vertex) if self.kind(vertex) != Some(Kind::Document) => {
+                Outcome::Denied(rule, Cause::NotDocument { vertex })
+            }
+            _ => Outcome::Allowed,
+        }
+    }
+
+    /// The first rights that the actor's command needs and lacks.
+    fn first_missing(&self, actor: u64, command: &Command) -> Option<Cause>
+        ensures { result ≡ option_map (unmet_cause self.now) (first_unmet self.now (needs actor command.now)) }
+    {
+        match command {
+            Command::Take { rights, over, from } => match self.missing(actor, *from, Rights::TAKE) {
+                None => self.missing(*from, *over, *rights),
+                cause => cause,
+            },
+            Command::Grant { rights, over, to } => match self.missing(actor, *to, Rights::GRANT) {
+                None => self.missing(actor, *over, *rights),
+                cause => cause,
+            },
+            Command::Create { .. } => None,
+            Command::Remove { rights, over } => self.missing(actor, *over, *rights),
+            Command::Read { over } => self.missing(actor, *over, Rights::READ),
+            Command::Write { over, .. } => self.missing(actor, *over, Rights::WRITE),
+            Command::Look { at } if *at == actor => None,
+            Command::Look { at } => self.missing(actor, *at, Rights::TAKE),
+        }
+    }
+
+    /// What `from` lacks over `to` of the rights.
+    fn missing(&self, from: u64, to: u64, rights: Rights) -> Option<Cause>
+        ensures { result ≡ option_map (unmet_cause self.now) (first_unmet self.now (need from to rights ∷ [])) }
+    {
+        let label = self.rights(from, to);
+        if label.contains(rights) {
+            None
+        } else {
+            Some(Cause::Missing {
+                from,
+                to,
+                rights: rights.minus(label),
+            })
+        }
+    }
+
+    /// Carries out the actor's command where the rules allow it and, for a create, a serial is left; otherwise the
+    /// graph stays, and the reply says why: `Denied` by the rule, with the first cause, or `Full` for serials, which is
+    /// the only thing that a plain graph has too few of. `AllocError` where there is no memory for what is told or
+    /// stored; then too the graph stays. The command is used up in each case.
+    ///
+    /// In graphs that agree for the actor the reply is the same, a new vertex's serial and fullness aside, and graphs
+    /// with the same next serial that agree for some subjects, the actor among them, agree for them afterwards.
+    pub fn apply(&mut self, actor: u64, command: Command) -> Result<Reply, AllocError>
+        requires { IsSubject self.old actor }
+        ensures ok { IfOk result (λ reply. Applies self.old actor command reply self.new) }
+        ensures err { OnErr result (self.new ≡ self.old) }
+        ensures graph { IsGraph self.new }
+        ensures alike { IfOk result (λ reply. IsRepliedAlike self.old actor command reply) }
+        ensures viewers { IfOk result (λ reply. KeepsViewers self.old actor command reply self.new) }
+    {
+        self.soundness();
+        let answer = self.answer(actor, command);
+        self.soundness();
+        answer
+    }
+
+    /// Carries out the actor's command, or says why not.
+    fn answer(&mut self, actor: u64, command: Command) -> Result<Reply, AllocError>
+        requires { IsSubject self.old actor }
+        ensures ok { IfOk result (λ reply. Applies self.old actor command reply self.new) }
+        ensures err { OnErr result (self.new ≡ self.old) }
+    {
+        match self.decide(actor, &command) {
+            Outcome::Allowed if is_create(&command) && self.next > LAST_SERIAL => {
+                Ok(Reply::Full(Which::Serials))
+            }
+            Outcome::Allowed => self.carry_out(actor, command),
+            Outcome::Denied(rule, cause) => Ok(Reply::Denied(rule, cause)),
+            Outcome::Full(which) => Ok(Reply::Full(which)),
+        }
+    }
+
+    /// Carries out a command that the rules allow.
+    fn carry_out(&mut self, actor: u64, command: Command) -> Result<Reply, AllocError>
+        requires subject { IsSubject self.old actor }
+        requires allowed { Allowed self.old actor command }
+        requires room { is_create command ≡ true → self.old.next ≤ last_serial }
+        ensures reply { IfOk result (λ reply. reply ≡ allowed_reply self.old command) }
+        ensures ok { OnOk result (self.new ≡ after self.old actor command) }
+        ensures err { OnErr result (self.new ≡ self.old) }
+    {
+        let _ = &self.vertices;
+        match command {
+            Command::Take { rights, over, .. } => {
+                self.add_rights(actor, over, rights)?;
+                Ok(Reply::Done)
+            }
+            Command::Grant { rights, over, to } => {
+                self.add_rights(to, over, rights)?;
+                Ok(Reply::Done)
+            }
+            Command::Create { kind, rights } => {
+                let serial = self.add_vertex(actor, kind, rights)?;
+                Ok(Reply::Created(serial))
+            }
+            Command::Remove { rights, over } => {
+                self.drop_rights(actor, over, rights);
+                Ok(Reply::Done)
+            }
+            Command::Read { over } => {
+                let text = self.text(over)?;
+                Ok(Reply::Text(text))
+            }
+            Command::Write { over, text } => {
+                self.set_text(over, text);
+                Ok(Reply::Done)
+            }
+            Command::Look { at } => {
+                let edges = self.edges(at)?;
+                Ok(Reply::Edges(edges))
+            }
+        }
+    }
+
+    /// Joins the rights to the label.
+    fn add_rights(&mut self, from: u64, to: u64, rights: Rights) -> Result<(), AllocError>
+        requires from_vertex { IsVertex self.old from }
+        requires to_vertex { IsVertex self.old to }
+        requires distinct { from ≢ to }
+        ensures ok { OnOk result (self.new ≡ record self.old { triples = set.union self.old.triples (edge from rights to) }) }
+        ensures err { OnErr result (self.new ≡ self.old) }
+    {
+        let label = self.rights(from, to).union(rights);
+        self.labels.insert((from, to), label)?;
+        Ok(())
+    }
+
+    /// Takes the rights out of the label.
+    fn drop_rights(&mut self, from: u64, to: u64, rights: Rights)
+        ensures { self.new ≡ record self.old { triples = set.difference self.old.triples (edge from rights to) } }
+    {
+        let left = self.rights(from, to).minus(rights);
+        if left.is_empty() {
+            self.labels.remove(&(from, to));
+        } else if let Some(label) = self.labels.get_mut(&(from, to)) {
+            *label = left;
+        }
+    }
+
+    /// Adds a vertex of the next serial, over which the actor has the rights.
+    fn add_vertex(&mut self, actor: u64, kind: Kind, rights: Rights) -> Result<u64, AllocError>
+        requires actor_vertex { IsVertex self.old actor }
+        requires room { self.old.next ≤ last_serial }
+        ensures serial { IfOk result (λ n. n ≡ self.old.next) }
+        ensures ok { OnOk result (self.new ≡ record self.old {
+          vertices = map.insert self.old.vertices self.old.next (record { kind = kind; text = [] });
+          next = self.old.next + 1;
+          triples = set.union self.old.triples (edge actor rights self.old.next);
+        }) }
+        ensures err { OnErr result (self.new ≡ self.old) }
+    {
+        let serial = self.next;
+        let vertex = Vertex {
+            kind,
+            text: Text::empty(self.alloc),
+        };
+        self.vertices.insert(serial, vertex)?;
+        match self.labels.insert((actor, serial), rights) {
+            Ok(_) => {
+                self.next += 1;
+                Ok(serial)
+            }
+            Err(refused) => {
+                self.vertices.remove(&serial);
+                Err(refused.into())
+            }
+        }
+    }
+
+    /// A copy of the vertex's text.
+    fn text(&self, of: u64) -> Result<Text, AllocError>
+        ensures { IfOk result (λ t. t ≡ text_of self.now of) }
+    {
+        match self.vertices.get(&of) {
+            Some(found) => found.text.copy(),
+            None => Ok(Text::empty(self.alloc)),
+        }
+    }
+
+    /// Makes the text that of the vertex.
+    fn set_text(&mut self, of: u64, text: Text)
+        ensures { self.new ≡ with_text self.old of text (vertex self.old of) }
+    {
+        if let Some(found) = self.vertices.get_mut(&of) {
+            found.text = text;
+        }
+    }
+
+    /// The vertex's edges by rising serial.
+    fn edges(&self, of: u64) -> Result<EdgeList, AllocError>
+        ensures { IfOk result (λ edges. edges ≡ edges_of self.now of) }
+    {
+        let mut edges = Vec::new(self.alloc);
+        for &serial in self.vertices.keys() {
+            let label = self.rights(of, serial);
+            if !label.is_empty() {
+                edges.push((serial, label))?;
+            }
+        }
+        Ok(EdgeList::new(edges))
+    }
+
+    /// Whether a path leads from one vertex to another, along edges of any label that is not empty. A vertex reaches
+    /// itself; a serial that is no vertex's reaches nothing. `AllocError` where there is no memory for the search.
+    pub fn reaches(&self, from: u64, to: u64) -> Result<bool, AllocError>
+        ensures { IfOk result (λ reached. IsTrue reached ↔ Reaches self.now from to) }
+    {
+        if self.kind(from).is_none() {
+            return Ok(false);
+        }
+        let mut search = Search::new(self.alloc, from)?;
+        while self.advance(&mut search)? {}
+        Ok(search.seen.contains(&to))
+    }
+
+    /// Goes on along the edges of one of the vertices from which the search has not gone on yet; false without one.
+    fn advance(&self, search: &mut Search) -> Result<bool, AllocError>
+        requires { IsSearching self.now search.old }
+        ensures kept { OnOk result (IsSearching self.now search.new) }
+        ensures from { OnOk result (search.new.from ≡ search.old.from) }
+        ensures ended { IfOk result (λ more. MatchBool more
+            (work_left self.now search.new < work_left self.now search.old)
+            (search.new.left.items ≡ [])) }
+    {
+        self.soundness();
+        let Some(vertex) = search.left.pop() else {
+            return Ok(false);
+        };
+        let edges = self.edges(vertex)?;
+        for edge in edges.get() {
+            search.add(edge.0)?;
+        }
+        Ok(true)
+    }
+
+    /// An equal graph; `AllocError` where there is no memory for it.
+    pub fn copy(&self) -> Result<Graph, AllocError>
+        ensures equal { IfOk result (λ graph. graph ≡ self.now) }
+        ensures graph { IfOk result IsGraph }
+    {
+        let vertices = self.vertices.clone()?;
+        let labels = self.labels.clone()?;
+        let copied = Graph {
+            vertices,
+            labels,
+            next: self.next,
+            alloc: self.alloc,
+        };
+        copied.soundness();
+        Ok(copied)
+    }
+}

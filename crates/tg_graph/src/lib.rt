@@ -1,0 +1,71 @@
+//! The take-grant rules over a plain graph that is never collected: the model of every other crate.
+#![tactic(auto)]
+
+ghost use Rattle.tg_graph.specs.Laws.{AnswersAgree, CommandsKeepGraphs, EdgesAreListed, ExactlyOneOutcome, OpeningsAreAsListed, OpeningsAreSound, OutcomesAgree, PartsAgree, RepliesAgree, TwiceIsTwoPlaces};
+
+pub mod config;
+pub mod derivation;
+pub mod graph;
+mod rules;
+mod search;
+#[cfg(test)]
+mod tests;
+pub mod vertex;
+
+pub use config::{Config, OpenFault};
+pub use derivation::{Goal, Step, Verdict};
+pub use graph::{Graph, LAST_SERIAL};
+pub use vertex::Vertex;
+
+// Laws: each function is a theorem, its contract, and costs nothing when it is called.
+
+/// Each command of each vertex has exactly one outcome by the rules: it is allowed, or denied for one first cause.
+pub fn exactly_one_outcome()
+    ensures { ExactlyOneOutcome }
+{}
+
+/// The rules decide alike in graphs that the actor can't tell apart.
+pub fn outcomes_agree()
+    ensures { OutcomesAgree }
+{}
+
+/// A subject's allowed command is answered alike in graphs that it can't tell apart.
+pub fn replies_agree()
+    ensures { RepliesAgree }
+{}
+
+/// A command is answered alike in graphs that its actor can't tell apart, and what some subjects can't tell apart
+/// stays so after a command of one of them.
+pub fn answers_agree()
+    ensures { AnswersAgree }
+{}
+
+/// An allowed command leaves a graph, and each subject a subject.
+pub fn commands_keep_graphs()
+    ensures { CommandsKeepGraphs }
+{}
+
+/// A part of a graph with all the edges of its vertices agrees with the graph for each of its subjects.
+pub fn parts_agree()
+    ensures { PartsAgree }
+{}
+
+/// A configuration without a fault has few principals, each a subject of the graph that it opens.
+pub fn openings_are_sound()
+    ensures { OpeningsAreSound }
+{}
+
+/// A configuration opens the graph that its lists say.
+pub fn openings_are_as_listed()
+    ensures { OpeningsAreAsListed }
+{}
+
+/// The edge list of a vertex has its edges and nothing else, by rising serial.
+pub fn edges_are_listed()
+    ensures { EdgesAreListed }
+{}
+
+/// What a configuration has twice stands at two places of its list.
+pub fn twice_is_two_places()
+    ensures { TwiceIsTwoPlaces }
+{}
