@@ -15,3 +15,4 @@ pub mod Alike
 pub mod EdgeLists
 pub mod SearchLemmas
 pub mod OtherWords
+pub mod Counting

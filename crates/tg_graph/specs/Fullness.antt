@@ -1,6 +1,7 @@
 -- How much may be stored, and when a history alone permits that an allowed command is refused as full.
-use Rattle.std.specs.Prelude.{◌≡◌, ◌<◌, ◌≤◌, ℕ, true, length, sum_by}
+use Rattle.std.specs.Prelude.{◌≡◌, ◌<◌, ◌≤◌, ℕ, cond, true, length, sum_by}
 use Rattle.std.specs.FinMap as map
+use Rattle.tg_rights.specs.Letters.{Letters, is_none}
 use Rattle.tg_rights.specs.declared.command.Command.{Command}
 use Rattle.tg_rights.specs.declared.command.Command.TheVariants as command
 use Rattle.tg_rights.specs.declared.outcome.Which.{Which}
@@ -20,6 +21,10 @@ vertex_count G = length (map.keys G.vertices)
 
 abbrev pub edge_count : Protection → ℕ
 edge_count G = sum_by (λ x. length (edges_of G x)) (map.keys G.vertices)
+
+-- the edges that a label makes: one where it is not empty
+abbrev pub edges_at : Letters → ℕ
+edges_at l = cond (is_none l) 0 1
 
 -- an allowed command of x makes an edge where there was none
 abbrev pub MakesEdge : Protection → ℕ → Command → Type 0

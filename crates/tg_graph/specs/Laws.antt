@@ -1,20 +1,23 @@
 -- Laws of the rules, and the definitions of openings and edge lists in other words.
-use Rattle.std.specs.Prelude.{◌≡◌, ◌≤◌, ℕ, Bool, ◌==◌, true, false, List, [], ◌∷◌, ◌++◌, IsTrue, Some, None, ◌↔◌}
+use Rattle.std.specs.Prelude.{◌≡◌, ◌≤◌, ℕ, ◌+◌, Bool, ◌==◌, true, false, List, [], ◌∷◌, ◌++◌, IsTrue, Some, None, ◌↔◌}
 use Rattle.std.specs.Ordering.{nat_cmp}
 use Rattle.std.specs.Cmp.Lexicographic.{pointwise}
 use Rattle.std.specs.FinMap.Entries.{is_sorted}
+use Rattle.std.specs.FinMap as map
 use Rattle.std.specs.FinSet as set
-use Rattle.tg_rights.specs.Letters.{Letters, has}
+use Rattle.tg_rights.specs.Letters.{Letters, has, joined as joined_rights, without, is_none}
 use Rattle.tg_rights.specs.Membership.{Holds}
 use Rattle.tg_rights.specs.declared.kind.Kind.TheVariants as kind
 use Rattle.tg_rights.specs.declared.command.Command.{Command}
 use Rattle.tg_rights.specs.declared.outcome.Outcome.{Outcome}
 use Rattle.tg_rights.specs.declared.outcome.Reply.{Reply}
 use Rattle.tg_graph.specs.declared.config.Config.{Config}
-use Rattle.tg_graph.specs.Triples.{Triple}
+use Rattle.tg_graph.specs.declared.vertex.Vertex.{Vertex}
+use Rattle.tg_graph.specs.Triples.{Triple, edge}
 use Rattle.tg_graph.specs.Protection.{Protection, IsGraph, IsSubject, IsVertex, IsEdge, vertex, label}
 use Rattle.tg_graph.specs.Opening.{Edge, first_fault, has_twice, is_principal, principal_count, opening, same_pair}
-use Rattle.tg_graph.specs.Paths.{Agree}
+use Rattle.tg_graph.specs.Fullness.{edge_count, edges_at}
+use Rattle.tg_graph.specs.Paths.{Agree, IsPart}
 use Rattle.tg_graph.specs.Agreement.{IsRepliedAlike, KeepsViewers}
 use Rattle.tg_graph.specs.Rules.{Judged, Allowed, Applies, after, allowed_reply, edges_of, is_create}
 
@@ -50,14 +53,15 @@ OpeningsAreSound =
     (c : Config) → first_fault c ≡ None →
     (principal_count c ≤ 64) × ((k : ℕ) → is_principal (principal_count c) k ≡ true → IsSubject (opening c) k)
 
--- a graph of some of the vertices, with all their edges, agrees for each of these that is a subject
+-- a part of a graph agrees with it for each of its subjects
 abbrev pub PartsAgree : Type 0
-PartsAgree =
-    (G H : Protection) →
-    ((v : ℕ) → IsVertex H v → vertex G v ≡ vertex H v) →
-    ((v w : ℕ) → IsVertex H v → label G v w ≡ label H v w) →
-    ((v w : ℕ) → IsVertex H v → IsEdge G v w → IsVertex H w) →
-    (x : ℕ) → IsVertex H x → IsSubject G x → Agree G H x
+PartsAgree = (G H : Protection) → IsPart G H → (x : ℕ) → IsVertex H x → IsSubject G x → Agree G H x
+
+-- a part of a graph stays one when an allowed command of one of its subjects is carried out in both
+abbrev pub PartsStay : Type 0
+PartsStay =
+    (G H : Protection) (x : ℕ) (c : Command) → IsGraph G → IsGraph H → IsPart G H → G.next ≡ H.next → IsVertex H x → IsSubject G x → Allowed G x c →
+    IsPart (after G x c) (after H x c)
 
 -- a configuration opens the graph of its list: the vertices are its principals, subjects of no text with the serials
 -- from 1 on, and a triple is there exactly where some edge of the list has it
@@ -78,6 +82,18 @@ pub record IsEdgeList (G : Protection) (z : ℕ) : Type 0 where
 
 abbrev pub EdgesAreListed : Type 0
 EdgesAreListed = (G : Protection) (z : ℕ) → IsGraph G → IsEdgeList G z
+
+-- the number of edges changes by the one edge whose label changes; a new vertex brings one
+pub record CountsEdges (G : Protection) (x : ℕ) (α : Letters) : Type 0 where
+  pub joined : (y : ℕ) → IsVertex G y →
+      edge_count (record G { triples = set.union G.triples (edge x α y) }) + edges_at (label G x y) ≡ edge_count G + edges_at (joined_rights (label G x y) α)
+  pub taken : (y : ℕ) → IsVertex G y →
+      edge_count (record G { triples = set.difference G.triples (edge x α y) }) + edges_at (label G x y) ≡ edge_count G + edges_at (without (label G x y) α)
+  pub made : (e : Vertex) → is_none α ≡ false →
+      edge_count (record { vertices = map.insert G.vertices G.next e; next = G.next + 1; triples = set.union G.triples (edge x α G.next) }) ≡ edge_count G + 1
+
+abbrev pub EdgesAreCounted : Type 0
+EdgesAreCounted = (G : Protection) (x : ℕ) (α : Letters) → IsGraph G → IsVertex G x → CountsEdges G x α
 
 -- some element of the list stands before one that the test finds the same
 pub record StandsTwice {X : Type 0} (same : X → X → Bool) (xs : List X) : Type 0 where

@@ -1,7 +1,7 @@
 //! The take-grant rules over a plain graph that is never collected: the model of every other crate.
 #![tactic(auto)]
 
-ghost use Rattle.tg_graph.specs.Laws.{AnswersAgree, CommandsKeepGraphs, EdgesAreListed, ExactlyOneOutcome, OpeningsAreAsListed, OpeningsAreSound, OutcomesAgree, PartsAgree, RepliesAgree, TwiceIsTwoPlaces};
+ghost use Rattle.tg_graph.specs.Laws.{AnswersAgree, CommandsKeepGraphs, EdgesAreCounted, EdgesAreListed, ExactlyOneOutcome, OpeningsAreAsListed, OpeningsAreSound, OutcomesAgree, PartsAgree, PartsStay, RepliesAgree, TwiceIsTwoPlaces};
 
 pub mod config;
 pub mod derivation;
@@ -50,6 +50,11 @@ pub fn parts_agree()
     ensures { PartsAgree }
 {}
 
+/// A part of a graph stays one when an allowed command of one of its subjects is carried out in both.
+pub fn parts_stay()
+    ensures { PartsStay }
+{}
+
 /// A configuration without a fault has few principals, each a subject of the graph that it opens.
 pub fn openings_are_sound()
     ensures { OpeningsAreSound }
@@ -63,6 +68,11 @@ pub fn openings_are_as_listed()
 /// The edge list of a vertex has its edges and nothing else, by rising serial.
 pub fn edges_are_listed()
     ensures { EdgesAreListed }
+{}
+
+/// The number of edges changes by the one edge whose label changes; a new vertex brings one.
+pub fn edges_are_counted()
+    ensures { EdgesAreCounted }
 {}
 
 /// What a configuration has twice stands at two places of its list.

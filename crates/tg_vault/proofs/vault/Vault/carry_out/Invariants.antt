@@ -1,0 +1,10 @@
+use Rattle.std.proofs.Common.{◌≡◌, length, take}
+use Rattle.tg_vault.specs.Contents.{Runs, Keeps}
+use Rattle.tg_vault.proofs.vault.Vault.carry_out.Given as goal
+
+abbrev pub invariant-loop-event : goal.invariant-loop-event
+invariant-loop-event l = record {
+  run : Runs l.fn.self (take l.event-index l.events) l.answers.items l.vault;
+  count : length l.answers.items ≡ l.event-index;
+  keeps : Keeps l.fn.self l.vault;
+}

@@ -1,0 +1,29 @@
+-- Histories: the entries of commands that the rules permit, one after another, from the opening graph on.
+use Rattle.std.specs.Prelude.{◌≡◌, ℕ, List, [], ◌∷◌, All}
+use Rattle.tg_graph.specs.Fullness.{Limits, Permitted}
+use Rattle.tg_graph.specs.Protection.{Protection, IsSubject}
+use Rattle.tg_graph.specs.Rules.{next_graph}
+use Rattle.tg_vault.specs.declared.entry.Entry.{Entry}
+
+-- the entry leads from one graph to the next
+abbrev pub Turns : Limits → Protection → Entry → Protection → Type 0
+Turns limits G e H = Permitted limits G e.actor e.command e.outcome × (H ≡ next_graph G e.actor e.command e.outcome)
+
+-- the entries lead from one graph to another, by the graphs in between
+abbrev pub GraphsAlong : Limits → Protection → List Entry → Protection → Type 0
+GraphsAlong limits G [] H = H ≡ G
+GraphsAlong limits G (e ∷ es) H = (between : Protection) × Turns limits G e between × GraphsAlong limits between es H
+
+-- the principals are the subjects of the opening graph
+abbrev pub IsPrincipal : Protection → ℕ → Type 0
+IsPrincipal opening x = IsSubject opening x
+
+-- the rules permit the entries from the opening graph on, and G is the graph of the history
+pub record Legal (limits : Limits) (opening : Protection) (entries : List Entry) (G : Protection) : Type 0 where
+  pub graphs : GraphsAlong limits opening entries G
+  pub actors : All (λ e. IsPrincipal opening e.actor) entries
+
+-- the graph of a legal history
+abbrev pub graph_of : Protection → List Entry → Protection
+graph_of G [] = G
+graph_of G (e ∷ es) = graph_of (next_graph G e.actor e.command e.outcome) es

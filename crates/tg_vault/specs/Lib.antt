@@ -1,0 +1,11 @@
+pub mod History
+pub mod World
+pub mod Contents
+pub mod Agreement
+pub mod Told
+pub mod Added
+pub use Rattle.tg_graph.specs.Protection
+pub use Rattle.tg_graph.specs.Rules
+pub use Rattle.tg_graph.specs.Fullness
+pub use Rattle.tg_graph.specs.Paths
+pub use Rattle.tg_graph.specs.Opening

@@ -1,0 +1,153 @@
+-- Worlds, and what each event may answer in one.
+use Rattle.std.specs.Prelude.{◌≡◌, ℕ, ◌+◌, Bool, cond, nat_lt, ◌==◌, List, [], ◌∷◌, ◌++◌, length, get_or, slice_set, Option, Some, None, is_some}
+use Rattle.std.specs.Option.{option_map}
+use Rattle.std.specs.List.{position}
+use Rattle.std.specs.Cmp.Lexicographic.{pointwise}
+use Rattle.tg_rights.specs.declared.command.Command.{Command}
+use Rattle.tg_rights.specs.declared.command.Command.TheVariants as command
+use Rattle.tg_rights.specs.declared.outcome.Outcome.{Outcome}
+use Rattle.tg_rights.specs.declared.outcome.Outcome.TheVariants as outcome
+use Rattle.tg_rights.specs.declared.outcome.Which.TheVariants as which
+use Rattle.tg_rights.specs.declared.outcome.Reply.{Reply}
+use Rattle.tg_graph.specs.Protection.{Protection}
+use Rattle.tg_graph.specs.Rules.{next_graph, reply_of}
+use Rattle.tg_vault.specs.declared.entry.Entry.{Entry}
+use Rattle.tg_vault.specs.declared.event.SeatFault.{SeatFault}
+use Rattle.tg_vault.specs.declared.event.SeatFault.TheVariants as seat_fault
+use Rattle.tg_vault.specs.declared.event.AskFault.{AskFault}
+use Rattle.tg_vault.specs.declared.event.AskFault.TheVariants as ask_fault
+use Rattle.tg_vault.specs.declared.event.Event.{Event}
+use Rattle.tg_vault.specs.declared.event.Event.TheVariants as event
+use Rattle.tg_vault.specs.declared.event.Answer.{Answer}
+use Rattle.tg_vault.specs.declared.event.Answer.TheVariants as answer
+use Rattle.tg_graph.specs.Fullness.{Limits, Permitted}
+
+-- what the events change
+pub record World : Type 0 where
+  pub graph : Protection
+  -- the principal of each seat that is in use
+  pub seats : List (Option ℕ)
+  -- the unfinished target of each seat that has one
+  pub pending : List (Option ℕ)
+
+-- a world, and the entries given so far
+pub record Moment : Type 0 where
+  pub world : World
+  pub history : List Entry
+
+-- what a table of seats has for one of them
+abbrev pub at_seat : List (Option ℕ) → ℕ → Option ℕ
+at_seat table seat = get_or table seat None
+
+-- the principal of this name: the k-th name belongs to the serial k, counted from 1
+abbrev pub principal_named : List (List ℕ) → List ℕ → Option ℕ
+principal_named names name = option_map (λ k. k + 1) (position (λ n. pointwise (λ a b. a == b) n name) names)
+
+-- for whom the seat's next command is asked
+abbrev pub actor_at : World → ℕ → Option ℕ
+actor_at w seat = at_seat w.seats seat
+
+-- the first fault of each call, if it has one
+module _ (w : World) (seat : ℕ) where
+  abbrev pub no_seat : Bool
+  no_seat = nat_lt 63 seat
+
+  abbrev pub in_use : Bool
+  in_use = is_some (at_seat w.seats seat)
+
+  abbrev pub has_target : Bool
+  has_target = is_some (at_seat w.pending seat)
+
+  abbrev pub hello_fault : List (List ℕ) → List ℕ → Option SeatFault
+  hello_fault names name =
+      cond no_seat (Some seat_fault.NoSeat) (cond in_use (Some seat_fault.Bound) (cond (is_some (principal_named names name)) None (Some seat_fault.NoPrincipal)))
+
+  abbrev pub bye_fault : Option SeatFault
+  bye_fault = cond no_seat (Some seat_fault.NoSeat) (cond in_use (cond has_target (Some seat_fault.Busy) None) (Some seat_fault.NoActor))
+
+  abbrev pub shade_fault : Option SeatFault
+  shade_fault = cond no_seat (Some seat_fault.NoSeat) (cond in_use None (Some seat_fault.NoActor))
+
+  abbrev pub ask_refusal : Option AskFault
+  ask_refusal = cond no_seat (Some ask_fault.NoSeat) (cond in_use (cond has_target (Some ask_fault.Busy) None) (Some ask_fault.NoActor))
+
+  -- want of memory comes after the seat's faults
+  abbrev pub IsAskFault : AskFault → Type 0
+  IsAskFault ask_fault.NoSeat = ask_refusal ≡ Some ask_fault.NoSeat
+  IsAskFault ask_fault.NoActor = ask_refusal ≡ Some ask_fault.NoActor
+  IsAskFault ask_fault.Busy = ask_refusal ≡ Some ask_fault.Busy
+  IsAskFault ask_fault.OutOfMemory = ask_refusal ≡ None
+
+-- the unfinished target that a command leaves, also where the edge was there
+abbrev pub allowed_target : Protection → Command → Option ℕ
+allowed_target G (command.Take α over from) = Some over
+allowed_target G (command.Grant α over to) = Some over
+allowed_target G (command.Create k α) = Some G.next
+allowed_target G (command.Remove α over) = None
+allowed_target G (command.Read over) = None
+allowed_target G (command.Write over text) = None
+allowed_target G (command.Look at) = None
+
+abbrev pub target_of : Protection → Command → Outcome → Option ℕ
+target_of G c outcome.Allowed = allowed_target G c
+target_of G c (outcome.Denied rule cause) = None
+target_of G c (outcome.Full which) = None
+
+abbrev pub with_target : List (Option ℕ) → ℕ → Option ℕ → List (Option ℕ)
+with_target pending seat None = pending
+with_target pending seat (Some target) = slice_set pending seat (Some target)
+
+-- the world, and the entries, after an entry
+abbrev pub entered : Moment → Entry → Moment
+entered m e = record {
+  world = record m.world {
+    graph = next_graph m.world.graph e.actor e.command e.outcome;
+    pending = with_target m.world.pending e.seat (target_of m.world.graph e.command e.outcome);
+  };
+  history = m.history ++ e ∷ [];
+}
+
+abbrev pub with_seats : Moment → List (Option ℕ) → Moment
+with_seats m seats = record m { world = record m.world { seats = seats } }
+
+abbrev pub with_pending : Moment → List (Option ℕ) → Moment
+with_pending m pending = record m { world = record m.world { pending = pending } }
+
+-- as long as nothing is stored in slots, only serials are used up
+abbrev pub UsesUpSerialsAlone : Outcome → Type 0
+UsesUpSerialsAlone outcome.Allowed = Unit {0}
+UsesUpSerialsAlone (outcome.Denied rule cause) = Unit {0}
+UsesUpSerialsAlone (outcome.Full which.Serials) = Unit {0}
+UsesUpSerialsAlone (outcome.Full which.Slots) = ⊥
+UsesUpSerialsAlone (outcome.Full which.Cells) = ⊥
+
+-- the command of the actor at the seat is entered with this outcome
+pub record Enters (limits : Limits) (m : Moment) (seat actor : ℕ) (c : Command) (reply : Reply) (n : Moment) : Type 0 where
+  pub outcome : Outcome
+  pub permitted : Permitted limits m.world.graph actor c outcome
+  pub exact : UsesUpSerialsAlone outcome
+  pub replied : reply ≡ reply_of m.world.graph c outcome
+  pub left : n ≡ entered m (record { seat = seat; actor = actor; command = c; outcome = outcome })
+
+-- the event may be answered so, and lead from one moment to the next
+abbrev pub Step : Limits → List (List ℕ) → Moment → Event → Answer → Moment → Type 0
+Step limits names m (event.Hello seat name) (answer.Hello x) n =
+    (hello_fault m.world seat names name ≡ None) × (principal_named names name ≡ Some x) × (n ≡ with_seats m (slice_set m.world.seats seat (Some x)))
+Step limits names m (event.Hello seat name) (answer.Seat fault) n = (hello_fault m.world seat names name ≡ Some fault) × (n ≡ m)
+Step limits names m (event.Bye seat) answer.Bye n = (bye_fault m.world seat ≡ None) × (n ≡ with_seats m (slice_set m.world.seats seat None))
+Step limits names m (event.Bye seat) (answer.Seat fault) n = (bye_fault m.world seat ≡ Some fault) × (n ≡ m)
+Step limits names m (event.Ask seat c) (answer.Asked number reply) n =
+    (ask_refusal m.world seat ≡ None) × (number ≡ length m.history)
+    × ((actor : ℕ) × (actor_at m.world seat ≡ Some actor) × Enters limits m seat actor c reply n)
+Step limits names m (event.Ask seat c) (answer.Ask fault) n = IsAskFault m.world seat fault × (n ≡ m)
+Step limits names m (event.Shade seat) (answer.Shaded target) n =
+    (shade_fault m.world seat ≡ None) × (target ≡ at_seat m.world.pending seat) × (n ≡ with_pending m (slice_set m.world.pending seat None))
+Step limits names m (event.Shade seat) (answer.Seat fault) n = (shade_fault m.world seat ≡ Some fault) × (n ≡ m)
+Step limits names m _ _ n = ⊥
+
+-- the events may be answered so, one after another
+abbrev pub Run : Limits → List (List ℕ) → Moment → List Event → List Answer → Moment → Type 0
+Run limits names m [] [] n = n ≡ m
+Run limits names m (e ∷ es) (a ∷ answers) n = (between : Moment) × Step limits names m e a between × Run limits names between es answers n
+Run limits names m [] (a ∷ answers) n = ⊥
+Run limits names m (e ∷ es) [] n = ⊥

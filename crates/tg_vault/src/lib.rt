@@ -1,0 +1,12 @@
+//! The vault: a history of commands, and the seats from which they come.
+#![tactic(auto)]
+
+pub mod entry;
+pub mod event;
+#[cfg(test)]
+mod tests;
+pub mod vault;
+
+pub use entry::Entry;
+pub use event::{Answer, AskFault, Event, SeatFault};
+pub use vault::{Ran, SEATS, Vault};
