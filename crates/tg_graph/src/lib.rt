@@ -6,7 +6,7 @@ ghost use Rattle.tg_graph.specs.Laws.{AnswersAgree, CommandsKeepGraphs, EdgesAre
 pub mod config;
 pub mod derivation;
 pub mod graph;
-mod rules;
+pub mod rules;
 mod search;
 #[cfg(test)]
 mod tests;
