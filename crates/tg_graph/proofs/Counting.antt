@@ -1,5 +1,5 @@
 -- How many edges a graph has, as its labels change.
-use Rattle.std.proofs.Common.{◌≡◌, ℕ, zero, suc, ◌+◌, ◌<◌, ◌≤◌, ◌∷◌, [], List, Bool, true, false, T, map as map_list, cond, length, refl, sym, ap, subst, ◌∙◌, ◌==◌, ◌&&◌, ◌⊎◌, inl, inr, Some, None, arith}
+use Rattle.std.proofs.Common.{◌≡◌, ℕ, ◌+◌, ◌<◌, ◌∷◌, [], List, Bool, true, false, T, map as map_list, cond, length, refl, sym, ap, subst, ◌∙◌, ◌==◌, ◌&&◌, inl, inr, Some, None, arith}
 use Rattle.std.specs.Prelude.{sum_by, Option}
 use Rattle.std.specs.List.{list_any}
 use Rattle.std.specs.Option.{is_some}
@@ -10,18 +10,18 @@ use Rattle.std.specs.Cmp.{nat_cmp_total, unsigned_tied}
 use Rattle.std.specs.FinMap as map
 use Rattle.std.specs.FinMap.Entries.{below_all, by_order, put}
 use Rattle.std.specs.FinSet as set
-use Rattle.std.proofs.lemmas.Bool.{eqb-true, eq-eqb}
+use Rattle.std.proofs.lemmas.Bool.{eqb-true, eq-eqb, or_left, or_right}
 use Rattle.std.proofs.lemmas.List.Sums.{sum_by-cons}
 use Rattle.tg_rights.specs.Letters.{Letters, joined, without, none, is_none}
 use Rattle.tg_rights.specs.Membership.{Holds, Distinct}
 use Rattle.tg_graph.specs.declared.vertex.Vertex.{Vertex}
 use Rattle.tg_graph.specs.Triples.{Triples, edge}
 use Rattle.tg_graph.specs.Protection.{Protection, IsGraph, IsVertex, label}
-use Rattle.tg_graph.specs.Fullness.{edge_count, vertex_count, edges_at}
+use Rattle.tg_graph.specs.Fullness.{edge_count, edges_at}
 use Rattle.tg_graph.specs.Rules.{labelled, edges_of}
 use Rattle.tg_graph.proofs.Changes.{union-Relabels, difference-Relabels}
 use Rattle.tg_graph.proofs.EdgeLists.{vertex_listed}
-use Rattle.tg_graph.proofs.Kept.{label-relabelled, no_edge_from, or_left, or_right}
+use Rattle.tg_graph.proofs.Kept.{label-relabelled, no_edge_from}
 use Rattle.tg_graph.proofs.Vertices.{no_label}
 
 sum_nil : (f : ℕ → ℕ) → sum_by f [] ≡ 0

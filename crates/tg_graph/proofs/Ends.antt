@@ -1,14 +1,11 @@
 -- The ends of an edge are vertices.
 use Rattle.std.proofs.Common.{◌≡◌, ℕ, Bool, true, false, not, refl, ◌&&◌, ◌||◌, arith}
+use Rattle.std.proofs.lemmas.Bool.{not-true}
 use Rattle.std.specs.FinSet as set
 use Rattle.tg_rights.specs.Letters.{Letters, Right, read, write, take, grant, grant_alone, has, is_none, includes}
 use Rattle.tg_rights.specs.declared.command.Command.TheVariants as command
 use Rattle.tg_graph.specs.Protection.{Protection, IsGraph, IsVertex, IsEdge, label}
 use Rattle.tg_graph.specs.Rules.{Allowed}
-
-pub not_true : (b : Bool) → not b ≡ true → b ≡ false
-not_true true e = absurd (cc e)
-not_true false e = refl
 
 -- a label that has every right of a set that is not empty is not empty
 pub includes_some : (a b : Letters) → includes a b ≡ true → is_none b ≡ false → is_none a ≡ false
@@ -44,10 +41,10 @@ module _ (G : Protection) (g : IsGraph G) (x y : ℕ) where
   needed_edge rights e some = includes_some (label G x y) rights e some
 
 pub take_to : (G : Protection) (x : ℕ) (rights : Letters) (over from : ℕ) → IsGraph G → Allowed G x (command.Take rights over from) → IsVertex G over
-take_to G x rights over from g a = edge_to G g from over (needed_edge G g from over rights a.met.1.0 (not_true _ a.rights_named))
+take_to G x rights over from g a = edge_to G g from over (needed_edge G g from over rights a.met.1.0 (not-true _ a.rights_named))
 
 pub grant_from : (G : Protection) (x : ℕ) (rights : Letters) (over to : ℕ) → IsGraph G → Allowed G x (command.Grant rights over to) → IsVertex G to
 grant_from G x rights over to g a = edge_to G g x to (includes_some (label G x to) grant_alone a.met.0 refl)
 
 pub grant_to : (G : Protection) (x : ℕ) (rights : Letters) (over to : ℕ) → IsGraph G → Allowed G x (command.Grant rights over to) → IsVertex G over
-grant_to G x rights over to g a = edge_to G g x over (needed_edge G g x over rights a.met.1.0 (not_true _ a.rights_named))
+grant_to G x rights over to g a = edge_to G g x over (needed_edge G g x over rights a.met.1.0 (not-true _ a.rights_named))

@@ -1,25 +1,25 @@
 -- Two graphs that are alike on some vertices stay so when the same command is carried out in both.
-use Rattle.std.proofs.Common.{◌≡◌, ℕ, ◌<◌, ◌+◌, ◌∷◌, [], ◌++◌, List, Bool, true, false, cond, not, refl, sym, ap, subst, ◌∙◌, Some, None, ◌==◌, ◌&&◌, ◌||◌, ◌⊎◌, inl, inr, arith}
-use Rattle.std.specs.Prelude.{Option, ◌↔◌}
+use Rattle.std.proofs.Common.{◌≡◌, ℕ, ◌<◌, ◌+◌, ◌∷◌, [], ◌++◌, List, Bool, true, false, cond, not, refl, sym, ap, subst, ◌∙◌, Some, None, ◌==◌, ◌&&◌, ◌⊎◌, inl, inr, arith}
+use Rattle.std.specs.Prelude.{Option}
 use Rattle.std.specs.Option.{option_map, is_some}
 use Rattle.std.specs.Ordering.{nat_cmp, eq_by_cmp}
 use Rattle.std.specs.Cmp.{nat_cmp_total, unsigned_tied}
 use Rattle.std.specs.FinMap as map
 use Rattle.std.specs.FinSet as set
-use Rattle.std.proofs.lemmas.Bool.{eqb-true, eq-eqb}
-use Rattle.tg_rights.specs.Letters.{Letters, Right, read, write, take, grant, none, has, rights_where, joined, without, includes, is_none, write_alone, take_alone, grant_alone}
+use Rattle.std.proofs.lemmas.Bool.{eqb-true, eq-eqb, and_parts, or_cases, not-true, or_left, or_right}
+use Rattle.tg_rights.specs.Letters.{Letters, Right, read, write, take, grant, none, rights_where, joined, without, is_none, write_alone, take_alone, grant_alone}
 use Rattle.tg_rights.specs.declared.kind.Kind.{Kind}
 use Rattle.tg_rights.specs.declared.kind.Kind.TheVariants as kind
 use Rattle.tg_rights.specs.declared.command.Command.{Command}
 use Rattle.tg_rights.specs.declared.command.Command.TheVariants as command
 use Rattle.tg_graph.specs.declared.vertex.Vertex.{Vertex}
-use Rattle.tg_graph.specs.Triples.{Triple, Triples, edge}
-use Rattle.tg_graph.specs.Protection.{Protection, IsGraph, IsVertex, IsSubject, IsDocument, IsEdge, vertex, kind_of, label}
+use Rattle.tg_graph.specs.Triples.{edge}
+use Rattle.tg_graph.specs.Protection.{Protection, IsGraph, IsVertex, IsSubject, IsDocument, IsEdge, vertex, label}
 use Rattle.tg_graph.specs.Rules.{Allowed, after, with_text}
-use Rattle.tg_graph.specs.Paths.{Agree, IsPart, IsPath, Leads, Reaches}
-use Rattle.tg_graph.proofs.Changes.{Relabels, union-Relabels, difference-Relabels, joins}
+use Rattle.tg_graph.specs.Paths.{Agree, IsPart, Leads, Reaches}
+use Rattle.tg_graph.proofs.Changes.{Relabels, union-Relabels, difference-Relabels}
 use Rattle.tg_graph.proofs.Vertices.{IsVertex-from_kind, IsVertex-insert, with_text-document}
-use Rattle.tg_graph.proofs.Ends.{includes_some, not_true}
+use Rattle.tg_graph.proofs.Ends.{includes_some}
 use Rattle.tg_graph.proofs.Stays.{subject_stays}
 
 -- the labels of a relabelled set
@@ -67,23 +67,6 @@ some_joined : (b : Bool) (l m k : Letters) → is_none (cond b l m) ≡ false �
 some_joined true l m k e = inl refl
 some_joined false l m k e = inr e
 
-both_true : (a b : Bool) → (a && b) ≡ true → (a ≡ true) × (b ≡ true)
-both_true true true e = (refl, refl)
-both_true true false e = absurd (cc e)
-both_true false b e = absurd (cc e)
-
-or_either : (a b : Bool) → (a || b) ≡ true → (a ≡ true) ⊎ (b ≡ true)
-or_either true b e = inl refl
-or_either false b e = inr e
-
-pub or_left : (a b : Bool) → a ≡ true → (a || b) ≡ true
-or_left true b e = refl
-or_left false b e = absurd (cc e)
-
-pub or_right : (a b : Bool) → b ≡ true → (a || b) ≡ true
-or_right true b e = refl
-or_right false b e = e
-
 module _ (G H : Protection) (Known : ℕ → Type 0) (alike : Alike G H Known) where
   -- an edge between known vertices gains rights
   joined_too : (s y : ℕ) (α : Letters) → Known s → Known y →
@@ -97,7 +80,7 @@ module _ (G H : Protection) (Known : ℕ → Type 0) (alike : Alike G H Known) w
         labels = λ w z k. in_G w z ∙ (λ i. cond ((s == w) && (y == z)) (joined (alike.labels s y source i) α) (alike.labels w z k i)) ∙ sym (in_H w z);
         vertices = alike.vertices;
         step = λ w z k e. elim (some_joined ((s == w) && (y == z)) (joined (label G s y) α) (label G w z) α (ap is_none (sym (in_G w z)) ∙ e)) [
-          | inl t ↦ subst Known (eqb-true y z (both_true (s == w) (y == z) t).1) target
+          | inl t ↦ subst Known (eqb-true y z (and_parts (s == w) (y == z) t).1) target
           | inr old ↦ alike.step w z k old
         ];
       }
@@ -122,7 +105,7 @@ module _ (G H : Protection) (Known : ℕ → Type 0) (alike : Alike G H Known) w
         labels = λ w z k. in_G w z ∙ (λ i. cond ((s == w) && (y == z)) (without (alike.labels s y source i) α) (alike.labels w z k i)) ∙ sym (in_H w z);
         vertices = alike.vertices;
         step = λ w z k e. alike.step w z k (less_edge ((s == w) && (y == z)) (label G s y) (label G w z) α (ap is_none (sym (in_G w z)) ∙ e)
-            (λ t. let is = both_true (s == w) (y == z) t in λ i. label G (sym (eqb-true s w is.0) i) (sym (eqb-true y z is.1) i)));
+            (λ t. let is = and_parts (s == w) (y == z) t in λ i. label G (sym (eqb-true s w is.0) i) (sym (eqb-true y z is.1) i)));
       }
 
   -- the vertex v is put into both
@@ -187,7 +170,7 @@ module _ (G H : Protection) (Known : ℕ → Type 0) (alike : Alike G H Known) (
     grown_step : (w z : ℕ) → grown_known w → IsEdge (grown G) w z → grown_known z
     grown_step w z (inl k) edge_in =
         elim (some_joined ((x == w) && (n == z)) (joined (label G x n) α) (label G w z) α (ap is_none (sym (reads G w z)) ∙ edge_in)) [
-          | inl t ↦ inr (sym (eqb-true n z (both_true (x == w) (n == z) t).1))
+          | inl t ↦ inr (sym (eqb-true n z (and_parts (x == w) (n == z) t).1))
           | inr old ↦ inl (alike.step w z k old)
         ]
     grown_step w z (inr is) edge_in = absurd (cc (ap is_none (fresh G in_G n_is w z is), edge_in))
@@ -215,10 +198,10 @@ module _ (G H : Protection) (Known : ℕ → Type 0) (alike : Alike G H Known) (
   pub alike_after : (c : Command) → IsGraph H → G.next ≡ H.next → Allowed G x c → Alike (after G x c) (after H x c) (known_after c)
   alike_after (command.Take α over from) in_H next a =
       joined_too G H Known alike x over α x_known
-      (alike.step from over (alike.step x from x_known (includes_some (label G x from) take_alone a.met.0 refl)) (includes_some (label G from over) α a.met.1.0 (not_true _ a.rights_named)))
+      (alike.step from over (alike.step x from x_known (includes_some (label G x from) take_alone a.met.0 refl)) (includes_some (label G from over) α a.met.1.0 (not-true _ a.rights_named)))
   alike_after (command.Grant α over to) in_H next a =
       joined_too G H Known alike to over α (alike.step x to x_known (includes_some (label G x to) grant_alone a.met.0 refl))
-      (alike.step x over x_known (includes_some (label G x over) α a.met.1.0 (not_true _ a.rights_named)))
+      (alike.step x over x_known (includes_some (label G x over) α a.met.1.0 (not-true _ a.rights_named)))
   alike_after (command.Create k α) in_H next a = new_too k α in_H next
   alike_after (command.Remove α over) in_H next a = less_too G H Known alike x over α x_known
   alike_after (command.Read over) in_H next a = alike
@@ -283,7 +266,7 @@ module _ (G H : Protection) (part : IsPart G H) where
   part_stays x c in_G in_H next x_there x_in a = part_of (after G x c) (after H x c) (known_after G H (IsVertex H) part_alike x x_there x_in in_G c) (alike_after G H (IsVertex H) part_alike x x_there x_in in_G c in_H next a) (into c) (out c) where
     told_vertex : (y : ℕ) (text : List ℕ) (o : Option Vertex) → vertex H y ≡ o → (v : ℕ) → IsVertex (with_text H y text o) v → IsVertex H v
     told_vertex y text None is v h = h
-    told_vertex y text (Some e) is v h = elim (or_either _ _ (sym (IsVertex-insert H.vertices y (record e { text = text }) v) ∙ h)) [
+    told_vertex y text (Some e) is v h = elim (or_cases _ _ (sym (IsVertex-insert H.vertices y (record e { text = text }) v) ∙ h)) [
       | inl same ↦ ap (λ q. map.contains_key H.vertices q) (eqb-true v y same) ∙ ap is_some is
       | inr old ↦ old
     ]
@@ -295,7 +278,7 @@ module _ (G H : Protection) (part : IsPart G H) where
     into : (c : Command) (v : ℕ) → IsVertex (after H x c) v → known_after G H (IsVertex H) part_alike x x_there x_in in_G c v
     into (command.Take α over from) v h = h
     into (command.Grant α over to) v h = h
-    into (command.Create k α) v h = elim (or_either _ _ (sym (IsVertex-insert H.vertices H.next (record { kind = k; text = [] }) v) ∙ h)) [ inl is ↦ inr (eqb-true v H.next is ∙ sym next) | inr old ↦ inl old ]
+    into (command.Create k α) v h = elim (or_cases _ _ (sym (IsVertex-insert H.vertices H.next (record { kind = k; text = [] }) v) ∙ h)) [ inl is ↦ inr (eqb-true v H.next is ∙ sym next) | inr old ↦ inl old ]
     into (command.Remove α over) v h = h
     into (command.Read over) v h = h
     into (command.Write over text) v h = told_vertex over text (vertex H over) refl v h

@@ -1,7 +1,7 @@
 -- A search along edges: what it reaches is reachable, each turn has less left to do, and at the end all is reached.
-use Rattle.std.proofs.Common.{◌≡◌, ℕ, ◌+◌, ◌≤◌, ◌∷◌, [], ◌++◌, List, Bool, true, false, cond, length, refl, sym, ap, subst, ◌∙◌, ◌⊎◌, inl, inr, ◌||◌, ◌==◌, arith, length-append}
+use Rattle.std.proofs.Common.{◌≡◌, ℕ, ◌+◌, ◌≤◌, ◌∷◌, [], ◌++◌, List, Bool, true, false, cond, length, refl, sym, ap, subst, ◌∙◌, ◌⊎◌, inl, inr, ◌==◌, arith, length-append}
 use Rattle.std.specs.FinMap as map
-use Rattle.std.proofs.lemmas.Bool.{eqb-true, eq-eqb}
+use Rattle.std.proofs.lemmas.Bool.{eqb-true, eq-eqb, or_cases, or_left, or_right}
 use Rattle.tg_rights.specs.Letters.{Letters}
 use Rattle.tg_rights.specs.Membership.{Holds}
 use Rattle.tg_rights.proofs.MembershipLemmas.{holds_append, holds_left, holds_right}
@@ -32,18 +32,6 @@ unseen-lt f g z more was is (v ∷ vs) (inl e) =
     let old : ◌≡◌ {A = ℕ} (cond (f v) 0 1) 1 = ap (λ b. cond b 0 1) (ap f (sym e) ∙ was) in
     omega (arith, new, old, unseen-le f g more vs)
 unseen-lt f g z more was is (v ∷ vs) (inr h) = omega (arith, counts (f v) (g v) (more v), unseen-lt f g z more was is vs h)
-
-or_either : (a b : Bool) → (a || b) ≡ true → (a ≡ true) ⊎ (b ≡ true)
-or_either true b e = inl refl
-or_either false b e = inr e
-
-or_second : (a b : Bool) → b ≡ true → (a || b) ≡ true
-or_second true b e = refl
-or_second false b e = e
-
-or_first : (a b : Bool) → a ≡ true → (a || b) ≡ true
-or_first true b e = refl
-or_first false b e = absurd (cc e)
 
 -- while a search goes on along the edges es of v, of which those of `rest` are left; s0 is the search without v
 pub record Spreading (G : Protection) (s0 s : Search) (v : ℕ) (es rest : List (ℕ × Letters)) : Type 0 where
@@ -82,16 +70,16 @@ spreads_from G s t v searching from seen popped = record {
 
 module _ (G : Protection) (g : IsGraph G) (s0 s t : Search) (v : ℕ) (es rest : List (ℕ × Letters)) (e : ℕ × Letters) (spreading : Spreading G s0 s v es (e ∷ rest)) (from : t.from ≡ s.from) (adds : Adds s t e.0) where
   more : (q : ℕ) → has_seen s q ≡ true → has_seen t q ≡ true
-  more q h = adds.seen q ∙ or_second (q == e.0) (has_seen s q) h
+  more q h = adds.seen q ∙ or_right (q == e.0) (has_seen s q) h
 
   new : has_seen t e.0 ≡ true
-  new = adds.seen e.0 ∙ or_first (e.0 == e.0) (has_seen s e.0) (eq-eqb e.0 e.0 refl)
+  new = adds.seen e.0 ∙ or_left (e.0 == e.0) (has_seen s e.0) (eq-eqb e.0 e.0 refl)
 
   known : IsEdge G v e.0
   known = spreading.edges e (inl refl)
 
   either : (q : ℕ) → has_seen t q ≡ true → (q ≡ e.0) ⊎ (has_seen s q ≡ true)
-  either q h = elim (or_either (q == e.0) (has_seen s q) (sym (adds.seen q) ∙ h)) [ inl is ↦ inl (eqb-true q e.0 is) | inr old ↦ inr old ]
+  either q h = elim (or_cases (q == e.0) (has_seen s q) (sym (adds.seen q) ∙ h)) [ inl is ↦ inl (eqb-true q e.0 is) | inr old ↦ inr old ]
 
   reached_next : Reaches G s.from e.0
   reached_next = let path = spreading.reached v spreading.at in (path.0 ++ e.0 ∷ [], (path.1.0, leads_on G path.0 s.from v e.0 path.1.1 known))

@@ -1,9 +1,9 @@
 -- What an allowed command leaves: a graph, and each subject a subject.
-use Rattle.std.proofs.Common.{◌≡◌, ◌≢◌, ℕ, zero, suc, ◌<◌, ◌≤◌, [], Bool, true, false, cond, not, refl, sym, ap, subst, ◌∙◌, Some, None, ◌==◌, ◌&&◌, arith}
+use Rattle.std.proofs.Common.{◌≡◌, ◌≢◌, ℕ, zero, suc, ◌<◌, ◌≤◌, [], Bool, true, false, cond, not, refl, sym, ap, subst, ◌∙◌, Some, None, ◌==◌, arith}
 use Rattle.std.specs.Option.{option_map}
 use Rattle.std.specs.Cmp.{nat_cmp_total, unsigned_tied}
 use Rattle.std.specs.FinMap as map
-use Rattle.std.proofs.lemmas.Bool.{eqb-true, eq-eqb, leb-true}
+use Rattle.std.proofs.lemmas.Bool.{eqb-true, eq-eqb, leb-true, and_parts, not-false}
 use Rattle.tg_rights.specs.declared.kind.Kind.TheVariants as kind
 use Rattle.tg_rights.specs.declared.command.Command.{Command}
 use Rattle.tg_rights.specs.declared.command.Command.TheVariants as command
@@ -15,25 +15,17 @@ use Rattle.tg_graph.specs.Protection.{Protection, IsGraph, IsSubject, vertex, ki
 use Rattle.tg_graph.specs.Rules.{Allowed, after}
 use Rattle.tg_graph.proofs.Changes.{union-IsGraph, difference-IsGraph}
 use Rattle.tg_graph.proofs.Vertices.{IsVertex-from_kind, with_text-document, new-IsGraph, replace-IsGraph}
-use Rattle.tg_graph.proofs.Opened.{none_at, not_false}
+use Rattle.tg_graph.proofs.Opened.{none_at}
 use Rattle.tg_graph.proofs.Ends.{take_to, grant_from, grant_to}
-
-first_part : (a b : Bool) → (a && b) ≡ true → a ≡ true
-first_part true b e = refl
-first_part false b e = absurd (cc e)
-
-second_part : (a b : Bool) → (a && b) ≡ true → b ≡ true
-second_part true b e = e
-second_part false b e = absurd (cc e)
 
 apart : (x y : ℕ) → not (x == y) ≡ true → x ≢ y
 apart x y e is = absurd (cc (sym (ap not (eq-eqb x y is)) ∙ e))
 
 pub graph_stays : (G : Protection) (x : ℕ) (c : Command) → IsGraph G → IsSubject G x → Allowed G x c → IsGraph (after G x c)
 graph_stays G x (command.Take α over from) g s a =
-    union-IsGraph G x over α g (IsVertex-from_kind G x kind.Subject s) (take_to G x α over from g a) (apart x over (first_part _ _ (first_part _ _ a.distinct)))
+    union-IsGraph G x over α g (IsVertex-from_kind G x kind.Subject s) (take_to G x α over from g a) (apart x over (and_parts _ _ (and_parts _ _ a.distinct).0).0)
 graph_stays G x (command.Grant α over to) g s a =
-    union-IsGraph G to over α g (grant_from G x α over to g a) (grant_to G x α over to g a) (λ is. apart over to (second_part _ _ a.distinct) (sym is))
+    union-IsGraph G to over α g (grant_from G x α over to g a) (grant_to G x α over to g a) (λ is. apart over to (and_parts _ _ a.distinct).1 (sym is))
 graph_stays G x (command.Create k α) g s a = new-IsGraph G x α (record { kind = k; text = [] }) g (IsVertex-from_kind G x kind.Subject s)
 graph_stays G x (command.Remove α over) g s a = difference-IsGraph G x over α g
 graph_stays G x (command.Read over) g s a = g
@@ -75,7 +67,7 @@ subjects_kind (suc count) v low high =
 
 pub principal_is_subject : (c : Config) → first_fault c ≡ None → (k : ℕ) → is_principal (principal_count c) k ≡ true → IsSubject (opening c) k
 unfolding opening
-principal_is_subject c sound k h = subjects_kind (principal_count c) k (leb-true 1 k (first_part _ _ h)) (leb-true k (principal_count c) (second_part _ _ h))
+principal_is_subject c sound k h = subjects_kind (principal_count c) k (leb-true 1 k (and_parts _ _ h).0) (leb-true k (principal_count c) (and_parts _ _ h).1)
 
 pub principals_are_few : (c : Config) → first_fault c ≡ None → principal_count c ≤ 64
-principals_are_few c sound = leb-true (principal_count c) 64 (second_part _ _ (not_false _ (none_at c (faults c) sound 0 fault.Limit (omega arith))))
+principals_are_few c sound = leb-true (principal_count c) 64 (and_parts _ _ (not-false _ (none_at c (faults c) sound 0 fault.Limit (omega arith)))).1
