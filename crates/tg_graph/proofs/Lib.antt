@@ -16,3 +16,4 @@ pub mod EdgeLists
 pub mod SearchLemmas
 pub mod OtherWords
 pub mod Counting
+pub mod Fitting

@@ -1,5 +1,5 @@
 -- Laws of the rules, and the definitions of openings and edge lists in other words.
-use Rattle.std.specs.Prelude.{◌≡◌, ◌≤◌, ℕ, ◌+◌, Bool, ◌==◌, true, false, List, [], ◌∷◌, ◌++◌, IsTrue, Some, None, ◌↔◌}
+use Rattle.std.specs.Prelude.{◌≡◌, ◌≤◌, ℕ, ◌+◌, Bool, ◌==◌, true, false, List, [], ◌∷◌, ◌++◌, length, IsTrue, Some, None, ◌↔◌}
 use Rattle.std.specs.Ordering.{nat_cmp}
 use Rattle.std.specs.Cmp.Lexicographic.{pointwise}
 use Rattle.std.specs.FinMap.Entries.{is_sorted}
@@ -16,7 +16,7 @@ use Rattle.tg_graph.specs.declared.vertex.Vertex.{Vertex}
 use Rattle.tg_graph.specs.Triples.{Triple, edge}
 use Rattle.tg_graph.specs.Protection.{Protection, IsGraph, IsSubject, IsVertex, IsEdge, vertex, label}
 use Rattle.tg_graph.specs.Opening.{Edge, first_fault, has_twice, is_principal, principal_count, opening, same_pair}
-use Rattle.tg_graph.specs.Fullness.{edge_count, edges_at}
+use Rattle.tg_graph.specs.Fullness.{vertex_count, edge_count, edges_at}
 use Rattle.tg_graph.specs.Paths.{Agree, IsPart}
 use Rattle.tg_graph.specs.Agreement.{IsRepliedAlike, KeepsViewers}
 use Rattle.tg_graph.specs.Rules.{Judged, Allowed, Applies, after, allowed_reply, edges_of, is_create}
@@ -52,6 +52,13 @@ abbrev pub OpeningsAreSound : Type 0
 OpeningsAreSound =
     (c : Config) → first_fault c ≡ None →
     (principal_count c ≤ 64) × ((k : ℕ) → is_principal (principal_count c) k ≡ true → IsSubject (opening c) k)
+
+-- and needs no more slots and cells than it names: one for each principal and for each edge of the list
+abbrev pub OpeningsFit : Type 0
+OpeningsFit =
+    (c : Config) → first_fault c ≡ None →
+    (vertex_count (opening c) ≡ principal_count c) × (edge_count (opening c) ≤ length c.edges.items) × (principal_count c ≤ c.slots) × (length c.edges.items ≤ c.cells)
+    × (1 ≤ c.slots) × (c.slots ≤ 65536) × (1 ≤ c.cells) × (c.cells ≤ 1048576)
 
 -- a part of a graph agrees with it for each of its subjects
 abbrev pub PartsAgree : Type 0

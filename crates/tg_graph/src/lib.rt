@@ -1,7 +1,7 @@
 //! The take-grant rules over a plain graph that is never collected: the model of every other crate.
 #![tactic(auto)]
 
-ghost use Rattle.tg_graph.specs.Laws.{AnswersAgree, CommandsKeepGraphs, EdgesAreCounted, EdgesAreListed, ExactlyOneOutcome, OpeningsAreAsListed, OpeningsAreSound, OutcomesAgree, PartsAgree, PartsStay, RepliesAgree, TwiceIsTwoPlaces};
+ghost use Rattle.tg_graph.specs.Laws.{AnswersAgree, CommandsKeepGraphs, EdgesAreCounted, EdgesAreListed, ExactlyOneOutcome, OpeningsAreAsListed, OpeningsAreSound, OpeningsFit, OutcomesAgree, PartsAgree, PartsStay, RepliesAgree, TwiceIsTwoPlaces};
 
 pub mod config;
 pub mod derivation;
@@ -58,6 +58,11 @@ pub fn parts_stay()
 /// A configuration without a fault has few principals, each a subject of the graph that it opens.
 pub fn openings_are_sound()
     ensures { OpeningsAreSound }
+{}
+
+/// A configuration without a fault has slots and cells enough, within the limits, for the graph that it opens.
+pub fn openings_fit()
+    ensures { OpeningsFit }
 {}
 
 /// A configuration opens the graph that its lists say.
