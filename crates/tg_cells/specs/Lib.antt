@@ -1,0 +1,4 @@
+pub mod Lists
+pub mod Inside
+pub use Rattle.tg_rights.specs.Letters
+pub use Rattle.tg_rights.specs.Membership

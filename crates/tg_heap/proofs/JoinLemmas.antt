@@ -1,0 +1,106 @@
+-- What keeps slots and cells joined.
+use Rattle.std.proofs.Common.{◌≡◌, ◌≢◌, ℕ, ◌<◌, List, [], ◌∷◌, ◌++◌, length, Option, Some, None, inl, inr, sym, ◌∙◌, subst, ap, refl, set, Bool, true, false, ◌||◌, ◌&&◌, not, length-set, get_or-set_same, get_or-set_other}
+use Rattle.std.proofs.lemmas.Bool.{cases_eq, cases_lt}
+use Rattle.std.proofs.lemmas.List.{get_or_past}
+use Rattle.tg_rights.specs.Membership.{Holds}
+use Rattle.tg_rights.specs.Letters.{Letters, joined, none, is_none}
+use Rattle.tg_rights.proofs.MembershipLemmas.{holds_append, holds_left, holds_right, holds_middle, holds_around}
+use Rattle.tg_slots.specs.Table.{Table, Free, mark, in_slot}
+use Rattle.tg_slots.specs.declared.slots.Occupant.{Occupant}
+use Rattle.tg_cells.specs.Lists.{Edge, CellLists, owned}
+use Rattle.tg_heap.specs.Graph.{Joins}
+pub use Rattle.tg_cells.proofs.WalkLemmas.{First, first_is}
+
+-- Each edge leads to one of n slots.
+abbrev pub Within : ℕ → List Edge → Type 0
+Within n es = (e : Edge) → Holds es e → e.target < n
+
+pub within_around : (n : ℕ) (p r : List Edge) (e : Edge) → Within n (p ++ e ∷ r) → Within n (p ++ r)
+within_around n p r e w x h = w x (holds_around p r e x h)
+
+pub within_label : (n : ℕ) (p r : List Edge) (e : Edge) (a : Letters) → Within n (p ++ e ∷ r) → Within n (p ++ record e { rights = a } ∷ r)
+within_label n p r e a w x h = elim (holds_append p (record e { rights = a } ∷ r) x h) [
+  | inl l ↦ w x (holds_left p (e ∷ r) x l)
+  | inr m ↦ elim m [
+    | inl is ↦ subst (λ (y : Edge). y.target < n) (sym is) (w e (holds_middle p r e))
+    | inr l ↦ w x (holds_right p (e ∷ r) x (inr l))
+  ]
+]
+
+-- A slot that owns an edge is occupied, and one of the table.
+pub owner_occupied : (t : Table) (c : CellLists) (i : ℕ) (p r : List Edge) (e : Edge) → Joins t c → owned c.lists i ≡ p ++ e ∷ r → mark t i ≢ Free
+owner_occupied t c i p r e j is f =
+    let none : p ++ e ∷ r ≡ [] = sym is ∙ j.free_bare i f in
+    subst (λ (l : List Edge). Holds l e) none (holds_middle p r e)
+
+pub owner_within : (t : Table) (c : CellLists) (i : ℕ) (p r : List Edge) (e : Edge) → Joins t c → owned c.lists i ≡ p ++ e ∷ r → i < length c.lists
+owner_within t c i p r e j is = elim (cases_lt i (length c.lists)) [
+  | inl w ↦ w
+  | inr past ↦ absurd (subst (λ (l : List Edge). Holds l e) (sym is ∙ get_or_past c.lists i [] past) (holds_middle p r e))
+]
+
+-- One occupied slot's edges changed.
+pub joins_set : (t : Table) (c d : CellLists) (i : ℕ) (es : List Edge) → d.lists ≡ set c.lists i es → mark t i ≢ Free → i < length c.lists → Within (length t.slots) es → Joins t c → Joins t d
+joins_set t c d i es is occupied within w j = record {
+  owners = ap length is ∙ length-set c.lists i es ∙ j.owners;
+  targets = λ k e h. elim (cases_eq k i) [
+    | inl here ↦ w e (subst (λ (l : List Edge). Holds l e) (ap (λ (ls : List (List Edge)). owned ls k) is ∙ ap (λ (n : ℕ). owned (set c.lists i es) n) here ∙ get_or-set_same c.lists i es [] within) h)
+    | inr there ↦ j.targets k e (subst (λ (l : List Edge). Holds l e) (ap (λ (ls : List (List Edge)). owned ls k) is ∙ get_or-set_other c.lists i k es [] there) h)
+  ];
+  free_bare = λ k f. elim (cases_eq k i) [
+    | inl here ↦ absurd (occupied (subst (λ (n : ℕ). mark t n ≡ Free) here f))
+    | inr there ↦ ap (λ (ls : List (List Edge)). owned ls k) is ∙ get_or-set_other c.lists i k es [] there ∙ j.free_bare k f
+  ];
+}
+
+-- The edge of a cell is gone, or has another label.
+pub joins_unlink : (t : Table) (c d : CellLists) (i : ℕ) (p r : List Edge) (e : Edge) → owned c.lists i ≡ p ++ e ∷ r → d.lists ≡ set c.lists i (p ++ r) → Joins t c → Joins t d
+joins_unlink t c d i p r e is new j =
+    joins_set t c d i (p ++ r) new (owner_occupied t c i p r e j is) (owner_within t c i p r e j is)
+    (within_around (length t.slots) p r e (subst (λ (l : List Edge). Within (length t.slots) l) is (j.targets i))) j
+
+pub joins_label : (t : Table) (c d : CellLists) (i : ℕ) (p r : List Edge) (e : Edge) (a : Letters) → owned c.lists i ≡ p ++ e ∷ r → d.lists ≡ set c.lists i (p ++ record e { rights = a } ∷ r) → Joins t c → Joins t d
+joins_label t c d i p r e a is new j =
+    joins_set t c d i (p ++ record e { rights = a } ∷ r) new (owner_occupied t c i p r e j is) (owner_within t c i p r e j is)
+    (within_label (length t.slots) p r e a (subst (λ (l : List Edge). Within (length t.slots) l) is (j.targets i))) j
+
+-- An occupied slot has one more edge, to a slot of the table.
+pub joins_link : (t : Table) (c d : CellLists) (i : ℕ) (e : Edge) → d.lists ≡ set c.lists i (e ∷ owned c.lists i) → mark t i ≢ Free → i < length c.lists → e.target < length t.slots → Joins t c → Joins t d
+joins_link t c d i e new occupied within to j =
+    joins_set t c d i (e ∷ owned c.lists i) new occupied within (λ x h. elim h [ inl is ↦ subst (λ (y : Edge). y.target < length t.slots) (sym is) to | inr m ↦ j.targets i x m ]) j
+
+-- A label is empty where the test says so.
+pub none_true : (l : Letters) → is_none l ≡ true → l ≡ none
+none_true l e = tested l.read l.write l.take l.grant e where
+  tested : (r w t g : Bool) → not r && not w && not t && not g ≡ true → record { read = r; write = w; take = t; grant = g } ≡ none
+  tested true w t g e = absurd (cc)
+  tested false true t g e = absurd (cc)
+  tested false false true g e = absurd (cc)
+  tested false false false true e = absurd (cc)
+  tested false false false false e = refl
+
+pub none_false : (l : Letters) → is_none l ≡ false → l ≢ none
+none_false l e is = let test : is_none l ≡ true = ap is_none is in absurd (cc)
+
+-- A label that gained a right is not empty.
+pub joined_some : (a b : Letters) → is_none b ≡ false → is_none (joined a b) ≡ false
+joined_some a b some = tested a.read b.read a.write b.write a.take b.take a.grant b.grant some where
+  tested : (r s w x t u g h : Bool) → not s && not x && not u && not h ≡ false → not (r || s) && not (w || x) && not (t || u) && not (g || h) ≡ false
+  tested true s w x t u g h some = refl
+  tested false true w x t u g h some = refl
+  tested false false true x t u g h some = refl
+  tested false false false true t u g h some = refl
+  tested false false false false true u g h some = refl
+  tested false false false false false true g h some = refl
+  tested false false false false false false true h some = refl
+  tested false false false false false false false h some = some
+
+-- The vertex whose field was read.
+pub record Reads {X : Type 0} (f : Occupant → X) (o : Option Occupant) (x : X) : Type 0 where
+  pub occupant : Occupant
+  pub is : o ≡ Some occupant
+  pub here : f occupant ≡ x
+
+pub reads : {X : Type 0} (f : Occupant → X) (o : Option Occupant) (x : X) → in_slot f o ≡ Some x → Reads f o x
+reads f None x e = absurd (cc)
+reads f (Some o) x e = record { occupant = o; is = refl; here = (cc) }

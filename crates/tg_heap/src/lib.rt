@@ -1,0 +1,12 @@
+//! A heap: vertices in slots with a colour each, and labelled edges between them in cells. What the collector and the
+//! sessions stand on.
+//!
+//! Contracts see a table of slots, one list of edges for each slot, and the number of free cells. Only `Heap::new`
+//! takes memory.
+#![tactic(auto)]
+
+mod heap;
+#[cfg(test)]
+mod tests;
+
+pub use heap::{Dropped, Heap, HeapFull};

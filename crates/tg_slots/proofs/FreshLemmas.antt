@@ -1,0 +1,91 @@
+-- A table of free slots, and the links that it is made of.
+use Rattle.std.proofs.Common.{map, ◌≡◌, ℕ, zero, suc, ◌+◌, ◌<◌, ◌≤◌, List, [], ◌∷◌, ◌++◌, length, Option, None, inl, inr, sym, ◌∙◌, ap, refl, arith, get_or, sum_by}
+use Rattle.std.proofs.lemmas.List.Sums.{sum_by-cons}
+use Rattle.std.proofs.lemmas.Bool.{cases_eq}
+use Rattle.tg_rights.specs.Membership.{Holds, Distinct}
+use Rattle.tg_slots.specs.declared.slots.Occupant.{Occupant}
+use Rattle.tg_slots.specs.declared.slots.Entry.{Entry}
+use Rattle.tg_slots.specs.Table.{Free, mark_of, IsSound, if_free, nones, indices, fresh}
+use Rattle.tg_slots.specs.Inside.{links, occupants}
+
+pub nones_length : (n : ℕ) → length (nones n) ≡ n
+nones_length zero = refl
+nones_length (suc n) = let r = nones_length n in omega (arith, r)
+
+pub nones_free : (n i : ℕ) → mark_of (get_or (nones n) i None) ≡ Free
+nones_free zero i = refl
+nones_free (suc n) zero = refl
+nones_free (suc n) (suc i) = nones_free n i
+
+pub nones_push : (n : ℕ) → nones n ++ None ∷ [] ≡ nones (suc n)
+nones_push zero = refl
+nones_push (suc n) = ap (λ (l : List (Option Occupant)). None ∷ l) (nones_push n)
+
+nones_sum : (n : ℕ) → sum_by if_free (nones n) ≡ n
+nones_sum zero = refl
+nones_sum (suc n) = sum_by-cons if_free None (nones n) ∙ (let r = nones_sum n in omega (arith, r))
+
+pub indices_length : (i n : ℕ) → length (indices i n) ≡ n
+indices_length i zero = refl
+indices_length i (suc n) = let r = indices_length (suc i) n in omega (arith, r)
+
+indices_within : (i n j : ℕ) → Holds (indices i n) j → (i ≤ j) × (j < i + n)
+indices_within i zero j h = absurd h
+indices_within i (suc n) j h = elim h [
+  | inl e ↦ (omega (arith, e), omega (arith, e))
+  | inr m ↦ let r = indices_within (suc i) n j m in let a = r.0 in let b = r.1 in (omega (arith, a), omega (arith, b))
+]
+
+indices_hold : (i n j : ℕ) → i ≤ j → j < i + n → Holds (indices i n) j
+indices_hold i zero j a b = absurd (omega arith)
+indices_hold i (suc n) j a b = elim (cases_eq j i) [
+  | inl e ↦ inl e
+  | inr other ↦ inr (indices_hold (suc i) n j (omega arith) (omega arith))
+]
+
+indices_distinct : (i n : ℕ) → Distinct (indices i n)
+indices_distinct i zero = tt
+indices_distinct i (suc n) = (λ h. let r = (indices_within (suc i) n i h).0 in omega (arith, r), indices_distinct (suc i) n)
+
+pub fresh_sound : (n : ℕ) → IsSound (fresh n)
+fresh_sound n =
+    let size : length (nones n) ≡ n = nones_length n in
+    record {
+      free_listed = λ i h f. indices_hold 0 n i (omega arith) (omega (arith, size));
+      listed_free = λ i h. let r = (indices_within 0 n i h).1 in (omega (arith, r, size), nones_free n i);
+      free_once = indices_distinct 0 n;
+      free_count = indices_length 0 n ∙ sym (nones_sum n);
+      listed_grey = λ i h. absurd h;
+      grey_once = tt;
+    }
+
+indices_push : (i n : ℕ) → indices i n ++ (i + n) ∷ [] ≡ indices i (suc n)
+indices_push i zero = ap (λ (k : ℕ). k ∷ []) (omega arith)
+indices_push i (suc n) =
+    let up : suc i + n ≡ i + suc n = omega arith in
+    ap (λ (l : List ℕ). i ∷ l) (ap (λ (k : ℕ). indices (suc i) n ++ k ∷ []) (sym up) ∙ indices_push (suc i) n)
+
+pub indices_get_or : (i n j d : ℕ) → j < n → get_or (indices i n) j d ≡ i + j
+indices_get_or i zero j d w = absurd (omega arith)
+indices_get_or i (suc n) zero d w = omega arith
+indices_get_or i (suc n) (suc j) d w = let rest = indices_get_or (suc i) n j d (omega arith) in omega (arith, rest)
+
+map_push : {X Y : Type 0} (f : X → Y) (xs : List X) (x : X) → map f (xs ++ x ∷ []) ≡ map f xs ++ f x ∷ []
+map_push f [] x = refl
+map_push f (y ∷ xs) x = ap (λ (l : List _). f y ∷ l) (map_push f xs x)
+
+-- One more fresh slot, linked to the one that follows.
+pub record Grows (es : List Entry) (n : ℕ) : Type 0 where
+  pub slots : occupants es ≡ nones n
+  pub ups : links es ≡ indices 1 n
+
+pub grows : (es es' : List Entry) (n : ℕ) → Grows es n → es' ≡ es ++ record { occupant = None; link = n + 1 } ∷ [] → Grows es' (n + 1)
+grows es es' n g ev =
+    let e : Entry = record { occupant = None; link = n + 1 } in
+    let up : suc n ≡ n + 1 = omega arith in
+    let next : n + 1 ≡ 1 + n = omega arith in
+    record {
+      slots = ap occupants ev ∙ map_push (λ (x : Entry). x.occupant) es e ∙ ap (λ (l : List (Option Occupant)). l ++ None ∷ []) g.slots ∙ nones_push n ∙ ap nones up;
+      ups = ap links ev ∙ map_push (λ (x : Entry). x.link) es e ∙ ap (λ (l : List ℕ). l ++ (n + 1) ∷ []) g.ups
+          ∙ ap (λ (k : ℕ). indices 1 n ++ k ∷ []) next ∙ indices_push 1 n ∙ ap (indices 1) up;
+    }

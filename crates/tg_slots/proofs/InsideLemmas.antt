@@ -1,0 +1,85 @@
+-- The invariant of linked slots, and the table that they show.
+use Rattle.std.proofs.Common.{◌≡◌, ℕ, ◌<◌, ◌≤◌, List, [], ◌∷◌, length, Option, None, sym, ◌∙◌, subst, ap, refl, set, get_or, arith, map}
+use Rattle.std.proofs.lemmas.List.{map-set, get_or-map}
+use Rattle.tg_slots.specs.declared.slots.Entry.{Entry}
+use Rattle.tg_slots.specs.declared.slots.Occupant.{Occupant}
+use Rattle.tg_slots.specs.declared.slots.Slots.TheInside.{Inside}
+use Rattle.tg_slots.specs.Table.{Table, IsSound, if_free, if_grey}
+use Rattle.tg_slots.specs.Chain.{walk, Chain}
+use Rattle.tg_slots.specs.Inside.{links, occupants, listed, table, IsInside}
+use Rattle.tg_slots.proofs.TableLemmas.{at_most_length, grey_at_most, free_one-le, grey_one-le}
+use Rattle.tg_slots.proofs.ChainLemmas.{walk_chain}
+
+pub length_map : {X Y : Type 0} (f : X → Y) (xs : List X) → length (map f xs) ≡ length xs
+length_map f [] = refl
+length_map f (x ∷ xs) = let rest = length_map f xs in omega (arith, rest)
+
+-- The lists of a sound table are no longer than the table.
+free_fits : (t : Table) → IsSound t → length t.free ≤ length t.slots
+free_fits t s = let most = at_most_length if_free free_one-le t.slots in let count = s.free_count in omega (arith, most, count)
+
+grey_fits : (t : Table) → IsSound t → length t.grey ≤ length t.slots
+grey_fits t s =
+    let most = at_most_length if_grey grey_one-le t.slots in
+    let some = grey_at_most t.grey t.slots s.grey_once (λ j h. (s.listed_grey j h).1) in
+    omega (arith, most, some)
+
+-- These fields, with so many slots, show the table t: its lists are the chains from both heads.
+pub record Shows (end : ℕ) (s : Inside) (t : Table) : Type 0 where
+  pub size : length s.entries.items ≡ end
+  pub slots : occupants s.entries.items ≡ t.slots
+  pub free : Chain end (links s.entries.items) s.free t.free
+  pub grey : Chain end (links s.entries.items) s.grey t.grey
+  pub sound : IsSound t
+
+listed_is : (end : ℕ) (es : List Entry) (head : ℕ) (l : List ℕ) → length es ≡ end → length l ≤ end → Chain end (links es) head l → listed es head ≡ l
+listed_is end es head l size fits c =
+    ap (λ (n : ℕ). walk n (links es) n head) size ∙ walk_chain end (links es) end head l c fits
+
+pub shows_table : (end : ℕ) (s : Inside) (t : Table) → Shows end s t → table s ≡ t
+shows_table end s t k =
+    let size : length s.entries.items ≡ end = k.size in
+    let slots : length t.slots ≡ end = sym (ap length k.slots) ∙ length_map (λ (e : Entry). e.occupant) s.entries.items ∙ k.size in
+    let free_short = free_fits t k.sound in
+    let grey_short = grey_fits t k.sound in
+    let all : occupants s.entries.items ≡ t.slots = k.slots in
+    let free : listed s.entries.items s.free ≡ t.free = listed_is end s.entries.items s.free t.free size (omega (arith, slots, free_short)) k.free in
+    let grey : listed s.entries.items s.grey ≡ t.grey = listed_is end s.entries.items s.grey t.grey size (omega (arith, slots, grey_short)) k.grey in
+    ap (λ (l : List (Option Occupant)). record { slots = l; free = listed s.entries.items s.free; grey = listed s.entries.items s.grey }) all
+    ∙ ap (λ (l : List ℕ). record { slots = t.slots; free = l; grey = listed s.entries.items s.grey }) free
+    ∙ ap (λ (l : List ℕ). record { slots = t.slots; free = t.free; grey = l }) grey
+
+pub shows_inside : (end : ℕ) (s : Inside) (t : Table) → Shows end s t → s.free_count ≡ length t.free → end ≤ 65536 → IsInside s
+shows_inside end s t k count most =
+    let is : t ≡ table s = sym (shows_table end s t k) in
+    record {
+      sound = subst (λ (u : Table). IsSound u) is k.sound;
+      free_ends = subst (λ (u : Table). Chain (length s.entries.items) (links s.entries.items) s.free u.free) is
+          (subst (λ (n : ℕ). Chain n (links s.entries.items) s.free t.free) (sym k.size) k.free);
+      grey_ends = subst (λ (u : Table). Chain (length s.entries.items) (links s.entries.items) s.grey u.grey) is
+          (subst (λ (n : ℕ). Chain n (links s.entries.items) s.grey t.grey) (sym k.size) k.grey);
+      count = count ∙ ap (λ (u : Table). length u.free) is;
+      size = (let size = k.size in omega (arith, size, most));
+    }
+
+-- One entry was replaced.
+pub links_set : (es : List Entry) (i : ℕ) (e : Entry) → links (set es i e) ≡ set (links es) i e.link
+links_set es i e = map-set (λ (x : Entry). x.link) es i e
+
+pub occupants_set : (es : List Entry) (i : ℕ) (e : Entry) → occupants (set es i e) ≡ set (occupants es) i e.occupant
+occupants_set es i e = map-set (λ (x : Entry). x.occupant) es i e
+
+-- The fields of an entry that was read.
+pub link_read : (es : List Entry) (i : ℕ) (e : Entry) → i < length es → e ≡ get_or es i e → get_or (links es) i (length es) ≡ e.link
+link_read es i e h is = get_or-map (λ (x : Entry). x.link) es i e (length es) h ∙ ap (λ (x : Entry). x.link) (sym is)
+
+pub occupant_read : (es : List Entry) (i : ℕ) (e : Entry) → i < length es → e ≡ get_or es i e → e.occupant ≡ get_or (occupants es) i None
+occupant_read es i e h is = ap (λ (x : Entry). x.occupant) is ∙ sym (get_or-map (λ (x : Entry). x.occupant) es i e None h)
+
+-- There are no more free slots than slots.
+pub count_fits : (s : Inside) → IsInside s → s.free_count ≤ 65536
+count_fits s k =
+    let most = free_fits (table s) k.sound in
+    let count = k.count in
+    let size = k.size in
+    omega (arith, most, count, size, length_map (λ (e : Entry). e.occupant) s.entries.items)

@@ -1,0 +1,5 @@
+pub mod TableLemmas
+pub mod FreshLemmas
+pub mod ChainLemmas
+pub mod InsideLemmas
+pub mod StepLemmas

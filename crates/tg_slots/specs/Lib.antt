@@ -1,0 +1,4 @@
+pub mod Table
+pub mod Chain
+pub mod Inside
+pub use Rattle.tg_rights.specs.Membership

@@ -1,0 +1,254 @@
+ghost use Rattle.std.specs.Prelude.{◌≡◌, ◌≢◌, ◌<◌, ◌≤◌, [], ◌∷◌, length, MatchResult, MatchOption, IsTrue, ◌↔◌, set, ◌⊎◌, IfSome, IfOk, None, Some};
+ghost use Rattle.tg_rights.specs.Membership.{Holds};
+ghost use Rattle.tg_slots.specs.Table.{Table, Free, Has, slot, mark, coloured, recoloured, with_text, in_slot, IsSound, fresh};
+
+use crate::Colour;
+use std::alloc::{AllocError, Global};
+use std::marker::Model;
+use tg_rights::{Kind, Text};
+
+/// A vertex in its slot.
+#[derive(Drop)]
+pub struct Occupant {
+    pub serial: u64,
+    pub kind: Kind,
+    pub colour: Colour,
+    pub text: Text,
+}
+
+// A slot, and the next one of the list that it stands in.
+#[derive(Drop)]
+struct Entry {
+    occupant: Option<Occupant>,
+    link: u32,
+}
+
+impl Entry {
+    // The vertex, if there is one, takes a colour.
+    fn paint(&mut self, colour: Colour)
+        ensures { self.new ≡ record self.old { occupant = coloured colour self.old.occupant } }
+    {
+        if let Some(occupant) = &mut self.occupant {
+            occupant.colour = colour;
+        }
+    }
+}
+
+/// Slots by index, the list of free ones and the list of waiting grey ones.
+#[derive(Drop)]
+pub struct Slots {
+    // The number of slots, which is no slot's index, ends both lists.
+    entries: Vec<Entry>,
+    free: u32,
+    grey: u32,
+    free_count: u32,
+}
+
+impl Model for Slots {
+    ghost use Rattle.tg_slots.specs.Table.{Table};
+
+    ghost Value = { Table };
+
+    ghost use Rattle.tg_slots.specs.Inside.{table, IsInside};
+
+    ghost view = { table };
+
+    ghost invariant = { IsInside };
+}
+
+impl Slots {
+    /// That many slots, 1 to 65,536, all free, in the order of their indices. The only error is want of memory.
+    pub fn new(alloc: Global, count: u32) -> Result<Slots, AllocError>
+        requires low { 1 ≤ count }
+        requires high { count ≤ 65536 }
+        ensures { IfOk result (λ t. t ≡ fresh count) }
+    {
+        let mut entries = Vec::with_capacity(alloc, count as usize)?;
+        for id in 0..count {
+            entries.push(Entry {
+                occupant: None,
+                link: id + 1,
+            })?;
+        }
+        Ok(Slots {
+            entries,
+            free: 0,
+            grey: count,
+            free_count: count,
+        })
+    }
+
+    /// Tells a caller what always holds of the table; it does nothing.
+    pub fn soundness(&self)
+        ensures sound { IsSound self.now }
+        ensures size { length self.now.slots ≤ 65536 }
+    {
+        let _ = &self.entries;
+    }
+
+    /// How many slots there are, free ones among them.
+    pub fn len(&self) -> u32
+        ensures { result ≡ length self.now.slots }
+    {
+        self.entries.len() as u32
+    }
+
+    /// How many slots are free.
+    pub fn free(&self) -> u32
+        ensures { result ≡ length self.now.free }
+    {
+        self.free_count
+    }
+
+    /// Whether the slot has no vertex.
+    pub fn is_free(&self, id: u32) -> bool
+        requires { id < length self.now.slots }
+        ensures { IsTrue result ↔ (mark self.now id ≡ Free) }
+    {
+        self.entries[id as usize].occupant.is_none()
+    }
+
+    // The vertex in the slot.
+    fn occupant(&self, id: u32) -> Option<&Occupant>
+        requires { id < length self.now.slots }
+        ensures { MatchOption result (slot self.now id ≡ None) (λ o. slot self.now id ≡ Some o.now) }
+    {
+        self.entries[id as usize].occupant.as_ref()
+    }
+
+    /// The serial of the vertex; none where the slot is free.
+    pub fn serial(&self, id: u32) -> Option<u64>
+        requires { id < length self.now.slots }
+        ensures { result ≡ in_slot (λ o. o.serial) (slot self.now id) }
+    {
+        match self.occupant(id) {
+            None => None,
+            Some(occupant) => Some(occupant.serial),
+        }
+    }
+
+    /// The kind of the vertex; none where the slot is free.
+    pub fn kind(&self, id: u32) -> Option<Kind>
+        requires { id < length self.now.slots }
+        ensures { result ≡ in_slot (λ o. o.kind) (slot self.now id) }
+    {
+        match self.occupant(id) {
+            None => None,
+            Some(occupant) => Some(occupant.kind),
+        }
+    }
+
+    /// The colour of the vertex; none where the slot is free.
+    pub fn colour(&self, id: u32) -> Option<Colour>
+        requires { id < length self.now.slots }
+        ensures { MatchOption result (mark self.now id ≡ Free) (λ c. mark self.now id ≡ Has c) }
+    {
+        match self.occupant(id) {
+            None => None,
+            Some(occupant) => Some(occupant.colour),
+        }
+    }
+
+    /// The text of the vertex; none where the slot is free.
+    pub fn text(&self, id: u32) -> Option<&Text>
+        requires { id < length self.now.slots }
+        ensures { MatchOption result (mark self.now id ≡ Free) (λ t. in_slot (λ o. o.text) (slot self.now id) ≡ Some t.now) }
+    {
+        match self.occupant(id) {
+            None => None,
+            Some(occupant) => Some(&occupant.text),
+        }
+    }
+
+    /// Takes the first free slot for a vertex, white or black, and answers its index. Where no slot is free, all is
+    /// as before and the text comes back.
+    pub fn take_free(
+        &mut self,
+        serial: u64,
+        kind: Kind,
+        colour: Colour,
+        text: Text,
+    ) -> Result<u32, Text>
+        requires { (colour ≡ Colour.White) ⊎ (colour ≡ Colour.Black) }
+        ensures { MatchResult result
+            (λ id. (self.old.free ≡ id ∷ self.new.free) × (self.new.grey ≡ self.old.grey)
+            × (self.new.slots ≡ set self.old.slots id (Some (record { serial = serial; kind = kind; colour = colour; text = text }))))
+            (λ back. (back ≡ text) × (self.old.free ≡ []) × (self.new ≡ self.old)) }
+    {
+        let id = self.free;
+        let Some(entry) = self.entries.get_mut(id as usize) else {
+            return Err(text);
+        };
+        self.free = entry.link;
+        self.free_count -= 1;
+        entry.occupant = Some(Occupant {
+            serial,
+            kind,
+            colour,
+            text,
+        });
+        Ok(id)
+    }
+
+    /// Frees the slot of a white vertex, in front of the free list; the vertex's text is dropped.
+    pub fn give_back(&mut self, id: u32)
+        requires { mark self.old id ≡ Has Colour.White }
+        ensures { self.new ≡ record self.old { slots = set self.old.slots id None; free = id ∷ self.old.free } }
+    {
+        self.free_count += 1;
+        let entry = &mut self.entries[id as usize];
+        entry.occupant = None;
+        entry.link = self.free;
+        self.free = id;
+    }
+
+    /// Makes a white vertex grey, and puts it in front of the grey list.
+    pub fn push_grey(&mut self, id: u32)
+        requires { mark self.old id ≡ Has Colour.White }
+        ensures { self.new ≡ record self.old { slots = recoloured self.old id Colour.Grey; grey = id ∷ self.old.grey } }
+    {
+        let entry = &mut self.entries[id as usize];
+        entry.paint(Colour::Grey);
+        entry.link = self.grey;
+        self.grey = id;
+    }
+
+    /// Takes the first index out of the grey list; its vertex stays grey. None, and all as before, where the list is
+    /// empty.
+    pub fn pop_grey(&mut self) -> Option<u32>
+        ensures { MatchOption result ((self.old.grey ≡ []) × (self.new ≡ self.old)) (λ id. self.old ≡ record self.new { grey = id ∷ self.new.grey }) }
+    {
+        let id = self.grey;
+        self.grey = self.entries.get(id as usize)?.link;
+        Some(id)
+    }
+
+    /// Makes a grey vertex that no longer waits in the grey list black.
+    pub fn blacken(&mut self, id: u32)
+        requires grey { mark self.old id ≡ Has Colour.Grey }
+        requires taken { Holds self.old.grey id → ⊥ }
+        ensures { self.new ≡ record self.old { slots = recoloured self.old id Colour.Black } }
+    {
+        self.entries[id as usize].paint(Colour::Black);
+    }
+
+    /// Makes a black vertex white.
+    pub fn whiten(&mut self, id: u32)
+        requires { mark self.old id ≡ Has Colour.Black }
+        ensures { self.new ≡ record self.old { slots = recoloured self.old id Colour.White } }
+    {
+        self.entries[id as usize].paint(Colour::White);
+    }
+
+    /// Replaces the text of a vertex, and answers the old one.
+    pub fn set_text(&mut self, id: u32, text: Text) -> Text
+        requires { mark self.old id ≢ Free }
+        ensures slots { self.new ≡ record self.old { slots = set self.old.slots id (with_text text (slot self.old id)) } }
+        ensures old { IfSome (slot self.old id) (λ o. result ≡ o.text) }
+    {
+        match &mut self.entries[id as usize].occupant {
+            None => unreachable!(),
+            Some(occupant) => std::mem::replace(&mut occupant.text, text),
+        }
+    }
+}
