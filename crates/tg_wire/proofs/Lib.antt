@@ -1,0 +1,9 @@
+pub mod Literals
+pub mod Json
+pub mod Keys
+pub mod NoFloats
+pub mod ListLemmas
+pub mod Compact
+pub mod OneLine
+pub mod Worked
+pub mod Saying

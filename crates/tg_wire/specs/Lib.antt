@@ -1,0 +1,10 @@
+pub mod Texts
+pub mod Fields
+pub mod Ops
+pub mod Configs
+pub mod Reading
+pub mod Lines
+pub mod Laws
+pub mod Faults
+pub mod Replies
+pub mod Answers

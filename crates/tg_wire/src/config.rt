@@ -1,0 +1,141 @@
+//! From a line to a configuration, and from a line to a goal.
+
+ghost use Rattle.std.specs.Prelude.{◌≡◌, ◌≤◌, Err, length, option_map};
+ghost use Rattle.serde_json.specs.View.{view, items_view};
+ghost use Rattle.tg_wire.specs.Fields as fields;
+ghost use Rattle.tg_wire.specs.Configs.{goal_in, opening_in, opening_of};
+ghost use Rattle.tg_wire.specs.Lines.{goal_of, config_of};
+ghost use Rattle.tg_wire.specs.Reading.{Answers, AnswersBy, AnswersField, or_else};
+ghost use Rattle.tg_wire.specs.declared.fault.WireFault.TheVariants.{BadField, OutOfMemory};
+
+use crate::fault::WireFault;
+use crate::field;
+use crate::object::{has_required, knows_all, object};
+use serde_json::Value;
+use std::alloc::Global;
+use tg_graph::{Config, Goal};
+use tg_rights::{Rights, Word};
+
+/// The value of a configuration line, or its first fault. Where a field is absent, `edges` are none, `next` is the
+/// number of principals plus 1, `slots` are 1,024 and `cells` 16,384. The answer is never `NoOp`.
+#[tactic(auto, unfolding(crate::specs::Lines::config_of))]
+pub fn read_config(alloc: Global, bytes: &[u8]) -> Result<Config, WireFault>
+    ensures answered { AnswersBy opening_of result (config_of bytes.now) }
+    ensures short { result ≡ Err OutOfMemory → length bytes.now ≤ 16384 }
+{
+    let value = object(alloc, bytes)?;
+    has_required(&["principals"], &value)?;
+    let config = config(alloc, &value)?;
+    knows_all(
+        &["edges", "next", "slots", "cells"],
+        &["principals"],
+        &value,
+    )?;
+    Ok(config)
+}
+
+/// The value of a goal line, or its first fault. The answer is never `NoOp`.
+#[tactic(auto, unfolding(crate::specs::Lines::goal_of))]
+pub fn read_goal(alloc: Global, bytes: &[u8]) -> Result<Goal, WireFault>
+    ensures answered { Answers result (goal_of bytes.now) }
+    ensures short { result ≡ Err OutOfMemory → length bytes.now ≤ 16384 }
+{
+    let value = object(alloc, bytes)?;
+    has_required(&["from", "to", "rights"], &value)?;
+    let goal = goal(&value).ok_or(WireFault::BadField)?;
+    knows_all(&[], &["from", "to", "rights"], &value)?;
+    Ok(goal)
+}
+
+fn goal(value: &Value) -> Option<Goal>
+    ensures { result ≡ goal_in (view value.now) }
+{
+    let from = field::number(value, "from")?;
+    let to = field::number(value, "to")?;
+    let rights = field::rights(value)?;
+    Some(Goal { from, to, rights })
+}
+
+fn config(alloc: Global, value: &Value) -> Result<Config, WireFault>
+    ensures { AnswersBy opening_of result (or_else BadField (opening_in (view value.now))) }
+{
+    let principals = words(alloc, value, "principals")?;
+    let edges = edges(alloc, value)?;
+    let least = principals.len() as u64 + 1;
+    let next = field::optional_number(value, "next", least).ok_or(WireFault::BadField)?;
+    let slots = field::optional_number(value, "slots", 1_024).ok_or(WireFault::BadField)?;
+    let cells = field::optional_number(value, "cells", 16_384).ok_or(WireFault::BadField)?;
+    Ok(Config {
+        principals,
+        edges,
+        next,
+        slots,
+        cells,
+    })
+}
+
+fn words(alloc: Global, value: &Value, name: &str) -> Result<Vec<Word>, WireFault>
+    ensures { AnswersBy (λ v. v.items) result (or_else BadField (fields.texts_in name.now (view value.now))) }
+{
+    let list = value
+        .get(name)
+        .and_then(Value::as_array)
+        .ok_or(WireFault::BadField)?;
+    words_of(alloc, list)
+}
+
+fn words_of(alloc: Global, list: &Vec<Value>) -> Result<Vec<Word>, WireFault>
+    ensures { AnswersBy (λ v. v.items) result (or_else BadField (fields.texts_of (items_view list.now.items))) }
+{
+    let mut found = Vec::new(alloc);
+    for value in list {
+        let text = value.as_str().ok_or(WireFault::BadField)?;
+        found.push(Word::new(String::from_str(alloc, text)?))?;
+    }
+    Ok(found)
+}
+
+fn edges(alloc: Global, value: &Value) -> Result<Vec<(u64, Rights, u64)>, WireFault>
+    ensures { AnswersBy (λ v. v.items) result (or_else BadField (fields.edges_in (view value.now))) }
+{
+    match value.get("edges") {
+        None => Ok(Vec::new(alloc)),
+        Some(found) => {
+            let list = found.as_array().ok_or(WireFault::BadField)?;
+            edges_of(alloc, list)
+        }
+    }
+}
+
+fn edges_of(alloc: Global, list: &Vec<Value>) -> Result<Vec<(u64, Rights, u64)>, WireFault>
+    ensures { AnswersBy (λ v. v.items) result (or_else BadField (fields.edges_of (items_view list.now.items))) }
+{
+    let mut found = Vec::new(alloc);
+    for value in list {
+        found.push(edge(value).ok_or(WireFault::BadField)?)?;
+    }
+    Ok(found)
+}
+
+/// An edge as `[number, rights, number]`.
+fn edge(value: &Value) -> Option<(u64, Rights, u64)>
+    ensures { result ≡ fields.edge_value (view value.now) }
+{
+    let (from, rights, to) = three(value)?;
+    let from = from.as_u64()?;
+    let rights = field::rights_value(rights)?;
+    let to = to.as_u64()?;
+    Some((from, rights, to))
+}
+
+/// The items of a list of three.
+fn three(value: &Value) -> Option<(&Value, &Value, &Value)>
+    ensures { option_map (λ t. (view t.0.now, view t.1.now, view t.2.now)) result ≡ fields.three_in (view value.now) }
+{
+    let items = value.as_array()?.as_slice();
+    if items.len() == 3 {
+        Some((&items[0], &items[1], &items[2]))
+    } else {
+        None
+    }
+}

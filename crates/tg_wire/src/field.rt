@@ -1,0 +1,146 @@
+//! The fields of an object: nothing where one is absent that has to be there, or where its value is bad.
+
+ghost use Rattle.std.specs.Prelude.{◌≡◌, ◌==◌, ◌+◌, option_map, length, count_by, nat_le};
+ghost use Rattle.std.specs.List.{list_all, list_any};
+ghost use Rattle.serde_json.specs.View.{view};
+ghost use Rattle.tg_wire.specs.Fields as fields;
+ghost use Rattle.tg_wire.specs.Reading.{AnswersField};
+
+use crate::fault::WireFault;
+use serde_json::Value;
+use std::alloc::Global;
+use tg_rights::text::MAX_TEXT;
+use tg_rights::{Kind, Rights, Text, Word};
+
+pub(crate) fn number(value: &Value, name: &str) -> Option<u64>
+    ensures { result ≡ fields.number_in name.now (view value.now) }
+{
+    value.get(name).and_then(Value::as_u64)
+}
+
+/// A number that may be absent.
+pub(crate) fn optional_number(value: &Value, name: &str, default: u64) -> Option<u64>
+    ensures { result ≡ fields.optional_number name.now default (view value.now) }
+{
+    match value.get(name) {
+        None => Some(default),
+        Some(found) => found.as_u64(),
+    }
+}
+
+pub(crate) fn string<'v>(value: &'v Value, name: &str) -> Option<&'v str>
+    ensures { option_map (λ s. s.now) result ≡ fields.string_in name.now (view value.now) }
+{
+    value.get(name).and_then(Value::as_str)
+}
+
+pub(crate) fn rights(value: &Value) -> Option<Rights>
+    ensures { result ≡ fields.rights_in (view value.now) }
+{
+    rights_value(value.get("rights")?)
+}
+
+pub(crate) fn rights_value(value: &Value) -> Option<Rights>
+    ensures { result ≡ fields.rights_value (view value.now) }
+{
+    rights_of(value.as_str()?)
+}
+
+fn rights_of(text: &str) -> Option<Rights>
+    ensures { result ≡ fields.rights_of text.now }
+{
+    if are_rights(text) {
+        Some(rights_named(text))
+    } else {
+        None
+    }
+}
+
+fn are_rights(text: &str) -> bool
+    ensures { result ≡ fields.are_rights text.now }
+{
+    let letters = text.as_bytes();
+    are_letters(letters)
+        && count(letters, b'r') <= 1
+        && count(letters, b'w') <= 1
+        && count(letters, b't') <= 1
+        && count(letters, b'g') <= 1
+}
+
+fn are_letters(bytes: &[u8]) -> bool
+    ensures { result ≡ list_all fields.is_letter bytes.now }
+{
+    bytes
+        .iter()
+        .all(|c| *c == b'r' || *c == b'w' || *c == b't' || *c == b'g')
+}
+
+fn count(bytes: &[u8], letter: u8) -> usize
+    ensures { result ≡ count_by (λ c. c == letter) bytes.now }
+{
+    bytes.iter().filter(|c| **c == letter).count()
+}
+
+fn rights_named(text: &str) -> Rights
+    ensures { result ≡ fields.rights_named text.now }
+{
+    let letters = text.as_bytes();
+    let mut rights = Rights::empty();
+    if stands_in(letters, b'r') {
+        rights = rights.union(Rights::READ);
+    }
+    if stands_in(letters, b'w') {
+        rights = rights.union(Rights::WRITE);
+    }
+    if stands_in(letters, b't') {
+        rights = rights.union(Rights::TAKE);
+    }
+    if stands_in(letters, b'g') {
+        rights = rights.union(Rights::GRANT);
+    }
+    rights
+}
+
+fn stands_in(bytes: &[u8], letter: u8) -> bool
+    ensures { result ≡ fields.stands_in letter bytes.now }
+{
+    bytes.iter().any(|c| *c == letter)
+}
+
+pub(crate) fn kind(value: &Value) -> Option<Kind>
+    ensures { result ≡ fields.kind_in (view value.now) }
+{
+    match string(value, "kind")? {
+        "subject" => Some(Kind::Subject),
+        "document" => Some(Kind::Document),
+        _ => None,
+    }
+}
+
+/// The seat, 0 where the field is absent.
+pub(crate) fn seat(value: &Value) -> Option<u64>
+    ensures { result ≡ fields.seat_in (view value.now) }
+{
+    optional_number(value, "seat", 0)
+}
+
+pub(crate) fn word(alloc: Global, value: &Value, name: &str) -> Result<Word, WireFault>
+    ensures { AnswersField result (fields.string_in name.now (view value.now)) }
+{
+    let text = string(value, name).ok_or(WireFault::BadField)?;
+    Ok(Word::new(String::from_str(alloc, text)?))
+}
+
+/// The text of at most 4,096 bytes. A longer one is refused before memory is asked for.
+pub(crate) fn text(alloc: Global, value: &Value) -> Result<Text, WireFault>
+    ensures { AnswersField result (fields.text_in (view value.now)) }
+{
+    let text = string(value, "text").ok_or(WireFault::BadField)?;
+    if text.len() > MAX_TEXT {
+        return Err(WireFault::BadField);
+    }
+    match Text::new(String::from_str(alloc, text)?) {
+        Ok(text) => Ok(text),
+        Err(_) => Err(WireFault::BadField),
+    }
+}

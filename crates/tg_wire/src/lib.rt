@@ -1,0 +1,24 @@
+//! The lines of the protocol: from JSON to events, steps, goals and configurations, and from answers to JSON.
+#![tactic(auto)]
+
+mod config;
+mod fault;
+mod field;
+mod laws;
+mod line;
+mod object;
+mod op;
+mod read;
+mod refusal;
+#[cfg(test)]
+mod tests;
+mod value;
+mod write;
+
+pub use config::{read_config, read_goal};
+pub use fault::WireFault;
+pub use laws::{configs_say, goals_say, lines_say, one_reply_a_line, steps_say, worked_lines};
+pub use line::Line;
+pub use read::{read_line, read_step};
+pub use refusal::{error_line, open_fault_line};
+pub use write::{write_answer, write_reply, write_verdict};

@@ -1,0 +1,123 @@
+//! From a line to an event, and from a line to a step.
+
+ghost use Rattle.std.specs.Prelude.{◌≡◌, ◌≤◌, Err, length, option_map, map, codes, ◌∷◌, []};
+ghost use Rattle.serde_json.specs.View.{view};
+ghost use Rattle.tg_wire.specs.Ops.{command_in, event_in};
+ghost use Rattle.tg_wire.specs.Lines.{line_of, step_of, op_in, rule_in};
+ghost use Rattle.tg_wire.specs.Reading.{Answers, AnswersField, or_else};
+ghost use Rattle.tg_wire.specs.declared.fault.WireFault.TheVariants.{NoOp, OutOfMemory};
+
+use crate::fault::WireFault;
+use crate::field;
+use crate::line::Line;
+use crate::object::{has_required, knows_all, object};
+use crate::op::{Op, command_fields, rule_named};
+use serde_json::Value;
+use std::alloc::Global;
+use tg_graph::Step;
+use tg_rights::{Command, Rule};
+use tg_vault::Event;
+
+/// The value of an event line, or its first fault. `seat` is 0 where it is absent.
+#[tactic(auto, unfolding(crate::specs::Lines::line_of))]
+pub fn read_line(alloc: Global, bytes: &[u8]) -> Result<Line, WireFault>
+    ensures answered { Answers result (line_of bytes.now) }
+    ensures short { result ≡ Err OutOfMemory → length bytes.now ≤ 16384 }
+{
+    let value = object(alloc, bytes)?;
+    let op = op(&value)?;
+    has_required(op.required(), &value)?;
+    let event = event(alloc, op, &value)?;
+    knows_all(&["op", "seat"], op.required(), &value)?;
+    Ok(Line::Act(event))
+}
+
+/// The value of a step line, or its first fault: one of the seven commands, with its actor and no seat.
+#[tactic(auto, unfolding(crate::specs::Lines::step_of))]
+pub fn read_step(alloc: Global, bytes: &[u8]) -> Result<Step, WireFault>
+    ensures answered { Answers result (step_of bytes.now) }
+    ensures short { result ≡ Err OutOfMemory → length bytes.now ≤ 16384 }
+{
+    let value = object(alloc, bytes)?;
+    let rule = rule(&value)?;
+    has_required(&["actor"], &value)?;
+    has_required(command_fields(rule), &value)?;
+    let actor = field::number(&value, "actor").ok_or(WireFault::BadField)?;
+    let command = command(alloc, rule, &value)?;
+    knows_all(&["op", "actor"], command_fields(rule), &value)?;
+    Ok(Step { actor, command })
+}
+
+fn op(value: &Value) -> Result<Op, WireFault>
+    ensures { result ≡ or_else NoOp (op_in (view value.now)) }
+{
+    let word = field::string(value, "op").ok_or(WireFault::NoOp)?;
+    Op::named(word).ok_or(WireFault::NoOp)
+}
+
+fn rule(value: &Value) -> Result<Rule, WireFault>
+    ensures { result ≡ or_else NoOp (rule_in (view value.now)) }
+{
+    let word = field::string(value, "op").ok_or(WireFault::NoOp)?;
+    rule_named(word).ok_or(WireFault::NoOp)
+}
+
+fn event(alloc: Global, op: Op, value: &Value) -> Result<Event, WireFault>
+    ensures { AnswersField result (event_in op (view value.now)) }
+{
+    let seat = field::seat(value).ok_or(WireFault::BadField)?;
+    match op {
+        Op::Hello => {
+            let name = field::word(alloc, value, "name")?;
+            Ok(Event::Hello { seat, name })
+        }
+        Op::Bye => Ok(Event::Bye { seat }),
+        Op::Shade => Ok(Event::Shade { seat }),
+        Op::Ask(rule) => {
+            let command = command(alloc, rule, value)?;
+            Ok(Event::Ask { seat, command })
+        }
+    }
+}
+
+fn command(alloc: Global, rule: Rule, value: &Value) -> Result<Command, WireFault>
+    ensures { AnswersField result (command_in rule (view value.now)) }
+{
+    match rule {
+        Rule::Take => {
+            let rights = field::rights(value).ok_or(WireFault::BadField)?;
+            let over = field::number(value, "over").ok_or(WireFault::BadField)?;
+            let from = field::number(value, "from").ok_or(WireFault::BadField)?;
+            Ok(Command::Take { rights, over, from })
+        }
+        Rule::Grant => {
+            let rights = field::rights(value).ok_or(WireFault::BadField)?;
+            let over = field::number(value, "over").ok_or(WireFault::BadField)?;
+            let to = field::number(value, "to").ok_or(WireFault::BadField)?;
+            Ok(Command::Grant { rights, over, to })
+        }
+        Rule::Create => {
+            let kind = field::kind(value).ok_or(WireFault::BadField)?;
+            let rights = field::rights(value).ok_or(WireFault::BadField)?;
+            Ok(Command::Create { kind, rights })
+        }
+        Rule::Remove => {
+            let rights = field::rights(value).ok_or(WireFault::BadField)?;
+            let over = field::number(value, "over").ok_or(WireFault::BadField)?;
+            Ok(Command::Remove { rights, over })
+        }
+        Rule::Read => {
+            let over = field::number(value, "over").ok_or(WireFault::BadField)?;
+            Ok(Command::Read { over })
+        }
+        Rule::Write => {
+            let over = field::number(value, "over").ok_or(WireFault::BadField)?;
+            let text = field::text(alloc, value)?;
+            Ok(Command::Write { over, text })
+        }
+        Rule::Look => {
+            let at = field::number(value, "at").ok_or(WireFault::BadField)?;
+            Ok(Command::Look { at })
+        }
+    }
+}

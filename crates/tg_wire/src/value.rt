@@ -1,0 +1,186 @@
+//! Replies, answers and verdicts as JSON values.
+
+ghost use Rattle.std.specs.Prelude.{◌≡◌, ◌++◌, [], IfOk, OnOk, string_bytes, if◌then◌else◌};
+ghost use Rattle.serde_json.specs.Data.{array};
+ghost use Rattle.serde_json.specs.View.{view};
+ghost use Rattle.tg_wire.specs.Replies.{rule_text as text_of_rule, which_text as text_of_which, rights_text as text_of_rights, edges_data, denied_data, reply_data};
+ghost use Rattle.tg_wire.specs.Answers.{answer_data, denied_step_data, verdict_data};
+ghost use Rattle.tg_wire.specs.Faults.{seat_fault_text as text_of_seat_fault, ask_fault_text as text_of_ask_fault};
+
+use serde_json::{Value, json};
+use std::alloc::{AllocError, Global};
+use tg_graph::Verdict;
+use tg_rights::{Cause, Reply, Rights, Rule, Which};
+use tg_vault::{Answer, AskFault, SeatFault};
+
+fn rule_text(rule: Rule) -> &'static str
+    ensures { result.now ≡ text_of_rule rule }
+{
+    match rule {
+        Rule::Take => "take",
+        Rule::Grant => "grant",
+        Rule::Create => "create",
+        Rule::Remove => "remove",
+        Rule::Read => "read",
+        Rule::Write => "write",
+        Rule::Look => "look",
+    }
+}
+
+fn which_text(which: Which) -> &'static str
+    ensures { result.now ≡ text_of_which which }
+{
+    match which {
+        Which::Serials => "serials",
+        Which::Slots => "slots",
+        Which::Cells => "cells",
+    }
+}
+
+fn seat_fault_text(fault: SeatFault) -> &'static str
+    ensures { result.now ≡ text_of_seat_fault fault }
+{
+    match fault {
+        SeatFault::NoSeat => "no seat",
+        SeatFault::NoActor => "no actor",
+        SeatFault::Bound => "bound",
+        SeatFault::NoPrincipal => "no principal",
+        SeatFault::Busy => "busy",
+    }
+}
+
+fn ask_fault_text(fault: AskFault) -> &'static str
+    ensures { result.now ≡ text_of_ask_fault fault }
+{
+    match fault {
+        AskFault::NoSeat => "no seat",
+        AskFault::NoActor => "no actor",
+        AskFault::Busy => "busy",
+        AskFault::OutOfMemory => "out of memory",
+    }
+}
+
+/// The letters of the rights, in the order r, w, t, g.
+fn rights_text(alloc: Global, rights: Rights) -> Result<String, AllocError>
+    ensures { IfOk result (λ s. string_bytes s ≡ text_of_rights rights) }
+{
+    let mut text = String::new(alloc);
+    push_if(&mut text, rights.contains(Rights::READ), "r")?;
+    push_if(&mut text, rights.contains(Rights::WRITE), "w")?;
+    push_if(&mut text, rights.contains(Rights::TAKE), "t")?;
+    push_if(&mut text, rights.contains(Rights::GRANT), "g")?;
+    Ok(text)
+}
+
+fn push_if(text: &mut String, there: bool, letter: &str) -> Result<(), AllocError>
+    ensures { OnOk result (string_bytes text.new ≡ string_bytes text.old ++ (if there then letter.now else [])) }
+{
+    if there {
+        text.push_str(letter)?;
+    }
+    Ok(())
+}
+
+fn edges_value(alloc: Global, edges: &[(u64, Rights)]) -> Result<Value, AllocError>
+    ensures { IfOk result (λ value. view value ≡ array (edges_data edges.now)) }
+{
+    let mut items = Vec::new(alloc);
+    for (serial, rights) in edges {
+        let letters = rights_text(alloc, *rights)?;
+        items.push(json!(in alloc; [*serial, letters])?)?;
+    }
+    Ok(Value::Array(items))
+}
+
+fn denied_value(alloc: Global, rule: Rule, cause: Cause) -> Result<Value, AllocError>
+    ensures { IfOk result (λ value. view value ≡ denied_data rule cause) }
+{
+    let denied = rule_text(rule);
+    match cause {
+        Cause::Empty => json!(in alloc; {"cause": "empty", "denied": denied}),
+        Cause::NotDistinct => json!(in alloc; {"cause": "not distinct", "denied": denied}),
+        Cause::Missing { from, to, rights } => {
+            let missing = rights_text(alloc, rights)?;
+            json!(in alloc; {"denied": denied, "from": from, "missing": missing, "to": to})
+        }
+        Cause::NotDocument { vertex } => {
+            json!(in alloc; {"cause": "not document", "denied": denied, "vertex": vertex})
+        }
+    }
+}
+
+pub(crate) fn reply_value(alloc: Global, reply: &Reply) -> Result<Value, AllocError>
+    ensures { IfOk result (λ value. view value ≡ reply_data reply.now) }
+{
+    match reply {
+        Reply::Done => json!(in alloc; {"ok": "done"}),
+        Reply::Created(vertex) => json!(in alloc; {"ok": "created", "vertex": *vertex}),
+        Reply::Text(text) => json!(in alloc; {"ok": "text", "text": text.get()}),
+        Reply::Edges(edges) => {
+            let edges = edges_value(alloc, edges.get())?;
+            json!(in alloc; {"edges": edges, "ok": "edges"})
+        }
+        Reply::Denied(rule, cause) => denied_value(alloc, *rule, *cause),
+        Reply::Full(which) => json!(in alloc; {"full": which_text(*which)}),
+    }
+}
+
+pub(crate) fn answer_value(alloc: Global, answer: &Answer) -> Result<Value, AllocError>
+    ensures { IfOk result (λ value. view value ≡ answer_data answer.now) }
+{
+    match answer {
+        Answer::Hello(vertex) => json!(in alloc; {"ok": "hello", "vertex": *vertex}),
+        Answer::Bye => json!(in alloc; {"ok": "bye"}),
+        Answer::Asked(_, reply) => reply_value(alloc, reply),
+        Answer::Shaded(Some(vertex)) => json!(in alloc; {"shaded": *vertex}),
+        Answer::Shaded(None) => json!(in alloc; {"shaded": null}),
+        Answer::Seat(fault) => json!(in alloc; {"error": seat_fault_text(*fault)}),
+        Answer::Ask(fault) => json!(in alloc; {"error": ask_fault_text(*fault)}),
+    }
+}
+
+fn denied_step_value(
+    alloc: Global,
+    step: u64,
+    rule: Rule,
+    cause: Cause,
+) -> Result<Value, AllocError>
+    ensures { IfOk result (λ value. view value ≡ denied_step_data step rule cause) }
+{
+    let denied = rule_text(rule);
+    let verdict = "step denied";
+    match cause {
+        Cause::Empty => {
+            json!(in alloc; {"cause": "empty", "denied": denied, "step": step, "verdict": verdict})
+        }
+        Cause::NotDistinct => {
+            json!(in alloc; {"cause": "not distinct", "denied": denied, "step": step, "verdict": verdict})
+        }
+        Cause::Missing { from, to, rights } => {
+            let missing = rights_text(alloc, rights)?;
+            json!(in alloc; {"denied": denied, "from": from, "missing": missing, "step": step, "to": to, "verdict": verdict})
+        }
+        Cause::NotDocument { vertex } => {
+            json!(in alloc; {"cause": "not document", "denied": denied, "step": step, "verdict": verdict, "vertex": vertex})
+        }
+    }
+}
+
+pub(crate) fn verdict_value(alloc: Global, verdict: &Verdict) -> Result<Value, AllocError>
+    ensures { IfOk result (λ value. view value ≡ verdict_data verdict.now) }
+{
+    match verdict {
+        Verdict::Shared => json!(in alloc; {"verdict": "shared"}),
+        Verdict::ActorNotSubject { index } => {
+            json!(in alloc; {"step": *index, "verdict": "actor not subject"})
+        }
+        Verdict::StepDenied { index, rule, cause } => {
+            denied_step_value(alloc, *index, *rule, *cause)
+        }
+        Verdict::StepFull { index } => { json!(in alloc; {"step": *index, "verdict": "step full"}) }
+        Verdict::GoalMissing { rights } => {
+            let missing = rights_text(alloc, *rights)?;
+            json!(in alloc; {"missing": missing, "verdict": "goal missing"})
+        }
+    }
+}
