@@ -1,0 +1,4 @@
+pub mod Devices
+pub mod InputLines
+pub mod Finding
+pub mod Refusals

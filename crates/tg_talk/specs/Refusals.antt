@@ -1,0 +1,7 @@
+-- The lines of refusals that no line's value gives.
+use Rattle.std.specs.Prelude.{ℕ, List, codes}
+use Rattle.tg_wire.specs.Faults.{line_text, error_data}
+
+-- the line that is answered to the line after the millionth
+unfoldable pub too_many_line : List ℕ
+too_many_line = line_text (error_data (codes "too many lines"))

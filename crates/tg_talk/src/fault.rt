@@ -1,0 +1,16 @@
+//! Why a talk or a run ended before its lines did.
+
+/// Why a talk or a run ended before its lines did.
+#[derive(Clone, Copy, Debug, PartialEq, Eq)]
+pub enum TalkFault {
+    /// A read answered an error.
+    Reading,
+    /// A write answered an error, or took 0 bytes of some.
+    Writing,
+    /// A line has more than 16,384 bytes.
+    TooLong,
+    /// A line came after the millionth.
+    TooMany,
+    /// Memory was refused.
+    OutOfMemory,
+}

@@ -1,0 +1,17 @@
+//! Lines over a reader and a writer: one is taken, one is written.
+#![tactic(auto)]
+
+mod fault;
+mod line_buffer;
+mod newline;
+mod refusal;
+#[cfg(test)]
+mod tests;
+mod watched;
+mod write_line;
+
+pub use fault::TalkFault;
+pub use line_buffer::{Found, LONGEST_LINE, LineBuffer, MOST_LINES};
+pub use refusal::too_many_line;
+pub use watched::Watched;
+pub use write_line::send_line;

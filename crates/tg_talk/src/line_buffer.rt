@@ -1,0 +1,180 @@
+//! The bytes that were read and not yet taken.
+
+ghost use Rattle.std.specs.Prelude.{◌≡◌, ℕ, ◌+◌, ◌-◌, ◌<◌, ◌≤◌, ◌↔◌, List, length, take, drop, IfSome, IfNone, None, true, false};
+ghost use Rattle.std.specs.Io.KnownBytes.{Consumes, Keeps, IsAtEnd};
+ghost use Rattle.tg_talk.specs.Devices.{device_of, has_failed};
+
+use crate::newline::newline_from;
+use crate::watched::Watched;
+use std::alloc::{AllocError, Global};
+use std::io::Read;
+use std::marker::Model;
+
+const CAPACITY: usize = 32_768;
+
+/// The greatest number of bytes in a line, without its line feed.
+pub const LONGEST_LINE: usize = 16_384;
+
+/// The greatest number of lines of a run or a talk.
+pub const MOST_LINES: u64 = 1_000_000;
+
+/// The bytes that were read and not yet taken, seen as their list. Lines are taken from its front: `find` reads until
+/// one stands there, `bytes` lends it and `consume` takes it away.
+#[derive(Drop)]
+pub struct LineBuffer {
+    bytes: Vec<u8>,
+    start: usize,
+    end: usize,
+}
+
+/// What stands at the front of the buffer.
+#[derive(Clone, Copy, Debug, PartialEq, Eq)]
+pub enum Found {
+    /// A line of so many bytes, and its line feed.
+    Line(usize),
+    /// The last line, which has no line feed, and is all that is left.
+    Last,
+    /// Nothing is left.
+    End,
+    /// A line above the limit.
+    TooLong,
+    /// The reader failed.
+    Failed,
+}
+
+/// What one read gave.
+#[derive(Clone, Copy, Debug, PartialEq, Eq)]
+enum Filled {
+    More,
+    End,
+    Failed,
+}
+
+impl Model for LineBuffer {
+    ghost Value = { List ℕ };
+
+    ghost view = { λ b. take (b.end - b.start) (drop b.start b.bytes.items) };
+
+    ghost invariant = { λ b. (b.start ≤ b.end) × (b.end ≤ 32768) × (length b.bytes.items ≡ 32768) };
+}
+
+impl LineBuffer {
+    ghost use Rattle.std.specs.Prelude.{◌≡◌, ◌<◌, ◌≤◌, ◌↔◌, length, take, drop, [], IfOk, true, false};
+    ghost use Rattle.std.specs.Io.{StartsWith};
+    ghost use Rattle.std.specs.Io.KnownBytes.{Keeps, IsAtEnd, prepend_known};
+    ghost use Rattle.tg_talk.specs.Devices.{device_of, has_failed};
+    ghost use Rattle.tg_talk.specs.Finding.{FindsLine, Fills};
+
+    /// No bytes. The memory for all lines, 32,768 bytes, is taken here and never again; `AllocError` where it is refused.
+    pub fn new(alloc: Global) -> Result<LineBuffer, AllocError>
+        ensures { IfOk result (λ buffer. buffer ≡ []) }
+    {
+        Ok(LineBuffer {
+            bytes: vec![in alloc; 0; CAPACITY]?,
+            start: 0,
+            end: 0,
+        })
+    }
+
+    /// Lends the bytes. Takes no memory.
+    pub fn bytes(&self) -> &[u8]
+        ensures { result.now ≡ self.now }
+    {
+        &self.bytes[self.start..self.end]
+    }
+
+    /// Takes the first `n` bytes away.
+    pub fn consume(&mut self, n: usize)
+        requires { n ≤ length self.old }
+        ensures { self.new ≡ drop n self.old }
+    {
+        self.start += n;
+    }
+
+    /// Reads until the next line stands at the front, and says which it is: one of at most 16,384 bytes, the last one,
+    /// the end, one that is too long, or that the reader failed. A read happens only where the bytes at hand have no
+    /// line feed and are at most 16,384, so a line is answered before more is asked for. Takes no memory.
+    pub fn find<R: Read>(&mut self, reader: &mut Watched<R>) -> Found
+        requires { has_failed reader.old ≡ false }
+        ensures kept { Keeps (prepend_known self.old (R.remaining (device_of reader.old))) (prepend_known self.new (R.remaining (device_of reader.new))) }
+        ensures found { FindsLine result self.new (R.remaining (device_of reader.new)) }
+        ensures failed { (has_failed reader.new ≡ true) ↔ (result ≡ Found.Failed) }
+    {
+        let mut searched = 0;
+        loop {
+            if let Some(n) = newline_from(self.bytes(), searched) {
+                return if n <= LONGEST_LINE {
+                    Found::Line(n)
+                } else {
+                    Found::TooLong
+                };
+            }
+            searched = self.bytes().len();
+            if searched > LONGEST_LINE {
+                return Found::TooLong;
+            }
+            match self.fill(reader) {
+                Filled::More => {}
+                Filled::End => {
+                    return if searched == 0 {
+                        Found::End
+                    } else {
+                        Found::Last
+                    };
+                }
+                Filled::Failed => return Found::Failed,
+            }
+        }
+    }
+
+    // One read, behind the bytes that are there.
+    fn fill<R: Read>(&mut self, reader: &mut Watched<R>) -> Filled
+        requires room { length self.old ≤ 16384 }
+        requires unfailed { has_failed reader.old ≡ false }
+        ensures kept { Keeps (prepend_known self.old (R.remaining (device_of reader.old))) (prepend_known self.new (R.remaining (device_of reader.new))) }
+        ensures front { StartsWith self.new self.old }
+        ensures filled { Fills result self.old self.new (R.remaining (device_of reader.new)) }
+        ensures failed { (has_failed reader.new ≡ true) ↔ (result ≡ Filled.Failed) }
+    {
+        let pending = self.end - self.start;
+        move_down(&mut self.bytes, self.start, self.end);
+        self.start = 0;
+        self.end = pending;
+        match read_at(reader, &mut self.bytes, pending) {
+            None => Filled::Failed,
+            Some(0) => Filled::End,
+            Some(n) => {
+                self.end = pending + n;
+                Filled::More
+            }
+        }
+    }
+}
+
+// Moves the bytes from `start` to `end` to the front.
+fn move_down(bytes: &mut Vec<u8>, start: usize, end: usize)
+    requires order { start ≤ end }
+    requires within { end ≤ length bytes.old.items }
+    ensures front { take (end - start) bytes.new.items ≡ take (end - start) (drop start bytes.old.items) }
+    ensures len { length bytes.new.items ≡ length bytes.old.items }
+{
+    bytes.copy_within(start..end, 0);
+}
+
+// One read behind `at`, and how many bytes it gave. Nothing where it failed.
+fn read_at<R: Read>(reader: &mut Watched<R>, bytes: &mut Vec<u8>, at: usize) -> Option<usize>
+    requires room { at < length bytes.old.items }
+    requires unfailed { has_failed reader.old ≡ false }
+    ensures len { length bytes.new.items ≡ length bytes.old.items }
+    ensures front { take at bytes.new.items ≡ take at bytes.old.items }
+    ensures within { IfSome result (λ n. at + n ≤ length bytes.old.items) }
+    ensures consumed { IfSome result (λ n. Consumes (R.remaining (device_of reader.old)) (R.remaining (device_of reader.new)) (take n (drop at bytes.new.items))) }
+    ensures end { IfSome result (λ n. n ≡ 0 → IsAtEnd (R.remaining (device_of reader.new))) }
+    ensures kept { IfNone result (Keeps (R.remaining (device_of reader.old)) (R.remaining (device_of reader.new))) }
+    ensures failed { (has_failed reader.new ≡ true) ↔ (result ≡ None) }
+{
+    match reader.read(&mut bytes[at..]) {
+        Ok(n) => Some(n),
+        Err(_) => None,
+    }
+}

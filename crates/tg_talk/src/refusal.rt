@@ -1,0 +1,12 @@
+//! The lines of refusals that no line's value gives.
+
+ghost use Rattle.std.specs.Prelude.{◌≡◌};
+ghost use Rattle.tg_talk.specs.Refusals.{too_many_line as line_of_too_many};
+
+/// The line that is answered to the line after the millionth. It takes no memory.
+#[tactic(auto, unfolding(crate::specs::Refusals::too_many_line, serde_json::proofs::OnLiterals::serde_json_on_literals))]
+pub fn too_many_line() -> &'static [u8]
+    ensures { result.now ≡ line_of_too_many }
+{
+    b"{\"error\":\"too many lines\"}\n"
+}
