@@ -1,0 +1,4 @@
+pub mod Lines
+pub mod Turning
+pub mod Serving
+pub mod Openings
