@@ -1,0 +1,322 @@
+"""Lines and their answers. Each answer is written by hand from docs/PROTOCOL.md."""
+
+import json
+
+CONFIG = b'{"edges":[[1,"tg",2]],"principals":["alice","bob"]}'
+HELLO = b'{"name":"alice","op":"hello"}'
+WELCOME = b'{"ok":"hello","vertex":1}'
+
+NOT_JSON = b'{"error":"not json"}'
+NOT_OBJECT = b'{"error":"not an object"}'
+UNKNOWN_OP = b'{"error":"unknown op"}'
+MISSING = b'{"error":"missing field"}'
+BAD = b'{"error":"bad field"}'
+UNKNOWN_FIELD = b'{"error":"unknown field"}'
+TOO_LONG = b'{"error":"line too long"}'
+TOO_MANY = b'{"error":"too many lines"}'
+
+# The look at alice's own edges, and its answer.
+LOOK = b'{"at":1,"op":"look"}'
+SEEN = b'{"edges":[[2,"tg"]],"ok":"edges"}'
+DONE = b'{"ok":"done"}'
+
+REQUIRED = {
+    "hello": ["name"],
+    "bye": [],
+    "shade": [],
+    "take": ["rights", "over", "from"],
+    "grant": ["rights", "over", "to"],
+    "create": ["kind", "rights"],
+    "remove": ["rights", "over"],
+    "read": ["over"],
+    "write": ["over", "text"],
+    "look": ["at"],
+}
+GOOD = {"name": '"alice"', "rights": '"r"', "over": "3", "from": "2", "to": "2", "kind": '"document"', "text": '"hi"', "at": "1", "seat": "0"}
+
+BAD_NUMBERS = ["-1", "-0", "1.5", "2.0", "2e0", "18446744073709551616", '"1"', "null", "true", "[1]", "{}"]
+BAD_RIGHTS = ['"rr"', '"x"', '"R"', '"r w"', '"rwtgr"', '"rwtgx"', "1", "null", "[]"]
+BAD_VALUES = {
+    "seat": BAD_NUMBERS,
+    "over": BAD_NUMBERS,
+    "from": BAD_NUMBERS,
+    "to": BAD_NUMBERS,
+    "at": BAD_NUMBERS,
+    "rights": BAD_RIGHTS,
+    "kind": ['"object"', '"Subject"', '""', "1", "null"],
+    "text": ["1", "null", '["hi"]', '"%s"' % ("a" * 4097)],
+    "name": ["1", "null", '["alice"]'],
+}
+
+
+def joined(*rows):
+    """Lines, each with its line feed."""
+    return b"".join(row + b"\n" for row in rows)
+
+
+def object_of(fields):
+    """An object with these fields, whose values are JSON."""
+    return ("{%s}" % ",".join('"%s":%s' % field for field in fields)).encode()
+
+
+def line_of(op, but=(), extra=()):
+    """The line of an op with good fields, without some and with others."""
+    fields = [("op", '"%s"' % op)] + [(name, GOOD[name]) for name in REQUIRED[op] if name not in but]
+    return object_of(fields + list(extra))
+
+
+def after_hello(name, *pairs):
+    """A run of alice's session: lines with their answers. The status is 1 where one is an error."""
+    given = joined(CONFIG, HELLO, *[line for line, _ in pairs])
+    answers = [answer for _, answer in pairs]
+    return name, ["run"], given, joined(WELCOME, *answers), int(any(b'"error"' in answer for answer in answers))
+
+
+def refused_opening(name, line, answer):
+    """A configuration line that is refused, which ends the run."""
+    return name, ["run"], joined(line, HELLO), joined(answer), 1
+
+
+def opening(name, line, *pairs):
+    """A configuration that is accepted, and further lines with their answers."""
+    answers = [answer for _, answer in pairs]
+    return name, ["run"], joined(line, *[row for row, _ in pairs]), joined(*answers), int(any(b'"error"' in answer for answer in answers))
+
+
+def refusals():
+    """Each fault of a line, and the order of the faults."""
+    texts = {
+        "cut": b'{"op":"look"',
+        "empty": b"",
+        "blank": b"  \t ",
+        "not-utf-8": b"\xff\xfe",
+        "not-utf-8-in-a-text": b'{"op":"hello","name":"\xff"}',
+        "byte-order-mark": b"\xef\xbb\xbf" + LOOK,
+        "two-values": LOOK + b" " + LOOK,
+        "trailing-comma": b'{"op":"look","at":1,}',
+        "single-quotes": b"{'op':'look','at':1}",
+        "number-out-of-range": b'{"op":"look","at":1e400}',
+        "number-out-of-range-in-an-unknown-field": b'{"op":"look","at":1,"x":1e400}',
+        "leading-zero": b'{"op":"look","at":01}',
+        "control-byte-in-a-text": b'{"op":"hello","name":"a\x01"}',
+        "lone-surrogate": b'{"op":"hello","name":"\\ud800"}',
+        "128-levels": b"[" * 128 + b"]" * 128,
+    }
+    for name, line in texts.items():
+        yield after_hello("not-json-" + name, (line, NOT_JSON), (LOOK, SEEN))
+    for name, line in {"list": b"[]", "null": b"null", "text": b'"op"', "number": b"1", "true": b"true", "127-levels": b"[" * 127 + b"]" * 127}.items():
+        yield after_hello("not-an-object-" + name, (line, NOT_OBJECT), (LOOK, SEEN))
+    ops = {
+        "absent": b"{}",
+        "number": b'{"op":1}',
+        "null": b'{"op":null}',
+        "other-word": b'{"op":"steal"}',
+        "other-case": b'{"op":"Look","at":1}',
+        "no-word": b'{"op":"","at":1}',
+        "before-the-other-faults": b'{"op":"steal","over":-1,"x":1}',
+        "collect": b'{"op":"collect"}',
+        "cycle": b'{"op":"cycle"}',
+        "audit-field": b'{"actor":1,"at":1}',
+    }
+    for name, line in ops.items():
+        yield after_hello("unknown-op-" + name, (line, UNKNOWN_OP), (LOOK, SEEN))
+    for op, names in REQUIRED.items():
+        for name in names:
+            yield after_hello("missing-%s-of-%s" % (name, op), (line_of(op, but=[name]), MISSING), (LOOK, SEEN))
+        for name in names + ["seat"]:
+            for value in BAD_VALUES[name]:
+                line = line_of(op, but=[name], extra=[(name, value)])
+                shown = value if len(value) < 30 else "long"
+                yield after_hello("bad-%s-of-%s-%s" % (name, op, shown), (line, BAD), (LOOK, SEEN))
+        yield after_hello("unknown-field-of-" + op, (line_of(op, extra=[("x", "1")]), UNKNOWN_FIELD), (LOOK, SEEN))
+        yield after_hello("actor-in-" + op, (line_of(op, extra=[("actor", "1")]), UNKNOWN_FIELD), (LOOK, SEEN))
+    yield after_hello("missing-before-bad-and-unknown", (b'{"op":"take","over":-1,"rights":"rr","x":1}', MISSING))
+    yield after_hello("missing-before-a-bad-seat", (b'{"op":"read","seat":null}', MISSING))
+    yield after_hello("bad-before-unknown", (b'{"op":"read","over":-1,"x":1}', BAD))
+    yield after_hello("bad-seat-before-unknown", (b'{"op":"bye","seat":-1,"x":1}', BAD))
+    # A field that the op does not have is unknown, whatever its value; the op's own fields alone are asked for their values.
+    yield after_hello("bad-value-of-another-ops-field", (b'{"op":"read","over":3,"rights":"rr"}', UNKNOWN_FIELD))
+    yield after_hello("null-in-another-ops-field", (b'{"op":"read","over":3,"text":null}', UNKNOWN_FIELD))
+    yield after_hello("good-field-of-another-op", (b'{"op":"look","at":1,"over":3}', UNKNOWN_FIELD))
+    yield after_hello("field-in-another-case", (b'{"op":"look","at":1,"Seat":0}', UNKNOWN_FIELD))
+
+
+def readings():
+    """What is read although it looks odd."""
+    yield after_hello("of-equal-keys-the-last-stands", (b'{"op":"look","at":-1,"at":1}', SEEN), (b'{"op":"look","at":1,"at":-1}', BAD), (b'{"op":"steal","op":"look","at":1}', SEEN))
+    yield after_hello("white-space-round-the-object", (b" \t" + LOOK + b" \r", SEEN), (b'{ "op" : "look" , "at" : 1 }', SEEN))
+    yield after_hello("escaped-keys-and-words", (b'{"\\u006fp":"\\u006cook","at":1}', SEEN))
+    yield after_hello("seat-0-where-it-is-absent", (b'{"op":"look","at":1,"seat":0}', SEEN), (LOOK, SEEN))
+    yield after_hello(
+        "greatest-number", (b'{"op":"look","at":18446744073709551615}', b'{"denied":"look","from":1,"missing":"t","to":18446744073709551615}')
+    )
+    yield after_hello(
+        "rights-in-any-order",
+        (b'{"kind":"document","op":"create","rights":"gtwr"}', b'{"ok":"created","vertex":3}'),
+        (b'{"op":"shade"}', b'{"shaded":3}'),
+        (LOOK, b'{"edges":[[2,"tg"],[3,"rwtg"]],"ok":"edges"}'),
+    )
+    yield after_hello("no-rights", (b'{"kind":"document","op":"create","rights":""}', b'{"cause":"empty","denied":"create"}'))
+    yield after_hello("any-name-of-a-hello", (b'{"name":"","op":"hello","seat":1}', b'{"error":"no principal"}'), (b'{"name":"\\u0000 \\"A","op":"hello","seat":1}', b'{"error":"no principal"}'))
+    yield after_hello("line-of-16384-bytes", (LOOK + b" " * (16384 - len(LOOK)), SEEN), (LOOK, SEEN))
+
+
+def texts():
+    """Texts that are written and read back."""
+    made = [(b'{"kind":"document","op":"create","rights":"rw"}', b'{"ok":"created","vertex":3}'), (b'{"op":"shade"}', b'{"shaded":3}')]
+    read = b'{"op":"read","over":3}'
+
+    def kept(name, given, answered):
+        return after_hello(name, *made, (b'{"op":"write","over":3,"text":"' + given + b'"}', DONE), (read, b'{"ok":"text","text":"' + answered + b'"}'))
+
+    yield kept("text-of-4096-letters", b"a" * 4096, b"a" * 4096)
+    yield kept("text-of-4096-bytes-in-2048-letters", "é".encode() * 2048, "é".encode() * 2048)
+    yield kept("text-of-4096-bytes-by-escapes", b"\\u00e9" * 2048, "é".encode() * 2048)
+    yield kept("text-with-escapes", b'\\"\\\\\\/\\b\\f\\n\\r\\t\\u0000\\u001f\\ud83d\\ude00', '\\"\\\\/\\b\\f\\n\\r\\t\\u0000\\u001f😀'.encode())
+    yield kept("empty-text", b"", b"")
+    long = b'{"op":"write","over":3,"text":"' + b"\\u00e9" * 2049 + b'"}'
+    yield after_hello("text-of-4098-bytes-by-escapes", *made, (long, BAD), (read, b'{"ok":"text","text":""}'))
+    # A text of 4,096 bytes whose escapes make the line longer than 16,384 bytes is too long a line, which ends the run.
+    escaped = b'{"op":"write","over":3,"text":"' + b"\\u0061" * 4096 + b'"}'
+    given = joined(CONFIG, HELLO, escaped, LOOK)
+    yield "text-of-4096-bytes-on-too-long-a-line", ["run"], given, joined(WELCOME, TOO_LONG), 1
+
+
+def ends():
+    """Where the lines end, and how many they are."""
+    yield "no-line-at-all", ["run"], b"", joined(NOT_JSON), 1
+    yield "an-empty-line-alone", ["run"], b"\n", joined(NOT_JSON), 1
+    yield "last-line-without-a-line-feed", ["run"], joined(CONFIG, HELLO) + LOOK, joined(WELCOME, SEEN), 0
+    yield "configuration-without-a-line-feed", ["run"], CONFIG, b"", 0
+    yield "line-feed-at-the-end-begins-no-line", ["run"], joined(CONFIG, HELLO), joined(WELCOME), 0
+    yield "two-line-feeds-at-the-end-are-an-empty-line", ["run"], joined(CONFIG, HELLO, b""), joined(WELCOME, NOT_JSON), 1
+    yield "line-of-16385-bytes-ends-the-run", ["run"], joined(CONFIG, HELLO, b"x" * 16385, LOOK), joined(WELCOME, TOO_LONG), 1
+    yield "16385-bytes-of-white-space-and-an-object", ["run"], joined(CONFIG, HELLO, LOOK + b" " * (16385 - len(LOOK)), LOOK), joined(WELCOME, TOO_LONG), 1
+    yield "last-line-too-long-without-a-line-feed", ["run"], joined(CONFIG, HELLO) + b"x" * 100000, joined(WELCOME, TOO_LONG), 1
+    yield "configuration-of-16385-bytes", ["run"], joined(CONFIG + b" " * (16385 - len(CONFIG)), HELLO), joined(TOO_LONG), 1
+    yield "configuration-of-16384-bytes", ["run"], joined(CONFIG + b" " * (16384 - len(CONFIG)), HELLO), joined(WELCOME), 0
+    # The configuration line counts, so that the line after the millionth is the millionth behind it.
+    yield "a-million-lines", ["run"], joined(CONFIG) + b"\n" * 999999, (NOT_JSON + b"\n") * 999999, 1
+    yield "the-line-after-the-millionth", ["run"], joined(CONFIG) + b"\n" * 1000000, (NOT_JSON + b"\n") * 999999 + joined(TOO_MANY), 1
+    yield "a-long-line-after-the-millionth", ["run"], joined(CONFIG) + b"\n" * 999999 + b"x" * 20000, (NOT_JSON + b"\n") * 999999 + joined(TOO_MANY), 1
+    yield "more-lines-after-the-millionth", ["run"], joined(CONFIG) + b"\n" * 1000005, (NOT_JSON + b"\n") * 999999 + joined(TOO_MANY), 1
+
+
+def configurations():
+    """Configuration lines."""
+    for name, line, answer in [
+        ("not-json", b"{", NOT_JSON),
+        ("not-utf-8", b"\xff\xfe", NOT_JSON),
+        ("empty", b"", NOT_JSON),
+        ("list", b"[]", NOT_OBJECT),
+        ("op-alone", b'{"op":"run"}', MISSING),
+        ("missing-before-bad-and-unknown", b'{"edges":1,"x":1}', MISSING),
+        ("principals-null", b'{"principals":null}', BAD),
+        ("principals-number", b'{"principals":1}', BAD),
+        ("principals-text", b'{"principals":"alice"}', BAD),
+        ("principals-of-a-number", b'{"principals":["alice",1]}', BAD),
+        ("op", b'{"op":"run","principals":["alice"]}', UNKNOWN_FIELD),
+        ("op-null", b'{"op":null,"principals":["alice"]}', UNKNOWN_FIELD),
+        ("seat", b'{"principals":["alice"],"seat":0}', UNKNOWN_FIELD),
+        ("bad-before-unknown", b'{"principals":["alice"],"slots":null,"x":1}', BAD),
+    ]:
+        yield refused_opening("configuration-" + name, line, answer)
+    for name, value in [
+        ("null", "null"),
+        ("number", "1"),
+        ("object", "{}"),
+        ("of-numbers", "[1]"),
+        ("of-two", '[[1,"r"]]'),
+        ("of-four", '[[1,"r",2,3]]'),
+        ("of-none", "[[]]"),
+        ("with-a-letter-twice", '[[1,"rr",2]]'),
+        ("with-a-fraction", '[[1.5,"r",2]]'),
+        ("with-a-text-for-a-number", '[["1","r",2]]'),
+        ("with-null", '[[1,null,2]]'),
+    ]:
+        yield refused_opening("configuration-edges-" + name, object_of([("principals", '["alice","bob"]'), ("edges", value)]), BAD)
+    for field in ["next", "slots", "cells"]:
+        for value in BAD_NUMBERS:
+            yield refused_opening("configuration-%s-%s" % (field, value), object_of([("principals", '["alice"]'), (field, value)]), BAD)
+    two = ("principals", '["alice","bob"]')
+    sixty_five = json.dumps(["a" * (n % 26 + 1) + "b" * (n // 26) for n in range(65)])
+    # The first fault of a configuration by its number, over the whole of it.
+    for name, fields, fault in [
+        ("65-principals", [("principals", sixty_five)], 1),
+        ("no-principals-before-the-others", [("principals", "[]"), ("edges", '[[1,"",1]]'), ("next", "0"), ("slots", "0")], 1),
+        ("name-of-33-letters", [("principals", '["%s"]' % ("a" * 33))], 2),
+        ("name-in-capitals", [("principals", '["Alice"]')], 2),
+        ("name-of-no-letters", [("principals", '[""]')], 2),
+        ("name-with-a-digit", [("principals", '["a1"]')], 2),
+        ("name-before-edges", [("principals", '["alice","alice"]'), ("edges", '[[1,"t",9]]')], 2),
+        ("edge-from-0", [two, ("edges", '[[0,"t",1]]')], 3),
+        ("edge-end-before-self-edge", [two, ("edges", '[[1,"",1],[1,"t",9]]')], 3),
+        ("self-edge-before-empty-label", [two, ("edges", '[[1,"",1]]')], 4),
+        ("empty-label-before-pair-twice", [two, ("edges", '[[1,"",2],[1,"",2]]')], 5),
+        ("pair-twice-before-next", [two, ("edges", '[[1,"r",2],[1,"w",2]]'), ("next", "0")], 6),
+        ("next-before-slots", [two, ("next", "2"), ("slots", "1")], 7),
+        ("no-slots", [two, ("slots", "0")], 8),
+        ("slots-before-cells", [two, ("edges", '[[1,"r",2]]'), ("slots", "1"), ("cells", "0")], 8),
+        ("cells-before-limit", [two, ("edges", '[[1,"r",2]]'), ("slots", "65537"), ("cells", "0")], 9),
+        ("too-many-cells", [two, ("cells", "1048577")], 10),
+    ]:
+        yield refused_opening("configuration-fault-" + name, object_of(fields), b'{"error":"config","fault":%d}' % fault)
+    create = b'{"kind":"document","op":"create","rights":"r"}'
+    yield opening("configuration-next-is-the-number-of-principals-plus-1", object_of([two]), (HELLO, WELCOME), (create, b'{"ok":"created","vertex":3}'))
+    yield opening("configuration-next-given", object_of([two, ("next", "7")]), (HELLO, WELCOME), (create, b'{"ok":"created","vertex":7}'))
+    yield opening("configuration-no-serial-left", object_of([two, ("next", "18446744073709551615")]), (HELLO, WELCOME), (create, b'{"full":"serials"}'))
+    yield opening("configuration-greatest-limits", object_of([two, ("slots", "65536"), ("cells", "1048576")]), (HELLO, WELCOME))
+    yield opening("configuration-of-equal-keys-the-last-stands", b'{"principals":1,"principals":["alice"]}', (HELLO, WELCOME))
+    yield opening("configuration-name-of-32-letters", object_of([("principals", '["%s"]' % ("z" * 32))]))
+    names = ["a" * (n % 26 + 1) + "b" * (n // 26) for n in range(64)]
+    last = b'{"name":"%s","op":"hello"}' % names[63].encode()
+    yield opening("configuration-of-64-principals", object_of([("principals", json.dumps(names))]), (last, b'{"ok":"hello","vertex":64}'))
+
+
+def answers():
+    """Answers of each kind, and the seat's faults in their order."""
+    bob = (b'{"name":"bob","op":"hello","seat":1}', b'{"ok":"hello","vertex":2}')
+    create = (b'{"kind":"document","op":"create","rights":"rwg"}', b'{"ok":"created","vertex":3}')
+    shade = (b'{"op":"shade"}', b'{"shaded":3}')
+    yield after_hello("shade-without-a-target", (b'{"op":"shade"}', b'{"shaded":null}'))
+    yield after_hello("bye", (b'{"op":"bye"}', b'{"ok":"bye"}'), (LOOK, b'{"error":"no actor"}'), (HELLO, WELCOME))
+    yield after_hello("busy", create, (LOOK, b'{"error":"busy"}'), (b'{"op":"bye"}', b'{"error":"busy"}'), shade, (b'{"op":"bye"}', b'{"ok":"bye"}'))
+    yield after_hello("bound", (HELLO, b'{"error":"bound"}'), (b'{"name":"nobody","op":"hello"}', b'{"error":"bound"}'))
+    yield after_hello(
+        "no-seat",
+        (b'{"name":"nobody","op":"hello","seat":64}', b'{"error":"no seat"}'),
+        (b'{"op":"bye","seat":64}', b'{"error":"no seat"}'),
+        (b'{"op":"shade","seat":18446744073709551615}', b'{"error":"no seat"}'),
+        (b'{"at":1,"op":"look","seat":64}', b'{"error":"no seat"}'),
+    )
+    yield after_hello("no-actor", *[(line_of(op, extra=[("seat", "1")]), b'{"error":"no actor"}') for op in REQUIRED if op != "hello"])
+    yield after_hello("grant", create, shade, (b'{"op":"grant","over":3,"rights":"rg","to":2}', DONE), shade, (b'{"at":2,"op":"look"}', b'{"edges":[[3,"rg"]],"ok":"edges"}'))
+    yield after_hello(
+        "take",
+        bob,
+        (b'{"kind":"subject","op":"create","rights":"rw","seat":1}', b'{"ok":"created","vertex":3}'),
+        (b'{"op":"shade","seat":1}', b'{"shaded":3}'),
+        (b'{"from":2,"op":"take","over":3,"rights":"w"}', DONE),
+        shade,
+        (LOOK, b'{"edges":[[2,"tg"],[3,"w"]],"ok":"edges"}'),
+        (b'{"op":"write","over":3,"text":"hi"}', b'{"cause":"not document","denied":"write","vertex":3}'),
+    )
+    yield after_hello("remove", (b'{"op":"remove","over":2,"rights":"t"}', DONE), (LOOK, b'{"edges":[[2,"g"]],"ok":"edges"}'), (b'{"op":"remove","over":2,"rights":"tg"}', b'{"denied":"remove","from":1,"missing":"t","to":2}'))
+    yield after_hello("empty-of-each-rule", *[(line_of(op, but=["rights"], extra=[("rights", '""')]), b'{"cause":"empty","denied":"%s"}' % op.encode()) for op in ["take", "grant", "create", "remove"]])
+    same = [("take", "over"), ("grant", "over"), ("remove", "over"), ("read", "over"), ("write", "over")]
+    yield after_hello("not-distinct-of-each-rule", *[(line_of(op, but=[field], extra=[(field, "1")]), b'{"cause":"not distinct","denied":"%s"}' % op.encode()) for op, field in same])
+    yield after_hello(
+        "missing-of-each-rule",
+        (b'{"from":9,"op":"take","over":3,"rights":"r"}', b'{"denied":"take","from":1,"missing":"t","to":9}'),
+        (b'{"op":"grant","over":3,"rights":"rw","to":2}', b'{"denied":"grant","from":1,"missing":"rw","to":3}'),
+        (b'{"op":"remove","over":2,"rights":"rt"}', b'{"denied":"remove","from":1,"missing":"r","to":2}'),
+        (b'{"op":"read","over":2}', b'{"denied":"read","from":1,"missing":"r","to":2}'),
+        (b'{"op":"write","over":2,"text":""}', b'{"denied":"write","from":1,"missing":"w","to":2}'),
+        (b'{"at":9,"op":"look"}', b'{"denied":"look","from":1,"missing":"t","to":9}'),
+    )
+
+
+def tests():
+    """All runs, each as a name, words, input, output and status."""
+    for group in (refusals, readings, texts, ends, configurations, answers):
+        yield from group()
