@@ -1,13 +1,24 @@
-# Two commands: `make demo` runs the main job on an example, `make test` proves and tests everything.
-.PHONY: demo test check
+# Two commands do everything: `make demo` runs the main job on an example, `make test` proves and tests all.
+.PHONY: all demo test bench check
 
+# The proved program, crates/tgdoc/out/tgdoc: every crate is proved first, which takes some minutes.
+all:
+	cd crates/tgdoc && rt run -- run < ../../examples/first-run.jsonl > /dev/null
+	@ls -l crates/tgdoc/out/tgdoc
+
+# The proved program where it is built, else an unproved build, which takes half a minute.
 demo:
-	@echo 'The program tgdoc is not there yet; make test proves and tests what is.'
+	examples/demo
 
-# The gate proves every crate and its tests from nothing, tries the planted bugs and runs the programs; then the tests from outside.
+# The gate proves every crate and its tests from nothing, tries the planted bugs and runs the program as two compilers
+# build it; then the built program is tested from outside.
 test:
 	rt ci
 	tests/run
+
+# Lines per second and peak memory on generated input; no test, and no part of one.
+bench: all
+	bench/lines.py
 
 # Proves each crate over what earlier runs left: the command while you write.
 check:
