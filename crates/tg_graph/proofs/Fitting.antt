@@ -69,7 +69,7 @@ openings_fit c sound =
     let slots = and_parts _ _ cells.0 in (
       vertex_count-len (opening c) ∙ len-subjects count,
       (let bare = edge_count-bare (record { vertices = subjects count; next = c.next; triples = set.empty }) refl in
-      let all = with_edges-count count c.next set.empty c.edges.items (ends-sound c sound) in omega arith),
+          let all = with_edges-count count c.next set.empty c.edges.items (ends-sound c sound) in omega arith),
       ltb-false c.slots count (none_at c (faults c) sound 7 fault.Limit (omega arith)),
       ltb-false c.cells (length c.edges.items) (none_at c (faults c) sound 8 fault.Limit (omega arith)),
       leb-true 1 c.slots slots.0,
