@@ -27,8 +27,9 @@ fn mode_of(matches: &ArgMatches<'_>) -> Option<Mode> {
 }
 
 fn command<'a>(alloc: Global) -> Result<Command<'a>, AllocError> {
-    let run = Command::new(alloc, "run")
-        .about("Answers each line of standard input on standard output");
+    let run = Command::new(alloc, "run").about(
+        "Answers each line of standard input on standard output",
+    );
     Command::new(alloc, "tgdoc")
         .about("Shared documents whose access rights are a take-grant protection graph")
         .subcommand_required(true)
