@@ -1,0 +1,26 @@
+use Rattle.std.proofs.Common.{refl}
+use Rattle.tg_collect.specs.declared.machine.Progress.TheVariants.{Idle}
+use Rattle.tg_collect.specs.OpeningSteps.{Blank}
+use Rattle.tg_collect.proofs.OpeningLemmas.{blank_whole, blank_opens, blank_triples}
+use Rattle.tg_collect.proofs.machine.Machine.blank.Goals as goal
+
+is_blank : (c : goal.In_ok-unfinished) → Blank (record { heap = c.in_ok-heap.heap; progress = Idle; principals = c.in_ok-principals.principals; unfinished = c.in_ok-unfinished.unfinished }) c.args.slots c.args.cells
+is_blank c = record {
+  table = c.in_ok-heap.ensures.0;
+  free_cells = c.in_ok-heap.ensures.1;
+  cell_count = c.in_ok-heap.ensures.2;
+  lists = c.in_ok-heap.ensures.3;
+  progress = refl;
+  principals = c.in_ok-principals.ensures.items;
+  seats = c.in_ok-unfinished.ensures.length;
+  idle = c.in_ok-unfinished.ensures.idle;
+}
+
+pub returns-clause-whole : goal.returns-clause-whole
+returns-clause-whole c = blank_whole _ c.args.slots c.args.cells (is_blank c)
+
+pub returns-clause-opens : goal.returns-clause-opens
+returns-clause-opens c = blank_opens _ c.args.slots c.args.cells (is_blank c)
+
+pub returns-clause-triples : goal.returns-clause-triples
+returns-clause-triples c = blank_triples _ c.args.slots c.args.cells (is_blank c)

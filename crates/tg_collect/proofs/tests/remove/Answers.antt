@@ -1,0 +1,8 @@
+use Rattle.std.proofs.Common.{ap, ◌∙◌}
+use Rattle.tg_rights.specs.Letters.{is_none}
+use Rattle.tg_collect.specs.Views.{serial_at}
+use Rattle.tg_collect.proofs.PathLemmas.{edge_in}
+use Rattle.tg_collect.proofs.tests.remove.Goals as goal
+
+pub remove_rights-requires-clause-edge : goal.remove_rights-requires-clause-edge
+remove_rights-requires-clause-edge g c = edge_in c.args.store.now 0 (serial_at c.args.store.now c.at-id.result) c.args.serial (ap is_none (c.in-Some.ensures'.2 0) ∙ c.in-Some.ensures'.1)

@@ -1,0 +1,11 @@
+pub mod Machine
+pub mod Names
+pub mod Lines
+pub mod SessionLines
+pub mod Runs
+pub mod Stored
+pub mod Views
+pub mod StoreRuns
+pub mod Sessions
+pub mod Openings
+pub mod OpeningSteps

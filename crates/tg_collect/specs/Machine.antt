@@ -1,0 +1,110 @@
+-- The invariant of the store, in terms of the heap as contracts see it.
+use Rattle.std.specs.Prelude.{◌≡◌, ◌≢◌, ℕ, ◌+◌, ◌<◌, ◌≤◌, List, ◌∷◌, Option, Some, None, ◌⊎◌}
+use Rattle.std.proofs.Common.{set, Bool, false, cond, eqb, ◌&&◌, nat_lt}
+use Rattle.tg_rights.specs.Membership.{Holds}
+use Rattle.tg_slots.specs.Table.{Free, Has}
+use Rattle.tg_slots.specs.declared.slots.Occupant.{Occupant}
+use Rattle.tg_slots.specs.declared.colour.Colour.{Colour}
+use Rattle.tg_slots.specs.declared.colour.Colour.TheVariants.{White, Grey, Black}
+use Rattle.tg_heap.specs.Graph.{HeapGraph, edges, mark_at}
+use Rattle.tg_cells.specs.Lists.{Edge}
+use Rattle.tg_heap.specs.Marking.{Tricolour, ScanAt, Reached}
+use Rattle.tg_collect.specs.declared.note.Phase.{Phase}
+use Rattle.tg_collect.specs.declared.note.Phase.TheVariants as phase
+use Rattle.tg_collect.specs.declared.machine.Root.{Root}
+use Rattle.tg_collect.specs.declared.machine.Scan.{Scan}
+use Rattle.tg_collect.specs.declared.machine.Progress.{Progress}
+use Rattle.tg_collect.specs.declared.machine.Progress.TheVariants.{Idle, Marking, Sweeping}
+use Rattle.tg_collect.specs.declared.machine.Machine.{Machine}
+
+abbrev pub IsPrincipal : Machine → ℕ → Type 0
+IsPrincipal m i = (s : ℕ) × Holds m.principals.items (record { serial = s; slot = i })
+
+abbrev pub IsUnfinished : Machine → ℕ → Type 0
+IsUnfinished m i = (s : ℕ) × Holds m.unfinished.items (Some (record { serial = s; slot = i }))
+
+abbrev pub IsRoot : Machine → ℕ → Type 0
+IsRoot m i = IsPrincipal m i ⊎ IsUnfinished m i
+
+-- Condemned and not yet swept.
+abbrev pub CondemnedAt : Progress → HeapGraph → ℕ → Type 0
+CondemnedAt Idle h i = ⊥
+CondemnedAt (Marking s) h i = ⊥
+CondemnedAt (Sweeping k) h i = (k ≤ i) × (mark_at h i ≡ Has White)
+
+abbrev pub IsHeld : Machine → ℕ → Type 0
+IsHeld m i = (mark_at m.heap i ≢ Free) × (CondemnedAt m.progress m.heap i → ⊥)
+
+abbrev pub scan_of : Option Scan → Option ScanAt
+scan_of None = None
+scan_of (Some s) = Some (record { slot = s.slot; cursor = s.cursor })
+
+abbrev pub IsReached : Machine → ℕ → Type 0
+IsReached m i = Reached (edges m.heap) (IsRoot m) i
+
+abbrev pub HeldAt : HeapGraph → Progress → ℕ → Type 0
+HeldAt h p i = (mark_at h i ≢ Free) × (CondemnedAt p h i → ⊥)
+
+-- Each grey slot waits.
+abbrev pub GreyWaits : HeapGraph → Type 0
+GreyWaits h = (i : ℕ) → mark_at h i ≡ Has Grey → Holds h.table.grey i
+
+abbrev pub PhaseAt : Progress → HeapGraph → (ℕ → Type 0) → (ℕ → Type 0) → Type 0
+PhaseAt Idle h Root Unfinished = GreyWaits h × ((i : ℕ) → mark_at h i ≢ Has Black)
+PhaseAt (Marking s) h Root Unfinished = Tricolour (mark_at h) (edges h) (Holds h.table.grey) Root Unfinished (scan_of s)
+PhaseAt (Sweeping k) h Root Unfinished = GreyWaits h × ((i : ℕ) → i < k → mark_at h i ≢ Has Black)
+
+abbrev pub PhaseHolds : Progress → Machine → Type 0
+PhaseHolds p m = PhaseAt p m.heap (IsRoot m) (IsUnfinished m)
+
+-- The facts of the invariant, for any roots.
+pub record Sound (h : HeapGraph) (p : Progress) (Root Unfinished : ℕ → Type 0) : Type 0 where
+  pub roots_held : (i : ℕ) → Root i → HeldAt h p i
+  pub closed : (i : ℕ) (e : Edge) → HeldAt h p i → Holds (edges h i) e → HeldAt h p e.target
+  pub phase : PhaseAt p h Root Unfinished
+
+pub record Invariant (m : Machine) : Type 0 where
+  pub roots_held : (i : ℕ) → IsRoot m i → IsHeld m i
+  pub closed : (i : ℕ) (e : Edge) → IsHeld m i → Holds (edges m.heap i) e → IsHeld m e.target
+  pub phase : PhaseHolds m.progress m
+
+-- A heap whose slot was given back, and one whose slot has lost its first cell.
+abbrev pub without_slot : HeapGraph → ℕ → HeapGraph
+without_slot h i = record h { table = record h.table { slots = set h.table.slots i None; free = i ∷ h.table.free } }
+
+abbrev pub with_list : HeapGraph → ℕ → List Edge → HeapGraph
+with_list h i r = record h { lists = set h.lists i r; free_cells = h.free_cells + 1 }
+
+abbrev pub with_vertex : HeapGraph → ℕ → Occupant → List ℕ → HeapGraph
+with_vertex h i o rest = record h { table = record h.table { slots = set h.table.slots i (Some o); free = rest } }
+
+-- The colour of a vertex that comes in: white, but black where the sweep has yet to come.
+abbrev pub has_passed : Progress → ℕ → Bool
+has_passed Idle i = false
+has_passed (Marking s) i = false
+has_passed (Sweeping k) i = nat_lt i k
+
+abbrev pub colour_ahead : Progress → Colour
+colour_ahead Idle = White
+colour_ahead (Marking s) = White
+colour_ahead (Sweeping k) = Black
+
+abbrev pub new_colour : Progress → ℕ → Colour
+new_colour p i = cond (has_passed p i) White (colour_ahead p)
+
+-- A cursor at a freed cell moves to the next cell.
+abbrev pub is_at : Option ℕ → ℕ → Bool
+is_at None c = false
+is_at (Some k) c = eqb k c
+
+abbrev pub progress_without : Progress → ℕ → ℕ → Option ℕ → Progress
+progress_without Idle i c n = Idle
+progress_without (Sweeping k) i c n = Sweeping k
+progress_without (Marking None) i c n = Marking None
+progress_without (Marking (Some s)) i c n = cond (eqb s.slot i && is_at s.cursor c) (Marking (Some (record { slot = i; cursor = n }))) (Marking (Some s))
+
+-- The phase that others see.
+abbrev pub phase_of : Progress → Phase
+phase_of Idle = phase.Idle
+phase_of (Marking s) = phase.Mark
+phase_of (Sweeping k) = phase.Sweep

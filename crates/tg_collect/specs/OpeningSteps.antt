@@ -1,0 +1,66 @@
+-- The steps by which a graph is opened.
+use Rattle.std.specs.Prelude.{◌≡◌, ℕ, ◌+◌, ◌<◌, ◌≤◌, [], ◌∷◌, ◌++◌, length, Some, None, ◌⊎◌, get_or, set, true}
+use Rattle.std.specs.FinMap as finmap
+use Rattle.std.specs.FinSet as finset
+use Rattle.tg_rights.specs.Letters.{Letters}
+use Rattle.tg_rights.specs.declared.kind.Kind.TheVariants.{Subject}
+use Rattle.tg_slots.specs.Table.{Has, fresh}
+use Rattle.tg_slots.specs.declared.colour.Colour.TheVariants.{White}
+use Rattle.tg_graph.specs.Triples.{Triple, edge}
+use Rattle.tg_graph.specs.Protection.{Protection, IsGraph}
+use Rattle.tg_graph.specs.Opening.{subjects}
+use Rattle.tg_graph.specs.Fullness.{edge_count}
+use Rattle.tg_heap.specs.Graph.{edges}
+use Rattle.tg_collect.specs.declared.machine.Progress.TheVariants.{Idle}
+use Rattle.tg_collect.specs.declared.machine.Machine.{Machine}
+use Rattle.tg_collect.specs.Stored.{Stored}
+use Rattle.tg_collect.specs.Openings.{Opens}
+
+-- A machine of free slots and free cells.
+pub record Blank (m : Machine) (slots cells : ℕ) : Type 0 where
+  pub table : m.heap.table ≡ fresh slots
+  pub free_cells : m.heap.free_cells ≡ cells
+  pub cell_count : m.heap.cell_count ≡ cells
+  pub lists : (i : ℕ) → edges m.heap i ≡ []
+  pub progress : m.progress ≡ Idle
+  pub principals : m.principals.items ≡ []
+  pub seats : length m.unfinished.items ≡ 64
+  pub idle : (k : ℕ) → get_or m.unfinished.items k None ≡ None
+
+-- One more principal, white, in a slot that was free.
+pub record PrincipalOpened (v w : Stored) (serial : ℕ) : Type 0 where
+  pub slot : ℕ
+  pub within : slot < length v.marks
+  pub free_slots : v.free_slots ≡ w.free_slots + 1
+  pub is : w ≡ record v {
+    vertices = finmap.insert v.vertices serial (record { kind = Subject; text = [] });
+    places = set v.places slot (Some serial);
+    marks = set v.marks slot (Has White);
+    principals = v.principals ++ serial ∷ [];
+    free_slots = w.free_slots;
+    left = w.left;
+  }
+
+-- The graph's principals are there, and no edge.
+pub record PrincipalsOpened (v w : Stored) (G : Protection) : Type 0 where
+  pub count : ℕ
+  pub vertices : G.vertices ≡ subjects count
+  pub opens : Opens w count (length v.marks) v.cells
+  pub triples : w.triples ≡ v.triples
+
+-- One more edge.
+pub record EdgeOpened (v w : Stored) (x y : ℕ) (rights : Letters) : Type 0 where
+  pub is : w ≡ record v { triples = finset.union v.triples (edge x rights y); free_cells = w.free_cells; left = w.left }
+
+-- The pair of a triple's ends comes before that of the principals with these indices, which are one less than their serials.
+abbrev pub Before : (from to : ℕ) → Triple → Type 0
+Before from to t = (t.from ≤ from) ⊎ ((t.from ≡ from + 1) × (t.to ≤ to))
+
+-- All principals are there, and of the graph's edges those whose pairs come before.
+pub record OpensEdges (v : Stored) (G : Protection) (count from to : ℕ) : Type 0 where
+  pub vertices : G.vertices ≡ subjects count
+  pub opens : Opens v count (length v.marks) v.cells
+  pub graph : IsGraph G
+  pub room : edge_count G ≤ v.cells
+  pub before : (t : Triple) → finset.contains v.triples t ≡ true → (finset.contains G.triples t ≡ true) × Before from to t
+  pub there : (t : Triple) → finset.contains G.triples t ≡ true → Before from to t → finset.contains v.triples t ≡ true

@@ -1,0 +1,112 @@
+-- What a store's value says, by serials; what each store has; and what a collector step does.
+use Rattle.std.specs.Prelude.{◌≡◌, ◌≢◌, ℕ, zero, suc, ◌+◌, ◌<◌, ◌≤◌, List, length, Option, Some, None, ◌⊎◌, Bool, true, cond, ◌&&◌, get_or}
+use Rattle.std.specs.Option.{unwrap_or}
+use Rattle.std.specs.FinMap as finmap
+use Rattle.std.specs.FinSet as finset
+use Rattle.std.specs.Ordering.{nat_cmp}
+use Rattle.tg_rights.specs.Letters.{Right}
+use Rattle.tg_rights.specs.Membership.{Holds}
+use Rattle.tg_slots.specs.Table.{Free}
+use Rattle.tg_graph.specs.Triples.{Triple}
+use Rattle.tg_graph.specs.Paths.{Live}
+use Rattle.tg_graph.specs.Fullness.{vertex_count, edge_count}
+use Rattle.tg_collect.specs.declared.note.Phase.{Phase}
+use Rattle.tg_collect.specs.declared.note.Phase.TheVariants.{Idle, Mark, Sweep}
+use Rattle.tg_collect.specs.Runs.{Follows}
+use Rattle.tg_collect.specs.Stored.{Stored, held, cycle_bound}
+
+abbrev pub InSet : finset.FinSet nat_cmp → ℕ → Type 0
+InSet s x = finset.contains s x ≡ true
+
+abbrev pub IsHeldIn : Stored → ℕ → Type 0
+IsHeldIn v x = finmap.contains_key v.vertices x ≡ true
+
+-- x has some right over y.
+abbrev pub IsEdgeIn : Stored → ℕ → ℕ → Type 0
+IsEdgeIn v x y = (r : Right) × (finset.contains v.triples (record { from = x; right = r; to = y }) ≡ true)
+
+-- The roots: principals and unfinished targets.
+abbrev pub IsRootIn : Stored → ℕ → Type 0
+IsRootIn v x = Holds v.principals x ⊎ Holds v.unfinished (Some x)
+
+-- The serial that a slot holds, where it holds one.
+abbrev pub place : Stored → ℕ → Option ℕ
+place v id = get_or v.places id None
+
+abbrev pub serial_at : Stored → ℕ → ℕ
+serial_at v id = unwrap_or (place v id) 0
+
+-- What each store has.
+pub record IsStore (v : Stored) : Type 0 where
+  pub from_held : (t : Triple) → finset.contains v.triples t ≡ true → IsHeldIn v t.from
+  pub to_held : (t : Triple) → finset.contains v.triples t ≡ true → IsHeldIn v t.to
+  pub distinct : (t : Triple) → finset.contains v.triples t ≡ true → t.from ≢ t.to
+  pub roots_held : (x : ℕ) → IsRootIn v x → IsHeldIn v x
+  pub grey_held : (x : ℕ) → InSet v.grey x → IsHeldIn v x
+  pub black_held : (x : ℕ) → InSet v.black x → IsHeldIn v x
+  pub apart : (x : ℕ) → IsHeldIn v x → InSet v.parked x → ⊥
+  pub unparked : v.phase ≢ Sweep → (x : ℕ) → InSet v.parked x → ⊥
+  pub idle : v.phase ≡ Idle → (x : ℕ) → InSet v.black x → ⊥
+  pub placed : (i x : ℕ) → place v i ≡ Some x → IsHeldIn v x
+  pub has_place : (x : ℕ) → IsHeldIn v x → (i : ℕ) × (place v i ≡ Some x)
+  pub one_place : (i j x : ℕ) → place v i ≡ Some x → place v j ≡ Some x → i ≡ j
+  pub seats : length v.unfinished ≡ 64
+  pub few : length v.principals ≤ 64
+  pub slots : (next : ℕ) → v.free_slots + vertex_count (held v next) + finset.len v.parked ≡ length v.marks
+  pub few_edges : (next : ℕ) → v.free_cells + edge_count (held v next) ≤ v.cells
+  pub all_cells : ((x : ℕ) → InSet v.parked x → ⊥) → (next : ℕ) → v.free_cells + edge_count (held v next) ≡ v.cells
+  pub some_left : 1 ≤ v.left
+  pub most_left : v.left ≤ cycle_bound (length v.marks) v.cells
+
+-- Only the step into the sweep changes what is held.
+abbrev pub Stays : Phase → Phase → Type 0
+Stays Mark Sweep = ⊥
+Stays _ _ = Unit {0}
+
+-- The step into the sweep finds nothing grey. What is black stays, with its edges; what is not is parked, and was unreachable.
+pub record Parks (v w : Stored) : Type 0 where
+  pub no_grey : (x : ℕ) → InSet v.grey x → ⊥
+  pub vertices : (x : ℕ) → finmap.get w.vertices x ≡ cond (finset.contains v.black x) (finmap.get v.vertices x) None
+  pub triples : (t : Triple) → finset.contains w.triples t ≡ (finset.contains v.triples t && finset.contains v.black t.from)
+  pub parked : (x : ℕ) → InSet w.parked x → IsHeldIn v x × (InSet v.black x → ⊥)
+  pub all : (x : ℕ) → IsHeldIn v x → (InSet v.black x → ⊥) → InSet w.parked x
+  pub unreached : (next x : ℕ) → InSet w.parked x → Live (held v next) (IsRootIn v) x → ⊥
+
+-- A slot that is freed was a parked one's.
+abbrev pub Unparks : (v w : Stored) → ℕ → Type 0
+Unparks v w zero = w.parked ≡ v.parked
+Unparks v w (suc n) = (n ≡ 0) × (x : ℕ) × InSet v.parked x × (w.parked ≡ finset.remove v.parked x)
+
+-- How many marks a step may change, by the phase before it.
+abbrev pub most_marks : Phase → ℕ
+most_marks Idle = 64
+most_marks Mark = 1
+most_marks Sweep = 1
+
+-- Outside these slots the marks stay.
+pub record ChangesMarks (v w : Stored) (most : ℕ) : Type 0 where
+  pub slots : List ℕ
+  pub count : length slots ≤ most
+  pub others : (i : ℕ) → (Holds slots i → ⊥) → get_or w.marks i Free ≡ get_or v.marks i Free
+
+-- One collector step, the slots that it freed, and whether it ended a cycle.
+pub record Collected (v w : Stored) (count : ℕ) (ended : Bool) : Type 0 where
+  pub phases : Follows v.phase w.phase ended
+  pub principals : w.principals ≡ v.principals
+  pub unfinished : w.unfinished ≡ v.unfinished
+  pub cells : w.cells ≡ v.cells
+  pub vertices : Stays v.phase w.phase → w.vertices ≡ v.vertices
+  pub triples : Stays v.phase w.phase → w.triples ≡ v.triples
+  pub places : Stays v.phase w.phase → w.places ≡ v.places
+  pub parks : v.phase ≡ Mark → w.phase ≡ Sweep → Parks v w
+  pub freed : (v.phase ≡ Sweep) ⊎ (count ≡ 0)
+  pub parked : Stays v.phase w.phase → Unparks v w count
+  pub free_slots : w.free_slots ≡ v.free_slots + count
+  pub free_cells : (v.free_cells ≤ w.free_cells) × (w.free_cells ≤ v.free_cells + 1)
+  pub grey : (x : ℕ) → InSet w.grey x → InSet v.grey x ⊎ (IsRootIn v x ⊎ ((y : ℕ) × InSet v.grey y × IsEdgeIn v y x))
+  pub black : (x : ℕ) → InSet w.black x → InSet v.black x ⊎ InSet v.grey x
+  pub sweeping : v.phase ≡ Sweep → w.grey ≡ v.grey
+  pub blacks_stay : v.phase ≢ Sweep → (x : ℕ) → InSet v.black x → InSet w.black x
+  pub slots : length w.marks ≡ length v.marks
+  pub marks : ChangesMarks v w (most_marks v.phase)
+  pub left : (ended ≡ true) ⊎ (w.left < v.left)

@@ -1,0 +1,16 @@
+//! The store and its collector: the on-the-fly mark-sweep collector of Dijkstra, Lamport, Martin, Scholten and Steffens
+//! (1978), for up to 64 sessions and any number of edges, over a labelled heap.
+#![tactic(auto)]
+
+mod laws;
+mod machine;
+mod note;
+mod opening;
+mod sessions;
+mod store;
+#[cfg(test)]
+mod tests;
+
+pub use laws::{openings_fit, runs_are_complete_and_bounded};
+pub use note::{Note, Phase};
+pub use store::Store;

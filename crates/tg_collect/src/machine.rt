@@ -1,0 +1,463 @@
+//! The heap with its roots and the collector's progress: one private method for each line of the step table, and the session steps.
+ghost use Rattle.std.specs.Prelude.{◌≡◌, ◌≢◌, ℕ, ◌<◌, ◌≤◌, List, [], ◌∷◌, length, MatchOption, MatchBool, MatchResult, ◌⊎◌, ◌+◌, get_or, set, false, true, cond, None, Some};
+ghost use Rattle.std.specs.Bool.{OnFalse, OnTrue};
+ghost use Rattle.tg_rights.specs.Letters.{includes, is_none};
+ghost use Rattle.tg_slots.specs.Table.{Table, Free, Has, mark, slot, with_text};
+ghost use Rattle.tg_slots.specs.declared.slots.Occupant.{Occupant};
+ghost use Rattle.tg_cells.specs.Lists.{Edge, first_cell, HasNone, Found};
+ghost use Rattle.tg_heap.specs.Graph.{edges, mark_at, shaded, painted, IsHeap};
+ghost use Rattle.tg_collect.specs.Machine.{Invariant, IsUnfinished, IsReached, IsHeld, IsRoot, without_slot, with_list, progress_without, phase_of, has_passed, colour_ahead};
+ghost use Rattle.tg_collect.specs.Lines.{Steps};
+ghost use Rattle.tg_collect.specs.SessionLines.{Adds, Removes, Places, Rewrites, Settles};
+
+use crate::note::{Note, Phase};
+use tg_heap::{Dropped, Heap, HeapFull};
+use tg_rights::{Kind, Rights, Text};
+use tg_slots::Colour;
+
+/// A vertex that must stay, by its serial and its slot.
+#[derive(Clone, Copy, Drop)]
+pub(crate) struct Root {
+    pub serial: u64,
+    pub slot: u32,
+}
+
+/// The slot under scan, and the cell that is looked at next.
+#[derive(Clone, Copy, Drop)]
+pub(crate) struct Scan {
+    pub slot: u32,
+    pub cursor: Option<u32>,
+}
+
+#[derive(Clone, Copy, Drop)]
+pub(crate) enum Progress {
+    Idle,
+    Marking(Option<Scan>),
+    Sweeping(u32),
+}
+
+/// The heap with its roots and the collector's progress.
+#[derive(Drop)]
+pub(crate) struct Machine {
+    pub heap: Heap,
+    pub progress: Progress,
+    pub principals: Vec<Root>,
+    pub unfinished: Vec<Option<Root>>,
+}
+
+impl Machine {
+    /// Shades the target of the cell at the cursor and moves the cursor on.
+    fn scan_cell(&mut self, slot: u32, cursor: u32)
+        requires at { self.old.progress ≡ Progress.Marking (Some (record { slot = slot; cursor = Some cursor })) }
+        requires kept { Invariant self.old }
+        ensures kept { Invariant self.new }
+        ensures line { Steps self.old self.new 0 false }
+    {
+        self.heap.soundness();
+        let target = self.heap.target(cursor);
+        let next = self.heap.next(cursor);
+        self.heap.shade(target);
+        self.progress = Progress::Marking(Some(Scan { slot, cursor: next }));
+    }
+
+    /// Condemns all white slots.
+    fn start_sweep(&mut self)
+        requires at { self.old.progress ≡ Progress.Marking None }
+        requires none_grey { self.old.heap.table.grey ≡ [] }
+        requires kept { Invariant self.old }
+        requires settled { (i : ℕ) → IsUnfinished self.old i → mark_at self.old.heap i ≡ Has Colour.White → ⊥ }
+        ensures kept { Invariant self.new }
+        ensures line { Steps self.old self.new 0 false }
+        ensures step { self.new ≡ record self.old { progress = Progress.Sweeping 0 } }
+        ensures unreached { (i : ℕ) → IsReached self.old i → mark_at self.old.heap i ≡ Has Colour.Black }
+    {
+        self.progress = Progress::Sweeping(0);
+    }
+
+    /// Makes the slot under scan black.
+    fn blacken(&mut self, slot: u32)
+        requires at { self.old.progress ≡ Progress.Marking (Some (record { slot = slot; cursor = None })) }
+        requires kept { Invariant self.old }
+        ensures kept { Invariant self.new }
+        ensures line { Steps self.old self.new 0 false }
+        ensures step { self.new ≡ record self.old { heap = record self.old.heap { table = painted self.old.heap.table slot Colour.Black }; progress = Progress.Marking None } }
+    {
+        self.heap.soundness();
+        self.heap.blacken(slot);
+        self.progress = Progress::Marking(None);
+    }
+
+    /// Takes the first of the grey list under scan, or answers that there is none.
+    fn take_grey(&mut self) -> bool
+        requires at { self.old.progress ≡ Progress.Marking None }
+        requires kept { Invariant self.old }
+        ensures kept { Invariant self.new }
+        ensures line { OnTrue result (Steps self.old self.new 0 false) }
+        ensures step { MatchBool result
+            ((i : ℕ) × (rest : List ℕ) × (self.old.heap.table.grey ≡ i ∷ rest)
+            × (self.new ≡ record self.old { heap = record self.old.heap { table = record self.old.heap.table { grey = rest } }; progress = Progress.Marking (Some (record { slot = i; cursor = first_cell (edges self.old.heap i) })) }))
+            ((self.old.heap.table.grey ≡ []) × (self.new ≡ self.old)) }
+    {
+        self.heap.soundness();
+        match self.heap.pop_grey() {
+            None => false,
+            Some(slot) => {
+                let cursor = self.heap.first(slot);
+                self.progress = Progress::Marking(Some(Scan { slot, cursor }));
+                true
+            }
+        }
+    }
+
+    /// Passes a slot that stays as it is.
+    fn skip(&mut self, at: u32)
+        requires at { self.old.progress ≡ Progress.Sweeping at }
+        requires stays { (mark_at self.old.heap at ≡ Free) ⊎ (mark_at self.old.heap at ≡ Has Colour.Grey) }
+        requires inside { at < length self.old.heap.table.slots }
+        requires size { length self.old.heap.table.slots ≤ 65536 }
+        requires kept { Invariant self.old }
+        ensures kept { Invariant self.new }
+        ensures line { Steps self.old self.new 0 false }
+        ensures step { self.new ≡ record self.old { progress = Progress.Sweeping (at + 1) } }
+    {
+        self.progress = Progress::Sweeping(at + 1);
+    }
+
+    /// Makes a black slot white.
+    fn whiten(&mut self, at: u32)
+        requires at { self.old.progress ≡ Progress.Sweeping at }
+        requires black { mark_at self.old.heap at ≡ Has Colour.Black }
+        requires inside { at < length self.old.heap.table.slots }
+        requires size { length self.old.heap.table.slots ≤ 65536 }
+        requires kept { Invariant self.old }
+        ensures kept { Invariant self.new }
+        ensures line { Steps self.old self.new 0 false }
+        ensures step { self.new ≡ record self.old { heap = record self.old.heap { table = painted self.old.heap.table at Colour.White }; progress = Progress.Sweeping (at + 1) } }
+    {
+        self.heap.whiten(at);
+        self.progress = Progress::Sweeping(at + 1);
+    }
+
+    /// Frees a condemned slot's first cell, or the slot where it has none; true where it freed the slot.
+    fn reclaim(&mut self, at: u32) -> bool
+        requires at { self.old.progress ≡ Progress.Sweeping at }
+        requires white { mark_at self.old.heap at ≡ Has Colour.White }
+        requires inside { at < length self.old.heap.table.slots }
+        requires size { length self.old.heap.table.slots ≤ 65536 }
+        requires kept { Invariant self.old }
+        ensures kept { Invariant self.new }
+        ensures line { Steps self.old self.new (cond result 1 0) false }
+        ensures step { MatchBool result
+            ((edges self.old.heap at ≡ []) × (self.new ≡ record self.old { heap = without_slot self.old.heap at; progress = Progress.Sweeping (at + 1) }))
+            ((e : Edge) × (r : List Edge) × (edges self.old.heap at ≡ e ∷ r) × (self.new ≡ record self.old { heap = with_list self.old.heap at r })) }
+    {
+        if self.heap.strip_one_cell(at) {
+            return false;
+        }
+        self.heap.free_slot(at);
+        self.progress = Progress::Sweeping(at + 1);
+        true
+    }
+
+    /// Ends the cycle.
+    fn finish(&mut self, at: u32)
+        requires at { self.old.progress ≡ Progress.Sweeping at }
+        requires past { length self.old.heap.table.slots ≤ at }
+        requires kept { Invariant self.old }
+        ensures kept { Invariant self.new }
+        ensures line { Steps self.old self.new 0 true }
+        ensures step { self.new ≡ record self.old { progress = Progress.Idle } }
+    {
+        self.heap.soundness();
+        self.progress = Progress::Idle;
+    }
+
+    /// Shades the unfinished target of the least seat that has a white one, or answers that there is none.
+    fn shade_unfinished(&mut self) -> bool
+        requires at { self.old.progress ≡ Progress.Marking None }
+        requires none_grey { self.old.heap.table.grey ≡ [] }
+        requires kept { Invariant self.old }
+        ensures kept { Invariant self.new }
+        ensures line { OnTrue result (Steps self.old self.new 0 false) }
+        ensures step { MatchBool result
+            ((i : ℕ) × IsUnfinished self.old i × (mark_at self.old.heap i ≡ Has Colour.White) × (self.new ≡ record self.old { heap = record self.old.heap { table = shaded self.old.heap.table i } }))
+            (((i : ℕ) → IsUnfinished self.old i → mark_at self.old.heap i ≡ Has Colour.White → ⊥) × (self.new ≡ self.old)) }
+    {
+        match self.white_target() {
+            None => false,
+            Some(slot) => {
+                self.heap.shade(slot);
+                true
+            }
+        }
+    }
+
+    /// The unfinished target of the least seat that has a white one.
+    fn white_target(&self) -> Option<u32>
+        requires kept { Invariant self.now }
+        ensures { MatchOption result
+            ((i : ℕ) → IsUnfinished self.now i → mark_at self.now.heap i ≡ Has Colour.White → ⊥)
+            (λ i. IsUnfinished self.now i × (mark_at self.now.heap i ≡ Has Colour.White)) }
+    {
+        for seat in 0..self.unfinished.len() {
+            if let Some(root) = self.unfinished[seat] {
+                if let Some(Colour::White) = self.heap.colour(root.slot) {
+                    return Some(root.slot);
+                }
+            }
+        }
+        None
+    }
+
+    /// Shades the seat's unfinished target and clears it.
+    pub fn shade(&mut self, seat: usize) -> Option<u64>
+        requires seat { seat < length self.old.unfinished.items }
+        requires kept { Invariant self.old }
+        ensures kept { Invariant self.new }
+        ensures step { Settles self.old seat result self.new }
+    {
+        match self.unfinished[seat] {
+            None => None,
+            Some(root) => {
+                self.heap.shade(root.slot);
+                self.unfinished[seat] = None;
+                Some(root.serial)
+            }
+        }
+    }
+
+    /// Joins rights to the label of the edge to a held slot, and makes that the seat's unfinished target.
+    pub fn add_edge(
+        &mut self,
+        seat: usize,
+        id: u32,
+        target: Root,
+        rights: Rights,
+    ) -> Result<(), HeapFull>
+        requires kept { Invariant self.old }
+        requires seat { seat < length self.old.unfinished.items }
+        requires idle_seat { get_or self.old.unfinished.items seat None ≡ None }
+        requires owner { IsHeld self.old id }
+        requires target { IsHeld self.old target.slot }
+        requires some { is_none rights ≡ false }
+        ensures kept { Invariant self.new }
+        ensures step { Adds self.old seat id target rights result self.new }
+    {
+        self.heap.soundness();
+        match self.heap.add_rights(id, target.slot, rights) {
+            Ok(()) => {
+                self.heap.soundness();
+                self.unfinished[seat] = Some(target);
+                Ok(())
+            }
+            Err(full) => Err(full),
+        }
+    }
+
+    /// Takes rights from the label of an edge of a held slot; a cursor at a freed cell moves to the next cell.
+    pub fn remove_rights(&mut self, id: u32, serial: u64, rights: Rights)
+        requires kept { Invariant self.old }
+        requires inside { id < length self.old.heap.table.slots }
+        requires found { (f : Found (edges self.old.heap id) serial) × (includes f.edge.rights rights ≡ true) }
+        ensures kept { Invariant self.new }
+        ensures step { Removes self.old id serial rights self.new }
+    {
+        self.heap.soundness();
+        match self.heap.drop_rights(id, serial, rights) {
+            Dropped::Kept => self.heap.soundness(),
+            Dropped::Gone { cell, next } => {
+                self.heap.soundness();
+                self.progress = self.progress.without(id, cell, next);
+            }
+        }
+    }
+
+    /// Puts a vertex without edges into the first free slot; the text comes back where there is none.
+    pub fn place_vertex(&mut self, serial: u64, kind: Kind, text: Text) -> Result<u32, Text>
+        requires kept { Invariant self.old }
+        ensures kept { Invariant self.new }
+        ensures step { Places self.old serial kind text result self.new }
+    {
+        self.heap.soundness();
+        let colour = self.progress.colour_ahead();
+        match self.heap.add_vertex(serial, kind, colour, text) {
+            Err(refused) => Err(refused.1),
+            Ok(id) => {
+                if self.progress.has_passed(id) {
+                    self.heap.whiten(id);
+                }
+                Ok(id)
+            }
+        }
+    }
+
+    /// Replaces the text of a held slot, and gives the old one.
+    pub fn set_text(&mut self, id: u32, text: Text) -> Text
+        requires kept { Invariant self.old }
+        requires held { IsHeld self.old id }
+        ensures kept { Invariant self.new }
+        ensures step { Rewrites self.old id text result self.new }
+    {
+        self.heap.set_text(id, text)
+    }
+
+    /// Starts a cycle: shades all principals from the last to the first.
+    fn start(&mut self)
+        requires at { self.old.progress ≡ Progress.Idle }
+        requires few { length self.old.principals.items ≤ 64 }
+        requires kept { Invariant self.old }
+        ensures kept { Invariant self.new }
+        ensures line { Steps self.old self.new 0 false }
+        ensures marking { self.new.progress ≡ Progress.Marking None }
+    {
+        let mut left = self.principals.len();
+        while left > 0 {
+            left -= 1;
+            let slot = self.principals[left].slot;
+            self.shade_root(slot);
+        }
+        self.progress = Progress::Marking(None);
+    }
+
+    /// Shades a root that stays one.
+    fn shade_root(&mut self, slot: u32)
+        requires kept { Invariant self.old }
+        requires root { IsRoot self.old slot }
+        ensures kept { Invariant self.new }
+        ensures step { self.new ≡ record self.old { heap = record self.old.heap { table = shaded self.old.heap.table slot } } }
+        ensures dark { mark_at self.new.heap slot ≡ Has Colour.White → ⊥ }
+        ensures whites { (j : ℕ) → mark_at self.new.heap j ≡ Has Colour.White → mark_at self.old.heap j ≡ Has Colour.White }
+    {
+        self.heap.shade(slot);
+    }
+
+    /// One step of the collector.
+    pub fn collect(&mut self) -> Note
+        requires few { length self.old.principals.items ≤ 64 }
+        requires kept { Invariant self.old }
+        ensures kept { Invariant self.new }
+        ensures line { Steps self.old self.new result.freed result.ended }
+        ensures phase { result.phase ≡ phase_of self.new.progress }
+    {
+        match self.progress {
+            Progress::Idle => {
+                self.start();
+                self.note(0, false)
+            }
+            Progress::Marking(Some(scan)) => {
+                match scan.cursor {
+                    Some(cell) => self.scan_cell(scan.slot, cell),
+                    None => self.blacken(scan.slot),
+                }
+                self.note(0, false)
+            }
+            Progress::Marking(None) => {
+                self.mark_next();
+                self.note(0, false)
+            }
+            Progress::Sweeping(at) => self.sweep(at),
+        }
+    }
+
+    /// What a step did, with the phase that it has led to.
+    fn note(&self, freed: u64, ended: bool) -> Note
+        ensures freed { result.freed ≡ freed }
+        ensures ended { result.ended ≡ ended }
+        ensures phase { result.phase ≡ phase_of self.now.progress }
+    {
+        Note {
+            phase: self.progress.phase(),
+            freed,
+            ended,
+        }
+    }
+
+    /// The step of the marking phase where no slot is under scan.
+    fn mark_next(&mut self)
+        requires at { self.old.progress ≡ Progress.Marking None }
+        requires kept { Invariant self.old }
+        ensures kept { Invariant self.new }
+        ensures line { Steps self.old self.new 0 false }
+    {
+        if !self.take_grey() && !self.shade_unfinished() {
+            self.start_sweep();
+        }
+    }
+
+    /// The step of the sweep phase.
+    fn sweep(&mut self, at: u32) -> Note
+        requires at { self.old.progress ≡ Progress.Sweeping at }
+        requires kept { Invariant self.old }
+        ensures kept { Invariant self.new }
+        ensures line { Steps self.old self.new result.freed result.ended }
+        ensures phase { result.phase ≡ phase_of self.new.progress }
+    {
+        self.heap.soundness();
+        if at >= self.heap.len() {
+            self.finish(at);
+            return self.note(0, true);
+        }
+        match self.heap.colour(at) {
+            None | Some(Colour::Grey) => {
+                self.skip(at);
+                self.note(0, false)
+            }
+            Some(Colour::Black) => {
+                self.whiten(at);
+                self.note(0, false)
+            }
+            Some(Colour::White) => {
+                let freed = u64::from(self.reclaim(at));
+                self.note(freed, false)
+            }
+        }
+    }
+}
+
+impl Progress {
+    /// The phase that others see.
+    pub fn phase(self) -> Phase
+        ensures { result ≡ phase_of self }
+    {
+        match self {
+            Progress::Idle => Phase::Idle,
+            Progress::Marking(_) => Phase::Mark,
+            Progress::Sweeping(_) => Phase::Sweep,
+        }
+    }
+
+    /// Whether the sweep has passed the slot.
+    fn has_passed(self, id: u32) -> bool
+        ensures { result ≡ has_passed self id }
+    {
+        match self {
+            Progress::Sweeping(at) => id < at,
+            _ => false,
+        }
+    }
+
+    /// The colour of a vertex that comes into a slot that the sweep has not passed.
+    fn colour_ahead(self) -> Colour
+        ensures { result ≡ colour_ahead self }
+    {
+        match self {
+            Progress::Sweeping(_) => Colour::Black,
+            _ => Colour::White,
+        }
+    }
+
+    /// The progress after a cell was freed that `next` followed.
+    fn without(self, id: u32, cell: u32, next: Option<u32>) -> Progress
+        ensures { result ≡ progress_without self id cell next }
+    {
+        match self {
+            Progress::Marking(Some(scan)) if scan.slot == id && scan.cursor == Some(cell) => {
+                Progress::Marking(Some(Scan {
+                    slot: id,
+                    cursor: next,
+                }))
+            }
+            other => other,
+        }
+    }
+}

@@ -1,0 +1,178 @@
+//! The machine of an opening graph.
+ghost use Rattle.std.specs.Prelude.{◌≡◌, ◌≢◌, ℕ, ◌<◌, ◌≤◌, ◌+◌, List, [], length, get_or, Option, Some, None, OnOk, IfOk, IsSome, false, true};
+ghost use Rattle.tg_rights.specs.Letters.{is_none};
+ghost use Rattle.tg_graph.specs.Protection.{Protection, IsGraph};
+ghost use Rattle.tg_collect.specs.Names.{Whole};
+ghost use Rattle.tg_collect.specs.Stored.{stored};
+ghost use Rattle.tg_collect.specs.Views.{IsHeldIn, place, serial_at};
+ghost use Rattle.tg_collect.specs.Sessions.{pending_of};
+ghost use Rattle.tg_collect.specs.Openings.{IsOpening, Opens, Opened};
+ghost use Rattle.tg_collect.specs.OpeningSteps.{Blank, PrincipalOpened, PrincipalsOpened, EdgeOpened, OpensEdges};
+ghost use Rattle.tg_collect.specs.declared.note.Phase.TheVariants as phase;
+ghost use Rattle.std.specs.FinSet as finset;
+
+use crate::machine::{Machine, Progress, Root};
+use std::alloc::{AllocError, Global};
+use tg_graph::Graph;
+use tg_heap::Heap;
+use tg_rights::{Kind, Rights, Text};
+
+/// At most this many principals, and as many seats.
+const MOST: usize = 64;
+
+impl Machine {
+    /// The machine of a graph: its vertices, which are the principals, and then its edges by rising pairs of their ends.
+    pub fn open(alloc: Global, graph: &Graph, slots: u32, cells: u32) -> Result<Machine, AllocError>
+        requires low_slots { 1 ≤ slots }
+        requires high_slots { slots ≤ 65536 }
+        requires low_cells { 1 ≤ cells }
+        requires high_cells { cells ≤ 1048576 }
+        requires opening { IsOpening graph.now slots cells }
+        ensures whole { IfOk result Whole }
+        ensures opened { IfOk result (λ m. Opened (stored m) graph.now slots cells) }
+    {
+        graph.soundness();
+        let mut machine = Machine::blank(alloc, slots, cells)?;
+        machine.open_principals(alloc, graph)?;
+        machine.open_edges(graph);
+        Ok(machine)
+    }
+
+    /// Free slots and free cells, with no principal and no target, and room for 64 of each.
+    fn blank(alloc: Global, slots: u32, cells: u32) -> Result<Machine, AllocError>
+        requires low_slots { 1 ≤ slots }
+        requires high_slots { slots ≤ 65536 }
+        requires low_cells { 1 ≤ cells }
+        requires high_cells { cells ≤ 1048576 }
+        ensures blank { IfOk result (λ m. Blank m slots cells) }
+        ensures whole { IfOk result Whole }
+        ensures opens { IfOk result (λ m. Opens (stored m) 0 slots cells) }
+        ensures triples { IfOk result (λ m. (stored m).triples ≡ finset.empty) }
+    {
+        let heap = Heap::new(alloc, slots, cells)?;
+        heap.soundness();
+        let principals = Vec::with_capacity(alloc, MOST)?;
+        let unfinished = empty_seats(alloc)?;
+        Ok(Machine {
+            heap,
+            progress: Progress::Idle,
+            principals,
+            unfinished,
+        })
+    }
+
+    /// Puts the graph's vertices into the first slots, in the order of their serials.
+    fn open_principals(&mut self, alloc: Global, graph: &Graph) -> Result<(), AllocError>
+        requires whole { Whole self.old }
+        requires opens { Opens (stored self.old) 0 (length (stored self.old).marks) (stored self.old).cells }
+        requires opening { IsOpening graph.now (length (stored self.old).marks) (stored self.old).cells }
+        ensures whole { OnOk result (Whole self.new) }
+        ensures opened { OnOk result (PrincipalsOpened (stored self.old) (stored self.new) graph.now) }
+    {
+        for serial in 1..65u64 {
+            if graph.kind(serial).is_some() {
+                self.open_principal(alloc, serial)?;
+            }
+        }
+        Ok(())
+    }
+
+    /// Puts a subject into the first free slot and makes it a principal.
+    fn open_principal(&mut self, alloc: Global, serial: u64) -> Result<(), AllocError>
+        requires whole { Whole self.old }
+        requires phase { (stored self.old).phase ≡ phase.Idle }
+        requires unheld { IsHeldIn (stored self.old) serial → ⊥ }
+        requires room { (stored self.old).free_slots ≢ 0 }
+        requires few { length (stored self.old).principals < 64 }
+        ensures whole { OnOk result (Whole self.new) }
+        ensures opened { OnOk result (PrincipalOpened (stored self.old) (stored self.new) serial) }
+    {
+        self.heap.soundness();
+        match self.place_vertex(serial, Kind::Subject, Text::empty(alloc)) {
+            Err(_) => unreachable!(),
+            Ok(slot) => {
+                self.principals.push(Root { serial, slot })?;
+                Ok(())
+            }
+        }
+    }
+
+    /// Puts the graph's edges between the principals in, by rising pairs of their ends.
+    fn open_edges(&mut self, graph: &Graph)
+        requires whole { Whole self.old }
+        requires opens { OpensEdges (stored self.old) graph.now (length self.old.principals.items) 0 0 }
+        ensures whole { Whole self.new }
+        ensures opened { Opened (stored self.new) graph.now (length (stored self.old).marks) (stored self.old).cells }
+    {
+        for from in 0..self.principals.len() {
+            self.open_edges_of(graph, from);
+        }
+        self.heap.soundness();
+    }
+
+    /// Puts the edges of one principal in.
+    fn open_edges_of(&mut self, graph: &Graph, from: usize)
+        requires whole { Whole self.old }
+        requires from { from < length self.old.principals.items }
+        requires opens { OpensEdges (stored self.old) graph.now (length self.old.principals.items) from 0 }
+        ensures whole { Whole self.new }
+        ensures size { length self.new.principals.items ≡ length self.old.principals.items }
+        ensures slots { length (stored self.new).marks ≡ length (stored self.old).marks }
+        ensures cells { (stored self.new).cells ≡ (stored self.old).cells }
+        ensures opens { OpensEdges (stored self.new) graph.now (length self.old.principals.items) (from + 1) 0 }
+    {
+        for to in 0..self.principals.len() {
+            self.open_pair(graph, from, to);
+        }
+    }
+
+    /// Puts the edge of a pair of principals in, where the graph has one.
+    fn open_pair(&mut self, graph: &Graph, from: usize, to: usize)
+        requires whole { Whole self.old }
+        requires from { from < length self.old.principals.items }
+        requires to { to < length self.old.principals.items }
+        requires opens { OpensEdges (stored self.old) graph.now (length self.old.principals.items) from to }
+        ensures whole { Whole self.new }
+        ensures size { length self.new.principals.items ≡ length self.old.principals.items }
+        ensures slots { length (stored self.new).marks ≡ length (stored self.old).marks }
+        ensures cells { (stored self.new).cells ≡ (stored self.old).cells }
+        ensures opens { OpensEdges (stored self.new) graph.now (length self.old.principals.items) from (to + 1) }
+    {
+        self.heap.soundness();
+        let source = self.principals[from];
+        let target = self.principals[to];
+        let rights = graph.rights(source.serial, target.serial);
+        if !rights.is_empty() {
+            self.open_edge(source.slot, target, rights);
+        }
+    }
+
+    /// Puts an edge in by way of the first seat, which has no target afterwards: no cycle has started.
+    fn open_edge(&mut self, id: u32, target: Root, rights: Rights)
+        requires whole { Whole self.old }
+        requires phase { (stored self.old).phase ≡ phase.Idle }
+        requires idle { pending_of (stored self.old) 0 ≡ None }
+        requires source { IsSome (place (stored self.old) id) }
+        requires target { place (stored self.old) target.slot ≡ Some target.serial }
+        requires distinct { target.slot ≢ id }
+        requires some { is_none rights ≡ false }
+        requires room { self.old.heap.free_cells ≢ 0 }
+        ensures whole { Whole self.new }
+        ensures opened { EdgeOpened (stored self.old) (stored self.new) (serial_at (stored self.old) id) target.serial rights }
+    {
+        self.link_new(0, id, target, rights);
+        self.unfinished[0] = None;
+    }
+}
+
+/// 64 seats without a target.
+fn empty_seats(alloc: Global) -> Result<Vec<Option<Root>>, AllocError>
+    ensures length { IfOk result (λ seats. length seats.items ≡ 64) }
+    ensures idle { IfOk result (λ seats. (k : ℕ) → get_or seats.items k None ≡ None) }
+{
+    let mut seats = Vec::with_capacity(alloc, MOST)?;
+    while seats.len() < MOST {
+        seats.push(None)?;
+    }
+    Ok(seats)
+}

@@ -1,0 +1,243 @@
+//! The store as callers see it: what is held as a protection graph, and how far the collector has come.
+ghost use Rattle.std.specs.Prelude.{◌≡◌, ◌≢◌, ℕ, ◌<◌, ◌≤◌, ◌+◌, Option, Some, None, MatchOption, OnOk, OnErr, IfOk, IfErr, IsSome, true, false, length};
+ghost use Rattle.std.specs.Bool.{OnFalse};
+ghost use Rattle.std.specs.Option.{option_map};
+ghost use Rattle.std.specs.FinMap as finmap;
+ghost use Rattle.tg_rights.specs.Letters.{is_none, includes, none};
+ghost use Rattle.tg_rights.specs.Membership.{Holds};
+ghost use Rattle.tg_graph.specs.Protection.{label};
+ghost use Rattle.tg_graph.specs.Rules.{edges_of};
+ghost use Rattle.tg_collect.specs.Stored.{Stored, held};
+ghost use Rattle.tg_collect.specs.Views.{InSet, IsHeldIn, IsEdgeIn, IsStore, place, serial_at, Collected};
+ghost use Rattle.tg_collect.specs.StoreRuns.{Acted};
+ghost use Rattle.tg_collect.specs.Openings.{IsOpening, Opened};
+ghost use Rattle.tg_collect.specs.Sessions.{pending_of, Shaded, EdgeStored, VertexStored, RightsRemoved, TextReplaced};
+
+use crate::machine::{Machine, Root};
+use crate::note::{Note, Phase};
+use std::alloc::{AllocError, Global};
+use std::marker::Model;
+use tg_graph::Graph;
+use tg_heap::HeapFull;
+use tg_rights::{Kind, Rights, Text};
+
+/// Vertices with their labelled edges in slots and cells, the principals, one unfinished target per seat, and the
+/// collector beside them. Contracts see what is held as a protection graph, and of the collector its phase, the colours,
+/// what is parked and what is left of a cycle.
+///
+/// A call that names a slot has the condition that a vertex is held there; one that names a seat, that it is 0 to 63.
+#[derive(Drop)]
+pub struct Store {
+    machine: Machine,
+}
+
+impl Model for Store {
+    ghost use Rattle.tg_collect.specs.Stored.{Stored, stored, vertices_code, triples_code, serials_code};
+    ghost use Rattle.tg_collect.specs.Names.{Whole};
+    ghost use Rattle.std.specs.Coded.{codes};
+
+    ghost Value = { Stored };
+
+    ghost coded = { Prim.hlevel (codes, vertices_code, triples_code, serials_code) };
+
+    ghost view = { λ s. stored s.machine };
+
+    ghost invariant = { λ s. Whole s.machine };
+}
+
+impl Store {
+    /// The store of a graph of at most 64 subjects with the serials from 1 on in a row, which fit with their edges: its
+    /// principals. They stand in the first slots, white, in the order of their serials; their edges are put in by rising
+    /// pairs of their ends. All the room that later calls fill is taken here; the only error is that a growth was refused.
+    pub fn new(alloc: Global, graph: &Graph, slots: u32, cells: u32) -> Result<Store, AllocError>
+        requires low_slots { 1 ≤ slots }
+        requires high_slots { slots ≤ 65536 }
+        requires low_cells { 1 ≤ cells }
+        requires high_cells { cells ≤ 1048576 }
+        requires opening { IsOpening graph.now slots cells }
+        ensures { IfOk result (λ store. Opened store graph.now slots cells) }
+    {
+        let machine = Machine::open(alloc, graph, slots, cells)?;
+        Ok(Store { machine })
+    }
+
+    /// What each store has, made known to a caller at no cost.
+    pub fn soundness(&self)
+        ensures sound { IsStore self.now }
+        ensures slots { length self.now.marks ≤ 65536 }
+        ensures cells { self.now.cells ≤ 1048576 }
+    {
+        self.machine.heap.soundness();
+    }
+
+    /// The slot of a principal, by its serial; none where no principal has it.
+    pub fn principal(&self, serial: u64) -> Option<u32>
+        ensures { MatchOption result (Holds self.now.principals serial → ⊥) (λ id. Holds self.now.principals serial × (place self.now id ≡ Some serial)) }
+    {
+        self.machine.principal(serial)
+    }
+
+    /// What the vertex in a slot is.
+    pub fn kind(&self, id: u32) -> Kind
+        requires { IsSome (place self.now id) }
+        ensures { option_map (λ v. v.kind) (finmap.get self.now.vertices (serial_at self.now id)) ≡ Some result }
+    {
+        self.machine.kind(id)
+    }
+
+    /// The text of the vertex in a slot.
+    pub fn text(&self, id: u32) -> &Text
+        requires { IsSome (place self.now id) }
+        ensures { option_map (λ v. v.text) (finmap.get self.now.vertices (serial_at self.now id)) ≡ Some result.now }
+    {
+        self.machine.text(id)
+    }
+
+    /// The slot of the vertex with this serial and the rights over it; none where the slot's vertex has no right over it.
+    pub fn edge(&self, id: u32, serial: u64) -> Option<(u32, Rights)>
+        requires { IsSome (place self.now id) }
+        ensures { MatchOption result
+            ((next : ℕ) → label (held self.now next) (serial_at self.now id) serial ≡ none)
+            (λ t. (place self.now t.0 ≡ Some serial) × (is_none t.1 ≡ false) × ((next : ℕ) → label (held self.now next) (serial_at self.now id) serial ≡ t.1)) }
+    {
+        self.machine.edge(id, serial)
+    }
+
+    /// The edges of the vertex in a slot: each serial over which it has rights, with these, by rising serial. The only
+    /// error is that a growth was refused.
+    pub fn edges(&self, alloc: Global, id: u32) -> Result<Vec<(u64, Rights)>, AllocError>
+        requires { IsSome (place self.now id) }
+        ensures { IfOk result (λ edges. (next : ℕ) → edges.items ≡ edges_of (held self.now next) (serial_at self.now id)) }
+    {
+        self.machine.edges(alloc, id)
+    }
+
+    /// The seat's unfinished target.
+    pub fn pending(&self, seat: u64) -> Option<u64>
+        requires { seat < 64 }
+        ensures { result ≡ pending_of self.now seat }
+    {
+        self.machine.pending(seat)
+    }
+
+    /// How many slots are free.
+    pub fn free_slots(&self) -> u32
+        ensures { result ≡ self.now.free_slots }
+    {
+        self.machine.heap.free_slots()
+    }
+
+    /// How many cells are free.
+    pub fn free_cells(&self) -> u32
+        ensures { result ≡ self.now.free_cells }
+    {
+        self.machine.heap.free_cells()
+    }
+
+    /// The collector's phase.
+    pub fn phase(&self) -> Phase
+        ensures { result ≡ self.now.phase }
+    {
+        self.machine.progress.phase()
+    }
+
+    /// Joins rights to the label of an edge, and makes its target the seat's unfinished one. The only error is Cells,
+    /// where the edge is new and no cell is free; all is then as before.
+    pub fn store_edge(
+        &mut self,
+        seat: u64,
+        id: u32,
+        target: u32,
+        rights: Rights,
+    ) -> Result<(), HeapFull>
+        requires seat { seat < 64 }
+        requires idle { pending_of self.old seat ≡ None }
+        requires source { IsSome (place self.old id) }
+        requires target { IsSome (place self.old target) }
+        requires distinct { target ≢ id }
+        requires some { is_none rights ≡ false }
+        ensures ok { OnOk result (EdgeStored self.old self.new seat (serial_at self.old id) (serial_at self.old target) rights) }
+        ensures acted { OnOk result (Acted self.old self.new None (Some (serial_at self.old target))) }
+        ensures full { IfErr result (λ full. (full ≡ HeapFull.Cells) × (self.old.free_cells ≡ 0) × (IsEdgeIn self.old (serial_at self.old id) (serial_at self.old target) → ⊥)) }
+        ensures unchanged { OnErr result (self.new ≡ self.old) }
+    {
+        self.machine.store_edge(seat, id, target, rights)
+    }
+
+    /// Puts a new vertex into a slot, with an edge to it from the vertex in the slot `id`, and makes it the seat's
+    /// unfinished target. Slots is the error where no slot is free, else Cells where no cell is; all is then as before and
+    /// the text comes back. The serial is neither held nor parked.
+    pub fn store_vertex(
+        &mut self,
+        seat: u64,
+        id: u32,
+        serial: u64,
+        kind: Kind,
+        rights: Rights,
+        text: Text,
+    ) -> Result<(), (HeapFull, Text)>
+        requires seat { seat < 64 }
+        requires idle { pending_of self.old seat ≡ None }
+        requires source { IsSome (place self.old id) }
+        requires some { is_none rights ≡ false }
+        requires unheld { IsHeldIn self.old serial → ⊥ }
+        requires unparked { InSet self.old.parked serial → ⊥ }
+        ensures ok { OnOk result (VertexStored self.old self.new seat (serial_at self.old id) serial kind text rights) }
+        ensures acted { OnOk result (Acted self.old self.new (Some serial) (Some serial)) }
+        ensures slots { IfErr result (λ refused. refused.0 ≡ HeapFull.Slots → self.old.free_slots ≡ 0) }
+        ensures cells { IfErr result (λ refused. refused.0 ≡ HeapFull.Cells → (self.old.free_slots ≢ 0) × (self.old.free_cells ≡ 0)) }
+        ensures back { IfErr result (λ refused. refused.1 ≡ text) }
+        ensures unchanged { OnErr result (self.new ≡ self.old) }
+    {
+        self.machine
+            .store_vertex(seat, id, serial, kind, rights, text)
+    }
+
+    /// Takes rights from the label of an edge, which has them; an edge that keeps none gives its cell back.
+    pub fn remove_rights(&mut self, id: u32, serial: u64, rights: Rights)
+        requires source { IsSome (place self.old id) }
+        requires edge { IsEdgeIn self.old (serial_at self.old id) serial }
+        requires has { includes (label (held self.old 0) (serial_at self.old id) serial) rights ≡ true }
+        ensures removed { RightsRemoved self.old self.new (serial_at self.old id) serial rights }
+        ensures acted { Acted self.old self.new None None }
+    {
+        self.machine.drop_rights(id, serial, rights)
+    }
+
+    /// Replaces the text of the vertex in a slot, and gives the old one.
+    pub fn set_text(&mut self, id: u32, text: Text) -> Text
+        requires { IsSome (place self.old id) }
+        ensures replaced { TextReplaced self.old self.new (serial_at self.old id) text result }
+        ensures acted { Acted self.old self.new None None }
+    {
+        self.machine.replace_text(id, text)
+    }
+
+    /// Shades the seat's unfinished target, if it has one, and clears it; answers it.
+    pub fn shade(&mut self, seat: u64) -> Option<u64>
+        requires { seat < 64 }
+        ensures shaded { Shaded self.old self.new seat result }
+        ensures acted { Acted self.old self.new None None }
+    {
+        self.machine.settle(seat)
+    }
+
+    /// One step of the collector: one line of its table.
+    pub fn collect(&mut self) -> Note
+        ensures collected { Collected self.old self.new result.freed result.ended }
+        ensures phase { result.phase ≡ self.new.phase }
+    {
+        self.machine.heap.soundness();
+        self.machine.collect()
+    }
+}
+
+#[cfg(test)]
+impl Store {
+    /// Whether a slot has the serial, held or parked.
+    pub(crate) fn has(&self, serial: u64) -> bool
+        ensures { OnFalse result ((IsHeldIn self.now serial → ⊥) × (InSet self.now.parked serial → ⊥)) }
+    {
+        crate::tests::has(&self.machine, serial)
+    }
+}
