@@ -3,11 +3,11 @@ use Rattle.std.proofs.Common.{refl, arith}
 use Rattle.tg_graph.specs.Opening.{principal_count, opening}
 use Rattle.tg_graph.proofs.Fitting as fitting
 use Rattle.tg_graph.proofs.Stays.{principals_are_few}
-use Rattle.tg_collect.specs.Openings.{OpeningsFit}
+use Rattle.tg_collect.specs.Openings.{OpeningsCanBeStored}
 
-pub openings_fit : OpeningsFit
+pub openings_can_be_stored : OpeningsCanBeStored
 unfolding opening
-openings_fit c sound =
+openings_can_be_stored c sound =
     let fit = fitting.openings_fit c sound in
     record {
       low_slots = fit.4;

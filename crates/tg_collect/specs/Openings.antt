@@ -54,5 +54,5 @@ pub record Fitted (G : Protection) (all_slots all_cells : ℕ) : Type 0 where
   pub opening : IsOpening G all_slots all_cells
 
 -- A configuration without a fault opens a graph that a store can open, with the configuration's slots and cells.
-abbrev pub OpeningsFit : Type 0
-OpeningsFit = (c : Config) → first_fault c ≡ None → Fitted (opening c) c.slots c.cells
+abbrev pub OpeningsCanBeStored : Type 0
+OpeningsCanBeStored = (c : Config) → first_fault c ≡ None → Fitted (opening c) c.slots c.cells

@@ -11,6 +11,6 @@ mod store;
 #[cfg(test)]
 mod tests;
 
-pub use laws::{openings_fit, runs_are_complete_and_bounded};
+pub use laws::{openings_can_be_stored, runs_are_complete_and_bounded};
 pub use note::{Note, Phase};
 pub use store::Store;

@@ -51,7 +51,7 @@ fn open(
     match Graph::build(alloc, &config) {
         Err(fault) => panic!(rt; "refused: {fault:?}"),
         Ok(graph) => {
-            crate::openings_fit();
+            crate::openings_can_be_stored();
             Ok(Store::new(alloc, &graph, slots, cells)?)
         }
     }
