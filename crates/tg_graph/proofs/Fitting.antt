@@ -30,7 +30,7 @@ vertex_count-len G = length-map (λ e. e.0) (map.entries G.vertices) ∙ sym (ma
 subject : Vertex
 subject = record { kind = kind.Subject; text = [] }
 
-len-subjects : (n : ℕ) → map.len (subjects n) ≡ n
+pub len-subjects : (n : ℕ) → map.len (subjects n) ≡ n
 len-subjects zero = map.len-empty nat_cmp Vertex
 len-subjects (suc n) =
     map.len-insert nat_cmp_total (subjects n) (suc n) (record { kind = kind.Subject; text = [] })

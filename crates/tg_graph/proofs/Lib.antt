@@ -17,3 +17,4 @@ pub mod SearchLemmas
 pub mod OtherWords
 pub mod Counting
 pub mod Fitting
+pub mod Counts
