@@ -24,6 +24,8 @@ REQUIRED = {
     "hello": ["name"],
     "bye": [],
     "shade": [],
+    "collect": [],
+    "cycle": [],
     "take": ["rights", "over", "from"],
     "grant": ["rights", "over", "to"],
     "create": ["kind", "rights"],
@@ -114,8 +116,6 @@ def refusals():
         "other-case": b'{"op":"Look","at":1}',
         "no-word": b'{"op":"","at":1}',
         "before-the-other-faults": b'{"op":"steal","over":-1,"x":1}',
-        "collect": b'{"op":"collect"}',
-        "cycle": b'{"op":"cycle"}',
         "audit-field": b'{"actor":1,"at":1}',
     }
     for name, line in ops.items():
@@ -289,7 +289,7 @@ def answers():
         (b'{"op":"shade","seat":18446744073709551615}', b'{"error":"no seat"}'),
         (b'{"at":1,"op":"look","seat":64}', b'{"error":"no seat"}'),
     )
-    yield after_hello("no-actor", *[(line_of(op, extra=[("seat", "1")]), b'{"error":"no actor"}') for op in REQUIRED if op != "hello"])
+    yield after_hello("no-actor", *[(line_of(op, extra=[("seat", "1")]), b'{"error":"no actor"}') for op in REQUIRED if op not in ("hello", "collect", "cycle")])
     yield after_hello("grant", create, shade, (b'{"op":"grant","over":3,"rights":"rg","to":2}', DONE), shade, (b'{"at":2,"op":"look"}', b'{"edges":[[3,"rg"]],"ok":"edges"}'))
     yield after_hello(
         "take",
@@ -316,7 +316,33 @@ def answers():
     )
 
 
+def collector():
+    """Collector steps and cycles. Over one principal alone a cycle has six steps: it shades her, takes her slot under scan, makes it black, goes to
+    the sweep, makes the slot white, and goes back to idle."""
+    one = b'{"cells":1,"principals":["alice"],"slots":1}'
+    collect = b'{"op":"collect"}'
+    cycle = b'{"op":"cycle"}'
+    steps = [b'{"ended":false,"freed":0,"phase":"mark"}'] * 3 + [b'{"ended":false,"freed":0,"phase":"sweep"}'] * 2 + [b'{"ended":true,"freed":0,"phase":"idle"}']
+    yield opening("collect-step-by-step", one, *[(collect, note) for note in steps], (collect, steps[0]))
+    yield opening("cycle-without-a-hello", one, (cycle, b'{"freed":0,"steps":6}'), (cycle, b'{"freed":0,"steps":6}'))
+    yield opening("cycle-ends-the-one-begun", one, (collect, steps[0]), (collect, steps[1]), (cycle, b'{"freed":0,"steps":4}'), (collect, steps[0]))
+    yield opening("seat-of-a-collector-line-is-not-used", one, (object_of([("op", '"collect"'), ("seat", "64")]), steps[0]), (object_of([("op", '"cycle"'), ("seat", "18446744073709551615")]), b'{"freed":0,"steps":5}'))
+    for op in ["collect", "cycle"]:
+        line = object_of([("op", '"%s"' % op), ("seat", "null"), ("x", "1")])
+        yield opening("a-refused-%s-makes-no-step" % op, one, (line, BAD), (object_of([("op", '"%s"' % op), ("at", "1")]), UNKNOWN_FIELD), (cycle, b'{"freed":0,"steps":6}'))
+    create = b'{"kind":"document","op":"create","rights":"r"}'
+    yield opening("full-of-slots", one.replace(b'"slots":1', b'"slots":1,"next":9'), (HELLO, WELCOME), (create, b'{"full":"slots"}'), (b'{"op":"shade"}', b'{"shaded":null}'))
+    yield opening(
+        "full-of-serials-before-slots-and-cells",
+        b'{"cells":1,"edges":[[1,"t",2]],"next":18446744073709551615,"principals":["alice","bob"],"slots":2}',
+        (HELLO, WELCOME),
+        (create, b'{"full":"serials"}'),
+    )
+    yield opening("full-of-slots-before-cells", b'{"cells":1,"edges":[[1,"t",2]],"principals":["alice","bob"],"slots":2}', (HELLO, WELCOME), (create, b'{"full":"slots"}'))
+    yield opening("full-of-cells", b'{"cells":1,"edges":[[1,"t",2]],"principals":["alice","bob"],"slots":3}', (HELLO, WELCOME), (create, b'{"full":"cells"}'))
+
+
 def tests():
     """All runs, each as a name, words, input, output and status."""
-    for group in (refusals, readings, texts, ends, configurations, answers):
+    for group in (refusals, readings, texts, ends, configurations, answers, collector):
         yield from group()

@@ -62,12 +62,37 @@ def refused(*words):
     return test
 
 
+def accepted(*words):
+    """A command line that asks for a run: the lines are answered."""
+
+    def test(program):
+        ran = subprocess.run([str(program), *words], input=CONFIG + HELLO, capture_output=True, timeout=SECONDS)
+        return (ran.stdout, ran.returncode) == (b'{"ok":"hello","vertex":1}\n', 0)
+
+    return test
+
+
+def helped(*words):
+    """A command line that asks for help: a text on standard output, status 0."""
+
+    def test(program):
+        ran = subprocess.run([str(program), *words], input=b"", capture_output=True, timeout=SECONDS)
+        return ran.returncode == 0 and b"run" in ran.stdout and ran.stderr == b""
+
+    return test
+
+
 def tests():
     """All tests by their names."""
     yield "answers-come-at-once", answers_come_at_once
     yield "input-that-cannot-be-read", input_that_cannot_be_read
     yield "output-that-cannot-be-written", output_that_cannot_be_written
     yield "nothing-to-write", nothing_to_write
+    yield "the-mode-alone", accepted("run")
+    yield "dashes-behind-the-mode", accepted("run", "--")
+    yield "dashes-before-the-mode", refused("--", "run")
+    yield "help", helped("--help")
+    yield "help-on-the-mode", helped("run", "--help")
     yield "no-word", refused()
     yield "another-word", refused("steal")
     yield "a-word-too-many", refused("run", "now")

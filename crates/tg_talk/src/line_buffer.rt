@@ -69,11 +69,20 @@ impl LineBuffer {
     pub fn new(alloc: Global) -> Result<LineBuffer, AllocError>
         ensures { IfOk result (λ buffer. buffer ≡ []) }
     {
-        Ok(LineBuffer {
-            bytes: vec![in alloc; 0; CAPACITY]?,
+        let bytes = vec![in alloc; 0; CAPACITY]?;
+        Ok(LineBuffer::over(bytes))
+    }
+
+    // Nothing read, over this memory.
+    fn over(bytes: Vec<u8>) -> LineBuffer
+        requires { length bytes.items ≡ 32768 }
+        ensures { result ≡ [] }
+    {
+        LineBuffer {
+            bytes,
             start: 0,
             end: 0,
-        })
+        }
     }
 
     /// Lends the bytes. Takes no memory.

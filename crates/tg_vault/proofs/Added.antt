@@ -14,17 +14,17 @@ use Rattle.tg_vault.specs.Contents.{Contents, Runs, moment}
 use Rattle.tg_vault.specs.Added.{asked_in, replies_from, AddsAsked}
 
 -- what answers add to a moment
-record Adds (m : Moment) (answers : List Answer) (n : Moment) : Type 0 where
-  added : List Entry
-  history : n.history ≡ m.history ++ added
-  graph : n.world.graph ≡ graph_of m.world.graph added
-  asked : asked_in answers ≡ replies_from m.world.graph (length m.history) added
+pub record Adds (m : Moment) (answers : List Answer) (n : Moment) : Type 0 where
+  pub added : List Entry
+  pub history : n.history ≡ m.history ++ added
+  pub graph : n.world.graph ≡ graph_of m.world.graph added
+  pub asked : asked_in answers ≡ replies_from m.world.graph (length m.history) added
 
 -- nothing is added
 same : (m n : Moment) (answers : List Answer) → n.history ≡ m.history → n.world.graph ≡ m.world.graph → asked_in answers ≡ [] → Adds m answers n
 same m n answers h g a = record { added = []; history = h ∙ sym (append-nil m.history); graph = g; asked = a }
 
-step_adds : (limits : Limits) (names : List (List ℕ)) (m : Moment) (e : Event) (a : Answer) (n : Moment) → Step limits names m e a n → Adds m (a ∷ []) n
+pub step_adds : (limits : Limits) (names : List (List ℕ)) (m : Moment) (e : Event) (a : Answer) (n : Moment) → Step limits names m e a n → Adds m (a ∷ []) n
 step_adds limits names m (event.Hello seat name) (answer.Hello x) n h = same m n _ (ap (λ (k : Moment). k.history) h.2) (ap (λ (k : Moment). k.world.graph) h.2) refl
 step_adds limits names m (event.Hello seat name) (answer.Seat fault) n h = same m n _ (ap (λ (k : Moment). k.history) h.1) (ap (λ (k : Moment). k.world.graph) h.1) refl
 step_adds limits names m (event.Bye seat) answer.Bye n h = same m n _ (ap (λ (k : Moment). k.history) h.1) (ap (λ (k : Moment). k.world.graph) h.1) refl
@@ -41,6 +41,7 @@ step_adds limits names m (event.Ask seat c) (answer.Asked number reply) n h =
 step_adds limits names m (event.Ask seat c) (answer.Ask fault) n h = same m n _ (ap (λ (k : Moment). k.history) h.1) (ap (λ (k : Moment). k.world.graph) h.1) refl
 step_adds limits names m (event.Shade seat) (answer.Shaded target) n h = same m n _ (ap (λ (k : Moment). k.history) h.2) (ap (λ (k : Moment). k.world.graph) h.2) refl
 step_adds limits names m (event.Shade seat) (answer.Seat fault) n h = same m n _ (ap (λ (k : Moment). k.history) h.1) (ap (λ (k : Moment). k.world.graph) h.1) refl
+step_adds limits names m event.Collect (answer.Noted note) n h = same m n _ (ap (λ (k : Moment). k.history) h.2) (ap (λ (k : Moment). k.world.graph) h.2) refl
 step_adds limits names m _ _ n h = absurd h
 
 asked_append : (xs ys : List Answer) → asked_in (xs ++ ys) ≡ asked_in xs ++ asked_in ys
@@ -49,6 +50,7 @@ asked_append (answer.Hello x ∷ xs) ys = asked_append xs ys
 asked_append (answer.Bye ∷ xs) ys = asked_append xs ys
 asked_append (answer.Asked number reply ∷ xs) ys = ap (λ all. (number, reply) ∷ all) (asked_append xs ys)
 asked_append (answer.Shaded target ∷ xs) ys = asked_append xs ys
+asked_append (answer.Noted note ∷ xs) ys = asked_append xs ys
 asked_append (answer.Seat fault ∷ xs) ys = asked_append xs ys
 asked_append (answer.Ask fault ∷ xs) ys = asked_append xs ys
 

@@ -1,5 +1,5 @@
 -- Worlds, and what each event may answer in one.
-use Rattle.std.specs.Prelude.{◌≡◌, ℕ, ◌+◌, Bool, cond, nat_lt, ◌==◌, List, [], ◌∷◌, ◌++◌, length, get_or, slice_set, Option, Some, None, is_some}
+use Rattle.std.specs.Prelude.{◌≡◌, ◌↔◌, ◌≤◌, ℕ, ◌+◌, Bool, true, cond, nat_lt, ◌==◌, List, [], ◌∷◌, ◌++◌, length, get_or, slice_set, Option, Some, None, is_some}
 use Rattle.std.specs.Option.{option_map}
 use Rattle.std.specs.List.{position}
 use Rattle.std.specs.Cmp.Lexicographic.{pointwise}
@@ -10,7 +10,7 @@ use Rattle.tg_rights.specs.declared.outcome.Outcome.TheVariants as outcome
 use Rattle.tg_rights.specs.declared.outcome.Which.TheVariants as which
 use Rattle.tg_rights.specs.declared.outcome.Reply.{Reply}
 use Rattle.tg_graph.specs.Protection.{Protection}
-use Rattle.tg_graph.specs.Rules.{next_graph, reply_of}
+use Rattle.tg_graph.specs.Rules.{Allowed, is_create, last_serial, next_graph, reply_of}
 use Rattle.tg_vault.specs.declared.entry.Entry.{Entry}
 use Rattle.tg_vault.specs.declared.event.SeatFault.{SeatFault}
 use Rattle.tg_vault.specs.declared.event.SeatFault.TheVariants as seat_fault
@@ -29,6 +29,8 @@ pub record World : Type 0 where
   pub seats : List (Option ℕ)
   -- the unfinished target of each seat that has one
   pub pending : List (Option ℕ)
+  -- the slots that are not free
+  pub used : ℕ
 
 -- a world, and the entries given so far
 pub record Moment : Type 0 where
@@ -97,12 +99,19 @@ abbrev pub with_target : List (Option ℕ) → ℕ → Option ℕ → List (Opti
 with_target pending seat None = pending
 with_target pending seat (Some target) = slice_set pending seat (Some target)
 
+-- an allowed create takes a slot
+abbrev pub slots_taken : Command → Outcome → ℕ
+slots_taken c outcome.Allowed = cond (is_create c) 1 0
+slots_taken c (outcome.Denied rule cause) = 0
+slots_taken c (outcome.Full which) = 0
+
 -- the world, and the entries, after an entry
 abbrev pub entered : Moment → Entry → Moment
 entered m e = record {
   world = record m.world {
     graph = next_graph m.world.graph e.actor e.command e.outcome;
     pending = with_target m.world.pending e.seat (target_of m.world.graph e.command e.outcome);
+    used = m.world.used + slots_taken e.command e.outcome;
   };
   history = m.history ++ e ∷ [];
 }
@@ -113,19 +122,19 @@ with_seats m seats = record m { world = record m.world { seats = seats } }
 abbrev pub with_pending : Moment → List (Option ℕ) → Moment
 with_pending m pending = record m { world = record m.world { pending = pending } }
 
--- as long as nothing is stored in slots, only serials are used up
-abbrev pub UsesUpSerialsAlone : Outcome → Type 0
-UsesUpSerialsAlone outcome.Allowed = Unit {0}
-UsesUpSerialsAlone (outcome.Denied rule cause) = Unit {0}
-UsesUpSerialsAlone (outcome.Full which.Serials) = Unit {0}
-UsesUpSerialsAlone (outcome.Full which.Slots) = ⊥
-UsesUpSerialsAlone (outcome.Full which.Cells) = ⊥
+abbrev pub with_used : Moment → ℕ → Moment
+with_used m used = record m { world = record m.world { used = used } }
+
+-- full for slots exactly where the rules allow a create, a serial is left for it and each slot is in use
+abbrev pub ExactSlots : Limits → World → ℕ → Command → Outcome → Type 0
+ExactSlots limits w x c o =
+    (o ≡ outcome.Full which.Slots) ↔ ((is_create c ≡ true) × Allowed w.graph x c × (w.graph.next ≤ last_serial) × (w.used ≡ limits.slots))
 
 -- the command of the actor at the seat is entered with this outcome
 pub record Enters (limits : Limits) (m : Moment) (seat actor : ℕ) (c : Command) (reply : Reply) (n : Moment) : Type 0 where
   pub outcome : Outcome
   pub permitted : Permitted limits m.world.graph actor c outcome
-  pub exact : UsesUpSerialsAlone outcome
+  pub exact : ExactSlots limits m.world actor c outcome
   pub replied : reply ≡ reply_of m.world.graph c outcome
   pub left : n ≡ entered m (record { seat = seat; actor = actor; command = c; outcome = outcome })
 
@@ -143,6 +152,7 @@ Step limits names m (event.Ask seat c) (answer.Ask fault) n = IsAskFault m.world
 Step limits names m (event.Shade seat) (answer.Shaded target) n =
     (shade_fault m.world seat ≡ None) × (target ≡ at_seat m.world.pending seat) × (n ≡ with_pending m (slice_set m.world.pending seat None))
 Step limits names m (event.Shade seat) (answer.Seat fault) n = (shade_fault m.world seat ≡ Some fault) × (n ≡ m)
+Step limits names m event.Collect (answer.Noted note) n = (used : ℕ) × (m.world.used ≡ used + note.freed) × (n ≡ with_used m used)
 Step limits names m _ _ n = ⊥
 
 -- the events may be answered so, one after another

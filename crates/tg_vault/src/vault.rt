@@ -1,26 +1,32 @@
-//! The vault: the seats, and the history of their commands over the graph that they change.
-ghost use Rattle.std.specs.Prelude.{◌≡◌, ◌≢◌, ◌<◌, ◌≤◌, ◌+◌, ◌∷◌, ◌++◌, [], ℕ, length, slice_get, slice_set, replicate, Some, None, IfOk, IfErr, IfSome, IfNone, OnErr, OnOk, MatchResult, MatchOption, All, map, take};
-ghost use Rattle.std.specs.Prelude.{◌==◌};
+//! The vault: the seats, the store, and the history of the commands.
+ghost use Rattle.std.specs.Prelude.{◌≡◌, ◌==◌, ◌<◌, ◌≤◌, ◌+◌, length, slice_get, replicate, Some, None, IfOk, IfErr, IfSome, IfNone, OnErr, MatchResult, take};
 ghost use Rattle.std.specs.List.{position};
 ghost use Rattle.std.specs.Cmp.Lexicographic.{pointwise};
 ghost use Rattle.tg_rights.specs.declared.outcome.Outcome.{Outcome};
 ghost use Rattle.tg_graph.specs.Opening.{opening, first_fault, IsRefusal};
-ghost use Rattle.tg_graph.specs.Rules.{reply_of};
 ghost use Rattle.tg_vault.specs.declared.entry.Entry.{Entry};
 ghost use Rattle.tg_vault.specs.declared.event.Event.TheVariants as event;
 ghost use Rattle.tg_vault.specs.declared.event.Answer.TheVariants as answer;
-ghost use Rattle.tg_vault.specs.declared.event.AskFault.TheVariants as ask_fault;
-ghost use Rattle.tg_vault.specs.declared.event.SeatFault.TheVariants as seat_fault;
-ghost use Rattle.tg_vault.specs.World.{at_seat, allowed_target, target_of, with_target, principal_named, hello_fault, bye_fault, shade_fault, ask_refusal, Enters, IsAskFault};
-ghost use Rattle.tg_vault.specs.Contents.{Contents, Answers, fresh, Runs, Keeps, IsVault, moment, graph_now};
-ghost use Rattle.tg_vault.specs.Told.{told, told_target};
+ghost use Rattle.tg_collect.specs.Views.{IsStore};
+ghost use Rattle.tg_collect.specs.Sessions.{Shaded};
+ghost use Rattle.tg_vault.specs.World.{at_seat, principal_named, bye_fault, shade_fault, ask_refusal, Enters, IsAskFault};
+ghost use Rattle.tg_vault.specs.Contents.{Contents, Answers, IsFresh, Runs, Keeps, IsVault, moment};
+ghost use Rattle.tg_vault.specs.Fits.{Fits, IsSmall, Joins};
+ghost use Rattle.tg_vault.specs.Moves.{StoreActs, StoreMoves};
+ghost use Rattle.tg_vault.specs.Told.{told};
 ghost use Rattle.tg_vault.specs.Added.{AddsAsked};
 ghost use Rattle.tg_vault.specs.Agreement.{SameForAgreeing};
+ghost use Rattle.tg_vault.specs.Exact.{IsExact};
+ghost use Rattle.tg_vault.specs.Course.{Course};
+ghost use Rattle.tg_vault.specs.Cycles.{IsBounded, IsCycle};
+ghost use Rattle.tg_vault.specs.Headline.{Headline};
 
 use crate::entry::Entry;
 use crate::event::{Answer, AskFault, Event, SeatFault};
+use crate::serve::answer;
 use std::alloc::{AllocError, Global};
 use std::marker::Model;
+use tg_collect::{Note, Store, runs_are_complete_and_bounded};
 use tg_graph::config::{Config, OpenFault};
 use tg_graph::graph::Graph;
 use tg_rights::{Command, Outcome, Reply, Word};
@@ -28,9 +34,9 @@ use tg_rights::{Command, Outcome, Reply, Word};
 /// How many seats there are: seats are numbered from 0 to 63.
 pub const SEATS: u64 = 64;
 
-/// The whole state of the server: the opening graph with its principals' names, the seats, the unfinished target of each
-/// seat, and the history of commands. Each call is one atomic step. Contracts see its `Contents`; the graph that it
-/// changes is the graph of the history, so they need not see it.
+/// The whole state of the server: the opening graph with its principals' names, the seats, the store with its collector
+/// and the unfinished target of each seat, and the history of commands. Each call is one atomic step. Contracts see its
+/// `Contents`; the graph of the history stands in them alone, and what is stored is what of it is still in use.
 ///
 /// The history is kept whole, and is legal: each entry's outcome is one that the take-grant rules (Lipton and Snyder
 /// 1977; Bishop) permit in the graph that the entries before it leave.
@@ -38,25 +44,35 @@ pub const SEATS: u64 = 64;
 pub struct Vault {
     alloc: Global,
     opening: Graph,
-    graph: Graph,
     names: Vec<Word>,
     slots: u64,
     cells: u64,
-    seats: [Option<u64>; 64],
-    pending: [Option<u64>; 64],
+    seats: Vec<Option<u64>>,
+    store: Store,
+    next: u64,
     history: Vec<Entry>,
 }
 
 impl Model for Vault {
-    ghost use Rattle.tg_vault.specs.Contents.{Contents, Follows, contents_code};
+    ghost use Rattle.tg_vault.specs.Contents.{Contents, contents_code};
+    ghost use Rattle.tg_vault.specs.Fits.{IsJoined};
 
     ghost Value = { Contents };
 
     ghost coded = { contents_code };
 
-    ghost view = { λ v. record { opening = v.opening; names = v.names.items; limits = record { slots = v.slots; cells = v.cells }; seats = v.seats; pending = v.pending; history = v.history.items } };
+    ghost view = { λ v. record { opening = v.opening; names = v.names.items; limits = record { slots = v.slots; cells = v.cells }; seats = v.seats.items; store = v.store; history = v.history.items } };
 
-    ghost invariant = { λ v. Follows (record { opening = v.opening; names = v.names.items; limits = record { slots = v.slots; cells = v.cells }; seats = v.seats; pending = v.pending; history = v.history.items }) v.graph };
+    ghost invariant = { λ v. IsJoined (record { opening = v.opening; names = v.names.items; limits = record { slots = v.slots; cells = v.cells }; seats = v.seats.items; store = v.store; history = v.history.items }) v.next };
+}
+
+/// What the collector steps of a cycle did.
+#[derive(Clone, Copy, PartialEq, Eq, Debug)]
+pub struct Swept {
+    /// The slots that were freed.
+    pub freed: u64,
+    /// The collector steps.
+    pub steps: u64,
 }
 
 /// What a run of events leaves.
@@ -78,11 +94,15 @@ fn at_seat(table: &[Option<u64>], seat: u64) -> Option<u64>
     }
 }
 
-/// A table with nobody at any seat.
-fn empty_table() -> [Option<u64>; 64]
-    ensures { result ≡ replicate 64 None }
+/// Seats that nobody has.
+fn empty_seats(alloc: Global) -> Result<Vec<Option<u64>>, AllocError>
+    ensures { IfOk result (λ seats. seats.items ≡ replicate 64 None) }
 {
-    [None; 64]
+    let mut seats = Vec::with_capacity(alloc, SEATS as usize)?;
+    while seats.len() < SEATS as usize {
+        seats.push(None)?;
+    }
+    Ok(seats)
 }
 
 /// The place of the name in the list.
@@ -103,16 +123,6 @@ fn principal_named(names: &[Word], name: &str) -> Option<u64>
     }
 }
 
-/// Sets the seat's unfinished target where there is one.
-fn set_target(pending: &mut [Option<u64>], seat: u64, target: Option<u64>)
-    requires { seat < length pending.old }
-    ensures { pending.new ≡ with_target pending.old seat target }
-{
-    if let Some(serial) = target {
-        pending[seat as usize] = Some(serial);
-    }
-}
-
 /// The outcome that the reply tells of.
 fn outcome_of(reply: &Reply) -> Outcome
     ensures { result ≡ told reply.now }
@@ -124,53 +134,60 @@ fn outcome_of(reply: &Reply) -> Outcome
     }
 }
 
-/// The unfinished target of a command that was answered so.
-fn target_of(command: &Command, reply: &Reply) -> Option<u64>
-    ensures { result ≡ told_target command.now reply.now }
+/// The entry of a command that was answered so.
+fn entry_of(seat: u64, actor: u64, command: Command, reply: &Reply) -> Entry
+    ensures { result ≡ record { seat = seat; actor = actor; command = command; outcome = told reply.now } }
 {
-    match reply {
-        Reply::Created(serial) => Some(*serial),
-        Reply::Done => match command {
-            Command::Take { over, .. } => Some(*over),
-            Command::Grant { over, .. } => Some(*over),
-            _ => None,
-        },
-        _ => None,
+    let outcome = outcome_of(reply);
+    Entry {
+        seat,
+        actor,
+        command,
+        outcome,
     }
 }
 
 impl Vault {
-    /// A vault over the graph that the configuration opens: no entries, no seat in use, and the configuration's names.
-    /// Otherwise the first fault of the configuration, as of `Graph::build`; `OutOfMemory` only where there is no other.
+    /// A vault over the graph that the configuration opens: no entries, no seat in use, the configuration's names, and
+    /// the graph in the store. Otherwise the first fault of the configuration, as of `Graph::build`; `OutOfMemory` only
+    /// where there is no other.
     pub fn new(alloc: Global, config: Config) -> Result<Vault, OpenFault>
-        ensures ok { IfOk result (λ vault. vault ≡ fresh config) }
+        ensures ok { IfOk result (λ vault. IsFresh config vault) }
         ensures sound { IfOk result (λ _. first_fault config ≡ None) }
         ensures err { IfErr result (λ fault. IsRefusal config fault) }
     {
         let opening = Graph::build(alloc, &config)?;
-        let Ok(graph) = opening.copy() else {
+        let Ok(store) = Store::new(alloc, &opening, config.slots as u32, config.cells as u32) else {
             return Err(OpenFault::OutOfMemory);
         };
-        tg_graph::openings_are_sound();
+        store.soundness();
+        let Ok(seats) = empty_seats(alloc) else {
+            return Err(OpenFault::OutOfMemory);
+        };
         Ok(Vault {
             alloc,
             opening,
-            graph,
             names: config.principals,
             slots: config.slots,
             cells: config.cells,
-            seats: empty_table(),
-            pending: empty_table(),
+            seats,
+            store,
+            next: config.next,
             history: Vec::new(alloc),
         })
     }
 
-    /// Does nothing. By its clause a caller learns what every vault has: a legal history of seats from 0 to 63, tables of
-    /// 64 seats, and only principals in them.
+    /// Does nothing. By its clauses a caller learns what every vault has: a legal history of seats from 0 to 63, a table
+    /// of 64 seats with only principals in them, and a store that fits the graph of the history.
     pub fn soundness(&self)
-        ensures { IsVault self.now }
+        ensures vault { IsVault self.now }
+        ensures small { IsSmall self.now }
+        ensures joins { Joins self.now }
+        ensures fits { Fits self.now }
+        ensures store { IsStore self.now.store }
     {
-        let _ = &self.history;
+        self.opening.soundness();
+        self.store.soundness();
     }
 
     /// The number of entries in the history.
@@ -201,11 +218,13 @@ impl Vault {
     pub fn hello(&mut self, seat: u64, name: &str) -> Result<u64, SeatFault>
         ensures step { MatchResult result (λ x. Answers self.old (event.Hello seat name.now) (answer.Hello x) self.new) (λ fault. Answers self.old (event.Hello seat name.now) (answer.Seat fault) self.new) }
         ensures keeps { Keeps self.old self.new }
+        ensures store { self.new.store ≡ self.old.store }
+        ensures unchanged { OnErr result (self.new ≡ self.old) }
     {
         if seat >= SEATS {
             return Err(SeatFault::NoSeat);
         }
-        if at_seat(&self.seats, seat).is_some() {
+        if at_seat(self.seats.as_slice(), seat).is_some() {
             return Err(SeatFault::Bound);
         }
         match principal_named(self.names.as_slice(), name) {
@@ -225,7 +244,7 @@ impl Vault {
         if seat >= SEATS {
             return Err(SeatFault::NoSeat);
         }
-        match at_seat(&self.seats, seat) {
+        match at_seat(self.seats.as_slice(), seat) {
             Some(principal) => Ok(principal),
             None => Err(SeatFault::NoActor),
         }
@@ -233,11 +252,11 @@ impl Vault {
 
     /// The principal at the seat, which has no unfinished target.
     fn idle_at(&self, seat: u64) -> Result<u64, SeatFault>
-        ensures ok { IfOk result (λ x. (seat < 64) × (at_seat self.now.seats seat ≡ Some x) × (at_seat self.now.pending seat ≡ None)) }
+        ensures ok { IfOk result (λ x. (seat < 64) × (at_seat self.now.seats seat ≡ Some x) × (at_seat self.now.store.unfinished seat ≡ None)) }
         ensures err { IfErr result (λ fault. bye_fault (moment self.now).world seat ≡ Some fault) }
     {
         let principal = self.principal_at(seat)?;
-        if at_seat(&self.pending, seat).is_some() {
+        if self.store.pending(seat).is_some() {
             return Err(SeatFault::Busy);
         }
         Ok(principal)
@@ -248,6 +267,8 @@ impl Vault {
     pub fn bye(&mut self, seat: u64) -> Result<(), SeatFault>
         ensures step { MatchResult result (λ _. Answers self.old (event.Bye seat) answer.Bye self.new) (λ fault. Answers self.old (event.Bye seat) (answer.Seat fault) self.new) }
         ensures keeps { Keeps self.old self.new }
+        ensures store { self.new.store ≡ self.old.store }
+        ensures unchanged { OnErr result (self.new ≡ self.old) }
     {
         self.idle_at(seat)?;
         self.seats[seat as usize] = None;
@@ -259,11 +280,27 @@ impl Vault {
     pub fn shade(&mut self, seat: u64) -> Result<Option<u64>, SeatFault>
         ensures step { MatchResult result (λ target. Answers self.old (event.Shade seat) (answer.Shaded target) self.new) (λ fault. Answers self.old (event.Shade seat) (answer.Seat fault) self.new) }
         ensures keeps { Keeps self.old self.new }
+        ensures shaded { IfOk result (λ target. Shaded self.old.store self.new.store seat target) }
+        ensures acts { StoreActs self.old self.new }
+        ensures unchanged { OnErr result (self.new ≡ self.old) }
     {
         self.principal_at(seat)?;
-        let target = at_seat(&self.pending, seat);
-        self.pending[seat as usize] = None;
+        self.store.soundness();
+        let target = self.store.shade(seat);
+        self.store.soundness();
         Ok(target)
+    }
+
+    /// One step of the collector, as its table has it. Takes no memory.
+    pub fn collect(&mut self) -> Note
+        ensures step { Answers self.old event.Collect (answer.Noted result) self.new }
+        ensures keeps { Keeps self.old self.new }
+        ensures moves { StoreMoves self.old event.Collect (answer.Noted result) self.new }
+    {
+        self.store.soundness();
+        let note = self.store.collect();
+        self.store.soundness();
+        note
     }
 
     /// Judges the command of the seat's principal, carries it out where it is allowed, and enters it in the history with
@@ -280,6 +317,9 @@ impl Vault {
         ensures step { MatchResult result (λ r. Answers self.old (event.Ask seat command) (answer.Asked r.0 r.1) self.new) (λ fault. Answers self.old (event.Ask seat command) (answer.Ask fault) self.new) }
         ensures keeps { Keeps self.old self.new }
         ensures agrees { IfOk result (λ r. SameForAgreeing self.old self.new r.1) }
+        ensures exact { IfOk result (λ r. IsExact self.old self.new) }
+        ensures acts { StoreActs self.old self.new }
+        ensures unchanged { OnErr result (self.new ≡ self.old) }
     {
         let actor = self.ready_at(seat)?;
         match self.enter(seat, actor, command) {
@@ -290,7 +330,7 @@ impl Vault {
 
     /// The actor of the seat's next command.
     fn ready_at(&self, seat: u64) -> Result<u64, AskFault>
-        ensures ok { IfOk result (λ x. (seat < 64) × (at_seat self.now.seats seat ≡ Some x) × (ask_refusal (moment self.now).world seat ≡ None)) }
+        ensures ok { IfOk result (λ x. (seat < 64) × (at_seat self.now.seats seat ≡ Some x) × (at_seat self.now.store.unfinished seat ≡ None) × (ask_refusal (moment self.now).world seat ≡ None)) }
         ensures err { IfErr result (λ fault. IsAskFault (moment self.now).world seat fault) }
     {
         match self.idle_at(seat) {
@@ -305,50 +345,51 @@ impl Vault {
     fn enter(&mut self, seat: u64, actor: u64, command: Command) -> Result<(u64, Reply), AllocError>
         requires seat { seat < 64 }
         requires seated { at_seat self.old.seats seat ≡ Some actor }
+        requires idle { at_seat self.old.store.unfinished seat ≡ None }
         ensures number { IfOk result (λ r. r.0 ≡ length self.old.history) }
         ensures ok { IfOk result (λ r. Enters self.old.limits (moment self.old) seat actor command r.1 (moment self.new)) }
         ensures err { OnErr result (self.new ≡ self.old) }
         ensures keeps { Keeps self.old self.new }
         ensures agrees { IfOk result (λ r. SameForAgreeing self.old self.new r.1) }
+        ensures exact { IfOk result (λ r. IsExact self.old self.new) }
+        ensures acts { StoreActs self.old self.new }
     {
         let number = self.count();
         self.history.try_reserve(1)?;
-        let asked = command.copy()?;
         self.opening.soundness();
-        tg_graph::commands_keep_graphs();
-        tg_graph::outcomes_agree();
-        tg_graph::replies_agree();
-        let reply = self.graph.apply(actor, asked)?;
-        set_target(&mut self.pending, seat, target_of(&command, &reply));
-        let entry = Entry {
+        self.store.soundness();
+        let reply = answer(
+            &mut self.store,
+            &mut self.next,
+            self.alloc,
             seat,
             actor,
-            outcome: outcome_of(&reply),
-            command,
-        };
+            &command,
+        )?;
+        self.store.soundness();
+        let entry = entry_of(seat, actor, command, &reply);
         self.history.push(entry)?;
         Ok((number, reply))
     }
 
-    /// Enters a copy of the command.
+    /// Carries out a copy of the command, which is made only once the seat has no fault.
     fn command_copy(&mut self, seat: u64, command: &Command) -> Result<(u64, Reply), AskFault>
         ensures step { MatchResult result (λ r. Answers self.old (event.Ask seat command.now) (answer.Asked r.0 r.1) self.new) (λ fault. Answers self.old (event.Ask seat command.now) (answer.Ask fault) self.new) }
         ensures keeps { Keeps self.old self.new }
+        ensures acts { StoreActs self.old self.new }
     {
-        let actor = self.ready_at(seat)?;
+        self.ready_at(seat)?;
         let Ok(copy) = command.copy() else {
             return Err(AskFault::OutOfMemory);
         };
-        match self.enter(seat, actor, copy) {
-            Ok(entered) => Ok(entered),
-            Err(_) => Err(AskFault::OutOfMemory),
-        }
+        self.command(seat, copy)
     }
 
     /// Carries out one event.
     fn step(&mut self, event: &Event) -> Answer
         ensures step { Answers self.old event.now result self.new }
         ensures keeps { Keeps self.old self.new }
+        ensures moves { StoreMoves self.old event.now result self.new }
     {
         match event {
             Event::Hello { seat, name } => match self.hello(*seat, name.get()) {
@@ -367,6 +408,27 @@ impl Vault {
                 Ok(target) => Answer::Shaded(target),
                 Err(fault) => Answer::Seat(fault),
             },
+            Event::Collect => Answer::Noted(self.collect()),
+        }
+    }
+
+    /// Collector steps up to and with the first that ends a cycle: how many slots they freed, and how many they were. There
+    /// are at most `S * S + 3 * S + C + 3`, for S slots and C cells. Takes no memory.
+    pub fn cycle(&mut self) -> Swept
+        ensures cycle { IsCycle self.old result self.new }
+        ensures keeps { Keeps self.old self.new }
+    {
+        self.soundness();
+        let mut freed = 0;
+        let mut steps = 0;
+        'step: loop {
+            let note = self.collect();
+            self.soundness();
+            freed += note.freed;
+            steps += 1;
+            if note.ended {
+                return Swept { freed, steps };
+            }
         }
     }
 
@@ -375,28 +437,41 @@ impl Vault {
     /// `Ask(OutOfMemory)`, after the seat's faults.
     ///
     /// The answers are a run of the world that the history gives, and the entries added are those of the `Asked` answers.
+    /// Each command is carried out exactly when the take-grant rules (Lipton and Snyder 1977; Bishop) allow it in the graph
+    /// that is never collected, unless refused as full; every denial names its rule and missing rights; no vertex
+    /// reachable from a principal or an unfinished step loses its slot; what is unreachable when a cycle starts has no slot
+    /// when the next cycle ends (the collector of Dijkstra, Lamport, Martin, Scholten and Steffens 1978). Among any
+    /// `S * S + 3 * S + C + 3` collector steps in a row, for S slots and C cells, one ends a cycle.
     pub fn run(self, events: &[Event]) -> Ran
+        ensures headline { Headline self (take (length result.answers.items) events.now) result.answers.items result.vault }
         ensures run { Runs self (take (length result.answers.items) events.now) result.answers.items result.vault }
+        ensures course { Course self (take (length result.answers.items) events.now) result.answers.items result.vault }
         ensures added { AddsAsked self result.answers.items result.vault }
+        ensures bounded { IsBounded self result.answers.items }
         ensures few { length result.answers.items ≤ length events.now }
         ensures keeps { Keeps self result.vault }
     {
-        self.carry_out(events)
+        self.soundness();
+        runs_are_complete_and_bounded();
+        self.go(events)
     }
 
     /// The run, event by event.
-    fn carry_out(self, events: &[Event]) -> Ran
-        ensures run { Runs self (take (length result.answers.items) events.now) result.answers.items result.vault }
+    fn go(self, events: &[Event]) -> Ran
+        ensures course { Course self (take (length result.answers.items) events.now) result.answers.items result.vault }
         ensures few { length result.answers.items ≤ length events.now }
         ensures keeps { Keeps self result.vault }
+        ensures fits { Fits result.vault }
     {
         let mut vault = self;
+        vault.soundness();
         let mut answers = Vec::new(vault.alloc);
         for event in events {
             if answers.try_reserve(1).is_err() {
                 break;
             }
             let answer = vault.step(event);
+            vault.soundness();
             let Ok(()) = answers.push(answer) else {
                 unreachable!();
             };

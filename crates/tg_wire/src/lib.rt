@@ -21,4 +21,4 @@ pub use laws::{configs_say, goals_say, lines_say, one_reply_a_line, steps_say, w
 pub use line::Line;
 pub use read::{read_line, read_step};
 pub use refusal::{error_line, open_fault_line};
-pub use write::{write_answer, write_reply, write_verdict};
+pub use write::{write_answer, write_reply, write_swept, write_verdict};

@@ -1,8 +1,8 @@
-//! From a line to an event, and from a line to a step.
+//! From a line to what it asks for, and from a line to a step.
 
 ghost use Rattle.std.specs.Prelude.{◌≡◌, ◌≤◌, Err, length, option_map, map, codes, ◌∷◌, []};
 ghost use Rattle.serde_json.specs.View.{view};
-ghost use Rattle.tg_wire.specs.Ops.{command_in, event_in};
+ghost use Rattle.tg_wire.specs.Ops.{command_in, line_in};
 ghost use Rattle.tg_wire.specs.Lines.{line_of, step_of, op_in, rule_in};
 ghost use Rattle.tg_wire.specs.Reading.{Answers, AnswersField, or_else};
 ghost use Rattle.tg_wire.specs.declared.fault.WireFault.TheVariants.{NoOp, OutOfMemory};
@@ -18,7 +18,8 @@ use tg_graph::Step;
 use tg_rights::{Command, Rule};
 use tg_vault::Event;
 
-/// The value of an event line, or its first fault. `seat` is 0 where it is absent.
+/// The value of an event line, or its first fault. `seat` is 0 where it is absent; `collect` and `cycle` don't use it, but
+/// where it stands it is a number there too.
 #[tactic(auto, unfolding(crate::specs::Lines::line_of))]
 pub fn read_line(alloc: Global, bytes: &[u8]) -> Result<Line, WireFault>
     ensures answered { Answers result (line_of bytes.now) }
@@ -27,9 +28,9 @@ pub fn read_line(alloc: Global, bytes: &[u8]) -> Result<Line, WireFault>
     let value = object(alloc, bytes)?;
     let op = op(&value)?;
     has_required(op.required(), &value)?;
-    let event = event(alloc, op, &value)?;
+    let line = line(alloc, op, &value)?;
     knows_all(&["op", "seat"], op.required(), &value)?;
-    Ok(Line::Act(event))
+    Ok(line)
 }
 
 /// The value of a step line, or its first fault: one of the seven commands, with its actor and no seat.
@@ -62,20 +63,22 @@ fn rule(value: &Value) -> Result<Rule, WireFault>
     rule_named(word).ok_or(WireFault::NoOp)
 }
 
-fn event(alloc: Global, op: Op, value: &Value) -> Result<Event, WireFault>
-    ensures { AnswersField result (event_in op (view value.now)) }
+fn line(alloc: Global, op: Op, value: &Value) -> Result<Line, WireFault>
+    ensures { AnswersField result (line_in op (view value.now)) }
 {
     let seat = field::seat(value).ok_or(WireFault::BadField)?;
     match op {
         Op::Hello => {
             let name = field::word(alloc, value, "name")?;
-            Ok(Event::Hello { seat, name })
+            Ok(Line::Act(Event::Hello { seat, name }))
         }
-        Op::Bye => Ok(Event::Bye { seat }),
-        Op::Shade => Ok(Event::Shade { seat }),
+        Op::Bye => Ok(Line::Act(Event::Bye { seat })),
+        Op::Shade => Ok(Line::Act(Event::Shade { seat })),
+        Op::Collect => Ok(Line::Act(Event::Collect)),
+        Op::Cycle => Ok(Line::Cycle),
         Op::Ask(rule) => {
             let command = command(alloc, rule, value)?;
-            Ok(Event::Ask { seat, command })
+            Ok(Line::Act(Event::Ask { seat, command }))
         }
     }
 }

@@ -1,17 +1,18 @@
-//! Replies, answers and verdicts as JSON values.
+//! Replies, answers, cycles and verdicts as JSON values.
 
 ghost use Rattle.std.specs.Prelude.{◌≡◌, ◌++◌, [], IfOk, OnOk, string_bytes, if◌then◌else◌};
 ghost use Rattle.serde_json.specs.Data.{array};
 ghost use Rattle.serde_json.specs.View.{view};
 ghost use Rattle.tg_wire.specs.Replies.{rule_text as text_of_rule, which_text as text_of_which, rights_text as text_of_rights, edges_data, denied_data, reply_data};
-ghost use Rattle.tg_wire.specs.Answers.{answer_data, denied_step_data, verdict_data};
+ghost use Rattle.tg_wire.specs.Answers.{phase_text as text_of_phase, noted_data, answer_data, swept_data, denied_step_data, verdict_data};
 ghost use Rattle.tg_wire.specs.Faults.{seat_fault_text as text_of_seat_fault, ask_fault_text as text_of_ask_fault};
 
 use serde_json::{Value, json};
 use std::alloc::{AllocError, Global};
+use tg_collect::{Note, Phase};
 use tg_graph::Verdict;
 use tg_rights::{Cause, Reply, Rights, Rule, Which};
-use tg_vault::{Answer, AskFault, SeatFault};
+use tg_vault::{Answer, AskFault, SeatFault, Swept};
 
 fn rule_text(rule: Rule) -> &'static str
     ensures { result.now ≡ text_of_rule rule }
@@ -57,6 +58,16 @@ fn ask_fault_text(fault: AskFault) -> &'static str
         AskFault::NoActor => "no actor",
         AskFault::Busy => "busy",
         AskFault::OutOfMemory => "out of memory",
+    }
+}
+
+fn phase_text(phase: Phase) -> &'static str
+    ensures { result.now ≡ text_of_phase phase }
+{
+    match phase {
+        Phase::Idle => "idle",
+        Phase::Mark => "mark",
+        Phase::Sweep => "sweep",
     }
 }
 
@@ -125,6 +136,13 @@ pub(crate) fn reply_value(alloc: Global, reply: &Reply) -> Result<Value, AllocEr
     }
 }
 
+fn noted_value(alloc: Global, note: Note) -> Result<Value, AllocError>
+    ensures { IfOk result (λ value. view value ≡ noted_data note) }
+{
+    let phase = phase_text(note.phase);
+    json!(in alloc; {"ended": note.ended, "freed": note.freed, "phase": phase})
+}
+
 pub(crate) fn answer_value(alloc: Global, answer: &Answer) -> Result<Value, AllocError>
     ensures { IfOk result (λ value. view value ≡ answer_data answer.now) }
 {
@@ -136,7 +154,14 @@ pub(crate) fn answer_value(alloc: Global, answer: &Answer) -> Result<Value, Allo
         Answer::Shaded(None) => json!(in alloc; {"shaded": null}),
         Answer::Seat(fault) => json!(in alloc; {"error": seat_fault_text(*fault)}),
         Answer::Ask(fault) => json!(in alloc; {"error": ask_fault_text(*fault)}),
+        Answer::Noted(note) => noted_value(alloc, *note),
     }
+}
+
+pub(crate) fn swept_value(alloc: Global, swept: Swept) -> Result<Value, AllocError>
+    ensures { IfOk result (λ value. view value ≡ swept_data swept) }
+{
+    json!(in alloc; {"freed": swept.freed, "steps": swept.steps})
 }
 
 fn denied_step_value(

@@ -1,18 +1,18 @@
-//! From a reply, an answer or a verdict to its line.
+//! From a reply, an answer, a cycle or a verdict to its line.
 
 ghost use Rattle.std.specs.Prelude.{◌≡◌, IfOk, false};
 ghost use Rattle.serde_json.specs.View.{view};
 ghost use Rattle.serde_json.specs.Written.{has_float};
 ghost use Rattle.tg_wire.specs.Faults.{line_text};
 ghost use Rattle.tg_wire.specs.Replies.{reply_line};
-ghost use Rattle.tg_wire.specs.Answers.{answer_line, verdict_line};
+ghost use Rattle.tg_wire.specs.Answers.{answer_line, swept_line, verdict_line};
 
-use crate::value::{answer_value, reply_value, verdict_value};
+use crate::value::{answer_value, reply_value, swept_value, verdict_value};
 use serde_json::Value;
 use std::alloc::{AllocError, Global};
 use tg_graph::Verdict;
 use tg_rights::Reply;
-use tg_vault::Answer;
+use tg_vault::{Answer, Swept};
 
 /// The line of a reply, which ends with a line feed. Keys stand in rising order, with no white space.
 #[tactic(auto, using(crate::proofs::NoFloats::reply_no_float), unfolding(crate::specs::Replies::reply_line))]
@@ -29,6 +29,15 @@ pub fn write_answer(alloc: Global, answer: &Answer) -> Result<Vec<u8>, AllocErro
     ensures { IfOk result (λ line. line.items ≡ answer_line answer.now) }
 {
     let value = answer_value(alloc, answer)?;
+    line(alloc, &value)
+}
+
+/// The line of what a cycle did, which ends with a line feed. Keys stand in rising order, with no white space.
+#[tactic(auto, using(crate::proofs::NoFloats::swept_no_float), unfolding(crate::specs::Answers::swept_line))]
+pub fn write_swept(alloc: Global, swept: Swept) -> Result<Vec<u8>, AllocError>
+    ensures { IfOk result (λ line. line.items ≡ swept_line swept) }
+{
+    let value = swept_value(alloc, swept)?;
     line(alloc, &value)
 }
 

@@ -1,15 +1,17 @@
-//! One event line: read, carried out, answered.
+//! One line: read, carried out, answered.
 
 ghost use Rattle.std.specs.Prelude.{◌≡◌, Option};
 ghost use Rattle.tg_vault.specs.declared.event.Answer.{Answer};
+ghost use Rattle.tg_vault.specs.declared.vault.Swept.{Swept};
 ghost use Rattle.tg_vault.specs.Contents.{Keeps};
+ghost use Rattle.tg_vault.specs.Cycles.{IsCycle};
 ghost use Rattle.tg_wire.specs.Answers.{is_error as is_error_line};
 ghost use Rattle.tgdoc.specs.Runs.{RunsOver};
-ghost use Rattle.tgdoc.specs.Turns.{AnswersLine, TellsAnswer, steps_of, text_of, one_if};
+ghost use Rattle.tgdoc.specs.Turns.{AnswersLine, TellsAnswer, TellsSwept, steps_of, text_of, one_if};
 
 use std::alloc::Global;
-use tg_vault::{Answer, Event, Vault};
-use tg_wire::{Line, WireFault, read_line, write_answer};
+use tg_vault::{Answer, Event, Swept, Vault};
+use tg_wire::{Line, WireFault, read_line, write_answer, write_swept};
 
 /// A line that was answered: the vault after it, the answer's line or the fault whose line it is, and whether that is an
 /// `error` line.
@@ -20,28 +22,19 @@ pub(crate) struct Answered {
     pub is_error: bool,
 }
 
-/// Reads an event line, carries the event out and gives the answer's line.
+/// Reads a line, carries out its event or a cycle of the collector, and gives the answer's line.
 #[inline(always)]
 pub(crate) fn answer(alloc: Global, vault: Vault, bytes: &[u8]) -> Answered
     ensures { AnswersLine vault bytes.now result.vault (text_of result.text) (one_if result.is_error) }
 {
     match read_line(alloc, bytes) {
-        Ok(line) => carry_out(alloc, vault, event_of(line)),
+        Ok(Line::Act(event)) => carry_out(alloc, vault, event),
+        Ok(Line::Cycle) => sweep(alloc, vault),
         Err(fault) => Answered {
             vault,
             text: Err(fault),
             is_error: true,
         },
-    }
-}
-
-/// The event that a line asks for.
-#[inline(always)]
-fn event_of(line: Line) -> Event
-    ensures { line ≡ Line.Act result }
-{
-    match line {
-        Line::Act(event) => event,
     }
 }
 
@@ -57,6 +50,22 @@ fn carry_out(alloc: Global, vault: Vault, event: Event) -> Answered
     let told = tell(alloc, answers.pop());
     Answered {
         vault: ran.vault,
+        text: told.text,
+        is_error: told.is_error,
+    }
+}
+
+/// Carries out a cycle of the collector, and gives the line of what it did.
+#[inline(always)]
+fn sweep(alloc: Global, vault: Vault) -> Answered
+    ensures keeps { Keeps vault result.vault }
+    ensures swept { (swept : Swept) × IsCycle vault swept result.vault × TellsSwept swept (text_of result.text) result.is_error }
+{
+    let mut vault = vault;
+    let swept = vault.cycle();
+    let told = tell_swept(alloc, swept);
+    Answered {
+        vault,
         text: told.text,
         is_error: told.is_error,
     }
@@ -84,6 +93,22 @@ fn tell(alloc: Global, answer: Option<Answer>) -> Told
         Ok(line) => Told {
             text: Ok(line),
             is_error: is_error(&answer),
+        },
+        Err(_) => Told {
+            text: Err(WireFault::OutOfMemory),
+            is_error: true,
+        },
+    }
+}
+
+/// The line of what a cycle did, or that of the want of memory that stands in its place.
+fn tell_swept(alloc: Global, swept: Swept) -> Told
+    ensures { TellsSwept swept (text_of result.text) result.is_error }
+{
+    match write_swept(alloc, swept) {
+        Ok(line) => Told {
+            text: Ok(line),
+            is_error: false,
         },
         Err(_) => Told {
             text: Err(WireFault::OutOfMemory),

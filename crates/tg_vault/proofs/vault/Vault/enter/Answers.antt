@@ -1,14 +1,20 @@
-use Rattle.std.proofs.Common.{◌≡◌, sym, subst, ap, ◌∙◌, List, [], ◌∷◌, ◌++◌, Some}
-use Rattle.tg_vault.specs.declared.entry.Entry.{Entry}
+use Rattle.std.proofs.Common.{◌≡◌, refl, sym, subst, ◌∙◌, [], ◌∷◌, ◌++◌, Some}
+use Rattle.tg_collect.specs.Views.{IsHeldIn, InSet}
 use Rattle.tg_vault.specs.World.{Enters, at_seat}
-use Rattle.tg_vault.specs.Contents.{Contents, graph_now, moment}
+use Rattle.tg_vault.specs.Contents.{Contents, moment}
+use Rattle.tg_vault.specs.Moves.{StoreActs}
+use Rattle.tg_vault.specs.Exact.{IsExact}
 use Rattle.tg_vault.specs.Agreement.{SameForAgreeing}
-use Rattle.tg_graph.specs.Protection.{IsGraph, IsSubject}
-use Rattle.tg_graph.specs.Laws.{CommandsKeepGraphs}
-use Rattle.tg_vault.proofs.Histories.{legal_keeps}
-use Rattle.std.proofs.Common.{ℕ}
-use Rattle.tg_vault.proofs.Entering.{Carried, carried_follows, carried_enters, carried_same}
+use Rattle.tg_vault.specs.Told.{told}
+use Rattle.tg_vault.proofs.Joined.{next_unheld}
+use Rattle.tg_vault.proofs.Entering.{Pushed, pushed_joined, pushed_enters, pushed_same, pushed_exact, pushed_acts, next_unparked}
 use Rattle.tg_vault.proofs.vault.Vault.enter.Goals as goal
+
+pub answer-requires-clause-unheld : goal.answer-requires-clause-unheld
+answer-requires-clause-unheld c = subst (λ n. IsHeldIn c.self.inside.store n → ⊥) (sym c.self.invariant.serial) (next_unheld _ c.self.invariant.joins c.soundness-2.ensures.sound)
+
+pub answer-requires-clause-unparked : goal.answer-requires-clause-unparked
+answer-requires-clause-unparked c = subst (λ n. InSet c.self.inside.store.parked n → ⊥) (sym c.self.invariant.serial) (next_unparked _ c.self.invariant.joins c.soundness-2.ensures.sound)
 
 -- the vault before
 abbrev before : goal.In_ok-push → Contents
@@ -16,44 +22,45 @@ before c = record {
   opening = c.self.inside.opening;
   names = c.self.inside.names.items;
   limits = record { slots = c.self.inside.slots; cells = c.self.inside.cells };
-  seats = c.self.inside.seats;
-  pending = c.self.inside.pending;
+  seats = c.self.inside.seats.items;
+  store = c.self.inside.store;
   history = c.self.inside.history.items;
 }
 
-kept : (c : goal.In_ok-push) → CommandsKeepGraphs → IsGraph c.self.inside.opening → IsGraph (graph_now (before c)) × ((v : ℕ) → IsSubject c.self.inside.opening v → IsSubject (graph_now (before c)) v)
-kept c keep graph = legal_keeps keep (before c).limits (before c).opening (before c).history (graph_now (before c)) graph c.self.invariant.vault.legal
-
-carried : (c : goal.In_ok-push) →
-    Carried (before c) c.self.inside.graph c.apply.new.self c.args.seat c.args.actor c.in_ok-asked.asked c.args.command c.in_ok-reply.reply c.target_of.result c.outcome_of.result c.set_target.new.pending c.push.new.self.items
-carried c = record {
-  follows = c.self.invariant;
-  graph = (kept c c.commands_keep_graphs.ensures c.soundness.ensures).0;
+pushed : (c : goal.In_ok-push) →
+    Pushed (before c) c.self.inside.next c.args.seat c.args.actor c.args.command c.in_ok-reply.reply c.answer.new.store c.answer.new.next (told c.in_ok-reply.reply) c.push.new.self.items
+pushed c = record {
+  joined = c.self.invariant;
+  store = c.soundness-2.ensures.sound;
+  counted = c.soundness-2.ensures.sound;
   within = c.requires.seat;
   seated = subst (λ (w : Contents). at_seat w.seats c.args.seat ≡ Some c.args.actor) (sym c.self.view_is) c.requires.seated;
-  asked_is = c.in_ok-asked.ensures;
-  applies = c.in_ok-reply.ensures.ok;
-  target_is = c.target_of.ensures;
-  decision_is = c.outcome_of.ensures;
-  pending_is = c.set_target.ensures;
-  history_is = c.in_ok-push.ensures.items ∙ ap (λ (es : List Entry). es ++ record { seat = c.args.seat; actor = c.args.actor; command = c.args.command; outcome = c.outcome_of.result } ∷ []) c.try_reserve.ensures.items;
+  served = c.in_ok-reply.ensures.served;
+  decision_is = refl;
+  history_is =
+      c.in_ok-push.ensures.items
+      ∙ (λ i. c.try_reserve.ensures.items i ++ c.entry_of-entry.ensures i ∷ []);
 }
 
-pub apply-requires : goal.apply-requires
-apply-requires c =
-    let seated = subst (λ (w : Contents). at_seat w.seats c.args.seat ≡ Some c.args.actor) (sym c.self.view_is) c.requires.seated in
-    let kept = legal_keeps c.commands_keep_graphs.ensures _ _ _ _ c.soundness.ensures c.self.invariant.vault.legal in
-    subst (λ G. IsSubject G c.args.actor) (sym c.self.invariant.graph) (kept.1 c.args.actor (c.self.invariant.vault.seated c.args.seat c.args.actor seated))
-
 pub invariant_of-self-2 : goal.invariant_of-self-2
-invariant_of-self-2 c = carried_follows (before c) _ _ _ _ _ _ _ _ _ _ _ (carried c)
+invariant_of-self-2 c = pushed_joined (before c) _ _ _ _ _ _ _ _ _ (pushed c)
 
 pub returns-clause-ok : goal.returns-clause-ok
 returns-clause-ok c =
-    subst (λ (w : Contents). Enters w.limits (moment w) c.args.seat c.args.actor c.args.command c.in_ok-reply.reply (moment (record (before c) { pending = c.set_target.new.pending; history = c.push.new.self.items }))) c.self.view_is
-    (carried_enters (before c) _ _ _ _ _ _ _ _ _ _ _ (carried c))
+    subst (λ (w : Contents). Enters w.limits (moment w) c.args.seat c.args.actor c.args.command c.in_ok-reply.reply (moment (record (before c) { store = c.answer.new.store; history = c.push.new.self.items }))) c.self.view_is
+    (pushed_enters (before c) _ _ _ _ _ _ _ _ _ (pushed c))
 
 pub returns-clause-agrees : goal.returns-clause-agrees
 returns-clause-agrees c =
-    subst (λ (w : Contents). SameForAgreeing w (record (before c) { pending = c.set_target.new.pending; history = c.push.new.self.items }) c.in_ok-reply.reply) c.self.view_is
-    (carried_same (before c) _ _ _ _ _ _ _ _ _ _ _ (carried c) c.outcomes_agree.ensures c.replies_agree.ensures)
+    subst (λ (w : Contents). SameForAgreeing w (record (before c) { store = c.answer.new.store; history = c.push.new.self.items }) c.in_ok-reply.reply) c.self.view_is
+    (pushed_same (before c) _ _ _ _ _ _ _ _ _ (pushed c))
+
+pub returns-clause-exact : goal.returns-clause-exact
+returns-clause-exact c =
+    subst (λ (w : Contents). IsExact w (record (before c) { store = c.answer.new.store; history = c.push.new.self.items })) c.self.view_is
+    (pushed_exact (before c) _ _ _ _ _ _ _ _ _ (pushed c))
+
+pub returns-clause-acts : goal.returns-clause-acts
+returns-clause-acts c =
+    subst (λ (w : Contents). StoreActs w (record (before c) { store = c.answer.new.store; history = c.push.new.self.items })) c.self.view_is
+    (pushed_acts (before c) _ _ _ _ _ _ _ _ _ (pushed c))

@@ -1,22 +1,34 @@
-use Rattle.std.proofs.Common.{sym, subst, ◌∙◌}
-use Rattle.tg_graph.specs.Protection.{Protection}
-use Rattle.tg_vault.specs.Contents.{Contents, Follows}
-use Rattle.tg_vault.proofs.Opened.{fresh_follows}
+use Rattle.std.proofs.Common.{sym, subst}
+use Rattle.tg_vault.specs.Contents.{Contents, IsFresh}
+use Rattle.tg_vault.specs.Fits.{IsJoined}
+use Rattle.tg_vault.proofs.Opened.{opening_fits, fresh_joined, fresh_is}
 use Rattle.tg_vault.proofs.vault.Vault.new.Goals as goal
+
+pub new-requires-clause-opening : goal.new-requires-clause-opening
+new-requires-clause-opening c = opening_fits c.args.config c.in_ok-opening.opening c.in_ok-opening.ensures.ok c.in_ok-opening.ensures.sound
 
 pub invariant_of-result : goal.invariant_of-result
 invariant_of-result c =
-    let opened = c.in_ok-opening.ensures.ok in
-    subst (λ (p : Contents × Protection). Follows p.0 p.1)
-    (λ i. (
-      record {
-        opening = sym opened i;
-        names = c.args.config.principals.items;
-        limits = record { slots = c.args.config.slots; cells = c.args.config.cells };
-        seats = sym c.empty_table.ensures i;
-        pending = sym c.empty_table-2.ensures i;
-        history = sym c.new.ensures.items i;
-      },
-      sym (c.in-Ok.ensures.equal ∙ opened) i,
-    ))
-    (fresh_follows c.args.config (c.openings_are_sound.ensures c.args.config c.in_ok-opening.ensures.sound))
+    subst (λ (w : Contents). IsJoined w c.args.config.next)
+    (λ i. record {
+      opening = c.in_ok-opening.opening;
+      names = c.args.config.principals.items;
+      limits = record { slots = c.args.config.slots; cells = c.args.config.cells };
+      seats = sym c.in-Ok-empty_seats.ensures i;
+      store = c.in-Ok.store;
+      history = sym c.new-2.ensures.items i;
+    })
+    (fresh_joined c.args.config c.in_ok-opening.opening c.in-Ok.store c.in_ok-opening.ensures.ok c.in_ok-opening.ensures.sound c.in_ok-opening.ensures.graph c.soundness.ensures.sound c.in-Ok.ensures)
+
+pub returns-clause-ok : goal.returns-clause-ok
+returns-clause-ok c =
+    subst (λ (w : Contents). IsFresh c.args.config w)
+    (λ i. record {
+      opening = c.in_ok-opening.opening;
+      names = c.args.config.principals.items;
+      limits = record { slots = c.args.config.slots; cells = c.args.config.cells };
+      seats = sym c.in-Ok-empty_seats.ensures i;
+      store = c.in-Ok.store;
+      history = sym c.new-2.ensures.items i;
+    })
+    (fresh_is c.args.config c.in_ok-opening.opening c.in-Ok.store c.in_ok-opening.ensures.ok c.in_ok-opening.ensures.sound c.in_ok-opening.ensures.graph c.soundness.ensures.sound c.in-Ok.ensures)

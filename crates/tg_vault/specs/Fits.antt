@@ -1,0 +1,55 @@
+-- What is stored fits the graph of the history.
+use Rattle.std.specs.Prelude.{◌≡◌, ◌↔◌, ◌≤◌, ℕ, ◌+◌, length, Some, ◌⊎◌}
+use Rattle.std.specs.FinSet as set
+use Rattle.tg_rights.specs.Membership.{Holds}
+use Rattle.tg_graph.specs.Fullness.{vertex_count, edge_count}
+use Rattle.tg_graph.specs.Paths.{IsPart, Live}
+use Rattle.tg_graph.specs.Protection.{Protection, IsGraph, IsVertex}
+use Rattle.tg_collect.specs.Views.{InSet, IsHeldIn}
+use Rattle.tg_vault.specs.History.{Legal, IsPrincipal}
+use Rattle.tg_vault.specs.World.{World, at_seat}
+use Rattle.tg_vault.specs.Contents.{Contents, IsVault, graph_now, held_now, moment}
+
+-- the roots of a world are the principals and the unfinished targets
+abbrev pub IsRoot : Protection → World → ℕ → Type 0
+IsRoot opening w x = IsPrincipal opening x ⊎ ((seat : ℕ) × (at_seat w.pending seat ≡ Some x))
+
+-- a vertex has a slot: it is held, or parked until the sweep comes to it
+abbrev pub HasSlot : Contents → ℕ → Type 0
+HasSlot v x = IsHeldIn v.store x ⊎ InSet v.store.parked x
+
+-- what a vault keeps besides what its store keeps of itself
+pub record Joins (v : Contents) : Type 0 where
+  pub vault : IsVault v
+  pub opened : IsGraph v.opening
+  pub part : IsPart (graph_now v) (held_now v)
+  pub parked : (x : ℕ) → InSet v.store.parked x → IsVertex (graph_now v) x
+  pub principals : (x : ℕ) → Holds v.store.principals x ↔ IsPrincipal v.opening x
+  pub slots : length v.store.marks ≡ v.limits.slots
+  pub cells : v.store.cells ≡ v.limits.cells
+  pub many_slots : v.limits.slots ≤ v.store.free_slots + vertex_count (graph_now v)
+  pub many_cells : v.limits.cells ≤ v.store.free_cells + edge_count (graph_now v)
+
+-- and the next serial is that of the graph
+pub record IsJoined (v : Contents) (next : ℕ) : Type 0 where
+  pub joins : Joins v
+  pub serial : next ≡ (graph_now v).next
+
+-- a vault has at most so many slots and cells
+pub record IsSmall (v : Contents) : Type 0 where
+  pub slots : v.limits.slots ≤ 65536
+  pub cells : v.limits.cells ≤ 1048576
+
+-- the history is legal, and what is stored is what of its graph is still in use: each held vertex has the graph's kind,
+-- text and edges, which lead to held ones; what a root reaches is held; held and parked are apart, and vertices of the
+-- graph; free slots are those that neither has; and the cells in use are at least the edges of what is held, and at most
+-- those of the graph
+pub record Fits (v : Contents) : Type 0 where
+  pub legal : Legal v.limits v.opening v.history (graph_now v)
+  pub part : IsPart (graph_now v) (held_now v)
+  pub live : (x : ℕ) → Live (graph_now v) (IsRoot v.opening (moment v).world) x → IsHeldIn v.store x
+  pub apart : (x : ℕ) → IsHeldIn v.store x → InSet v.store.parked x → ⊥
+  pub of_graph : (x : ℕ) → HasSlot v x → IsVertex (graph_now v) x
+  pub slots : v.store.free_slots + vertex_count (held_now v) + set.len v.store.parked ≡ v.limits.slots
+  pub few_cells : v.store.free_cells + edge_count (held_now v) ≤ v.limits.cells
+  pub many_cells : v.limits.cells ≤ v.store.free_cells + edge_count (graph_now v)

@@ -1,0 +1,27 @@
+-- What an event does to the store of a vault.
+use Rattle.std.specs.Prelude.{◌≡◌, ◌≤◌, ◌⊎◌, ℕ, Option, Some}
+use Rattle.tg_graph.specs.Paths.{Live}
+use Rattle.tg_vault.specs.declared.event.Event.{Event}
+use Rattle.tg_vault.specs.declared.event.Event.TheVariants as event
+use Rattle.tg_vault.specs.declared.event.Answer.{Answer}
+use Rattle.tg_vault.specs.declared.event.Answer.TheVariants as answer
+use Rattle.tg_collect.specs.Views.{IsRootIn, Collected}
+use Rattle.tg_collect.specs.StoreRuns.{Acted}
+use Rattle.tg_vault.specs.Contents.{Contents, graph_now, held_now}
+
+-- a session step: a serial that comes in is the next one, and a target is live or new
+pub record StoreActs (old new : Contents) : Type 0 where
+  pub came : Option ℕ
+  pub target : Option ℕ
+  pub acted : Acted old.store new.store came target
+  pub next : (x : ℕ) → came ≡ Some x → (graph_now old).next ≤ x
+  pub live : (x : ℕ) → target ≡ Some x → Live (held_now old) (IsRootIn old.store) x ⊎ ((graph_now old).next ≤ x)
+
+-- a collector step and the phase after it for a collect, a session step for any other event
+abbrev pub StoreMoves : Contents → Event → Answer → Contents → Type 0
+StoreMoves old event.Collect (answer.Noted note) new = Collected old.store new.store note.freed note.ended × (note.phase ≡ new.store.phase)
+StoreMoves old event.Collect _ new = ⊥
+StoreMoves old (event.Hello seat name) a new = StoreActs old new
+StoreMoves old (event.Bye seat) a new = StoreActs old new
+StoreMoves old (event.Ask seat c) a new = StoreActs old new
+StoreMoves old (event.Shade seat) a new = StoreActs old new
