@@ -1,174 +1,200 @@
--- The invariant of the vectors.
-use Rattle.std.proofs.Common.{◌≡◌, ℕ, ◌<◌, ◌≤◌, List, [], ◌∷◌, ◌++◌, length, inl, inr, sym, ◌∙◌, subst, ap, refl, set, arith, vec_capacity, Global, length-append, append-nil, false}
-use Rattle.std.specs.declared.vec.Vec.{Vec}
-use Rattle.std.proofs.lemmas.Bool.{cases_eq}
-use Rattle.tg_rights.specs.Membership.{Holds, Distinct}
-use Rattle.tg_rights.specs.Letters.{Letters, is_none}
-use Rattle.tg_rights.proofs.MembershipLemmas.{holds_append, holds_left, holds_right, holds_map, holds_middle, holds_around, same_by, map_append, distinct_around, distinct_push}
+-- The lists that linked cells show, and where a linked cell stands.
+use Rattle.std.proofs.Common.{◌≡◌, ◌≢◌, ℕ, ◌<◌, ◌≤◌, List, [], ◌∷◌, ◌++◌, length, Some, None, inl, inr, sym, ◌∙◌, subst, ap, refl, map, get_or, arith, cond, true, false, ltb, append_assoc, append-nil}
+use Rattle.std.proofs.lemmas.Bool.{lt-ltb, le-ltb}
+use Rattle.std.proofs.lemmas.List.{ext_get_or, get_or-map, get_or_default}
+use Rattle.tg_rights.proofs.MembershipLemmas.{holds_append}
 use Rattle.tg_cells.specs.declared.cells.Cell.{Cell}
 use Rattle.tg_cells.specs.declared.cells.Cells.TheInside.{Inside}
-use Rattle.tg_cells.specs.Lists.{Edge, owned, cells, serials, HasNone, IsCells, IsFresh}
-use Rattle.tg_cells.specs.Inside.{edge_of, own, lists_of, numbers, view_of, IsInside}
-use Rattle.tg_cells.proofs.ViewLemmas.{own_mine, own_other, own_append, own_middle, own_around, cell_of, own_once, owned_within, owned_past, holds_own, lists_set, lists_sum}
-use Rattle.tg_cells.proofs.PlaceLemmas.{At}
+use Rattle.tg_cells.specs.Lists.{Edge, CellLists, owned, first_cell, Stands, HasNone, Found}
+use Rattle.tg_cells.specs.Chain.{cell_at, edge_of, walk, Chain}
+use Rattle.tg_cells.specs.Inside.{Shows, view_of, IsInside}
+use Rattle.tg_cells.proofs.ListLemmas.{owned_fits, owner_within}
+use Rattle.tg_cells.proofs.ChainLemmas.{walk_chain, chain_split, Parts}
 
--- What callers learn.
-pub inside_sound : (s : Inside) → IsInside s → IsCells (view_of s)
-inside_sound s k = record {
-  cell_once = λ i. listed i (λ (l : List Edge). Distinct (cells l)) tt (own_once i s.cells.items k.once);
-  one_owner = λ i j e f he hf same.
-      let c = cell_of i s.cells.items e (holds_own s.owners s.cells.items i e he) in
-      let d = cell_of j s.cells.items f (holds_own s.owners s.cells.items j f hf) in
-      let named : c.cell.number ≡ d.cell.number = ap (λ (x : Edge). x.cell) c.edge ∙ same ∙ sym (ap (λ (x : Edge). x.cell) d.edge) in
-      let one : c.cell ≡ d.cell = same_by (λ (x : Cell). x.number) s.cells.items c.cell d.cell k.once c.held d.held named in
-      sym c.owner ∙ ap (λ (x : Cell). x.owner) one ∙ d.owner;
-  serial_once = λ i. listed i (λ (l : List Edge). Distinct (serials l)) tt (k.serial_once i);
-  labelled = λ i e h.
-      let c = cell_of i s.cells.items e (holds_own s.owners s.cells.items i e h) in
-      subst (λ (x : Edge). is_none x.rights ≡ false) c.edge (k.labelled c.cell c.held);
-  whole = let sum = lists_sum s.owners s.cells.items k.owners in let all = k.whole in omega (arith, sum, all);
-} where
-  listed : (i : ℕ) (P : List Edge → Type 0) → P [] → P (own i s.cells.items) → P (owned (lists_of s.owners s.cells.items) i)
-  listed i P none some = elim (Rattle.std.proofs.lemmas.Bool.cases_lt i s.owners) [
-    | inl within ↦ subst P (sym (owned_within s.owners s.cells.items i within)) some
-    | inr past ↦ subst P (sym (owned_past s.owners s.cells.items i past)) none
-  ]
+pub length_map : {X Y : Type 0} (f : X → Y) (xs : List X) → length (map f xs) ≡ length xs
+length_map f [] = refl
+length_map f (x ∷ xs) = let rest = length_map f xs in omega (arith, rest)
 
--- A serial that no edge has is none of the list's.
-has_none : (es : List Edge) (n : ℕ) → HasNone es n → Holds (serials es) n → ⊥
-has_none [] n h m = m
-has_none (e ∷ es) n h m = elim m [ inl is ↦ h e (inl refl) (sym is) | inr rest ↦ has_none es n (λ x y. h x (inr y)) rest ]
+-- What is shown is what the walks give.
+pub shows_view : (s : Inside) (v : CellLists) → Shows s v → view_of s ≡ v
+shows_view s v k =
+    let size : length s.cells.items ≡ v.size = k.size in
+    let all : map (λ (h : ℕ). walk v.size s.cells.items v.size h) s.heads.items ≡ v.lists =
+    ext_get_or [] (map (λ (h : ℕ). walk v.size s.cells.items v.size h) s.heads.items) v.lists (heads ∙ k.heads) (λ i w. one i (omega (arith, w, heads))) in
+    ap (λ (n : ℕ). record { lists = map (λ (h : ℕ). walk n s.cells.items n h) s.heads.items; free = s.free_count; size = n }) size
+    ∙ ap (λ (l : List (List Edge)). record { lists = l; free = s.free_count; size = v.size }) all
+    ∙ ap (λ (n : ℕ). record { lists = v.lists; free = n; size = v.size }) k.count where
+      heads : length (map (λ (h : ℕ). walk v.size s.cells.items v.size h) s.heads.items) ≡ length s.heads.items
+      heads = length_map (λ (h : ℕ). walk v.size s.cells.items v.size h) s.heads.items
 
--- A free cell stands in front.
-pub inside_link : (s : Inside) (v : Vec Cell Global) (f : Vec ℕ Global) (c : Cell) → v.items ≡ c ∷ s.cells.items → s.free.items ≡ f.items ++ c.number ∷ []
-    → vec_capacity s.cells ≤ vec_capacity v → vec_capacity f ≡ vec_capacity s.free → c.owner < s.owners → HasNone (own c.owner s.cells.items) c.serial → is_none c.rights ≡ false
-    → IsInside s → IsInside (record { cells = v; free = f; owners = s.owners; size = s.size })
-inside_link s v f c ev ef cv cf within none some k =
-    let old_free : Distinct (f.items ++ c.number ∷ []) = subst (λ (l : List ℕ). Distinct l) ef k.free_once in
-    let rest = distinct_around f.items [] c.number old_free in
-    let sizes : length s.free.items ≡ length (f.items ++ c.number ∷ []) = ap length ef in
-    let grown : length v.items ≡ length (c ∷ s.cells.items) = ap length ev in
-    let room = k.cells_room in
-    let free_room' = k.free_room in
-    let whole' = k.whole in
+      one : (i : ℕ) → i < length s.heads.items → get_or (map (λ (h : ℕ). walk v.size s.cells.items v.size h) s.heads.items) i [] ≡ owned v.lists i
+      one i w =
+          let same = k.heads in
+          let within : i < length v.lists = omega arith in
+          get_or-map (λ (h : ℕ). walk v.size s.cells.items v.size h) s.heads.items i v.size [] w
+          ∙ walk_chain v.size s.cells.items i v.size v.size (get_or s.heads.items i v.size) (owned v.lists i) k.size (k.chains i within) (owned_fits v i within k.sound)
+
+-- The fields that a call leaves: what always holds of them, and what they show.
+pub record Leaves (s : Inside) (v : CellLists) : Type 0 where
+  pub kept : IsInside s
+  pub shows : view_of s ≡ v
+
+pub leaves : (s : Inside) (v : CellLists) → Shows s v → v.size ≤ 1048576 → length v.lists ≤ 65536 → Leaves s v
+leaves s v k most most_owners =
+    let is : view_of s ≡ v = shows_view s v k in
+    let size = k.size in
+    let heads = k.heads in
     record {
-      once = subst (λ (l : List Cell). Distinct (numbers l)) (sym ev) (k.apart c.number (subst (λ (l : List ℕ). Holds l c.number) (sym ef) (holds_middle f.items [] c.number)), k.once);
-      serial_once = λ i. subst (λ (l : List Cell). Distinct (serials (own i l))) (sym ev) (elim (cases_eq c.owner i) [
-        | inl o ↦ subst (λ (l : List Edge). Distinct (serials l)) (sym (own_mine i c s.cells.items o))
-            (has_none (own i s.cells.items) c.serial (subst (λ (n : ℕ). HasNone (own n s.cells.items) c.serial) o none), k.serial_once i)
-        | inr o ↦ subst (λ (l : List Edge). Distinct (serials l)) (sym (own_other i c s.cells.items o)) (k.serial_once i)
-      ]);
-      labelled = λ d h. elim (subst (λ (l : List Cell). Holds l d) ev h) [ inl e ↦ subst (λ (x : Cell). is_none x.rights ≡ false) (sym e) some | inr m ↦ k.labelled d m ];
-      owners = λ d h. elim (subst (λ (l : List Cell). Holds l d) ev h) [ inl e ↦ subst (λ (x : Cell). x.owner < s.owners) (sym e) within | inr m ↦ k.owners d m ];
-      free_once = subst (λ (l : List ℕ). Distinct l) (append-nil f.items) rest.0;
-      apart = λ n h m. elim (subst (λ (l : List Cell). Holds (numbers l) n) ev m) [
-        | inl e ↦ rest.1 (subst (λ (l : List ℕ). Holds l c.number) (sym (append-nil f.items)) (subst (λ (j : ℕ). Holds f.items j) e h))
-        | inr old ↦ k.apart n (subst (λ (l : List ℕ). Holds l n) (sym ef) (holds_left f.items (c.number ∷ []) n h)) old
-      ];
-      whole = omega (arith, whole', sizes, grown, length-append f.items (c.number ∷ []));
-      most = k.most;
-      most_owners = k.most_owners;
-      cells_room = omega (arith, room, cv);
-      free_room = omega (arith, free_room', cf);
+      kept = record { shown = subst (λ (u : CellLists). Shows s u) (sym is) k; most = omega arith; most_owners = omega arith };
+      shows = is;
     }
 
--- The new cell is nobody's.
-pub fresh_cell : (s : Inside) (n : ℕ) → Holds s.free.items n → IsInside s → IsFresh (lists_of s.owners s.cells.items) n
-fresh_cell s n h k i e m named =
-    let c = cell_of i s.cells.items e (holds_own s.owners s.cells.items i e m) in
-    let same : c.cell.number ≡ n = ap (λ (x : Edge). x.cell) c.edge ∙ named in
-    k.apart n h (subst (λ (j : ℕ). Holds (numbers s.cells.items) j) same (holds_map (λ (x : Cell). x.number) s.cells.items c.cell c.held))
+-- What the fields show is what callers see.
+pub record Seen (s : Inside) (v : CellLists) : Type 0 where
+  pub shown : Shows s v
+  pub most : v.size ≤ 1048576
+  pub most_owners : length v.lists ≤ 65536
 
-pub lists_link : (n : ℕ) (cs : List Cell) (c : Cell) → c.owner < n → lists_of n (c ∷ cs) ≡ set (lists_of n cs) c.owner (edge_of c ∷ owned (lists_of n cs) c.owner)
-lists_link n cs c w =
-    lists_set n c.owner cs (c ∷ cs) (edge_of c ∷ owned (lists_of n cs) c.owner) (own_mine c.owner c cs refl ∙ ap (λ (l : List Edge). edge_of c ∷ l) (sym (owned_within n cs c.owner w)))
-    (λ j o. own_other j c cs (λ e. o (sym e)))
+pub seen : (s : Inside) (v : CellLists) → view_of s ≡ v → IsInside s → Seen s v
+seen s v is k =
+    let shown : Shows s v = subst (λ (u : CellLists). Shows s u) is k.shown in
+    let size = shown.size in
+    let heads = shown.heads in
+    let most = k.most in
+    let most_owners = k.most_owners in
+    record { shown = shown; most = omega arith; most_owners = omega arith }
 
--- A cell taken out is free.
-pub inside_unlink : (s : Inside) (v : Vec Cell Global) (f : Vec ℕ Global) (n : ℕ) (a : At s.cells.items n) → v.items ≡ a.before ++ a.after → f.items ≡ s.free.items ++ n ∷ []
-    → vec_capacity v ≡ vec_capacity s.cells → vec_capacity s.free ≤ vec_capacity f → IsInside s → IsInside (record { cells = v; free = f; owners = s.owners; size = s.size })
-inside_unlink s v f n a ev ef cv cf k =
-    let old : Distinct (numbers (a.before ++ a.cell ∷ a.after)) = subst (λ (l : List Cell). Distinct (numbers l)) a.is k.once in
-    let old' : Distinct (numbers a.before ++ a.cell.number ∷ numbers a.after) = subst (λ (l : List ℕ). Distinct l) (map_append (λ (x : Cell). x.number) a.before (a.cell ∷ a.after)) old in
-    let rest = distinct_around (numbers a.before) (numbers a.after) a.cell.number old' in
-    let joined : numbers (a.before ++ a.after) ≡ numbers a.before ++ numbers a.after = map_append (λ (x : Cell). x.number) a.before a.after in
-    let mine : Holds s.cells.items a.cell = subst (λ (l : List Cell). Holds l a.cell) (sym a.is) (holds_middle a.before a.after a.cell) in
-    let live : Holds (numbers s.cells.items) n = subst (λ (j : ℕ). Holds (numbers s.cells.items) j) a.here (holds_map (λ (x : Cell). x.number) s.cells.items a.cell mine) in
-    let sizes : length s.cells.items ≡ length (a.before ++ a.cell ∷ a.after) = ap length a.is in
-    let size' : length v.items ≡ length (a.before ++ a.after) = ap length ev in
-    let freed : length f.items ≡ length (s.free.items ++ n ∷ []) = ap length ef in
-    let room = k.cells_room in
-    let free_room' = k.free_room in
-    let whole' = k.whole in
+-- A linked cell: its owner's chain up to it, its entry, and the chain after it.
+pub record Located (s : Inside) (v : CellLists) (n i : ℕ) (p : List Edge) (e : Edge) (r : List Edge) : Type 0 where
+  pub within : i < length v.lists
+  pub parts : Parts v.size s.cells.items i v.size (get_or s.heads.items i v.size) p e r
+
+pub locate : (s : Inside) (v : CellLists) (n i : ℕ) (p r : List Edge) (e : Edge) → Shows s v → Stands v.lists n i p e r → Located s v n i p e r
+locate s v n i p r e k st =
+    let within : i < length v.lists = owner_within v n i p r e st in
     record {
-      once = subst (λ (l : List Cell). Distinct (numbers l)) (sym ev) (subst (λ (l : List ℕ). Distinct l) (sym joined) rest.0);
-      serial_once = λ i. subst (λ (l : List Cell). Distinct (serials (own i l))) (sym ev) (elim (cases_eq a.cell.owner i) [
-        | inl o ↦
-            let was : own i s.cells.items ≡ own i a.before ++ edge_of a.cell ∷ own i a.after = ap (own i) a.is ∙ own_middle i a.before a.after a.cell o in
-            let parts : Distinct (serials (own i a.before) ++ a.cell.serial ∷ serials (own i a.after)) =
-            subst (λ (l : List ℕ). Distinct l) (ap serials was ∙ map_append (λ (x : Edge). x.serial) (own i a.before) (edge_of a.cell ∷ own i a.after)) (k.serial_once i) in
-            subst (λ (l : List ℕ). Distinct l) (sym (ap serials (own_append i a.before a.after) ∙ map_append (λ (x : Edge). x.serial) (own i a.before) (own i a.after)))
-            (distinct_around (serials (own i a.before)) (serials (own i a.after)) a.cell.serial parts).0
-        | inr o ↦ subst (λ (l : List Edge). Distinct (serials l)) (ap (own i) a.is ∙ own_around i a.before a.after a.cell o) (k.serial_once i)
-      ]);
-      labelled = λ d h. k.labelled d (subst (λ (l : List Cell). Holds l d) (sym a.is) (holds_around a.before a.after a.cell d (subst (λ (l : List Cell). Holds l d) ev h)));
-      owners = λ d h. k.owners d (subst (λ (l : List Cell). Holds l d) (sym a.is) (holds_around a.before a.after a.cell d (subst (λ (l : List Cell). Holds l d) ev h)));
-      free_once = subst (λ (l : List ℕ). Distinct l) (sym ef) (distinct_push s.free.items n k.free_once (λ h. k.apart n h live));
-      apart = λ m h g.
-          let g' : Holds (numbers a.before ++ numbers a.after) m = subst (λ (l : List ℕ). Holds l m) joined (subst (λ (l : List Cell). Holds (numbers l) m) ev g) in
-          elim (holds_append s.free.items (n ∷ []) m (subst (λ (l : List ℕ). Holds l m) ef h)) [
-            | inl old ↦ k.apart m old (subst (λ (l : List Cell). Holds (numbers l) m) (sym a.is)
-                (subst (λ (l : List ℕ). Holds l m) (sym (map_append (λ (x : Cell). x.number) a.before (a.cell ∷ a.after))) (holds_around (numbers a.before) (numbers a.after) a.cell.number m g')))
-            | inr new ↦ elim new [ inl e ↦ rest.1 (subst (λ (j : ℕ). Holds (numbers a.before ++ numbers a.after) j) (e ∙ sym a.here) g') | inr never ↦ never ]
+      within = within;
+      parts = chain_split v.size s.cells.items i v.size (get_or s.heads.items i v.size) p e r
+          (subst (λ (l : List Edge). Chain v.size s.cells.items i v.size (get_or s.heads.items i v.size) l) st.is (k.chains i within));
+    }
+
+-- A linked cell is one of the cells.
+pub linked_within : (s : Inside) (v : CellLists) (n i : ℕ) (p r : List Edge) (e : Edge) → view_of s ≡ v → IsInside s → Stands v.lists n i p e r → n < length s.cells.items
+linked_within s v n i p r e is k st =
+    let at = locate s v n i p r e (seen s v is k).shown st in
+    let within = at.parts.entry.within in
+    let here = st.here in
+    omega arith
+
+-- What was read of a linked cell is its edge, and leads to the next one.
+pub read_cell : (s : Inside) (v : CellLists) (n i : ℕ) (p r : List Edge) (e : Edge) (c : Cell) → view_of s ≡ v → IsInside s → c ≡ get_or s.cells.items n c → Stands v.lists n i p e r → edge_of n c ≡ e
+read_cell s v n i p r e c is k read st =
+    let at = locate s v n i p r e (seen s v is k).shown st in
+    let within : n < length s.cells.items = linked_within s v n i p r e is k st in
+    let same : c ≡ cell_at s.cells.items n = read ∙ get_or_default s.cells.items n c _ within in
+    ap (edge_of n) same ∙ ap (λ (m : ℕ). edge_of m (cell_at s.cells.items m)) (sym st.here) ∙ at.parts.entry.edge
+
+-- The head of a chain as an option.
+pub chain_head : (end : ℕ) (cs : List Cell) (i before head : ℕ) (es : List Edge) → length cs ≡ end → Chain end cs i before head es → cond (ltb head (length cs)) (Some head) None ≡ first_cell es
+chain_head end cs i before head [] size c = let test : ltb head (length cs) ≡ false = le-ltb head (length cs) (omega (arith, c, size)) in rw test refl
+chain_head end cs i before head (e ∷ es) size c =
+    let test : ltb head (length cs) ≡ true = lt-ltb head (length cs) c.0.within in
+    rw test (ap (λ (x : Edge). Some x.cell) c.0.edge)
+
+pub read_next : (s : Inside) (v : CellLists) (n i : ℕ) (p r : List Edge) (e : Edge) (c : Cell) → view_of s ≡ v → IsInside s → c ≡ get_or s.cells.items n c → Stands v.lists n i p e r
+    → cond (ltb c.next (length s.cells.items)) (Some c.next) None ≡ first_cell r
+read_next s v n i p r e c is k read st =
+    let shown = (seen s v is k).shown in
+    let at = locate s v n i p r e shown st in
+    let within : n < length s.cells.items = linked_within s v n i p r e is k st in
+    let same : c ≡ cell_at s.cells.items n = read ∙ get_or_default s.cells.items n c _ within in
+    ap (λ (x : Cell). cond (ltb x.next (length s.cells.items)) (Some x.next) None) (same ∙ ap (cell_at s.cells.items) (sym st.here))
+    ∙ chain_head v.size s.cells.items i e.cell (cell_at s.cells.items e.cell).next r shown.size at.parts.rest
+
+-- The search for a serial in an owner's list: those passed don't have it, and the others are the chain from here.
+pub record Searching (cs : List Cell) (lists : List (List Edge)) (i serial head : ℕ) : Type 0 where
+  pub passed : List Edge
+  pub rest : List Edge
+  pub before : ℕ
+  pub is : owned lists i ≡ passed ++ rest
+  pub none : HasNone passed serial
+  pub chain : Chain (length cs) cs i before head rest
+  pub fits : length rest ≤ length cs
+
+pub search_start : (s : Inside) (v : CellLists) (i serial h : ℕ) → view_of s ≡ v → IsInside s → i < length v.lists → h ≡ get_or s.heads.items i h → Searching s.cells.items v.lists i serial h
+search_start s v i serial h is k w read =
+    let shown = (seen s v is k).shown in
+    let heads = shown.heads in
+    let size = shown.size in
+    let fits = owned_fits v i w shown.sound in
+    let within : i < length s.heads.items = omega arith in
+    let same : h ≡ get_or s.heads.items i v.size = read ∙ get_or_default s.heads.items i h v.size within in
+    record {
+      passed = [];
+      rest = owned v.lists i;
+      before = v.size;
+      is = refl;
+      none = λ e h. absurd h;
+      chain = subst (λ (n : ℕ). Chain n s.cells.items i v.size h (owned v.lists i)) (sym size) (subst (λ (n : ℕ). Chain v.size s.cells.items i v.size n (owned v.lists i)) (sym same) (shown.chains i w));
+      fits = omega arith;
+    }
+
+-- The cell at the head of what is left.
+pub search_found : (cs : List Cell) (lists : List (List Edge)) (i serial head : ℕ) (c : Cell) → Searching cs lists i serial head → head < length cs → c ≡ get_or cs head c → c.serial ≡ serial
+    → (f : Found (owned lists i) serial) × (head ≡ f.edge.cell)
+search_found cs lists i serial head c k w read named = found k.rest k.is k.chain where
+  found : (rest : List Edge) → owned lists i ≡ k.passed ++ rest → Chain (length cs) cs i k.before head rest → (f : Found (owned lists i) serial) × (head ≡ f.edge.cell)
+  found [] is chain = absurd (omega (arith, chain))
+  found (e ∷ es) is chain =
+      let same : c ≡ cell_at cs head = read ∙ get_or_default cs head c _ w in (
+        record { before = k.passed; edge = e; after = es; is = is; here = sym (ap (λ (x : Edge). x.serial) chain.0.edge) ∙ ap (λ (x : Cell). x.serial) (sym same) ∙ named },
+        ap (λ (x : Edge). x.cell) chain.0.edge,
+      )
+
+-- One cell on; the walk from there is shorter.
+pub record Passes (cs : List Cell) (lists : List (List Edge)) (i serial head next : ℕ) : Type 0 where
+  pub searching : Searching cs lists i serial next
+  pub smaller : length (walk (length cs) cs (length cs) next) < length (walk (length cs) cs (length cs) head)
+
+pub search_on : (cs : List Cell) (lists : List (List Edge)) (i serial head : ℕ) (c : Cell) → Searching cs lists i serial head → head < length cs → c ≡ get_or cs head c → c.serial ≢ serial
+    → Passes cs lists i serial head c.next
+search_on cs lists i serial head c k w read other = passes k.rest k.is k.chain k.fits where
+  passes : (rest : List Edge) → owned lists i ≡ k.passed ++ rest → Chain (length cs) cs i k.before head rest → length rest ≤ length cs → Passes cs lists i serial head c.next
+  passes [] is chain fits = absurd (omega (arith, chain))
+  passes (e ∷ es) is chain fits =
+      let same : c ≡ cell_at cs head = read ∙ get_or_default cs head c _ w in
+      let on : Chain (length cs) cs i head c.next es = subst (λ (x : Cell). Chain (length cs) cs i head x.next es) (sym same) chain.1 in
+      let short : length es ≤ length cs = omega (arith, fits) in
+      let here = ap length (walk_chain (length cs) cs i k.before (length cs) head (e ∷ es) refl chain fits) in
+      let there = ap length (walk_chain (length cs) cs i head (length cs) c.next es refl on short) in
+      record {
+        searching = record {
+          passed = k.passed ++ e ∷ [];
+          rest = es;
+          before = head;
+          is = is ∙ sym (append_assoc k.passed (e ∷ []) es);
+          none = λ x h. elim (holds_append k.passed (e ∷ []) x h) [
+            | inl old ↦ k.none x old
+            | inr new ↦ elim new [
+              | inl this ↦ λ n. other (ap (λ (y : Cell). y.serial) same ∙ ap (λ (y : Edge). y.serial) (chain.0.edge ∙ sym this) ∙ n)
+              | inr never ↦ absurd never
+            ]
           ];
-      whole = omega (arith, whole', sizes, size', freed, length-append s.free.items (n ∷ []), length-append a.before a.after, length-append a.before (a.cell ∷ a.after));
-      most = k.most;
-      most_owners = k.most_owners;
-      cells_room = omega (arith, room, cv);
-      free_room = omega (arith, free_room', cf);
-    }
+          chain = on;
+          fits = short;
+        };
+        smaller = omega (arith, here, there);
+      }
 
--- Only the rights of one cell are new.
-pub inside_rights : (s : Inside) (v : Vec Cell Global) (n : ℕ) (a : At s.cells.items n) (w : Letters) → v.items ≡ a.before ++ record a.cell { rights = w } ∷ a.after
-    → vec_capacity v ≡ vec_capacity s.cells → is_none w ≡ false → IsInside s → IsInside (record { cells = v; free = s.free; owners = s.owners; size = s.size })
-inside_rights s v n a w ev cv some k =
-    let c : Cell = record a.cell { rights = w } in
-    let numbers_stay : numbers v.items ≡ numbers s.cells.items =
-    ap numbers ev ∙ map_append (λ (x : Cell). x.number) a.before (record a.cell { rights = w } ∷ a.after) ∙ sym (map_append (λ (x : Cell). x.number) a.before (a.cell ∷ a.after)) ∙ ap numbers (sym a.is) in
-    let sizes : length s.cells.items ≡ length (a.before ++ a.cell ∷ a.after) = ap length a.is in
-    let size' : length v.items ≡ length (a.before ++ record a.cell { rights = w } ∷ a.after) = ap length ev in
-    let room = k.cells_room in
-    let whole' = k.whole in
-    record {
-      once = subst (λ (l : List ℕ). Distinct l) (sym numbers_stay) k.once;
-      serial_once = λ i. subst (λ (l : List ℕ). Distinct l) (sym (serials_stay i)) (k.serial_once i);
-      labelled = λ d h. elim (holds_append a.before (record a.cell { rights = w } ∷ a.after) d (subst (λ (l : List Cell). Holds l d) ev h)) [
-        | inl x ↦ k.labelled d (subst (λ (l : List Cell). Holds l d) (sym a.is) (holds_left a.before (a.cell ∷ a.after) d x))
-        | inr x ↦ elim x [
-          | inl e ↦ subst (λ (y : Cell). is_none y.rights ≡ false) (sym e) some
-          | inr y ↦ k.labelled d (subst (λ (l : List Cell). Holds l d) (sym a.is) (holds_right a.before (a.cell ∷ a.after) d (inr y)))
-        ]
-      ];
-      owners = λ d h. elim (holds_append a.before (record a.cell { rights = w } ∷ a.after) d (subst (λ (l : List Cell). Holds l d) ev h)) [
-        | inl x ↦ k.owners d (subst (λ (l : List Cell). Holds l d) (sym a.is) (holds_left a.before (a.cell ∷ a.after) d x))
-        | inr x ↦ elim x [
-          | inl e ↦ subst (λ (y : Cell). y.owner < s.owners) (sym e) (k.owners a.cell (subst (λ (l : List Cell). Holds l a.cell) (sym a.is) (holds_middle a.before a.after a.cell)))
-          | inr y ↦ k.owners d (subst (λ (l : List Cell). Holds l d) (sym a.is) (holds_right a.before (a.cell ∷ a.after) d (inr y)))
-        ]
-      ];
-      free_once = k.free_once;
-      apart = λ m h g. k.apart m h (subst (λ (l : List ℕ). Holds l m) numbers_stay g);
-      whole = omega (arith, whole', sizes, size', length-append a.before (a.cell ∷ a.after), length-append a.before (record a.cell { rights = w } ∷ a.after));
-      most = k.most;
-      most_owners = k.most_owners;
-      cells_room = omega (arith, room, cv);
-      free_room = k.free_room;
-    } where
-      serials_stay : (i : ℕ) → serials (own i v.items) ≡ serials (own i s.cells.items)
-      serials_stay i = ap (λ (l : List Cell). serials (own i l)) ev ∙ elim (cases_eq a.cell.owner i) [
-        | inl o ↦
-            ap serials (own_middle i a.before a.after (record a.cell { rights = w }) o) ∙ map_append (λ (x : Edge). x.serial) (own i a.before) (edge_of (record a.cell { rights = w }) ∷ own i a.after)
-            ∙ sym (map_append (λ (x : Edge). x.serial) (own i a.before) (edge_of a.cell ∷ own i a.after)) ∙ ap serials (sym (own_middle i a.before a.after a.cell o)) ∙ ap (λ (l : List Cell). serials (own i l)) (sym a.is)
-        | inr o ↦
-            ap serials (own_around i a.before a.after (record a.cell { rights = w }) o) ∙ ap serials (sym (own_around i a.before a.after a.cell o)) ∙ ap (λ (l : List Cell). serials (own i l)) (sym a.is)
-      ]
+pub search_end : (cs : List Cell) (lists : List (List Edge)) (i serial head : ℕ) → Searching cs lists i serial head → length cs ≤ head → HasNone (owned lists i) serial
+search_end cs lists i serial head k past = ended k.rest k.is k.chain where
+  ended : (rest : List Edge) → owned lists i ≡ k.passed ++ rest → Chain (length cs) cs i k.before head rest → HasNone (owned lists i) serial
+  ended [] is chain = subst (λ (l : List Edge). HasNone l serial) (sym (is ∙ append-nil k.passed)) k.none
+  ended (e ∷ es) is chain = absurd (let within = chain.0.within in omega arith)
+
+-- The owner of a linked cell has a head.
+pub owner_fits : (s : Inside) (v : CellLists) (n i : ℕ) (p r : List Edge) (e : Edge) → view_of s ≡ v → IsInside s → Stands v.lists n i p e r → i < length s.heads.items
+owner_fits s v n i p r e is k st =
+    let heads = (seen s v is k).shown.heads in
+    let within = owner_within v n i p r e st in
+    omega arith

@@ -1,5 +1,8 @@
-pub mod ViewLemmas
-pub mod PlaceLemmas
-pub mod InsideLemmas
-pub mod CallLemmas
 pub mod WalkLemmas
+pub mod ListLemmas
+pub mod ChainLemmas
+pub mod InsideLemmas
+pub mod StepLemmas
+pub mod UnlinkLemmas
+pub mod LinkLemmas
+pub mod FreshLemmas

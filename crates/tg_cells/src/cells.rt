@@ -1,31 +1,42 @@
-ghost use Rattle.std.specs.Prelude.{◌≡◌, ℕ, ◌+◌, ◌<◌, ◌≤◌, List, [], ◌∷◌, ◌++◌, length, MatchOption, MatchBool, IfOk, set, drop, false};
+ghost use Rattle.std.specs.Prelude.{◌≡◌, ℕ, ◌+◌, ◌<◌, ◌≤◌, List, [], ◌∷◌, ◌++◌, length, MatchOption, MatchBool, IfOk, Some, None, cond, ltb, set, false};
 ghost use Rattle.tg_rights.specs.Letters.{is_none};
 ghost use Rattle.tg_cells.specs.Lists.{CellLists, Edge, owned, first_cell, Stands, IsLinked, IsLinkedBy, HasNone, IsFresh, Found, IsCells};
-ghost use Rattle.tg_cells.specs.Inside.{own, edge_of, place_of};
+ghost use Rattle.tg_cells.specs.Chain.{edge_of, with_previous, with_next};
 
 use std::alloc::{AllocError, Global};
 use std::marker::Model;
 use tg_rights::Rights;
 
-// A cell in its owner's list.
+// A cell, and its neighbours in the list that it stands in. A free cell has the number of owners as its owner.
 #[derive(Drop)]
 struct Cell {
-    number: u32,
     owner: u32,
+    previous: u32,
+    next: u32,
     target: u32,
     serial: u64,
     rights: Rights,
 }
 
+impl Cell {
+    // The cell goes to the free list, in front of the next one there.
+    fn release(&mut self, owners: u32, next: u32)
+        ensures { self.new ≡ record self.old { owner = owners; next = next } }
+    {
+        self.owner = owners;
+        self.next = next;
+    }
+}
+
 /// One list of cells for each owner, and the free cells.
 #[derive(Drop)]
 pub struct Cells {
-    // The cells in lists, newest first: an owner's list is its own cells in this order.
+    // All cells by number. The number of cells, which is no cell's number, ends each list.
     cells: Vec<Cell>,
-    // The numbers of the free cells.
-    free: Vec<u32>,
-    owners: u32,
-    size: u32,
+    // The first cell of each owner's list, its newest.
+    heads: Vec<u32>,
+    free: u32,
+    free_count: u32,
 }
 
 impl Model for Cells {
@@ -40,30 +51,43 @@ impl Model for Cells {
     ghost invariant = { IsInside };
 }
 
-// The place of a cell; the length where it isn't there.
-fn place(cells: &[Cell], number: u32) -> usize
-    ensures { result ≡ place_of number cells.now }
+// The cell of that number, if it is one.
+fn cell_or_none(cells: &[Cell], number: u32) -> Option<u32>
+    ensures { result ≡ cond (ltb number (length cells.now)) (Some number) None }
 {
-    for (i, cell) in cells.iter().enumerate() {
-        if cell.number == number {
-            return i;
-        }
+    if (number as usize) < cells.len() {
+        Some(number)
+    } else {
+        None
     }
-    cells.len()
 }
 
-// The first cell of an owner, from a place on.
-fn first_from(cells: &[Cell], owner: u32, start: usize) -> Option<u32>
-    ensures { result ≡ first_cell (own owner (drop start cells.now)) }
+// The cell of that number, if it is one, has another before it.
+fn set_previous(cells: &mut [Cell], number: u32, previous: u32)
+    ensures { cells.new ≡ with_previous cells.old number previous }
 {
-    let mut at = start;
-    while at < cells.len() {
-        if cells[at].owner == owner {
-            return Some(cells[at].number);
-        }
-        at += 1;
+    if (number as usize) < cells.len() {
+        cells[number as usize].previous = previous;
     }
-    None
+}
+
+// The cell of that number, if it is one, has another after it.
+fn set_next(cells: &mut [Cell], number: u32, next: u32)
+    ensures { cells.new ≡ with_next cells.old number next }
+{
+    if (number as usize) < cells.len() {
+        cells[number as usize].next = next;
+    }
+}
+
+// Where a list has lost its first cell, which had none before it, its head is the next one.
+fn set_head(heads: &mut [u32], owner: u32, is_first: bool, next: u32)
+    requires { owner < length heads.old }
+    ensures { heads.new ≡ cond is_first (set heads.old owner next) heads.old }
+{
+    if is_first {
+        heads[owner as usize] = next;
+    }
 }
 
 impl Cells {
@@ -76,18 +100,23 @@ impl Cells {
         requires high { count ≤ 1048576 }
         ensures { IfOk result (λ c. (length c.lists ≡ owners) × (c.free ≡ count) × (c.size ≡ count) × ((i : ℕ) → owned c.lists i ≡ [])) }
     {
-        let cells = Vec::with_capacity(alloc, count as usize)?;
-        let mut free = Vec::with_capacity(alloc, count as usize)?;
-        let mut number = count;
-        while number > 0 {
-            number -= 1;
-            free.push(number)?;
+        let heads = vec![in alloc; count; owners as usize]?;
+        let mut cells = Vec::with_capacity(alloc, count as usize)?;
+        for number in 0..count {
+            cells.push(Cell {
+                owner: owners,
+                previous: count,
+                next: number + 1,
+                target: 0,
+                serial: 0,
+                rights: Rights::empty(),
+            })?;
         }
         Ok(Cells {
             cells,
-            free,
-            owners,
-            size: count,
+            heads,
+            free: 0,
+            free_count: count,
         })
     }
 
@@ -104,7 +133,7 @@ impl Cells {
     pub fn free(&self) -> u32
         ensures { result ≡ self.now.free }
     {
-        self.free.len() as u32
+        self.free_count
     }
 
     /// Puts a free cell in front of the owner's list, which has none of that serial, for an edge to the vertex of the
@@ -118,20 +147,25 @@ impl Cells {
             × (self.new ≡ record self.old { lists = set self.old.lists owner (e ∷ owned self.old.lists owner); free = self.new.free }))
             ((self.old.free ≡ 0) × (self.new ≡ self.old)) }
     {
-        match self.free.pop() {
-            None => false,
-            Some(number) => {
-                let cell = Cell {
-                    number,
-                    owner,
-                    target,
-                    serial,
-                    rights,
-                };
-                self.cells.insert(0, cell).unwrap();
-                true
-            }
-        }
+        let number = self.free;
+        let end = self.cells.len() as u32;
+        let head = self.heads[owner as usize];
+        let Some(cell) = self.cells.get_mut(number as usize) else {
+            return false;
+        };
+        self.free = cell.next;
+        self.free_count -= 1;
+        *cell = Cell {
+            owner,
+            previous: end,
+            next: head,
+            target,
+            serial,
+            rights,
+        };
+        self.heads[owner as usize] = number;
+        set_previous(&mut self.cells, head, number);
+        true
     }
 
     /// Takes a cell out of its owner's list, and frees it.
@@ -140,9 +174,16 @@ impl Cells {
         ensures { (p : List Edge) (e : Edge) (r : List Edge) → Stands self.old.lists cell owner p e r
             → self.new ≡ record self.old { lists = set self.old.lists owner (p ++ r); free = self.old.free + 1 } }
     {
-        let at = place(&self.cells, cell);
-        self.cells.remove(at);
-        self.free.push(cell).unwrap();
+        let end = self.cells.len() as u32;
+        let owners = self.heads.len() as u32;
+        let previous = self.cells[cell as usize].previous;
+        let next = self.cells[cell as usize].next;
+        set_head(&mut self.heads, owner, previous == end, next);
+        set_next(&mut self.cells, previous, next);
+        set_previous(&mut self.cells, next, previous);
+        self.cells[cell as usize].release(owners, self.free);
+        self.free = cell;
+        self.free_count += 1;
     }
 
     /// The cell of that serial in the owner's list; none where no cell of the list has it.
@@ -150,10 +191,12 @@ impl Cells {
         requires { owner < length self.now.lists }
         ensures { MatchOption result (HasNone (owned self.now.lists owner) serial) (λ c. (f : Found (owned self.now.lists owner) serial) × (c ≡ f.edge.cell)) }
     {
-        for cell in &self.cells {
-            if cell.owner == owner && cell.serial == serial {
-                return Some(cell.number);
+        let mut number = self.heads[owner as usize];
+        while let Some(cell) = self.cells.get(number as usize) {
+            if cell.serial == serial {
+                return Some(number);
             }
+            number = cell.next;
         }
         None
     }
@@ -163,7 +206,7 @@ impl Cells {
         requires { owner < length self.now.lists }
         ensures { result ≡ first_cell (owned self.now.lists owner) }
     {
-        first_from(&self.cells, owner, 0)
+        cell_or_none(&self.cells, self.heads[owner as usize])
     }
 
     /// The cell that follows in the list of the cell's owner; none after the last.
@@ -171,16 +214,15 @@ impl Cells {
         requires { IsLinked self.now.lists cell }
         ensures { (i : ℕ) (p : List Edge) (e : Edge) (r : List Edge) → Stands self.now.lists cell i p e r → result ≡ first_cell r }
     {
-        let at = place(&self.cells, cell);
-        first_from(&self.cells, self.cells[at].owner, at + 1)
+        cell_or_none(&self.cells, self.cells[cell as usize].next)
     }
 
-    // The cell of that number, in whose list it may be.
+    // The cell of that number, in whosever list it stands.
     fn cell(&self, number: u32) -> &Cell
         requires { IsLinked self.now.lists number }
-        ensures { (i : ℕ) (p : List Edge) (e : Edge) (r : List Edge) → Stands self.now.lists number i p e r → edge_of result.now ≡ e }
+        ensures { (i : ℕ) (p : List Edge) (e : Edge) (r : List Edge) → Stands self.now.lists number i p e r → edge_of number result.now ≡ e }
     {
-        &self.cells[place(&self.cells, number)]
+        &self.cells[number as usize]
     }
 
     /// The slot that the cell's edge leads to.
@@ -214,7 +256,6 @@ impl Cells {
         ensures { (i : ℕ) (p : List Edge) (e : Edge) (r : List Edge) → Stands self.old.lists cell i p e r
             → self.new ≡ record self.old { lists = set self.old.lists i (p ++ record e { rights = rights } ∷ r) } }
     {
-        let at = place(&self.cells, cell);
-        self.cells[at].rights = rights;
+        self.cells[cell as usize].rights = rights;
     }
 }

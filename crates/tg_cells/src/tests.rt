@@ -1,5 +1,5 @@
 //! Scripts of calls, and the lists that they must leave. The helpers stop a test where a call's condition is not met.
-ghost use Rattle.std.specs.Prelude.{◌≡◌, ◌<◌, length};
+ghost use Rattle.std.specs.Prelude.{◌≡◌, ◌<◌, length, IfOk};
 ghost use Rattle.tg_cells.specs.Lists.{IsLinked, IsLinkedBy};
 
 use crate::Cells;
@@ -120,6 +120,93 @@ fn one_cell_is_used_again(rt: HostRuntime) -> Result<(), AllocError> {
     unlink(&rt, &mut cells, 0, 10);
     assert_eq!(rt; (cells.free(), cells.first(0)), (1, None));
     assert!(rt; link(&rt, &mut cells, 0, 2, 20, Rights::READ));
+    Ok(())
+}
+
+// One owner's list of the serials 40, 30, 20 and 10.
+fn four(rt: &impl Abort, alloc: Global) -> Result<Cells, AllocError>
+    ensures { IfOk result (λ c. 0 < length c.lists) }
+{
+    let mut cells = Cells::new(alloc, 1, 4)?;
+    assert!(rt; link(rt, &mut cells, 0, 1, 10, Rights::READ));
+    assert!(rt; link(rt, &mut cells, 0, 2, 20, Rights::READ));
+    assert!(rt; link(rt, &mut cells, 0, 3, 30, Rights::READ));
+    assert!(rt; link(rt, &mut cells, 0, 4, 40, Rights::READ));
+    Ok(cells)
+}
+
+// The serials of the owner's list.
+fn serials(alloc: Global, cells: &Cells, owner: u32) -> Result<Vec<u64>, AllocError>
+    requires { owner < length cells.now.lists }
+{
+    let mut found = Vec::new(alloc);
+    for (_, serial, _) in list(alloc, cells, owner)? {
+        found.push(serial)?;
+    }
+    Ok(found)
+}
+
+#[test]
+fn the_first_cell_leaves(rt: HostRuntime) -> Result<(), AllocError> {
+    let mut cells = four(&rt, rt.alloc())?;
+    unlink(&rt, &mut cells, 0, 40);
+    assert!(rt; serials(rt.alloc(), &cells, 0)?.as_slice() == [30, 20, 10].as_slice());
+    unlink(&rt, &mut cells, 0, 30);
+    assert!(rt; serials(rt.alloc(), &cells, 0)?.as_slice() == [20, 10].as_slice());
+    assert_eq!(rt; cells.free(), 2);
+    Ok(())
+}
+
+#[test]
+fn a_cell_in_the_middle_leaves(rt: HostRuntime) -> Result<(), AllocError> {
+    let mut cells = four(&rt, rt.alloc())?;
+    unlink(&rt, &mut cells, 0, 30);
+    assert!(rt; serials(rt.alloc(), &cells, 0)?.as_slice() == [40, 20, 10].as_slice());
+    unlink(&rt, &mut cells, 0, 20);
+    assert!(rt; serials(rt.alloc(), &cells, 0)?.as_slice() == [40, 10].as_slice());
+    assert_eq!(rt; cells.free(), 2);
+    Ok(())
+}
+
+#[test]
+fn the_last_cell_leaves(rt: HostRuntime) -> Result<(), AllocError> {
+    let mut cells = four(&rt, rt.alloc())?;
+    unlink(&rt, &mut cells, 0, 10);
+    assert!(rt; serials(rt.alloc(), &cells, 0)?.as_slice() == [40, 30, 20].as_slice());
+    unlink(&rt, &mut cells, 0, 20);
+    assert!(rt; serials(rt.alloc(), &cells, 0)?.as_slice() == [40, 30].as_slice());
+    assert!(rt; link(&rt, &mut cells, 0, 5, 50, Rights::READ));
+    assert!(rt; serials(rt.alloc(), &cells, 0)?.as_slice() == [50, 40, 30].as_slice());
+    Ok(())
+}
+
+#[test]
+fn the_only_cell_leaves(rt: HostRuntime) -> Result<(), AllocError> {
+    let mut cells = Cells::new(rt.alloc(), 2, 3)?;
+    assert!(rt; link(&rt, &mut cells, 0, 1, 10, Rights::READ));
+    assert!(rt; link(&rt, &mut cells, 1, 2, 20, Rights::READ));
+    unlink(&rt, &mut cells, 0, 10);
+    assert_eq!(rt; (cells.first(0), cells.free()), (None, 2));
+    assert!(rt; serials(rt.alloc(), &cells, 1)?.as_slice() == [20].as_slice());
+    assert!(rt; link(&rt, &mut cells, 0, 3, 30, Rights::READ));
+    assert!(rt; serials(rt.alloc(), &cells, 0)?.as_slice() == [30].as_slice());
+    Ok(())
+}
+
+// Cells 0 and 1 are freed in this order, so that 1 is taken first, by whatever owner; 2 was never used.
+#[test]
+fn the_cell_freed_last_is_taken_first(rt: HostRuntime) -> Result<(), AllocError> {
+    let mut cells = Cells::new(rt.alloc(), 2, 3)?;
+    assert!(rt; link(&rt, &mut cells, 0, 1, 10, Rights::READ));
+    assert!(rt; link(&rt, &mut cells, 0, 2, 20, Rights::READ));
+    assert_eq!(rt; (cells.find(0, 10), cells.find(0, 20)), (Some(0), Some(1)));
+    unlink(&rt, &mut cells, 0, 10);
+    unlink(&rt, &mut cells, 0, 20);
+    assert!(rt; link(&rt, &mut cells, 1, 3, 30, Rights::READ));
+    assert!(rt; link(&rt, &mut cells, 0, 4, 40, Rights::READ));
+    assert!(rt; link(&rt, &mut cells, 1, 5, 50, Rights::READ));
+    assert_eq!(rt; (cells.find(1, 30), cells.find(0, 40)), (Some(1), Some(0)));
+    assert_eq!(rt; (cells.find(1, 50), cells.free()), (Some(2), 0));
     Ok(())
 }
 

@@ -1,6 +1,10 @@
-use Rattle.std.proofs.Common.{◌≡◌, drop}
-use Rattle.tg_cells.specs.Inside.{number_in}
+use Rattle.std.proofs.Common.{length}
+use Rattle.tg_cells.specs.Chain.{walk}
+use Rattle.tg_cells.proofs.InsideLemmas.{Searching}
 use Rattle.tg_cells.proofs.cells.Cells.find.Given as goal
 
 abbrev pub invariant-loop-cell : goal.invariant-loop-cell
-invariant-loop-cell l = number_in l.owner l.serial (drop l.cell-index l.cell-items) ≡ number_in l.owner l.serial l.cell-items
+invariant-loop-cell l = Searching l.self-inside.cells.items l.self.lists l.owner l.serial l.number
+
+abbrev pub decreases-loop-cell : goal.decreases-loop-cell
+decreases-loop-cell l = length (walk (length l.self-inside.cells.items) l.self-inside.cells.items (length l.self-inside.cells.items) l.number)

@@ -1,47 +1,29 @@
-use Rattle.std.proofs.Common.{◌<◌, ◌∙◌, ◌∷◌, [], length, subst, ap, sym, refl, arith, vec_len, vec_capacity, List, ℕ, length-append}
+use Rattle.std.proofs.Common.{◌≡◌, ◌∙◌, ◌≤◌, List, length, ap, refl, arith, inl, inr, true, false, vec_len}
+use Rattle.std.proofs.lemmas.Bool.{cases_lt}
 use Rattle.tg_cells.specs.declared.cells.Cell.{Cell}
-use Rattle.tg_rights.proofs.MembershipLemmas.{holds_middle}
-use Rattle.tg_rights.specs.Membership.{Holds}
-use Rattle.tg_cells.specs.Lists.{Edge, CellLists, owned, HasNone}
-use Rattle.tg_cells.specs.Inside.{own, lists_of}
-use Rattle.tg_cells.proofs.ViewLemmas.{owned_within}
-use Rattle.tg_cells.proofs.InsideLemmas.{inside_link, fresh_cell, lists_link}
-use Rattle.tg_cells.proofs.CallLemmas.{owner_there}
+use Rattle.tg_cells.specs.Chain.{with_previous}
+use Rattle.tg_cells.proofs.LinkLemmas.{links, none_free}
 use Rattle.tg_cells.proofs.cells.Cells.link.Goals as goal
 
-pub invariant_of-self-in-Some : goal.invariant_of-self-in-Some
-invariant_of-self-in-Some c =
-    let popped = c.in-Some.ensures.items in
-    let sizes = ap length popped in
-    let all = c.self.invariant.whole in
-    let space = c.self.invariant.cells_room in
-    let room : vec_len c.self.inside.cells < vec_capacity c.self.inside.cells = omega (arith, sizes, all, space, length-append c.pop.new.self.items (c.in-Some.number ∷ [])) in
-    let ok = c.insert.ensures.succeeds room in
-    let there = owner_there c.self.inside c.args.self.now c.args.owner c.self.view_is c.requires.owner in
-    let none : HasNone (own c.args.owner c.self.inside.cells.items) c.args.serial =
-    subst (λ (l : List Edge). HasNone l c.args.serial) (ap (λ (v : CellLists). owned v.lists c.args.owner) (sym c.self.view_is) ∙ owned_within c.self.inside.owners c.self.inside.cells.items c.args.owner there) c.requires.none in
-    inside_link c.self.inside c.insert.new.self c.pop.new.self (record { number = c.in-Some.number; owner = c.args.owner; target = c.args.target; serial = c.args.serial; rights = c.args.rights })
-    (rw ok at c.insert.ensures.items) popped c.insert.ensures.capacity c.pop.ensures.capacity there none c.requires.some c.self.invariant
+pub returns-in_default : goal.returns-in_default
+returns-in_default c =
+    let past : length c.self.inside.cells.items ≤ c.self.inside.free = elim (cases_lt c.self.inside.free (length c.self.inside.cells.items)) [
+      | inl w ↦ absurd (let none : false ≡ true = c.in_default.ensures.variant.1 (omega arith) in cc)
+      | inr p ↦ p
+    ] in
+    (none_free c.self.inside c.args.self.now c.self.view_is c.self.invariant past, c.self.view_is)
 
-pub returns-in-Some : goal.returns-in-Some
-returns-in-Some c =
-    let popped = c.in-Some.ensures.items in
-    let sizes = ap length popped in
-    let all = c.self.invariant.whole in
-    let space = c.self.invariant.cells_room in
-    let room : vec_len c.self.inside.cells < vec_capacity c.self.inside.cells = omega (arith, sizes, all, space, length-append c.pop.new.self.items (c.in-Some.number ∷ [])) in
-    let ok = c.insert.ensures.succeeds room in
-    let there = owner_there c.self.inside c.args.self.now c.args.owner c.self.view_is c.requires.owner in
-    let held : Holds c.self.inside.free.items c.in-Some.number = subst (λ (l : List ℕ). Holds l c.in-Some.number) (sym popped) (holds_middle c.pop.new.self.items [] c.in-Some.number) in
-    let cell : Cell = record { number = c.in-Some.number; owner = c.args.owner; target = c.args.target; serial = c.args.serial; rights = c.args.rights } in
-    let items = rw ok at c.insert.ensures.items in
-    rw (← c.self.view_is) (
-      record { cell = c.in-Some.number; target = c.args.target; serial = c.args.serial; rights = c.args.rights },
-      fresh_cell c.self.inside c.in-Some.number held c.self.invariant,
-      refl,
-      refl,
-      refl,
-      omega (arith, sizes, length-append c.pop.new.self.items (c.in-Some.number ∷ [])),
-      ap (λ (l : List (List Edge)). record { lists = l; free = length c.pop.new.self.items; size = c.self.inside.size }) (ap (lists_of c.self.inside.owners) items
-          ∙ lists_link c.self.inside.owners c.self.inside.cells.items (record { number = c.in-Some.number; owner = c.args.owner; target = c.args.target; serial = c.args.serial; rights = c.args.rights }) there),
-    )
+pub invariant_of-self-2 : goal.invariant_of-self-2
+invariant_of-self-2 c =
+    let full : vec_len c.self.inside.cells ≡ length c.self.inside.cells.items = omega arith in
+    (links c.self.inside c.args.self.now c.set_previous.new.cells c.args.owner c.len-end.result c.index-head.result.now c.args.target c.args.serial c.args.rights c.in-Some.cell.now c.self.view_is c.self.invariant c.requires.owner
+    c.requires.none c.requires.some (c.len-end.ensures ∙ full) c.index-head.ensures c.in-Some.ensures.item.3.0 c.in-Some.ensures.value
+    (c.set_previous.ensures ∙ ap (λ (l : List Cell). with_previous l c.index-head.result.now c.self.inside.free) c.deref_mut.ensures.value)).kept
+
+pub returns : goal.returns
+returns c =
+    let full : vec_len c.self.inside.cells ≡ length c.self.inside.cells.items = omega arith in
+    let done = links c.self.inside c.args.self.now c.set_previous.new.cells c.args.owner c.len-end.result c.index-head.result.now c.args.target c.args.serial c.args.rights c.in-Some.cell.now c.self.view_is c.self.invariant c.requires.owner
+    c.requires.none c.requires.some (c.len-end.ensures ∙ full) c.index-head.ensures c.in-Some.ensures.item.3.0 c.in-Some.ensures.value
+    (c.set_previous.ensures ∙ ap (λ (l : List Cell). with_previous l c.index-head.result.now c.self.inside.free) c.deref_mut.ensures.value) in
+    (record { cell = c.self.inside.free; target = c.args.target; serial = c.args.serial; rights = c.args.rights }, done.fresh, refl, refl, refl, done.fewer, done.shows)

@@ -1,33 +1,28 @@
-use Rattle.std.proofs.Common.{◌≡◌, ◌-◌, ◌∷◌, [], length, subst, ap, sym, refl, arith, List, ℕ, length-append, inl, inr}
-use Rattle.tg_rights.specs.Membership.{Holds, Distinct}
-use Rattle.tg_rights.proofs.MembershipLemmas.{distinct_push, holds_append}
-use Rattle.tg_cells.proofs.ViewLemmas.{lists_length, owned_none}
+use Rattle.std.proofs.Common.{◌≡◌, ◌∙◌, ℕ, List, [], refl, ap, subst, length, arith}
+use Rattle.std.proofs.lemmas.List.{length-replicate}
+use Rattle.tg_cells.specs.Lists.{Edge, CellLists, owned}
+use Rattle.tg_cells.proofs.FreshLemmas.{Fresh, fresh_none, fresh_more, empty_at, leaves-new}
 use Rattle.tg_cells.proofs.cells.Cells.new.Goals as goal
 
+pub loop-number-init : goal.loop-number-init
+loop-number-init c = fresh_none c.in_ok-cells.cells.items c.args.owners c.in_ok-cells.ensures.items
+
 pub loop-number-preserved : goal.loop-number-preserved
-loop-number-preserved c =
-    let inv = c.loop-number.invariant in
-    let high = inv.0 in
-    let above = inv.2 in
-    let count = inv.3 in
-    let room = inv.4 in
-    let low = c.loop-number-test.true in
-    let items = c.in_ok-push.ensures.items in
-    let grown = c.in_ok-push.ensures.capacity in
-    let sizes = ap length items in (
-      omega (arith, high),
-      subst (λ (l : List ℕ). Distinct l) (sym items) (distinct_push c.loop-number.free.items (c.loop-number.number - 1) inv.1 (λ h. let a = above (c.loop-number.number - 1) h in omega (arith, a, low))),
-      λ n h. elim (holds_append c.loop-number.free.items ((c.loop-number.number - 1) ∷ []) n (subst (λ (l : List ℕ). Holds l n) items h)) [
-        | inl old ↦ let a = above n old in omega (arith, a)
-        | inr new ↦ elim new [ inl e ↦ omega (arith, e) | inr never ↦ absurd never ]
-      ],
-      omega (arith, count, sizes, low, length-append c.loop-number.free.items ((c.loop-number.number - 1) ∷ [])),
-      omega (arith, room, grown),
-    )
+loop-number-preserved c = fresh_more c.loop-number.cells.items c.push.new.self.items c.args.owners c.loop-number.number _ c.loop-number.invariant refl refl c.in_ok-push.ensures.items
+
+pub invariant_of-result : goal.invariant_of-result
+invariant_of-result c =
+    let all : c.loop-number.number ≡ c.args.count = omega arith in
+    (leaves-new (record { cells = c.loop-number.cells; heads = c.in_ok-heads.heads; free = 0; free_count = c.args.count }) c.args.owners c.args.count
+    (c.in_ok-heads.ensures.items_if_clones_equal (λ y e. e)) (subst (λ (n : ℕ). Fresh c.loop-number.cells.items c.args.owners n) all c.loop-number.invariant) refl refl c.requires.high_owners c.requires.high).kept
 
 pub returns : goal.returns
 returns c =
-    let inv = c.loop-number.invariant in
-    let count = inv.3 in
-    let none : c.loop-number.number ≡ 0 = omega arith in
-    (lists_length c.args.owners _, omega (arith, count, none), refl, λ i. owned_none c.args.owners _ i c.in_ok-cells.ensures.items)
+    let all : c.loop-number.number ≡ c.args.count = omega arith in
+    let shows = (leaves-new (record { cells = c.loop-number.cells; heads = c.in_ok-heads.heads; free = 0; free_count = c.args.count }) c.args.owners c.args.count
+    (c.in_ok-heads.ensures.items_if_clones_equal (λ y e. e)) (subst (λ (n : ℕ). Fresh c.loop-number.cells.items c.args.owners n) all c.loop-number.invariant) refl refl c.requires.high_owners c.requires.high).shows in (
+      ap (λ (v : CellLists). length v.lists) shows ∙ length-replicate {A = List Edge} c.args.owners [],
+      refl,
+      ap (λ (v : CellLists). v.size) shows,
+      λ i. ap (λ (v : CellLists). owned v.lists i) shows ∙ empty_at c.args.owners i,
+    )

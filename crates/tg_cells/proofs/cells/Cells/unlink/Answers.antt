@@ -1,43 +1,54 @@
-use Rattle.std.proofs.Common.{◌≡◌, ◌<◌, ◌+◌, ◌∙◌, ◌∷◌, [], length, ap, arith, vec_len, vec_capacity, length-append}
-use Rattle.std.specs.List.{remove}
-use Rattle.tg_cells.specs.Lists.{CellLists}
-use Rattle.tg_cells.specs.Inside.{place_of}
-use Rattle.tg_cells.proofs.PlaceLemmas.{at_within, at_remove}
-use Rattle.tg_cells.proofs.InsideLemmas.{inside_unlink}
-use Rattle.tg_cells.proofs.CallLemmas.{locate, view_remove}
+use Rattle.std.proofs.Common.{◌≡◌, ◌∙◌, ℕ, List, length, ap, arith, cond, eqb, set, vec_len}
+use Rattle.tg_cells.specs.declared.cells.Cell.{Cell}
+use Rattle.tg_cells.specs.Chain.{with_next, with_previous}
+use Rattle.tg_cells.proofs.InsideLemmas.{linked_within, owner_fits}
+use Rattle.tg_cells.proofs.UnlinkLemmas.{unlinks}
 use Rattle.tg_cells.proofs.cells.Cells.unlink.Goals as goal
 
-pub remove-requires : goal.remove-requires
-remove-requires c =
-    let within = at_within c.args.cell c.self.inside.cells.items (locate c.self.inside c.args.self.now c.args.cell c.args.owner c.requires.before c.requires.after c.requires.edge c.self.view_is c.requires.stands) in
-    let is : c.place-at.result ≡ place_of c.args.cell c.self.inside.cells.items = c.place-at.ensures ∙ ap (place_of c.args.cell) c.deref.ensures.value in
-    omega (arith, within, is)
+pub index-requires : goal.index-requires
+index-requires c =
+    let l = c.requires in
+    let within = linked_within c.self.inside c.args.self.now c.args.cell c.args.owner l.before l.after l.edge c.self.view_is c.self.invariant l.stands in
+    omega arith
+
+pub index-requires-2 : goal.index-requires-2
+index-requires-2 c =
+    let l = c.requires in
+    let within = linked_within c.self.inside c.args.self.now c.args.cell c.args.owner l.before l.after l.edge c.self.view_is c.self.invariant l.stands in
+    omega arith
+
+pub set_head-requires : goal.set_head-requires
+set_head-requires c =
+    let l = c.requires in
+    let own = owner_fits c.self.inside c.args.self.now c.args.cell c.args.owner l.before l.after l.edge c.self.view_is c.self.invariant l.stands in
+    let value = ap length c.deref_mut.ensures.value in
+    omega arith
+
+pub index_mut-requires : goal.index_mut-requires
+index_mut-requires c =
+    let l = c.requires in
+    let within = linked_within c.self.inside c.args.self.now c.args.cell c.args.owner l.before l.after l.edge c.self.view_is c.self.invariant l.stands in
+    omega arith
 
 pub invariant_of-self : goal.invariant_of-self
 invariant_of-self c =
-    let at = locate c.self.inside c.args.self.now c.args.cell c.args.owner c.requires.before c.requires.after c.requires.edge c.self.view_is c.requires.stands in
-    let within = at_within c.args.cell c.self.inside.cells.items at in
-    let is : c.place-at.result ≡ place_of c.args.cell c.self.inside.cells.items = c.place-at.ensures ∙ ap (place_of c.args.cell) c.deref.ensures.value in
-    let all = c.self.invariant.whole in
-    let space = c.self.invariant.free_room in
-    let room : vec_len c.self.inside.free < vec_capacity c.self.inside.free = omega (arith, within, all, space) in
-    let ok = c.push.ensures.succeeds room in
-    inside_unlink c.self.inside c.remove.new.self c.push.new.self c.args.cell at
-    (c.remove.ensures.items ∙ ap (remove c.self.inside.cells.items) is ∙ at_remove c.args.cell c.self.inside.cells.items at) (rw ok at c.push.ensures.items)
-    c.remove.ensures.capacity c.push.ensures.capacity c.self.invariant
+    let l = c.requires in
+    let cells : vec_len c.self.inside.cells ≡ length c.self.inside.cells.items = omega arith in
+    let heads : vec_len c.self.inside.heads ≡ length c.self.inside.heads.items = omega arith in
+    (unlinks c.self.inside c.args.self.now c.set_next.new.cells c.set_previous.new.cells c.set_head.new.heads c.args.cell c.args.owner c.len-end.result c.len-owners.result l.before l.after l.edge c.index.result.now c.index-2.result.now c.index_mut.result.now c.release.new.self
+    c.self.view_is c.self.invariant l.stands (c.len-end.ensures ∙ cells) (c.len-owners.ensures ∙ heads) c.index.ensures c.index-2.ensures
+    (c.set_head.ensures ∙ ap (λ (l : List ℕ). cond (eqb c.index.result.now.previous c.len-end.result) (set l c.args.owner c.index-2.result.now.next) l) c.deref_mut.ensures.value)
+    (c.set_next.ensures ∙ ap (λ (l : List Cell). with_next l c.index.result.now.previous c.index-2.result.now.next) c.deref_mut-2.ensures.value)
+    (c.set_previous.ensures ∙ ap (λ (l : List Cell). with_previous l c.index-2.result.now.next c.index.result.now.previous) c.deref_mut-3.ensures.value)
+    c.index_mut.ensures.value c.release.ensures).kept
 
 pub returns : goal.returns
 returns c = λ p e r st.
-    let at = locate c.self.inside c.args.self.now c.args.cell c.args.owner p r e c.self.view_is st in
-    let within = at_within c.args.cell c.self.inside.cells.items at in
-    let is : c.place-at.result ≡ place_of c.args.cell c.self.inside.cells.items = c.place-at.ensures ∙ ap (place_of c.args.cell) c.deref.ensures.value in
-    let all = c.self.invariant.whole in
-    let space = c.self.invariant.free_room in
-    let room : vec_len c.self.inside.free < vec_capacity c.self.inside.free = omega (arith, within, all, space) in
-    let ok = c.push.ensures.succeeds room in
-    let lists = view_remove c.self.inside c.args.self.now c.args.cell c.args.owner p r e c.remove.new.self.items at c.self.view_is c.self.invariant
-    (c.remove.ensures.items ∙ ap (remove c.self.inside.cells.items) is ∙ at_remove c.args.cell c.self.inside.cells.items at) st in
-    let grown : length c.push.new.self.items ≡ length c.self.inside.free.items + 1 = ap length (rw ok at c.push.ensures.items) ∙ omega (arith, length-append c.self.inside.free.items (c.args.cell ∷ [])) in
-    let free = ap (λ (v : CellLists). v.free + 1) c.self.view_is in
-    let size = ap (λ (v : CellLists). v.size) c.self.view_is in
-    cc
+    let cells : vec_len c.self.inside.cells ≡ length c.self.inside.cells.items = omega arith in
+    let heads : vec_len c.self.inside.heads ≡ length c.self.inside.heads.items = omega arith in
+    (unlinks c.self.inside c.args.self.now c.set_next.new.cells c.set_previous.new.cells c.set_head.new.heads c.args.cell c.args.owner c.len-end.result c.len-owners.result p r e c.index.result.now c.index-2.result.now c.index_mut.result.now c.release.new.self
+    c.self.view_is c.self.invariant st (c.len-end.ensures ∙ cells) (c.len-owners.ensures ∙ heads) c.index.ensures c.index-2.ensures
+    (c.set_head.ensures ∙ ap (λ (l : List ℕ). cond (eqb c.index.result.now.previous c.len-end.result) (set l c.args.owner c.index-2.result.now.next) l) c.deref_mut.ensures.value)
+    (c.set_next.ensures ∙ ap (λ (l : List Cell). with_next l c.index.result.now.previous c.index-2.result.now.next) c.deref_mut-2.ensures.value)
+    (c.set_previous.ensures ∙ ap (λ (l : List Cell). with_previous l c.index-2.result.now.next c.index.result.now.previous) c.deref_mut-3.ensures.value)
+    c.index_mut.ensures.value c.release.ensures).shows

@@ -1,0 +1,205 @@
+-- The first free cell is taken for an edge, in front of its owner's list.
+use Rattle.std.proofs.Common.{◌≡◌, ◌≢◌, ℕ, ◌+◌, ◌-◌, ◌<◌, ◌≤◌, List, [], ◌∷◌, length, inl, inr, sym, ◌∙◌, subst, ap, refl, set, get_or, arith, length-set, get_or-set_same, get_or-set_other, Global, false}
+use Rattle.std.proofs.lemmas.List.{get_or_default, with_items_is}
+use Rattle.std.specs.Vec.{with_items, with_item}
+use Rattle.std.specs.declared.vec.Vec.{Vec}
+use Rattle.tg_rights.specs.Membership.{Holds, Distinct}
+use Rattle.tg_rights.specs.Letters.{Letters, is_none}
+use Rattle.tg_rights.proofs.MembershipLemmas.{holds_map}
+use Rattle.tg_cells.specs.declared.cells.Cell.{Cell}
+use Rattle.tg_cells.specs.declared.cells.Cells.TheInside.{Inside}
+use Rattle.tg_cells.specs.Lists.{Edge, CellLists, owned, cells, HasNone, IsFresh}
+use Rattle.tg_cells.specs.Chain.{cell_at, edge_of, with_previous, Chain, Row}
+use Rattle.tg_cells.specs.Inside.{IsFree, Shows, view_of, IsInside}
+use Rattle.tg_cells.proofs.ListLemmas.{holds_within, sound-link}
+use Rattle.tg_cells.proofs.ChainLemmas.{at_same, at_other, Only, only_set, chain_only, chain_own, chain_front, chain_after, row_same, row_only}
+use Rattle.tg_cells.proofs.InsideLemmas.{Leaves, leaves, seen}
+use Rattle.tg_cells.proofs.StepLemmas.{chains_set}
+
+-- The first free cell, and the row of the others.
+pub record FirstFree (end : ℕ) (cs : List Cell) (owners head count : ℕ) : Type 0 where
+  pub rest : List ℕ
+  pub once : Distinct (head ∷ rest)
+  pub owner : (cell_at cs head).owner ≡ owners
+  pub row : Row end cs owners (cell_at cs head).next rest
+  pub counted : count ≡ length rest + 1
+
+pub first_free : (end : ℕ) (cs : List Cell) (owners head count : ℕ) → length cs ≡ end → head < length cs → IsFree end cs owners head count → FirstFree end cs owners head count
+first_free end cs owners head count size w k = first k.numbers k.once k.row k.counted where
+  first : (ns : List ℕ) → Distinct ns → Row end cs owners head ns → count ≡ length ns → FirstFree end cs owners head count
+  first [] once row counted = absurd (omega (arith, row))
+  first (n ∷ ns) once row counted =
+      let is : n ≡ head = sym row.0 in
+      record {
+        rest = ns;
+        once = subst (λ (m : ℕ). Distinct (m ∷ ns)) is once;
+        owner = subst (λ (m : ℕ). (cell_at cs m).owner ≡ owners) is row.2;
+        row = subst (λ (m : ℕ). Row end cs owners (cell_at cs m).next ns) is row.3;
+        counted = omega (arith, counted);
+      }
+
+-- A head past the cells: none is free.
+pub none_free : (s : Inside) (v : CellLists) → view_of s ≡ v → IsInside s → length s.cells.items ≤ s.free → v.free ≡ 0
+none_free s v is k past = none shown.free.numbers shown.free.row shown.free.counted where
+  shown : Shows s v
+  shown = (seen s v is k).shown
+
+  none : (ns : List ℕ) → Row v.size s.cells.items (length v.lists) s.free ns → v.free ≡ length ns → v.free ≡ 0
+  none [] row counted = counted
+  none (n ∷ ns) row counted = absurd (let first : s.free ≡ n = row.0 in let within : n < length s.cells.items = row.1 in omega arith)
+
+-- A free cell is in nobody's list.
+free_fresh : (s : Inside) (v : CellLists) (n : ℕ) → Shows s v → (cell_at s.cells.items n).owner ≡ length v.lists → IsFresh v.lists n
+free_fresh s v n k free i e h same =
+    let within : i < length v.lists = holds_within v i e h in
+    let own = chain_own v.size s.cells.items i v.size (get_or s.heads.items i v.size) (owned v.lists i) e.cell (k.chains i within) (holds_map (λ (x : Edge). x.cell) (owned v.lists i) e h) in
+    let owner : (cell_at s.cells.items n).owner ≡ i = ap (λ (m : ℕ). (cell_at s.cells.items m).owner) (sym same) ∙ own.owner in
+    omega arith
+
+-- The cells after cell n was written for an edge, in front of cell h.
+abbrev pub linked : List Cell → ℕ → Cell → List Cell
+linked cs n c = with_previous (set cs n c) c.next n
+
+-- A free cell n is written as c, whose owner's list it is to lead.
+record Enters (end : ℕ) (cs : List Cell) (owners n i : ℕ) (c : Cell) (es : List Edge) : Type 0 where
+  size : length cs ≡ end
+  within : n < length cs
+  free : (cell_at cs n).owner ≡ owners
+  other : i ≢ owners
+  mine : c.owner ≡ i
+  first : c.previous ≡ end
+  once : Distinct (cells es)
+  chain : Chain end cs i end c.next es
+
+written_only : (end : ℕ) (cs : List Cell) (owners n i : ℕ) (c : Cell) (es : List Edge) → Enters end cs owners n i c es → Only cs (set cs n c) owners
+written_only end cs owners n i c es k = only_set cs n owners c (λ w. k.free)
+
+written_chain : (end : ℕ) (cs : List Cell) (owners n i : ℕ) (c : Cell) (es : List Edge) → Enters end cs owners n i c es → Chain end (set cs n c) i end c.next es
+written_chain end cs owners n i c es k = chain_only end cs (set cs n c) i owners end c.next es (written_only end cs owners n i c es k) k.other k.chain
+
+linked_only : (end : ℕ) (cs : List Cell) (owners n i : ℕ) (c : Cell) (es : List Edge) → Enters end cs owners n i c es → Only (set cs n c) (linked cs n c) i
+linked_only end cs owners n i c es k =
+    let size = (written_only end cs owners n i c es k).size in
+    let full = k.size in
+    let chain = written_chain end cs owners n i c es k in
+    only_set (set cs n c) c.next i _ (λ w. elim (chain_after end (set cs n c) i end c.next es chain) [
+      | inl is ↦ absurd (omega arith)
+      | inr there ↦ (chain_own end (set cs n c) i end c.next es c.next chain there).owner
+    ])
+
+linked_chain : (end : ℕ) (cs : List Cell) (owners n i : ℕ) (c : Cell) (es : List Edge) → Enters end cs owners n i c es → Chain end (linked cs n c) i end n (edge_of n c ∷ es)
+linked_chain end cs owners n i c es k =
+    let size = (written_only end cs owners n i c es k).size in
+    let size' = (linked_only end cs owners n i c es k).size in
+    let full = k.size in
+    let w = k.within in
+    let within : n < length (linked cs n c) = omega arith in
+    let other : n ≢ c.next = elim (chain_after end cs i end c.next es k.chain) [
+      | inl is ↦ λ same. omega arith
+      | inr there ↦ λ same. k.other (sym (chain_own end cs i end c.next es c.next k.chain there).owner ∙ ap (λ (m : ℕ). (cell_at cs m).owner) (sym same) ∙ k.free)
+    ] in
+    let now : cell_at (linked cs n c) n ≡ c = at_other (set cs n c) c.next n _ other ∙ at_same cs n c w in (
+      record {
+        within = within;
+        edge = ap (edge_of n) now;
+        owner = ap (λ (x : Cell). x.owner) now ∙ k.mine;
+        previous = ap (λ (x : Cell). x.previous) now ∙ k.first;
+      },
+      subst (λ (x : Cell). Chain end (linked cs n c) i n x.next es) (sym now) (chain_front end (set cs n c) i end n c.next es k.once (written_chain end cs owners n i c es k)),
+    )
+
+-- The other free cells.
+linked_free : (end : ℕ) (cs : List Cell) (owners n i count : ℕ) (c : Cell) (es : List Edge) → Enters end cs owners n i c es → FirstFree end cs owners n count
+    → IsFree end (linked cs n c) owners (cell_at cs n).next (count - 1)
+linked_free end cs owners n i count c es k f =
+    let counted = f.counted in
+    record {
+      numbers = f.rest;
+      once = f.once.1;
+      row = row_only end (set cs n c) (linked cs n c) owners i (cell_at cs n).next f.rest (linked_only end cs owners n i c es k) (λ same. k.other (sym same))
+          (row_same end cs (set cs n c) owners (cell_at cs n).next f.rest (length-set cs n c) (λ m h. at_other cs n m c (λ is. f.once.0 (subst (λ (x : ℕ). Holds f.rest x) is h))) f.row);
+      counted = omega arith;
+    }
+
+pub record LinksIn (s after : Inside) (v : CellLists) (i : ℕ) (e : Edge) : Type 0 where
+  pub kept : IsInside after
+  pub fresh : IsFresh v.lists e.cell
+  pub fewer : v.free ≡ s.free_count - 1 + 1
+  pub shows : view_of after ≡ record v { lists = set v.lists i (e ∷ owned v.lists i); free = s.free_count - 1 }
+
+pub links_in : (s : Inside) (v : CellLists) (w : Vec Cell Global) (g : Vec ℕ Global) (i next : ℕ) (c : Cell) → view_of s ≡ v → IsInside s → i < length v.lists → HasNone (owned v.lists i) c.serial → is_none c.rights ≡ false
+    → s.free < length s.cells.items → c.owner ≡ i → c.previous ≡ v.size → c.next ≡ get_or s.heads.items i v.size → next ≡ (cell_at s.cells.items s.free).next
+    → w.items ≡ linked s.cells.items s.free c → g.items ≡ set s.heads.items i s.free
+    → LinksIn s (record { cells = w; heads = g; free = next; free_count = s.free_count - 1 }) v i (edge_of s.free c)
+links_in s v w g i next c is inside own none some within mine first after next_is ev gv =
+    let seen = seen s v is inside in
+    let shown = seen.shown in
+    let most_owners = seen.most_owners in
+    let heads = shown.heads in
+    let f = first_free v.size s.cells.items (length v.lists) s.free v.free shown.size within shown.free in
+    let counted = f.counted in
+    let count = shown.count in
+    let fresh : IsFresh v.lists s.free = free_fresh s v s.free shown f.owner in
+    let chain : Chain v.size s.cells.items i v.size c.next (owned v.lists i) = subst (λ (h : ℕ). Chain v.size s.cells.items i v.size h (owned v.lists i)) (sym after) (shown.chains i own) in
+    let k : Enters v.size s.cells.items (length v.lists) s.free i c (owned v.lists i) = record {
+      size = shown.size;
+      within = within;
+      free = f.owner;
+      other = λ same. omega arith;
+      mine = mine;
+      first = first;
+      once = shown.sound.cell_once i;
+      chain = chain;
+    } in
+    let lists : length (set v.lists i (edge_of s.free c ∷ owned v.lists i)) ≡ length v.lists = length-set v.lists i _ in
+    let written = written_only v.size s.cells.items (length v.lists) s.free i c (owned v.lists i) k in
+    let moved = linked_only v.size s.cells.items (length v.lists) s.free i c (owned v.lists i) k in
+    let now : Chain v.size (linked s.cells.items s.free c) i v.size (get_or g.items i v.size) (edge_of s.free c ∷ owned v.lists i) =
+    subst (λ (h : ℕ). Chain v.size (linked s.cells.items s.free c) i v.size h (edge_of s.free c ∷ owned v.lists i)) (sym (ap (λ (l : List ℕ). get_or l i v.size) gv ∙ get_or-set_same s.heads.items i s.free v.size (omega arith)))
+    (linked_chain v.size s.cells.items (length v.lists) s.free i c (owned v.lists i) k) in
+    let free : IsFree v.size (linked s.cells.items s.free c) (length v.lists) next (v.free - 1) =
+    subst (λ (h : ℕ). IsFree v.size (linked s.cells.items s.free c) (length v.lists) h (v.free - 1)) (sym next_is)
+    (linked_free v.size s.cells.items (length v.lists) s.free i v.free c (owned v.lists i) k f) in
+    let left : Leaves (record { cells = w; heads = g; free = next; free_count = s.free_count - 1 }) (record v { lists = set v.lists i (edge_of s.free c ∷ owned v.lists i); free = v.free - 1 }) =
+    leaves (record { cells = w; heads = g; free = next; free_count = s.free_count - 1 }) (record v { lists = set v.lists i (edge_of s.free c ∷ owned v.lists i); free = v.free - 1 }) (record {
+      size = ap length ev ∙ moved.size ∙ written.size ∙ shown.size;
+      heads = ap length gv ∙ length-set s.heads.items i s.free ∙ shown.heads ∙ sym lists;
+      chains = subst (λ (l : List Cell). (j : ℕ) → j < length (set v.lists i (edge_of s.free c ∷ owned v.lists i)) → Chain v.size l j v.size (get_or g.items j v.size) (owned (set v.lists i (edge_of s.free c ∷ owned v.lists i)) j)) (sym ev)
+          (chains_set v.size (linked s.cells.items s.free c) s.heads.items g.items v.lists i (edge_of s.free c ∷ owned v.lists i) own now
+          (λ j o. ap (λ (l : List ℕ). get_or l j v.size) gv ∙ get_or-set_other s.heads.items i j s.free v.size o)
+          (λ j h o. chain_only v.size (set s.cells.items s.free c) (linked s.cells.items s.free c) j i v.size (get_or s.heads.items j v.size) (owned v.lists j) moved o
+          (chain_only v.size s.cells.items (set s.cells.items s.free c) j (length v.lists) v.size (get_or s.heads.items j v.size) (owned v.lists j) written (λ same. omega (arith, h, same)) (shown.chains j h))));
+      free = subst (λ (m : ℕ). IsFree v.size w.items m next (v.free - 1)) (sym lists)
+          (subst (λ (l : List Cell). IsFree v.size l (length v.lists) next (v.free - 1)) (sym ev) free);
+      count = ap (λ (m : ℕ). m - 1) count;
+      sound = sound-link v i (edge_of s.free c) shown.sound own fresh none some (omega arith);
+    }) seen.most (omega arith) in
+    record {
+      kept = left.kept;
+      fresh = fresh;
+      fewer = omega arith;
+      shows = left.shows ∙ ap (λ (m : ℕ). record v { lists = set v.lists i (edge_of s.free c ∷ owned v.lists i); free = m - 1 }) (sym count);
+    }
+
+abbrev pub entered : ℕ → ℕ → ℕ → ℕ → ℕ → Letters → Cell
+entered i end head target serial rights = record { owner = i; previous = end; next = head; target = target; serial = serial; rights = rights }
+
+-- The same from the steps of the code, one after another.
+pub links : (s : Inside) (v : CellLists) (xs : List Cell) (i end head target serial : ℕ) (rights : Letters) (old : Cell) → view_of s ≡ v → IsInside s → i < length v.lists → HasNone (owned v.lists i) serial → is_none rights ≡ false
+    → end ≡ length s.cells.items → head ≡ get_or s.heads.items i head → s.free < length s.cells.items → old ≡ get_or s.cells.items s.free old
+    → xs ≡ with_previous (set s.cells.items s.free (entered i end head target serial rights)) head s.free
+    → LinksIn s (record {
+      cells = with_items (with_item s.cells s.free (entered i end head target serial rights)) xs;
+      heads = with_item s.heads i s.free;
+      free = old.next;
+      free_count = s.free_count - 1;
+    }) v i (record { cell = s.free; target = target; serial = serial; rights = rights })
+links s v xs i end head target serial rights old is inside own none some last read within met ex =
+    let shown = (seen s v is inside).shown in
+    let heads = shown.heads in
+    let one : length xs ≡ length (set s.cells.items s.free (entered i end head target serial rights)) = ap length ex ∙ length-set _ head _ in
+    let two : length (set s.cells.items s.free (entered i end head target serial rights)) ≡ length s.cells.items = length-set s.cells.items s.free _ in
+    links_in s v (with_items (with_item s.cells s.free (entered i end head target serial rights)) xs) (with_item s.heads i s.free) i old.next
+    (entered i end head target serial rights) is inside own none some within refl (last ∙ shown.size)
+    (read ∙ get_or_default s.heads.items i head v.size (omega arith)) (ap (λ (x : Cell). x.next) (met ∙ get_or_default s.cells.items s.free old _ within))
+    (with_items_is (with_item s.cells s.free (entered i end head target serial rights)) xs (omega arith) ∙ ex) refl
