@@ -1,8 +1,8 @@
 -- Chains over linked cells, and what changed cells leave of them.
 use Rattle.std.proofs.Common.{◌≡◌, ◌≢◌, ℕ, zero, suc, ◌<◌, ◌≤◌, List, [], ◌∷◌, ◌++◌, length, ◌⊎◌, inl, inr, sym, ◌∙◌, subst, ap, refl, set, arith, length-set, get_or-set_same, get_or-set_other, true, false, eqb, eq-eqb}
 use Rattle.std.proofs.lemmas.Bool.{cases_eq, ne_eqb}
-use Rattle.tg_rights.specs.Membership.{Holds, Distinct}
-use Rattle.tg_rights.proofs.MembershipLemmas.{holds_left, holds_right, holds_middle}
+use Rattle.tg_rights.specs.Membership.{Contains, Distinct}
+use Rattle.tg_rights.proofs.MembershipLemmas.{contains_left, contains_right, contains_middle}
 use Rattle.tg_cells.specs.declared.cells.Cell.{Cell}
 use Rattle.tg_cells.specs.Lists.{Edge, cells}
 use Rattle.tg_cells.specs.Chain.{cell_at, edge_of, with_previous, with_next, walk, IsEntry, Chain, Row}
@@ -34,7 +34,7 @@ pub record IsOwn (cs : List Cell) (n i : ℕ) : Type 0 where
   pub within : n < length cs
   pub owner : (cell_at cs n).owner ≡ i
 
-pub chain_own : (end : ℕ) (cs : List Cell) (i before head : ℕ) (es : List Edge) (n : ℕ) → Chain end cs i before head es → Holds (cells es) n → IsOwn cs n i
+pub chain_own : (end : ℕ) (cs : List Cell) (i before head : ℕ) (es : List Edge) (n : ℕ) → Chain end cs i before head es → Contains (cells es) n → IsOwn cs n i
 chain_own end cs i before head [] n c h = absurd h
 chain_own end cs i before head (e ∷ es) n c h = elim h [
   | inl is ↦ subst (λ (m : ℕ). IsOwn cs m i) (head_is c.0 ∙ sym is) (record { within = c.0.within; owner = c.0.owner })
@@ -53,7 +53,7 @@ entry_same cs ds n i before e size same k =
     }
 
 -- A chain whose cells stay.
-pub chain_same : (end : ℕ) (cs ds : List Cell) (i before head : ℕ) (es : List Edge) → length ds ≡ length cs → ((n : ℕ) → Holds (cells es) n → cell_at ds n ≡ cell_at cs n)
+pub chain_same : (end : ℕ) (cs ds : List Cell) (i before head : ℕ) (es : List Edge) → length ds ≡ length cs → ((n : ℕ) → Contains (cells es) n → cell_at ds n ≡ cell_at cs n)
     → Chain end cs i before head es → Chain end ds i before head es
 chain_same end cs ds i before head [] size keeps c = c
 chain_same end cs ds i before head (e ∷ es) size keeps c =
@@ -101,7 +101,7 @@ chain_front end cs i before new head (e ∷ es) once c =
     let size : length (with_previous cs head new) ≡ length cs = length-set cs head _ in
     let was = k.within in
     let rest = chain_same end cs (with_previous cs head new) i head (cell_at cs head).next es size
-    (λ n h. at_other cs head n _ (λ is. once.0 (subst (λ (m : ℕ). Holds (cells es) m) (is ∙ head_is k) h))) c.1 in (
+    (λ n h. at_other cs head n _ (λ is. once.0 (subst (λ (m : ℕ). Contains (cells es) m) (is ∙ head_is k) h))) c.1 in (
       record {
         within = omega arith;
         edge = ap (edge_of head) now ∙ k.edge;
@@ -116,14 +116,14 @@ abbrev pub Path : List Cell → ℕ → ℕ → ℕ → List Edge → ℕ → �
 Path cs i before head [] last tail = (before ≡ last) × (head ≡ tail)
 Path cs i before head (e ∷ es) last tail = IsEntry cs head i before e × Path cs i head (cell_at cs head).next es last tail
 
-pub path_own : (cs : List Cell) (i before head : ℕ) (es : List Edge) (last tail n : ℕ) → Path cs i before head es last tail → Holds (cells es) n → IsOwn cs n i
+pub path_own : (cs : List Cell) (i before head : ℕ) (es : List Edge) (last tail n : ℕ) → Path cs i before head es last tail → Contains (cells es) n → IsOwn cs n i
 path_own cs i before head [] last tail n c h = absurd h
 path_own cs i before head (e ∷ es) last tail n c h = elim h [
   | inl is ↦ subst (λ (m : ℕ). IsOwn cs m i) (head_is c.0 ∙ sym is) (record { within = c.0.within; owner = c.0.owner })
   | inr m ↦ path_own cs i head (cell_at cs head).next es last tail n c.1 m
 ]
 
-pub path_same : (cs ds : List Cell) (i before head : ℕ) (es : List Edge) (last tail : ℕ) → length ds ≡ length cs → ((n : ℕ) → Holds (cells es) n → cell_at ds n ≡ cell_at cs n)
+pub path_same : (cs ds : List Cell) (i before head : ℕ) (es : List Edge) (last tail : ℕ) → length ds ≡ length cs → ((n : ℕ) → Contains (cells es) n → cell_at ds n ≡ cell_at cs n)
     → Path cs i before head es last tail → Path ds i before head es last tail
 path_same cs ds i before head [] last tail size keeps c = c
 path_same cs ds i before head (e ∷ es) last tail size keeps c =
@@ -133,7 +133,7 @@ path_same cs ds i before head (e ∷ es) last tail size keeps c =
     )
 
 -- The last cell of a path is one of its cells.
-pub path_last : (cs : List Cell) (i before head : ℕ) (e : Edge) (es : List Edge) (last tail : ℕ) → Path cs i before head (e ∷ es) last tail → Holds (cells (e ∷ es)) last
+pub path_last : (cs : List Cell) (i before head : ℕ) (e : Edge) (es : List Edge) (last tail : ℕ) → Path cs i before head (e ∷ es) last tail → Contains (cells (e ∷ es)) last
 path_last cs i before head e [] last tail c = inl (sym c.1.0 ∙ head_is c.0)
 path_last cs i before head e (d ∷ es) last tail c = inr (path_last cs i head (cell_at cs head).next d es last tail c.1)
 
@@ -156,8 +156,8 @@ path_tail cs i before head e [] last tail new once c =
     )
 path_tail cs i before head e (d ∷ es) last tail new once c =
     let k = c.0 in
-    let held : Holds (cells (d ∷ es)) last = path_last cs i head (cell_at cs head).next d es last tail c.1 in
-    let other : head ≢ last = λ is. once.0 (subst (λ (m : ℕ). Holds (cells (d ∷ es)) m) (sym is ∙ head_is k) held) in
+    let held : Contains (cells (d ∷ es)) last = path_last cs i head (cell_at cs head).next d es last tail c.1 in
+    let other : head ≢ last = λ is. once.0 (subst (λ (m : ℕ). Contains (cells (d ∷ es)) m) (sym is ∙ head_is k) held) in
     let size : length (with_next cs last new) ≡ length cs = length-set cs last _ in
     let same : cell_at (with_next cs last new) head ≡ cell_at cs head = at_other cs last head _ other in (
       entry_same cs (with_next cs last new) head i before e size same k,
@@ -190,7 +190,7 @@ chain_join end cs i before head [] last tail r c rest =
 chain_join end cs i before head (d ∷ p) last tail r c rest = (c.0, chain_join end cs i head (cell_at cs head).next p last tail r c.1 rest)
 
 -- Rows of free cells.
-pub row_same : (end : ℕ) (cs ds : List Cell) (i head : ℕ) (ns : List ℕ) → length ds ≡ length cs → ((n : ℕ) → Holds ns n → cell_at ds n ≡ cell_at cs n) → Row end cs i head ns → Row end ds i head ns
+pub row_same : (end : ℕ) (cs ds : List Cell) (i head : ℕ) (ns : List ℕ) → length ds ≡ length cs → ((n : ℕ) → Contains ns n → cell_at ds n ≡ cell_at cs n) → Row end cs i head ns → Row end ds i head ns
 row_same end cs ds i head [] size keeps c = c
 row_same end cs ds i head (n ∷ ns) size keeps c =
     let same : cell_at ds n ≡ cell_at cs n = keeps n (inl refl) in
@@ -201,7 +201,7 @@ row_same end cs ds i head (n ∷ ns) size keeps c =
       subst (λ (x : Cell). Row end ds i x.next ns) (sym same) (row_same end cs ds i (cell_at cs n).next ns size (λ m h. keeps m (inr h)) c.3),
     )
 
-pub row_own : (end : ℕ) (cs : List Cell) (i head : ℕ) (ns : List ℕ) (n : ℕ) → Row end cs i head ns → Holds ns n → IsOwn cs n i
+pub row_own : (end : ℕ) (cs : List Cell) (i head : ℕ) (ns : List ℕ) (n : ℕ) → Row end cs i head ns → Contains ns n → IsOwn cs n i
 row_own end cs i head [] n c h = absurd h
 row_own end cs i head (m ∷ ns) n c h = elim h [
   | inl is ↦ subst (λ (k : ℕ). IsOwn cs k i) (sym is) (record { within = c.1; owner = c.2 })
@@ -213,11 +213,11 @@ row_only end cs ds i j head ns only other c =
     row_same end cs ds i head ns only.size (λ n h. let own = row_own end cs i head ns n c h in only.others n own.within (λ e. other (sym own.owner ∙ e))) c
 
 -- The cell before a path's end, and the one after a chain's start, is no cell or one of theirs.
-pub path_before : (cs : List Cell) (i before head : ℕ) (es : List Edge) (last tail : ℕ) → Path cs i before head es last tail → (before ≡ last) ⊎ Holds (cells es) last
+pub path_before : (cs : List Cell) (i before head : ℕ) (es : List Edge) (last tail : ℕ) → Path cs i before head es last tail → (before ≡ last) ⊎ Contains (cells es) last
 path_before cs i before head [] last tail c = inl c.0
 path_before cs i before head (e ∷ es) last tail c = inr (path_last cs i before head e es last tail c)
 
-pub chain_after : (end : ℕ) (cs : List Cell) (i before head : ℕ) (es : List Edge) → Chain end cs i before head es → (head ≡ end) ⊎ Holds (cells es) head
+pub chain_after : (end : ℕ) (cs : List Cell) (i before head : ℕ) (es : List Edge) → Chain end cs i before head es → (head ≡ end) ⊎ Contains (cells es) head
 chain_after end cs i before head [] c = inl c
 chain_after end cs i before head (e ∷ es) c = inr (inl (head_is c.0))
 
@@ -236,16 +236,16 @@ owner_previous cs n k m w = elim (cases_eq m n) [
 
 -- A number that stands once is apart from those before it and after it, and these are apart from one another.
 pub record Apart (a : List ℕ) (n : ℕ) (b : List ℕ) : Type 0 where
-  pub before : (m : ℕ) → Holds a m → m ≢ n
-  pub after : (m : ℕ) → Holds b m → m ≢ n
-  pub across : (m k : ℕ) → Holds a m → Holds b k → m ≢ k
+  pub before : (m : ℕ) → Contains a m → m ≢ n
+  pub after : (m : ℕ) → Contains b m → m ≢ n
+  pub across : (m k : ℕ) → Contains a m → Contains b k → m ≢ k
   pub front : Distinct a
   pub back : Distinct b
 
 pub apart : (a : List ℕ) (n : ℕ) (b : List ℕ) → Distinct (a ++ n ∷ b) → Apart a n b
 apart [] n b d = record {
   before = λ m h. absurd h;
-  after = λ m h is. d.0 (subst (λ (k : ℕ). Holds b k) is h);
+  after = λ m h is. d.0 (subst (λ (k : ℕ). Contains b k) is h);
   across = λ m k h. absurd h;
   front = tt;
   back = d.1;
@@ -254,14 +254,14 @@ apart (x ∷ a) n b d =
     let rest = apart a n b d.1 in
     record {
       before = λ m h same. elim h [
-        | inl is ↦ d.0 (subst (λ (k : ℕ). Holds (a ++ n ∷ b) k) (sym same ∙ is) (holds_middle a b n))
+        | inl is ↦ d.0 (subst (λ (k : ℕ). Contains (a ++ n ∷ b) k) (sym same ∙ is) (contains_middle a b n))
         | inr old ↦ rest.before m old same
       ];
       after = rest.after;
       across = λ m k h g same. elim h [
-        | inl is ↦ d.0 (subst (λ (j : ℕ). Holds (a ++ n ∷ b) j) (sym same ∙ is) (holds_right a (n ∷ b) k (inr g)))
+        | inl is ↦ d.0 (subst (λ (j : ℕ). Contains (a ++ n ∷ b) j) (sym same ∙ is) (contains_right a (n ∷ b) k (inr g)))
         | inr old ↦ rest.across m k old g same
       ];
-      front = (λ h. d.0 (holds_left a (n ∷ b) x h), rest.front);
+      front = (λ h. d.0 (contains_left a (n ∷ b) x h), rest.front);
       back = rest.back;
     }

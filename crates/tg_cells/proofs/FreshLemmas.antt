@@ -3,7 +3,7 @@ use Rattle.std.proofs.Common.{◌≡◌, ℕ, zero, suc, ◌+◌, ◌<◌, ◌�
 use Rattle.std.proofs.lemmas.Bool.{cases_lt, cases_eq}
 use Rattle.std.proofs.lemmas.List.{get_or-replicate, get_or_append_left, get_or_push, get_or_past, length-replicate}
 use Rattle.std.proofs.lemmas.List.Folds.{sum_by-replicate}
-use Rattle.tg_rights.specs.Membership.{Holds, Distinct}
+use Rattle.tg_rights.specs.Membership.{Contains, Distinct}
 use Rattle.tg_cells.specs.declared.cells.Cell.{Cell}
 use Rattle.tg_cells.specs.declared.cells.Cells.TheInside.{Inside}
 use Rattle.tg_cells.specs.Lists.{Edge, CellLists, owned}
@@ -20,7 +20,7 @@ numbers_length : (i n : ℕ) → length (numbers i n) ≡ n
 numbers_length i zero = refl
 numbers_length i (suc n) = let r = numbers_length (suc i) n in omega (arith, r)
 
-numbers_from : (i n j : ℕ) → Holds (numbers i n) j → i ≤ j
+numbers_from : (i n j : ℕ) → Contains (numbers i n) j → i ≤ j
 numbers_from i zero j h = absurd h
 numbers_from i (suc n) j h = elim h [ inl e ↦ omega (arith, e) | inr m ↦ let r = numbers_from (suc i) n j m in omega (arith, r) ]
 

@@ -2,7 +2,7 @@
 use Rattle.std.proofs.Common.{◌≡◌, ◌≢◌, ℕ, ◌<◌, ◌≤◌, List, [], ◌∷◌, ◌++◌, length, Some, None, inl, inr, sym, ◌∙◌, subst, ap, refl, map, get_or, arith, cond, true, false, ltb, append_assoc, append-nil}
 use Rattle.std.proofs.lemmas.Bool.{lt-ltb, le-ltb}
 use Rattle.std.proofs.lemmas.List.{ext_get_or, get_or-map, get_or_default}
-use Rattle.tg_rights.proofs.MembershipLemmas.{holds_append}
+use Rattle.tg_rights.proofs.MembershipLemmas.{contains_append}
 use Rattle.tg_cells.specs.declared.cells.Cell.{Cell}
 use Rattle.tg_cells.specs.declared.cells.Cells.TheInside.{Inside}
 use Rattle.tg_cells.specs.Lists.{Edge, CellLists, owned, first_cell, Stands, HasNone, Found}
@@ -173,7 +173,7 @@ search_on cs lists i serial head c k w read other = passes k.rest k.is k.chain k
           rest = es;
           before = head;
           is = is ∙ sym (append_assoc k.passed (e ∷ []) es);
-          none = λ x h. elim (holds_append k.passed (e ∷ []) x h) [
+          none = λ x h. elim (contains_append k.passed (e ∷ []) x h) [
             | inl old ↦ k.none x old
             | inr new ↦ elim new [
               | inl this ↦ λ n. other (ap (λ (y : Cell). y.serial) same ∙ ap (λ (y : Edge). y.serial) (chain.0.edge ∙ sym this) ∙ n)

@@ -3,15 +3,15 @@ use Rattle.std.proofs.Common.{◌≡◌, ◌≢◌, ℕ, ◌+◌, ◌-◌, ◌<�
 use Rattle.std.proofs.lemmas.List.{get_or_default, with_items_is}
 use Rattle.std.specs.Vec.{with_items, with_item}
 use Rattle.std.specs.declared.vec.Vec.{Vec}
-use Rattle.tg_rights.specs.Membership.{Holds, Distinct}
+use Rattle.tg_rights.specs.Membership.{Contains, Distinct}
 use Rattle.tg_rights.specs.Letters.{Letters, is_none}
-use Rattle.tg_rights.proofs.MembershipLemmas.{holds_map}
+use Rattle.tg_rights.proofs.MembershipLemmas.{contains_map}
 use Rattle.tg_cells.specs.declared.cells.Cell.{Cell}
 use Rattle.tg_cells.specs.declared.cells.Cells.TheInside.{Inside}
 use Rattle.tg_cells.specs.Lists.{Edge, CellLists, owned, cells, HasNone, IsFresh}
 use Rattle.tg_cells.specs.Chain.{cell_at, edge_of, with_previous, Chain, Row}
 use Rattle.tg_cells.specs.Inside.{IsFree, Shows, view_of, IsInside}
-use Rattle.tg_cells.proofs.ListLemmas.{holds_within, sound-link}
+use Rattle.tg_cells.proofs.ListLemmas.{contains_within, sound-link}
 use Rattle.tg_cells.proofs.ChainLemmas.{at_same, at_other, Only, only_set, chain_only, chain_own, chain_front, chain_after, row_same, row_only}
 use Rattle.tg_cells.proofs.InsideLemmas.{Leaves, leaves, seen}
 use Rattle.tg_cells.proofs.StepLemmas.{chains_set}
@@ -51,8 +51,8 @@ none_free s v is k past = none shown.free.numbers shown.free.row shown.free.coun
 -- A free cell is in nobody's list.
 free_fresh : (s : Inside) (v : CellLists) (n : ℕ) → Shows s v → (cell_at s.cells.items n).owner ≡ length v.lists → IsFresh v.lists n
 free_fresh s v n k free i e h same =
-    let within : i < length v.lists = holds_within v i e h in
-    let own = chain_own v.size s.cells.items i v.size (get_or s.heads.items i v.size) (owned v.lists i) e.cell (k.chains i within) (holds_map (λ (x : Edge). x.cell) (owned v.lists i) e h) in
+    let within : i < length v.lists = contains_within v i e h in
+    let own = chain_own v.size s.cells.items i v.size (get_or s.heads.items i v.size) (owned v.lists i) e.cell (k.chains i within) (contains_map (λ (x : Edge). x.cell) (owned v.lists i) e h) in
     let owner : (cell_at s.cells.items n).owner ≡ i = ap (λ (m : ℕ). (cell_at s.cells.items m).owner) (sym same) ∙ own.owner in
     omega arith
 
@@ -117,7 +117,7 @@ linked_free end cs owners n i count c es k f =
       numbers = f.rest;
       once = f.once.1;
       row = row_only end (set cs n c) (linked cs n c) owners i (cell_at cs n).next f.rest (linked_only end cs owners n i c es k) (λ same. k.other (sym same))
-          (row_same end cs (set cs n c) owners (cell_at cs n).next f.rest (length-set cs n c) (λ m h. at_other cs n m c (λ is. f.once.0 (subst (λ (x : ℕ). Holds f.rest x) is h))) f.row);
+          (row_same end cs (set cs n c) owners (cell_at cs n).next f.rest (length-set cs n c) (λ m h. at_other cs n m c (λ is. f.once.0 (subst (λ (x : ℕ). Contains f.rest x) is h))) f.row);
       counted = omega arith;
     }
 

@@ -3,9 +3,9 @@ use Rattle.std.proofs.Common.{◌≡◌, ◌≢◌, ℕ, ◌+◌, ◌-◌, ◌<�
 use Rattle.std.proofs.lemmas.Bool.{cases_eq, cases_lt}
 use Rattle.std.proofs.lemmas.List.{get_or_past}
 use Rattle.std.proofs.lemmas.List.Sums.{sum_by-set}
-use Rattle.tg_rights.specs.Membership.{Holds, Distinct}
+use Rattle.tg_rights.specs.Membership.{Contains, Distinct}
 use Rattle.tg_rights.specs.Letters.{Letters, is_none}
-use Rattle.tg_rights.proofs.MembershipLemmas.{holds_append, holds_left, holds_right, holds_middle, holds_around, map_append, distinct_around}
+use Rattle.tg_rights.proofs.MembershipLemmas.{contains_append, contains_left, contains_right, contains_middle, contains_around, map_append, distinct_around}
 use Rattle.tg_cells.specs.Lists.{Edge, CellLists, owned, cells, serials, Stands, HasNone, IsCells, IsFresh}
 
 -- No list is longer than all together, and so than the number of cells.
@@ -13,29 +13,29 @@ pub owned_fits : (v : CellLists) (i : ℕ) → i < length v.lists → IsCells v 
 owned_fits v i w k = let change = sum_by-set length v.lists i [] [] w in let all = k.whole in omega (arith, change, all)
 
 -- An owner of an edge is one of them.
-pub holds_within : (v : CellLists) (i : ℕ) (e : Edge) → Holds (owned v.lists i) e → i < length v.lists
-holds_within v i e h = elim (cases_lt i (length v.lists)) [
+pub contains_within : (v : CellLists) (i : ℕ) (e : Edge) → Contains (owned v.lists i) e → i < length v.lists
+contains_within v i e h = elim (cases_lt i (length v.lists)) [
   | inl w ↦ w
-  | inr past ↦ absurd (subst (λ (l : List Edge). Holds l e) (get_or_past v.lists i [] past) h)
+  | inr past ↦ absurd (subst (λ (l : List Edge). Contains l e) (get_or_past v.lists i [] past) h)
 ]
 
 pub owner_within : (v : CellLists) (n i : ℕ) (p r : List Edge) (e : Edge) → Stands v.lists n i p e r → i < length v.lists
-owner_within v n i p r e st = holds_within v i e (subst (λ (l : List Edge). Holds l e) (sym st.is) (holds_middle p r e))
+owner_within v n i p r e st = contains_within v i e (subst (λ (l : List Edge). Contains l e) (sym st.is) (contains_middle p r e))
 
 -- An element is the one in the middle, or of the rest.
-holds_apart : {X : Type 0} (p r : List X) (y x : X) → Holds (p ++ y ∷ r) x → (x ≡ y) ⊎ Holds (p ++ r) x
-holds_apart p r y x h = elim (holds_append p (y ∷ r) x h) [
-  | inl a ↦ inr (holds_left p r x a)
-  | inr b ↦ elim b [ inl is ↦ inl is | inr c ↦ inr (holds_right p r x c) ]
+contains_apart : {X : Type 0} (p r : List X) (y x : X) → Contains (p ++ y ∷ r) x → (x ≡ y) ⊎ Contains (p ++ r) x
+contains_apart p r y x h = elim (contains_append p (y ∷ r) x h) [
+  | inl a ↦ inr (contains_left p r x a)
+  | inr b ↦ elim b [ inl is ↦ inl is | inr c ↦ inr (contains_right p r x c) ]
 ]
 
 -- What has to hold of a list that takes the place of another, with so many cells free then.
 record Replaces (v : CellLists) (i : ℕ) (es : List Edge) (count : ℕ) : Type 0 where
   within : i < length v.lists
   cell_once : Distinct (cells es)
-  apart : (e : Edge) → Holds es e → (j : ℕ) (f : Edge) → j ≢ i → Holds (owned v.lists j) f → e.cell ≢ f.cell
+  apart : (e : Edge) → Contains es e → (j : ℕ) (f : Edge) → j ≢ i → Contains (owned v.lists j) f → e.cell ≢ f.cell
   serial_once : Distinct (serials es)
-  labelled : (e : Edge) → Holds es e → is_none e.rights ≡ false
+  labelled : (e : Edge) → Contains es e → is_none e.rights ≡ false
   whole : length es + count ≡ length (owned v.lists i) + v.free
 
 sound-replaced : (v : CellLists) (i : ℕ) (es : List Edge) (count : ℕ) → IsCells v → Replaces v i es count → IsCells (record v { lists = set v.lists i es; free = count })
@@ -46,7 +46,7 @@ sound-replaced v i es count k r = record {
     | inr a ↦ elim (cases_eq m i) [ inl b ↦ absurd (r.apart f (here m f b hf) j e a (there j e a he) (sym same)) | inr b ↦ k.one_owner j m e f (there j e a he) (there m f b hf) same ]
   ];
   serial_once = λ j. each j (λ (l : List Edge). Distinct (serials l)) r.serial_once (k.serial_once j);
-  labelled = λ j. each j (λ (l : List Edge). (e : Edge) → Holds l e → is_none e.rights ≡ false) r.labelled (k.labelled j);
+  labelled = λ j. each j (λ (l : List Edge). (e : Edge) → Contains l e → is_none e.rights ≡ false) r.labelled (k.labelled j);
   whole = (let change = sum_by-set length v.lists i es [] r.within in let all = k.whole in let now = r.whole in omega (arith, change, all, now));
 } where
   same_there : (j : ℕ) → j ≢ i → owned (set v.lists i es) j ≡ owned v.lists j
@@ -55,21 +55,21 @@ sound-replaced v i es count k r = record {
   same_here : (j : ℕ) → j ≡ i → owned (set v.lists i es) j ≡ es
   same_here j a = ap (λ (n : ℕ). owned (set v.lists i es) n) a ∙ get_or-set_same v.lists i es [] r.within
 
-  here : (j : ℕ) (e : Edge) → j ≡ i → Holds (owned (set v.lists i es) j) e → Holds es e
-  here j e a h = subst (λ (l : List Edge). Holds l e) (same_here j a) h
+  here : (j : ℕ) (e : Edge) → j ≡ i → Contains (owned (set v.lists i es) j) e → Contains es e
+  here j e a h = subst (λ (l : List Edge). Contains l e) (same_here j a) h
 
-  there : (j : ℕ) (e : Edge) → j ≢ i → Holds (owned (set v.lists i es) j) e → Holds (owned v.lists j) e
-  there j e o h = subst (λ (l : List Edge). Holds l e) (same_there j o) h
+  there : (j : ℕ) (e : Edge) → j ≢ i → Contains (owned (set v.lists i es) j) e → Contains (owned v.lists j) e
+  there j e o h = subst (λ (l : List Edge). Contains l e) (same_there j o) h
 
   each : (j : ℕ) (P : List Edge → Type 0) → P es → P (owned v.lists j) → P (owned (set v.lists i es) j)
   each j P new old = elim (cases_eq j i) [ inl a ↦ subst P (sym (same_here j a)) new | inr o ↦ subst P (sym (same_there j o)) old ]
 
 -- A serial, and a cell, that no edge has is none of the list's.
-has_none : (es : List Edge) (n : ℕ) → HasNone es n → Holds (serials es) n → ⊥
+has_none : (es : List Edge) (n : ℕ) → HasNone es n → Contains (serials es) n → ⊥
 has_none [] n h m = m
 has_none (e ∷ es) n h m = elim m [ inl is ↦ h e (inl refl) (sym is) | inr rest ↦ has_none es n (λ x y. h x (inr y)) rest ]
 
-has_no_cell : (es : List Edge) (n : ℕ) → ((e : Edge) → Holds es e → e.cell ≢ n) → Holds (cells es) n → ⊥
+has_no_cell : (es : List Edge) (n : ℕ) → ((e : Edge) → Contains es e → e.cell ≢ n) → Contains (cells es) n → ⊥
 has_no_cell [] n h m = m
 has_no_cell (e ∷ es) n h m = elim m [ inl is ↦ h e (inl refl) (sym is) | inr rest ↦ has_no_cell es n (λ x y. h x (inr y)) rest ]
 
@@ -94,7 +94,7 @@ sound-unlink v n i p r e k st =
     let cells_split : Distinct (cells p ++ e.cell ∷ cells r) = subst (λ (l : List ℕ). Distinct l) (ap cells st.is ∙ map_append (λ (x : Edge). x.cell) p (e ∷ r)) (k.cell_once i) in
     let serials_split : Distinct (serials p ++ e.serial ∷ serials r) = subst (λ (l : List ℕ). Distinct l) (ap serials st.is ∙ map_append (λ (x : Edge). x.serial) p (e ∷ r)) (k.serial_once i) in
     let size : length (owned v.lists i) ≡ length (p ++ e ∷ r) = ap length st.is in
-    let old = λ (x : Edge) (h : Holds (p ++ r) x). let held : Holds (owned v.lists i) x = subst (λ (l : List Edge). Holds l x) (sym st.is) (holds_around p r e x h) in held in
+    let old = λ (x : Edge) (h : Contains (p ++ r) x). let held : Contains (owned v.lists i) x = subst (λ (l : List Edge). Contains l x) (sym st.is) (contains_around p r e x h) in held in
     sound-replaced v i (p ++ r) (v.free + 1) k (record {
       within = owner_within v n i p r e st;
       cell_once = subst (λ (l : List ℕ). Distinct l) (sym (map_append (λ (x : Edge). x.cell) p r)) (distinct_around (cells p) (cells r) e.cell cells_split).0;
@@ -113,17 +113,17 @@ sound-rights v n i p r e w k st some =
     let serials_stay : serials (owned v.lists i) ≡ serials (p ++ record e { rights = w } ∷ r) =
     ap serials st.is ∙ map_append (λ (x : Edge). x.serial) p (e ∷ r) ∙ sym (map_append (λ (x : Edge). x.serial) p (record e { rights = w } ∷ r)) in
     let size : length (owned v.lists i) ≡ length (p ++ e ∷ r) = ap length st.is in
-    let held : Holds (owned v.lists i) e = subst (λ (l : List Edge). Holds l e) (sym st.is) (holds_middle p r e) in
-    let rest = λ (x : Edge) (h : Holds (p ++ r) x). let old : Holds (owned v.lists i) x = subst (λ (l : List Edge). Holds l x) (sym st.is) (holds_around p r e x h) in old in
+    let held : Contains (owned v.lists i) e = subst (λ (l : List Edge). Contains l e) (sym st.is) (contains_middle p r e) in
+    let rest = λ (x : Edge) (h : Contains (p ++ r) x). let old : Contains (owned v.lists i) x = subst (λ (l : List Edge). Contains l x) (sym st.is) (contains_around p r e x h) in old in
     sound-replaced v i (p ++ record e { rights = w } ∷ r) v.free k (record {
       within = owner_within v n i p r e st;
       cell_once = subst (λ (l : List ℕ). Distinct l) cells_stay (k.cell_once i);
-      apart = λ x h j f o hf same. elim (holds_apart p r (record e { rights = w }) x h) [
+      apart = λ x h j f o hf same. elim (contains_apart p r (record e { rights = w }) x h) [
         | inl is ↦ o (sym (k.one_owner i j e f held hf (sym (ap (λ (y : Edge). y.cell) is) ∙ same)))
         | inr old ↦ o (sym (k.one_owner i j x f (rest x old) hf same))
       ];
       serial_once = subst (λ (l : List ℕ). Distinct l) serials_stay (k.serial_once i);
-      labelled = λ x h. elim (holds_apart p r (record e { rights = w }) x h) [
+      labelled = λ x h. elim (contains_apart p r (record e { rights = w }) x h) [
         | inl is ↦ subst (λ (y : Edge). is_none y.rights ≡ false) (sym is) some
         | inr old ↦ k.labelled i x (rest x old)
       ];
@@ -134,8 +134,8 @@ sound-rights v n i p r e w k st some =
 pub sound-empty : (v : CellLists) → ((i : ℕ) → owned v.lists i ≡ []) → sum_by length v.lists + v.free ≡ v.size → IsCells v
 sound-empty v none whole = record {
   cell_once = λ i. subst (λ (l : List Edge). Distinct (cells l)) (sym (none i)) tt;
-  one_owner = λ i j e f h. absurd (subst (λ (l : List Edge). Holds l e) (none i) h);
+  one_owner = λ i j e f h. absurd (subst (λ (l : List Edge). Contains l e) (none i) h);
   serial_once = λ i. subst (λ (l : List Edge). Distinct (serials l)) (sym (none i)) tt;
-  labelled = λ i e h. absurd (subst (λ (l : List Edge). Holds l e) (none i) h);
+  labelled = λ i e h. absurd (subst (λ (l : List Edge). Contains l e) (none i) h);
   whole = whole;
 }

@@ -4,7 +4,7 @@ use Rattle.std.proofs.lemmas.Bool.{cases_Bool, ne_eqb, cond-true, cond-false}
 use Rattle.std.proofs.lemmas.List.{get_or_default, with_items_is}
 use Rattle.std.specs.Vec.{with_items, with_item}
 use Rattle.std.specs.declared.vec.Vec.{Vec}
-use Rattle.tg_rights.specs.Membership.{Holds}
+use Rattle.tg_rights.specs.Membership.{Contains}
 use Rattle.tg_cells.specs.declared.cells.Cell.{Cell}
 use Rattle.tg_cells.specs.declared.cells.Cells.TheInside.{Inside}
 use Rattle.tg_cells.specs.Lists.{Edge, CellLists, owned, cells, Stands}
@@ -26,11 +26,11 @@ unlinked cs n a b owners free = set (joined cs a b) n (record (cell_at (joined c
 record Neighbours (end : ℕ) (cs : List Cell) (i n a b : ℕ) (p r : List ℕ) : Type 0 where
   size : length cs ≡ end
   apart : Apart p n r
-  before : (a ≡ end) ⊎ Holds p a
-  after : (b ≡ end) ⊎ Holds r b
+  before : (a ≡ end) ⊎ Contains p a
+  after : (b ≡ end) ⊎ Contains r b
   own : IsOwn cs n i
-  front : (m : ℕ) → Holds p m → IsOwn cs m i
-  back : (m : ℕ) → Holds r m → IsOwn cs m i
+  front : (m : ℕ) → Contains p m → IsOwn cs m i
+  back : (m : ℕ) → Contains r m → IsOwn cs m i
 
 neighbours : (end : ℕ) (cs : List Cell) (i head : ℕ) (p r : List Edge) (e : Edge) → length cs ≡ end → Apart (cells p) e.cell (cells r) → Parts end cs i end head p e r
     → Neighbours end cs i e.cell (cell_at cs e.cell).previous (cell_at cs e.cell).next (cells p) (cells r)
@@ -45,7 +45,7 @@ neighbours end cs i head p r e size apart k = record {
 }
 
 -- The cells before stay but for their last, and the cells after but for their first.
-front_stays : (end : ℕ) (cs : List Cell) (i n a b owners free : ℕ) (p r : List ℕ) → Neighbours end cs i n a b p r → (m : ℕ) → Holds p m → cell_at (unlinked cs n a b owners free) m ≡ cell_at (with_next cs a b) m
+front_stays : (end : ℕ) (cs : List Cell) (i n a b owners free : ℕ) (p r : List ℕ) → Neighbours end cs i n a b p r → (m : ℕ) → Contains p m → cell_at (unlinked cs n a b owners free) m ≡ cell_at (with_next cs a b) m
 front_stays end cs i n a b owners free p r k m h =
     at_other (joined cs a b) n m _ (k.apart.before m h)
     ∙ at_other (with_next cs a b) b m _ (elim k.after [
@@ -53,7 +53,7 @@ front_stays end cs i n a b owners free p r k m h =
       | inr there ↦ λ same. k.apart.across m b h there same
     ])
 
-back_not_before : (end : ℕ) (cs : List Cell) (i n a b : ℕ) (p r : List ℕ) → Neighbours end cs i n a b p r → (m : ℕ) → Holds r m → m ≢ a
+back_not_before : (end : ℕ) (cs : List Cell) (i n a b : ℕ) (p r : List ℕ) → Neighbours end cs i n a b p r → (m : ℕ) → Contains r m → m ≢ a
 back_not_before end cs i n a b p r k m h = elim k.before [
   | inl is ↦ λ same. let within = (k.back m h).within in let size = k.size in omega arith
   | inr there ↦ λ same. k.apart.across a m there h (sym same)
@@ -85,7 +85,7 @@ front_path : (end : ℕ) (cs : List Cell) (i head n a b owners free : ℕ) (p : 
     → Path (unlinked cs n a b owners free) i end (cond (eqb a end) b head) p a b
 front_path end cs i head n a b owners free [] r k c = (c.0, cond-true (eqb a end) b head (eq-eqb a end (sym c.0)))
 front_path end cs i head n a b owners free (d ∷ p) r k c =
-    let held : Holds (cells (d ∷ p)) a = path_last cs i end head d p a n c in
+    let held : Contains (cells (d ∷ p)) a = path_last cs i end head d p a n c in
     let within = (k.front a held).within in
     let size = k.size in
     let stays : cond (eqb a end) b head ≡ head = cond-false (eqb a end) b head (ne_eqb a end (omega arith)) in

@@ -1,7 +1,7 @@
 -- What contracts see of the cells: one list of edges for each owner.
 use Rattle.std.specs.Prelude.{◌≡◌, ◌≢◌, ℕ, ◌+◌, List, [], ◌∷◌, ◌++◌, length, Option, Some, None, map, sum_by, false}
 use Rattle.std.proofs.Common.{get_or}
-use Rattle.tg_rights.specs.Membership.{Holds, Distinct}
+use Rattle.tg_rights.specs.Membership.{Contains, Distinct}
 use Rattle.tg_rights.specs.Letters.{Letters, is_none}
 
 -- An edge: the cell that holds it, the slot and the serial that it leads to, and its label.
@@ -55,11 +55,11 @@ pub record IsLinkedBy (lists : List (List Edge)) (cell owner : ℕ) : Type 0 whe
 
 -- The owner has no edge of the serial.
 abbrev pub HasNone : List Edge → ℕ → Type 0
-HasNone es serial = (e : Edge) → Holds es e → e.serial ≢ serial
+HasNone es serial = (e : Edge) → Contains es e → e.serial ≢ serial
 
 -- The cell is in nobody's list.
 abbrev pub IsFresh : List (List Edge) → ℕ → Type 0
-IsFresh lists cell = (i : ℕ) (e : Edge) → Holds (owned lists i) e → e.cell ≢ cell
+IsFresh lists cell = (i : ℕ) (e : Edge) → Contains (owned lists i) e → e.cell ≢ cell
 
 -- The edge of the serial, with those before and after it.
 pub record Found (es : List Edge) (serial : ℕ) : Type 0 where
@@ -72,7 +72,7 @@ pub record Found (es : List Edge) (serial : ℕ) : Type 0 where
 -- No cell is in a list twice or in two lists, no list has a serial twice, no label is empty, and every cell is in a list or free.
 pub record IsCells (c : CellLists) : Type 0 where
   pub cell_once : (i : ℕ) → Distinct (cells (owned c.lists i))
-  pub one_owner : (i j : ℕ) (e f : Edge) → Holds (owned c.lists i) e → Holds (owned c.lists j) f → e.cell ≡ f.cell → i ≡ j
+  pub one_owner : (i j : ℕ) (e f : Edge) → Contains (owned c.lists i) e → Contains (owned c.lists j) f → e.cell ≡ f.cell → i ≡ j
   pub serial_once : (i : ℕ) → Distinct (serials (owned c.lists i))
-  pub labelled : (i : ℕ) (e : Edge) → Holds (owned c.lists i) e → is_none e.rights ≡ false
+  pub labelled : (i : ℕ) (e : Edge) → Contains (owned c.lists i) e → is_none e.rights ≡ false
   pub whole : sum_by length c.lists + c.free ≡ c.size

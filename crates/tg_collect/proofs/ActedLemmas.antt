@@ -8,7 +8,7 @@ use Rattle.std.specs.FinMap.{get-insert}
 use Rattle.std.specs.FinSet as finset
 use Rattle.std.specs.FinSet.{contains-insert, contains-union, contains-difference}
 use Rattle.tg_rights.specs.Letters.{Letters}
-use Rattle.tg_rights.specs.Membership.{Holds}
+use Rattle.tg_rights.specs.Membership.{Contains}
 use Rattle.tg_rights.specs.declared.kind.Kind.{Kind}
 use Rattle.tg_slots.specs.declared.colour.Colour.{Colour}
 use Rattle.tg_slots.specs.declared.colour.Colour.TheVariants.{White, Grey, Black}
@@ -29,7 +29,7 @@ acted_same v w is = subst (λ (z : Stored). Acted v z None None) (sym is) (recor
   parked = refl;
   slots = refl;
   cells = refl;
-  unfinished = λ x h. inl h;
+  pending = λ x h. inl h;
   vertices = λ x h. inl h;
   edges = λ x y h. inl h;
   grey = λ x h. inl h;
@@ -38,17 +38,17 @@ acted_same v w is = subst (λ (z : Stored). Acted v z None None) (sym is) (recor
 })
 
 -- Who stands in a list after a place was set.
-pub set_only : {X : Type 0} (xs : List X) (k : ℕ) (v z : X) → Holds (set xs k v) z → Holds xs z ⊎ (v ≡ z)
+pub set_only : {X : Type 0} (xs : List X) (k : ℕ) (v z : X) → Contains (set xs k v) z → Contains xs z ⊎ (v ≡ z)
 set_only [] k v z h = absurd h
 set_only (x ∷ xs) zero v z (inl e) = inr (sym e)
 set_only (x ∷ xs) zero v z (inr h) = inl (inr h)
 set_only (x ∷ xs) (suc k) v z (inl e) = inl (inl e)
 set_only (x ∷ xs) (suc k) v z (inr h) = elim (set_only xs k v z h) [ inl old ↦ inl (inr old) | inr new ↦ inr new ]
 
-pub at_holds : (xs : List (Option ℕ)) (k x : ℕ) → get_or xs k None ≡ Some x → Holds xs (Some x)
-at_holds [] k x e = absurd (cc)
-at_holds (y ∷ xs) zero x e = inl (sym e)
-at_holds (y ∷ xs) (suc k) x e = inr (at_holds xs k x e)
+pub at_contains : (xs : List (Option ℕ)) (k x : ℕ) → get_or xs k None ≡ Some x → Contains xs (Some x)
+at_contains [] k x e = absurd (cc)
+at_contains (y ∷ xs) zero x e = inl (sym e)
+at_contains (y ∷ xs) (suc k) x e = inr (at_contains xs k x e)
 
 or_either : (a b : Bool) → (a || b) ≡ true → (a ≡ true) ⊎ (b ≡ true)
 or_either true b e = inl refl
@@ -65,7 +65,7 @@ acted_shaded v w seat (Some x) s = subst (λ (z : Stored). Acted v z None None) 
   parked = refl;
   slots = length-set v.marks s.slot _;
   cells = refl;
-  unfinished = λ y h. elim (set_only v.unfinished seat None (Some y) h) [ inl old ↦ inl old | inr new ↦ absurd (cc) ];
+  pending = λ y h. elim (set_only v.pending seat None (Some y) h) [ inl old ↦ inl old | inr new ↦ absurd (cc) ];
   vertices = λ y h. inl h;
   edges = λ y z h. inl h;
   grey = λ y h. by (finset.contains v.black x) y h;
@@ -74,7 +74,7 @@ acted_shaded v w seat (Some x) s = subst (λ (z : Stored). Acted v z None None) 
 }) where
   by : (b : Bool) (y : ℕ) → InSet (cond b v.grey (finset.insert v.grey x)) y → InSet v.grey y ⊎ IsRootIn v y
   by true y h = inl h
-  by false y h = elim (in_insert v.grey x y h) [ inl old ↦ inl old | inr new ↦ inr (inr (subst (λ (z : ℕ). Holds v.unfinished (Some z)) (sym new) (at_holds v.unfinished seat x s.was))) ]
+  by false y h = elim (in_insert v.grey x y h) [ inl old ↦ inl old | inr new ↦ inr (inr (subst (λ (z : ℕ). Contains v.pending (Some z)) (sym new) (at_contains v.pending seat x s.was))) ]
 
 edge_union : (v : Stored) (x y a b : ℕ) (rights : Letters) → (r : _) → finset.contains (finset.union v.triples (edge x rights y)) (record { from = a; right = r; to = b }) ≡ true → IsEdgeIn v a b ⊎ (b ≡ y)
 edge_union v x y a b rights r h = elim (or_either _ _ (sym (contains-union triple_cmp_total v.triples (edge x rights y) (record { from = a; right = r; to = b })) ∙ h)) [
@@ -89,7 +89,7 @@ acted_edge v w seat x y rights s = subst (λ (z : Stored). Acted v z None (Some 
   parked = refl;
   slots = refl;
   cells = refl;
-  unfinished = λ z h. set_only v.unfinished seat (Some y) (Some z) h;
+  pending = λ z h. set_only v.pending seat (Some y) (Some z) h;
   vertices = λ z h. inl h;
   edges = λ a b h. elim (edge_union v x y a b rights h.0 h.1) [ inl old ↦ inl old | inr new ↦ inr (ap Some (sym new)) ];
   grey = λ z h. inl h;
@@ -110,7 +110,7 @@ acted_vertex v w seat x serial kind text rights s = subst (λ (z : Stored). Acte
   parked = refl;
   slots = length-set v.marks s.slot _;
   cells = refl;
-  unfinished = λ z h. set_only v.unfinished seat (Some serial) (Some z) h;
+  pending = λ z h. set_only v.pending seat (Some serial) (Some z) h;
   vertices = λ z h. elim (held_insert v serial z _ h) [ inl old ↦ inl old | inr new ↦ inr (ap Some (sym new)) ];
   edges = λ a b h. elim (edge_union v x serial a b rights h.0 h.1) [ inl old ↦ inl old | inr new ↦ inr (ap Some (sym new)) ];
   grey = λ z h. inl h;
@@ -129,7 +129,7 @@ acted_removed v w x y rights s = subst (λ (z : Stored). Acted v z None None) (s
   parked = refl;
   slots = refl;
   cells = refl;
-  unfinished = λ z h. inl h;
+  pending = λ z h. inl h;
   vertices = λ z h. inl h;
   edges = λ a b h. inl (h.0, (and_both _ _ (sym (contains-difference triple_cmp_total v.triples (edge x rights y) (record { from = a; right = h.0; to = b })) ∙ h.1)).0);
   grey = λ z h. inl h;
@@ -144,7 +144,7 @@ acted_text v w x text answer s = subst (λ (z : Stored). Acted v z None None) (s
   parked = refl;
   slots = refl;
   cells = refl;
-  unfinished = λ z h. inl h;
+  pending = λ z h. inl h;
   vertices = λ z h. elim (held_insert v x z _ h) [ inl old ↦ inl old | inr new ↦ inl (subst (IsHeldIn v) (sym new) (ap is_some s.was)) ];
   edges = λ a b h. inl h;
   grey = λ z h. inl h;

@@ -7,7 +7,7 @@ use Rattle.std.specs.FinMap as finmap
 use Rattle.std.specs.FinSet as finset
 use Rattle.tg_rights.specs.Letters.{Letters, Right, has, none, includes, is_none}
 use Rattle.tg_rights.specs.Letters as right
-use Rattle.tg_rights.specs.Membership.{Holds}
+use Rattle.tg_rights.specs.Membership.{Contains}
 use Rattle.tg_rights.specs.declared.kind.Kind.{Kind}
 use Rattle.tg_rights.proofs.MembershipLemmas.{same_by, split_at}
 use Rattle.tg_graph.specs.Protection.{label}
@@ -22,7 +22,7 @@ use Rattle.tg_collect.specs.Names.{IsNamed, Whole}
 use Rattle.tg_collect.specs.Stored.{Stored, stored, held, serial_of, vertex_of, principals_of}
 use Rattle.tg_collect.specs.Views.{IsHeldIn, IsEdgeIn, place, serial_at}
 use Rattle.tg_collect.specs.Sessions.{pending_of, EdgeStored, VertexStored}
-use Rattle.tg_collect.proofs.MachineLemmas.{held_within, index_holds}
+use Rattle.tg_collect.proofs.MachineLemmas.{held_within, index_contains}
 use Rattle.tg_collect.proofs.SetLemmas.{stands_get}
 use Rattle.tg_collect.proofs.EdgeShown.{says_triple, triple_says}
 use Rattle.tg_collect.proofs.EdgeCalls.{edge_listed}
@@ -42,16 +42,16 @@ pub placed_within : (m : Machine) (id : ℕ) → is_some (place (stored m) id) �
 placed_within m id e = held_within m id (placed_name m id e).1.0
 
 -- The seat has no target.
-pub idle_seat : (m : Machine) (seat : ℕ) → pending_of (stored m) seat ≡ None → get_or m.unfinished.items seat None ≡ None
-idle_seat m seat e = by (get_or m.unfinished.items seat None) (sym (get_or-map serial_of m.unfinished.items seat None) ∙ e) where
+pub idle_seat : (m : Machine) (seat : ℕ) → pending_of (stored m) seat ≡ None → get_or m.pending.items seat None ≡ None
+idle_seat m seat e = by (get_or m.pending.items seat None) (sym (get_or-map serial_of m.pending.items seat None) ∙ e) where
   by : (r : Option Root) → serial_of r ≡ None → r ≡ None
   by None e = refl
   by (Some r) e = absurd (cc)
 
-pub seat_shown : (m : Machine) (seat : ℕ) → pending_of (stored m) seat ≡ serial_of (get_or m.unfinished.items seat None)
-seat_shown m seat = get_or-map serial_of m.unfinished.items seat None
+pub seat_shown : (m : Machine) (seat : ℕ) → pending_of (stored m) seat ≡ serial_of (get_or m.pending.items seat None)
+seat_shown m seat = get_or-map serial_of m.pending.items seat None
 
-pub seat_within : (m : Machine) (seat : ℕ) → Whole m → seat < 64 → seat < length m.unfinished.items
+pub seat_within : (m : Machine) (seat : ℕ) → Whole m → seat < 64 → seat < length m.pending.items
 seat_within m seat w b = let s = w.seats in omega (arith, s, b)
 
 -- What a held slot's vertex shows.
@@ -94,7 +94,7 @@ label_none m id y next w e n =
     subst (λ (x : ℕ). label (held (stored m) next) x y ≡ none) v.0.2 (label_is (stored m) next v.0.0.serial y none (no_triple m id y v.0.0 w v.0.1 n))
 
 -- The triples over one serial are those of its edge.
-edge_triple : (m : Machine) (id y : ℕ) (o : Occupant) (e : Edge) → IsHeap m.heap → Whole m → IsHeld m id → slot m.heap.table id ≡ Some o → Holds (edges m.heap id) e → e.serial ≡ y
+edge_triple : (m : Machine) (id y : ℕ) (o : Occupant) (e : Edge) → IsHeap m.heap → Whole m → IsHeld m id → slot m.heap.table id ≡ Some o → Contains (edges m.heap id) e → e.serial ≡ y
     → (r : Right) → finset.contains (stored m).triples (record { from = o.serial; right = r; to = y }) ≡ has e.rights r
 edge_triple m id y o e ok w held is owned to r = both_true _ _
     (λ t.
@@ -103,21 +103,21 @@ edge_triple m id y o e ok w held is owned to r = both_true _ _
     subst (λ (x : Edge). has x.rights r ≡ true) same s.right)
     (λ t. says_triple m.progress m.heap id o (record { from = o.serial; right = r; to = y }) is held refl (record { edge = e; owned = owned; to = to; right = t }))
 
-pub label_edge : (m : Machine) (id y next : ℕ) (e : Edge) → IsHeap m.heap → Whole m → is_some (place (stored m) id) ≡ true → Holds (edges m.heap id) e → e.serial ≡ y → label (held (stored m) next) (serial_at (stored m) id) y ≡ e.rights
+pub label_edge : (m : Machine) (id y next : ℕ) (e : Edge) → IsHeap m.heap → Whole m → is_some (place (stored m) id) ≡ true → Contains (edges m.heap id) e → e.serial ≡ y → label (held (stored m) next) (serial_at (stored m) id) y ≡ e.rights
 label_edge m id y next e ok w at owned to =
     let v = placed_name m id at in
     subst (λ (x : ℕ). label (held (stored m) next) x y ≡ e.rights) v.0.2 (label_is (stored m) next v.0.0.serial y e.rights (edge_triple m id y v.0.0 e ok w v.1 v.0.1 owned to))
 
-found_holds : (es : List Edge) (y : ℕ) (f : Found es y) → Holds es f.edge
-found_holds es y f = subst (λ (l : List Edge). Holds l f.edge) (sym f.is) (middle f.before) where
-  middle : (p : List Edge) → Holds (p ++ f.edge ∷ f.after) f.edge
+found_contains : (es : List Edge) (y : ℕ) (f : Found es y) → Contains es f.edge
+found_contains es y f = subst (λ (l : List Edge). Contains l f.edge) (sym f.is) (middle f.before) where
+  middle : (p : List Edge) → Contains (p ++ f.edge ∷ f.after) f.edge
   middle [] = inl refl
   middle (x ∷ p) = inr (middle p)
 
 pub edge_shown : (m : Machine) (id y : ℕ) (f : Found (edges m.heap id) y) → IsHeap m.heap → Whole m → is_some (place (stored m) id) ≡ true
     → (place (stored m) f.edge.target ≡ Some y) × (is_none f.edge.rights ≡ false) × ((next : ℕ) → label (held (stored m) next) (serial_at (stored m) id) y ≡ f.edge.rights)
 edge_shown m id y f ok w at =
-    let owned = found_holds (edges m.heap id) y f in
+    let owned = found_contains (edges m.heap id) y f in
     let n = placed_name m id at in (
       named_place m.progress m.heap f.edge.target y (subst (IsNamed m.heap f.edge.target) f.here (w.names.edge id f.edge n.1 owned)) (w.kept.closed id f.edge n.1 owned),
       ok.cells.labelled id f.edge owned,
@@ -151,17 +151,17 @@ text_found m id (Some t) get e is = refl
 
 -- The principals by their serials.
 pub principal_found : (m : Machine) (k : ℕ) (d : Root) → Whole m → k < length m.principals.items → (x : ℕ) → (get_or m.principals.items k d).serial ≡ x
-    → Holds (stored m).principals x × (place (stored m) (get_or m.principals.items k d).slot ≡ Some x)
+    → Contains (stored m).principals x × (place (stored m) (get_or m.principals.items k d).slot ≡ Some x)
 principal_found m k d w b x e =
     let r : Root = get_or m.principals.items k d in
-    let listed : Holds m.principals.items (record { serial = x; slot = r.slot }) = subst (λ (s : ℕ). Holds m.principals.items (record { serial = s; slot = r.slot })) e (index_holds m.principals.items r d k b refl) in (
+    let listed : Contains m.principals.items (record { serial = x; slot = r.slot }) = subst (λ (s : ℕ). Contains m.principals.items (record { serial = s; slot = r.slot })) e (index_contains m.principals.items r d k b refl) in (
       at_serial m.principals.items x r.slot listed,
       named_place m.progress m.heap r.slot x (w.names.root r.slot x (inl listed)) (w.kept.roots_held r.slot (inl (x, listed))),
     )
 
-pub no_principal : (m : Machine) (x : ℕ) (d : Root) → ((k : ℕ) → k < length m.principals.items → (get_or m.principals.items k d).serial ≢ x) → Holds (stored m).principals x → ⊥
+pub no_principal : (m : Machine) (x : ℕ) (d : Root) → ((k : ℕ) → k < length m.principals.items → (get_or m.principals.items k d).serial ≢ x) → Contains (stored m).principals x → ⊥
 no_principal m x d none h = go m.principals.items none h where
-  go : (rs : List Root) → ((k : ℕ) → k < length rs → (get_or rs k d).serial ≢ x) → Holds (principals_of rs) x → ⊥
+  go : (rs : List Root) → ((k : ℕ) → k < length rs → (get_or rs k d).serial ≢ x) → Contains (principals_of rs) x → ⊥
   go [] n h = h
   go (r ∷ rs) n (inl e) = n 0 (omega arith) (sym e)
   go (r ∷ rs) n (inr h) = go rs (λ k b. n (suc k) (omega (arith, b))) h

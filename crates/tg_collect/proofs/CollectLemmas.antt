@@ -8,7 +8,7 @@ use Rattle.std.specs.FinMap as finmap
 use Rattle.std.specs.FinMap.{nat_cmp-IsAntisymmetric}
 use Rattle.std.specs.FinSet as finset
 use Rattle.std.specs.FinSet.{contains-remove, same_set}
-use Rattle.tg_rights.specs.Membership.{Holds}
+use Rattle.tg_rights.specs.Membership.{Contains}
 use Rattle.tg_slots.specs.Table.{Mark, Free, Has, mark_of, slot}
 use Rattle.tg_slots.specs.declared.slots.Occupant.{Occupant}
 use Rattle.tg_slots.specs.declared.colour.Colour.{Colour}
@@ -23,7 +23,7 @@ use Rattle.tg_collect.specs.declared.machine.Root.{Root}
 use Rattle.tg_collect.specs.declared.machine.Progress.{Progress}
 use Rattle.tg_collect.specs.declared.machine.Progress.TheVariants.{Idle, Marking, Sweeping}
 use Rattle.tg_collect.specs.declared.machine.Machine.{Machine}
-use Rattle.tg_collect.specs.Machine.{IsPrincipal, IsUnfinished, IsRoot, IsReached, IsHeld, CondemnedAt, HeldAt, Invariant, PhaseHolds, phase_of, without_slot}
+use Rattle.tg_collect.specs.Machine.{IsPrincipal, IsPending, IsRoot, IsReached, IsHeld, CondemnedAt, HeldAt, Invariant, PhaseHolds, phase_of, without_slot}
 use Rattle.tg_collect.specs.Names.{IsNamed, IsRootOf, Names, Whole}
 use Rattle.tg_collect.specs.Lines.{Line, starts, scans, blackens, takes, settles, condemns, skips, whitens, strips, frees, finishes, Steps}
 use Rattle.tg_rights.specs.Letters.{Letters, Right, has, is_none}
@@ -63,37 +63,37 @@ and_both true b e = (refl, e)
 and_both false b e = absurd (cc)
 
 -- Roots by serial are roots by slot.
-serial_at : (rs : List Root) (x : ℕ) → Holds (map (λ (r : Root). r.serial) rs) x → (i : ℕ) × Holds rs (record { serial = x; slot = i })
+serial_at : (rs : List Root) (x : ℕ) → Contains (map (λ (r : Root). r.serial) rs) x → (i : ℕ) × Contains rs (record { serial = x; slot = i })
 serial_at [] x h = absurd h
 serial_at (r ∷ rs) x (inl is) = (r.slot, inl (rw is refl))
 serial_at (r ∷ rs) x (inr h) = let a = serial_at rs x h in (a.0, inr a.1)
 
-target_at : (rs : List (Option Root)) (x : ℕ) → Holds (map (λ (o : Option Root). serial_of o) rs) (Some x) → (i : ℕ) × Holds rs (Some (record { serial = x; slot = i }))
+target_at : (rs : List (Option Root)) (x : ℕ) → Contains (map (λ (o : Option Root). serial_of o) rs) (Some x) → (i : ℕ) × Contains rs (Some (record { serial = x; slot = i }))
 target_at [] x h = absurd h
 target_at (None ∷ rs) x (inl is) = absurd (cc)
 target_at (Some r ∷ rs) x (inl is) = (r.slot, inl (let e : x ≡ r.serial = cc in rw e refl))
 target_at (r ∷ rs) x (inr h) = let a = target_at rs x h in (a.0, inr a.1)
 
-pub at_serial : (rs : List Root) (x i : ℕ) → Holds rs (record { serial = x; slot = i }) → Holds (map (λ (r : Root). r.serial) rs) x
+pub at_serial : (rs : List Root) (x i : ℕ) → Contains rs (record { serial = x; slot = i }) → Contains (map (λ (r : Root). r.serial) rs) x
 at_serial [] x i h = absurd h
 at_serial (r ∷ rs) x i (inl is) = inl (ap (λ (q : Root). q.serial) is)
 at_serial (r ∷ rs) x i (inr h) = inr (at_serial rs x i h)
 
-at_target : (rs : List (Option Root)) (x i : ℕ) → Holds rs (Some (record { serial = x; slot = i })) → Holds (map (λ (o : Option Root). serial_of o) rs) (Some x)
+at_target : (rs : List (Option Root)) (x i : ℕ) → Contains rs (Some (record { serial = x; slot = i })) → Contains (map (λ (o : Option Root). serial_of o) rs) (Some x)
 at_target [] x i h = absurd h
 at_target (r ∷ rs) x i (inl is) = inl (ap (λ (q : Option Root). serial_of q) is)
 at_target (r ∷ rs) x i (inr h) = inr (at_target rs x i h)
 
 pub root_slot : (m : Machine) (x : ℕ) → IsRootIn (stored m) x → (i : ℕ) × IsRootOf m i x
 root_slot m x (inl p) = let a = serial_at m.principals.items x p in (a.0, inl a.1)
-root_slot m x (inr u) = let a = target_at m.unfinished.items x u in (a.0, inr a.1)
+root_slot m x (inr u) = let a = target_at m.pending.items x u in (a.0, inr a.1)
 
 -- A root's slot is named by a root's serial.
 pub slot_root : (m : Machine) → Names m.heap m.progress (IsRootOf m) → (i x : ℕ) → IsRoot m i → IsNamed m.heap i x → IsRootIn (stored m) x
 slot_root m n i x (inl p) a = let e : p.0 ≡ x = one_name m.heap i p.0 x (n.root i p.0 (inl p.1)) a in
-    inl (subst (Holds (map (λ (r : Root). r.serial) m.principals.items)) e (at_serial m.principals.items p.0 i p.1))
+    inl (subst (Contains (map (λ (r : Root). r.serial) m.principals.items)) e (at_serial m.principals.items p.0 i p.1))
 slot_root m n i x (inr u) a = let e : u.0 ≡ x = one_name m.heap i u.0 x (n.root i u.0 (inr u.1)) a in
-    inr (subst (λ (y : ℕ). Holds (map (λ (o : Option Root). serial_of o) m.unfinished.items) (Some y)) e (at_target m.unfinished.items u.0 i u.1))
+    inr (subst (λ (y : ℕ). Contains (map (λ (o : Option Root). serial_of o) m.pending.items) (Some y)) e (at_target m.pending.items u.0 i u.1))
 
 -- What is live by serials is reached by slots.
 pub live_slot : (m : Machine) → Invariant m → Names m.heap m.progress (IsRootOf m) → (x : ℕ) → Live (seen (stored m)) x → (i : ℕ) × IsNamed m.heap i x × IsReached m i × IsHeld m i
@@ -105,7 +105,7 @@ live_slot m kept n _ (edge_lives x y l e) =
     let here = live_slot m kept n x l in
     let s = triple_owned m.heap m.progress (record { from = x; right = e.0; to = y }) e.1 in
     let at : s.at ≡ here.0 = n.once s.at here.0 x (s.occupant, s.is, sym s.from) here.1 in
-    let owned : Holds (edges m.heap here.0) s.edge = subst (λ (k : ℕ). Holds (edges m.heap k) s.edge) at s.owned in
+    let owned : Contains (edges m.heap here.0) s.edge = subst (λ (k : ℕ). Contains (edges m.heap k) s.edge) at s.owned in
     (s.edge.target, subst (IsNamed m.heap s.edge.target) (sym s.to) (n.edge here.0 s.edge here.3 owned), along here.0 s.edge here.2 owned, kept.closed here.0 s.edge here.3 owned)
 
 -- A grey slot that isn't condemned shows an edge.
@@ -123,7 +123,7 @@ occupant_of h i c e = by (slot h.table i) refl where
   by (Some o) f = (o, f)
 
 -- An edge of a held slot shows as an edge.
-pub shows_edge : (m : Machine) → Names m.heap m.progress (IsRootOf m) → (i : ℕ) (e : Edge) → IsHeld m i → Holds (edges m.heap i) e → (r : Right) → has e.rights r ≡ true
+pub shows_edge : (m : Machine) → Names m.heap m.progress (IsRootOf m) → (i : ℕ) (e : Edge) → IsHeld m i → Contains (edges m.heap i) e → (r : Right) → has e.rights r ≡ true
     → (o : Occupant) → slot m.heap.table i ≡ Some o → IsEdgeIn (stored m) o.serial e.serial
 shows_edge m n i e held owned r y o is = (
   r,
@@ -141,7 +141,7 @@ some_right l e = by l.read l.write l.take l.grant e where
   by false false false false e = absurd (cc)
 
 -- The step into the sweep.
-pub parks : (m : Machine) → m.progress ≡ Marking None → m.heap.table.grey ≡ [] → ((i : ℕ) → IsUnfinished m i → mark_at m.heap i ≡ Has White → ⊥)
+pub parks : (m : Machine) → m.progress ≡ Marking None → m.heap.table.grey ≡ [] → ((i : ℕ) → IsPending m i → mark_at m.heap i ≡ Has White → ⊥)
     → Invariant m → Names m.heap m.progress (IsRootOf m) → Parks (stored m) (stored (record m { progress = Sweeping 0 }))
 parks m at none settled kept n = record {
   no_grey = λ x t. let s = colour_shows m.heap Grey x t in not_grey s.at s.mark;
@@ -189,7 +189,7 @@ parks m at none settled kept n = record {
   old = subst (λ (p : Progress). PhaseHolds p m) at kept.phase
 
   not_grey : (i : ℕ) → mark_at m.heap i ≡ Has Grey → ⊥
-  not_grey i g = elim (old.grey_known i g) [ inl w ↦ subst (λ (l : List ℕ). Holds l i) none w | inr s ↦ s ]
+  not_grey i g = elim (old.grey_known i g) [ inl w ↦ subst (λ (l : List ℕ). Contains l i) none w | inr s ↦ s ]
 
   held_before : (i : ℕ) → mark_at m.heap i ≢ Free → HeldAt m.heap m.progress i
   held_before i f = (f, λ c. subst (λ (p : Progress). CondemnedAt p m.heap i) at c)
@@ -250,7 +250,7 @@ line_condemns P U h _ _ _ _ _ (strips at e r l m w) a b = absurd (cc)
 line_condemns P U h _ _ _ _ _ (frees at l m w) a b = absurd (cc)
 line_condemns P U h _ _ _ _ _ (finishes at l) a b = absurd (cc)
 
-same_steps : (m n : Machine) (h : HeapGraph) (q : Progress) → n.heap ≡ h → n.progress ≡ q → n.principals ≡ m.principals → n.unfinished ≡ m.unfinished → n ≡ record m { heap = h; progress = q }
+same_steps : (m n : Machine) (h : HeapGraph) (q : Progress) → n.heap ≡ h → n.progress ≡ q → n.principals ≡ m.principals → n.pending ≡ m.pending → n ≡ record m { heap = h; progress = q }
 same_steps m n h q a b c d = rw (sym a, sym b, sym c, sym d) refl
 
 -- Slots are freed in the sweep alone.
@@ -333,20 +333,20 @@ line_unparks P U h _ _ _ _ _ (finishes at l) once v w a b z = z refl
 pub collected : (m n : Machine) (c : ℕ) (e : Bool) → Steps m n c e → IsHeap m.heap → Invariant m → Names m.heap m.progress (IsRootOf m) → Collected (stored m) (stored n) c e
 collected m n c e s ok kept names =
     let P : ℕ → Type 0 = IsPrincipal m in
-    let U : ℕ → Type 0 = IsUnfinished m in
+    let U : ℕ → Type 0 = IsPending m in
     let sound = to_sound m kept in
     let counts = line_counts P U m.heap n.heap m.progress n.progress c e s.line in
     record {
       phases = line_phases P U m.heap n.heap m.progress n.progress c e s.line;
       principals = ap (λ (v : Vec Root Global). map (λ (r : Root). r.serial) v.items) s.principals;
-      unfinished = ap (λ (v : Vec (Option Root) Global). map (λ (o : Option Root). serial_of o) v.items) s.unfinished;
+      pending = ap (λ (v : Vec (Option Root) Global). map (λ (o : Option Root). serial_of o) v.items) s.pending;
       cells = line_cells P U m.heap n.heap m.progress n.progress c e s.line;
       vertices = line_vertices P U m.heap n.heap m.progress n.progress c e s.line;
       triples = line_triples P U m.heap n.heap m.progress n.progress c e s.line;
       places = line_places P U m.heap n.heap m.progress n.progress c e s.line;
       parks = λ a b.
           let d = line_condemns P U m.heap n.heap m.progress n.progress c e s.line a b in
-          subst (λ (x : Machine). Parks (stored m) (stored x)) (sym (same_steps m n m.heap (Sweeping 0) d.same d.after s.principals s.unfinished)) (parks m d.before d.none d.settled kept names);
+          subst (λ (x : Machine). Parks (stored m) (stored x)) (sym (same_steps m n m.heap (Sweeping 0) d.same d.after s.principals s.pending)) (parks m d.before d.none d.settled kept names);
       freed = line_freed P U m.heap n.heap m.progress n.progress c e s.line;
       parked = λ y. line_unparks P U m.heap n.heap m.progress n.progress c e s.line names.once (stored m) (stored n) refl refl
           (λ z. line_parked P U m.heap n.heap m.progress n.progress e (subst (λ (k : ℕ). Line P U m.heap m.progress n.heap n.progress k e) z s.line) y);
@@ -400,25 +400,25 @@ collected m n c e s ok kept names =
     not_white (Marking z) i b d = d
     not_white (Sweeping k) i b d = let w = d.1 in let u : Has White ≡ Has Black = sym w ∙ b in cc
 
-    lower : (b : Bool) → Line (IsPrincipal m) (IsUnfinished m) m.heap m.progress n.heap n.progress c b → (b ≡ true) ⊎ ((stored n).left < (stored m).left)
+    lower : (b : Bool) → Line (IsPrincipal m) (IsPending m) m.heap m.progress n.heap n.progress c b → (b ≡ true) ⊎ ((stored n).left < (stored m).left)
     lower true l = inl refl
-    lower false l = inr (line_left (IsPrincipal m) (IsUnfinished m) m.heap n.heap m.progress n.progress c l ok (names_slim m.heap m.progress (IsRootOf m) ok names) (to_sound m kept))
+    lower false l = inr (line_left (IsPrincipal m) (IsPending m) m.heap n.heap m.progress n.progress c l ok (names_slim m.heap m.progress (IsRootOf m) ok names) (to_sound m kept))
 
 -- A step keeps the names.
 pub whole_steps : (m n : Machine) (c : ℕ) (e : Bool) → Steps m n c e → IsHeap m.heap → Whole m → Invariant n → Whole n
 whole_steps m n c e s ok w kept = record {
-  seats = ap (λ (v : Vec (Option Root) Global). length v.items) s.unfinished ∙ w.seats;
+  seats = ap (λ (v : Vec (Option Root) Global). length v.items) s.pending ∙ w.seats;
   few = subst (λ (v : Vec Root Global). length v.items ≤ 64) (sym s.principals) w.few;
   kept = kept;
-  names = moved (line_names (IsPrincipal m) (IsUnfinished m) (IsRootOf m) m.heap n.heap m.progress n.progress c e s.line ok root (to_sound m w.kept) w.names);
+  names = moved (line_names (IsPrincipal m) (IsPending m) (IsRootOf m) m.heap n.heap m.progress n.progress c e s.line ok root (to_sound m w.kept) w.names);
 } where
-  root : (i x : ℕ) → IsRootOf m i x → IsPrincipal m i ⊎ IsUnfinished m i
+  root : (i x : ℕ) → IsRootOf m i x → IsPrincipal m i ⊎ IsPending m i
   root i x (inl p) = inl (x, p)
   root i x (inr u) = inr (x, u)
 
   back : (i x : ℕ) → IsRootOf n i x → IsRootOf m i x
-  back i x (inl p) = inl (subst (λ (v : Vec Root Global). Holds v.items (record { serial = x; slot = i })) s.principals p)
-  back i x (inr u) = inr (subst (λ (v : Vec (Option Root) Global). Holds v.items (Some (record { serial = x; slot = i }))) s.unfinished u)
+  back i x (inl p) = inl (subst (λ (v : Vec Root Global). Contains v.items (record { serial = x; slot = i })) s.principals p)
+  back i x (inr u) = inr (subst (λ (v : Vec (Option Root) Global). Contains v.items (Some (record { serial = x; slot = i }))) s.pending u)
 
   moved : Names n.heap n.progress (IsRootOf m) → Names n.heap n.progress (IsRootOf n)
   moved k = record { once = k.once; edge = k.edge; root = λ i x r. k.root i x (back i x r); no_loop = k.no_loop }

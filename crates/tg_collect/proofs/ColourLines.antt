@@ -1,7 +1,7 @@
 -- What each line does to the colours.
 use Rattle.std.proofs.Common.{◌≡◌, ℕ, List, [], ◌∷◌, Option, Some, None, ◌⊎◌, inl, inr, sym, ◌∙◌, subst, ap, refl, Bool}
 use Rattle.std.proofs.lemmas.Bool.{cases_eq}
-use Rattle.tg_rights.specs.Membership.{Holds}
+use Rattle.tg_rights.specs.Membership.{Contains}
 use Rattle.tg_slots.specs.Table.{Table, Mark, Free, Has, mark, mark_of, slot, coloured}
 use Rattle.tg_slots.specs.declared.slots.Occupant.{Occupant}
 use Rattle.tg_slots.specs.declared.colour.Colour.{Colour}
@@ -9,7 +9,7 @@ use Rattle.tg_slots.specs.declared.colour.Colour.TheVariants.{White, Grey, Black
 use Rattle.tg_slots.proofs.TableLemmas.{mark_here, mark_there}
 use Rattle.tg_heap.specs.Graph.{HeapGraph, edges, mark_at, shaded, shaded_by, painted}
 use Rattle.tg_cells.specs.Lists.{Edge}
-use Rattle.tg_heap.proofs.CursorLemmas.{holds_right}
+use Rattle.tg_heap.proofs.CursorLemmas.{contains_right}
 use Rattle.std.specs.FinSet as finset
 use Rattle.std.specs.Ordering.{nat_cmp}
 use Rattle.tg_collect.specs.declared.note.Phase.TheVariants as phase
@@ -23,7 +23,7 @@ use Rattle.tg_collect.proofs.LineLemmas.{shaded_other}
 
 -- A slot turns grey only as a root or as the target of a grey slot's edge.
 abbrev pub Greys : (P U : ℕ → Type 0) → HeapGraph → ℕ → Type 0
-Greys P U h j = (mark_at h j ≡ Has Grey) ⊎ ((P j ⊎ U j) ⊎ ((i : ℕ) × (e : Edge) × (mark_at h i ≡ Has Grey) × Holds (edges h i) e × (e.target ≡ j)))
+Greys P U h j = (mark_at h j ≡ Has Grey) ⊎ ((P j ⊎ U j) ⊎ ((i : ℕ) × (e : Edge) × (mark_at h i ≡ Has Grey) × Contains (edges h i) e × (e.target ≡ j)))
 
 shadings_grey : (P : ℕ → Type 0) (t u : Table) (k j : ℕ) → Shadings P t u k → mark u j ≡ Has Grey → (mark t j ≡ Has Grey) ⊎ P j
 shadings_grey P t _ _ j none g = inl g
@@ -35,7 +35,7 @@ shadings_grey P t _ _ j (one_more u k i s r) g = elim (cases_eq j i) [
 pub line_grey : (P U : ℕ → Type 0) (h h' : HeapGraph) (p q : Progress) (c : ℕ) (e : Bool) → Line P U h p h' q c e → Sound h p (λ i. P i ⊎ U i) U → (j : ℕ) → mark_at h' j ≡ Has Grey → Greys P U h j
 line_grey P U h _ _ _ _ _ (starts t k s few) kept j g = elim (shadings_grey P h.table t k j s g) [ inl old ↦ inl old | inr r ↦ inr (inl (inl r)) ]
 line_grey P U h _ _ _ _ _ (scans i cursor b e a w at) kept j g = elim (cases_eq j e.target) [
-  | inl is ↦ inr (inr (i, e, kept.phase.scanned.grey, subst (λ (l : List Edge). Holds l e) (sym w) (holds_right b (e ∷ a) e (inl refl)), sym is))
+  | inl is ↦ inr (inr (i, e, kept.phase.scanned.grey, subst (λ (l : List Edge). Contains l e) (sym w) (contains_right b (e ∷ a) e (inl refl)), sym is))
   | inr other ↦ inl (sym (shaded_other h.table e.target j other) ∙ g)
 ]
 line_grey P U h _ _ _ _ _ (blackens i) kept j g = elim (cases_eq j i) [

@@ -6,7 +6,7 @@ use Rattle.std.specs.Cmp.{nat_cmp_total}
 use Rattle.std.specs.FinMap as finmap
 use Rattle.std.specs.FinSet as finset
 use Rattle.std.specs.FinSet.{contains-remove}
-use Rattle.tg_rights.specs.Membership.{Holds}
+use Rattle.tg_rights.specs.Membership.{Contains}
 use Rattle.tg_graph.specs.declared.vertex.Vertex.{Vertex}
 use Rattle.tg_graph.specs.Triples.{Triple, Triples}
 use Rattle.tg_graph.specs.Paths.{Live}
@@ -65,7 +65,7 @@ collects v w c e s =
     let way = stays_or v.phase w.phase e s.phases in
     record {
       phases = s.phases;
-      roots = λ x r. elim r [ inl p ↦ inl (subst (λ (l : List ℕ). Holds l x) s.principals p) | inr u ↦ inr (subst (λ (l : List (Option ℕ)). Holds l (Some x)) s.unfinished u) ];
+      roots = λ x r. elim r [ inl p ↦ inl (subst (λ (l : List ℕ). Contains l x) s.principals p) | inr u ↦ inr (subst (λ (l : List (Option ℕ)). Contains l (Some x)) s.pending u) ];
       edges = λ x y t. (t.0, edge_before v w c e s way (record { from = x; right = t.0; to = y }) t.1);
       held = λ x t. (held_before v w c e s way x t).0;
       parked = λ x t. elim way [ inl y ↦ inl (unparked v w c x (s.parked y) t) | inr z ↦ inr ((s.parks z.0 z.1).parked x t).0 ];
@@ -86,8 +86,8 @@ pub acts : (v w : Stored) (new target : Option ℕ) (next : ℕ) → Acted v w n
 acts v w new target next s fresh live = record {
   phase = s.phase;
   roots = λ x r. elim r [
-    | inl p ↦ inl (root_lives x (inl (subst (λ (l : List ℕ). Holds l x) s.principals p)))
-    | inr u ↦ elim (s.unfinished x u) [ inl old ↦ inl (root_lives x (inr old)) | inr is ↦ alive x is ]
+    | inl p ↦ inl (root_lives x (inl (subst (λ (l : List ℕ). Contains l x) s.principals p)))
+    | inr u ↦ elim (s.pending x u) [ inl old ↦ inl (root_lives x (inr old)) | inr is ↦ alive x is ]
   ];
   edges = λ x y t. elim (s.edges x y t) [ inl old ↦ inl old | inr is ↦ inr (alive y is) ];
   held = λ x t. elim (s.vertices x t) [ inl old ↦ inl old | inr n ↦ inr (fresh x n) ];

@@ -4,8 +4,8 @@ use Rattle.std.proofs.lemmas.List.Sums.{sum_by-cons, sum_by-append}
 use Rattle.std.proofs.lemmas.List.{length-map}
 use Rattle.std.specs.FinMap as finmap
 use Rattle.std.specs.FinSet as finset
-use Rattle.tg_rights.specs.Membership.{Holds, Distinct}
-use Rattle.tg_rights.proofs.MembershipLemmas.{holds_append, holds_map}
+use Rattle.tg_rights.specs.Membership.{Contains, Distinct}
+use Rattle.tg_rights.proofs.MembershipLemmas.{contains_append, contains_map}
 use Rattle.tg_graph.specs.Protection.{label}
 use Rattle.tg_graph.specs.Rules.{labelled, edges_of}
 use Rattle.tg_graph.specs.Fullness.{vertex_count, edge_count}
@@ -22,12 +22,12 @@ use Rattle.tg_collect.specs.Machine.{HeldAt, CondemnedAt}
 use Rattle.tg_collect.specs.Names.{IsNamed, Whole}
 use Rattle.tg_collect.specs.Stored.{stored, held, gather, total, by_place, parked_entry, condemned, parked_cells_at, vertices_of}
 use Rattle.tg_collect.specs.Views.{InSet}
-use Rattle.tg_collect.proofs.GatherLemmas.{from_holds, gather_holds, holds_gather, total_most}
+use Rattle.tg_collect.proofs.GatherLemmas.{from_contains, gather_contains, contains_gather, total_most}
 use Rattle.tg_collect.proofs.PlaceLemmas.{condemned_is, not_condemned}
 use Rattle.tg_collect.proofs.SetLemmas.{held_by_test, contains_stands, named_held, waits_parked}
 use Rattle.tg_collect.proofs.PathLemmas.{edge_in, in_edge}
 use Rattle.tg_collect.proofs.EdgeCalls.{list_edge, edge_listed}
-use Rattle.tg_collect.proofs.SumLemmas.{same_sum, same_length, keys_once, contains_keys, keys_contains, len_once, labelled_holds, holds_labelled, labelled_once}
+use Rattle.tg_collect.proofs.SumLemmas.{same_sum, same_length, keys_once, contains_keys, keys_contains, len_once, labelled_contains, contains_labelled, labelled_once}
 
 -- The serial of a held slot.
 abbrev serial_entry : List (List Edge) → Bool → ℕ → Occupant → List ℕ
@@ -37,28 +37,28 @@ abbrev held_serials : Progress → HeapGraph → List ℕ
 held_serials p h = gather (by_place [] serial_entry p h.lists) 0 h.table.slots
 
 -- Lists from slots that share no element hold each once.
-once_append : {X : Type 0} (xs ys : List X) → Distinct xs → Distinct ys → ((x : X) → Holds xs x → Holds ys x → ⊥) → Distinct (xs ++ ys)
+once_append : {X : Type 0} (xs ys : List X) → Distinct xs → Distinct ys → ((x : X) → Contains xs x → Contains ys x → ⊥) → Distinct (xs ++ ys)
 once_append [] ys d e n = e
 once_append (x ∷ xs) ys d e n = (
-  λ h. elim (holds_append xs ys x h) [ inl a ↦ d.0 a | inr b ↦ n x (inl refl) b ],
+  λ h. elim (contains_append xs ys x h) [ inl a ↦ d.0 a | inr b ↦ n x (inl refl) b ],
   once_append xs ys d.1 e (λ z h k. n z (inr h) k),
 )
 
 from_once : (f : ℕ → Option Occupant → List ℕ) (i : ℕ) (os : List (Option Occupant)) → ((k : ℕ) (v : Option Occupant) → Distinct (f k v))
-    → ((j k x : ℕ) → j < length os → k < length os → Holds (f (i + j) (get_or os j None)) x → Holds (f (i + k) (get_or os k None)) x → j ≡ k) → Distinct (gather f i os)
+    → ((j k x : ℕ) → j < length os → k < length os → Contains (f (i + j) (get_or os j None)) x → Contains (f (i + k) (get_or os k None)) x → j ≡ k) → Distinct (gather f i os)
 from_once f i [] d n = tt
 from_once f i (o ∷ os) d n = once_append (f i o) (gather f (suc i) os) (d i o)
     (from_once f (suc i) os d (λ j k x a b h g.
     let ej : suc i + j ≡ i + suc j = omega arith in
     let ek : suc i + k ≡ i + suc k = omega arith in
-    let same : suc j ≡ suc k = n (suc j) (suc k) x (omega (arith, a)) (omega (arith, b)) (subst (λ (z : ℕ). Holds (f z (get_or os j None)) x) ej h) (subst (λ (z : ℕ). Holds (f z (get_or os k None)) x) ek g) in
+    let same : suc j ≡ suc k = n (suc j) (suc k) x (omega (arith, a)) (omega (arith, b)) (subst (λ (z : ℕ). Contains (f z (get_or os j None)) x) ej h) (subst (λ (z : ℕ). Contains (f z (get_or os k None)) x) ek g) in
     omega (arith, same)))
     (λ x h g.
-    let r = from_holds f (suc i) os x g in
+    let r = from_contains f (suc i) os x g in
     let b = r.1 in
     let e0 : i ≡ i + 0 = omega arith in
     let er : suc i + r.0 ≡ i + suc r.0 = omega arith in
-    let same : 0 ≡ suc r.0 = n 0 (suc r.0) x (omega arith) (omega (arith, b)) (subst (λ (z : ℕ). Holds (f z o) x) e0 h) (subst (λ (z : ℕ). Holds (f z (get_or os r.0 None)) x) er r.2) in
+    let same : 0 ≡ suc r.0 = n 0 (suc r.0) x (omega arith) (omega (arith, b)) (subst (λ (z : ℕ). Contains (f z o) x) e0 h) (subst (λ (z : ℕ). Contains (f z (get_or os r.0 None)) x) er r.2) in
     absurd (omega (arith, same)))
 
 one_once : (b : Bool) (x : ℕ) → Distinct (cond b [] (x ∷ []))
@@ -70,18 +70,18 @@ other_once true x = (λ h. h, tt)
 other_once false x = tt
 
 -- What a slot gives names it.
-serial_named : (h : HeapGraph) (p : Progress) (k : ℕ) (v : Option Occupant) (x : ℕ) → slot h.table k ≡ v → Holds (by_place [] serial_entry p h.lists k v) x → IsNamed h k x × HeldAt h p k
+serial_named : (h : HeapGraph) (p : Progress) (k : ℕ) (v : Option Occupant) (x : ℕ) → slot h.table k ≡ v → Contains (by_place [] serial_entry p h.lists k v) x → IsNamed h k x × HeldAt h p k
 serial_named h p k None x e m = absurd m
 serial_named h p k (Some o) x e m = by (condemned p k (Has o.colour)) refl m where
-  by : (b : Bool) → condemned p k (Has o.colour) ≡ b → Holds (cond b [] (o.serial ∷ [])) x → IsNamed h k x × HeldAt h p k
+  by : (b : Bool) → condemned p k (Has o.colour) ≡ b → Contains (cond b [] (o.serial ∷ [])) x → IsNamed h k x × HeldAt h p k
   by true t m = absurd m
   by false t (inl is) = ((o, e, sym is), held_by_test h p k o e t)
   by false t (inr z) = absurd z
 
-parked_named : (h : HeapGraph) (p : Progress) (k : ℕ) (v : Option Occupant) (x : ℕ) → slot h.table k ≡ v → Holds (by_place [] parked_entry p h.lists k v) x → IsNamed h k x
+parked_named : (h : HeapGraph) (p : Progress) (k : ℕ) (v : Option Occupant) (x : ℕ) → slot h.table k ≡ v → Contains (by_place [] parked_entry p h.lists k v) x → IsNamed h k x
 parked_named h p k None x e m = absurd m
 parked_named h p k (Some o) x e m = by (condemned p k (Has o.colour)) m where
-  by : (b : Bool) → Holds (cond b (o.serial ∷ []) []) x → IsNamed h k x
+  by : (b : Bool) → Contains (cond b (o.serial ∷ []) []) x → IsNamed h k x
   by true (inl is) = (o, e, sym is)
   by true (inr z) = absurd z
   by false z = absurd z
@@ -90,8 +90,8 @@ serials_once : (h : HeapGraph) (p : Progress) → ((i j x : ℕ) → IsNamed h i
 serials_once h p once = from_once (by_place [] serial_entry p h.lists) 0 h.table.slots (λ k v. each k v) (λ j k x a b m n.
     let ej : 0 + j ≡ j = omega arith in
     let ek : 0 + k ≡ k = omega arith in
-    once j k x (serial_named h p j (slot h.table j) x refl (subst (λ (z : ℕ). Holds (by_place [] serial_entry p h.lists z (slot h.table j)) x) ej m)).0
-    (serial_named h p k (slot h.table k) x refl (subst (λ (z : ℕ). Holds (by_place [] serial_entry p h.lists z (slot h.table k)) x) ek n)).0) where
+    once j k x (serial_named h p j (slot h.table j) x refl (subst (λ (z : ℕ). Contains (by_place [] serial_entry p h.lists z (slot h.table j)) x) ej m)).0
+    (serial_named h p k (slot h.table k) x refl (subst (λ (z : ℕ). Contains (by_place [] serial_entry p h.lists z (slot h.table k)) x) ek n)).0) where
       each : (k : ℕ) (v : Option Occupant) → Distinct (by_place [] serial_entry p h.lists k v)
       each k None = tt
       each k (Some o) = one_once (condemned p k (Has o.colour)) o.serial
@@ -100,26 +100,26 @@ parked_once : (h : HeapGraph) (p : Progress) → ((i j x : ℕ) → IsNamed h i 
 parked_once h p once = from_once (by_place [] parked_entry p h.lists) 0 h.table.slots (λ k v. each k v) (λ j k x a b m n.
     let ej : 0 + j ≡ j = omega arith in
     let ek : 0 + k ≡ k = omega arith in
-    once j k x (parked_named h p j (slot h.table j) x refl (subst (λ (z : ℕ). Holds (by_place [] parked_entry p h.lists z (slot h.table j)) x) ej m))
-    (parked_named h p k (slot h.table k) x refl (subst (λ (z : ℕ). Holds (by_place [] parked_entry p h.lists z (slot h.table k)) x) ek n))) where
+    once j k x (parked_named h p j (slot h.table j) x refl (subst (λ (z : ℕ). Contains (by_place [] parked_entry p h.lists z (slot h.table j)) x) ej m))
+    (parked_named h p k (slot h.table k) x refl (subst (λ (z : ℕ). Contains (by_place [] parked_entry p h.lists z (slot h.table k)) x) ek n))) where
       each : (k : ℕ) (v : Option Occupant) → Distinct (by_place [] parked_entry p h.lists k v)
       each k None = tt
       each k (Some o) = other_once (condemned p k (Has o.colour)) o.serial
 
 -- The held serials are the keys of the map of the held vertices.
-serial_key : (m : Machine) → Whole m → (x : ℕ) → Holds (held_serials m.progress m.heap) x → Holds (finmap.keys (vertices_of m.progress m.heap)) x
+serial_key : (m : Machine) → Whole m → (x : ℕ) → Contains (held_serials m.progress m.heap) x → Contains (finmap.keys (vertices_of m.progress m.heap)) x
 serial_key m w x h =
-    let r = gather_holds (by_place [] serial_entry m.progress m.heap.lists) m.heap.table.slots x h in
+    let r = gather_contains (by_place [] serial_entry m.progress m.heap.lists) m.heap.table.slots x h in
     let n = serial_named m.heap m.progress r.0 (slot m.heap.table r.0) x refl r.2 in
     contains_keys (vertices_of m.progress m.heap) x (named_held m.heap m.progress w.names.once r.0 x n.0 n.1)
 
-key_serial : (m : Machine) → (x : ℕ) → Holds (finmap.keys (vertices_of m.progress m.heap)) x → Holds (held_serials m.progress m.heap) x
+key_serial : (m : Machine) → (x : ℕ) → Contains (finmap.keys (vertices_of m.progress m.heap)) x → Contains (held_serials m.progress m.heap) x
 key_serial m x k =
     let s = (contains_stands m.heap m.progress x (keys_contains (vertices_of m.progress m.heap) x k)).1 in
     let dark = not_condemned m.heap m.progress s.at (Has s.occupant.colour) (ap mark_of s.is) s.held.1 in
-    let here : Holds (by_place [] serial_entry m.progress m.heap.lists s.at (Some s.occupant)) x = subst (λ (b : Bool). Holds (cond b [] (s.occupant.serial ∷ [])) x) (sym dark) (inl (sym s.serial)) in
-    holds_gather (by_place [] serial_entry m.progress m.heap.lists) m.heap.table.slots x s.at (occupied_within m.heap.table.slots s.at s.occupant.colour (ap mark_of s.is))
-    (subst (λ (v : Option Occupant). Holds (by_place [] serial_entry m.progress m.heap.lists s.at v) x) (sym s.is) here)
+    let here : Contains (by_place [] serial_entry m.progress m.heap.lists s.at (Some s.occupant)) x = subst (λ (b : Bool). Contains (cond b [] (s.occupant.serial ∷ [])) x) (sym dark) (inl (sym s.serial)) in
+    contains_gather (by_place [] serial_entry m.progress m.heap.lists) m.heap.table.slots x s.at (occupied_within m.heap.table.slots s.at s.occupant.colour (ap mark_of s.is))
+    (subst (λ (v : Option Occupant). Contains (by_place [] serial_entry m.progress m.heap.lists s.at v) x) (sym s.is) here)
 
 -- Each slot is free, held or parked.
 each_slot : (p : Progress) (ls : List (List Edge)) (i : ℕ) (os : List (Option Occupant))
@@ -194,18 +194,18 @@ edges_counted m ok w next i o is g =
     let l = λ (y : ℕ). label G o.serial y in
     let same = same_length (map (λ e. e.0) (labelled l keys)) (serials (edges m.heap i)) (labelled_once l keys (keys_once (stored m).vertices)) (ok.cells.serial_once i)
     (λ y h.
-    let k = labelled_holds l keys y h in
+    let k = labelled_contains l keys y h in
     let e = edge_listed m i y o w is (edge_in (stored m) next o.serial y k.1) in
-    subst (Holds (serials (edges m.heap i))) e.2 (holds_map (λ (x : Edge). x.serial) (edges m.heap i) e.0 e.1))
+    subst (Contains (serials (edges m.heap i))) e.2 (contains_map (λ (x : Edge). x.serial) (edges m.heap i) e.0 e.1))
     (λ y h.
     let e = listed (edges m.heap i) y h in
     let there = list_edge m i o e.0 ok g is e.1 in
     let named = w.names.edge i e.0 g e.1 in
     let key = contains_keys (stored m).vertices e.0.serial (named_held m.heap m.progress w.names.once e.0.target e.0.serial named (w.kept.closed i e.0 g e.1)) in
-    subst (Holds (map (λ e. e.0) (labelled l keys))) e.2 (holds_labelled l keys e.0.serial key (in_edge (stored m) next o.serial e.0.serial there))) in
+    subst (Contains (map (λ e. e.0) (labelled l keys))) e.2 (contains_labelled l keys e.0.serial key (in_edge (stored m) next o.serial e.0.serial there))) in
     sym (length-map (labelled l keys) (λ e. e.0)) ∙ same ∙ length-map (edges m.heap i) (λ (e : Edge). e.serial)
   where
-    listed : (es : List Edge) (y : ℕ) → Holds (serials es) y → (e : Edge) × Holds es e × (e.serial ≡ y)
+    listed : (es : List Edge) (y : ℕ) → Contains (serials es) y → (e : Edge) × Contains es e × (e.serial ≡ y)
     listed [] y h = absurd h
     listed (e ∷ es) y (inl is) = (e, inl refl, sym is)
     listed (e ∷ es) y (inr h) = let r = listed es y h in (r.0, inr r.1, r.2)

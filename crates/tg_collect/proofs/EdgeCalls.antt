@@ -3,7 +3,7 @@ use Rattle.std.proofs.Common.{◌≡◌, ◌≢◌, ℕ, ◌+◌, ◌<◌, ◌�
 use Rattle.std.specs.declared.vec.Vec.{Vec}
 use Rattle.std.proofs.lemmas.List.{map-set}
 use Rattle.tg_rights.specs.Letters.{Letters, joined, without, is_none}
-use Rattle.tg_rights.specs.Membership.{Holds, Distinct}
+use Rattle.tg_rights.specs.Membership.{Contains, Distinct}
 use Rattle.tg_slots.specs.Table.{slot}
 use Rattle.tg_slots.specs.declared.slots.Occupant.{Occupant}
 use Rattle.tg_cells.specs.Lists.{Edge, first_cell, HasNone, Found, serials, cells}
@@ -34,14 +34,14 @@ use Rattle.tg_collect.proofs.CollectLemmas.{some_right}
 
 -- The machine after a held slot's list has changed, and the collector's cursor with it.
 abbrev pub changed : Machine → (id : ℕ) → List Edge → ℕ → Progress → Vec (Option Root) Global → Machine
-changed m id l n q u = record m { heap = relisted m.heap (set m.heap.lists id l) n; progress = q; unfinished = u }
+changed m id l n q u = record m { heap = relisted m.heap (set m.heap.lists id l) n; progress = q; pending = u }
 
 -- The list's edges are old ones, or name their targets.
 abbrev pub Listed : Machine → ℕ → List Edge → Type 0
-Listed m id l = (e : Edge) → Holds l e → Holds (edges m.heap id) e ⊎ (IsNamed m.heap e.target e.serial × (e.target ≢ id))
+Listed m id l = (e : Edge) → Contains l e → Contains (edges m.heap id) e ⊎ (IsNamed m.heap e.target e.serial × (e.target ≢ id))
 
 pub whole_changed : (m : Machine) (id : ℕ) (l : List Edge) (n : ℕ) (q : Progress) (u : Vec (Option Root) Global) → Whole m → id < length m.heap.lists → AsFar m.progress q → Listed m id l
-    → length u.items ≡ 64 → ((j x : ℕ) → Holds u.items (Some (record { serial = x; slot = j })) → Holds m.unfinished.items (Some (record { serial = x; slot = j })) ⊎ IsNamed m.heap j x)
+    → length u.items ≡ 64 → ((j x : ℕ) → Contains u.items (Some (record { serial = x; slot = j })) → Contains m.pending.items (Some (record { serial = x; slot = j })) ⊎ IsNamed m.heap j x)
     → Invariant (changed m id l n q u) → Whole (changed m id l n q u)
 whole_changed m id l n q u w within far old seats targets kept = record {
   seats = seats;
@@ -56,7 +56,7 @@ whole_changed m id l n q u w within far old seats targets kept = record {
 -- What contracts see of it, but for the triples, the targets, the free cells and what is left.
 pub shown_changed : (m : Machine) (id : ℕ) (l : List Edge) (n : ℕ) (q : Progress) (u : Vec (Option Root) Global) (S : _) (us : List (Option ℕ)) → AsFar m.progress q
     → triples_of q (relisted m.heap (set m.heap.lists id l) n) ≡ S → targets_of u.items ≡ us
-    → stored (changed m id l n q u) ≡ record (stored m) { triples = S; unfinished = us; free_cells = n; left = (stored (changed m id l n q u)).left }
+    → stored (changed m id l n q u) ≡ record (stored m) { triples = S; pending = us; free_cells = n; left = (stored (changed m id l n q u)).left }
 shown_changed m id l n q u S us far triples targets =
     let ev = relisted_vertices m.progress q m.heap (set m.heap.lists id l) n far in
     let ep = relisted_parked m.progress q m.heap (set m.heap.lists id l) n far in
@@ -71,7 +71,7 @@ shown_changed m id l n q u S us far triples targets =
       marks = (stored m).marks;
       phase = far.phase i;
       principals = (stored m).principals;
-      unfinished = targets i;
+      pending = targets i;
       free_slots = (stored m).free_slots;
       free_cells = n;
       cells = (stored m).cells;
@@ -83,26 +83,26 @@ cursor_at : (m : Machine) → Invariant m → (s : Scan) → m.progress ≡ Mark
 cursor_at m kept s e = let old : PhaseHolds (Marking (Some s)) m = subst (λ (p : Progress). PhaseHolds p m) e kept.phase in old.scanned.at
 
 -- The seat's new target.
-targets_after : (m : Machine) (u : Vec (Option Root) Global) (seat : ℕ) (q : Root) → u.items ≡ set m.unfinished.items seat (Some q) → targets_of u.items ≡ set (targets_of m.unfinished.items) seat (Some q.serial)
-targets_after m u seat q e = ap (λ (l : List (Option Root)). targets_of l) e ∙ map-set (λ o. serial_of o) m.unfinished.items seat (Some q)
+targets_after : (m : Machine) (u : Vec (Option Root) Global) (seat : ℕ) (q : Root) → u.items ≡ set m.pending.items seat (Some q) → targets_of u.items ≡ set (targets_of m.pending.items) seat (Some q.serial)
+targets_after m u seat q e = ap (λ (l : List (Option Root)). targets_of l) e ∙ map-set (λ o. serial_of o) m.pending.items seat (Some q)
 
-seats_after : (m : Machine) (u : Vec (Option Root) Global) (seat : ℕ) (q : Root) → u.items ≡ set m.unfinished.items seat (Some q) → length m.unfinished.items ≡ 64 → length u.items ≡ 64
-seats_after m u seat q e s = ap length e ∙ length-set m.unfinished.items seat (Some q) ∙ s
+seats_after : (m : Machine) (u : Vec (Option Root) Global) (seat : ℕ) (q : Root) → u.items ≡ set m.pending.items seat (Some q) → length m.pending.items ≡ 64 → length u.items ≡ 64
+seats_after m u seat q e s = ap length e ∙ length-set m.pending.items seat (Some q) ∙ s
 
-roots_after : (m : Machine) (u : Vec (Option Root) Global) (seat : ℕ) (q : Root) → u.items ≡ set m.unfinished.items seat (Some q) → IsNamed m.heap q.slot q.serial
-    → (j x : ℕ) → Holds u.items (Some (record { serial = x; slot = j })) → Holds m.unfinished.items (Some (record { serial = x; slot = j })) ⊎ IsNamed m.heap j x
-roots_after m u seat q e named j x h = elim (set_only m.unfinished.items seat q (record { serial = x; slot = j }) (subst (λ (l : List (Option Root)). Holds l (Some (record { serial = x; slot = j }))) e h)) [
+roots_after : (m : Machine) (u : Vec (Option Root) Global) (seat : ℕ) (q : Root) → u.items ≡ set m.pending.items seat (Some q) → IsNamed m.heap q.slot q.serial
+    → (j x : ℕ) → Contains u.items (Some (record { serial = x; slot = j })) → Contains m.pending.items (Some (record { serial = x; slot = j })) ⊎ IsNamed m.heap j x
+roots_after m u seat q e named j x h = elim (set_only m.pending.items seat q (record { serial = x; slot = j }) (subst (λ (l : List (Option Root)). Contains l (Some (record { serial = x; slot = j }))) e h)) [
   | inl old ↦ inl old
   | inr new ↦ inr (subst (λ (r : Root). IsNamed m.heap r.slot r.serial) (sym new) named)
 ]
 
 -- An edge of a held slot's list shows, and one that shows is in the list.
-pub list_edge : (m : Machine) (id : ℕ) (o : Occupant) (e : Edge) → IsHeap m.heap → IsHeld m id → slot m.heap.table id ≡ Some o → Holds (edges m.heap id) e → IsEdgeIn (stored m) o.serial e.serial
+pub list_edge : (m : Machine) (id : ℕ) (o : Occupant) (e : Edge) → IsHeap m.heap → IsHeld m id → slot m.heap.table id ≡ Some o → Contains (edges m.heap id) e → IsEdgeIn (stored m) o.serial e.serial
 list_edge m id o e ok held is owned =
     let r = some_right e.rights (ok.cells.labelled id e owned) in
     (r.0, says_triple m.progress m.heap id o (record { from = o.serial; right = r.0; to = e.serial }) is held refl (record { edge = e; owned = owned; to = refl; right = r.1 }))
 
-pub edge_listed : (m : Machine) (id y : ℕ) (o : Occupant) → Whole m → slot m.heap.table id ≡ Some o → IsEdgeIn (stored m) o.serial y → (e : Edge) × Holds (edges m.heap id) e × (e.serial ≡ y)
+pub edge_listed : (m : Machine) (id y : ℕ) (o : Occupant) → Whole m → slot m.heap.table id ≡ Some o → IsEdgeIn (stored m) o.serial y → (e : Edge) × Contains (edges m.heap id) e × (e.serial ≡ y)
 edge_listed m id y o w is t =
     let s = triple_says m.progress m.heap id o (record { from = o.serial; right = t.0; to = y }) w.names.once is refl t.1 in
     (s.edge, s.owned, s.to)
@@ -121,8 +121,8 @@ after_adds m n seat id q rights t ok ok' w kept oi is held named apart some a = 
   Result x = Whole x × EdgeStored (stored m) (stored x) seat oi.serial q.serial rights
 
   -- with the list as it is now
-  shape : (l : List Edge) (c : ℕ) → n.heap ≡ relisted m.heap (set m.heap.lists id l) c → n ≡ changed m id l c m.progress n.unfinished
-  shape l c e = a.4 ∙ ap (λ (h : HeapGraph). record m { heap = h; unfinished = n.unfinished }) e
+  shape : (l : List Edge) (c : ℕ) → n.heap ≡ relisted m.heap (set m.heap.lists id l) c → n ≡ changed m id l c m.progress n.pending
+  shape l c e = a.4 ∙ ap (λ (h : HeapGraph). record m { heap = h; pending = n.pending }) e
 
   finish : (l : List Edge) (c : ℕ) → n.heap ≡ relisted m.heap (set m.heap.lists id l) c → Listed m id l → Gives (edges m.heap id) l q.serial rights
       → ((s : Scan) → m.progress ≡ Marking (Some s) → s.slot ≡ id → length (remaining s.cursor l) ≤ length (remaining s.cursor (edges m.heap id)))
@@ -131,12 +131,12 @@ after_adds m n seat id q rights t ok ok' w kept oi is held named apart some a = 
       let is_n = shape l c e in
       let S = triples_given m.progress m.progress m.heap id c oi l q.serial rights (as_far m.progress) w.names.once within is held gives in
       subst Result (sym is_n) (
-        whole_changed m id l c m.progress n.unfinished w within (as_far m.progress) listed (seats_after m n.unfinished seat q a.3 w.seats) (roots_after m n.unfinished seat q a.3 named) (subst Invariant is_n kept),
+        whole_changed m id l c m.progress n.pending w within (as_far m.progress) listed (seats_after m n.pending seat q a.3 w.seats) (roots_after m n.pending seat q a.3 named) (subst Invariant is_n kept),
         record {
           joined = there;
           new = new;
           left = left_relisted m.progress m.heap id c l within held cursor;
-          is = shown_changed m id l c m.progress n.unfinished _ _ (as_far m.progress) S (targets_after m n.unfinished seat q a.3);
+          is = shown_changed m id l c m.progress n.pending _ _ (as_far m.progress) S (targets_after m n.pending seat q a.3);
         },
       )
 
@@ -145,10 +145,10 @@ after_adds m n seat id q rights t ok ok' w kept oi is held named apart some a = 
       let f = joined_to.0 in
       let label = joined f.edge.rights rights in
       let y : f.edge.serial ≡ q.serial = f.here ∙ serial in
-      let owned : Holds (edges m.heap id) f.edge = subst (λ (es : List Edge). Holds es f.edge) (sym f.is) (middle f.before) in
+      let owned : Contains (edges m.heap id) f.edge = subst (λ (es : List Edge). Contains es f.edge) (sym f.is) (middle f.before) in
       finish (f.before ++ record f.edge { rights = label } ∷ f.after) m.heap.free_cells joined_to.1
       (λ e h. elim (sides f.before e h) [
-        | inl old ↦ inl (subst (λ (es : List Edge). Holds es e) (sym f.is) old)
+        | inl old ↦ inl (subst (λ (es : List Edge). Contains es e) (sym f.is) old)
         | inr here ↦ inr (subst (λ (x : Edge). IsNamed m.heap x.target x.serial × (x.target ≢ id)) (sym here) (w.names.edge id f.edge held owned, w.names.no_loop id f.edge held owned))
       ])
       (subst (λ (es : List Edge). Gives es (f.before ++ record f.edge { rights = label } ∷ f.after) q.serial rights) (sym f.is)
@@ -159,12 +159,12 @@ after_adds m n seat id q rights t ok ok' w kept oi is held named apart some a = 
       omega (arith, k, j))
       (λ i. refl) (λ no. absurd (no (subst (IsEdgeIn (stored m) oi.serial) y (list_edge m id oi f.edge ok held is owned))))
     where
-      middle : (p : List Edge) → Holds (p ++ joined_to.0.edge ∷ joined_to.0.after) joined_to.0.edge
+      middle : (p : List Edge) → Contains (p ++ joined_to.0.edge ∷ joined_to.0.after) joined_to.0.edge
       middle [] = inl refl
       middle (x ∷ p) = inr (middle p)
 
-      sides : (p : List Edge) (e : Edge) → Holds (p ++ record joined_to.0.edge { rights = joined joined_to.0.edge.rights rights } ∷ joined_to.0.after) e
-          → Holds (p ++ joined_to.0.edge ∷ joined_to.0.after) e ⊎ (e ≡ record joined_to.0.edge { rights = joined joined_to.0.edge.rights rights })
+      sides : (p : List Edge) (e : Edge) → Contains (p ++ record joined_to.0.edge { rights = joined joined_to.0.edge.rights rights } ∷ joined_to.0.after) e
+          → Contains (p ++ joined_to.0.edge ∷ joined_to.0.after) e ⊎ (e ≡ record joined_to.0.edge { rights = joined joined_to.0.edge.rights rights })
       sides [] e (inl x) = inr x
       sides [] e (inr x) = inl (inr x)
       sides (z ∷ p) e (inl x) = inl (inl x)
@@ -203,21 +203,21 @@ after_removes m n id y rights ok ok' w kept oi is held a = by a.0 a.1 a.2 where
   once : Distinct (serials (edges m.heap id))
   once = ok.cells.serial_once id
 
-  finish : (l : List Edge) (c : ℕ) (p : Progress) → AsFar m.progress p → n ≡ changed m id l c p m.unfinished → Listed m id l → Takes (edges m.heap id) l y rights
-      → (stored (changed m id l c p m.unfinished)).left ≤ (stored m).left
+  finish : (l : List Edge) (c : ℕ) (p : Progress) → AsFar m.progress p → n ≡ changed m id l c p m.pending → Listed m id l → Takes (edges m.heap id) l y rights
+      → (stored (changed m id l c p m.pending)).left ≤ (stored m).left
       → (IsEdgeIn (stored n) oi.serial y → c ≡ m.heap.free_cells) → ((IsEdgeIn (stored n) oi.serial y → ⊥) → c ≡ m.heap.free_cells + 1) → Result n
   finish l c p far is_n listed takes left there gone =
       let S = triples_taken m.progress p m.heap id c oi l y rights far w.names.once within is held takes in
-      let kept' : Invariant (changed m id l c p m.unfinished) = subst Invariant is_n kept in
+      let kept' : Invariant (changed m id l c p m.pending) = subst Invariant is_n kept in
       let there' = subst (λ (x : Machine). IsEdgeIn (stored x) oi.serial y → c ≡ m.heap.free_cells) is_n there in
       let gone' = subst (λ (x : Machine). (IsEdgeIn (stored x) oi.serial y → ⊥) → c ≡ m.heap.free_cells + 1) is_n gone in
       subst Result (sym is_n) (
-        whole_changed m id l c p m.unfinished w within far listed w.seats (λ j x h. inl h) kept',
+        whole_changed m id l c p m.pending w within far listed w.seats (λ j x h. inl h) kept',
         record {
           kept = there';
           gone = gone';
           left = left;
-          is = shown_changed m id l c p m.unfinished _ _ far S refl;
+          is = shown_changed m id l c p m.pending _ _ far S refl;
         },
       )
 
@@ -226,14 +226,14 @@ after_removes m n id y rights ok ok' w kept oi is held a = by a.0 a.1 a.2 where
       let f = d.0 in
       let label = without f.edge.rights rights in
       let l : List Edge = f.before ++ record f.edge { rights = label } ∷ f.after in
-      let owned : Holds (edges m.heap id) f.edge = subst (λ (es : List Edge). Holds es f.edge) (sym f.is) (middle f.before f.after f.edge) in
-      let is_n : n ≡ changed m id l m.heap.free_cells m.progress m.unfinished = e ∙ ap (λ (h : HeapGraph). record m { heap = h }) d.2 in
-      let w' = whole_changed m id l m.heap.free_cells m.progress m.unfinished w within (as_far m.progress) (relisted_edges f) w.seats (λ j x h. inl h) (subst Invariant is_n kept) in
+      let owned : Contains (edges m.heap id) f.edge = subst (λ (es : List Edge). Contains es f.edge) (sym f.is) (middle f.before f.after f.edge) in
+      let is_n : n ≡ changed m id l m.heap.free_cells m.progress m.pending = e ∙ ap (λ (h : HeapGraph). record m { heap = h }) d.2 in
+      let w' = whole_changed m id l m.heap.free_cells m.progress m.pending w within (as_far m.progress) (relisted_edges f) w.seats (λ j x h. inl h) (subst Invariant is_n kept) in
       let still : IsEdgeIn (stored n) oi.serial y = subst (λ (x : Machine). IsEdgeIn (stored x) oi.serial y) (sym is_n)
-      (subst (IsEdgeIn (stored (changed m id l m.heap.free_cells m.progress m.unfinished)) oi.serial) f.here
-      (list_edge (changed m id l m.heap.free_cells m.progress m.unfinished) id oi (record f.edge { rights = label }) (subst (λ (x : Machine). IsHeap x.heap) is_n ok')
-      (held_changed (changed m id l m.heap.free_cells m.progress m.unfinished) refl) is
-      (subst (λ (es : List Edge). Holds es (record f.edge { rights = label })) (sym (get_or-set_same m.heap.lists id l [] within)) (middle f.before f.after (record f.edge { rights = label }))))) in
+      (subst (IsEdgeIn (stored (changed m id l m.heap.free_cells m.progress m.pending)) oi.serial) f.here
+      (list_edge (changed m id l m.heap.free_cells m.progress m.pending) id oi (record f.edge { rights = label }) (subst (λ (x : Machine). IsHeap x.heap) is_n ok')
+      (held_changed (changed m id l m.heap.free_cells m.progress m.pending) refl) is
+      (subst (λ (es : List Edge). Contains es (record f.edge { rights = label })) (sym (get_or-set_same m.heap.lists id l [] within)) (middle f.before f.after (record f.edge { rights = label }))))) in
       finish l m.heap.free_cells m.progress (as_far m.progress) is_n (relisted_edges f)
       (subst (λ (es : List Edge). Takes es l y rights) (sym f.is) (subst (λ (z : ℕ). Takes (f.before ++ f.edge ∷ f.after) l z rights) f.here
       (takes_some f.before f.after f.edge rights (subst (λ (es : List Edge). Distinct (serials es)) f.is once))))
@@ -243,11 +243,11 @@ after_removes m n id y rights ok ok' w kept oi is held a = by a.0 a.1 a.2 where
       omega (arith, k, j)))
       (λ i. refl) (λ no. absurd (no still))
     where
-      middle : (p r : List Edge) (x : Edge) → Holds (p ++ x ∷ r) x
+      middle : (p r : List Edge) (x : Edge) → Contains (p ++ x ∷ r) x
       middle [] r x = inl refl
       middle (z ∷ p) r x = inr (middle p r x)
 
-      sides : (p r : List Edge) (x y : Edge) (e : Edge) → Holds (p ++ y ∷ r) e → Holds (p ++ x ∷ r) e ⊎ (e ≡ y)
+      sides : (p r : List Edge) (x y : Edge) (e : Edge) → Contains (p ++ y ∷ r) e → Contains (p ++ x ∷ r) e ⊎ (e ≡ y)
       sides [] r x y e (inl k) = inr k
       sides [] r x y e (inr k) = inl (inr k)
       sides (z ∷ p) r x y e (inl k) = inl (inl k)
@@ -255,23 +255,23 @@ after_removes m n id y rights ok ok' w kept oi is held a = by a.0 a.1 a.2 where
 
       relisted_edges : (f : Found (edges m.heap id) y) → Listed m id (f.before ++ record f.edge { rights = without f.edge.rights rights } ∷ f.after)
       relisted_edges f e h = elim (sides f.before f.after f.edge (record f.edge { rights = without f.edge.rights rights }) e h) [
-        | inl old ↦ inl (subst (λ (es : List Edge). Holds es e) (sym f.is) old)
+        | inl old ↦ inl (subst (λ (es : List Edge). Contains es e) (sym f.is) old)
         | inr here ↦
-            let owned : Holds (edges m.heap id) f.edge = subst (λ (es : List Edge). Holds es f.edge) (sym f.is) (middle f.before f.after f.edge) in
+            let owned : Contains (edges m.heap id) f.edge = subst (λ (es : List Edge). Contains es f.edge) (sym f.is) (middle f.before f.after f.edge) in
             inr (subst (λ (x : Edge). IsNamed m.heap x.target x.serial × (x.target ≢ id)) (sym here) (w.names.edge id f.edge held owned, w.names.no_loop id f.edge held owned))
       ]
 
-      held_changed : (x : Machine) → x ≡ changed m id (d.0.before ++ record d.0.edge { rights = without d.0.edge.rights rights } ∷ d.0.after) m.heap.free_cells m.progress m.unfinished → IsHeld x id
+      held_changed : (x : Machine) → x ≡ changed m id (d.0.before ++ record d.0.edge { rights = without d.0.edge.rights rights } ∷ d.0.after) m.heap.free_cells m.progress m.pending → IsHeld x id
       held_changed x e = subst (λ (z : Machine). IsHeld z id) (sym e) (held_relisted m.heap _ m.heap.free_cells m.progress id held)
   by (Gone cell next) d e =
       let f = d.0 in
       let l : List Edge = f.before ++ f.after in
       let q : Progress = progress_without m.progress id cell (first_cell f.after) in
       let far = without_as_far m.progress id cell (first_cell f.after) in
-      let is_n : n ≡ changed m id l (m.heap.free_cells + 1) q m.unfinished = e ∙ ap (λ (h : HeapGraph). record m { heap = h; progress = progress_without m.progress id cell next }) d.4
+      let is_n : n ≡ changed m id l (m.heap.free_cells + 1) q m.pending = e ∙ ap (λ (h : HeapGraph). record m { heap = h; progress = progress_without m.progress id cell next }) d.4
       ∙ ap (λ (c : Option ℕ). record m { heap = relisted m.heap (set m.heap.lists id l) (m.heap.free_cells + 1); progress = progress_without m.progress id cell c }) d.3 in
-      let listed : Listed m id l = λ x h. inl (subst (λ (es : List Edge). Holds es x) (sym f.is) (around f.before f.after f.edge x h)) in
-      let w' = whole_changed m id l (m.heap.free_cells + 1) q m.unfinished w within far listed w.seats (λ j x h. inl h) (subst Invariant is_n kept) in
+      let listed : Listed m id l = λ x h. inl (subst (λ (es : List Edge). Contains es x) (sym f.is) (around f.before f.after f.edge x h)) in
+      let w' = whole_changed m id l (m.heap.free_cells + 1) q m.pending w within far listed w.seats (λ j x h. inl h) (subst Invariant is_n kept) in
       let distinct : Distinct (cells (edges m.heap id)) = ok.cells.cell_once id in
       let distinct' : Distinct (cells l) = subst (λ (es : List Edge). Distinct (cells es)) (get_or-set_same m.heap.lists id l [] within) (subst (λ (h : HeapGraph). Distinct (cells (edges h id))) d.4 (ok'.cells.cell_once id)) in
       finish l (m.heap.free_cells + 1) q far is_n listed
@@ -279,27 +279,27 @@ after_removes m n id y rights ok ok' w kept oi is held a = by a.0 a.1 a.2 where
       (takes_all f.before f.after f.edge rights (subst (λ (es : List Edge). Distinct (serials es)) f.is once) d.1)))
       (left_dropped m.progress m.heap id cell (m.heap.free_cells + 1) f.before f.after f.edge within held f.is (sym d.2) distinct distinct')
       (λ t. absurd (let t' = subst (λ (x : Machine). IsEdgeIn (stored x) oi.serial y) is_n t in
-      let x = edge_listed (changed m id l (m.heap.free_cells + 1) q m.unfinished) id y oi w' is t' in
-      no_serial f (subst (λ (es : List Edge). Distinct (serials es)) f.is once) x.0 (subst (λ (es : List Edge). Holds es x.0) (get_or-set_same m.heap.lists id l [] within) x.1) (x.2 ∙ sym f.here)))
+      let x = edge_listed (changed m id l (m.heap.free_cells + 1) q m.pending) id y oi w' is t' in
+      no_serial f (subst (λ (es : List Edge). Distinct (serials es)) f.is once) x.0 (subst (λ (es : List Edge). Contains es x.0) (get_or-set_same m.heap.lists id l [] within) x.1) (x.2 ∙ sym f.here)))
       (λ no. refl)
     where
-      around : (p r : List Edge) (x e : Edge) → Holds (p ++ r) e → Holds (p ++ x ∷ r) e
+      around : (p r : List Edge) (x e : Edge) → Contains (p ++ r) e → Contains (p ++ x ∷ r) e
       around [] r x e h = inr h
       around (z ∷ p) r x e (inl k) = inl k
       around (z ∷ p) r x e (inr k) = inr (around p r x e k)
 
-      mapped : (es : List Edge) (x : Edge) → Holds es x → Holds (serials es) x.serial
+      mapped : (es : List Edge) (x : Edge) → Contains es x → Contains (serials es) x.serial
       mapped [] x h = absurd h
       mapped (z ∷ es) x (inl k) = inl (ap (λ (v : Edge). v.serial) k)
       mapped (z ∷ es) x (inr k) = inr (mapped es x k)
 
-      no_other : (p r : List Edge) (x e : Edge) → Distinct (serials (p ++ x ∷ r)) → Holds (p ++ r) e → e.serial ≡ x.serial → ⊥
-      no_other [] r x e u h s = u.0 (subst (λ (z : ℕ). Holds (serials r) z) s (mapped r e h))
-      no_other (z ∷ p) r x e u (inl k) s = u.0 (subst (λ (v : ℕ). Holds (serials (p ++ x ∷ r)) v) (sym s ∙ ap (λ (v : Edge). v.serial) k) (mapped (p ++ x ∷ r) x (inside p))) where
-        inside : (q : List Edge) → Holds (q ++ x ∷ r) x
+      no_other : (p r : List Edge) (x e : Edge) → Distinct (serials (p ++ x ∷ r)) → Contains (p ++ r) e → e.serial ≡ x.serial → ⊥
+      no_other [] r x e u h s = u.0 (subst (λ (z : ℕ). Contains (serials r) z) s (mapped r e h))
+      no_other (z ∷ p) r x e u (inl k) s = u.0 (subst (λ (v : ℕ). Contains (serials (p ++ x ∷ r)) v) (sym s ∙ ap (λ (v : Edge). v.serial) k) (mapped (p ++ x ∷ r) x (inside p))) where
+        inside : (q : List Edge) → Contains (q ++ x ∷ r) x
         inside [] = inl refl
         inside (v ∷ q) = inr (inside q)
       no_other (z ∷ p) r x e u (inr k) s = no_other p r x e u.1 k s
 
-      no_serial : (f : Found (edges m.heap id) y) → Distinct (serials (f.before ++ f.edge ∷ f.after)) → (e : Edge) → Holds (f.before ++ f.after) e → e.serial ≡ f.edge.serial → ⊥
+      no_serial : (f : Found (edges m.heap id) y) → Distinct (serials (f.before ++ f.edge ∷ f.after)) → (e : Edge) → Contains (f.before ++ f.after) e → e.serial ≡ f.edge.serial → ⊥
       no_serial f u e h s = no_other f.before f.after f.edge e u h s

@@ -7,8 +7,8 @@ use Rattle.std.specs.FinSet as finset
 use Rattle.std.specs.FinSet.{contains-union, contains-difference}
 use Rattle.tg_rights.specs.Letters.{Letters, Right, has, joined, without, none, is_none}
 use Rattle.tg_rights.specs.Letters as right
-use Rattle.tg_rights.specs.Membership.{Holds, Distinct}
-use Rattle.tg_rights.proofs.MembershipLemmas.{holds_append, holds_left, holds_right}
+use Rattle.tg_rights.specs.Membership.{Contains, Distinct}
+use Rattle.tg_rights.proofs.MembershipLemmas.{contains_append, contains_left, contains_right}
 use Rattle.tg_graph.specs.declared.vertex.Vertex.{Vertex}
 use Rattle.tg_graph.specs.Triples.{Triple, Triples, edge}
 use Rattle.tg_graph.proofs.Sets.{triple_cmp_total, same_triples}
@@ -95,7 +95,7 @@ relisted_places p q h ls n far = listless (None ∷ []) place_entry (λ ls ls' b
 -- An edge of the list leads to the serial and has the right.
 pub record Says (es : List Edge) (y : ℕ) (r : Right) : Type 0 where
   pub edge : Edge
-  pub owned : Holds es edge
+  pub owned : Contains es edge
   pub to : edge.serial ≡ y
   pub right : has edge.rights r ≡ true
 
@@ -112,7 +112,7 @@ triples_relisted p q h i n o l S far once within is held says said others = same
     elim (cases_eq s.at i) [
       | inl here ↦
           let occupant : Some s.occupant ≡ Some o = sym s.is ∙ ap (λ (k : ℕ). slot h.table k) here ∙ is in
-          let list : Holds l s.edge = subst (λ (es : List Edge). Holds es s.edge) now (subst (λ (k : ℕ). Holds (get_or (set h.lists i l) k []) s.edge) here s.owned) in
+          let list : Contains l s.edge = subst (λ (es : List Edge). Contains es s.edge) now (subst (λ (k : ℕ). Contains (get_or (set h.lists i l) k []) s.edge) here s.owned) in
           says t (s.from ∙ ap serial_in occupant) (record { edge = s.edge; owned = list; to = sym s.to; right = s.right })
       | inr apart ↦
           let from : t.from ≢ o.serial = λ e. apart (once s.at i o.serial (s.occupant, s.is, sym s.from ∙ e) (o, is, refl)) in
@@ -122,7 +122,7 @@ triples_relisted p q h i n o l S far once within is held says said others = same
             is = s.is;
             held = far_held h p q s.at far (relisted_held h (set h.lists i l) n q s.at s.held);
             edge = s.edge;
-            owned = subst (λ (es : List Edge). Holds es s.edge) (get_or-set_other h.lists i s.at l [] apart) s.owned;
+            owned = subst (λ (es : List Edge). Contains es s.edge) (get_or-set_other h.lists i s.at l [] apart) s.owned;
             from = s.from;
             to = s.to;
             right = s.right;
@@ -137,7 +137,7 @@ triples_relisted p q h i n o l S far once within is held says said others = same
             is = is;
             held = held_relisted h (set h.lists i l) n q i (held_far h p q i far held);
             edge = s.edge;
-            owned = subst (λ (es : List Edge). Holds es s.edge) (sym now) s.owned;
+            owned = subst (λ (es : List Edge). Contains es s.edge) (sym now) s.owned;
             from = mine;
             to = sym s.to;
             right = s.right;
@@ -151,7 +151,7 @@ triples_relisted p q h i n o l S far once within is held says said others = same
             is = s.is;
             held = held_relisted h (set h.lists i l) n q s.at (held_far h p q s.at far s.held);
             edge = s.edge;
-            owned = subst (λ (es : List Edge). Holds es s.edge) (sym (get_or-set_other h.lists i s.at l [] apart)) s.owned;
+            owned = subst (λ (es : List Edge). Contains es s.edge) (sym (get_or-set_other h.lists i s.at l [] apart)) s.owned;
             from = s.from;
             to = s.to;
             right = s.right;
@@ -177,7 +177,7 @@ pub triple_says : (p : Progress) (h : HeapGraph) (i : ℕ) (o : Occupant) (t : T
 triple_says p h i o t once is from c =
     let s = triple_owned h p t c in
     let here : s.at ≡ i = once s.at i o.serial (s.occupant, s.is, sym s.from ∙ from) (o, is, refl) in
-    record { edge = s.edge; owned = subst (λ (k : ℕ). Holds (edges h k) s.edge) here s.owned; to = sym s.to; right = s.right }
+    record { edge = s.edge; owned = subst (λ (k : ℕ). Contains (edges h k) s.edge) here s.owned; to = sym s.to; right = s.right }
 
 or_true : (a b : Bool) → (a || b) ≡ true → (a ≡ true) ⊎ (b ≡ true)
 or_true true b e = inl refl
@@ -259,7 +259,7 @@ has-without a b right.take = refl
 has-without a b right.grant = refl
 
 says_among : (p r : List Edge) (x : Edge) (z : ℕ) (s : Right) → Says (p ++ x ∷ r) z s → (Says p z s ⊎ Says r z s) ⊎ ((x.serial ≡ z) × (has x.rights s ≡ true))
-says_among p r x z s k = elim (holds_append p (x ∷ r) k.edge k.owned) [
+says_among p r x z s k = elim (contains_append p (x ∷ r) k.edge k.owned) [
   | inl before ↦ inl (inl (record { edge = k.edge; owned = before; to = k.to; right = k.right }))
   | inr rest ↦ elim rest [
     | inl is ↦ inr (ap (λ (e : Edge). e.serial) (sym is) ∙ k.to, subst (λ (e : Edge). has e.rights s ≡ true) is k.right)
@@ -268,11 +268,11 @@ says_among p r x z s k = elim (holds_append p (x ∷ r) k.edge k.owned) [
 ]
 
 among_says : (p r : List Edge) (x : Edge) (z : ℕ) (s : Right) → Says p z s ⊎ Says r z s → Says (p ++ x ∷ r) z s
-among_says p r x z s (inl k) = record { edge = k.edge; owned = holds_left p (x ∷ r) k.edge k.owned; to = k.to; right = k.right }
-among_says p r x z s (inr k) = record { edge = k.edge; owned = holds_right p (x ∷ r) k.edge (inr k.owned); to = k.to; right = k.right }
+among_says p r x z s (inl k) = record { edge = k.edge; owned = contains_left p (x ∷ r) k.edge k.owned; to = k.to; right = k.right }
+among_says p r x z s (inr k) = record { edge = k.edge; owned = contains_right p (x ∷ r) k.edge (inr k.owned); to = k.to; right = k.right }
 
 middle_says : (p r : List Edge) (x : Edge) (s : Right) → has x.rights s ≡ true → Says (p ++ x ∷ r) x.serial s
-middle_says p r x s h = record { edge = x; owned = holds_right p (x ∷ r) x (inl refl); to = refl; right = h }
+middle_says p r x s h = record { edge = x; owned = contains_right p (x ∷ r) x (inl refl); to = refl; right = h }
 
 pub gives_joined : (p r : List Edge) (x : Edge) (rights : Letters) → Gives (p ++ x ∷ r) (p ++ record x { rights = joined x.rights rights } ∷ r) x.serial rights
 gives_joined p r x rights = record {
@@ -304,16 +304,16 @@ gives_new es e = record {
 -- The serial of the middle edge stands nowhere else.
 serial_apart : (p r : List Edge) (x : Edge) (z : ℕ) (s : Right) → Distinct (serials (p ++ x ∷ r)) → Says p z s ⊎ Says r z s → z ≢ x.serial
 serial_apart [] r x z s d (inl k) e = absurd k.owned
-serial_apart [] r x z s d (inr k) e = d.0 (subst (λ (y : ℕ). Holds (serials r) y) (k.to ∙ e) (mapped r k.edge k.owned)) where
-  mapped : (es : List Edge) (y : Edge) → Holds es y → Holds (serials es) y.serial
+serial_apart [] r x z s d (inr k) e = d.0 (subst (λ (y : ℕ). Contains (serials r) y) (k.to ∙ e) (mapped r k.edge k.owned)) where
+  mapped : (es : List Edge) (y : Edge) → Contains es y → Contains (serials es) y.serial
   mapped [] y h = absurd h
   mapped (w ∷ es) y (inl is) = inl (ap (λ (q : Edge). q.serial) is)
   mapped (w ∷ es) y (inr h) = inr (mapped es y h)
 serial_apart (a ∷ p) r x z s d (inl k) e = elim k.owned [
-  | inl is ↦ d.0 (subst (λ (y : ℕ). Holds (serials (p ++ x ∷ r)) y) (sym (ap (λ (q : Edge). q.serial) (sym is) ∙ (k.to ∙ e))) (among p))
+  | inl is ↦ d.0 (subst (λ (y : ℕ). Contains (serials (p ++ x ∷ r)) y) (sym (ap (λ (q : Edge). q.serial) (sym is) ∙ (k.to ∙ e))) (among p))
   | inr rest ↦ serial_apart p r x z s d.1 (inl (record { edge = k.edge; owned = rest; to = k.to; right = k.right })) e
 ] where
-  among : (xs : List Edge) → Holds (serials (xs ++ x ∷ r)) x.serial
+  among : (xs : List Edge) → Contains (serials (xs ++ x ∷ r)) x.serial
   among [] = inl refl
   among (y ∷ xs) = inr (among xs)
 serial_apart (a ∷ p) r x z s d (inr k) e = serial_apart p r x z s d.1 (inr k) e
@@ -343,8 +343,8 @@ takes_all p r x rights once empty = record {
   less = λ s k h. serial_apart p r x x.serial s once (sides x.serial s k) refl;
   old = λ z s k n. elim (says_among p r x z s k) [
     | inl side ↦ elim side [
-      | inl before ↦ record { edge = before.edge; owned = holds_left p r before.edge before.owned; to = before.to; right = before.right }
-      | inr after ↦ record { edge = after.edge; owned = holds_right p r after.edge after.owned; to = after.to; right = after.right }
+      | inl before ↦ record { edge = before.edge; owned = contains_left p r before.edge before.owned; to = before.to; right = before.right }
+      | inr after ↦ record { edge = after.edge; owned = contains_right p r after.edge after.owned; to = after.to; right = after.right }
     ]
     | inr here ↦
         let lacks : has rights s ≡ false = not_true (has rights s) (n (sym here.0)) in
@@ -353,7 +353,7 @@ takes_all p r x rights once empty = record {
   ];
 } where
   sides : (z : ℕ) (s : Right) → Says (p ++ r) z s → Says p z s ⊎ Says r z s
-  sides z s k = elim (holds_append p r k.edge k.owned) [
+  sides z s k = elim (contains_append p r k.edge k.owned) [
     | inl before ↦ inl (record { edge = k.edge; owned = before; to = k.to; right = k.right })
     | inr after ↦ inr (record { edge = k.edge; owned = after; to = k.to; right = k.right })
   ]

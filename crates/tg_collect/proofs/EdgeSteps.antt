@@ -2,7 +2,7 @@
 use Rattle.std.proofs.Common.{◌≡◌, ◌≢◌, ℕ, suc, List, [], ◌∷◌, ◌++◌, length, Option, Some, None, ◌⊎◌, inl, inr, sym, ◌∙◌, subst, ap, refl, get_or, Bool, true, false, cond, eqb}
 use Rattle.std.proofs.lemmas.Bool.{cases_eq}
 use Rattle.tg_rights.specs.Letters.{Letters}
-use Rattle.tg_rights.specs.Membership.{Holds, Distinct}
+use Rattle.tg_rights.specs.Membership.{Contains, Distinct}
 use Rattle.tg_slots.specs.Table.{Mark, Has}
 use Rattle.tg_slots.specs.declared.colour.Colour.TheVariants.{White}
 use Rattle.tg_heap.specs.Graph.{HeapGraph, edges, mark_at}
@@ -10,7 +10,7 @@ use Rattle.tg_cells.specs.Lists.{Edge, first_cell}
 use Rattle.tg_heap.specs.Marking.{ScanAt, ScanHolds, ScanFits, remaining, passed}
 use Rattle.tg_heap.proofs.CursorLemmas.{cells}
 use Rattle.tg_heap.proofs.StepLemmas.{tricolour-edges}
-use Rattle.tg_heap.proofs.EdgeLemmas.{scan_link, drop_cell, holds_drop, scan_unlink, scan_unlink_here}
+use Rattle.tg_heap.proofs.EdgeLemmas.{scan_link, drop_cell, contains_drop, scan_unlink, scan_unlink_here}
 use Rattle.tg_collect.specs.declared.machine.Scan.{Scan}
 use Rattle.tg_collect.specs.declared.machine.Progress.{Progress}
 use Rattle.tg_collect.specs.declared.machine.Progress.TheVariants.{Idle, Marking, Sweeping}
@@ -37,10 +37,10 @@ scan_same colour out out' Waits Unf Unf' s e more f = record {
   grey = f.grey;
   taken = f.taken;
   at = f.at ∙ sym (ap (λ (es : List Edge). first_cell (remaining s.cursor es)) e);
-  behind = λ x h w. more x.target (f.behind x (subst (λ (es : List Edge). Holds (passed s.cursor es) x) e h) w);
+  behind = λ x h w. more x.target (f.behind x (subst (λ (es : List Edge). Contains (passed s.cursor es) x) e h) w);
 }
 
--- A new first edge, to a target that is unfinished from now on.
+-- A new first edge, to a target that is pending from now on.
 pub sound-link : (h : HeapGraph) (ls : List (List Edge)) (n : ℕ) (p : Progress) (Root Root' Unf Unf' : ℕ → Type 0) (id : ℕ) (e : Edge)
     → get_or ls id [] ≡ e ∷ edges h id → ((j : ℕ) → j ≢ id → get_or ls j [] ≡ edges h j) → Distinct (cells (get_or ls id []))
     → Unf' e.target → HeldAt h p e.target → ((j : ℕ) → Unf j → Unf' j) → ((j : ℕ) → Root' j → Root j ⊎ (j ≡ e.target))
@@ -56,26 +56,26 @@ sound-link h ls n p Root Root' Unf Unf' id e here others once new held more root
   back : (j : ℕ) → HeldAt (relisted h ls n) p j → HeldAt h p j
   back j g = (g.0, λ c. g.1 (condemned_still h ls n p j c))
 
-  from : (j : ℕ) (x : Edge) → Holds (get_or ls j []) x → (x ≡ e) ⊎ Holds (edges h j) x
+  from : (j : ℕ) (x : Edge) → Contains (get_or ls j []) x → (x ≡ e) ⊎ Contains (edges h j) x
   from j x o = elim (cases_eq j id) [
     | inl is ↦
-        let o' : Holds (e ∷ edges h id) x = subst (λ (es : List Edge). Holds es x) here (subst (λ (k : ℕ). Holds (get_or ls k []) x) is o) in
-        elim o' [ inl same ↦ inl same | inr old ↦ inr (subst (λ (k : ℕ). Holds (edges h k) x) (sym is) old) ]
-    | inr other ↦ inr (subst (λ (es : List Edge). Holds es x) (others j other) o)
+        let o' : Contains (e ∷ edges h id) x = subst (λ (es : List Edge). Contains es x) here (subst (λ (k : ℕ). Contains (get_or ls k []) x) is o) in
+        elim o' [ inl same ↦ inl same | inr old ↦ inr (subst (λ (k : ℕ). Contains (edges h k) x) (sym is) old) ]
+    | inr other ↦ inr (subst (λ (es : List Edge). Contains es x) (others j other) o)
   ]
 
-  fits : (s : Option ScanAt) → ScanFits (mark_at h) (edges h) (Holds h.table.grey) Unf s → ScanFits (mark_at h) (λ j. get_or ls j []) (Holds h.table.grey) Unf' s
+  fits : (s : Option ScanAt) → ScanFits (mark_at h) (edges h) (Contains h.table.grey) Unf s → ScanFits (mark_at h) (λ j. get_or ls j []) (Contains h.table.grey) Unf' s
   fits None f = tt
   fits (Some s) f = elim (cases_eq s.slot id) [
-    | inl is ↦ scan_link (mark_at h) (edges h) (λ j. get_or ls j []) (Holds h.table.grey) Unf Unf' s e
+    | inl is ↦ scan_link (mark_at h) (edges h) (λ j. get_or ls j []) (Contains h.table.grey) Unf Unf' s e
         (subst (λ (k : ℕ). get_or ls k [] ≡ e ∷ edges h k) (sym is) here) (subst (λ (k : ℕ). Distinct (cells (get_or ls k []))) (sym is) once) new more f
-    | inr other ↦ scan_same (mark_at h) (edges h) (λ j. get_or ls j []) (Holds h.table.grey) Unf Unf' s (others s.slot other) more f
+    | inr other ↦ scan_same (mark_at h) (edges h) (λ j. get_or ls j []) (Contains h.table.grey) Unf Unf' s (others s.slot other) more f
   ]
 
   turn : (q : Progress) → PhaseAt q h Root Unf → PhaseAt q (relisted h ls n) Root' Unf'
   turn Idle old = old
   turn (Sweeping k) old = old
-  turn (Marking s) old = tricolour-edges (mark_at h) (edges h) (λ j. get_or ls j []) (Holds h.table.grey) Root Root' Unf Unf' (scan_of s) (scan_of s)
+  turn (Marking s) old = tricolour-edges (mark_at h) (edges h) (λ j. get_or ls j []) (Contains h.table.grey) Root Root' Unf Unf' (scan_of s) (scan_of s)
       (λ j x o. elim (from j x o) [ inl is ↦ inl (subst (λ (y : Edge). Unf' y.target) (sym is) new) | inr old ↦ inr (x, old, refl) ])
       more (λ j r. elim (roots j r) [ inl old ↦ inl old | inr is ↦ inr (subst Unf' (sym is) new) ]) (λ j x. x) (fits (scan_of s)) old
 
@@ -95,26 +95,26 @@ sound-unlink h ls n p Root Unf id c here others apart kept = record {
   back : (j : ℕ) → HeldAt (relisted h ls n) p j → HeldAt h p j
   back j g = (g.0, λ c. g.1 (condemned_still h ls n p j c))
 
-  from : (j : ℕ) (x : Edge) → Holds (get_or ls j []) x → Holds (edges h j) x
+  from : (j : ℕ) (x : Edge) → Contains (get_or ls j []) x → Contains (edges h j) x
   from j x o = elim (cases_eq j id) [
-    | inl is ↦ subst (λ (k : ℕ). Holds (edges h k) x) (sym is)
-        (holds_drop c (edges h id) x (subst (λ (es : List Edge). Holds es x) here (subst (λ (k : ℕ). Holds (get_or ls k []) x) is o)))
-    | inr other ↦ subst (λ (es : List Edge). Holds es x) (others j other) o
+    | inl is ↦ subst (λ (k : ℕ). Contains (edges h k) x) (sym is)
+        (contains_drop c (edges h id) x (subst (λ (es : List Edge). Contains es x) here (subst (λ (k : ℕ). Contains (get_or ls k []) x) is o)))
+    | inr other ↦ subst (λ (es : List Edge). Contains es x) (others j other) o
   ]
 
   fits : (s : Option Scan) → ((t : Scan) → s ≡ Some t → t.slot ≡ id → t.cursor ≡ Some c → ⊥)
-      → ScanFits (mark_at h) (edges h) (Holds h.table.grey) Unf (scan_of s) → ScanFits (mark_at h) (λ j. get_or ls j []) (Holds h.table.grey) Unf (scan_of s)
+      → ScanFits (mark_at h) (edges h) (Contains h.table.grey) Unf (scan_of s) → ScanFits (mark_at h) (λ j. get_or ls j []) (Contains h.table.grey) Unf (scan_of s)
   fits None m f = tt
   fits (Some t) m f = elim (cases_eq t.slot id) [
-    | inl is ↦ scan_unlink (mark_at h) (edges h) (λ j. get_or ls j []) (Holds h.table.grey) Unf (record { slot = t.slot; cursor = t.cursor }) c
+    | inl is ↦ scan_unlink (mark_at h) (edges h) (λ j. get_or ls j []) (Contains h.table.grey) Unf (record { slot = t.slot; cursor = t.cursor }) c
         (subst (λ (k : ℕ). get_or ls k [] ≡ drop_cell c (edges h k)) (sym is) here) (m t refl is) f
-    | inr other ↦ scan_same (mark_at h) (edges h) (λ j. get_or ls j []) (Holds h.table.grey) Unf Unf (record { slot = t.slot; cursor = t.cursor }) (others t.slot other) (λ j u. u) f
+    | inr other ↦ scan_same (mark_at h) (edges h) (λ j. get_or ls j []) (Contains h.table.grey) Unf Unf (record { slot = t.slot; cursor = t.cursor }) (others t.slot other) (λ j u. u) f
   ]
 
   turn : (q : Progress) → ((s : Scan) → q ≡ Marking (Some s) → s.slot ≡ id → s.cursor ≡ Some c → ⊥) → PhaseAt q h Root Unf → PhaseAt q (relisted h ls n) Root Unf
   turn Idle m old = old
   turn (Sweeping k) m old = old
-  turn (Marking s) m old = tricolour-edges (mark_at h) (edges h) (λ j. get_or ls j []) (Holds h.table.grey) Root Root Unf Unf (scan_of s) (scan_of s)
+  turn (Marking s) m old = tricolour-edges (mark_at h) (edges h) (λ j. get_or ls j []) (Contains h.table.grey) Root Root Unf Unf (scan_of s) (scan_of s)
       (λ j x o. inr (x, from j x o, refl)) (λ j u. u) (λ j r. inl r) (λ j x. x) (fits s (λ t e. m t (ap Marking e))) old
 
 -- A freed cell at the cursor: the cursor moves to the next.
@@ -126,16 +126,16 @@ pub sound-unlink_here : (h : HeapGraph) (ls : List (List Edge)) (n : ℕ) (Root 
 sound-unlink_here h ls n Root Unf id c before after x was at is here others once once' kept = record {
   roots_held = λ j r. kept.roots_held j r;
   closed = λ j y g o. kept.closed j y g (from j y o);
-  phase = tricolour-edges (mark_at h) (edges h) (λ j. get_or ls j []) (Holds h.table.grey) Root Root Unf Unf
+  phase = tricolour-edges (mark_at h) (edges h) (λ j. get_or ls j []) (Contains h.table.grey) Root Root Unf Unf
       (Some (record { slot = id; cursor = Some c })) (Some (record { slot = id; cursor = first_cell after }))
       (λ j y o. inr (y, from j y o, refl)) (λ j u. u) (λ j r. inl r) (λ j s. s)
-      (λ f. scan_unlink_here (mark_at h) (edges h) (λ j. get_or ls j []) (Holds h.table.grey) Unf id c before after x was at is once once' f) kept.phase;
+      (λ f. scan_unlink_here (mark_at h) (edges h) (λ j. get_or ls j []) (Contains h.table.grey) Unf id c before after x was at is once once' f) kept.phase;
 } where
-  from : (j : ℕ) (y : Edge) → Holds (get_or ls j []) y → Holds (edges h j) y
+  from : (j : ℕ) (y : Edge) → Contains (get_or ls j []) y → Contains (edges h j) y
   from j y o = elim (cases_eq j id) [
-    | inl e ↦ subst (λ (k : ℕ). Holds (edges h k) y) (sym e)
-        (holds_drop c (edges h id) y (subst (λ (es : List Edge). Holds es y) here (subst (λ (k : ℕ). Holds (get_or ls k []) y) e o)))
-    | inr other ↦ subst (λ (es : List Edge). Holds es y) (others j other) o
+    | inl e ↦ subst (λ (k : ℕ). Contains (edges h k) y) (sym e)
+        (contains_drop c (edges h id) y (subst (λ (es : List Edge). Contains es y) here (subst (λ (k : ℕ). Contains (get_or ls k []) y) e o)))
+    | inr other ↦ subst (λ (es : List Edge). Contains es y) (others j other) o
   ]
 
 -- The same cells to the same slots, whatever the labels.
@@ -153,7 +153,7 @@ pub alike_relabelled : (p r : List Edge) (x : Edge) (label : Letters) → Alike 
 alike_relabelled [] r x label = (refl, refl, alike_same r)
 alike_relabelled (y ∷ p) r x label = (refl, refl, alike_relabelled p r x label)
 
-pub alike_from : (k l : List Edge) (y : Edge) → Alike k l → Holds l y → (x : Edge) × Holds k x × (x.target ≡ y.target)
+pub alike_from : (k l : List Edge) (y : Edge) → Alike k l → Contains l y → (x : Edge) × Contains k x × (x.target ≡ y.target)
 alike_from [] [] y a h = absurd h
 alike_from [] (z ∷ l) y a h = absurd a
 alike_from (x ∷ k) [] y a h = absurd a
@@ -196,7 +196,7 @@ alike_length [] (y ∷ l) a = absurd a
 alike_length (x ∷ k) [] a = absurd a
 alike_length (x ∷ k) (y ∷ l) a = ap suc (alike_length k l a.2)
 
--- Another label, at most with a target that is unfinished from now on.
+-- Another label, at most with a target that is pending from now on.
 pub sound-alike : (h : HeapGraph) (ls : List (List Edge)) (n : ℕ) (p : Progress) (Root Root' Unf Unf' : ℕ → Type 0) (id : ℕ)
     → Alike (edges h id) (get_or ls id []) → ((j : ℕ) → j ≢ id → get_or ls j [] ≡ edges h j)
     → ((j : ℕ) → Unf j → Unf' j) → ((j : ℕ) → Root' j → Root j ⊎ (Unf' j × HeldAt h p j))
@@ -212,15 +212,15 @@ sound-alike h ls n p Root Root' Unf Unf' id alike others more roots kept = recor
   back : (j : ℕ) → HeldAt (relisted h ls n) p j → HeldAt h p j
   back j g = (g.0, λ c. g.1 (condemned_still h ls n p j c))
 
-  from : (j : ℕ) (x : Edge) → Holds (get_or ls j []) x → (y : Edge) × Holds (edges h j) y × (y.target ≡ x.target)
+  from : (j : ℕ) (x : Edge) → Contains (get_or ls j []) x → (y : Edge) × Contains (edges h j) y × (y.target ≡ x.target)
   from j x o = elim (cases_eq j id) [
     | inl is ↦
-        let f = alike_from (edges h id) (get_or ls id []) x alike (subst (λ (k : ℕ). Holds (get_or ls k []) x) is o) in
-        (f.0, subst (λ (k : ℕ). Holds (edges h k) f.0) (sym is) f.1, f.2)
-    | inr other ↦ (x, subst (λ (es : List Edge). Holds es x) (others j other) o, refl)
+        let f = alike_from (edges h id) (get_or ls id []) x alike (subst (λ (k : ℕ). Contains (get_or ls k []) x) is o) in
+        (f.0, subst (λ (k : ℕ). Contains (edges h k) f.0) (sym is) f.1, f.2)
+    | inr other ↦ (x, subst (λ (es : List Edge). Contains es x) (others j other) o, refl)
   ]
 
-  fits : (s : Option ScanAt) → ScanFits (mark_at h) (edges h) (Holds h.table.grey) Unf s → ScanFits (mark_at h) (λ j. get_or ls j []) (Holds h.table.grey) Unf' s
+  fits : (s : Option ScanAt) → ScanFits (mark_at h) (edges h) (Contains h.table.grey) Unf s → ScanFits (mark_at h) (λ j. get_or ls j []) (Contains h.table.grey) Unf' s
   fits None f = tt
   fits (Some s) f = elim (cases_eq s.slot id) [
     | inl is ↦
@@ -233,11 +233,11 @@ sound-alike h ls n p Root Root' Unf Unf' id alike others more roots kept = recor
               let y = alike_from (passed s.cursor (edges h s.slot)) (passed s.cursor (get_or ls s.slot [])) x (alike_passed s.cursor (edges h s.slot) (get_or ls s.slot []) here) o in
               more x.target (subst Unf y.2 (f.behind y.0 y.1 (subst (λ (k : ℕ). mark_at h k ≡ Has White) (sym y.2) w)));
         }
-    | inr other ↦ scan_same (mark_at h) (edges h) (λ j. get_or ls j []) (Holds h.table.grey) Unf Unf' s (others s.slot other) more f
+    | inr other ↦ scan_same (mark_at h) (edges h) (λ j. get_or ls j []) (Contains h.table.grey) Unf Unf' s (others s.slot other) more f
   ]
 
   turn : (q : Progress) → PhaseAt q h Root Unf → PhaseAt q (relisted h ls n) Root' Unf'
   turn Idle old = old
   turn (Sweeping k) old = old
-  turn (Marking s) old = tricolour-edges (mark_at h) (edges h) (λ j. get_or ls j []) (Holds h.table.grey) Root Root' Unf Unf' (scan_of s) (scan_of s)
+  turn (Marking s) old = tricolour-edges (mark_at h) (edges h) (λ j. get_or ls j []) (Contains h.table.grey) Root Root' Unf Unf' (scan_of s) (scan_of s)
       (λ j x o. inr (from j x o)) more (λ j r. elim (roots j r) [ inl old ↦ inl old | inr new ↦ inr new.0 ]) (λ j x. x) (fits (scan_of s)) old

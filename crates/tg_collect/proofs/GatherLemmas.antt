@@ -2,8 +2,8 @@
 use Rattle.std.proofs.Common.{◌≡◌, ◌≢◌, ℕ, zero, suc, ◌+◌, ◌*◌, ◌<◌, ◌≤◌, List, [], ◌∷◌, length, Option, None, inl, inr, sym, ◌∙◌, subst, ap, refl, arith, length-set, set, get_or, get_or-set_same, get_or-set_other}
 use Rattle.std.proofs.lemmas.Bool.{cases_eq}
 use Rattle.std.proofs.Math.Nat.{suc-mul}
-use Rattle.tg_rights.specs.Membership.{Holds}
-use Rattle.tg_heap.proofs.CursorLemmas.{holds_append, holds_left, holds_right}
+use Rattle.tg_rights.specs.Membership.{Contains}
+use Rattle.tg_heap.proofs.CursorLemmas.{contains_append, contains_left, contains_right}
 use Rattle.tg_slots.specs.declared.slots.Occupant.{Occupant}
 use Rattle.tg_collect.specs.Stored.{gather, total}
 
@@ -40,37 +40,37 @@ gather_set f g os k v here there = gather_same f g (set os k v) os (length-set o
     ])
 
 -- Who is in the list.
-pub from_holds : {X : Type 0} (f : ℕ → Option Occupant → List X) (i : ℕ) (os : List (Option Occupant)) (x : X) → Holds (gather f i os) x
-    → (k : ℕ) × (k < length os) × Holds (f (i + k) (get_or os k None)) x
-from_holds f i [] x h = absurd h
-from_holds f i (o ∷ os) x h = elim (holds_append (f i o) (gather f (suc i) os) x h) [
-  | inl here ↦ (let stay : i ≡ i + 0 = omega arith in (0, omega arith, subst (λ (n : ℕ). Holds (f n o) x) stay here))
+pub from_contains : {X : Type 0} (f : ℕ → Option Occupant → List X) (i : ℕ) (os : List (Option Occupant)) (x : X) → Contains (gather f i os) x
+    → (k : ℕ) × (k < length os) × Contains (f (i + k) (get_or os k None)) x
+from_contains f i [] x h = absurd h
+from_contains f i (o ∷ os) x h = elim (contains_append (f i o) (gather f (suc i) os) x h) [
+  | inl here ↦ (let stay : i ≡ i + 0 = omega arith in (0, omega arith, subst (λ (n : ℕ). Contains (f n o) x) stay here))
   | inr there ↦
-      let r = from_holds f (suc i) os x there in
+      let r = from_contains f (suc i) os x there in
       let l = r.1 in
       let move : suc i + r.0 ≡ i + suc r.0 = omega arith in
       let b : suc r.0 < suc (length os) = omega (arith, l) in
-      (suc r.0, b, subst (λ (n : ℕ). Holds (f n (get_or os r.0 None)) x) move r.2)
+      (suc r.0, b, subst (λ (n : ℕ). Contains (f n (get_or os r.0 None)) x) move r.2)
 ]
 
-pub gather_holds : {X : Type 0} (f : ℕ → Option Occupant → List X) (os : List (Option Occupant)) (x : X) → Holds (gather f 0 os) x
-    → (k : ℕ) × (k < length os) × Holds (f k (get_or os k None)) x
-gather_holds f os x h =
-    let r = from_holds f 0 os x h in
+pub gather_contains : {X : Type 0} (f : ℕ → Option Occupant → List X) (os : List (Option Occupant)) (x : X) → Contains (gather f 0 os) x
+    → (k : ℕ) × (k < length os) × Contains (f k (get_or os k None)) x
+gather_contains f os x h =
+    let r = from_contains f 0 os x h in
     let stay : 0 + r.0 ≡ r.0 = omega arith in
-    (r.0, r.1, subst (λ (n : ℕ). Holds (f n (get_or os r.0 None)) x) stay r.2)
+    (r.0, r.1, subst (λ (n : ℕ). Contains (f n (get_or os r.0 None)) x) stay r.2)
 
-holds_from : {X : Type 0} (f : ℕ → Option Occupant → List X) (i : ℕ) (os : List (Option Occupant)) (x : X) (k : ℕ) → k < length os
-    → Holds (f (i + k) (get_or os k None)) x → Holds (gather f i os) x
-holds_from f i [] x k b h = absurd (omega arith)
-holds_from f i (o ∷ os) x zero b h = let stay : i + 0 ≡ i = omega arith in holds_left (f i o) (gather f (suc i) os) x (subst (λ (n : ℕ). Holds (f n o) x) stay h)
-holds_from f i (o ∷ os) x (suc k) b h =
+contains_from : {X : Type 0} (f : ℕ → Option Occupant → List X) (i : ℕ) (os : List (Option Occupant)) (x : X) (k : ℕ) → k < length os
+    → Contains (f (i + k) (get_or os k None)) x → Contains (gather f i os) x
+contains_from f i [] x k b h = absurd (omega arith)
+contains_from f i (o ∷ os) x zero b h = let stay : i + 0 ≡ i = omega arith in contains_left (f i o) (gather f (suc i) os) x (subst (λ (n : ℕ). Contains (f n o) x) stay h)
+contains_from f i (o ∷ os) x (suc k) b h =
     let move : i + suc k ≡ suc i + k = omega arith in
-    holds_right (f i o) (gather f (suc i) os) x (holds_from f (suc i) os x k (omega (arith, b)) (subst (λ (n : ℕ). Holds (f n (get_or os k None)) x) move h))
+    contains_right (f i o) (gather f (suc i) os) x (contains_from f (suc i) os x k (omega (arith, b)) (subst (λ (n : ℕ). Contains (f n (get_or os k None)) x) move h))
 
-pub holds_gather : {X : Type 0} (f : ℕ → Option Occupant → List X) (os : List (Option Occupant)) (x : X) (k : ℕ) → k < length os
-    → Holds (f k (get_or os k None)) x → Holds (gather f 0 os) x
-holds_gather f os x k b h = let stay : k ≡ 0 + k = omega arith in holds_from f 0 os x k b (subst (λ (n : ℕ). Holds (f n (get_or os k None)) x) stay h)
+pub contains_gather : {X : Type 0} (f : ℕ → Option Occupant → List X) (os : List (Option Occupant)) (x : X) (k : ℕ) → k < length os
+    → Contains (f k (get_or os k None)) x → Contains (gather f 0 os) x
+contains_gather f os x k b h = let stay : k ≡ 0 + k = omega arith in contains_from f 0 os x k b (subst (λ (n : ℕ). Contains (f n (get_or os k None)) x) stay h)
 
 -- Where no slot counts more, the sum is no more.
 from_most : (f g : ℕ → Option Occupant → ℕ) (i : ℕ) (os ps : List (Option Occupant)) → length os ≡ length ps

@@ -3,7 +3,7 @@ use Rattle.std.proofs.Common.{◌≡◌, ◌≢◌, ℕ, zero, suc, ◌+◌, ◌
 use Rattle.std.proofs.lemmas.Bool.{cases_eq}
 use Rattle.std.proofs.lemmas.List.Sums.{sum_by-set, sum_by-cons}
 use Rattle.std.proofs.Math.Nat.{mul-suc}
-use Rattle.tg_rights.specs.Membership.{Holds, Distinct}
+use Rattle.tg_rights.specs.Membership.{Contains, Distinct}
 use Rattle.tg_slots.specs.Table.{Table, Mark, Free, Has, mark, mark_of, slot}
 use Rattle.tg_slots.specs.declared.slots.Occupant.{Occupant}
 use Rattle.tg_slots.specs.declared.colour.Colour.TheVariants.{White, Grey, Black}
@@ -11,7 +11,7 @@ use Rattle.tg_slots.proofs.TableLemmas.{mark_here, mark_there, mark_coloured, oc
 use Rattle.tg_heap.specs.Graph.{HeapGraph, edges, mark_at, shaded, shaded_by, painted, IsHeap}
 use Rattle.tg_cells.specs.Lists.{Edge, first_cell}
 use Rattle.tg_heap.specs.Marking.{remaining}
-use Rattle.tg_heap.proofs.CursorLemmas.{cells, remaining_split, holds_right}
+use Rattle.tg_heap.proofs.CursorLemmas.{cells, remaining_split, contains_right}
 use Rattle.tg_collect.specs.declared.machine.Scan.{Scan}
 use Rattle.tg_collect.specs.declared.machine.Progress.{Progress}
 use Rattle.tg_collect.specs.declared.machine.Progress.TheVariants.{Idle, Marking, Sweeping}
@@ -23,14 +23,14 @@ use Rattle.tg_collect.proofs.GatherLemmas.{total_most, total_less, total_bound}
 use Rattle.tg_collect.proofs.PlaceLemmas.{is_condemned, condemned_dark, condemned_passed, condemned_next}
 
 -- Distinct numbers, each of which has the weight one in a list, are no more than the sum of the weights.
-pub at_most_sum : (l ws : List ℕ) → Distinct l → ((j : ℕ) → Holds l j → (j < length ws) × (get_or ws j 0 ≡ 1)) → length l ≤ sum_by (λ w. w) ws
+pub at_most_sum : (l ws : List ℕ) → Distinct l → ((j : ℕ) → Contains l j → (j < length ws) × (get_or ws j 0 ≡ 1)) → length l ≤ sum_by (λ w. w) ws
 at_most_sum [] ws d h = omega arith
 at_most_sum (i ∷ l) ws d h =
     let mine = h i (inl refl) in
     let change = sum_by-set (λ w. w) ws i 0 0 mine.0 in
     let was = mine.1 in
     let rest = at_most_sum l (set ws i 0) d.1 (λ j g.
-    let other : j ≢ i = λ is. d.0 (subst (λ (k : ℕ). Holds l k) is g) in
+    let other : j ≢ i = λ is. d.0 (subst (λ (k : ℕ). Contains l k) is g) in
     let size : length (set ws i 0) ≡ length ws = length-set ws i 0 in
     let at = h j (inr g) in
     let inside = at.0 in
@@ -52,7 +52,7 @@ ones_sum zero = refl
 ones_sum (suc n) = sum_by-cons (λ w. w) 1 (ones n) ∙ (let r = ones_sum n in omega (arith, r))
 
 -- Distinct numbers below n, none of which is i, are fewer than n.
-pub fewer_than : (n i : ℕ) (l : List ℕ) → i < n → Distinct l → ((j : ℕ) → Holds l j → j < n) → (Holds l i → ⊥) → length l < n
+pub fewer_than : (n i : ℕ) (l : List ℕ) → i < n → Distinct l → ((j : ℕ) → Contains l j → j < n) → (Contains l i → ⊥) → length l < n
 fewer_than n i l h d below out =
     let all = at_most_sum (i ∷ l) (ones n) (out, d) (λ j g. elim g [
       | inl is ↦ ones_at n j (let e : j ≡ i = is in omega (arith, e))
@@ -283,14 +283,14 @@ left_strips h at e r l w was owners =
 -- A list's edges lead to slots of their own, none of which is the owner's, so they are fewer than the slots.
 pub record Slim (h : HeapGraph) (i : ℕ) : Type 0 where
   pub once : Distinct (map (λ (e : Edge). e.target) (edges h i))
-  pub no_loop : (e : Edge) → Holds (edges h i) e → e.target ≢ i
+  pub no_loop : (e : Edge) → Contains (edges h i) e → e.target ≢ i
 
-targets_of : (es : List Edge) (n : ℕ) → ((e : Edge) → Holds es e → e.target < n) → (j : ℕ) → Holds (map (λ (e : Edge). e.target) es) j → j < n
+targets_of : (es : List Edge) (n : ℕ) → ((e : Edge) → Contains es e → e.target < n) → (j : ℕ) → Contains (map (λ (e : Edge). e.target) es) j → j < n
 targets_of [] n f j h = absurd h
 targets_of (e ∷ es) n f j (inl is) = let b = f e (inl refl) in omega (arith, b, is)
 targets_of (e ∷ es) n f j (inr m) = targets_of es n (λ x k. f x (inr k)) j m
 
-no_target : (es : List Edge) (i : ℕ) → ((e : Edge) → Holds es e → e.target ≢ i) → Holds (map (λ (e : Edge). e.target) es) i → ⊥
+no_target : (es : List Edge) (i : ℕ) → ((e : Edge) → Contains es e → e.target ≢ i) → Contains (map (λ (e : Edge). e.target) es) i → ⊥
 no_target [] i f h = h
 no_target (e ∷ es) i f (inl is) = f e (inl refl) (sym is)
 no_target (e ∷ es) i f (inr m) = no_target es i (λ x k. f x (inr k)) m
@@ -310,10 +310,10 @@ pub line_left : (P U : ℕ → Type 0) (h h' : HeapGraph) (p q : Progress) (c : 
     → Sound h p (λ i. P i ⊎ U i) U → left_of q h' < left_of p h
 line_left P U h _ _ _ _ (starts t k s few) ok slim kept = left_starts P h t k s
 line_left P U h _ _ _ _ (scans k cursor b e a w at) ok slim kept =
-    left_scans h k cursor b e a w at ok kept.phase.scanned.grey (ok.targets k e (subst (λ (l : List Edge). Holds l e) (sym w) (holds_right b (e ∷ a) e (inl refl))))
+    left_scans h k cursor b e a w at ok kept.phase.scanned.grey (ok.targets k e (subst (λ (l : List Edge). Contains l e) (sym w) (contains_right b (e ∷ a) e (inl refl))))
 line_left P U h _ _ _ _ (blackens k) ok slim kept = left_blackens h k kept.phase.scanned.grey
 line_left P U h _ _ _ _ (takes i rest g) ok slim kept =
-    let grey = ok.table.listed_grey i (subst (λ (l : List ℕ). Holds l i) (sym g) (inl refl)) in
+    let grey = ok.table.listed_grey i (subst (λ (l : List ℕ). Contains l i) (sym g) (inl refl)) in
     left_takes h i rest grey.1 (slim_few h i grey.0 ok (slim i (λ f. (let u : Free ≡ Has Grey = sym f ∙ grey.1 in cc), λ c. c))) (ok.cells.cell_once i)
 line_left P U h _ _ _ _ (settles i g u w) ok slim kept = left_settles h i w
 line_left P U h _ _ _ _ (condemns g s) ok slim kept = left_condemns h ok

@@ -1,7 +1,7 @@
 -- What is left of a cycle does not rise where a slot's list changes.
 use Rattle.std.proofs.Common.{◌≡◌, ◌≢◌, ℕ, ◌+◌, ◌<◌, ◌≤◌, List, [], ◌∷◌, ◌++◌, length, Option, Some, None, inl, inr, sym, ◌∙◌, subst, ap, refl, arith, set, get_or, get_or-set_same, get_or-set_other, Bool, true, false, cond, eqb, eqb-true, eq-eqb, ◌&&◌}
 use Rattle.std.proofs.lemmas.Bool.{cases_eq}
-use Rattle.tg_rights.specs.Membership.{Holds, Distinct}
+use Rattle.tg_rights.specs.Membership.{Contains, Distinct}
 use Rattle.tg_rights.specs.Letters.{Letters}
 use Rattle.tg_slots.specs.Table.{Mark, Free, Has}
 use Rattle.tg_slots.specs.declared.colour.Colour.TheVariants.{White, Grey, Black}
@@ -85,9 +85,9 @@ left_relisted (Sweeping k) h i n l within held less =
     omega (arith, all)
 
 -- A new first edge is none of those from the cursor on.
-remaining_in : (c : ℕ) (es : List Edge) → Some c ≡ first_cell (remaining (Some c) es) → Holds (cells es) c
+remaining_in : (c : ℕ) (es : List Edge) → Some c ≡ first_cell (remaining (Some c) es) → Contains (cells es) c
 remaining_in c [] e = absurd (cc)
-remaining_in c (x ∷ es) e = elim (eqb x.cell c) as (λ b. eqb x.cell c ≡ b → Some c ≡ first_cell (cond b (x ∷ es) (remaining (Some c) es)) → Holds (cells (x ∷ es)) c) [
+remaining_in c (x ∷ es) e = elim (eqb x.cell c) as (λ b. eqb x.cell c ≡ b → Some c ≡ first_cell (cond b (x ∷ es) (remaining (Some c) es)) → Contains (cells (x ∷ es)) c) [
   | true ↦ λ t f. inl (sym (eqb-true x.cell c t))
   | false ↦ λ t f. inr (remaining_in c es f)
 ] refl e
@@ -95,7 +95,7 @@ remaining_in c (x ∷ es) e = elim (eqb x.cell c) as (λ b. eqb x.cell c ≡ b �
 pub remaining_new : (c : Option ℕ) (e : Edge) (es : List Edge) → c ≡ first_cell (remaining c es) → Distinct (cells (e ∷ es)) → remaining c (e ∷ es) ≡ remaining c es
 remaining_new None e es at d = refl
 remaining_new (Some c) e es at d = elim (eqb e.cell c) as (λ b. eqb e.cell c ≡ b → cond b (e ∷ es) (remaining (Some c) es) ≡ remaining (Some c) es) [
-  | true ↦ λ t. absurd (d.0 (subst (Holds (cells es)) (sym (eqb-true e.cell c t)) (remaining_in c es at)))
+  | true ↦ λ t. absurd (d.0 (subst (Contains (cells es)) (sym (eqb-true e.cell c t)) (remaining_in c es at)))
   | false ↦ λ t. refl
 ] refl
 

@@ -4,7 +4,7 @@ use Rattle.std.proofs.lemmas.Bool.{cases_eq}
 use Rattle.std.specs.Ordering.{nat_cmp}
 use Rattle.std.specs.FinMap as finmap
 use Rattle.std.specs.FinSet as finset
-use Rattle.tg_rights.specs.Membership.{Holds}
+use Rattle.tg_rights.specs.Membership.{Contains}
 use Rattle.tg_slots.specs.Table.{Table, Mark, Free, Has, mark, mark_of, slot, coloured}
 use Rattle.tg_slots.specs.declared.slots.Occupant.{Occupant}
 use Rattle.tg_slots.specs.declared.colour.Colour.TheVariants.{White, Grey, Black}
@@ -145,7 +145,7 @@ line_counts P U h _ _ _ _ _ (finishes at l) = (omega arith, omega arith, omega a
 pub record Outside (h h' : HeapGraph) (most : ℕ) : Type 0 where
   pub slots : List ℕ
   pub count : length slots ≤ most
-  pub others : (j : ℕ) → (Holds slots j → ⊥) → mark_at h' j ≡ mark_at h j
+  pub others : (j : ℕ) → (Contains slots j → ⊥) → mark_at h' j ≡ mark_at h j
 
 outside_one : (h h' : HeapGraph) (k : ℕ) → ((j : ℕ) → j ≢ k → mark_at h' j ≡ mark_at h j) → Outside h h' 1
 outside_one h h' k same = record { slots = k ∷ []; count = (let l : length (k ∷ []) ≤ 1 = omega arith in l); others = λ j n. same j (λ e. n (inl e)) }
@@ -153,7 +153,7 @@ outside_one h h' k same = record { slots = k ∷ []; count = (let l : length (k 
 outside_none : (h h' : HeapGraph) → ((j : ℕ) → mark_at h' j ≡ mark_at h j) → Outside h h' 1
 outside_none h h' same = record { slots = []; count = (let l : length {A = ℕ} [] ≤ 1 = omega arith in l); others = λ j n. same j }
 
-shadings_outside : (P : ℕ → Type 0) (h : HeapGraph) (u : Table) (k : ℕ) → Shadings P h.table u k → (slots : List ℕ) × (length slots ≡ k) × ((j : ℕ) → (Holds slots j → ⊥) → mark u j ≡ mark_at h j)
+shadings_outside : (P : ℕ → Type 0) (h : HeapGraph) (u : Table) (k : ℕ) → Shadings P h.table u k → (slots : List ℕ) × (length slots ≡ k) × ((j : ℕ) → (Contains slots j → ⊥) → mark u j ≡ mark_at h j)
 shadings_outside P h _ _ none = ([], refl, λ j n. refl)
 shadings_outside P h _ _ (one_more u k i s r) =
     let o = shadings_outside P h u k s in

@@ -4,7 +4,7 @@ use Rattle.std.proofs.lemmas.Bool.{cases_eq}
 use Rattle.std.proofs.lemmas.List.Sums.{sum_by-cons}
 use Rattle.std.specs.List.Sorted.{IsPermutation, IsNonDecreasingBy}
 use Rattle.std.proofs.lemmas.List.Sorted.{sum_by-IsPermutation, IsPermutation-sym, Contains-permutation}
-use Rattle.std.specs.Prelude.{Contains}
+use Rattle.std.specs.Prelude.{Contains as IsElement}
 use Rattle.std.specs.Ordering.{nat_cmp, eq_by_cmp, is_lt}
 use Rattle.std.specs.Cmp.{nat_cmp_total, nat_cmp_is}
 use Rattle.std.specs.declared.cmp.Ordering.{Ordering}
@@ -13,8 +13,8 @@ use Rattle.std.specs.FinMap as finmap
 use Rattle.std.specs.FinMap.{find, same_map, get-from_sorted, entries-from_sorted, nat_cmp-IsAntisymmetric}
 use Rattle.std.specs.FinMap.Entries.{below_all}
 use Rattle.tg_rights.specs.Letters.{Letters, is_none}
-use Rattle.tg_rights.specs.Membership.{Holds, Distinct}
-use Rattle.tg_rights.proofs.MembershipLemmas.{holds_map}
+use Rattle.tg_rights.specs.Membership.{Contains, Distinct}
+use Rattle.tg_rights.proofs.MembershipLemmas.{contains_map}
 use Rattle.tg_graph.specs.Protection.{label}
 use Rattle.tg_graph.specs.Rules.{labelled, edges_of}
 use Rattle.tg_cells.specs.Lists.{Edge, serials}
@@ -28,8 +28,8 @@ use Rattle.tg_collect.proofs.EdgeCalls.{edge_listed}
 use Rattle.std.specs.Option.{is_some}
 use Rattle.tg_collect.proofs.SetLemmas.{same_key, key_same, named_held}
 use Rattle.tg_collect.proofs.SumLemmas.{contains_keys, keys_once, labelled_once}
-use Rattle.tg_collect.proofs.MachineLemmas.{holds_index, index_holds}
-use Rattle.tg_collect.proofs.PlaceLemmas.{find_holds}
+use Rattle.tg_collect.proofs.MachineLemmas.{contains_index, index_contains}
+use Rattle.tg_collect.proofs.PlaceLemmas.{find_contains}
 use Rattle.tg_collect.proofs.CallLemmas.{placed_name, label_edge}
 use Rattle.tg_collect.proofs.CollectLemmas.{same_found}
 
@@ -40,7 +40,7 @@ Pairs = List (ℕ × Letters)
 abbrev keyed : ℕ → (ℕ × Letters) → ℕ
 keyed y e = cond (eqb e.0 y) 1 0
 
-none_keyed : (es : Pairs) (y : ℕ) → sum_by (keyed y) es ≡ 0 → Holds (map (λ (e : ℕ × Letters). e.0) es) y → ⊥
+none_keyed : (es : Pairs) (y : ℕ) → sum_by (keyed y) es ≡ 0 → Contains (map (λ (e : ℕ × Letters). e.0) es) y → ⊥
 none_keyed [] y z h = h
 none_keyed (e ∷ es) y z (inl is) =
     let a = sum_by-cons (keyed y) e es in
@@ -54,7 +54,7 @@ other_key x y n = by (eqb x y) refl where
   by true e = absurd (n (eqb-true x y e))
   by false e = refl
 
-keyed_none : (es : Pairs) (y : ℕ) → (Holds (map (λ (e : ℕ × Letters). e.0) es) y → ⊥) → sum_by (keyed y) es ≡ 0
+keyed_none : (es : Pairs) (y : ℕ) → (Contains (map (λ (e : ℕ × Letters). e.0) es) y → ⊥) → sum_by (keyed y) es ≡ 0
 keyed_none [] y n = refl
 keyed_none (e ∷ es) y n =
     let a = sum_by-cons (keyed y) e es in
@@ -68,7 +68,7 @@ keyed_once (e ∷ es) y d =
     let a = sum_by-cons (keyed y) e es in
     elim (cases_eq e.0 y) [
       | inl is ↦
-          let z = keyed_none es y (λ h. d.0 (subst (Holds (map (λ (x : ℕ × Letters). x.0) es)) (sym is) h)) in
+          let z = keyed_none es y (λ h. d.0 (subst (Contains (map (λ (x : ℕ × Letters). x.0) es)) (sym is) h)) in
           let b : keyed y e ≤ 1 = one (eqb e.0 y) in omega (arith, a, z, b)
       | inr other ↦
           let r = keyed_once es y d.1 in
@@ -98,7 +98,7 @@ both false b p q = p
 below : (x y : ℕ) → x < y → T (is_lt (nat_cmp x y))
 below x y l = subst (λ (o : Ordering). T (is_lt o)) (nat_cmp_is x y Less l) tt
 
-below_rest : (x : ℕ) (es : Pairs) → ((k : ℕ) → k < length es → x ≤ (get_or es k (0, record { read = false; write = false; take = false; grant = false })).0) → (Holds (map (λ (e : ℕ × Letters). e.0) es) x → ⊥) → T (below_all nat_cmp x es)
+below_rest : (x : ℕ) (es : Pairs) → ((k : ℕ) → k < length es → x ≤ (get_or es k (0, record { read = false; write = false; take = false; grant = false })).0) → (Contains (map (λ (e : ℕ × Letters). e.0) es) x → ⊥) → T (below_all nat_cmp x es)
 below_rest x [] f n = tt
 below_rest x (e ∷ es) f n = both _ _
     (below x e.0 (let a = f 0 (omega arith) in let b : e.0 ≢ x = λ q. n (inl (sym q)) in omega (arith, a, b)))
@@ -111,34 +111,34 @@ in_order (e ∷ es) f d = both _ _
     (in_order es (λ i j v a b. f (suc i) (suc j) v (omega (arith, a)) (omega (arith, b))) d.1)
 
 -- Where keys stand once, a pair of the list is what is found.
-holds_find : (es : Pairs) (q : ℕ) (w : Letters) → Distinct (map (λ (e : ℕ × Letters). e.0) es) → Holds {X = ℕ × Letters} es (q, w) → find nat_cmp q es ≡ Some w
-holds_find [] q w d h = absurd h
-holds_find ((k, v) ∷ es) q w d (inl is) =
+contains_find : (es : Pairs) (q : ℕ) (w : Letters) → Distinct (map (λ (e : ℕ × Letters). e.0) es) → Contains {X = ℕ × Letters} es (q, w) → find nat_cmp q es ≡ Some w
+contains_find [] q w d h = absurd h
+contains_find ((k, v) ∷ es) q w d (inl is) =
     let same : q ≡ k = ap (λ (p : ℕ × Letters). p.0) is in
     let value : w ≡ v = ap (λ (p : ℕ × Letters). p.1) is in
     ap (λ (b : Bool). cond b (Some v) (find nat_cmp q es)) (key_same q k same) ∙ ap Some (sym value)
-holds_find ((k, v) ∷ es) q w d (inr h) = by (eq_by_cmp nat_cmp q k) refl (holds_find es q w d.1 h) where
+contains_find ((k, v) ∷ es) q w d (inr h) = by (eq_by_cmp nat_cmp q k) refl (contains_find es q w d.1 h) where
   by : (b : Bool) → eq_by_cmp nat_cmp q k ≡ b → find nat_cmp q es ≡ Some w → cond b (Some v) (find nat_cmp q es) ≡ Some w
-  by true t r = absurd (d.0 (subst (Holds (map (λ (e : ℕ × Letters). e.0) es)) (same_key q k t) (holds_map (λ (e : ℕ × Letters). e.0) es (q, w) h)))
+  by true t r = absurd (d.0 (subst (Contains (map (λ (e : ℕ × Letters). e.0) es)) (same_key q k t) (contains_map (λ (e : ℕ × Letters). e.0) es (q, w) h)))
   by false t r = r
 
 -- The pairs of a list of labels.
-labelled_pair : (l : ℕ → Letters) (ks : List ℕ) (y : ℕ) (w : Letters) → Holds {X = ℕ × Letters} (labelled l ks) (y, w) → Holds ks y × (w ≡ l y) × (is_none (l y) ≡ false)
+labelled_pair : (l : ℕ → Letters) (ks : List ℕ) (y : ℕ) (w : Letters) → Contains {X = ℕ × Letters} (labelled l ks) (y, w) → Contains ks y × (w ≡ l y) × (is_none (l y) ≡ false)
 labelled_pair l [] y w h = absurd h
 labelled_pair l (k ∷ ks) y w h = by (is_none (l k)) refl h (labelled_pair l ks y w) where
-  by : (b : Bool) → is_none (l k) ≡ b → Holds {X = ℕ × Letters} (cond b (labelled l ks) ((k, l k) ∷ labelled l ks)) (y, w)
-      → (Holds {X = ℕ × Letters} (labelled l ks) (y, w) → Holds ks y × (w ≡ l y) × (is_none (l y) ≡ false)) → Holds (k ∷ ks) y × (w ≡ l y) × (is_none (l y) ≡ false)
+  by : (b : Bool) → is_none (l k) ≡ b → Contains {X = ℕ × Letters} (cond b (labelled l ks) ((k, l k) ∷ labelled l ks)) (y, w)
+      → (Contains {X = ℕ × Letters} (labelled l ks) (y, w) → Contains ks y × (w ≡ l y) × (is_none (l y) ≡ false)) → Contains (k ∷ ks) y × (w ≡ l y) × (is_none (l y) ≡ false)
   by true e h rest = let r = rest h in (inr r.0, r.1, r.2)
   by false e (inl is) rest =
       let same : y ≡ k = ap (λ (p : ℕ × Letters). p.0) is in
       (inl same, ap (λ (p : ℕ × Letters). p.1) is ∙ ap l (sym same), ap (λ (z : ℕ). is_none (l z)) same ∙ e)
   by false e (inr h) rest = let r = rest h in (inr r.0, r.1, r.2)
 
-pair_labelled : (l : ℕ → Letters) (ks : List ℕ) (y : ℕ) → Holds ks y → is_none (l y) ≡ false → Holds {X = ℕ × Letters} (labelled l ks) (y, l y)
+pair_labelled : (l : ℕ → Letters) (ks : List ℕ) (y : ℕ) → Contains ks y → is_none (l y) ≡ false → Contains {X = ℕ × Letters} (labelled l ks) (y, l y)
 pair_labelled l [] y h some = absurd h
 pair_labelled l (k ∷ ks) y h some = by (is_none (l k)) refl h (pair_labelled l ks y) where
-  by : (b : Bool) → is_none (l k) ≡ b → Holds (k ∷ ks) y → (Holds ks y → is_none (l y) ≡ false → Holds {X = ℕ × Letters} (labelled l ks) (y, l y))
-      → Holds {X = ℕ × Letters} (cond b (labelled l ks) ((k, l k) ∷ labelled l ks)) (y, l y)
+  by : (b : Bool) → is_none (l k) ≡ b → Contains (k ∷ ks) y → (Contains ks y → is_none (l y) ≡ false → Contains {X = ℕ × Letters} (labelled l ks) (y, l y))
+      → Contains {X = ℕ × Letters} (cond b (labelled l ks) ((k, l k) ∷ labelled l ks)) (y, l y)
   by true e (inl is) rest = absurd (let a = ap (λ (z : ℕ). is_none (l z)) is ∙ e in let u : true ≡ false = sym a ∙ some in cc)
   by true e (inr h) rest = rest h some
   by false e (inl is) rest = inl (λ i. (is i, l (is i)))
@@ -169,13 +169,13 @@ sorted_labelled l (e ∷ es) t = by (is_none (l e.0)) (sorted_labelled l es (snd
   by false r s = both _ _ s r
 
 -- A list with the same elements in another order has the same members.
-permuted : {X : Type 0} (xs ys : List X) (x : X) → IsPermutation xs ys → Holds xs x → Holds ys x
+permuted : {X : Type 0} (xs ys : List X) (x : X) → IsPermutation xs ys → Contains xs x → Contains ys x
 permuted xs ys x p h = from (Contains-permutation xs ys x p (to h)) where
-  to : Holds xs x → Contains xs x
-  to h = holds_index xs x x h
+  to : Contains xs x → IsElement xs x
+  to h = contains_index xs x x h
 
-  from : Contains ys x → Holds ys x
-  from c = index_holds ys x x c.0 c.1 c.2
+  from : IsElement ys x → Contains ys x
+  from c = index_contains ys x x c.0 c.1 c.2
 
 -- Two lists in order with the same pairs are one.
 same_order : (xs ys : Pairs) → T (finmap.is_sorted nat_cmp xs) → T (finmap.is_sorted nat_cmp ys) → ((q : ℕ) → find nat_cmp q xs ≡ find nat_cmp q ys) → xs ≡ ys
@@ -187,7 +187,7 @@ same_order xs ys s t f =
 abbrev pub pairs_of : List Edge → Pairs
 pairs_of es = map (λ (e : Edge). (e.serial, e.rights)) es
 
-pair_edge : (es : List Edge) (q : ℕ) (w : Letters) → Holds {X = ℕ × Letters} (pairs_of es) (q, w) → (e : Edge) × Holds es e × (e.serial ≡ q) × (e.rights ≡ w)
+pair_edge : (es : List Edge) (q : ℕ) (w : Letters) → Contains {X = ℕ × Letters} (pairs_of es) (q, w) → (e : Edge) × Contains es e × (e.serial ≡ q) × (e.rights ≡ w)
 pair_edge [] q w h = absurd h
 pair_edge (e ∷ es) q w (inl is) = (e, inl refl, ap (λ (p : ℕ × Letters). p.0) (sym is), ap (λ (p : ℕ × Letters). p.1) (sym is))
 pair_edge (e ∷ es) q w (inr h) = let r = pair_edge es q w h in (r.0, inr r.1, r.2, r.3)
@@ -203,20 +203,20 @@ unfolding edges_of
 edges_listed m id next ys ok w at p rising = same_order ys zs (in_order ys rising once) (sorted_labelled l (finmap.entries (stored m).vertices) (finmap.entries_sorted (stored m).vertices)) (λ q.
     same_found (find nat_cmp q ys) (find nat_cmp q zs)
     (λ v f.
-    let e = pair_edge (edges m.heap id) q v (held_before q v (find_holds ys q v f)) in
+    let e = pair_edge (edges m.heap id) q v (held_before q v (find_contains ys q v f)) in
     let is : l q ≡ v = label_edge m id q next e.0 ok w at e.1 e.2 ∙ e.3 in
     let some : is_none (l q) ≡ false = ap is_none (label_edge m id q next e.0 ok w at e.1 e.2) ∙ ok.cells.labelled id e.0 e.1 in
     let n = placed_name m id at in
     let key = contains_keys (stored m).vertices q (subst (λ (y : ℕ). finmap.contains_key (stored m).vertices y ≡ true) e.2
     (named_held m.heap m.progress w.names.once e.0.target e.0.serial (w.names.edge id e.0 n.1 e.1) (w.kept.closed id e.0 n.1 e.1))) in
-    holds_find zs q v once_labelled (subst (λ (u : Letters). Holds {X = ℕ × Letters} zs (q, u)) is (pair_labelled l keys q key some)))
+    contains_find zs q v once_labelled (subst (λ (u : Letters). Contains {X = ℕ × Letters} zs (q, u)) is (pair_labelled l keys q key some)))
     (λ v f.
-    let r = labelled_pair l keys q v (find_holds zs q v f) in
+    let r = labelled_pair l keys q v (find_contains zs q v f) in
     let n = placed_name m id at in
     let e = edge_listed m id q n.0.0 w n.0.1 (subst (λ (x : ℕ). IsEdgeIn (stored m) x q) (sym n.0.2) (edge_in (stored m) next (serial_at (stored m) id) q r.2)) in
     let is : e.0.rights ≡ v = sym (label_edge m id q next e.0 ok w at e.1 e.2) ∙ sym r.1 in
-    holds_find ys q v once (held_after q v (subst (λ (u : Letters). Holds {X = ℕ × Letters} (pairs_of (edges m.heap id)) (q, u)) is
-    (subst (λ (y : ℕ). Holds {X = ℕ × Letters} (pairs_of (edges m.heap id)) (y, e.0.rights)) e.2 (holds_map (λ (x : Edge). (x.serial, x.rights)) (edges m.heap id) e.0 e.1))))))
+    contains_find ys q v once (held_after q v (subst (λ (u : Letters). Contains {X = ℕ × Letters} (pairs_of (edges m.heap id)) (q, u)) is
+    (subst (λ (y : ℕ). Contains {X = ℕ × Letters} (pairs_of (edges m.heap id)) (y, e.0.rights)) e.2 (contains_map (λ (x : Edge). (x.serial, x.rights)) (edges m.heap id) e.0 e.1))))))
   where
     l : ℕ → Letters
     l y = label (held (stored m) next) (serial_at (stored m) id) y
@@ -233,8 +233,8 @@ edges_listed m id next ys ok w at p rising = same_order ys zs (in_order ys risin
     once_labelled : Distinct (map (λ (e : ℕ × Letters). e.0) zs)
     once_labelled = labelled_once l keys (keys_once (stored m).vertices)
 
-    held_before : (q : ℕ) (v : Letters) → Holds {X = ℕ × Letters} ys (q, v) → Holds {X = ℕ × Letters} (pairs_of (edges m.heap id)) (q, v)
+    held_before : (q : ℕ) (v : Letters) → Contains {X = ℕ × Letters} ys (q, v) → Contains {X = ℕ × Letters} (pairs_of (edges m.heap id)) (q, v)
     held_before q v h = permuted ys (pairs_of (edges m.heap id)) (q, v) (IsPermutation-sym (pairs_of (edges m.heap id)) ys p) h
 
-    held_after : (q : ℕ) (v : Letters) → Holds {X = ℕ × Letters} (pairs_of (edges m.heap id)) (q, v) → Holds {X = ℕ × Letters} ys (q, v)
+    held_after : (q : ℕ) (v : Letters) → Contains {X = ℕ × Letters} (pairs_of (edges m.heap id)) (q, v) → Contains {X = ℕ × Letters} ys (q, v)
     held_after q v h = permuted (pairs_of (edges m.heap id)) ys (q, v) p h

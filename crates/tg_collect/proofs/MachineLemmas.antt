@@ -3,7 +3,7 @@ use Rattle.std.proofs.Common.{◌≡◌, ◌≢◌, ℕ, zero, suc, ◌+◌, ◌
 use Rattle.std.proofs.lemmas.Bool.{cases_eq}
 use Rattle.std.specs.declared.vec.Vec.{Vec}
 use Rattle.std.proofs.Common.{Global}
-use Rattle.tg_rights.specs.Membership.{Holds, Distinct}
+use Rattle.tg_rights.specs.Membership.{Contains, Distinct}
 use Rattle.tg_slots.specs.Table.{Table, Mark, Free, Has, mark, mark_of, slot, recoloured}
 use Rattle.tg_slots.specs.declared.colour.Colour.{Colour}
 use Rattle.tg_slots.specs.declared.colour.Colour.TheVariants.{White, Grey, Black}
@@ -12,14 +12,14 @@ use Rattle.tg_heap.specs.Graph.{HeapGraph, edges, mark_at, shaded, shaded_by, pa
 use Rattle.tg_cells.specs.Lists.{Edge, first_cell, Stands}
 use Rattle.tg_heap.specs.Marking.{Shades, remaining, passed}
 use Rattle.tg_heap.proofs.MarkingLemmas.{reached_black, tricolour-shade, tricolour-pop, tricolour-blacken}
-use Rattle.tg_heap.proofs.CursorLemmas.{split_whole, holds_right, remaining_split, passed_split}
+use Rattle.tg_heap.proofs.CursorLemmas.{split_whole, contains_right, remaining_split, passed_split}
 use Rattle.tg_heap.proofs.StepLemmas.{tricolour-scan, tricolour-settle}
 use Rattle.tg_collect.specs.declared.machine.Scan.{Scan}
 use Rattle.tg_collect.specs.declared.machine.Root.{Root}
 use Rattle.tg_collect.specs.declared.machine.Progress.{Progress}
 use Rattle.tg_collect.specs.declared.machine.Progress.TheVariants.{Idle, Marking, Sweeping}
 use Rattle.tg_collect.specs.declared.machine.Machine.{Machine}
-use Rattle.tg_collect.specs.Machine.{IsPrincipal, IsUnfinished, IsRoot, CondemnedAt, IsHeld, scan_of, IsReached, GreyWaits, PhaseHolds, Invariant, without_slot, HeldAt, PhaseAt, Sound}
+use Rattle.tg_collect.specs.Machine.{IsPrincipal, IsPending, IsRoot, CondemnedAt, IsHeld, scan_of, IsReached, GreyWaits, PhaseHolds, Invariant, without_slot, HeldAt, PhaseAt, Sound}
 
 -- The edges before a cursor that names a cell, that cell's edge, and those after it.
 pub record Split (es : List Edge) (cursor : ℕ) : Type 0 where
@@ -53,7 +53,7 @@ split_at es c e =
     ] refl
 
 -- Shading a slot of the table.
-shades_by : (t : Table) (i : ℕ) (m : Mark) → mark t i ≡ m → i < length t.slots → Shades (mark t) (mark (shaded_by m t i)) (Holds t.grey) (Holds (shaded_by m t i).grey) i
+shades_by : (t : Table) (i : ℕ) (m : Mark) → mark t i ≡ m → i < length t.slots → Shades (mark t) (mark (shaded_by m t i)) (Contains t.grey) (Contains (shaded_by m t i).grey) i
 shades_by t i Free e h = record { each = λ j. inl refl; still = λ j w. w; only = λ j w. inl w; done = λ w. cc }
 shades_by t i (Has White) e h =
     let now : mark_of (get_or (recoloured t i Grey) i None) ≡ Has Grey = mark_here t.slots i _ h ∙ mark_coloured (slot t i) Grey White e in
@@ -69,7 +69,7 @@ shades_by t i (Has White) e h =
 shades_by t i (Has Grey) e h = record { each = λ j. inl refl; still = λ j w. w; only = λ j w. inl w; done = λ w. cc }
 shades_by t i (Has Black) e h = record { each = λ j. inl refl; still = λ j w. w; only = λ j w. inl w; done = λ w. cc }
 
-pub shades : (t : Table) (i : ℕ) → i < length t.slots → Shades (mark t) (mark (shaded t i)) (Holds t.grey) (Holds (shaded t i).grey) i
+pub shades : (t : Table) (i : ℕ) → i < length t.slots → Shades (mark t) (mark (shaded t i)) (Contains t.grey) (Contains (shaded t i).grey) i
 shades t i h = shades_by t i (mark t i) refl h
 
 -- No slot turns free or stops being free.
@@ -98,19 +98,19 @@ kept-scan m slot cursor s heap at kept within =
             (kept.closed i e (held_marking m _ i at (was_not_free (mark m.heap.table) (mark table') _ _ s.edge.target i change h.0)) o).0,
         λ c. c,
       );
-      phase = tricolour-scan (mark table') (edges m.heap) (Holds table'.grey) (IsRoot m) (IsUnfinished m) slot (Some cursor) s.before s.after s.edge
+      phase = tricolour-scan (mark table') (edges m.heap) (Contains table'.grey) (IsRoot m) (IsPending m) slot (Some cursor) s.before s.after s.edge
           s.behind s.ahead (heap.cells.cell_once slot) change.done
-          (tricolour-shade (mark m.heap.table) (mark table') (edges m.heap) (Holds m.heap.table.grey) (Holds table'.grey) (IsRoot m) (IsUnfinished m) _ s.edge.target change old);
+          (tricolour-shade (mark m.heap.table) (mark table') (edges m.heap) (Contains m.heap.table.grey) (Contains table'.grey) (IsRoot m) (IsPending m) _ s.edge.target change old);
     }
 
 -- What is reached at the end of marking is black.
 pub reached-black : (m : Machine) → m.progress ≡ Marking None → m.heap.table.grey ≡ [] → Invariant m
-    → ((i : ℕ) → IsUnfinished m i → mark_at m.heap i ≡ Has White → ⊥)
+    → ((i : ℕ) → IsPending m i → mark_at m.heap i ≡ Has White → ⊥)
     → (i : ℕ) → IsReached m i → mark_at m.heap i ≡ Has Black
 reached-black m at none kept settled i r =
     let old : PhaseHolds (Marking None) m = subst (λ (p : Progress). PhaseHolds p m) at kept.phase in
-    reached_black (mark_at m.heap) (edges m.heap) (Holds m.heap.table.grey) (IsRoot m) (IsUnfinished m) old
-    (λ j w. subst (λ (g : List ℕ). Holds g j) none w) settled (λ j x. (kept.roots_held j x).0)
+    reached_black (mark_at m.heap) (edges m.heap) (Contains m.heap.table.grey) (IsRoot m) (IsPending m) old
+    (λ j w. subst (λ (g : List ℕ). Contains g j) none w) settled (λ j x. (kept.roots_held j x).0)
     (λ j e f o. (kept.closed j e (held_marking m None j at f) o).0) i r
 
 -- The cell at the cursor stands in the list of the slot under scan.
@@ -122,8 +122,8 @@ scan_split m slot cursor at kept =
 pub stands_here : (h : HeapGraph) (slot cursor : ℕ) (s : Split (edges h slot) cursor) → Stands h.lists cursor slot s.before s.edge s.after
 stands_here h slot cursor s = record { is = s.whole; here = s.here }
 
-pub owned_here : (es : List Edge) (cursor : ℕ) (s : Split es cursor) → Holds es s.edge
-owned_here es cursor s = subst (λ (l : List Edge). Holds l s.edge) (sym s.whole) (holds_right s.before (s.edge ∷ s.after) s.edge (inl refl))
+pub owned_here : (es : List Edge) (cursor : ℕ) (s : Split es cursor) → Contains es s.edge
+owned_here es cursor s = subst (λ (l : List Edge). Contains l s.edge) (sym s.whole) (contains_right s.before (s.edge ∷ s.after) s.edge (inl refl))
 
 -- The mark of each slot where one was painted.
 pub painted_other : (t : Table) (i j : ℕ) (c : Colour) → j ≢ i → mark (painted t i c) j ≡ mark t j
@@ -158,7 +158,7 @@ kept-blacken m slot at kept =
             (kept.closed i e (held_marking m _ i at (was_occupied m.heap.table slot i Black Grey grey h.0)) o).0,
         λ c. c,
       );
-      phase = tricolour-blacken (mark m.heap.table) (mark (painted m.heap.table slot Black)) (edges m.heap) (Holds m.heap.table.grey) (IsRoot m) (IsUnfinished m) slot
+      phase = tricolour-blacken (mark m.heap.table) (mark (painted m.heap.table slot Black)) (edges m.heap) (Contains m.heap.table.grey) (IsRoot m) (IsPending m) slot
           (λ j n. painted_other m.heap.table slot j Black n) (painted_here m.heap.table slot Black Grey grey) (λ j. cases_eq j slot) old;
     }
 
@@ -168,12 +168,12 @@ pub kept-pop : (m : Machine) (i : ℕ) (rest : List ℕ) → m.progress ≡ Mark
 kept-pop m i rest at list heap kept =
     let old : PhaseHolds (Marking None) m = subst (λ (p : Progress). PhaseHolds p m) at kept.phase in
     let once : Distinct (i ∷ rest) = subst Distinct list heap.table.grey_once in
-    let listed : (j : ℕ) → Holds (i ∷ rest) j → Holds m.heap.table.grey j = λ j w. subst (λ (g : List ℕ). Holds g j) (sym list) w in
+    let listed : (j : ℕ) → Contains (i ∷ rest) j → Contains m.heap.table.grey j = λ j w. subst (λ (g : List ℕ). Contains g j) (sym list) w in
     record {
       roots_held = λ j r. ((kept.roots_held j r).0, λ c. c);
       closed = λ j e h o. ((kept.closed j e (held_marking m _ j at h.0) o).0, λ c. c);
-      phase = tricolour-pop (mark m.heap.table) (edges m.heap) (Holds m.heap.table.grey) (Holds rest) (IsRoot m) (IsUnfinished m) i
-          (heap.table.listed_grey i (listed i (inl refl))).1 once.0 (λ j w. subst (λ (g : List ℕ). Holds g j) list w)
+      phase = tricolour-pop (mark m.heap.table) (edges m.heap) (Contains m.heap.table.grey) (Contains rest) (IsRoot m) (IsPending m) i
+          (heap.table.listed_grey i (listed i (inl refl))).1 once.0 (λ j w. subst (λ (g : List ℕ). Contains g j) list w)
           (remaining_split [] (edges m.heap i) (heap.cells.cell_once i)) (passed_split [] (edges m.heap i) (heap.cells.cell_once i)) old;
     }
 
@@ -198,11 +198,11 @@ pub kept-sweep : (m : Machine) (h' : HeapGraph) (at : ℕ) → m.progress ≡ Sw
     → Invariant m → Invariant (record m { heap = h'; progress = Sweeping (at + 1) })
 kept-sweep m h' at e s stays same kept = record {
   roots_held = λ i r. forward i (kept.roots_held i r);
-  closed = λ i x h o. forward x.target (kept.closed i x (back i h) (subst (λ (l : List (List Edge)). Holds (get_or l i []) x) s.lists o));
+  closed = λ i x h o. forward x.target (kept.closed i x (back i h) (subst (λ (l : List (List Edge)). Contains (get_or l i []) x) s.lists o));
   phase = (
     λ i g. elim (cases_eq i at) [
       | inl is ↦ absurd (s.not_grey (subst (λ (k : ℕ). mark_at h' k ≡ Has Grey) is g))
-      | inr other ↦ subst (λ (l : List ℕ). Holds l i) (sym s.grey) (old.0 i (sym (s.others i other) ∙ g))
+      | inr other ↦ subst (λ (l : List ℕ). Contains l i) (sym s.grey) (old.0 i (sym (s.others i other) ∙ g))
     ],
     λ i b k. elim (cases_eq i at) [
       | inl is ↦ s.not_black (subst (λ (n : ℕ). mark_at h' n ≡ Has Black) is k)
@@ -254,20 +254,20 @@ held_within m i h = elim (mark_at m.heap i) as (λ k. mark_at m.heap i ≡ k →
 ] refl
 
 -- An element stands at some index, and what stands at an index is an element.
-pub holds_index : {X : Type 0} (xs : List X) (x d : X) → Holds xs x → (k : ℕ) × (k < length xs) × (get_or xs k d ≡ x)
-holds_index [] x d h = absurd h
-holds_index (y ∷ xs) x d (inl e) = (0, omega arith, sym e)
-holds_index (y ∷ xs) x d (inr h) = let r = holds_index xs x d h in let b : suc r.0 < suc (length xs) = (let l = r.1 in omega (arith, l)) in (suc r.0, b, r.2)
+pub contains_index : {X : Type 0} (xs : List X) (x d : X) → Contains xs x → (k : ℕ) × (k < length xs) × (get_or xs k d ≡ x)
+contains_index [] x d h = absurd h
+contains_index (y ∷ xs) x d (inl e) = (0, omega arith, sym e)
+contains_index (y ∷ xs) x d (inr h) = let r = contains_index xs x d h in let b : suc r.0 < suc (length xs) = (let l = r.1 in omega (arith, l)) in (suc r.0, b, r.2)
 
-pub index_holds : {X : Type 0} (xs : List X) (x d : X) (k : ℕ) → k < length xs → get_or xs k d ≡ x → Holds xs x
-index_holds [] x d k h e = absurd (omega arith)
-index_holds (y ∷ xs) x d zero h e = inl (sym e)
-index_holds (y ∷ xs) x d (suc k) h e = inr (index_holds xs x d k (omega arith) e)
+pub index_contains : {X : Type 0} (xs : List X) (x d : X) (k : ℕ) → k < length xs → get_or xs k d ≡ x → Contains xs x
+index_contains [] x d k h e = absurd (omega arith)
+index_contains (y ∷ xs) x d zero h e = inl (sym e)
+index_contains (y ∷ xs) x d (suc k) h e = inr (index_contains xs x d k (omega arith) e)
 
-pub to_sound : (m : Machine) → Invariant m → Sound m.heap m.progress (IsRoot m) (IsUnfinished m)
+pub to_sound : (m : Machine) → Invariant m → Sound m.heap m.progress (IsRoot m) (IsPending m)
 to_sound m k = record { roots_held = k.roots_held; closed = k.closed; phase = k.phase }
 
-pub of_sound : (m : Machine) → Sound m.heap m.progress (IsRoot m) (IsUnfinished m) → Invariant m
+pub of_sound : (m : Machine) → Sound m.heap m.progress (IsRoot m) (IsPending m) → Invariant m
 of_sound m k = record { roots_held = k.roots_held; closed = k.closed; phase = k.phase }
 
 -- What shading leaves of who waits and who is held.
@@ -304,9 +304,9 @@ phase-shade h Idle Root Root' Unf Unf' i w old fewer less = (grey_waits h i w ol
 phase-shade h (Sweeping k) Root Root' Unf Unf' i w old fewer less = (grey_waits h i w old.0, λ j l b. old.1 j l (never_new h i j Black (λ q. cc) w b))
 phase-shade h (Marking s) Root Root' Unf Unf' i w old fewer less =
     let change = shades h.table i w in
-    tricolour-settle (mark (shaded h.table i)) (edges h) (Holds (shaded h.table i).grey) Root Root' Unf Unf' (scan_of s)
+    tricolour-settle (mark (shaded h.table i)) (edges h) (Contains (shaded h.table i).grey) Root Root' Unf Unf' (scan_of s)
     (λ j u. elim (less j u) [ inl is ↦ inl is | inr here ↦ inr (λ b. change.done (subst (λ (q : ℕ). mark (shaded h.table i) q ≡ Has White) here b)) ]) fewer
-    (tricolour-shade (mark h.table) (mark (shaded h.table i)) (edges h) (Holds h.table.grey) (Holds (shaded h.table i).grey) Root Unf (scan_of s) i change old)
+    (tricolour-shade (mark h.table) (mark (shaded h.table i)) (edges h) (Contains h.table.grey) (Contains (shaded h.table i).grey) Root Unf (scan_of s) i change old)
 
 -- One more slot is shaded, in any phase; roots do not come in, and a target is settled only where it is that slot.
 pub sound-shade : (h : HeapGraph) (p : Progress) (Root Root' Unf Unf' : ℕ → Type 0) (i : ℕ) → i < length h.table.slots → HeldAt h p i → Sound h p Root Unf
@@ -322,17 +322,17 @@ sound-shade h p Root Root' Unf Unf' i w held kept fewer less = record {
   back : (j : ℕ) → HeldAt (record h { table = shaded h.table i }) p j → HeldAt h p j
   back j g = (was_not_free (mark h.table) (mark (shaded h.table i)) _ _ i j (shades h.table i w) g.0, λ c. g.1 (condemned_after h p i j w held.1 c))
 
--- A seat's target is unfinished, and so it is held.
-pub seat_unfinished : (m : Machine) (k : ℕ) (r : Root) → k < length m.unfinished.items → get_or m.unfinished.items k None ≡ Some r → IsUnfinished m r.slot
-seat_unfinished m k r h e = (r.serial, index_holds m.unfinished.items (Some r) None k h e)
+-- A seat's target is pending, and so it is held.
+pub seat_pending : (m : Machine) (k : ℕ) (r : Root) → k < length m.pending.items → get_or m.pending.items k None ≡ Some r → IsPending m r.slot
+seat_pending m k r h e = (r.serial, index_contains m.pending.items (Some r) None k h e)
 
 pub root_within : (m : Machine) (i : ℕ) → Invariant m → IsRoot m i → i < length m.heap.table.slots
 root_within m i kept r = held_within m i (kept.roots_held i r).0
 
--- What holds of the target of each seat holds of each unfinished target.
-pub each_unfinished : (m : Machine) (P : ℕ → Type 0) → ((k : ℕ) (r : Root) → k < length m.unfinished.items → get_or m.unfinished.items k None ≡ Some r → P r.slot)
-    → (i : ℕ) → IsUnfinished m i → P i
-each_unfinished m P all i u = let at = holds_index m.unfinished.items (Some (record { serial = u.0; slot = i })) None u.1 in all at.0 (record { serial = u.0; slot = i }) at.1 at.2
+-- What holds of the target of each seat holds of each pending target.
+pub each_pending : (m : Machine) (P : ℕ → Type 0) → ((k : ℕ) (r : Root) → k < length m.pending.items → get_or m.pending.items k None ≡ Some r → P r.slot)
+    → (i : ℕ) → IsPending m i → P i
+each_pending m P all i u = let at = contains_index m.pending.items (Some (record { serial = u.0; slot = i })) None u.1 in all at.0 (record { serial = u.0; slot = i }) at.1 at.2
 
 -- In range the default does not count.
 pub any_default : {X : Type 0} (xs : List X) (k : ℕ) (d e : X) → k < length xs → get_or xs k d ≡ get_or xs k e
@@ -343,20 +343,20 @@ any_default (x ∷ xs) (suc k) d e h = any_default xs k d e (omega arith)
 pub at_seat : (xs : List (Option Root)) (k : ℕ) (v : Option Root) (r : Root) → k < length xs → v ≡ get_or xs k v → v ≡ Some r → get_or xs k None ≡ Some r
 at_seat xs k v r h e is = any_default xs k None v h ∙ sym e ∙ is
 
--- An unfinished target that is shaded stays unfinished.
+-- An pending target that is shaded stays pending.
 pub kept-shade : (m : Machine) (i : ℕ) → IsRoot m i → Invariant m → Invariant (record m { heap = record m.heap { table = shaded m.heap.table i } })
 kept-shade m i r kept = of_sound (record m { heap = record m.heap { table = shaded m.heap.table i } })
-    (sound-shade m.heap m.progress (IsRoot m) (IsRoot m) (IsUnfinished m) (IsUnfinished m) i (root_within m i kept r) (kept.roots_held i r) (to_sound m kept) (λ j x. x) (λ j u. inl u))
+    (sound-shade m.heap m.progress (IsRoot m) (IsRoot m) (IsPending m) (IsPending m) i (root_within m i kept r) (kept.roots_held i r) (to_sound m kept) (λ j x. x) (λ j u. inl u))
 
 -- What stands in the list after a seat was cleared, and what stood there before.
-pub cleared_before : (xs : List (Option Root)) (k : ℕ) (r : Root) → Holds (set xs k None) (Some r) → Holds xs (Some r)
+pub cleared_before : (xs : List (Option Root)) (k : ℕ) (r : Root) → Contains (set xs k None) (Some r) → Contains xs (Some r)
 cleared_before [] k r h = absurd h
 cleared_before (x ∷ xs) zero r (inl e) = absurd (cc)
 cleared_before (x ∷ xs) zero r (inr h) = inr h
 cleared_before (x ∷ xs) (suc k) r (inl e) = inl e
 cleared_before (x ∷ xs) (suc k) r (inr h) = inr (cleared_before xs k r h)
 
-pub cleared_after : (xs : List (Option Root)) (k : ℕ) (r q : Root) → get_or xs k None ≡ Some q → Holds xs (Some r) → Holds (set xs k None) (Some r) ⊎ (r ≡ q)
+pub cleared_after : (xs : List (Option Root)) (k : ℕ) (r q : Root) → get_or xs k None ≡ Some q → Contains xs (Some r) → Contains (set xs k None) (Some r) ⊎ (r ≡ q)
 cleared_after [] k r q e h = absurd h
 cleared_after (x ∷ xs) zero r q e (inl i) = inr (cc)
 cleared_after (x ∷ xs) zero r q e (inr h) = inl (inr h)
@@ -364,20 +364,20 @@ cleared_after (x ∷ xs) (suc k) r q e (inl i) = inl (inl i)
 cleared_after (x ∷ xs) (suc k) r q e (inr h) = elim (cleared_after xs k r q e h) [ inl there ↦ inl (inr there) | inr here ↦ inr here ]
 
 -- The seat's target is shaded and the seat is cleared.
-pub kept-settle : (m n : Machine) (k : ℕ) (q : Root) → get_or m.unfinished.items k None ≡ Some q → k < length m.unfinished.items → Invariant m
-    → n.heap ≡ record m.heap { table = shaded m.heap.table q.slot } → n.progress ≡ m.progress → n.principals ≡ m.principals → n.unfinished.items ≡ set m.unfinished.items k None
+pub kept-settle : (m n : Machine) (k : ℕ) (q : Root) → get_or m.pending.items k None ≡ Some q → k < length m.pending.items → Invariant m
+    → n.heap ≡ record m.heap { table = shaded m.heap.table q.slot } → n.progress ≡ m.progress → n.principals ≡ m.principals → n.pending.items ≡ set m.pending.items k None
     → Invariant n
 kept-settle m n k q e h kept eh ep er eu =
-    let root : IsRoot m q.slot = inr (seat_unfinished m k q h e) in
-    let fewer : (j : ℕ) → IsUnfinished n j → IsUnfinished m j = λ j u. (u.0, cleared_before m.unfinished.items k (record { serial = u.0; slot = j }) (subst (λ (l : List (Option Root)). Holds l (Some (record { serial = u.0; slot = j }))) eu u.1)) in
-    let s = sound-shade m.heap m.progress (IsRoot m) (IsRoot n) (IsUnfinished m) (IsUnfinished n) q.slot (root_within m q.slot kept root) (kept.roots_held q.slot root) (to_sound m kept)
-    (λ j r. elim r [ inl p ↦ inl (p.0, subst (λ (v : Vec Root Global). Holds v.items (record { serial = p.0; slot = j })) er p.1) | inr u ↦ inr (fewer j u) ])
-    (λ j u. elim (cleared_after m.unfinished.items k (record { serial = u.0; slot = j }) q e u.1) [
-      | inl there ↦ inl (u.0, subst (λ (l : List (Option Root)). Holds l (Some (record { serial = u.0; slot = j }))) (sym eu) there)
+    let root : IsRoot m q.slot = inr (seat_pending m k q h e) in
+    let fewer : (j : ℕ) → IsPending n j → IsPending m j = λ j u. (u.0, cleared_before m.pending.items k (record { serial = u.0; slot = j }) (subst (λ (l : List (Option Root)). Contains l (Some (record { serial = u.0; slot = j }))) eu u.1)) in
+    let s = sound-shade m.heap m.progress (IsRoot m) (IsRoot n) (IsPending m) (IsPending n) q.slot (root_within m q.slot kept root) (kept.roots_held q.slot root) (to_sound m kept)
+    (λ j r. elim r [ inl p ↦ inl (p.0, subst (λ (v : Vec Root Global). Contains v.items (record { serial = p.0; slot = j })) er p.1) | inr u ↦ inr (fewer j u) ])
+    (λ j u. elim (cleared_after m.pending.items k (record { serial = u.0; slot = j }) q e u.1) [
+      | inl there ↦ inl (u.0, subst (λ (l : List (Option Root)). Contains l (Some (record { serial = u.0; slot = j }))) (sym eu) there)
       | inr here ↦ inr (ap (λ (r : Root). r.slot) here)
     ]) in
-    of_sound n (subst (λ (x : HeapGraph). Sound x n.progress (IsRoot n) (IsUnfinished n)) (sym eh)
-    (subst (λ (p : Progress). Sound (record m.heap { table = shaded m.heap.table q.slot }) p (IsRoot n) (IsUnfinished n)) (sym ep) s))
+    of_sound n (subst (λ (x : HeapGraph). Sound x n.progress (IsRoot n) (IsPending n)) (sym eh)
+    (subst (λ (p : Progress). Sound (record m.heap { table = shaded m.heap.table q.slot }) p (IsRoot n) (IsPending n)) (sym ep) s))
 
 -- After a root was shaded it is not white, and no slot has become white.
 pub shaded_dark : (h : HeapGraph) (i : ℕ) → i < length h.table.slots → mark (shaded h.table i) i ≡ Has White → ⊥
@@ -414,7 +414,7 @@ pub record Starting (m : Machine) (left : ℕ) : Type 0 where
   pub dark : DarkFrom m left
 
 pub all_dark : (m : Machine) → DarkFrom m 0 → (i : ℕ) → IsPrincipal m i → mark_at m.heap i ≡ Has White → ⊥
-all_dark m d i p w = let at = holds_index m.principals.items (record { serial = p.0; slot = i }) (record { serial = p.0; slot = i }) p.1 in
+all_dark m d i p w = let at = contains_index m.principals.items (record { serial = p.0; slot = i }) (record { serial = p.0; slot = i }) p.1 in
     d.dark at.0 (record { serial = p.0; slot = i }) (omega arith) at.1 at.2 w
 
 -- One more principal is shaded.

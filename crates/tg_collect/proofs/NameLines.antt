@@ -1,7 +1,7 @@
 -- The lines of the table keep what names say.
 use Rattle.std.proofs.Common.{◌≡◌, ◌≢◌, ℕ, zero, suc, ◌<◌, List, [], ◌∷◌, length, Option, Some, None, ◌⊎◌, inl, inr, sym, ◌∙◌, subst, ap, refl, arith, set, get_or, get_or-set_same, get_or-set_other, Bool, map}
 use Rattle.std.proofs.lemmas.Bool.{cases_eq}
-use Rattle.tg_rights.specs.Membership.{Holds, Distinct}
+use Rattle.tg_rights.specs.Membership.{Contains, Distinct}
 use Rattle.tg_slots.specs.Table.{Table, Mark, Free, Has, mark, mark_of, slot, coloured}
 use Rattle.tg_slots.specs.declared.slots.Occupant.{Occupant}
 use Rattle.tg_slots.specs.declared.colour.Colour.{Colour}
@@ -142,7 +142,7 @@ held_back P U h h' p q c e l j g = (
   λ d. elim (condemned_stays P U h h' p q c e l j d) [ inl still ↦ g.1 still | inr free ↦ g.0 free ],
 )
 
-pub edges_back : (P U : ℕ → Type 0) (h h' : HeapGraph) (p q : Progress) (c : ℕ) (e : Bool) → Line P U h p h' q c e → (j : ℕ) (x : Edge) → j < length h.lists → Holds (edges h' j) x → Holds (edges h j) x
+pub edges_back : (P U : ℕ → Type 0) (h h' : HeapGraph) (p q : Progress) (c : ℕ) (e : Bool) → Line P U h p h' q c e → (j : ℕ) (x : Edge) → j < length h.lists → Contains (edges h' j) x → Contains (edges h j) x
 edges_back P U h _ _ _ _ _ (starts t k s few) j x b o = o
 edges_back P U h _ _ _ _ _ (scans i cursor y e a w at) j x b o = o
 edges_back P U h _ _ _ _ _ (blackens i) j x b o = o
@@ -154,9 +154,9 @@ edges_back P U h _ _ _ _ _ (whitens at l m) j x b o = o
 edges_back P U h _ _ _ _ _ (strips at e r l m w) j x b o = elim (cases_eq j at) [
   | inl is ↦
       let inside : at < length h.lists = omega (arith, b, is) in
-      let o' : Holds r x = subst (λ (es : List Edge). Holds es x) (get_or-set_same h.lists at r [] inside) (subst (λ (k : ℕ). Holds (get_or (set h.lists at r) k []) x) is o) in
-      subst (λ (k : ℕ). Holds (edges h k) x) (sym is) (subst (λ (es : List Edge). Holds es x) (sym w) (inr o'))
-  | inr other ↦ subst (λ (es : List Edge). Holds es x) (get_or-set_other h.lists at j r [] other) o
+      let o' : Contains r x = subst (λ (es : List Edge). Contains es x) (get_or-set_same h.lists at r [] inside) (subst (λ (k : ℕ). Contains (get_or (set h.lists at r) k []) x) is o) in
+      subst (λ (k : ℕ). Contains (edges h k) x) (sym is) (subst (λ (es : List Edge). Contains es x) (sym w) (inr o'))
+  | inr other ↦ subst (λ (es : List Edge). Contains es x) (get_or-set_other h.lists at j r [] other) o
 ]
 edges_back P U h _ _ _ _ _ (frees at l m w) j x b o = o
 edges_back P U h _ _ _ _ _ (finishes at l) j x b o = o
@@ -189,10 +189,10 @@ one_name h i x y a b = sym a.2 ∙ ap serial_in (sym a.1 ∙ b.1) ∙ b.2 where
   serial_in None = 0
   serial_in (Some z) = z.serial
 
-apart_targets : (h : HeapGraph) (es : List Edge) → ((e : Edge) → Holds es e → IsNamed h e.target e.serial) → Distinct (map (λ (e : Edge). e.serial) es) → Distinct (map (λ (e : Edge). e.target) es)
+apart_targets : (h : HeapGraph) (es : List Edge) → ((e : Edge) → Contains es e → IsNamed h e.target e.serial) → Distinct (map (λ (e : Edge). e.serial) es) → Distinct (map (λ (e : Edge). e.target) es)
 apart_targets h [] n d = tt
 apart_targets h (e ∷ es) n d = ((λ t. d.0 (among es (λ x o. n x (inr o)) t)), apart_targets h es (λ x o. n x (inr o)) d.1) where
-  among : (xs : List Edge) → ((x : Edge) → Holds xs x → IsNamed h x.target x.serial) → Holds (map (λ (e : Edge). e.target) xs) e.target → Holds (map (λ (e : Edge). e.serial) xs) e.serial
+  among : (xs : List Edge) → ((x : Edge) → Contains xs x → IsNamed h x.target x.serial) → Contains (map (λ (e : Edge). e.target) xs) e.target → Contains (map (λ (e : Edge). e.serial) xs) e.serial
   among [] m t = t
   among (x ∷ xs) m (inl is) = inl (one_name h e.target e.serial x.serial (n e (inl refl)) (subst (λ (k : ℕ). IsNamed h k x.serial) (sym is) (m x (inl refl))))
   among (x ∷ xs) m (inr t) = inr (among xs (λ y o. m y (inr o)) t)

@@ -1,7 +1,7 @@
 -- The session steps keep what names say.
 use Rattle.std.proofs.Common.{◌≡◌, ◌≢◌, ℕ, ◌<◌, List, [], length, Option, Some, None, ◌⊎◌, inl, inr, sym, ◌∙◌, subst, ap, set, get_or, get_or-set_same, get_or-set_other}
 use Rattle.std.proofs.lemmas.Bool.{cases_eq}
-use Rattle.tg_rights.specs.Membership.{Holds}
+use Rattle.tg_rights.specs.Membership.{Contains}
 use Rattle.tg_slots.specs.Table.{Free, Has, mark_of}
 use Rattle.tg_slots.specs.declared.slots.Occupant.{Occupant}
 use Rattle.tg_heap.specs.Graph.{HeapGraph, edges, mark_at}
@@ -14,7 +14,7 @@ use Rattle.tg_collect.proofs.EdgeSteps.{relisted}
 
 -- One list changes: each of its edges is an old one, or names its target, which isn't the owner.
 pub names_relisted : (h : HeapGraph) (p : Progress) (R R' : ℕ → ℕ → Type 0) (i n : ℕ) (l : List Edge) → i < length h.lists
-    → ((e : Edge) → Holds l e → Holds (edges h i) e ⊎ (IsNamed h e.target e.serial × (e.target ≢ i))) → ((j x : ℕ) → R' j x → R j x ⊎ IsNamed h j x)
+    → ((e : Edge) → Contains l e → Contains (edges h i) e ⊎ (IsNamed h e.target e.serial × (e.target ≢ i))) → ((j x : ℕ) → R' j x → R j x ⊎ IsNamed h j x)
     → Names h p R → Names (relisted h (set h.lists i l) n) p R'
 names_relisted h p R R' i n l within old roots k = record {
   once = k.once;
@@ -23,7 +23,7 @@ names_relisted h p R R' i n l within old roots k = record {
       | inl was ↦ k.edge i e (from p i (subst (HeldAt (relisted h (set h.lists i l) n) p) is g)) was
       | inr new ↦ new.0
     ]
-    | inr other ↦ k.edge j e (from p j g) (subst (λ (es : List Edge). Holds es e) (get_or-set_other h.lists i j l [] other) o)
+    | inr other ↦ k.edge j e (from p j g) (subst (λ (es : List Edge). Contains es e) (get_or-set_other h.lists i j l [] other) o)
   ];
   root = λ j x r. elim (roots j x r) [ inl was ↦ k.root j x was | inr named ↦ named ];
   no_loop = λ j e g o. elim (cases_eq j i) [
@@ -31,11 +31,11 @@ names_relisted h p R R' i n l within old roots k = record {
       | inl was ↦ subst (λ (m : ℕ). e.target ≢ m) (sym is) (k.no_loop i e (from p i (subst (HeldAt (relisted h (set h.lists i l) n) p) is g)) was)
       | inr new ↦ subst (λ (m : ℕ). e.target ≢ m) (sym is) new.1
     ]
-    | inr other ↦ k.no_loop j e (from p j g) (subst (λ (es : List Edge). Holds es e) (get_or-set_other h.lists i j l [] other) o)
+    | inr other ↦ k.no_loop j e (from p j g) (subst (λ (es : List Edge). Contains es e) (get_or-set_other h.lists i j l [] other) o)
   ];
 } where
-  here : (j : ℕ) (e : Edge) → j ≡ i → Holds (get_or (set h.lists i l) j []) e → Holds l e
-  here j e is o = subst (λ (es : List Edge). Holds es e) (get_or-set_same h.lists i l [] within) (subst (λ (m : ℕ). Holds (get_or (set h.lists i l) m []) e) is o)
+  here : (j : ℕ) (e : Edge) → j ≡ i → Contains (get_or (set h.lists i l) j []) e → Contains l e
+  here j e is o = subst (λ (es : List Edge). Contains es e) (get_or-set_same h.lists i l [] within) (subst (λ (m : ℕ). Contains (get_or (set h.lists i l) m []) e) is o)
 
   from : (q : Progress) (j : ℕ) → HeldAt (relisted h (set h.lists i l) n) q j → HeldAt h q j
   from Idle j g = g
@@ -57,12 +57,12 @@ names_vertex h p R i o rest within free bare fresh back k = record {
     ]
   ];
   edge = λ j e g x. elim (cases_eq j i) [
-    | inl is ↦ absurd (subst (λ (es : List Edge). Holds es e) bare (subst (λ (m : ℕ). Holds (edges h m) e) is x))
+    | inl is ↦ absurd (subst (λ (es : List Edge). Contains es e) bare (subst (λ (m : ℕ). Contains (edges h m) e) is x))
     | inr other ↦ forth e.target e.serial (k.edge j e (back j other g) x)
   ];
   root = λ j x r. forth j x (k.root j x r);
   no_loop = λ j e g x. elim (cases_eq j i) [
-    | inl is ↦ absurd (subst (λ (es : List Edge). Holds es e) bare (subst (λ (m : ℕ). Holds (edges h m) e) is x))
+    | inl is ↦ absurd (subst (λ (es : List Edge). Contains es e) bare (subst (λ (m : ℕ). Contains (edges h m) e) is x))
     | inr other ↦ k.no_loop j e (back j other g) x
   ];
 } where

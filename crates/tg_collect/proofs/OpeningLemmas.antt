@@ -14,8 +14,8 @@ use Rattle.std.specs.FinSet as finset
 use Rattle.std.specs.FinSet.{contains-empty, contains-union}
 use Rattle.tg_rights.specs.Letters.{Letters, Right, has, is_none}
 use Rattle.tg_rights.specs.Letters as letter
-use Rattle.tg_rights.specs.Membership.{Holds}
-use Rattle.tg_rights.proofs.MembershipLemmas.{holds_append, map_append}
+use Rattle.tg_rights.specs.Membership.{Contains}
+use Rattle.tg_rights.proofs.MembershipLemmas.{contains_append, map_append}
 use Rattle.tg_rights.specs.declared.kind.Kind.TheVariants.{Subject}
 use Rattle.tg_slots.specs.Table.{Table, Free, Has, mark_of, slot, nones, indices}
 use Rattle.tg_slots.specs.declared.slots.Occupant.{Occupant}
@@ -42,7 +42,7 @@ use Rattle.tg_collect.specs.Views.{IsHeldIn, IsEdgeIn, IsStore, place}
 use Rattle.tg_collect.specs.Sessions.{pending_of, EdgeStored, with_black}
 use Rattle.tg_collect.specs.Openings.{first_serials, Opens, Opened}
 use Rattle.tg_collect.specs.OpeningSteps.{Blank, PrincipalOpened, PrincipalsOpened, EdgeOpened, Before, OpensEdges}
-use Rattle.tg_collect.proofs.MachineLemmas.{index_holds, cleared_before}
+use Rattle.tg_collect.proofs.MachineLemmas.{index_contains, cleared_before}
 use Rattle.tg_collect.proofs.SetLemmas.{same_key, key_same, colour_shows, edge_parts, parts_edge}
 use Rattle.tg_collect.proofs.StoreLemmas.{is_store, named_place}
 use Rattle.tg_collect.proofs.VertexCalls.{VertexPlaced}
@@ -64,10 +64,10 @@ length_indices : (i n : ℕ) → length (indices i n) ≡ n
 length_indices i zero = refl
 length_indices i (suc n) = (let r = length_indices (suc i) n in omega (arith, r))
 
-none_holds : (xs : List (Option Root)) (r : Root) → ((k : ℕ) → get_or xs k None ≡ None) → Holds xs (Some r) → ⊥
-none_holds [] r n h = h
-none_holds (x ∷ xs) r n (inl e) = let z = n 0 in let u : Some r ≡ None = e ∙ z in cc
-none_holds (x ∷ xs) r n (inr h) = none_holds xs r (λ k. n (suc k)) h
+none_contains : (xs : List (Option Root)) (r : Root) → ((k : ℕ) → get_or xs k None ≡ None) → Contains xs (Some r) → ⊥
+none_contains [] r n h = h
+none_contains (x ∷ xs) r n (inl e) = let z = n 0 in let u : Some r ≡ None = e ∙ z in cc
+none_contains (x ∷ xs) r n (inr h) = none_contains xs r (λ k. n (suc k)) h
 
 blank_slot : (m : Machine) (slots cells : ℕ) → Blank m slots cells → (i : ℕ) → slot m.heap.table i ≡ None
 blank_slot m slots cells b i = ap (λ (t : Table). slot t i) b.table ∙ no_slot slots i
@@ -84,7 +84,7 @@ blank_whole m slots cells b = record {
   names = record {
     once = λ i j x n k. absurd (unnamed i x n);
     edge = λ i e h o. absurd (h.0 (free i));
-    root = λ i x r. absurd (elim r [ inl p ↦ subst (λ (l : List Root). Holds l (record { serial = x; slot = i })) b.principals p | inr u ↦ none_holds m.unfinished.items (record { serial = x; slot = i }) b.idle u ]);
+    root = λ i x r. absurd (elim r [ inl p ↦ subst (λ (l : List Root). Contains l (record { serial = x; slot = i })) b.principals p | inr u ↦ none_contains m.pending.items (record { serial = x; slot = i }) b.idle u ]);
     no_loop = λ i e h o. absurd (h.0 (free i));
   };
 } where
@@ -95,8 +95,8 @@ blank_whole m slots cells b = record {
   unnamed i x n = let e = blank_slot m slots cells b i in let s = n.1 in let u : Some n.0 ≡ None = sym s ∙ e in cc
 
   no_root : (i : ℕ) → IsRoot m i → ⊥
-  no_root i (inl p) = subst (λ (l : List Root). Holds l (record { serial = p.0; slot = i })) b.principals p.1
-  no_root i (inr u) = none_holds m.unfinished.items (record { serial = u.0; slot = i }) b.idle u.1
+  no_root i (inl p) = subst (λ (l : List Root). Contains l (record { serial = p.0; slot = i })) b.principals p.1
+  no_root i (inr u) = none_contains m.pending.items (record { serial = u.0; slot = i }) b.idle u.1
 
 gather_nones : {X : Type 0} (f : ℕ → Option Occupant → List X) (i n : ℕ) → ((k : ℕ) → f k None ≡ []) → gather f i (nones n) ≡ []
 gather_nones f i zero e = refl
@@ -108,7 +108,7 @@ blank_opens m slots cells b = record {
       ∙ ap (λ (es : List (ℕ × Vertex)). finmap.from_entries {R = nat_cmp} es) (gather_nones (by_place [] vertex_entry m.progress m.heap.lists) 0 slots (λ k. refl));
   principals = ap principals_of b.principals;
   phase = ap phase_of b.progress;
-  idle = λ seat. get_or-map serial_of m.unfinished.items seat None ∙ ap serial_of (b.idle seat);
+  idle = λ seat. get_or-map serial_of m.pending.items seat None ∙ ap serial_of (b.idle seat);
   marks = λ i. inl (get_or-map mark_of m.heap.table.slots i None ∙ ap mark_of (blank_slot m slots cells b i));
   slots = length-map m.heap.table.slots mark_of ∙ ap (λ (t : Table). length t.slots) b.table ∙ length_nones slots;
   free = (let f : length m.heap.table.free ≡ slots = ap (λ (t : Table). length t.free) b.table ∙ length_indices 0 slots in omega (arith, f));
@@ -151,7 +151,7 @@ subject_low (suc n) x t = elim (cases_eq x (suc n)) [
 idle_phase : (m : Machine) (n : Machine) → n.heap ≡ m.heap → n.progress ≡ Idle → m.progress ≡ Idle → PhaseHolds m.progress m → PhaseHolds n.progress n
 idle_phase m n eh en em k =
     let old : PhaseHolds Idle m = subst (λ (p : Progress). PhaseHolds p m) em k in
-    let moved : PhaseHolds Idle n = subst (λ (h : HeapGraph). ((i : ℕ) → mark_at h i ≡ Has Grey → Holds h.table.grey i) × ((i : ℕ) → mark_at h i ≢ Has Black)) (sym eh) old in
+    let moved : PhaseHolds Idle n = subst (λ (h : HeapGraph). ((i : ℕ) → mark_at h i ≡ Has Grey → Contains h.table.grey i) × ((i : ℕ) → mark_at h i ≢ Has Black)) (sym eh) old in
     subst (λ (p : Progress). PhaseHolds p n) (sym en) moved
 
 -- A principal is added.
@@ -187,8 +187,8 @@ principal_whole m ps i x idle w named held few e = record {
     no_loop = w.names.no_loop;
   };
 } where
-  split : (y j : ℕ) → Holds ps.items (record { serial = y; slot = j }) → Holds m.principals.items (record { serial = y; slot = j }) ⊎ (◌≡◌ {A = Root} (record { serial = y; slot = j }) (record { serial = x; slot = i }))
-  split y j h = elim (holds_append m.principals.items (record { serial = x; slot = i } ∷ []) (record { serial = y; slot = j }) (subst (λ (l : List Root). Holds l (record { serial = y; slot = j })) e h)) [
+  split : (y j : ℕ) → Contains ps.items (record { serial = y; slot = j }) → Contains m.principals.items (record { serial = y; slot = j }) ⊎ (◌≡◌ {A = Root} (record { serial = y; slot = j }) (record { serial = x; slot = i }))
+  split y j h = elim (contains_append m.principals.items (record { serial = x; slot = i } ∷ []) (record { serial = y; slot = j }) (subst (λ (l : List Root). Contains l (record { serial = y; slot = j })) e h)) [
     | inl old ↦ inl old
     | inr new ↦ elim new [ inl is ↦ inr is | inr never ↦ absurd never ]
   ]
@@ -248,23 +248,23 @@ pub record SoFar (v : Stored) (S : Triples) (count serial slots cells : ℕ) : T
   pub at : ((opened + 1 ≡ serial) × (opened ≤ count)) ⊎ ((opened ≡ count) × (count < serial))
 
 -- A seat is cleared.
-pub cleared_whole : (m n : Machine) → m.progress ≡ Idle → Whole m → n.heap ≡ m.heap → n.progress ≡ m.progress → n.principals ≡ m.principals → n.unfinished.items ≡ set m.unfinished.items 0 None → Whole n
+pub cleared_whole : (m n : Machine) → m.progress ≡ Idle → Whole m → n.heap ≡ m.heap → n.progress ≡ m.progress → n.principals ≡ m.principals → n.pending.items ≡ set m.pending.items 0 None → Whole n
 cleared_whole m n idle w eh ep er eu = record {
-  seats = ap length eu ∙ length-set m.unfinished.items 0 None ∙ w.seats;
+  seats = ap length eu ∙ length-set m.pending.items 0 None ∙ w.seats;
   few = subst (λ (v : Vec Root Global). length v.items ≤ 64) (sym er) w.few;
   kept = record {
     roots_held = λ j r. there j (elim (back j r) [ inl p ↦ w.kept.roots_held j (inl p) | inr u ↦ w.kept.roots_held j (inr u) ]);
-    closed = λ i e h o. there e.target (w.kept.closed i e (here i h) (subst (λ (x : HeapGraph). Holds (edges x i) e) eh o));
+    closed = λ i e h o. there e.target (w.kept.closed i e (here i h) (subst (λ (x : HeapGraph). Contains (edges x i) e) eh o));
     phase = idle_phase m n eh (ep ∙ idle) idle w.kept.phase;
   };
   names = record {
     once = λ i j x a b. w.names.once i j x (subst (λ (h : HeapGraph). IsNamed h i x) eh a) (subst (λ (h : HeapGraph). IsNamed h j x) eh b);
-    edge = λ i e h o. subst (λ (x : HeapGraph). IsNamed x e.target e.serial) (sym eh) (w.names.edge i e (here i h) (subst (λ (x : HeapGraph). Holds (edges x i) e) eh o));
+    edge = λ i e h o. subst (λ (x : HeapGraph). IsNamed x e.target e.serial) (sym eh) (w.names.edge i e (here i h) (subst (λ (x : HeapGraph). Contains (edges x i) e) eh o));
     root = λ i x r. subst (λ (h : HeapGraph). IsNamed h i x) (sym eh) (w.names.root i x (elim r [
-      | inl p ↦ inl (subst (λ (v : Vec Root Global). Holds v.items (record { serial = x; slot = i })) er p)
-      | inr u ↦ inr (cleared_before m.unfinished.items 0 (record { serial = x; slot = i }) (subst (λ (l : List (Option Root)). Holds l (Some (record { serial = x; slot = i }))) eu u))
+      | inl p ↦ inl (subst (λ (v : Vec Root Global). Contains v.items (record { serial = x; slot = i })) er p)
+      | inr u ↦ inr (cleared_before m.pending.items 0 (record { serial = x; slot = i }) (subst (λ (l : List (Option Root)). Contains l (Some (record { serial = x; slot = i }))) eu u))
     ]));
-    no_loop = λ i e h o. w.names.no_loop i e (here i h) (subst (λ (x : HeapGraph). Holds (edges x i) e) eh o);
+    no_loop = λ i e h o. w.names.no_loop i e (here i h) (subst (λ (x : HeapGraph). Contains (edges x i) e) eh o);
   };
 } where
   there : (j : ℕ) → IsHeld m j → IsHeld n j
@@ -274,22 +274,22 @@ cleared_whole m n idle w eh ep er eu = record {
   here j h = subst (λ (x : HeapGraph). HeldAt x m.progress j) eh (subst (λ (p : Progress). HeldAt n.heap p j) ep h)
 
   back : (j : ℕ) → IsRoot n j → IsRoot m j
-  back j (inl p) = inl (p.0, subst (λ (v : Vec Root Global). Holds v.items (record { serial = p.0; slot = j })) er p.1)
-  back j (inr u) = inr (u.0, cleared_before m.unfinished.items 0 (record { serial = u.0; slot = j }) (subst (λ (l : List (Option Root)). Holds l (Some (record { serial = u.0; slot = j }))) eu u.1))
+  back j (inl p) = inl (p.0, subst (λ (v : Vec Root Global). Contains v.items (record { serial = p.0; slot = j })) er p.1)
+  back j (inr u) = inr (u.0, cleared_before m.pending.items 0 (record { serial = u.0; slot = j }) (subst (λ (l : List (Option Root)). Contains l (Some (record { serial = u.0; slot = j }))) eu u.1))
 
 -- The edge that went by way of the seat.
 pub edge_opened : (v : Stored) (m n : Machine) (x y : ℕ) (rights : Letters) → pending_of v 0 ≡ None → EdgeStored v (stored m) 0 x y rights
-    → n.heap ≡ m.heap → n.progress ≡ m.progress → n.principals ≡ m.principals → n.unfinished.items ≡ set m.unfinished.items 0 None → EdgeOpened v (stored n) x y rights
+    → n.heap ≡ m.heap → n.progress ≡ m.progress → n.principals ≡ m.principals → n.pending.items ≡ set m.pending.items 0 None → EdgeOpened v (stored n) x y rights
 edge_opened v m n x y rights idle s eh ep er eu = record {
-  is = (λ i. record (stored_parts i) { unfinished = targets i })
-      ∙ (λ i. record (s.is i) { unfinished = cleared i; free_cells = (stored m).free_cells; left = (stored m).left })
+  is = (λ i. record (stored_parts i) { pending = targets i })
+      ∙ (λ i. record (s.is i) { pending = cleared i; free_cells = (stored m).free_cells; left = (stored m).left })
       ∙ (λ i. record v { triples = finset.union v.triples (edge x rights y); free_cells = ap (λ (h : HeapGraph). h.free_cells) (sym eh) i; left = sym same_left i });
 } where
-  stored_parts : stored n ≡ record (stored m) { unfinished = (stored n).unfinished }
-  stored_parts = λ i. record (stored (record m { heap = eh i; progress = ep i; principals = er i })) { unfinished = (stored n).unfinished }
+  stored_parts : stored n ≡ record (stored m) { pending = (stored n).pending }
+  stored_parts = λ i. record (stored (record m { heap = eh i; progress = ep i; principals = er i })) { pending = (stored n).pending }
 
-  targets : (stored n).unfinished ≡ set (targets_of m.unfinished.items) 0 None
-  targets = ap (λ (l : List (Option Root)). targets_of l) eu ∙ map-set (λ o. serial_of o) m.unfinished.items 0 None
+  targets : (stored n).pending ≡ set (targets_of m.pending.items) 0 None
+  targets = ap (λ (l : List (Option Root)). targets_of l) eu ∙ map-set (λ o. serial_of o) m.pending.items 0 None
 
   same_left : (stored n).left ≡ (stored m).left
   same_left = λ i. left_of (ep i) (eh i)
@@ -298,8 +298,8 @@ edge_opened v m n x y rights idle s eh ep er eu = record {
   twice [] e = refl
   twice (o ∷ xs) e = ap (λ (z : Option ℕ). z ∷ xs) (sym e)
 
-  cleared : set (targets_of m.unfinished.items) 0 None ≡ v.unfinished
-  cleared = ap (λ (z : Stored). set z.unfinished 0 None) s.is ∙ twice v.unfinished idle
+  cleared : set (targets_of m.pending.items) 0 None ≡ v.pending
+  cleared = ap (λ (z : Stored). set z.pending 0 None) s.is ∙ twice v.pending idle
 
 -- The principals' serials by their indices.
 row_at : (count k : ℕ) → k < count → get_or (first_serials count) k 0 ≡ k + 1
@@ -490,7 +490,7 @@ labelled_most l k (y ∷ ks) e = by (is_none (l y)) (is_none (k y)) refl refl (l
   by false true p q r = absurd (let z = e y q in let u : true ≡ false = sym z ∙ p in cc)
   by false false p q r = omega (arith, r)
 
-labelled_less : (l k : ℕ → Letters) (ks : List ℕ) (x : ℕ) → ((y : ℕ) → is_none (k y) ≡ true → is_none (l y) ≡ true) → Holds ks x → is_none (l x) ≡ true → is_none (k x) ≡ false → length (labelled l ks) < length (labelled k ks)
+labelled_less : (l k : ℕ → Letters) (ks : List ℕ) (x : ℕ) → ((y : ℕ) → is_none (k y) ≡ true → is_none (l y) ≡ true) → Contains ks x → is_none (l x) ≡ true → is_none (k x) ≡ false → length (labelled l ks) < length (labelled k ks)
 labelled_less l k [] x e h n s = absurd h
 labelled_less l k (y ∷ ks) x e (inl is) n s =
     let r = labelled_most l k ks e in
@@ -511,7 +511,7 @@ sum_most : (f g : ℕ → ℕ) (ks : List ℕ) → ((x : ℕ) → f x ≤ g x) �
 sum_most f g [] e = omega arith
 sum_most f g (x ∷ ks) e = (let a = sum_by-cons f x ks in let b = sum_by-cons g x ks in let r = sum_most f g ks e in let h = e x in omega (arith, a, b, r, h))
 
-sum_less : (f g : ℕ → ℕ) (ks : List ℕ) (x : ℕ) → ((y : ℕ) → f y ≤ g y) → Holds ks x → f x < g x → sum_by f ks < sum_by g ks
+sum_less : (f g : ℕ → ℕ) (ks : List ℕ) (x : ℕ) → ((y : ℕ) → f y ≤ g y) → Contains ks x → f x < g x → sum_by f ks < sum_by g ks
 sum_less f g [] x e h l = absurd h
 sum_less f g (y ∷ ks) x e (inl is) l = (let a = sum_by-cons f y ks in let b = sum_by-cons g y ks in let r = sum_most f g ks e in let m : f y < g y = subst (λ (z : ℕ). f z < g z) is l in omega (arith, a, b, r, m))
 sum_less f g (y ∷ ks) x e (inr h) l = (let a = sum_by-cons f y ks in let b = sum_by-cons g y ks in let r = sum_less f g ks x e h l in let m = e y in omega (arith, a, b, r, m))
@@ -547,7 +547,7 @@ room_left v G count from to s o some full =
 -- A principal by its index, with its place.
 pub indexed_place : (m : Machine) (k : ℕ) (r : Root) → Whole m → k < length m.principals.items → r ≡ get_or m.principals.items k r → place (stored m) r.slot ≡ Some r.serial
 indexed_place m k r w b e =
-    let listed : Holds m.principals.items r = index_holds m.principals.items r r k b (sym e) in
+    let listed : Contains m.principals.items r = index_contains m.principals.items r r k b (sym e) in
     named_place m.progress m.heap r.slot r.serial (w.names.root r.slot r.serial (inl listed)) (w.kept.roots_held r.slot (inl (r.serial, listed)))
 
 pub pair_apart : (G : Protection) (from to : ℕ) → IsGraph G → is_none (label G (from + 1) (to + 1)) ≡ false → from + 1 ≢ to + 1

@@ -4,7 +4,7 @@ use Rattle.std.specs.Ordering.{nat_cmp, eq_by_cmp}
 use Rattle.std.specs.Cmp.{nat_cmp_total, unsigned_tied}
 use Rattle.std.specs.FinMap as finmap
 use Rattle.std.specs.FinMap.{find, get-from_entries}
-use Rattle.tg_rights.specs.Membership.{Holds}
+use Rattle.tg_rights.specs.Membership.{Contains}
 use Rattle.tg_slots.specs.Table.{Mark, Free, Has, mark_of, slot, coloured}
 use Rattle.tg_slots.specs.declared.slots.Occupant.{Occupant}
 use Rattle.tg_slots.specs.declared.colour.Colour.{Colour}
@@ -25,16 +25,16 @@ some_same : {X : Type 0} (v w : X) → Some v ≡ Some w → v ≡ w
 some_same v w e = cc
 
 -- An entry found is one of the list.
-pub find_holds : {X : Type 0} (es : List (ℕ × X)) (q : ℕ) (w : X) → find nat_cmp q es ≡ Some w → Holds es (q, w)
-find_holds [] q w e = absurd (cc)
-find_holds ((k, v) ∷ es) q w e =
-    elim (eq_by_cmp nat_cmp q k) as (λ b. eq_by_cmp nat_cmp q k ≡ b → cond b (Some v) (find nat_cmp q es) ≡ Some w → Holds ((k, v) ∷ es) (q, w)) [
+pub find_contains : {X : Type 0} (es : List (ℕ × X)) (q : ℕ) (w : X) → find nat_cmp q es ≡ Some w → Contains es (q, w)
+find_contains [] q w e = absurd (cc)
+find_contains ((k, v) ∷ es) q w e =
+    elim (eq_by_cmp nat_cmp q k) as (λ b. eq_by_cmp nat_cmp q k ≡ b → cond b (Some v) (find nat_cmp q es) ≡ Some w → Contains ((k, v) ∷ es) (q, w)) [
       | true ↦ λ t f. let a : q ≡ k = eqb-true q k (sym (unsigned_tied q k) ∙ t) in let b : v ≡ w = some_same v w f in inl (cc)
-      | false ↦ λ t f. inr (find_holds es q w f)
+      | false ↦ λ t f. inr (find_contains es q w f)
     ] refl e
 
-pub get_holds : {X : Type 0} (es : List (ℕ × X)) (q : ℕ) (w : X) → finmap.get (finmap.from_entries {R = nat_cmp} es) q ≡ Some w → Holds es (q, w)
-get_holds es q w e = find_holds es q w (sym (get-from_entries nat_cmp_total es q) ∙ e)
+pub get_contains : {X : Type 0} (es : List (ℕ × X)) (q : ℕ) (w : X) → finmap.get (finmap.from_entries {R = nat_cmp} es) q ≡ Some w → Contains es (q, w)
+get_contains es q w e = find_contains es q w (sym (get-from_entries nat_cmp_total es q) ∙ e)
 
 -- The test of what is condemned, and the fact.
 pub condemned_is : (h : HeapGraph) (p : Progress) (i : ℕ) (m : Mark) → mark_at h i ≡ m → condemned p i m ≡ true → CondemnedAt p h i

@@ -2,7 +2,7 @@
 use Rattle.std.proofs.Common.{◌≡◌, ◌≢◌, ℕ, zero, suc, ◌+◌, ◌<◌, ◌≤◌, List, [], ◌∷◌, ◌++◌, length, Option, Some, None, ◌⊎◌, inl, inr, sym, ◌∙◌, subst, ap, refl, arith, set, get_or, get_or-set_same, get_or-set_other, Bool, true, false, cond, eqb, eqb-true, eq-eqb, ◌&&◌, Global, nat_lt}
 use Rattle.std.specs.declared.vec.Vec.{Vec}
 use Rattle.tg_rights.specs.Letters.{Letters, joined, without}
-use Rattle.tg_rights.specs.Membership.{Holds, Distinct}
+use Rattle.tg_rights.specs.Membership.{Contains, Distinct}
 use Rattle.tg_heap.specs.Graph.{HeapGraph, edges, mark_at, IsHeap}
 use Rattle.tg_cells.specs.Lists.{Edge, first_cell, Stands, Found}
 use Rattle.tg_heap.proofs.CursorLemmas.{cells}
@@ -27,7 +27,7 @@ use Rattle.std.specs.Prelude.{Ok}
 use Rattle.tg_slots.specs.declared.colour.Colour.{Colour}
 use Rattle.tg_slots.specs.Table.{coloured}
 use Rattle.tg_heap.specs.Graph.{painted}
-use Rattle.tg_collect.specs.Machine.{IsUnfinished, IsRoot, IsHeld, HeldAt, CondemnedAt, PhaseAt, scan_of, Sound, Invariant, progress_without, is_at, with_vertex, new_colour, has_passed, colour_ahead}
+use Rattle.tg_collect.specs.Machine.{IsPending, IsRoot, IsHeld, HeldAt, CondemnedAt, PhaseAt, scan_of, Sound, Invariant, progress_without, is_at, with_vertex, new_colour, has_passed, colour_ahead}
 use Rattle.tg_collect.specs.SessionLines.{newcomer, progress_dropped, Places}
 use Rattle.tg_collect.proofs.VertexSteps.{NewColour, sound-vertex}
 use Rattle.tg_collect.proofs.MachineLemmas.{to_sound, of_sound, held_within}
@@ -79,19 +79,19 @@ sound-remove h p Root Unf id c n before after x within was at once once' kept = 
   by (Marking (Some s)) k = scan_case s (eqb s.slot id) (is_at s.cursor c) refl refl k
 
 -- A target that a seat gains.
-pub set_holds : (xs : List (Option Root)) (k : ℕ) (q : Root) → k < length xs → Holds (set xs k (Some q)) (Some q)
-set_holds [] k q h = absurd (omega arith)
-set_holds (x ∷ xs) zero q h = inl refl
-set_holds (x ∷ xs) (suc k) q h = inr (set_holds xs k q (omega arith))
+pub set_contains : (xs : List (Option Root)) (k : ℕ) (q : Root) → k < length xs → Contains (set xs k (Some q)) (Some q)
+set_contains [] k q h = absurd (omega arith)
+set_contains (x ∷ xs) zero q h = inl refl
+set_contains (x ∷ xs) (suc k) q h = inr (set_contains xs k q (omega arith))
 
-pub set_keeps : (xs : List (Option Root)) (k : ℕ) (q r : Root) → get_or xs k None ≡ None → Holds xs (Some r) → Holds (set xs k (Some q)) (Some r)
+pub set_keeps : (xs : List (Option Root)) (k : ℕ) (q r : Root) → get_or xs k None ≡ None → Contains xs (Some r) → Contains (set xs k (Some q)) (Some r)
 set_keeps [] k q r e h = absurd h
 set_keeps (x ∷ xs) zero q r e (inl i) = absurd (cc)
 set_keeps (x ∷ xs) zero q r e (inr h) = inr h
 set_keeps (x ∷ xs) (suc k) q r e (inl i) = inl i
 set_keeps (x ∷ xs) (suc k) q r e (inr h) = inr (set_keeps xs k q r e h)
 
-pub set_only : (xs : List (Option Root)) (k : ℕ) (q r : Root) → Holds (set xs k (Some q)) (Some r) → Holds xs (Some r) ⊎ (r ≡ q)
+pub set_only : (xs : List (Option Root)) (k : ℕ) (q r : Root) → Contains (set xs k (Some q)) (Some r) → Contains xs (Some r) ⊎ (r ≡ q)
 set_only [] k q r h = absurd h
 set_only (x ∷ xs) zero q r (inl i) = inr (cc)
 set_only (x ∷ xs) zero q r (inr h) = inl (inr h)
@@ -99,55 +99,55 @@ set_only (x ∷ xs) (suc k) q r (inl i) = inl (inl i)
 set_only (x ∷ xs) (suc k) q r (inr h) = elim (set_only xs k q r h) [ inl old ↦ inl (inr old) | inr new ↦ inr new ]
 
 pub kept-add : (m n : Machine) (k id : ℕ) (e : Edge) (cells' : ℕ) (serial : ℕ) → IsHeap m.heap → IsHeap n.heap → Invariant m → IsHeld m id → IsHeld m e.target
-    → k < length m.unfinished.items → get_or m.unfinished.items k None ≡ None
+    → k < length m.pending.items → get_or m.pending.items k None ≡ None
     → n.heap ≡ relisted m.heap (set m.heap.lists id (e ∷ edges m.heap id)) cells' → n.progress ≡ m.progress → n.principals ≡ m.principals
-    → n.unfinished.items ≡ set m.unfinished.items k (Some (record { serial = serial; slot = e.target })) → Invariant n
+    → n.pending.items ≡ set m.pending.items k (Some (record { serial = serial; slot = e.target })) → Invariant n
 kept-add m n k id e cells' serial ok ok' kept owner target h none eh ep er eu =
     let q : Root = record { serial = serial; slot = e.target } in
     let within : id < length m.heap.lists = (let a = held_within m id owner.0 in let b = ok.owners in omega (arith, a, b)) in
     let ls : List (List Edge) = set m.heap.lists id (e ∷ edges m.heap id) in
-    let there : (r : Root) → Holds n.unfinished.items (Some r) → Holds m.unfinished.items (Some r) ⊎ (r ≡ q) =
-    λ r u. set_only m.unfinished.items k q r (subst (λ (l : List (Option Root)). Holds l (Some r)) eu u) in
-    let more : (r : Root) → Holds (set m.unfinished.items k (Some q)) (Some r) → Holds n.unfinished.items (Some r) =
-    λ r u. subst (λ (l : List (Option Root)). Holds l (Some r)) (sym eu) u in
-    let s = sound-link m.heap ls cells' m.progress (IsRoot m) (IsRoot n) (IsUnfinished m) (IsUnfinished n) id e
+    let there : (r : Root) → Contains n.pending.items (Some r) → Contains m.pending.items (Some r) ⊎ (r ≡ q) =
+    λ r u. set_only m.pending.items k q r (subst (λ (l : List (Option Root)). Contains l (Some r)) eu u) in
+    let more : (r : Root) → Contains (set m.pending.items k (Some q)) (Some r) → Contains n.pending.items (Some r) =
+    λ r u. subst (λ (l : List (Option Root)). Contains l (Some r)) (sym eu) u in
+    let s = sound-link m.heap ls cells' m.progress (IsRoot m) (IsRoot n) (IsPending m) (IsPending n) id e
     (get_or-set_same m.heap.lists id (e ∷ edges m.heap id) [] within) (λ j o. get_or-set_other m.heap.lists id j (e ∷ edges m.heap id) [] o)
     (subst (λ (x : HeapGraph). Distinct (cells (edges x id))) eh (ok'.cells.cell_once id))
-    (serial, more q (set_holds m.unfinished.items k q h)) target
-    (λ j u. (u.0, more (record { serial = u.0; slot = j }) (set_keeps m.unfinished.items k q (record { serial = u.0; slot = j }) none u.1)))
+    (serial, more q (set_contains m.pending.items k q h)) target
+    (λ j u. (u.0, more (record { serial = u.0; slot = j }) (set_keeps m.pending.items k q (record { serial = u.0; slot = j }) none u.1)))
     (λ j r. elim r [
-      | inl p ↦ inl (inl (p.0, subst (λ (v : Vec Root Global). Holds v.items (record { serial = p.0; slot = j })) er p.1))
+      | inl p ↦ inl (inl (p.0, subst (λ (v : Vec Root Global). Contains v.items (record { serial = p.0; slot = j })) er p.1))
       | inr u ↦ elim (there (record { serial = u.0; slot = j }) u.1) [ inl old ↦ inl (inr (u.0, old)) | inr new ↦ inr (ap (λ (r : Root). r.slot) new) ]
     ]) (to_sound m kept) in
-    of_sound n (subst (λ (x : HeapGraph). Sound x n.progress (IsRoot n) (IsUnfinished n)) (sym eh)
-    (subst (λ (p : Progress). Sound (relisted m.heap ls cells') p (IsRoot n) (IsUnfinished n)) (sym ep) s))
+    of_sound n (subst (λ (x : HeapGraph). Sound x n.progress (IsRoot n) (IsPending n)) (sym eh)
+    (subst (λ (p : Progress). Sound (relisted m.heap ls cells') p (IsRoot n) (IsPending n)) (sym ep) s))
 
--- What a seat's new target adds to the roots and to the unfinished targets.
+-- What a seat's new target adds to the roots and to the pending targets.
 pub record Gains (m n : Machine) (q : Root) : Type 0 where
-  pub more : (j : ℕ) → IsUnfinished m j → IsUnfinished n j
-  pub here : IsUnfinished n q.slot
+  pub more : (j : ℕ) → IsPending m j → IsPending n j
+  pub here : IsPending n q.slot
   pub roots : (j : ℕ) → IsRoot n j → IsRoot m j ⊎ (j ≡ q.slot)
 
-pub gains : (m n : Machine) (k : ℕ) (q : Root) → k < length m.unfinished.items → get_or m.unfinished.items k None ≡ None
-    → n.principals ≡ m.principals → n.unfinished.items ≡ set m.unfinished.items k (Some q) → Gains m n q
+pub gains : (m n : Machine) (k : ℕ) (q : Root) → k < length m.pending.items → get_or m.pending.items k None ≡ None
+    → n.principals ≡ m.principals → n.pending.items ≡ set m.pending.items k (Some q) → Gains m n q
 gains m n k q h none er eu = record {
-  more = λ j u. (u.0, there (record { serial = u.0; slot = j }) (set_keeps m.unfinished.items k q (record { serial = u.0; slot = j }) none u.1));
-  here = (q.serial, there q (set_holds m.unfinished.items k q h));
+  more = λ j u. (u.0, there (record { serial = u.0; slot = j }) (set_keeps m.pending.items k q (record { serial = u.0; slot = j }) none u.1));
+  here = (q.serial, there q (set_contains m.pending.items k q h));
   roots = λ j r. elim r [
-    | inl p ↦ inl (inl (p.0, subst (λ (v : Vec Root Global). Holds v.items (record { serial = p.0; slot = j })) er p.1))
-    | inr u ↦ elim (set_only m.unfinished.items k q (record { serial = u.0; slot = j }) (subst (λ (l : List (Option Root)). Holds l (Some (record { serial = u.0; slot = j }))) eu u.1)) [
+    | inl p ↦ inl (inl (p.0, subst (λ (v : Vec Root Global). Contains v.items (record { serial = p.0; slot = j })) er p.1))
+    | inr u ↦ elim (set_only m.pending.items k q (record { serial = u.0; slot = j }) (subst (λ (l : List (Option Root)). Contains l (Some (record { serial = u.0; slot = j }))) eu u.1)) [
       | inl old ↦ inl (inr (u.0, old))
       | inr new ↦ inr (ap (λ (r : Root). r.slot) new)
     ]
   ];
 } where
-  there : (r : Root) → Holds (set m.unfinished.items k (Some q)) (Some r) → Holds n.unfinished.items (Some r)
-  there r u = subst (λ (l : List (Option Root)). Holds l (Some r)) (sym eu) u
+  there : (r : Root) → Contains (set m.pending.items k (Some q)) (Some r) → Contains n.pending.items (Some r)
+  there r u = subst (λ (l : List (Option Root)). Contains l (Some r)) (sym eu) u
 
 -- An edge gains rights, or a new one comes in.
 pub kept-adds : (m n : Machine) (k id serial : ℕ) (q : Root) (rights : Letters) → IsHeap m.heap → IsHeap n.heap → Invariant m → IsHeld m id → IsHeld m q.slot
-    → k < length m.unfinished.items → get_or m.unfinished.items k None ≡ None → IsAdded m.heap n.heap id q.slot serial rights
-    → n.unfinished.items ≡ set m.unfinished.items k (Some q) → n ≡ record m { heap = n.heap; unfinished = n.unfinished } → Invariant n
+    → k < length m.pending.items → get_or m.pending.items k None ≡ None → IsAdded m.heap n.heap id q.slot serial rights
+    → n.pending.items ≡ set m.pending.items k (Some q) → n ≡ record m { heap = n.heap; pending = n.pending } → Invariant n
 kept-adds m n k id serial q rights ok ok' kept owner target h none (inl joined_to) eu is =
     let f = joined_to.0 in
     let within : id < length m.heap.lists = (let a = held_within m id owner.0 in let b = ok.owners in omega (arith, a, b)) in
@@ -157,17 +157,17 @@ kept-adds m n k id serial q rights ok ok' kept owner target h none (inl joined_t
     let alike : Alike (edges m.heap id) (get_or (set m.heap.lists id list) id []) =
     subst (λ (es : List Edge). Alike es (get_or (set m.heap.lists id list) id [])) (sym f.is)
     (subst (λ (es : List Edge). Alike (f.before ++ f.edge ∷ f.after) es) (sym (get_or-set_same m.heap.lists id list [] within)) (alike_relabelled f.before f.after f.edge label)) in
-    let s = sound-alike m.heap (set m.heap.lists id list) m.heap.free_cells m.progress (IsRoot m) (IsRoot n) (IsUnfinished m) (IsUnfinished n) id alike
+    let s = sound-alike m.heap (set m.heap.lists id list) m.heap.free_cells m.progress (IsRoot m) (IsRoot n) (IsPending m) (IsPending n) id alike
     (λ j o. get_or-set_other m.heap.lists id j list [] o) g.more
-    (λ j r. elim (g.roots j r) [ inl old ↦ inl old | inr new ↦ inr (subst (IsUnfinished n) (sym new) g.here, subst (IsHeld m) (sym new) target) ]) (to_sound m kept) in
-    of_sound n (subst (λ (x : HeapGraph). Sound x n.progress (IsRoot n) (IsUnfinished n)) (sym joined_to.1)
-    (subst (λ (p : Progress). Sound (relisted m.heap (set m.heap.lists id list) m.heap.free_cells) p (IsRoot n) (IsUnfinished n)) (sym (ap (λ (x : Machine). x.progress) is)) s))
+    (λ j r. elim (g.roots j r) [ inl old ↦ inl old | inr new ↦ inr (subst (IsPending n) (sym new) g.here, subst (IsHeld m) (sym new) target) ]) (to_sound m kept) in
+    of_sound n (subst (λ (x : HeapGraph). Sound x n.progress (IsRoot n) (IsPending n)) (sym joined_to.1)
+    (subst (λ (p : Progress). Sound (relisted m.heap (set m.heap.lists id list) m.heap.free_cells) p (IsRoot n) (IsPending n)) (sym (ap (λ (x : Machine). x.progress) is)) s))
 kept-adds m n k id serial q rights ok ok' kept owner target h none (inr new) eu is =
     let e : Edge = new.0 in
     let at : e.target ≡ q.slot = new.3 in
     kept-add m n k id e n.heap.free_cells q.serial ok ok' kept owner (subst (IsHeld m) (sym at) target) h none new.7
     (ap (λ (x : Machine). x.progress) is) (ap (λ (x : Machine). x.principals) is)
-    (eu ∙ ap (λ (t : ℕ). set m.unfinished.items k (Some (record { serial = q.serial; slot = t }))) (sym at))
+    (eu ∙ ap (λ (t : ℕ). set m.pending.items k (Some (record { serial = q.serial; slot = t }))) (sym at))
 
 -- An edge loses some of its rights.
 pub kept-relabel : (m : Machine) (id serial : ℕ) (label : Letters) (f : Found (edges m.heap id) serial) → IsHeap m.heap → id < length m.heap.table.slots → Invariant m
@@ -179,7 +179,7 @@ kept-relabel m id serial label f ok inside kept =
     subst (λ (es : List Edge). Alike es (get_or (set m.heap.lists id list) id [])) (sym f.is)
     (subst (λ (es : List Edge). Alike (f.before ++ f.edge ∷ f.after) es) (sym (get_or-set_same m.heap.lists id list [] within)) (alike_relabelled f.before f.after f.edge label)) in
     of_sound (record m { heap = relabelled m.heap id serial f label })
-    (sound-alike m.heap (set m.heap.lists id list) m.heap.free_cells m.progress (IsRoot m) (IsRoot m) (IsUnfinished m) (IsUnfinished m) id alike
+    (sound-alike m.heap (set m.heap.lists id list) m.heap.free_cells m.progress (IsRoot m) (IsRoot m) (IsPending m) (IsPending m) id alike
     (λ j o. get_or-set_other m.heap.lists id j list [] o) (λ j u. u) (λ j r. inl r) (to_sound m kept))
 
 pub kept-remove : (m : Machine) (id c n : ℕ) (before after : List Edge) (x : Edge) (h' : HeapGraph) → IsHeap m.heap → IsHeap h' → id < length m.heap.table.slots
@@ -187,10 +187,10 @@ pub kept-remove : (m : Machine) (id c n : ℕ) (before after : List Edge) (x : E
     → Invariant m → Invariant (record m { heap = h'; progress = progress_without m.progress id c (first_cell after) })
 kept-remove m id c n before after x h' ok ok' within s eh kept =
     let inside : id < length m.heap.lists = (let b = ok.owners in omega (arith, b)) in
-    let r = sound-remove m.heap m.progress (IsRoot m) (IsUnfinished m) id c n before after x inside s.is s.here (ok.cells.cell_once id)
+    let r = sound-remove m.heap m.progress (IsRoot m) (IsPending m) id c n before after x inside s.is s.here (ok.cells.cell_once id)
     (subst (λ (g : HeapGraph). Distinct (cells (edges g id))) eh (ok'.cells.cell_once id)) (to_sound m kept) in
     of_sound (record m { heap = h'; progress = progress_without m.progress id c (first_cell after) })
-    (subst (λ (g : HeapGraph). Sound g (progress_without m.progress id c (first_cell after)) (IsRoot m) (IsUnfinished m)) (sym eh) r)
+    (subst (λ (g : HeapGraph). Sound g (progress_without m.progress id c (first_cell after)) (IsRoot m) (IsPending m)) (sym eh) r)
 
 pub kept-removes : (m : Machine) (g : HeapGraph) (id serial : ℕ) (rights : Letters) (d : Dropped) → IsHeap m.heap → IsHeap g → id < length m.heap.table.slots
     → IsDropped m.heap g id serial rights d → Invariant m → Invariant (record m { heap = g; progress = progress_dropped m.progress id d })
@@ -213,8 +213,8 @@ fits_new (Sweeping k) i = by (nat_lt i k) refl where
 pub kept-places : (m : Machine) (i serial : ℕ) (kind : Kind) (text : List ℕ) (rest : List ℕ) → IsHeap m.heap → m.heap.table.free ≡ i ∷ rest → Invariant m
     → Invariant (record m { heap = with_vertex m.heap i (newcomer m.progress i serial kind text) rest }) × IsHeld (record m { heap = with_vertex m.heap i (newcomer m.progress i serial kind text) rest }) i
 kept-places m i serial kind text rest ok free kept =
-    let listed = ok.table.listed_free i (subst (λ (l : List ℕ). Holds l i) (sym free) (inl refl)) in
-    let s = sound-vertex m.heap m.progress (IsRoot m) (IsUnfinished m) i (newcomer m.progress i serial kind text) rest listed.0 listed.1 (ok.free_bare i listed.1) (fits_new m.progress i) (to_sound m kept) in
+    let listed = ok.table.listed_free i (subst (λ (l : List ℕ). Contains l i) (sym free) (inl refl)) in
+    let s = sound-vertex m.heap m.progress (IsRoot m) (IsPending m) i (newcomer m.progress i serial kind text) rest listed.0 listed.1 (ok.free_bare i listed.1) (fits_new m.progress i) (to_sound m kept) in
     (of_sound (record m { heap = with_vertex m.heap i (newcomer m.progress i serial kind text) rest }) s.0, s.1)
 
 -- The slots stay as they are but for what no mark shows.
@@ -244,10 +244,10 @@ kept-rewrites m slots same kept =
     held_back : (c : mark_at m.heap ≡ (λ j. mark_of (get_or slots j None))) (p : Progress) (i : ℕ) → HeldAt (record m.heap { table = record m.heap.table { slots = slots } }) p i → HeldAt m.heap p i
     held_back c p i h = (λ f. h.0 (same i ∙ f), λ x. h.1 (condemned_back c p i x))
 
-    phase : (c : mark_at m.heap ≡ (λ j. mark_of (get_or slots j None))) (p : Progress) → PhaseAt p m.heap (IsRoot m) (IsUnfinished m)
-        → PhaseAt p (record m.heap { table = record m.heap.table { slots = slots } }) (IsRoot m) (IsUnfinished m)
+    phase : (c : mark_at m.heap ≡ (λ j. mark_of (get_or slots j None))) (p : Progress) → PhaseAt p m.heap (IsRoot m) (IsPending m)
+        → PhaseAt p (record m.heap { table = record m.heap.table { slots = slots } }) (IsRoot m) (IsPending m)
     phase c Idle h = (λ i g. h.0 i (sym (same i) ∙ g), λ i b. h.1 i (sym (same i) ∙ b))
-    phase c (Marking s) h = subst (λ (k : ℕ → Mark). Tricolour k (edges m.heap) (Holds m.heap.table.grey) (IsRoot m) (IsUnfinished m) (scan_of s)) c h
+    phase c (Marking s) h = subst (λ (k : ℕ → Mark). Tricolour k (edges m.heap) (Contains m.heap.table.grey) (IsRoot m) (IsPending m) (scan_of s)) c h
     phase c (Sweeping k) h = (λ i g. h.0 i (sym (same i) ∙ g), λ i l b. h.1 i l (sym (same i) ∙ b))
 
 -- Another text leaves the mark.

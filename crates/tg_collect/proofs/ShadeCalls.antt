@@ -8,7 +8,7 @@ use Rattle.std.specs.Ordering.{nat_cmp, eq_by_cmp}
 use Rattle.std.specs.Cmp.{nat_cmp_total}
 use Rattle.std.specs.FinSet as finset
 use Rattle.std.specs.FinSet.{same_set, contains-insert, nat_cmp-IsAntisymmetric}
-use Rattle.tg_rights.specs.Membership.{Holds}
+use Rattle.tg_rights.specs.Membership.{Contains}
 use Rattle.tg_slots.specs.Table.{Table, Mark, Free, Has, mark, mark_of, slot}
 use Rattle.tg_slots.specs.declared.colour.Colour.TheVariants.{White, Grey, Black}
 use Rattle.tg_slots.proofs.TableLemmas.{mark_coloured}
@@ -18,12 +18,12 @@ use Rattle.tg_collect.specs.declared.machine.Scan.{Scan}
 use Rattle.tg_collect.specs.declared.machine.Progress.{Progress}
 use Rattle.tg_collect.specs.declared.machine.Progress.TheVariants.{Marking}
 use Rattle.tg_collect.specs.declared.machine.Machine.{Machine}
-use Rattle.tg_collect.specs.Machine.{IsRoot, IsUnfinished, HeldAt, Invariant, PhaseHolds}
+use Rattle.tg_collect.specs.Machine.{IsRoot, IsPending, HeldAt, Invariant, PhaseHolds}
 use Rattle.tg_collect.specs.Names.{IsNamed, IsRootOf, Names, Whole}
 use Rattle.tg_collect.specs.SessionLines.{Settles}
 use Rattle.tg_collect.specs.Stored.{stored, serial_of, targets_of, of_colour}
 use Rattle.tg_collect.specs.Sessions.{shaded_mark, Shaded}
-use Rattle.tg_collect.proofs.MachineLemmas.{shades, was_not_free, condemned_after, seat_unfinished, root_within, cleared_before}
+use Rattle.tg_collect.proofs.MachineLemmas.{shades, was_not_free, condemned_after, seat_pending, root_within, cleared_before}
 use Rattle.tg_collect.proofs.PlaceLemmas.{shaded_vertices, shaded_triples, shaded_parked, shaded_places}
 use Rattle.tg_collect.proofs.SetLemmas.{colour_shows, shows_colour, same_key, key_same}
 use Rattle.tg_collect.proofs.LineLemmas.{shaded_other, shaded_free}
@@ -52,19 +52,19 @@ names_shaded h p R R' i w held fewer k = record {
 
 -- The machine after a seat's target was shaded.
 abbrev pub settled : Machine → ℕ → Vec (Option Root) Global → Machine
-settled m i u = record m { heap = record m.heap { table = shaded m.heap.table i }; unfinished = u }
+settled m i u = record m { heap = record m.heap { table = shaded m.heap.table i }; pending = u }
 
-whole_settled : (m : Machine) (k x i : ℕ) (u : Vec (Option Root) Global) → k < length m.unfinished.items → get_or m.unfinished.items k None ≡ Some (record { serial = x; slot = i })
-    → u.items ≡ set m.unfinished.items k None → Whole m → Invariant (settled m i u) → Whole (settled m i u)
+whole_settled : (m : Machine) (k x i : ℕ) (u : Vec (Option Root) Global) → k < length m.pending.items → get_or m.pending.items k None ≡ Some (record { serial = x; slot = i })
+    → u.items ≡ set m.pending.items k None → Whole m → Invariant (settled m i u) → Whole (settled m i u)
 whole_settled m k x i u b at eu w kept =
-    let root : IsRoot m i = inr (seat_unfinished m k (record { serial = x; slot = i }) b at) in
+    let root : IsRoot m i = inr (seat_pending m k (record { serial = x; slot = i }) b at) in
     record {
-      seats = ap length eu ∙ length-set m.unfinished.items k None ∙ w.seats;
+      seats = ap length eu ∙ length-set m.pending.items k None ∙ w.seats;
       few = w.few;
       kept = kept;
       names = names_shaded m.heap m.progress (IsRootOf m) (IsRootOf (settled m i u)) i (root_within m i w.kept root) (w.kept.roots_held i root) (λ j y r. elim r [
         | inl p ↦ inl p
-        | inr t ↦ inr (cleared_before m.unfinished.items k (record { serial = y; slot = j }) (subst (λ (l : List (Option Root)). Holds l (Some (record { serial = y; slot = j }))) eu t))
+        | inr t ↦ inr (cleared_before m.pending.items k (record { serial = y; slot = j }) (subst (λ (l : List (Option Root)). Contains l (Some (record { serial = y; slot = j }))) eu t))
       ]) w.names;
     }
 
@@ -86,26 +86,26 @@ shaded_marks t i = by (mark t i) refl ∙ ap (λ (m : Mark). set (map mark_of t.
   by (Has Black) e = same (Has Black) e ∙ ap (λ (k : Mark). set (map mark_of t.slots) i (shaded_mark k)) (sym e)
 
 -- The grey list has the shaded slot's free indices as before.
-module _ (m : Machine) (seat x i : ℕ) (u : Vec (Option Root) Global) (b : seat < length m.unfinished.items) (at : get_or m.unfinished.items seat None ≡ Some (record { serial = x; slot = i }))
-    (eu : u.items ≡ set m.unfinished.items seat None) (w : Whole m) where
+module _ (m : Machine) (seat x i : ℕ) (u : Vec (Option Root) Global) (b : seat < length m.pending.items) (at : get_or m.pending.items seat None ≡ Some (record { serial = x; slot = i }))
+    (eu : u.items ≡ set m.pending.items seat None) (w : Whole m) where
   h' : HeapGraph
   h' = record m.heap { table = shaded m.heap.table i }
 
-  unfinished : IsUnfinished m i
-  unfinished = seat_unfinished m seat (record { serial = x; slot = i }) b at
+  pending : IsPending m i
+  pending = seat_pending m seat (record { serial = x; slot = i }) b at
 
   held : HeldAt m.heap m.progress i
-  held = w.kept.roots_held i (inr unfinished)
+  held = w.kept.roots_held i (inr pending)
 
   within : i < length m.heap.table.slots
-  within = root_within m i w.kept (inr unfinished)
+  within = root_within m i w.kept (inr pending)
 
   named : IsNamed m.heap i x
-  named = w.names.root i x (inr (seat_holds m.unfinished.items seat b at)) where
-    seat_holds : (rs : List (Option Root)) (k : ℕ) → k < length rs → get_or rs k None ≡ Some (record { serial = x; slot = i }) → Holds rs (Some (record { serial = x; slot = i }))
-    seat_holds [] k l e = absurd (omega arith)
-    seat_holds (r ∷ rs) zero l e = inl (sym e)
-    seat_holds (r ∷ rs) (suc k) l e = inr (seat_holds rs k (omega arith) e)
+  named = w.names.root i x (inr (seat_contains m.pending.items seat b at)) where
+    seat_contains : (rs : List (Option Root)) (k : ℕ) → k < length rs → get_or rs k None ≡ Some (record { serial = x; slot = i }) → Contains rs (Some (record { serial = x; slot = i }))
+    seat_contains [] k l e = absurd (omega arith)
+    seat_contains (r ∷ rs) zero l e = inl (sym e)
+    seat_contains (r ∷ rs) (suc k) l e = inr (seat_contains rs k (omega arith) e)
 
   back : (j y : ℕ) → IsNamed h' j y → IsNamed m.heap j y
   unfolding h'
@@ -188,7 +188,7 @@ module _ (m : Machine) (seat x i : ℕ) (u : Vec (Option Root) Global) (b : seat
   pub shaded_settled : Shaded (stored m) (stored (settled m i u)) seat (Some x)
   unfolding h'
   shaded_settled = record {
-    was = get_or-map serial_of m.unfinished.items seat None ∙ ap serial_of at;
+    was = get_or-map serial_of m.pending.items seat None ∙ ap serial_of at;
     slot = i;
     place = named_place m.progress m.heap i x named held;
     left = left_shade m.progress m.heap i within held.1 scanned_grey;
@@ -202,21 +202,21 @@ module _ (m : Machine) (seat x i : ℕ) (u : Vec (Option Root) Global) (b : seat
       marks = shaded_marks m.heap.table i j;
       phase = (stored m).phase;
       principals = (stored m).principals;
-      unfinished = targets j;
+      pending = targets j;
       free_slots = shaded_free m.heap.table i j;
       free_cells = (stored m).free_cells;
       cells = (stored m).cells;
       left = (stored (settled m i u)).left;
     };
   } where
-    targets : targets_of u.items ≡ set (targets_of m.unfinished.items) seat None
-    targets = ap (λ (l : List (Option Root)). targets_of l) eu ∙ map-set (λ o. serial_of o) m.unfinished.items seat None
+    targets : targets_of u.items ≡ set (targets_of m.pending.items) seat None
+    targets = ap (λ (l : List (Option Root)). targets_of l) eu ∙ map-set (λ o. serial_of o) m.pending.items seat None
 
 -- The shade step: the invariant and what it does.
-pub after_shade : (m n : Machine) (seat : ℕ) (r : Option ℕ) → seat < length m.unfinished.items → Whole m → Invariant n → Settles m seat r n → Whole n × Shaded (stored m) (stored n) seat r
-after_shade m n seat None b w kept s = (subst Whole (sym s.1) w, (get_or-map serial_of m.unfinished.items seat None ∙ ap serial_of s.0, ap stored s.1))
+pub after_shade : (m n : Machine) (seat : ℕ) (r : Option ℕ) → seat < length m.pending.items → Whole m → Invariant n → Settles m seat r n → Whole n × Shaded (stored m) (stored n) seat r
+after_shade m n seat None b w kept s = (subst Whole (sym s.1) w, (get_or-map serial_of m.pending.items seat None ∙ ap serial_of s.0, ap stored s.1))
 after_shade m n seat (Some x) b w kept s =
-    let is : n ≡ settled m s.0 n.unfinished = s.3 in (
-      subst Whole (sym is) (whole_settled m seat x s.0 n.unfinished b s.1 s.2 w (subst Invariant is kept)),
-      subst (λ (z : Machine). Shaded (stored m) (stored z) seat (Some x)) (sym is) (shaded_settled m seat x s.0 n.unfinished b s.1 s.2 w),
+    let is : n ≡ settled m s.0 n.pending = s.3 in (
+      subst Whole (sym is) (whole_settled m seat x s.0 n.pending b s.1 s.2 w (subst Invariant is kept)),
+      subst (λ (z : Machine). Shaded (stored m) (stored z) seat (Some x)) (sym is) (shaded_settled m seat x s.0 n.pending b s.1 s.2 w),
     )

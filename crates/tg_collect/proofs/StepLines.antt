@@ -7,7 +7,7 @@ use Rattle.tg_cells.specs.Lists.{Edge, first_cell}
 use Rattle.tg_collect.specs.declared.machine.Progress.{Progress}
 use Rattle.tg_collect.specs.declared.machine.Progress.TheVariants.{Idle, Marking, Sweeping}
 use Rattle.tg_collect.specs.declared.machine.Machine.{Machine}
-use Rattle.tg_collect.specs.Machine.{IsPrincipal, IsUnfinished, without_slot, with_list}
+use Rattle.tg_collect.specs.Machine.{IsPrincipal, IsPending, without_slot, with_list}
 use Rattle.tg_collect.specs.Lines.{Line, Steps, starts, scans, blackens, takes, settles, condemns, skips, whitens, strips, frees, finishes, Shadings, none, one_more}
 use Rattle.tg_collect.proofs.MachineLemmas.{Split}
 
@@ -15,8 +15,8 @@ use Rattle.tg_collect.proofs.MachineLemmas.{Split}
 abbrev pub After : Machine → HeapGraph → Progress → Machine
 After m h p = record m { heap = h; progress = p }
 
-by_line : (m : Machine) (p q : Progress) (h : HeapGraph) (c : ℕ) (e : _) → m.progress ≡ p → Line (IsPrincipal m) (IsUnfinished m) m.heap p h q c e → Steps m (record m { heap = h; progress = q }) c e
-by_line m p q h c e at l = record { line = subst (λ (x : Progress). Line (IsPrincipal m) (IsUnfinished m) m.heap x h q c e) (sym at) l; principals = refl; unfinished = refl }
+by_line : (m : Machine) (p q : Progress) (h : HeapGraph) (c : ℕ) (e : _) → m.progress ≡ p → Line (IsPrincipal m) (IsPending m) m.heap p h q c e → Steps m (record m { heap = h; progress = q }) c e
+by_line m p q h c e at l = record { line = subst (λ (x : Progress). Line (IsPrincipal m) (IsPending m) m.heap x h q c e) (sym at) l; principals = refl; pending = refl }
 
 pub steps_scans : (m : Machine) (slot cursor : ℕ) (s : Split (edges m.heap slot) cursor) → m.progress ≡ Marking (Some (record { slot = slot; cursor = Some cursor }))
     → Steps m (record m { heap = record m.heap { table = shaded m.heap.table s.edge.target }; progress = Marking (Some (record { slot = slot; cursor = first_cell s.after })) }) 0 false
@@ -40,15 +40,15 @@ steps_popped m g i cursor at list is first =
     (subst (λ (c : Option ℕ). Steps m (record m { heap = record m.heap { table = record m.heap.table { grey = g.table.grey } }; progress = Marking (Some (record { slot = i; cursor = c })) }) 0 false) (sym same)
     (steps_takes m i g.table.grey at list))
 
-pub steps_settles : (m : Machine) (i : ℕ) → m.progress ≡ Marking None → m.heap.table.grey ≡ [] → IsUnfinished m i → mark_at m.heap i ≡ Has White
+pub steps_settles : (m : Machine) (i : ℕ) → m.progress ≡ Marking None → m.heap.table.grey ≡ [] → IsPending m i → mark_at m.heap i ≡ Has White
     → Steps m (record m { heap = record m.heap { table = shaded m.heap.table i } }) 0 false
 steps_settles m i at g u w = record {
-  line = subst (λ (x : Progress). Line (IsPrincipal m) (IsUnfinished m) m.heap x (record m.heap { table = shaded m.heap.table i }) x 0 false) (sym at) (settles i g u w);
+  line = subst (λ (x : Progress). Line (IsPrincipal m) (IsPending m) m.heap x (record m.heap { table = shaded m.heap.table i }) x 0 false) (sym at) (settles i g u w);
   principals = refl;
-  unfinished = refl;
+  pending = refl;
 }
 
-pub steps_condemns : (m : Machine) → m.progress ≡ Marking None → m.heap.table.grey ≡ [] → ((i : ℕ) → IsUnfinished m i → mark_at m.heap i ≡ Has White → ⊥)
+pub steps_condemns : (m : Machine) → m.progress ≡ Marking None → m.heap.table.grey ≡ [] → ((i : ℕ) → IsPending m i → mark_at m.heap i ≡ Has White → ⊥)
     → Steps m (record m { progress = Sweeping 0 }) 0 false
 steps_condemns m at g s = by_line m _ _ m.heap 0 false at (condemns g s)
 
@@ -63,9 +63,9 @@ steps_whitens m i at l s = by_line m _ _ _ 0 false at (whitens i l s)
 pub steps_strips : (m : Machine) (i : ℕ) (e : Edge) (r : List Edge) → m.progress ≡ Sweeping i → i < length m.heap.table.slots → mark_at m.heap i ≡ Has White → edges m.heap i ≡ e ∷ r
     → Steps m (record m { heap = with_list m.heap i r }) 0 false
 steps_strips m i e r at l w s = record {
-  line = subst (λ (x : Progress). Line (IsPrincipal m) (IsUnfinished m) m.heap x (with_list m.heap i r) x 0 false) (sym at) (strips i e r l w s);
+  line = subst (λ (x : Progress). Line (IsPrincipal m) (IsPending m) m.heap x (with_list m.heap i r) x 0 false) (sym at) (strips i e r l w s);
   principals = refl;
-  unfinished = refl;
+  pending = refl;
 }
 
 pub steps_frees : (m : Machine) (i : ℕ) → m.progress ≡ Sweeping i → i < length m.heap.table.slots → mark_at m.heap i ≡ Has White → edges m.heap i ≡ []

@@ -85,7 +85,7 @@ is_store m ok w = record {
   placed = λ i x e. let n = place_named m.progress m.heap i x e in named_held m.heap m.progress w.names.once i x n.0 n.1;
   has_place = λ x h. let s = contains_stands m.heap m.progress x h in (s.1.at, named_place m.progress m.heap s.1.at x (s.1.occupant, s.1.is, s.1.serial) s.1.held);
   one_place = λ i j x e f. w.names.once i j x (place_named m.progress m.heap i x e).0 (place_named m.progress m.heap j x f).0;
-  seats = length-map m.unfinished.items (λ o. serial_of o) ∙ w.seats;
+  seats = length-map m.pending.items (λ o. serial_of o) ∙ w.seats;
   few = (let l = length-map m.principals.items (λ (r : Root). r.serial) in let f = w.few in omega (arith, l, f));
   slots = slots_counted m ok w;
   few_edges = λ next. (let c = cells_counted m ok w next in omega (arith, c));

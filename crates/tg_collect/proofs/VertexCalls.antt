@@ -9,7 +9,7 @@ use Rattle.std.specs.FinMap as finmap
 use Rattle.std.specs.FinMap.{same_map, get-insert, nat_cmp-IsAntisymmetric}
 use Rattle.std.specs.FinSet as finset
 use Rattle.std.specs.FinSet.{same_set, contains-insert}
-use Rattle.tg_rights.specs.Membership.{Holds}
+use Rattle.tg_rights.specs.Membership.{Contains}
 use Rattle.tg_rights.specs.declared.kind.Kind.{Kind}
 use Rattle.tg_slots.specs.Table.{Mark, Free, Has, mark_of, slot}
 use Rattle.tg_slots.specs.declared.slots.Occupant.{Occupant}
@@ -197,8 +197,8 @@ after_places m n serial kind text i ok w kept fresh a = subst Result (sym a.2) (
   Result : Machine → Type 0
   Result x = Whole x × VertexPlaced (stored m) (stored x) serial kind text i × (IsNamed x.heap i serial × IsHeld x i)
 
-  listed : Holds m.heap.table.free i
-  listed = subst (λ (l : List ℕ). Holds l i) (sym a.1) (inl refl)
+  listed : Contains m.heap.table.free i
+  listed = subst (λ (l : List ℕ). Contains l i) (sym a.1) (inl refl)
 
   within : i < length m.heap.table.slots
   within = (ok.table.listed_free i listed).0
@@ -323,7 +323,7 @@ after_places m n serial kind text i ok w kept fresh a = subst Result (sym a.2) (
       marks = marks j;
       phase = (stored m).phase;
       principals = (stored m).principals;
-      unfinished = (stored m).unfinished;
+      pending = (stored m).pending;
       free_slots = length a.0;
       free_cells = (stored m).free_cells;
       cells = (stored m).cells;
@@ -466,7 +466,7 @@ after_rewrites m n id text answer w kept held x named a = subst Result (sym a.3)
       marks = marks i;
       phase = (stored m).phase;
       principals = (stored m).principals;
-      unfinished = (stored m).unfinished;
+      pending = (stored m).pending;
       free_slots = (stored m).free_slots;
       free_cells = (stored m).free_cells;
       cells = (stored m).cells;
@@ -488,7 +488,7 @@ vertex_stored u v w seat x serial kind text rights slot a b none = record {
   left = (let k = a.left in let l = b.left in omega (arith, k, l));
   is = b.is ∙ (λ i. record (a.is i) {
     triples = finset.union (a.is i).triples (edge x rights serial);
-    unfinished = set (a.is i).unfinished seat (Some serial);
+    pending = set (a.is i).pending seat (Some serial);
     free_slots = moved i;
     free_cells = w.free_cells;
     left = w.left;

@@ -1,7 +1,7 @@
 -- A vertex that comes in.
 use Rattle.std.proofs.Common.{◌≡◌, ◌≢◌, ℕ, ◌<◌, ◌≤◌, List, [], length, Option, Some, None, ◌⊎◌, inl, inr, sym, ◌∙◌, subst, ap, arith}
 use Rattle.std.proofs.lemmas.Bool.{cases_eq}
-use Rattle.tg_rights.specs.Membership.{Holds}
+use Rattle.tg_rights.specs.Membership.{Contains}
 use Rattle.tg_slots.specs.Table.{Free, Has}
 use Rattle.tg_slots.specs.declared.slots.Occupant.{Occupant}
 use Rattle.tg_slots.specs.declared.colour.Colour.{Colour}
@@ -10,7 +10,7 @@ use Rattle.tg_slots.proofs.TableLemmas.{mark_here, mark_there}
 use Rattle.tg_heap.specs.Graph.{HeapGraph, edges, mark_at}
 use Rattle.tg_cells.specs.Lists.{Edge}
 use Rattle.tg_heap.specs.Marking.{Tricolour, ScanAt, ScanFits, passed, remaining, Covered}
-use Rattle.tg_heap.proofs.CursorLemmas.{split_whole, holds_left}
+use Rattle.tg_heap.proofs.CursorLemmas.{split_whole, contains_left}
 use Rattle.tg_collect.specs.declared.machine.Scan.{Scan}
 use Rattle.tg_collect.specs.declared.machine.Progress.{Progress}
 use Rattle.tg_collect.specs.declared.machine.Progress.TheVariants.{Idle, Marking, Sweeping}
@@ -29,7 +29,7 @@ sound-vertex h p Root Unf i o rest within free bare fits kept = (
   record {
     roots_held = λ j r. forward p j (kept.roots_held j r);
     closed = λ j e g x. elim (cases_eq j i) [
-      | inl is ↦ absurd (subst (λ (es : List Edge). Holds es e) bare (subst (λ (k : ℕ). Holds (edges h k) e) is x))
+      | inl is ↦ absurd (subst (λ (es : List Edge). Contains es e) bare (subst (λ (k : ℕ). Contains (edges h k) e) is x))
       | inr other ↦ forward p e.target (kept.closed j e (back p j other g) x)
     ];
     phase = turn p fits kept.phase (λ j e g x. kept.closed j e g x);
@@ -75,9 +75,9 @@ sound-vertex h p Root Unf i o rest within free bare fits kept = (
     ],
   )
 
-  marking : (s : Option Scan) → o.colour ≡ White → Tricolour (mark_at h) (edges h) (Holds h.table.grey) Root Unf (scan_of s)
-      → ((j : ℕ) (e : Edge) → HeldAt h (Marking s) j → Holds (edges h j) e → HeldAt h (Marking s) e.target)
-      → Tricolour (mark_at (with_vertex h i o rest)) (edges h) (Holds h.table.grey) Root Unf (scan_of s)
+  marking : (s : Option Scan) → o.colour ≡ White → Tricolour (mark_at h) (edges h) (Contains h.table.grey) Root Unf (scan_of s)
+      → ((j : ℕ) (e : Edge) → HeldAt h (Marking s) j → Contains (edges h j) e → HeldAt h (Marking s) e.target)
+      → Tricolour (mark_at (with_vertex h i o rest)) (edges h) (Contains h.table.grey) Root Unf (scan_of s)
   marking s w t close = record {
     black_edges = λ j b e x u.
         let n : j ≢ i = not_new j Black (λ q. cc) b in
@@ -89,10 +89,10 @@ sound-vertex h p Root Unf i o rest within free bare fits kept = (
     not_new : (j : ℕ) (c : Colour) → (White ≡ c → ⊥) → mark_at (with_vertex h i o rest) j ≡ Has c → j ≢ i
     not_new j c differs b is = differs (sym w ∙ colour_is o.colour c (sym here ∙ subst (λ (k : ℕ). mark_at (with_vertex h i o rest) k ≡ Has c) is b))
 
-    covered : (j : ℕ) (e : Edge) → Covered (mark_at h) Unf (edges h j) → mark_at h j ≢ Free → Holds (edges h j) e → mark_at (with_vertex h i o rest) e.target ≡ Has White → Unf e.target
+    covered : (j : ℕ) (e : Edge) → Covered (mark_at h) Unf (edges h j) → mark_at h j ≢ Free → Contains (edges h j) e → mark_at (with_vertex h i o rest) e.target ≡ Has White → Unf e.target
     covered j e c f x u = let n : e.target ≢ i = apart e.target (close j e (f, λ z. z) x).0 in c e x (sym (there e.target n) ∙ u)
 
-    scan_case : (k : Option ScanAt) → ScanFits (mark_at h) (edges h) (Holds h.table.grey) Unf k → ScanFits (mark_at (with_vertex h i o rest)) (edges h) (Holds h.table.grey) Unf k
+    scan_case : (k : Option ScanAt) → ScanFits (mark_at h) (edges h) (Contains h.table.grey) Unf k → ScanFits (mark_at (with_vertex h i o rest)) (edges h) (Contains h.table.grey) Unf k
     scan_case None f = tt
     scan_case (Some k) f =
         let grey : mark_at h k.slot ≡ Has Grey = f.grey in
@@ -102,12 +102,12 @@ sound-vertex h p Root Unf i o rest within free bare fits kept = (
           taken = f.taken;
           at = f.at;
           behind = λ e x u.
-              let whole : Holds (edges h k.slot) e = subst (λ (es : List Edge). Holds es e) (split_whole k.cursor (edges h k.slot)) (holds_left (passed k.cursor (edges h k.slot)) (remaining k.cursor (edges h k.slot)) e x) in
+              let whole : Contains (edges h k.slot) e = subst (λ (es : List Edge). Contains es e) (split_whole k.cursor (edges h k.slot)) (contains_left (passed k.cursor (edges h k.slot)) (remaining k.cursor (edges h k.slot)) e x) in
               let n : e.target ≢ i = apart e.target (close k.slot e (full, λ z. z) whole).0 in
               f.behind e x (sym (there e.target n) ∙ u);
         }
 
-  turn : (q : Progress) → NewColour q i o.colour → PhaseAt q h Root Unf → ((j : ℕ) (e : Edge) → HeldAt h q j → Holds (edges h j) e → HeldAt h q e.target) → PhaseAt q (with_vertex h i o rest) Root Unf
+  turn : (q : Progress) → NewColour q i o.colour → PhaseAt q h Root Unf → ((j : ℕ) (e : Edge) → HeldAt h q j → Contains (edges h j) e → HeldAt h q e.target) → PhaseAt q (with_vertex h i o rest) Root Unf
   turn Idle c old close = (
     λ j g. elim (cases_eq j i) [
       | inl is ↦ absurd (let g' = subst (λ (k : ℕ). mark_at (with_vertex h i o rest) k ≡ Has Grey) is g in let u : Has White ≡ Has Grey = ap Has (sym c) ∙ (sym here ∙ g') in cc)

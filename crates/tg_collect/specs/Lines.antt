@@ -7,7 +7,7 @@ use Rattle.tg_cells.specs.Lists.{Edge, first_cell}
 use Rattle.tg_collect.specs.declared.machine.Progress.{Progress}
 use Rattle.tg_collect.specs.declared.machine.Progress.TheVariants.{Idle, Marking, Sweeping}
 use Rattle.tg_collect.specs.declared.machine.Machine.{Machine}
-use Rattle.tg_collect.specs.Machine.{IsPrincipal, IsUnfinished, without_slot, with_list}
+use Rattle.tg_collect.specs.Machine.{IsPrincipal, IsPending, without_slot, with_list}
 
 -- A table after some slots of a kind were shaded, one after the other, and how many.
 pub data Shadings (P : ℕ → Type 0) (t : Table) : Table → ℕ → Type 0 where
@@ -15,24 +15,24 @@ pub data Shadings (P : ℕ → Type 0) (t : Table) : Table → ℕ → Type 0 wh
   one_more : (u : Table) (k i : ℕ) → Shadings P t u k → P i → Shadings P t (shaded u i) (suc k)
 
 -- One step: heap and progress before and after, the slots freed, and whether the cycle ended.
-pub data Line (Principal Unfinished : ℕ → Type 0) (h : HeapGraph) : Progress → HeapGraph → Progress → ℕ → Bool → Type 0 where
-  starts : (t : Table) (k : ℕ) → Shadings Principal h.table t k → k ≤ 64 → Line Principal Unfinished h Idle (record h { table = t }) (Marking None) 0 false
+pub data Line (Principal Pending : ℕ → Type 0) (h : HeapGraph) : Progress → HeapGraph → Progress → ℕ → Bool → Type 0 where
+  starts : (t : Table) (k : ℕ) → Shadings Principal h.table t k → k ≤ 64 → Line Principal Pending h Idle (record h { table = t }) (Marking None) 0 false
   scans : (slot cursor : ℕ) (before : List Edge) (e : Edge) (after : List Edge) → edges h slot ≡ before ++ e ∷ after → e.cell ≡ cursor
-      → Line Principal Unfinished h (Marking (Some (record { slot = slot; cursor = Some cursor }))) (record h { table = shaded h.table e.target }) (Marking (Some (record { slot = slot; cursor = first_cell after }))) 0 false
-  blackens : (slot : ℕ) → Line Principal Unfinished h (Marking (Some (record { slot = slot; cursor = None }))) (record h { table = painted h.table slot Black }) (Marking None) 0 false
+      → Line Principal Pending h (Marking (Some (record { slot = slot; cursor = Some cursor }))) (record h { table = shaded h.table e.target }) (Marking (Some (record { slot = slot; cursor = first_cell after }))) 0 false
+  blackens : (slot : ℕ) → Line Principal Pending h (Marking (Some (record { slot = slot; cursor = None }))) (record h { table = painted h.table slot Black }) (Marking None) 0 false
   takes : (i : ℕ) (rest : List ℕ) → h.table.grey ≡ i ∷ rest
-      → Line Principal Unfinished h (Marking None) (record h { table = record h.table { grey = rest } }) (Marking (Some (record { slot = i; cursor = first_cell (edges h i) }))) 0 false
-  settles : (i : ℕ) → h.table.grey ≡ [] → Unfinished i → mark_at h i ≡ Has White
-      → Line Principal Unfinished h (Marking None) (record h { table = shaded h.table i }) (Marking None) 0 false
-  condemns : h.table.grey ≡ [] → ((i : ℕ) → Unfinished i → mark_at h i ≡ Has White → ⊥) → Line Principal Unfinished h (Marking None) h (Sweeping 0) 0 false
-  skips : (at : ℕ) → at < length h.table.slots → (mark_at h at ≡ Free) ⊎ (mark_at h at ≡ Has Grey) → Line Principal Unfinished h (Sweeping at) h (Sweeping (at + 1)) 0 false
-  whitens : (at : ℕ) → at < length h.table.slots → mark_at h at ≡ Has Black → Line Principal Unfinished h (Sweeping at) (record h { table = painted h.table at White }) (Sweeping (at + 1)) 0 false
-  strips : (at : ℕ) (e : Edge) (r : List Edge) → at < length h.table.slots → mark_at h at ≡ Has White → edges h at ≡ e ∷ r → Line Principal Unfinished h (Sweeping at) (with_list h at r) (Sweeping at) 0 false
-  frees : (at : ℕ) → at < length h.table.slots → mark_at h at ≡ Has White → edges h at ≡ [] → Line Principal Unfinished h (Sweeping at) (without_slot h at) (Sweeping (at + 1)) 1 false
-  finishes : (at : ℕ) → length h.table.slots ≤ at → Line Principal Unfinished h (Sweeping at) h Idle 0 true
+      → Line Principal Pending h (Marking None) (record h { table = record h.table { grey = rest } }) (Marking (Some (record { slot = i; cursor = first_cell (edges h i) }))) 0 false
+  settles : (i : ℕ) → h.table.grey ≡ [] → Pending i → mark_at h i ≡ Has White
+      → Line Principal Pending h (Marking None) (record h { table = shaded h.table i }) (Marking None) 0 false
+  condemns : h.table.grey ≡ [] → ((i : ℕ) → Pending i → mark_at h i ≡ Has White → ⊥) → Line Principal Pending h (Marking None) h (Sweeping 0) 0 false
+  skips : (at : ℕ) → at < length h.table.slots → (mark_at h at ≡ Free) ⊎ (mark_at h at ≡ Has Grey) → Line Principal Pending h (Sweeping at) h (Sweeping (at + 1)) 0 false
+  whitens : (at : ℕ) → at < length h.table.slots → mark_at h at ≡ Has Black → Line Principal Pending h (Sweeping at) (record h { table = painted h.table at White }) (Sweeping (at + 1)) 0 false
+  strips : (at : ℕ) (e : Edge) (r : List Edge) → at < length h.table.slots → mark_at h at ≡ Has White → edges h at ≡ e ∷ r → Line Principal Pending h (Sweeping at) (with_list h at r) (Sweeping at) 0 false
+  frees : (at : ℕ) → at < length h.table.slots → mark_at h at ≡ Has White → edges h at ≡ [] → Line Principal Pending h (Sweeping at) (without_slot h at) (Sweeping (at + 1)) 1 false
+  finishes : (at : ℕ) → length h.table.slots ≤ at → Line Principal Pending h (Sweeping at) h Idle 0 true
 
 -- A step of the machine: one line, with the roots as they are.
 pub record Steps (m n : Machine) (freed : ℕ) (ended : Bool) : Type 0 where
-  pub line : Line (IsPrincipal m) (IsUnfinished m) m.heap m.progress n.heap n.progress freed ended
+  pub line : Line (IsPrincipal m) (IsPending m) m.heap m.progress n.heap n.progress freed ended
   pub principals : n.principals ≡ m.principals
-  pub unfinished : n.unfinished ≡ m.unfinished
+  pub pending : n.pending ≡ m.pending

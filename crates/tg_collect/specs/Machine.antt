@@ -1,7 +1,7 @@
 -- The invariant of the store, in terms of the heap as contracts see it.
 use Rattle.std.specs.Prelude.{◌≡◌, ◌≢◌, ℕ, ◌+◌, ◌<◌, ◌≤◌, List, ◌∷◌, Option, Some, None, ◌⊎◌}
 use Rattle.std.proofs.Common.{set, Bool, false, cond, eqb, ◌&&◌, nat_lt}
-use Rattle.tg_rights.specs.Membership.{Holds}
+use Rattle.tg_rights.specs.Membership.{Contains}
 use Rattle.tg_slots.specs.Table.{Free, Has}
 use Rattle.tg_slots.specs.declared.slots.Occupant.{Occupant}
 use Rattle.tg_slots.specs.declared.colour.Colour.{Colour}
@@ -18,13 +18,13 @@ use Rattle.tg_collect.specs.declared.machine.Progress.TheVariants.{Idle, Marking
 use Rattle.tg_collect.specs.declared.machine.Machine.{Machine}
 
 abbrev pub IsPrincipal : Machine → ℕ → Type 0
-IsPrincipal m i = (s : ℕ) × Holds m.principals.items (record { serial = s; slot = i })
+IsPrincipal m i = (s : ℕ) × Contains m.principals.items (record { serial = s; slot = i })
 
-abbrev pub IsUnfinished : Machine → ℕ → Type 0
-IsUnfinished m i = (s : ℕ) × Holds m.unfinished.items (Some (record { serial = s; slot = i }))
+abbrev pub IsPending : Machine → ℕ → Type 0
+IsPending m i = (s : ℕ) × Contains m.pending.items (Some (record { serial = s; slot = i }))
 
 abbrev pub IsRoot : Machine → ℕ → Type 0
-IsRoot m i = IsPrincipal m i ⊎ IsUnfinished m i
+IsRoot m i = IsPrincipal m i ⊎ IsPending m i
 
 -- Condemned and not yet swept.
 abbrev pub CondemnedAt : Progress → HeapGraph → ℕ → Type 0
@@ -47,25 +47,25 @@ HeldAt h p i = (mark_at h i ≢ Free) × (CondemnedAt p h i → ⊥)
 
 -- Each grey slot waits.
 abbrev pub GreyWaits : HeapGraph → Type 0
-GreyWaits h = (i : ℕ) → mark_at h i ≡ Has Grey → Holds h.table.grey i
+GreyWaits h = (i : ℕ) → mark_at h i ≡ Has Grey → Contains h.table.grey i
 
 abbrev pub PhaseAt : Progress → HeapGraph → (ℕ → Type 0) → (ℕ → Type 0) → Type 0
-PhaseAt Idle h Root Unfinished = GreyWaits h × ((i : ℕ) → mark_at h i ≢ Has Black)
-PhaseAt (Marking s) h Root Unfinished = Tricolour (mark_at h) (edges h) (Holds h.table.grey) Root Unfinished (scan_of s)
-PhaseAt (Sweeping k) h Root Unfinished = GreyWaits h × ((i : ℕ) → i < k → mark_at h i ≢ Has Black)
+PhaseAt Idle h Root Pending = GreyWaits h × ((i : ℕ) → mark_at h i ≢ Has Black)
+PhaseAt (Marking s) h Root Pending = Tricolour (mark_at h) (edges h) (Contains h.table.grey) Root Pending (scan_of s)
+PhaseAt (Sweeping k) h Root Pending = GreyWaits h × ((i : ℕ) → i < k → mark_at h i ≢ Has Black)
 
 abbrev pub PhaseHolds : Progress → Machine → Type 0
-PhaseHolds p m = PhaseAt p m.heap (IsRoot m) (IsUnfinished m)
+PhaseHolds p m = PhaseAt p m.heap (IsRoot m) (IsPending m)
 
 -- The facts of the invariant, for any roots.
-pub record Sound (h : HeapGraph) (p : Progress) (Root Unfinished : ℕ → Type 0) : Type 0 where
+pub record Sound (h : HeapGraph) (p : Progress) (Root Pending : ℕ → Type 0) : Type 0 where
   pub roots_held : (i : ℕ) → Root i → HeldAt h p i
-  pub closed : (i : ℕ) (e : Edge) → HeldAt h p i → Holds (edges h i) e → HeldAt h p e.target
-  pub phase : PhaseAt p h Root Unfinished
+  pub closed : (i : ℕ) (e : Edge) → HeldAt h p i → Contains (edges h i) e → HeldAt h p e.target
+  pub phase : PhaseAt p h Root Pending
 
 pub record Invariant (m : Machine) : Type 0 where
   pub roots_held : (i : ℕ) → IsRoot m i → IsHeld m i
-  pub closed : (i : ℕ) (e : Edge) → IsHeld m i → Holds (edges m.heap i) e → IsHeld m e.target
+  pub closed : (i : ℕ) (e : Edge) → IsHeld m i → Contains (edges m.heap i) e → IsHeld m e.target
   pub phase : PhaseHolds m.progress m
 
 -- A heap whose slot was given back, and one whose slot has lost its first cell.

@@ -1,6 +1,6 @@
 -- What names say: serials stand in one slot each, and edges and roots name the serial of their slot.
 use Rattle.std.specs.Prelude.{◌≡◌, ◌≢◌, ◌≤◌, ℕ, length, Some, ◌⊎◌}
-use Rattle.tg_rights.specs.Membership.{Holds}
+use Rattle.tg_rights.specs.Membership.{Contains}
 use Rattle.tg_slots.specs.Table.{slot}
 use Rattle.tg_slots.specs.declared.slots.Occupant.{Occupant}
 use Rattle.tg_heap.specs.Graph.{HeapGraph, edges}
@@ -14,17 +14,17 @@ abbrev pub IsNamed : HeapGraph → ℕ → ℕ → Type 0
 IsNamed h i x = (o : Occupant) × (slot h.table i ≡ Some o) × (o.serial ≡ x)
 
 abbrev pub IsRootOf : Machine → ℕ → ℕ → Type 0
-IsRootOf m i x = Holds m.principals.items (record { serial = x; slot = i }) ⊎ Holds m.unfinished.items (Some (record { serial = x; slot = i }))
+IsRootOf m i x = Contains m.principals.items (record { serial = x; slot = i }) ⊎ Contains m.pending.items (Some (record { serial = x; slot = i }))
 
 pub record Names (h : HeapGraph) (p : Progress) (RootOf : ℕ → ℕ → Type 0) : Type 0 where
   pub once : (i j x : ℕ) → IsNamed h i x → IsNamed h j x → i ≡ j
-  pub edge : (i : ℕ) (e : Edge) → HeldAt h p i → Holds (edges h i) e → IsNamed h e.target e.serial
+  pub edge : (i : ℕ) (e : Edge) → HeldAt h p i → Contains (edges h i) e → IsNamed h e.target e.serial
   pub root : (i x : ℕ) → RootOf i x → IsNamed h i x
-  pub no_loop : (i : ℕ) (e : Edge) → HeldAt h p i → Holds (edges h i) e → e.target ≢ i
+  pub no_loop : (i : ℕ) (e : Edge) → HeldAt h p i → Contains (edges h i) e → e.target ≢ i
 
 -- The invariant of the store.
 pub record Whole (m : Machine) : Type 0 where
-  pub seats : length m.unfinished.items ≡ 64
+  pub seats : length m.pending.items ≡ 64
   pub few : length m.principals.items ≤ 64
   pub kept : Invariant m
   pub names : Names m.heap m.progress (IsRootOf m)

@@ -24,8 +24,8 @@ pub record Blank (m : Machine) (slots cells : ℕ) : Type 0 where
   pub lists : (i : ℕ) → edges m.heap i ≡ []
   pub progress : m.progress ≡ Idle
   pub principals : m.principals.items ≡ []
-  pub seats : length m.unfinished.items ≡ 64
-  pub idle : (k : ℕ) → get_or m.unfinished.items k None ≡ None
+  pub seats : length m.pending.items ≡ 64
+  pub idle : (k : ℕ) → get_or m.pending.items k None ≡ None
 
 -- One more principal, white, in a slot that was free.
 pub record PrincipalOpened (v w : Stored) (serial : ℕ) : Type 0 where

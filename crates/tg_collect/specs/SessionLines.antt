@@ -18,16 +18,16 @@ use Rattle.tg_collect.specs.Machine.{new_colour, progress_without, with_vertex}
 
 -- The seat's target is shaded and the seat is cleared.
 abbrev pub Settles : Machine → ℕ → Option ℕ → Machine → Type 0
-Settles m seat None n = (get_or m.unfinished.items seat None ≡ None) × (n ≡ m)
-Settles m seat (Some serial) n = (slot : ℕ) × (get_or m.unfinished.items seat None ≡ Some (record { serial = serial; slot = slot }))
-    × (n.unfinished.items ≡ set m.unfinished.items seat None)
-    × (n ≡ record m { heap = record m.heap { table = shaded m.heap.table slot }; unfinished = n.unfinished })
+Settles m seat None n = (get_or m.pending.items seat None ≡ None) × (n ≡ m)
+Settles m seat (Some serial) n = (slot : ℕ) × (get_or m.pending.items seat None ≡ Some (record { serial = serial; slot = slot }))
+    × (n.pending.items ≡ set m.pending.items seat None)
+    × (n ≡ record m { heap = record m.heap { table = shaded m.heap.table slot }; pending = n.pending })
 
--- An edge gains rights and its target is the seat's unfinished one; or the edge is new and no cell is free.
+-- An edge gains rights and its target is the seat's pending one; or the edge is new and no cell is free.
 abbrev pub Adds : {U : Type 0} → Machine → (seat id : ℕ) → Root → Letters → Result U HeapFull → Machine → Type 0
 Adds m seat id target rights (Ok t) n = (o : Occupant) × (slot m.heap.table target.slot ≡ Some o) × IsAdded m.heap n.heap id target.slot o.serial rights
-    × (n.unfinished.items ≡ set m.unfinished.items seat (Some target))
-    × (n ≡ record m { heap = n.heap; unfinished = n.unfinished })
+    × (n.pending.items ≡ set m.pending.items seat (Some target))
+    × (n ≡ record m { heap = n.heap; pending = n.pending })
 Adds m seat id target rights (Err e) n = (e ≡ full.Cells) × (o : Occupant) × (slot m.heap.table target.slot ≡ Some o) × HasNone (edges m.heap id) o.serial × (m.heap.free_cells ≡ 0) × (n ≡ m)
 
 -- Where the cursor stands after an edge has lost rights.

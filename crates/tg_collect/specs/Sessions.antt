@@ -14,9 +14,9 @@ use Rattle.tg_collect.specs.declared.note.Phase.TheVariants.{Sweep}
 use Rattle.tg_collect.specs.Stored.{Stored}
 use Rattle.tg_collect.specs.Views.{IsEdgeIn, place}
 
--- A seat's unfinished target.
+-- A seat's pending target.
 abbrev pub pending_of : Stored → ℕ → Option ℕ
-pending_of v seat = get_or v.unfinished seat None
+pending_of v seat = get_or v.pending seat None
 
 -- A white slot turns grey, and others stay.
 abbrev pub shaded_mark : Mark → Mark
@@ -36,7 +36,7 @@ pub record TargetShaded (v w : Stored) (seat x : ℕ) : Type 0 where
   pub place : place v slot ≡ Some x
   pub left : w.left ≤ v.left
   pub is : w ≡ record v {
-    unfinished = set v.unfinished seat None;
+    pending = set v.pending seat None;
     grey = with_grey v x;
     marks = set v.marks slot (shaded_mark (get_or v.marks slot Free));
     left = w.left;
@@ -53,7 +53,7 @@ pub record EdgeStored (v w : Stored) (seat x y : ℕ) (rights : Letters) : Type 
   pub left : w.left ≤ v.left
   pub is : w ≡ record v {
     triples = finset.union v.triples (edge x rights y);
-    unfinished = set v.unfinished seat (Some y);
+    pending = set v.pending seat (Some y);
     free_cells = w.free_cells;
     left = w.left;
   }
@@ -80,7 +80,7 @@ pub record VertexStored (v w : Stored) (seat x serial : ℕ) (kind : Kind) (text
     black = with_black v.black serial colour;
     places = set v.places slot (Some serial);
     marks = set v.marks slot (Has colour);
-    unfinished = set v.unfinished seat (Some serial);
+    pending = set v.pending seat (Some serial);
     free_slots = w.free_slots;
     free_cells = w.free_cells;
     left = w.left;

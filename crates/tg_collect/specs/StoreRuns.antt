@@ -1,6 +1,6 @@
 -- Runs of a store: session steps and collector steps in any order.
 use Rattle.std.specs.Prelude.{◌≡◌, ℕ, ◌+◌, ◌<◌, ◌≤◌, length, Option, Some, ◌⊎◌, true, false}
-use Rattle.tg_rights.specs.Membership.{Holds}
+use Rattle.tg_rights.specs.Membership.{Contains}
 use Rattle.tg_graph.specs.Paths.{Live}
 use Rattle.tg_collect.specs.declared.note.Phase.TheVariants.{Idle}
 use Rattle.tg_collect.specs.Runs as runs
@@ -14,7 +14,7 @@ pub record Acted (v w : Stored) (new target : Option ℕ) : Type 0 where
   pub parked : w.parked ≡ v.parked
   pub slots : length w.marks ≡ length v.marks
   pub cells : w.cells ≡ v.cells
-  pub unfinished : (x : ℕ) → Holds w.unfinished (Some x) → Holds v.unfinished (Some x) ⊎ (target ≡ Some x)
+  pub pending : (x : ℕ) → Contains w.pending (Some x) → Contains v.pending (Some x) ⊎ (target ≡ Some x)
   pub vertices : (x : ℕ) → IsHeldIn w x → IsHeldIn v x ⊎ (new ≡ Some x)
   pub edges : (x y : ℕ) → IsEdgeIn w x y → IsEdgeIn v x y ⊎ (target ≡ Some y)
   pub grey : (x : ℕ) → InSet w.grey x → InSet v.grey x ⊎ IsRootIn v x

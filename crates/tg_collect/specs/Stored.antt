@@ -27,7 +27,7 @@ use Rattle.tg_collect.specs.Machine.{phase_of}
 
 -- The held vertices and their edges; the serials that are condemned and not yet swept; the grey and the black held ones;
 -- by slot the serial that is held there, and whether the slot is free or its colour; the phase; the principals and the
--- unfinished target of each seat; free slots, free cells and all cells; and what is left of a cycle.
+-- pending target of each seat; free slots, free cells and all cells; and what is left of a cycle.
 pub record Stored : Type 0 where
   pub vertices : finmap.FinMap nat_cmp Vertex
   pub triples : Triples
@@ -38,7 +38,7 @@ pub record Stored : Type 0 where
   pub marks : List Mark
   pub phase : Phase
   pub principals : List ℕ
-  pub unfinished : List (Option ℕ)
+  pub pending : List (Option ℕ)
   pub free_slots : ℕ
   pub free_cells : ℕ
   pub cells : ℕ
@@ -180,7 +180,7 @@ stored m = record {
   marks = map mark_of m.heap.table.slots;
   phase = phase_of m.progress;
   principals = principals_of m.principals.items;
-  unfinished = targets_of m.unfinished.items;
+  pending = targets_of m.pending.items;
   free_slots = length m.heap.table.free;
   free_cells = m.heap.free_cells;
   cells = m.heap.cell_count;

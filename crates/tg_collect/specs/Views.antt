@@ -5,7 +5,7 @@ use Rattle.std.specs.FinMap as finmap
 use Rattle.std.specs.FinSet as finset
 use Rattle.std.specs.Ordering.{nat_cmp}
 use Rattle.tg_rights.specs.Letters.{Right}
-use Rattle.tg_rights.specs.Membership.{Holds}
+use Rattle.tg_rights.specs.Membership.{Contains}
 use Rattle.tg_slots.specs.Table.{Free}
 use Rattle.tg_graph.specs.Triples.{Triple}
 use Rattle.tg_graph.specs.Paths.{Live}
@@ -25,9 +25,9 @@ IsHeldIn v x = finmap.contains_key v.vertices x ≡ true
 abbrev pub IsEdgeIn : Stored → ℕ → ℕ → Type 0
 IsEdgeIn v x y = (r : Right) × (finset.contains v.triples (record { from = x; right = r; to = y }) ≡ true)
 
--- The roots: principals and unfinished targets.
+-- The roots: principals and pending targets.
 abbrev pub IsRootIn : Stored → ℕ → Type 0
-IsRootIn v x = Holds v.principals x ⊎ Holds v.unfinished (Some x)
+IsRootIn v x = Contains v.principals x ⊎ Contains v.pending (Some x)
 
 -- The serial that a slot holds, where it holds one.
 abbrev pub place : Stored → ℕ → Option ℕ
@@ -50,7 +50,7 @@ pub record IsStore (v : Stored) : Type 0 where
   pub placed : (i x : ℕ) → place v i ≡ Some x → IsHeldIn v x
   pub has_place : (x : ℕ) → IsHeldIn v x → (i : ℕ) × (place v i ≡ Some x)
   pub one_place : (i j x : ℕ) → place v i ≡ Some x → place v j ≡ Some x → i ≡ j
-  pub seats : length v.unfinished ≡ 64
+  pub seats : length v.pending ≡ 64
   pub few : length v.principals ≤ 64
   pub slots : (next : ℕ) → v.free_slots + vertex_count (held v next) + finset.len v.parked ≡ length v.marks
   pub few_edges : (next : ℕ) → v.free_cells + edge_count (held v next) ≤ v.cells
@@ -87,13 +87,13 @@ most_marks Sweep = 1
 pub record ChangesMarks (v w : Stored) (most : ℕ) : Type 0 where
   pub slots : List ℕ
   pub count : length slots ≤ most
-  pub others : (i : ℕ) → (Holds slots i → ⊥) → get_or w.marks i Free ≡ get_or v.marks i Free
+  pub others : (i : ℕ) → (Contains slots i → ⊥) → get_or w.marks i Free ≡ get_or v.marks i Free
 
 -- One collector step, the slots that it freed, and whether it ended a cycle.
 pub record Collected (v w : Stored) (count : ℕ) (ended : Bool) : Type 0 where
   pub phases : Follows v.phase w.phase ended
   pub principals : w.principals ≡ v.principals
-  pub unfinished : w.unfinished ≡ v.unfinished
+  pub pending : w.pending ≡ v.pending
   pub cells : w.cells ≡ v.cells
   pub vertices : Stays v.phase w.phase → w.vertices ≡ v.vertices
   pub triples : Stays v.phase w.phase → w.triples ≡ v.triples

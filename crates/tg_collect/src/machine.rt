@@ -6,7 +6,7 @@ ghost use Rattle.tg_slots.specs.Table.{Table, Free, Has, mark, slot, with_text};
 ghost use Rattle.tg_slots.specs.declared.slots.Occupant.{Occupant};
 ghost use Rattle.tg_cells.specs.Lists.{Edge, first_cell, HasNone, Found};
 ghost use Rattle.tg_heap.specs.Graph.{edges, mark_at, shaded, painted, IsHeap};
-ghost use Rattle.tg_collect.specs.Machine.{Invariant, IsUnfinished, IsReached, IsHeld, IsRoot, without_slot, with_list, progress_without, phase_of, has_passed, colour_ahead};
+ghost use Rattle.tg_collect.specs.Machine.{Invariant, IsPending, IsReached, IsHeld, IsRoot, without_slot, with_list, progress_without, phase_of, has_passed, colour_ahead};
 ghost use Rattle.tg_collect.specs.Lines.{Steps};
 ghost use Rattle.tg_collect.specs.SessionLines.{Adds, Removes, Places, Rewrites, Settles};
 
@@ -42,7 +42,7 @@ pub(crate) struct Machine {
     pub heap: Heap,
     pub progress: Progress,
     pub principals: Vec<Root>,
-    pub unfinished: Vec<Option<Root>>,
+    pub pending: Vec<Option<Root>>,
 }
 
 impl Machine {
@@ -65,7 +65,7 @@ impl Machine {
         requires at { self.old.progress ≡ Progress.Marking None }
         requires none_grey { self.old.heap.table.grey ≡ [] }
         requires kept { Invariant self.old }
-        requires settled { (i : ℕ) → IsUnfinished self.old i → mark_at self.old.heap i ≡ Has Colour.White → ⊥ }
+        requires settled { (i : ℕ) → IsPending self.old i → mark_at self.old.heap i ≡ Has Colour.White → ⊥ }
         ensures kept { Invariant self.new }
         ensures line { Steps self.old self.new 0 false }
         ensures step { self.new ≡ record self.old { progress = Progress.Sweeping 0 } }
@@ -172,16 +172,16 @@ impl Machine {
         self.progress = Progress::Idle;
     }
 
-    /// Shades the unfinished target of the least seat that has a white one, or answers that there is none.
-    fn shade_unfinished(&mut self) -> bool
+    /// Shades the pending target of the least seat that has a white one, or answers that there is none.
+    fn shade_pending(&mut self) -> bool
         requires at { self.old.progress ≡ Progress.Marking None }
         requires none_grey { self.old.heap.table.grey ≡ [] }
         requires kept { Invariant self.old }
         ensures kept { Invariant self.new }
         ensures line { OnTrue result (Steps self.old self.new 0 false) }
         ensures step { MatchBool result
-            ((i : ℕ) × IsUnfinished self.old i × (mark_at self.old.heap i ≡ Has Colour.White) × (self.new ≡ record self.old { heap = record self.old.heap { table = shaded self.old.heap.table i } }))
-            (((i : ℕ) → IsUnfinished self.old i → mark_at self.old.heap i ≡ Has Colour.White → ⊥) × (self.new ≡ self.old)) }
+            ((i : ℕ) × IsPending self.old i × (mark_at self.old.heap i ≡ Has Colour.White) × (self.new ≡ record self.old { heap = record self.old.heap { table = shaded self.old.heap.table i } }))
+            (((i : ℕ) → IsPending self.old i → mark_at self.old.heap i ≡ Has Colour.White → ⊥) × (self.new ≡ self.old)) }
     {
         match self.white_target() {
             None => false,
@@ -192,15 +192,15 @@ impl Machine {
         }
     }
 
-    /// The unfinished target of the least seat that has a white one.
+    /// The pending target of the least seat that has a white one.
     fn white_target(&self) -> Option<u32>
         requires kept { Invariant self.now }
         ensures { MatchOption result
-            ((i : ℕ) → IsUnfinished self.now i → mark_at self.now.heap i ≡ Has Colour.White → ⊥)
-            (λ i. IsUnfinished self.now i × (mark_at self.now.heap i ≡ Has Colour.White)) }
+            ((i : ℕ) → IsPending self.now i → mark_at self.now.heap i ≡ Has Colour.White → ⊥)
+            (λ i. IsPending self.now i × (mark_at self.now.heap i ≡ Has Colour.White)) }
     {
-        for seat in 0..self.unfinished.len() {
-            if let Some(root) = self.unfinished[seat] {
+        for seat in 0..self.pending.len() {
+            if let Some(root) = self.pending[seat] {
                 if let Some(Colour::White) = self.heap.colour(root.slot) {
                     return Some(root.slot);
                 }
@@ -209,24 +209,24 @@ impl Machine {
         None
     }
 
-    /// Shades the seat's unfinished target and clears it.
+    /// Shades the seat's pending target and clears it.
     pub fn shade(&mut self, seat: usize) -> Option<u64>
-        requires seat { seat < length self.old.unfinished.items }
+        requires seat { seat < length self.old.pending.items }
         requires kept { Invariant self.old }
         ensures kept { Invariant self.new }
         ensures step { Settles self.old seat result self.new }
     {
-        match self.unfinished[seat] {
+        match self.pending[seat] {
             None => None,
             Some(root) => {
                 self.heap.shade(root.slot);
-                self.unfinished[seat] = None;
+                self.pending[seat] = None;
                 Some(root.serial)
             }
         }
     }
 
-    /// Joins rights to the label of the edge to a held slot, and makes that the seat's unfinished target.
+    /// Joins rights to the label of the edge to a held slot, and makes that the seat's pending target.
     pub fn add_edge(
         &mut self,
         seat: usize,
@@ -235,8 +235,8 @@ impl Machine {
         rights: Rights,
     ) -> Result<(), HeapFull>
         requires kept { Invariant self.old }
-        requires seat { seat < length self.old.unfinished.items }
-        requires idle_seat { get_or self.old.unfinished.items seat None ≡ None }
+        requires seat { seat < length self.old.pending.items }
+        requires idle_seat { get_or self.old.pending.items seat None ≡ None }
         requires owner { IsHeld self.old id }
         requires target { IsHeld self.old target.slot }
         requires some { is_none rights ≡ false }
@@ -247,7 +247,7 @@ impl Machine {
         match self.heap.add_rights(id, target.slot, rights) {
             Ok(()) => {
                 self.heap.soundness();
-                self.unfinished[seat] = Some(target);
+                self.pending[seat] = Some(target);
                 Ok(())
             }
             Err(full) => Err(full),
@@ -379,7 +379,7 @@ impl Machine {
         ensures kept { Invariant self.new }
         ensures line { Steps self.old self.new 0 false }
     {
-        if !self.take_grey() && !self.shade_unfinished() {
+        if !self.take_grey() && !self.shade_pending() {
             self.start_sweep();
         }
     }

@@ -52,12 +52,12 @@ impl Machine {
         let heap = Heap::new(alloc, slots, cells)?;
         heap.soundness();
         let principals = Vec::with_capacity(alloc, MOST)?;
-        let unfinished = empty_seats(alloc)?;
+        let pending = empty_seats(alloc)?;
         Ok(Machine {
             heap,
             progress: Progress::Idle,
             principals,
-            unfinished,
+            pending,
         })
     }
 
@@ -161,7 +161,7 @@ impl Machine {
         ensures opened { EdgeOpened (stored self.old) (stored self.new) (serial_at (stored self.old) id) target.serial rights }
     {
         self.link_new(0, id, target, rights);
-        self.unfinished[0] = None;
+        self.pending[0] = None;
     }
 }
 

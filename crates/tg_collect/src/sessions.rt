@@ -3,7 +3,7 @@ ghost use Rattle.std.specs.Prelude.{◌≡◌, ◌≢◌, ℕ, ◌<◌, ◌≤�
 ghost use Rattle.std.specs.Option.{option_map};
 ghost use Rattle.std.specs.FinMap as finmap;
 ghost use Rattle.tg_rights.specs.Letters.{is_none, includes, none};
-ghost use Rattle.tg_rights.specs.Membership.{Holds};
+ghost use Rattle.tg_rights.specs.Membership.{Contains};
 ghost use Rattle.tg_graph.specs.Protection.{label};
 ghost use Rattle.tg_graph.specs.Rules.{edges_of};
 ghost use Rattle.tg_heap.specs.Graph.{edges};
@@ -21,7 +21,7 @@ impl Machine {
     /// The slot of a principal.
     pub fn principal(&self, serial: u64) -> Option<u32>
         requires { Whole self.now }
-        ensures { MatchOption result (Holds (stored self.now).principals serial → ⊥) (λ id. Holds (stored self.now).principals serial × (place (stored self.now) id ≡ Some serial)) }
+        ensures { MatchOption result (Contains (stored self.now).principals serial → ⊥) (λ id. Contains (stored self.now).principals serial × (place (stored self.now) id ≡ Some serial)) }
     {
         for root in &self.principals {
             if root.serial == serial {
@@ -96,13 +96,13 @@ impl Machine {
         Ok(list)
     }
 
-    /// The seat's unfinished target.
+    /// The seat's pending target.
     pub fn pending(&self, seat: u64) -> Option<u64>
         requires whole { Whole self.now }
         requires seat { seat < 64 }
         ensures { result ≡ pending_of (stored self.now) seat }
     {
-        match self.unfinished[seat as usize] {
+        match self.pending[seat as usize] {
             None => None,
             Some(root) => Some(root.serial),
         }

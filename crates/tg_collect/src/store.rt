@@ -4,7 +4,7 @@ ghost use Rattle.std.specs.Bool.{OnFalse};
 ghost use Rattle.std.specs.Option.{option_map};
 ghost use Rattle.std.specs.FinMap as finmap;
 ghost use Rattle.tg_rights.specs.Letters.{is_none, includes, none};
-ghost use Rattle.tg_rights.specs.Membership.{Holds};
+ghost use Rattle.tg_rights.specs.Membership.{Contains};
 ghost use Rattle.tg_graph.specs.Protection.{label};
 ghost use Rattle.tg_graph.specs.Rules.{edges_of};
 ghost use Rattle.tg_collect.specs.Stored.{Stored, held};
@@ -21,7 +21,7 @@ use tg_graph::Graph;
 use tg_heap::HeapFull;
 use tg_rights::{Kind, Rights, Text};
 
-/// Vertices with their labelled edges in slots and cells, the principals, one unfinished target per seat, and the
+/// Vertices with their labelled edges in slots and cells, the principals, one pending target per seat, and the
 /// collector beside them. Contracts see what is held as a protection graph, and of the collector its phase, the colours,
 /// what is parked and what is left of a cycle.
 ///
@@ -72,7 +72,7 @@ impl Store {
 
     /// The slot of a principal, by its serial; none where no principal has it.
     pub fn principal(&self, serial: u64) -> Option<u32>
-        ensures { MatchOption result (Holds self.now.principals serial → ⊥) (λ id. Holds self.now.principals serial × (place self.now id ≡ Some serial)) }
+        ensures { MatchOption result (Contains self.now.principals serial → ⊥) (λ id. Contains self.now.principals serial × (place self.now id ≡ Some serial)) }
     {
         self.machine.principal(serial)
     }
@@ -112,7 +112,7 @@ impl Store {
         self.machine.edges(alloc, id)
     }
 
-    /// The seat's unfinished target.
+    /// The seat's pending target.
     pub fn pending(&self, seat: u64) -> Option<u64>
         requires { seat < 64 }
         ensures { result ≡ pending_of self.now seat }
@@ -141,7 +141,7 @@ impl Store {
         self.machine.progress.phase()
     }
 
-    /// Joins rights to the label of an edge, and makes its target the seat's unfinished one. The only error is Cells,
+    /// Joins rights to the label of an edge, and makes its target the seat's pending one. The only error is Cells,
     /// where the edge is new and no cell is free; all is then as before.
     pub fn store_edge(
         &mut self,
@@ -165,7 +165,7 @@ impl Store {
     }
 
     /// Puts a new vertex into a slot, with an edge to it from the vertex in the slot `id`, and makes it the seat's
-    /// unfinished target. Slots is the error where no slot is free, else Cells where no cell is; all is then as before and
+    /// pending target. Slots is the error where no slot is free, else Cells where no cell is; all is then as before and
     /// the text comes back. The serial is neither held nor parked.
     pub fn store_vertex(
         &mut self,
@@ -213,7 +213,7 @@ impl Store {
         self.machine.replace_text(id, text)
     }
 
-    /// Shades the seat's unfinished target, if it has one, and clears it; answers it.
+    /// Shades the seat's pending target, if it has one, and clears it; answers it.
     pub fn shade(&mut self, seat: u64) -> Option<u64>
         requires { seat < 64 }
         ensures shaded { Shaded self.old self.new seat result }

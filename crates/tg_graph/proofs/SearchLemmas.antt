@@ -3,8 +3,8 @@ use Rattle.std.proofs.Common.{◌≡◌, ℕ, ◌+◌, ◌≤◌, ◌∷◌, [],
 use Rattle.std.specs.FinMap as map
 use Rattle.std.proofs.lemmas.Bool.{eqb-true, eq-eqb, or_cases, or_left, or_right}
 use Rattle.tg_rights.specs.Letters.{Letters}
-use Rattle.tg_rights.specs.Membership.{Holds}
-use Rattle.tg_rights.proofs.MembershipLemmas.{holds_append, holds_left, holds_right}
+use Rattle.tg_rights.specs.Membership.{Contains}
+use Rattle.tg_rights.proofs.MembershipLemmas.{contains_append, contains_left, contains_right}
 use Rattle.tg_graph.specs.declared.search.Search.{Search}
 use Rattle.tg_graph.specs.Protection.{Protection, IsGraph, IsVertex, IsEdge, label}
 use Rattle.tg_graph.specs.Paths.{Leads, Reaches}
@@ -25,7 +25,7 @@ unseen-le f g more [] = omega arith
 unseen-le f g more (v ∷ vs) = omega (arith, counts (f v) (g v) (more v), unseen-le f g more vs)
 
 -- and where one of the vertices is seen that was not, less is
-unseen-lt : (f g : ℕ → Bool) (z : ℕ) → ((q : ℕ) → f q ≡ true → g q ≡ true) → f z ≡ false → g z ≡ true → (vs : List ℕ) → Holds vs z → unseen g vs + 1 ≤ unseen f vs
+unseen-lt : (f g : ℕ → Bool) (z : ℕ) → ((q : ℕ) → f q ≡ true → g q ≡ true) → f z ≡ false → g z ≡ true → (vs : List ℕ) → Contains vs z → unseen g vs + 1 ≤ unseen f vs
 unseen-lt f g z more was is [] h = absurd h
 unseen-lt f g z more was is (v ∷ vs) (inl e) =
     let new : ◌≡◌ {A = ℕ} (cond (g v) 0 1) 0 = ap (λ b. cond b 0 1) (ap g (sym e) ∙ is) in
@@ -39,10 +39,10 @@ pub record Spreading (G : Protection) (s0 s : Search) (v : ℕ) (es rest : List 
   pub begun : has_seen s s.from ≡ true
   pub at : has_seen s v ≡ true
   pub reached : (q : ℕ) → has_seen s q ≡ true → Reaches G s.from q
-  pub listed : (q : ℕ) → Holds s.left.items q → has_seen s q ≡ true
-  pub closed : (q z : ℕ) → has_seen s q ≡ true → IsEdge G q z → (q ≡ v) ⊎ (Holds s.left.items q ⊎ (has_seen s z ≡ true))
-  pub passed : (e : ℕ × Letters) → Holds es e → Holds rest e ⊎ (has_seen s e.0 ≡ true)
-  pub edges : (e : ℕ × Letters) → Holds rest e → IsEdge G v e.0
+  pub listed : (q : ℕ) → Contains s.left.items q → has_seen s q ≡ true
+  pub closed : (q z : ℕ) → has_seen s q ≡ true → IsEdge G q z → (q ≡ v) ⊎ (Contains s.left.items q ⊎ (has_seen s z ≡ true))
+  pub passed : (e : ℕ × Letters) → Contains es e → Contains rest e ⊎ (has_seen s e.0 ≡ true)
+  pub edges : (e : ℕ × Letters) → Contains rest e → IsEdge G v e.0
   pub work : work_left G s ≤ work_left G s0
 
 -- v is taken from the end of the list
@@ -53,9 +53,9 @@ spreads_from G s t v searching from seen popped = record {
   begun = seen t.from ∙ ap (has_seen s) from ∙ searching.begun;
   at = seen v ∙ at;
   reached = λ q h. subst (λ f. Reaches G f q) (sym from) (searching.reached q (sym (seen q) ∙ h));
-  listed = λ q h. seen q ∙ searching.listed q (subst (λ (l : List ℕ). Holds l q) (sym popped) (holds_left t.left.items (v ∷ []) q h));
+  listed = λ q h. seen q ∙ searching.listed q (subst (λ (l : List ℕ). Contains l q) (sym popped) (contains_left t.left.items (v ∷ []) q h));
   closed = λ q z h e. elim (searching.closed q z (sym (seen q) ∙ h) e) [
-    | inl waits ↦ elim (holds_append t.left.items (v ∷ []) q (subst (λ (l : List ℕ). Holds l q) popped waits)) [
+    | inl waits ↦ elim (contains_append t.left.items (v ∷ []) q (subst (λ (l : List ℕ). Contains l q) popped waits)) [
       | inl left ↦ inr (inl left)
       | inr last ↦ elim last [ inl is ↦ inl is | inr never ↦ absurd never ]
     ]
@@ -66,7 +66,7 @@ spreads_from G s t v searching from seen popped = record {
   work = omega arith;
 } where
   at : has_seen s v ≡ true
-  at = searching.listed v (subst (λ (l : List ℕ). Holds l v) (sym popped) (holds_right t.left.items (v ∷ []) v (inl refl)))
+  at = searching.listed v (subst (λ (l : List ℕ). Contains l v) (sym popped) (contains_right t.left.items (v ∷ []) v (inl refl)))
 
 module _ (G : Protection) (g : IsGraph G) (s0 s t : Search) (v : ℕ) (es rest : List (ℕ × Letters)) (e : ℕ × Letters) (spreading : Spreading G s0 s v es (e ∷ rest)) (from : t.from ≡ s.from) (adds : Adds s t e.0) where
   more : (q : ℕ) → has_seen s q ≡ true → has_seen t q ≡ true
@@ -84,26 +84,26 @@ module _ (G : Protection) (g : IsGraph G) (s0 s t : Search) (v : ℕ) (es rest :
   reached_next : Reaches G s.from e.0
   reached_next = let path = spreading.reached v spreading.at in (path.0 ++ e.0 ∷ [], (path.1.0, leads_on G path.0 s.from v e.0 path.1.1 known))
 
-  kept_left : (q : ℕ) → Holds s.left.items q → Holds t.left.items q
-  kept_left q h = subst (λ (l : List ℕ). Holds l q) (sym adds.left) (either_way (has_seen s e.0)) where
-    either_way : (b : Bool) → Holds (cond b s.left.items (s.left.items ++ e.0 ∷ [])) q
+  kept_left : (q : ℕ) → Contains s.left.items q → Contains t.left.items q
+  kept_left q h = subst (λ (l : List ℕ). Contains l q) (sym adds.left) (either_way (has_seen s e.0)) where
+    either_way : (b : Bool) → Contains (cond b s.left.items (s.left.items ++ e.0 ∷ [])) q
     either_way true = h
-    either_way false = holds_left s.left.items (e.0 ∷ []) q h
+    either_way false = contains_left s.left.items (e.0 ∷ []) q h
 
-  new_left : (q : ℕ) → Holds t.left.items q → Holds s.left.items q ⊎ (q ≡ e.0)
-  new_left q h = either_way (has_seen s e.0) (subst (λ (l : List ℕ). Holds l q) adds.left h) where
-    either_way : (b : Bool) → Holds (cond b s.left.items (s.left.items ++ e.0 ∷ [])) q → Holds s.left.items q ⊎ (q ≡ e.0)
+  new_left : (q : ℕ) → Contains t.left.items q → Contains s.left.items q ⊎ (q ≡ e.0)
+  new_left q h = either_way (has_seen s e.0) (subst (λ (l : List ℕ). Contains l q) adds.left h) where
+    either_way : (b : Bool) → Contains (cond b s.left.items (s.left.items ++ e.0 ∷ [])) q → Contains s.left.items q ⊎ (q ≡ e.0)
     either_way true h = inl h
-    either_way false h = elim (holds_append s.left.items (e.0 ∷ []) q h) [ inl old ↦ inl old | inr last ↦ elim last [ inl is ↦ inr is | inr never ↦ absurd never ] ]
+    either_way false h = elim (contains_append s.left.items (e.0 ∷ []) q h) [ inl old ↦ inl old | inr last ↦ elim last [ inl is ↦ inr is | inr never ↦ absurd never ] ]
 
-  waits : has_seen s e.0 ≡ false → Holds t.left.items e.0
+  waits : has_seen s e.0 ≡ false → Contains t.left.items e.0
   waits was =
       let is : t.left.items ≡ s.left.items ++ e.0 ∷ [] = adds.left ∙ ap (λ b. cond b s.left.items (s.left.items ++ e.0 ∷ [])) was in
-      subst (λ (l : List ℕ). Holds l e.0) (sym is) (holds_right s.left.items (e.0 ∷ []) e.0 (inl refl))
+      subst (λ (l : List ℕ). Contains l e.0) (sym is) (contains_right s.left.items (e.0 ∷ []) e.0 (inl refl))
 
-  closed_new : (z : ℕ) → IsEdge G e.0 z → (e.0 ≡ v) ⊎ (Holds t.left.items e.0 ⊎ (has_seen t z ≡ true))
+  closed_new : (z : ℕ) → IsEdge G e.0 z → (e.0 ≡ v) ⊎ (Contains t.left.items e.0 ⊎ (has_seen t z ≡ true))
   closed_new z edge = by (has_seen s e.0) refl where
-    by : (b : Bool) → has_seen s e.0 ≡ b → (e.0 ≡ v) ⊎ (Holds t.left.items e.0 ⊎ (has_seen t z ≡ true))
+    by : (b : Bool) → has_seen s e.0 ≡ b → (e.0 ≡ v) ⊎ (Contains t.left.items e.0 ⊎ (has_seen t z ≡ true))
     by true was = elim (spreading.closed e.0 z was edge) [
       | inl is ↦ inl is
       | inr rest ↦ elim rest [ inl left ↦ inr (inl (kept_left e.0 left)) | inr there ↦ inr (inr (more z there)) ]
@@ -128,7 +128,7 @@ module _ (G : Protection) (g : IsGraph G) (s0 s t : Search) (v : ℕ) (es rest :
     reached = λ q h. subst (λ f. Reaches G f q) (sym from) (elim (either q h) [ inl is ↦ subst (Reaches G s.from) (sym is) reached_next | inr old ↦ spreading.reached q old ]);
     listed = λ q h. elim (new_left q h) [ inl old ↦ more q (spreading.listed q old) | inr is ↦ ap (has_seen t) is ∙ new ];
     closed = λ q z h edge. elim (either q h) [
-      | inl is ↦ subst (λ p. (p ≡ v) ⊎ (Holds t.left.items p ⊎ (has_seen t z ≡ true))) (sym is) (closed_new z (subst (λ p. IsEdge G p z) is edge))
+      | inl is ↦ subst (λ p. (p ≡ v) ⊎ (Contains t.left.items p ⊎ (has_seen t z ≡ true))) (sym is) (closed_new z (subst (λ p. IsEdge G p z) is edge))
       | inr old ↦ elim (spreading.closed q z old edge) [
         | inl here ↦ inl here
         | inr rest ↦ elim rest [ inl left ↦ inr (inl (kept_left q left)) | inr there ↦ inr (inr (more z there)) ]
@@ -158,13 +158,13 @@ spread G g s0 s v spreading = record {
 pub all_reached : (G : Protection) (s : Search) → IsSearching G s → s.left.items ≡ [] → (later : List ℕ) (x y : ℕ) → has_seen s x ≡ true → Leads G x later y → has_seen s y ≡ true
 all_reached G s searching none [] x y h e = ap (has_seen s) (sym e) ∙ h
 all_reached G s searching none (z ∷ zs) x y h path =
-    all_reached G s searching none zs z y (elim (searching.closed x z h path.0) [ inl waits ↦ absurd (subst (λ (l : List ℕ). Holds l x) none waits) | inr there ↦ there ]) path.1
+    all_reached G s searching none zs z y (elim (searching.closed x z h path.0) [ inl waits ↦ absurd (subst (λ (l : List ℕ). Contains l x) none waits) | inr there ↦ there ]) path.1
 
 -- the search begins at a vertex
 pub starts : (G : Protection) (x : ℕ) (s : Search) → IsVertex G x → Starts x s → IsSearching G s
 starts G x s there begin = record {
   begun = begin.seen s.from ∙ eq-eqb s.from x begin.begin;
   reached = λ q h. let is = eqb-true q x (sym (begin.seen q) ∙ h) in subst (λ f. Reaches G f q) (sym begin.begin) ([], (there, sym is));
-  listed = λ q h. elim (subst (λ (l : List ℕ). Holds l q) begin.left h) [ inl is ↦ begin.seen q ∙ eq-eqb q x is | inr never ↦ absurd never ];
-  closed = λ q z h e. inl (subst (λ (l : List ℕ). Holds l q) (sym begin.left) (inl (eqb-true q x (sym (begin.seen q) ∙ h))));
+  listed = λ q h. elim (subst (λ (l : List ℕ). Contains l q) begin.left h) [ inl is ↦ begin.seen q ∙ eq-eqb q x is | inr never ↦ absurd never ];
+  closed = λ q z h e. inl (subst (λ (l : List ℕ). Contains l q) (sym begin.left) (inl (eqb-true q x (sym (begin.seen q) ∙ h))));
 }

@@ -6,7 +6,7 @@ use Rattle.std.specs.FinMap.Entries.{is_sorted}
 use Rattle.std.specs.FinMap as map
 use Rattle.std.specs.FinSet as set
 use Rattle.tg_rights.specs.Letters.{Letters, has, joined as joined_rights, without, is_none}
-use Rattle.tg_rights.specs.Membership.{Holds}
+use Rattle.tg_rights.specs.Membership.{Contains}
 use Rattle.tg_rights.specs.declared.kind.Kind.TheVariants as kind
 use Rattle.tg_rights.specs.declared.command.Command.{Command}
 use Rattle.tg_rights.specs.declared.outcome.Outcome.{Outcome}
@@ -77,14 +77,14 @@ pub record IsOpened (c : Config) : Type 0 where
   pub subjects : (v : ℕ) → IsVertex (opening c) v → vertex (opening c) v ≡ Some (record { kind = kind.Subject; text = [] })
   pub next : (opening c).next ≡ c.next
   pub triples : (t : Triple) →
-      (set.contains (opening c).triples t ≡ true) ↔ ((e : Edge) × Holds c.edges.items e × (e.0 ≡ t.from) × (e.2 ≡ t.to) × (has e.1 t.right ≡ true))
+      (set.contains (opening c).triples t ≡ true) ↔ ((e : Edge) × Contains c.edges.items e × (e.0 ≡ t.from) × (e.2 ≡ t.to) × (has e.1 t.right ≡ true))
 
 abbrev pub OpeningsAreAsListed : Type 0
 OpeningsAreAsListed = (c : Config) → IsOpened c
 
 -- the edge list of a vertex has each vertex over which it has rights, with the label and nothing else, by rising serial
 pub record IsEdgeList (G : Protection) (z : ℕ) : Type 0 where
-  pub edges : (y : ℕ) (l : Letters) → Holds (edges_of G z) (y, l) ↔ ((l ≡ label G z y) × IsEdge G z y)
+  pub edges : (y : ℕ) (l : Letters) → Contains (edges_of G z) (y, l) ↔ ((l ≡ label G z y) × IsEdge G z y)
   pub rising : IsTrue (is_sorted nat_cmp (edges_of G z))
 
 abbrev pub EdgesAreListed : Type 0

@@ -3,18 +3,19 @@
 
 ghost use Rattle.tg_graph.specs.Laws.{AnswersAgree, CommandsKeepGraphs, EdgesAreCounted, EdgesAreListed, ExactlyOneOutcome, OpeningsAreAsListed, OpeningsAreSound, OpeningsFit, OutcomesAgree, PartsAgree, PartsStay, RepliesAgree, TwiceIsTwoPlaces};
 
-pub mod config;
-pub mod derivation;
-pub mod graph;
-pub mod rules;
+mod config;
+mod derivation;
+mod graph;
+mod rules;
 mod search;
 #[cfg(test)]
 mod tests;
-pub mod vertex;
+mod vertex;
 
 pub use config::{Config, OpenFault};
 pub use derivation::{Goal, Step, Verdict};
 pub use graph::{Graph, LAST_SERIAL};
+pub use rules::{document_of, is_distinct, names_rights};
 pub use vertex::Vertex;
 
 // Laws: each function is a theorem, its contract, and costs nothing when it is called.

@@ -1,27 +1,27 @@
 -- A cursor in a list without repeated cells: it names the first edge that is left.
 use Rattle.std.proofs.Common.{◌≡◌, ◌≢◌, ℕ, List, [], ◌∷◌, ◌++◌, Option, Some, None, ◌⊎◌, inl, inr, sym, subst, ap, refl, cond, true, false, eqb, eq-eqb, eqb-true, append-nil, map}
-use Rattle.tg_rights.specs.Membership.{Holds, Distinct}
+use Rattle.tg_rights.specs.Membership.{Contains, Distinct}
 use Rattle.tg_cells.specs.Lists.{Edge, first_cell}
 use Rattle.tg_heap.specs.Marking.{remaining, passed}
 
 abbrev pub cells : List Edge → List ℕ
 cells es = map (λ e. e.cell) es
 
-pub holds_append : {X : Type 0} (xs ys : List X) (x : X) → Holds (xs ++ ys) x → Holds xs x ⊎ Holds ys x
-holds_append [] ys x h = inr h
-holds_append (y ∷ xs) ys x (inl e) = inl (inl e)
-holds_append (y ∷ xs) ys x (inr h) = elim (holds_append xs ys x h) [ inl a ↦ inl (inr a) | inr b ↦ inr b ]
+pub contains_append : {X : Type 0} (xs ys : List X) (x : X) → Contains (xs ++ ys) x → Contains xs x ⊎ Contains ys x
+contains_append [] ys x h = inr h
+contains_append (y ∷ xs) ys x (inl e) = inl (inl e)
+contains_append (y ∷ xs) ys x (inr h) = elim (contains_append xs ys x h) [ inl a ↦ inl (inr a) | inr b ↦ inr b ]
 
-pub holds_left : {X : Type 0} (xs ys : List X) (x : X) → Holds xs x → Holds (xs ++ ys) x
-holds_left [] ys x h = absurd h
-holds_left (y ∷ xs) ys x (inl e) = inl e
-holds_left (y ∷ xs) ys x (inr h) = inr (holds_left xs ys x h)
+pub contains_left : {X : Type 0} (xs ys : List X) (x : X) → Contains xs x → Contains (xs ++ ys) x
+contains_left [] ys x h = absurd h
+contains_left (y ∷ xs) ys x (inl e) = inl e
+contains_left (y ∷ xs) ys x (inr h) = inr (contains_left xs ys x h)
 
-pub holds_right : {X : Type 0} (xs ys : List X) (x : X) → Holds ys x → Holds (xs ++ ys) x
-holds_right [] ys x h = h
-holds_right (y ∷ xs) ys x h = inr (holds_right xs ys x h)
+pub contains_right : {X : Type 0} (xs ys : List X) (x : X) → Contains ys x → Contains (xs ++ ys) x
+contains_right [] ys x h = h
+contains_right (y ∷ xs) ys x h = inr (contains_right xs ys x h)
 
-pub holds_cell : (es : List Edge) (e : Edge) → Holds es e → Holds (cells es) e.cell
+pub holds_cell : (es : List Edge) (e : Edge) → Contains es e → Contains (cells es) e.cell
 holds_cell [] e h = absurd h
 holds_cell (y ∷ es) e (inl i) = inl (ap (λ (a : Edge). a.cell) i)
 holds_cell (y ∷ es) e (inr h) = inr (holds_cell es e h)
@@ -39,8 +39,8 @@ eqb_other c d n = elim (eqb c d) as (λ b. eqb c d ≡ b → eqb c d ≡ false) 
   | false ↦ λ e. e
 ] refl
 
-middle : (p r : List Edge) (e : Edge) (c : ℕ) → c ≡ e.cell → Holds (cells (p ++ e ∷ r)) c
-middle p r e c i = subst (λ (cs : List ℕ). Holds cs c) (sym (cells_append p (e ∷ r))) (holds_right (cells p) (cells (e ∷ r)) c (inl i))
+middle : (p r : List Edge) (e : Edge) (c : ℕ) → c ≡ e.cell → Contains (cells (p ++ e ∷ r)) c
+middle p r e c i = subst (λ (cs : List ℕ). Contains cs c) (sym (cells_append p (e ∷ r))) (contains_right (cells p) (cells (e ∷ r)) c (inl i))
 
 -- Every split of the list is that of its cursor.
 pub remaining_split : (p r : List Edge) → Distinct (cells (p ++ r)) → remaining (first_cell r) (p ++ r) ≡ r

@@ -2,9 +2,9 @@
 use Rattle.std.proofs.Common.{◌≡◌, ◌≢◌, ℕ, ◌<◌, List, [], ◌∷◌, ◌++◌, length, Option, Some, None, inl, inr, sym, ◌∙◌, subst, ap, refl, set, Bool, true, false, ◌||◌, ◌&&◌, not, length-set, get_or-set_same, get_or-set_other}
 use Rattle.std.proofs.lemmas.Bool.{cases_eq, cases_lt}
 use Rattle.std.proofs.lemmas.List.{get_or_past}
-use Rattle.tg_rights.specs.Membership.{Holds}
+use Rattle.tg_rights.specs.Membership.{Contains}
 use Rattle.tg_rights.specs.Letters.{Letters, joined, none, is_none}
-use Rattle.tg_rights.proofs.MembershipLemmas.{holds_append, holds_left, holds_right, holds_middle, holds_around}
+use Rattle.tg_rights.proofs.MembershipLemmas.{contains_append, contains_left, contains_right, contains_middle, contains_around}
 use Rattle.tg_slots.specs.Table.{Table, Free, mark, in_slot}
 use Rattle.tg_slots.specs.declared.slots.Occupant.{Occupant}
 use Rattle.tg_cells.specs.Lists.{Edge, CellLists, owned}
@@ -13,17 +13,17 @@ pub use Rattle.tg_cells.proofs.WalkLemmas.{First, first_is}
 
 -- Each edge leads to one of n slots.
 abbrev pub Within : ℕ → List Edge → Type 0
-Within n es = (e : Edge) → Holds es e → e.target < n
+Within n es = (e : Edge) → Contains es e → e.target < n
 
 pub within_around : (n : ℕ) (p r : List Edge) (e : Edge) → Within n (p ++ e ∷ r) → Within n (p ++ r)
-within_around n p r e w x h = w x (holds_around p r e x h)
+within_around n p r e w x h = w x (contains_around p r e x h)
 
 pub within_label : (n : ℕ) (p r : List Edge) (e : Edge) (a : Letters) → Within n (p ++ e ∷ r) → Within n (p ++ record e { rights = a } ∷ r)
-within_label n p r e a w x h = elim (holds_append p (record e { rights = a } ∷ r) x h) [
-  | inl l ↦ w x (holds_left p (e ∷ r) x l)
+within_label n p r e a w x h = elim (contains_append p (record e { rights = a } ∷ r) x h) [
+  | inl l ↦ w x (contains_left p (e ∷ r) x l)
   | inr m ↦ elim m [
-    | inl is ↦ subst (λ (y : Edge). y.target < n) (sym is) (w e (holds_middle p r e))
-    | inr l ↦ w x (holds_right p (e ∷ r) x (inr l))
+    | inl is ↦ subst (λ (y : Edge). y.target < n) (sym is) (w e (contains_middle p r e))
+    | inr l ↦ w x (contains_right p (e ∷ r) x (inr l))
   ]
 ]
 
@@ -31,12 +31,12 @@ within_label n p r e a w x h = elim (holds_append p (record e { rights = a } ∷
 pub owner_occupied : (t : Table) (c : CellLists) (i : ℕ) (p r : List Edge) (e : Edge) → Joins t c → owned c.lists i ≡ p ++ e ∷ r → mark t i ≢ Free
 owner_occupied t c i p r e j is f =
     let none : p ++ e ∷ r ≡ [] = sym is ∙ j.free_bare i f in
-    subst (λ (l : List Edge). Holds l e) none (holds_middle p r e)
+    subst (λ (l : List Edge). Contains l e) none (contains_middle p r e)
 
 pub owner_within : (t : Table) (c : CellLists) (i : ℕ) (p r : List Edge) (e : Edge) → Joins t c → owned c.lists i ≡ p ++ e ∷ r → i < length c.lists
 owner_within t c i p r e j is = elim (cases_lt i (length c.lists)) [
   | inl w ↦ w
-  | inr past ↦ absurd (subst (λ (l : List Edge). Holds l e) (sym is ∙ get_or_past c.lists i [] past) (holds_middle p r e))
+  | inr past ↦ absurd (subst (λ (l : List Edge). Contains l e) (sym is ∙ get_or_past c.lists i [] past) (contains_middle p r e))
 ]
 
 -- One occupied slot's edges changed.
@@ -44,8 +44,8 @@ pub joins_set : (t : Table) (c d : CellLists) (i : ℕ) (es : List Edge) → d.l
 joins_set t c d i es is occupied within w j = record {
   owners = ap length is ∙ length-set c.lists i es ∙ j.owners;
   targets = λ k e h. elim (cases_eq k i) [
-    | inl here ↦ w e (subst (λ (l : List Edge). Holds l e) (ap (λ (ls : List (List Edge)). owned ls k) is ∙ ap (λ (n : ℕ). owned (set c.lists i es) n) here ∙ get_or-set_same c.lists i es [] within) h)
-    | inr there ↦ j.targets k e (subst (λ (l : List Edge). Holds l e) (ap (λ (ls : List (List Edge)). owned ls k) is ∙ get_or-set_other c.lists i k es [] there) h)
+    | inl here ↦ w e (subst (λ (l : List Edge). Contains l e) (ap (λ (ls : List (List Edge)). owned ls k) is ∙ ap (λ (n : ℕ). owned (set c.lists i es) n) here ∙ get_or-set_same c.lists i es [] within) h)
+    | inr there ↦ j.targets k e (subst (λ (l : List Edge). Contains l e) (ap (λ (ls : List (List Edge)). owned ls k) is ∙ get_or-set_other c.lists i k es [] there) h)
   ];
   free_bare = λ k f. elim (cases_eq k i) [
     | inl here ↦ absurd (occupied (subst (λ (n : ℕ). mark t n ≡ Free) here f))

@@ -1,7 +1,7 @@
 -- What contracts see of the heap: a labelled graph over slots.
 use Rattle.std.specs.Prelude.{◌≡◌, ℕ, ◌<◌, List, [], ◌∷◌, length}
 use Rattle.tg_slots.specs.Table.{Table, Mark, Free, Has, mark, recoloured, IsSound}
-use Rattle.tg_rights.specs.Membership.{Holds}
+use Rattle.tg_rights.specs.Membership.{Contains}
 use Rattle.tg_cells.specs.Lists.{Edge, CellLists, owned, IsCells}
 use Rattle.tg_slots.specs.declared.colour.Colour.{Colour}
 use Rattle.tg_slots.specs.declared.colour.Colour.TheVariants.{White, Grey, Black}
@@ -44,7 +44,7 @@ painted t i c = record t { slots = recoloured t i c }
 -- Each slot owns one list, edges lead to slots, and free slots have no edges.
 pub record Joins (t : Table) (c : CellLists) : Type 0 where
   pub owners : length c.lists ≡ length t.slots
-  pub targets : (i : ℕ) (e : Edge) → Holds (owned c.lists i) e → e.target < length t.slots
+  pub targets : (i : ℕ) (e : Edge) → Contains (owned c.lists i) e → e.target < length t.slots
   pub free_bare : (i : ℕ) → mark t i ≡ Free → owned c.lists i ≡ []
 
 -- What always holds of a heap: of its slots, of its cells, and between the two.
@@ -52,5 +52,5 @@ pub record IsHeap (h : HeapGraph) : Type 0 where
   pub table : IsSound h.table
   pub cells : IsCells (cell_lists h)
   pub owners : length h.lists ≡ length h.table.slots
-  pub targets : (i : ℕ) (e : Edge) → Holds (edges h i) e → e.target < length h.table.slots
+  pub targets : (i : ℕ) (e : Edge) → Contains (edges h i) e → e.target < length h.table.slots
   pub free_bare : (i : ℕ) → mark_at h i ≡ Free → edges h i ≡ []

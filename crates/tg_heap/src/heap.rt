@@ -1,6 +1,6 @@
 ghost use Rattle.std.specs.Prelude.{◌≡◌, ◌≢◌, ℕ, ◌<◌, ◌≤◌, ◌+◌, List, [], ◌∷◌, length, MatchResult, MatchOption, MatchBool, IfOk, IfSome, IsTrue, ◌↔◌, set, ◌⊎◌, Option, Some, None, true, false};
 ghost use Rattle.tg_rights.specs.Letters.{is_none, includes};
-ghost use Rattle.tg_rights.specs.Membership.{Holds};
+ghost use Rattle.tg_rights.specs.Membership.{Contains};
 ghost use Rattle.tg_slots.specs.Table.{Free, Has, slot, with_text, in_slot, fresh};
 ghost use Rattle.tg_slots.specs.declared.slots.Occupant.{Occupant};
 ghost use Rattle.tg_cells.specs.Lists.{Edge, first_cell, Stands, IsLinked, HasNone, Found};
@@ -283,7 +283,7 @@ impl Heap {
     /// Makes a grey vertex that no longer waits in the grey list black.
     pub fn blacken(&mut self, id: u32)
         requires grey { mark_at self.old id ≡ Has Colour.Grey }
-        requires taken { Holds self.old.table.grey id → ⊥ }
+        requires taken { Contains self.old.table.grey id → ⊥ }
         ensures { self.new ≡ record self.old { table = painted self.old.table id Colour.Black } }
     {
         self.slots.blacken(id);

@@ -1,7 +1,7 @@
 -- Chains of links and the walks over them.
 use Rattle.std.proofs.Common.{◌≡◌, ◌≢◌, ℕ, zero, suc, ◌+◌, ◌<◌, ◌≤◌, List, [], ◌∷◌, length, inl, inr, sym, ◌∙◌, subst, ap, refl, set, get_or, arith, get_or-set_same, get_or-set_other, true, false, eqb, eq-eqb}
 use Rattle.std.proofs.lemmas.Bool.{ne_eqb}
-use Rattle.tg_rights.specs.Membership.{Holds}
+use Rattle.tg_rights.specs.Membership.{Contains}
 use Rattle.tg_slots.specs.Table.{indices}
 use Rattle.tg_slots.specs.Chain.{walk, Chain}
 
@@ -19,7 +19,7 @@ walk_chain end links (suc n) head (j ∷ l) c h =
     rw test (ap (λ (k : ℕ). k ∷ walk end links n (get_or links head end)) is ∙ ap (λ (m : List ℕ). j ∷ m) step)
 
 -- A link of a slot outside the chain may change.
-pub chain_set : (end : ℕ) (links : List ℕ) (i x head : ℕ) (l : List ℕ) → (Holds l i → ⊥) → Chain end links head l → Chain end (set links i x) head l
+pub chain_set : (end : ℕ) (links : List ℕ) (i x head : ℕ) (l : List ℕ) → (Contains l i → ⊥) → Chain end links head l → Chain end (set links i x) head l
 chain_set end links i x head [] n c = c
 chain_set end links i x head (j ∷ l) n c =
     let other : j ≢ i = λ e. n (inl (sym e)) in
@@ -27,7 +27,7 @@ chain_set end links i x head (j ∷ l) n c =
     (c.0, c.1, subst (λ (o : ℕ). Chain end (set links i x) o l) (sym same) (chain_set end links i x (get_or links j end) l (λ h. n (inr h)) c.2))
 
 -- A slot outside the chain goes in front.
-pub chain_push : (end : ℕ) (links : List ℕ) (i head : ℕ) (l : List ℕ) → i < length links → i < end → (Holds l i → ⊥) → Chain end links head l → Chain end (set links i head) i (i ∷ l)
+pub chain_push : (end : ℕ) (links : List ℕ) (i head : ℕ) (l : List ℕ) → i < length links → i < end → (Contains l i → ⊥) → Chain end links head l → Chain end (set links i head) i (i ∷ l)
 chain_push end links i head l w b n c =
     (refl, b, subst (λ (o : ℕ). Chain end (set links i head) o l) (sym (get_or-set_same links i head end w)) (chain_set end links i head head l n c))
 

@@ -2,7 +2,7 @@
 use Rattle.std.proofs.Common.{map, ◌≡◌, ℕ, zero, suc, ◌+◌, ◌<◌, ◌≤◌, List, [], ◌∷◌, ◌++◌, length, Option, None, inl, inr, sym, ◌∙◌, ap, refl, arith, get_or, sum_by}
 use Rattle.std.proofs.lemmas.List.Sums.{sum_by-cons}
 use Rattle.std.proofs.lemmas.Bool.{cases_eq}
-use Rattle.tg_rights.specs.Membership.{Holds, Distinct}
+use Rattle.tg_rights.specs.Membership.{Contains, Distinct}
 use Rattle.tg_slots.specs.declared.slots.Occupant.{Occupant}
 use Rattle.tg_slots.specs.declared.slots.Entry.{Entry}
 use Rattle.tg_slots.specs.Table.{Free, mark_of, IsSound, if_free, nones, indices, fresh}
@@ -29,14 +29,14 @@ pub indices_length : (i n : ℕ) → length (indices i n) ≡ n
 indices_length i zero = refl
 indices_length i (suc n) = let r = indices_length (suc i) n in omega (arith, r)
 
-indices_within : (i n j : ℕ) → Holds (indices i n) j → (i ≤ j) × (j < i + n)
+indices_within : (i n j : ℕ) → Contains (indices i n) j → (i ≤ j) × (j < i + n)
 indices_within i zero j h = absurd h
 indices_within i (suc n) j h = elim h [
   | inl e ↦ (omega (arith, e), omega (arith, e))
   | inr m ↦ let r = indices_within (suc i) n j m in let a = r.0 in let b = r.1 in (omega (arith, a), omega (arith, b))
 ]
 
-indices_hold : (i n j : ℕ) → i ≤ j → j < i + n → Holds (indices i n) j
+indices_hold : (i n j : ℕ) → i ≤ j → j < i + n → Contains (indices i n) j
 indices_hold i zero j a b = absurd (omega arith)
 indices_hold i (suc n) j a b = elim (cases_eq j i) [
   | inl e ↦ inl e

@@ -1,7 +1,7 @@
 -- What each call makes of linked slots: the invariant holds of them, and the table that they show is the one promised.
 use Rattle.std.proofs.Common.{◌≡◌, ◌≢◌, ℕ, ◌+◌, ◌-◌, ◌<◌, ◌≤◌, List, ◌∷◌, length, Option, Some, None, ◌⊎◌, inl, inr, sym, ◌∙◌, subst, ap, refl, set, get_or, arith, length-set, Global}
 use Rattle.std.proofs.Math.Seq.{map-set_same}
-use Rattle.tg_rights.specs.Membership.{Holds}
+use Rattle.tg_rights.specs.Membership.{Contains}
 use Rattle.tg_slots.specs.declared.slots.Entry.{Entry}
 use Rattle.tg_slots.specs.declared.slots.Occupant.{Occupant}
 use Rattle.tg_slots.specs.declared.slots.Slots.TheInside.{Inside}
@@ -28,13 +28,13 @@ entry_within : (s : Inside) (i : ℕ) (c : Colour) → mark (table s) i ≡ Has 
 entry_within s i c w = let slot = occupied_within (table s).slots i c w in omega (arith, slot, length_map (λ (e : Entry). e.occupant) s.entries.items)
 
 -- A slot of one mark is not in the list of the other.
-not_free : (t : Table) (i : ℕ) (c : Colour) → IsSound t → mark t i ≡ Has c → Holds t.free i → ⊥
+not_free : (t : Table) (i : ℕ) (c : Colour) → IsSound t → mark t i ≡ Has c → Contains t.free i → ⊥
 not_free t i c s w h = let f = (s.listed_free i h).1 in absurd (cc)
 
-not_grey : (t : Table) (i : ℕ) → IsSound t → mark t i ≡ Has White → Holds t.grey i → ⊥
+not_grey : (t : Table) (i : ℕ) → IsSound t → mark t i ≡ Has White → Contains t.grey i → ⊥
 not_grey t i s w h = let f = (s.listed_grey i h).1 in absurd (cc)
 
-pub black_out : (t : Table) (i : ℕ) → IsSound t → mark t i ≡ Has Black → Holds t.grey i → ⊥
+pub black_out : (t : Table) (i : ℕ) → IsSound t → mark t i ≡ Has Black → Contains t.grey i → ⊥
 black_out t i s b h = let f = (s.listed_grey i h).1 in absurd (cc)
 
 -- A white or a black vertex is not grey.
@@ -55,7 +55,7 @@ repaints es es' i old new o read link is ev = record {
 }
 
 -- A black slot turns white, or a grey one out of the list black.
-pub leaves-paint : (s : Inside) (v : Vec Entry Global) (i : ℕ) (c d : Colour) (old new : Entry) → IsInside s → mark (table s) i ≡ Has c → (Holds (table s).grey i → ⊥) → old ≡ get_or s.entries.items i old
+pub leaves-paint : (s : Inside) (v : Vec Entry Global) (i : ℕ) (c d : Colour) (old new : Entry) → IsInside s → mark (table s) i ≡ Has c → (Contains (table s).grey i → ⊥) → old ≡ get_or s.entries.items i old
     → new ≡ record old { occupant = coloured d old.occupant } → v.items ≡ set s.entries.items i new → Leaves (record s { entries = v }) (record (table s) { slots = recoloured (table s) i d })
 leaves-paint s v i c d old new k w out read is ev =
     let vertex : new.occupant ≡ coloured d (slot (table s) i) = ap (λ (x : Entry). x.occupant) is ∙ ap (coloured d) (occupant_read s.entries.items i old (entry_within s i c w) read) in

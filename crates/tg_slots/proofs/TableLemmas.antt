@@ -3,7 +3,7 @@ use Rattle.std.proofs.Common.{◌≡◌, ◌≢◌, ℕ, zero, suc, ◌+◌, ◌
 use Rattle.std.proofs.lemmas.Bool.{cases_eq, cases_lt}
 use Rattle.std.proofs.lemmas.List.{get_or_past}
 use Rattle.std.proofs.lemmas.List.Sums.{sum_by-set, sum_by-cons}
-use Rattle.tg_rights.specs.Membership.{Holds, Distinct}
+use Rattle.tg_rights.specs.Membership.{Contains, Distinct}
 use Rattle.tg_slots.specs.declared.slots.Occupant.{Occupant}
 use Rattle.tg_slots.specs.declared.colour.Colour.{Colour}
 use Rattle.tg_slots.specs.declared.colour.Colour.TheVariants.{White, Grey, Black}
@@ -64,13 +64,13 @@ grey_count-set t i c d w =
     omega (arith, change, was, is)
 
 -- A list of grey indices without repeats is no longer than the number of grey slots.
-pub grey_at_most : (l : List ℕ) (xs : List (Option Occupant)) → Distinct l → ((j : ℕ) → Holds l j → mark_of (get_or xs j None) ≡ Has Grey) → length l ≤ sum_by if_grey xs
+pub grey_at_most : (l : List ℕ) (xs : List (Option Occupant)) → Distinct l → ((j : ℕ) → Contains l j → mark_of (get_or xs j None) ≡ Has Grey) → length l ≤ sum_by if_grey xs
 grey_at_most [] xs d h = omega arith
 grey_at_most (i ∷ l) xs d h =
     let grey : mark_of (get_or xs i None) ≡ Has Grey = h i (inl refl) in
     let change = sum_by-set if_grey xs i None None (occupied_within xs i Grey grey) in
     let was : if_grey (get_or xs i None) ≡ 1 = ap grey_one grey in
-    let rest = grey_at_most l (set xs i None) d.1 (λ j g. mark_there xs i j None (λ is. d.0 (subst (λ (k : ℕ). Holds l k) is g)) ∙ h j (inr g)) in
+    let rest = grey_at_most l (set xs i None) d.1 (λ j g. mark_there xs i j None (λ is. d.0 (subst (λ (k : ℕ). Contains l k) is g)) ∙ h j (inr g)) in
     omega (arith, change, was, rest)
 
 -- A white slot that turns grey and is listed.
@@ -115,7 +115,7 @@ sound-pop_grey t i rest s e =
     }
 
 -- A black slot that turns white, or a grey one out of the list that turns black.
-pub sound-painted : (t : Table) (i : ℕ) (c d : Colour) → IsSound t → mark t i ≡ Has c → (Holds t.grey i → ⊥)
+pub sound-painted : (t : Table) (i : ℕ) (c d : Colour) → IsSound t → mark t i ≡ Has c → (Contains t.grey i → ⊥)
     → IsSound (record t { slots = recoloured t i d })
 sound-painted t i c d s w out =
     let within : i < length t.slots = occupied_within t.slots i c w in
@@ -148,7 +148,7 @@ pub sound-take_free : (t : Table) (i : ℕ) (rest : List ℕ) (o : Occupant) →
     → IsSound (record t { slots = set t.slots i (Some o); free = rest })
 sound-take_free t i rest o s e pale =
     let once : Distinct (i ∷ rest) = subst Distinct e s.free_once in
-    let listed : (j : ℕ) → Holds (i ∷ rest) j → Holds t.free j = λ j h. subst (λ (l : List ℕ). Holds l j) (sym e) h in
+    let listed : (j : ℕ) → Contains (i ∷ rest) j → Contains t.free j = λ j h. subst (λ (l : List ℕ). Contains l j) (sym e) h in
     let first = s.listed_free i (listed i (inl refl)) in
     let within : i < length t.slots = first.0 in
     let free : mark t i ≡ Free = first.1 in
@@ -159,11 +159,11 @@ sound-take_free t i rest o s e pale =
     record {
       free_listed = λ j l f. elim (cases_eq j i) [
         | inl is ↦ absurd (let f' = subst (λ (k : ℕ). mark_of (get_or (set t.slots i (Some o)) k None) ≡ Free) is f in cc)
-        | inr n ↦ elim (subst (λ (x : List ℕ). Holds x j) e (s.free_listed j (omega arith) (sym (mark_there t.slots i j _ n) ∙ f))) [ inl here ↦ absurd (n here) | inr there ↦ there ]
+        | inr n ↦ elim (subst (λ (x : List ℕ). Contains x j) e (s.free_listed j (omega arith) (sym (mark_there t.slots i j _ n) ∙ f))) [ inl here ↦ absurd (n here) | inr there ↦ there ]
       ];
       listed_free = λ j h.
           let old = s.listed_free j (listed j (inr h)) in
-          let other : j ≢ i = λ is. once.0 (subst (λ (k : ℕ). Holds rest k) is h) in
+          let other : j ≢ i = λ is. once.0 (subst (λ (k : ℕ). Contains rest k) is h) in
           (omega arith, mark_there t.slots i j _ other ∙ old.1);
       free_once = once.1;
       free_count = (let c : length (i ∷ rest) ≡ sum_by if_free t.slots = subst (λ (l : List ℕ). length l ≡ sum_by if_free t.slots) e s.free_count in omega (arith, c, change, was));

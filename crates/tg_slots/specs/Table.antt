@@ -1,7 +1,7 @@
 -- What contracts see of a table of slots.
 use Rattle.std.specs.Prelude.{◌≡◌, ℕ, zero, suc, ◌<◌, List, [], ◌∷◌, length, Option, Some, None, sum_by}
 use Rattle.std.proofs.Common.{get_or, set}
-use Rattle.tg_rights.specs.Membership.{Holds, Distinct}
+use Rattle.tg_rights.specs.Membership.{Contains, Distinct}
 use Rattle.tg_slots.specs.declared.slots.Occupant.{Occupant}
 use Rattle.tg_slots.specs.declared.colour.Colour.{Colour}
 use Rattle.tg_slots.specs.declared.colour.Colour.TheVariants.{White, Grey, Black}
@@ -62,11 +62,11 @@ if_grey o = grey_one (mark_of o)
 
 -- The free list has each free index once and no other, the grey list has grey ones alone, each once.
 pub record IsSound (t : Table) : Type 0 where
-  pub free_listed : (i : ℕ) → i < length t.slots → mark t i ≡ Free → Holds t.free i
-  pub listed_free : (i : ℕ) → Holds t.free i → (i < length t.slots) × (mark t i ≡ Free)
+  pub free_listed : (i : ℕ) → i < length t.slots → mark t i ≡ Free → Contains t.free i
+  pub listed_free : (i : ℕ) → Contains t.free i → (i < length t.slots) × (mark t i ≡ Free)
   pub free_once : Distinct t.free
   pub free_count : length t.free ≡ sum_by if_free t.slots
-  pub listed_grey : (i : ℕ) → Holds t.grey i → (i < length t.slots) × (mark t i ≡ Has Grey)
+  pub listed_grey : (i : ℕ) → Contains t.grey i → (i < length t.slots) × (mark t i ≡ Has Grey)
   pub grey_once : Distinct t.grey
 
 -- n free slots, and the indices from i on.

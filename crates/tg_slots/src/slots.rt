@@ -1,5 +1,5 @@
 ghost use Rattle.std.specs.Prelude.{◌≡◌, ◌≢◌, ◌<◌, ◌≤◌, [], ◌∷◌, length, MatchResult, MatchOption, IsTrue, ◌↔◌, set, ◌⊎◌, IfSome, IfOk, None, Some};
-ghost use Rattle.tg_rights.specs.Membership.{Holds};
+ghost use Rattle.tg_rights.specs.Membership.{Contains};
 ghost use Rattle.tg_slots.specs.Table.{Table, Free, Has, slot, mark, coloured, recoloured, with_text, in_slot, IsSound, fresh};
 
 use crate::Colour;
@@ -226,7 +226,7 @@ impl Slots {
     /// Makes a grey vertex that no longer waits in the grey list black.
     pub fn blacken(&mut self, id: u32)
         requires grey { mark self.old id ≡ Has Colour.Grey }
-        requires taken { Holds self.old.grey id → ⊥ }
+        requires taken { Contains self.old.grey id → ⊥ }
         ensures { self.new ≡ record self.old { slots = recoloured self.old id Colour.Black } }
     {
         self.entries[id as usize].paint(Colour::Black);

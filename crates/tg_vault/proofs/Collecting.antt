@@ -6,7 +6,7 @@ use Rattle.std.specs.Cmp.{nat_cmp_total}
 use Rattle.std.specs.FinMap as finmap
 use Rattle.std.specs.FinSet as finset
 use Rattle.tg_rights.specs.Letters.{is_none, rights_where}
-use Rattle.tg_rights.specs.Membership.{Holds}
+use Rattle.tg_rights.specs.Membership.{Contains}
 use Rattle.tg_graph.specs.declared.vertex.Vertex.{Vertex}
 use Rattle.tg_graph.specs.Protection.{Protection, IsVertex, label, vertex}
 use Rattle.tg_graph.specs.Paths.{IsPart}
@@ -96,7 +96,7 @@ module _ (v : Contents) (j : Joins v) (sv : IsStore v.store) (t : Stored) (st : 
     opened = j.opened;
     part = still_part;
     parked = still_parked;
-    principals = λ x. subst (λ (ps : List ℕ). Holds ps x ↔ IsPrincipal v.opening x) (sym c.principals) (j.principals x);
+    principals = λ x. subst (λ (ps : List ℕ). Contains ps x ↔ IsPrincipal v.opening x) (sym c.principals) (j.principals x);
     slots = c.slots ∙ j.slots;
     cells = c.cells ∙ j.cells;
     many_slots = let many = j.many_slots in let moved = c.free_slots in omega arith;
@@ -107,5 +107,5 @@ module _ (v : Contents) (j : Joins v) (sv : IsStore v.store) (t : Stored) (st : 
   collected_step counted = (
     v.limits.slots - t.free_slots,
     (let all = counted.slots 0 in let many = j.slots in let same = c.slots in let moved = c.free_slots in omega arith),
-    λ i. record { world = record { graph = graph_now v; seats = v.seats; pending = c.unfinished i; used = v.limits.slots - t.free_slots }; history = v.history },
+    λ i. record { world = record { graph = graph_now v; seats = v.seats; pending = c.pending i; used = v.limits.slots - t.free_slots }; history = v.history },
   )

@@ -3,7 +3,7 @@ use Rattle.std.proofs.Common.{◌≡◌, ℕ, zero, suc, ◌+◌, ◌<◌, ◌�
 use Rattle.std.specs.Prelude.{Option}
 use Rattle.std.proofs.lemmas.List.Sums.{sum_by-cons}
 use Rattle.tg_rights.specs.Letters.{is_none}
-use Rattle.tg_rights.specs.Membership.{Holds}
+use Rattle.tg_rights.specs.Membership.{Contains}
 use Rattle.tg_graph.specs.Protection.{Protection, IsVertex, IsEdge}
 use Rattle.tg_graph.specs.Paths.{Leads, Live}
 use Rattle.tg_graph.specs.Fullness.{Limits}
@@ -212,10 +212,10 @@ course_sound v [] (a ∷ answers) w sound course = absurd course
 course_sound v (e ∷ es) [] w sound course = absurd course
 
 -- what is live in what is held is live in the graph
-holds_seat : (table : List (Option ℕ)) (x : ℕ) → Holds table (Some x) → (seat : ℕ) × (at_seat table seat ≡ Some x)
-holds_seat [] x h = absurd h
-holds_seat (o ∷ table) x (inl is) = (0, sym is)
-holds_seat (o ∷ table) x (inr h) = let later = holds_seat table x h in (suc later.0, later.1)
+contains_seat : (table : List (Option ℕ)) (x : ℕ) → Contains table (Some x) → (seat : ℕ) × (at_seat table seat ≡ Some x)
+contains_seat [] x h = absurd h
+contains_seat (o ∷ table) x (inl is) = (0, sym is)
+contains_seat (o ∷ table) x (inr h) = let later = contains_seat table x h in (suc later.0, later.1)
 
 module _ (v : Contents) (s : Sound v) where
   leads_so : (later : List ℕ) (x y : ℕ) → IsVertex (held_now v) x → Leads (held_now v) x later y → Leads (graph_now v) x later y
@@ -226,7 +226,7 @@ module _ (v : Contents) (s : Sound v) where
 
   root_so : (x : ℕ) → IsRootIn v.store x → IsRoot v.opening (moment v).world x
   root_so x (inl principal) = inl ((s.joins.principals x).0 principal)
-  root_so x (inr target) = inr (holds_seat v.store.unfinished x target)
+  root_so x (inr target) = inr (contains_seat v.store.pending x target)
 
   live_so : (x : ℕ) → Live (held_now v) (IsRootIn v.store) x → Live (graph_now v) (IsRoot v.opening (moment v).world) x
   live_so x live = (live.0, root_so live.0 live.1, (live.2.0, (of_graph v s.joins s.store live.0 live.2.1.0, leads_so live.2.0 live.0 x live.2.1.0 live.2.1.1)))

@@ -4,7 +4,7 @@ use Rattle.std.specs.Prelude.{◌↔◌}
 use Rattle.std.proofs.lemmas.List.Elements.{All-append, All-cons, All-nil}
 use Rattle.std.proofs.lemmas.Bool.{not-true}
 use Rattle.tg_rights.specs.Letters.{joined, without, take_alone, grant_alone}
-use Rattle.tg_rights.specs.Membership.{Holds}
+use Rattle.tg_rights.specs.Membership.{Contains}
 use Rattle.tg_rights.specs.declared.command.Command.{Command}
 use Rattle.tg_rights.specs.declared.command.Command.TheVariants as command
 use Rattle.tg_rights.specs.declared.outcome.Outcome.{Outcome}
@@ -176,7 +176,7 @@ module _ (v : Contents) (seat x : ℕ) (c : Command) (answer : Reply) (t : Store
     world = record {
       graph = graph_left i;
       seats = v.seats;
-      pending = (s.served.unfinished ∙ ap (with_target v.store.unfinished seat) target_is) i;
+      pending = (s.served.pending ∙ ap (with_target v.store.pending seat) target_is) i;
       used = used i;
     };
     history = v.history ++ e ∷ [];
@@ -243,7 +243,7 @@ module _ (v : Contents) (seat x : ℕ) (c : Command) (answer : Reply) (t : Store
       opened = j.opened;
       part = still_part;
       parked = λ y h. subst (λ (K : Protection). IsVertex K y) (sym graph_left) (vertex_stays G in_G x x_in_G c o allowed y (j.parked y (subst (λ p. InSet p y) s.served.acted.parked h)));
-      principals = λ y. subst (λ (ps : List ℕ). Holds ps y ↔ IsPrincipal v.opening y) (sym s.served.acted.principals) (j.principals y);
+      principals = λ y. subst (λ (ps : List ℕ). Contains ps y ↔ IsPrincipal v.opening y) (sym s.served.acted.principals) (j.principals y);
       slots = s.served.acted.slots ∙ j.slots;
       cells = s.served.acted.cells ∙ j.cells;
       many_slots =

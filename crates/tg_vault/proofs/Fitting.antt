@@ -1,7 +1,7 @@
 -- What a vault keeps makes its store fit the graph of the history.
 use Rattle.std.proofs.Common.{◌≡◌, ℕ, zero, suc, List, [], ◌∷◌, sym, subst, ◌∙◌, inl, inr, Some, arith}
 use Rattle.std.specs.Prelude.{Option}
-use Rattle.tg_rights.specs.Membership.{Holds}
+use Rattle.tg_rights.specs.Membership.{Contains}
 use Rattle.tg_graph.specs.Protection.{Protection, IsVertex}
 use Rattle.tg_graph.specs.Paths.{IsPart, Leads}
 use Rattle.tg_collect.specs.Views.{IsStore, IsRootIn}
@@ -10,10 +10,10 @@ use Rattle.tg_vault.specs.Contents.{Contents, graph_now, held_now, moment}
 use Rattle.tg_vault.specs.Fits.{Joins, Fits, IsRoot}
 use Rattle.tg_vault.proofs.Joined.{of_graph}
 
-pub seat_holds : (table : List (Option ℕ)) (seat x : ℕ) → at_seat table seat ≡ Some x → Holds table (Some x)
-seat_holds [] seat x is = absurd (cc is)
-seat_holds (o ∷ table) zero x is = inl (sym is)
-seat_holds (o ∷ table) (suc seat) x is = inr (seat_holds table seat x is)
+pub seat_contains : (table : List (Option ℕ)) (seat x : ℕ) → at_seat table seat ≡ Some x → Contains table (Some x)
+seat_contains [] seat x is = absurd (cc is)
+seat_contains (o ∷ table) zero x is = inl (sym is)
+seat_contains (o ∷ table) (suc seat) x is = inr (seat_contains table seat x is)
 
 -- a path of the graph from a vertex of the part stays in the part
 pub path_stays : (G H : Protection) → IsPart G H → (later : List ℕ) (x y : ℕ) → IsVertex H x → Leads G x later y → IsVertex H y
@@ -23,7 +23,7 @@ path_stays G H part (z ∷ zs) x y h leads = path_stays G H part zs z y (part.cl
 module _ (v : Contents) (j : Joins v) (s : IsStore v.store) (counted : IsStore v.store) where
   pub root_in : (x : ℕ) → IsRoot v.opening (moment v).world x → IsRootIn v.store x
   root_in x (inl principal) = inl ((j.principals x).1 principal)
-  root_in x (inr pending) = inr (seat_holds v.store.unfinished pending.0 x pending.1)
+  root_in x (inr pending) = inr (seat_contains v.store.pending pending.0 x pending.1)
 
   pub fits_are : Fits v
   fits_are = record {

@@ -7,8 +7,8 @@ use Rattle.std.specs.Cmp.{nat_cmp_total, unsigned_tied}
 use Rattle.std.specs.FinMap as map
 use Rattle.std.proofs.lemmas.Bool.{eqb-true, eq-eqb, or_cases}
 use Rattle.std.proofs.lemmas.List.Elements.{All-nil}
-use Rattle.tg_rights.specs.Membership.{Holds}
-use Rattle.tg_rights.proofs.MembershipLemmas.{holds_append, holds_left, holds_right}
+use Rattle.tg_rights.specs.Membership.{Contains}
+use Rattle.tg_rights.proofs.MembershipLemmas.{contains_append, contains_left, contains_right}
 use Rattle.tg_rights.specs.declared.kind.Kind.TheVariants as kind
 use Rattle.tg_graph.specs.declared.config.Config.{Config}
 use Rattle.tg_graph.specs.declared.vertex.Vertex.{Vertex}
@@ -41,20 +41,20 @@ abbrev subject : Vertex
 subject = record { kind = kind.Subject; text = [] }
 
 -- the subjects are the first serials
-subject_first : (count x : ℕ) → map.contains_key (subjects count) x ≡ true → Holds (first_serials count) x
+subject_first : (count x : ℕ) → map.contains_key (subjects count) x ≡ true → Contains (first_serials count) x
 subject_first zero x h = absurd (cc (sym h ∙ ap is_some (map.get-empty nat_cmp x)))
 subject_first (suc count) x h =
     elim (or_cases (x == suc count) (map.contains_key (subjects count) x) (sym (IsVertex-insert (subjects count) (suc count) subject x) ∙ h)) [
-      | inl is ↦ holds_right (first_serials count) (suc count ∷ []) x (inl (eqb-true x (suc count) is))
-      | inr old ↦ holds_left (first_serials count) (suc count ∷ []) x (subject_first count x old)
+      | inl is ↦ contains_right (first_serials count) (suc count ∷ []) x (inl (eqb-true x (suc count) is))
+      | inr old ↦ contains_left (first_serials count) (suc count ∷ []) x (subject_first count x old)
     ]
 
-first_subject : (count x : ℕ) → Holds (first_serials count) x → option_map (λ (e : Vertex). e.kind) (map.get (subjects count) x) ≡ Some kind.Subject
+first_subject : (count x : ℕ) → Contains (first_serials count) x → option_map (λ (e : Vertex). e.kind) (map.get (subjects count) x) ≡ Some kind.Subject
 first_subject zero x h = absurd h
 first_subject (suc count) x h =
     ap (option_map (λ (e : Vertex). e.kind)) (map.get-insert nat_cmp_total (subjects count) (suc count) subject x ∙ ap (λ b. cond b (Some subject) (map.get (subjects count) x)) (unsigned_tied x (suc count)))
-    ∙ either (x == suc count) refl (holds_append (first_serials count) (suc count ∷ []) x h) (λ old. first_subject count x old) where
-      either : (b : Bool) → (x == suc count) ≡ b → Holds (first_serials count) x ⊎ Holds (suc count ∷ []) x → (Holds (first_serials count) x → option_map (λ (e : Vertex). e.kind) (map.get (subjects count) x) ≡ Some kind.Subject) →
+    ∙ either (x == suc count) refl (contains_append (first_serials count) (suc count ∷ []) x h) (λ old. first_subject count x old) where
+      either : (b : Bool) → (x == suc count) ≡ b → Contains (first_serials count) x ⊎ Contains (suc count ∷ []) x → (Contains (first_serials count) x → option_map (λ (e : Vertex). e.kind) (map.get (subjects count) x) ≡ Some kind.Subject) →
           option_map (λ (e : Vertex). e.kind) (cond b (Some subject) (map.get (subjects count) x)) ≡ Some kind.Subject
       either true is holds rest = refl
       either false is (inl old) rest = rest old
@@ -75,10 +75,10 @@ module _ (c : Config) (G : Protection) (s : Stored) (is : G ≡ opening c) (soun
   same_vertices : G.vertices ≡ subjects o.count
   same_vertices = sym o.vertices ∙ o.opens.vertices
 
-  principals : (x : ℕ) → Holds s.principals x ↔ IsSubject G x
+  principals : (x : ℕ) → Contains s.principals x ↔ IsSubject G x
   principals x = (
-    λ h. ap (λ m. option_map (λ (e : Vertex). e.kind) (map.get m x)) same_vertices ∙ first_subject o.count x (subst (λ ps. Holds ps x) o.opens.principals h),
-    λ h. subst (λ ps. Holds ps x) (sym o.opens.principals) (subject_first o.count x (ap (λ m. map.contains_key m x) (sym same_vertices) ∙ IsVertex-from_kind G x kind.Subject h)),
+    λ h. ap (λ m. option_map (λ (e : Vertex). e.kind) (map.get m x)) same_vertices ∙ first_subject o.count x (subst (λ ps. Contains ps x) o.opens.principals h),
+    λ h. subst (λ ps. Contains ps x) (sym o.opens.principals) (subject_first o.count x (ap (λ m. map.contains_key m x) (sym same_vertices) ∙ IsVertex-from_kind G x kind.Subject h)),
   )
 
   counted : vertex_count G ≡ o.count

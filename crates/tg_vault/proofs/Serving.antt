@@ -37,7 +37,7 @@ acted_same s = record {
   parked = refl;
   slots = refl;
   cells = refl;
-  unfinished = λ x h. inl h;
+  pending = λ x h. inl h;
   vertices = λ x h. inl h;
   edges = λ x y h. inl h;
   grey = λ x h. inl h;
@@ -86,7 +86,7 @@ module _ (s t : Stored) (next seat : ℕ) where
         decided = (a, used some);
         replied = refl;
         graph = joined_graph x over α some j.0;
-        unfinished = ap (λ w. w.unfinished) j.0.is;
+        pending = ap (λ w. w.pending) j.0.is;
         acted = j.1;
         slots = joined_slots x over α some j.0;
         cells = cells_joined x over α some j.0;
@@ -100,7 +100,7 @@ module _ (s t : Stored) (next seat : ℕ) where
     decided = (a, (λ e. j.2 (edge_in s next x over e), λ e. absurd (cc e), j.1));
     replied = refl;
     graph = ap (λ w. held w next) j.0;
-    unfinished = ap (λ w. w.unfinished) j.0;
+    pending = ap (λ w. w.pending) j.0;
     acted = subst (λ (w : Stored). Acted s w None None) (sym j.0) (acted_same s);
     slots = let same = ap (λ w. w.free_slots) j.0 in omega arith;
     cells = ap (λ w. w.free_cells) j.0;
@@ -115,7 +115,7 @@ module _ (s t : Stored) (next seat : ℕ) where
         decided = (a, used some);
         replied = refl;
         graph = joined_graph to over α some j.0;
-        unfinished = ap (λ w. w.unfinished) j.0.is;
+        pending = ap (λ w. w.pending) j.0.is;
         acted = j.1;
         slots = joined_slots to over α some j.0;
         cells = cells_joined to over α some j.0;
@@ -129,7 +129,7 @@ module _ (s t : Stored) (next seat : ℕ) where
     decided = (a, (λ e. j.2 (edge_in s next to over e), λ e. absurd (cc e), j.1));
     replied = refl;
     graph = ap (λ w. held w next) j.0;
-    unfinished = ap (λ w. w.unfinished) j.0;
+    pending = ap (λ w. w.pending) j.0;
     acted = subst (λ (w : Stored). Acted s w None None) (sym j.0) (acted_same s);
     slots = let same = ap (λ w. w.free_slots) j.0 in omega arith;
     cells = ap (λ w. w.free_cells) j.0;
@@ -150,7 +150,7 @@ module _ (s t : Stored) (next seat : ℕ) where
     decided = (a, used);
     replied = ap (λ n. reply.Created n) m.0;
     graph = ap (λ n. held t n) m.2 ∙ ap (λ w. held w (next + 1)) m.3.is;
-    unfinished = ap (λ w. w.unfinished) m.3.is;
+    pending = ap (λ w. w.pending) m.3.is;
     acted = m.4;
     slots = m.3.free_slots;
     cells = m.3.free_cells;
@@ -164,7 +164,7 @@ module _ (s t : Stored) (next seat : ℕ) where
     decided = (a, no_room full m.2);
     replied = refl;
     graph = (λ i. held (m.0 i) (m.1 i));
-    unfinished = ap (λ w. w.unfinished) m.0;
+    pending = ap (λ w. w.pending) m.0;
     acted = subst (λ (w : Stored). Acted s w None None) (sym m.0) (acted_same s);
     slots = let same = ap (λ w. w.free_slots) m.0 in omega arith;
     cells = ap (λ w. w.free_cells) m.0;
@@ -208,7 +208,7 @@ module _ (s t : Stored) (next seat : ℕ) where
     decided = (a, used);
     replied = refl;
     graph = ap (λ w. held w next) removed.is;
-    unfinished = ap (λ w. w.unfinished) removed.is;
+    pending = ap (λ w. w.pending) removed.is;
     acted = acted;
     slots = let same = ap (λ w. w.free_slots) removed.is in omega arith;
     cells = cells_cut x over α (includes_some (label H x over) α a.met.0 (not-true _ a.rights_named)) removed;
@@ -230,7 +230,7 @@ module _ (s t : Stored) (next seat : ℕ) where
     decided = (a, used);
     replied = refl;
     graph = ap (λ w. held w next) replaced.is ∙ sym (ap (with_text H over text) replaced.was);
-    unfinished = ap (λ w. w.unfinished) replaced.is;
+    pending = ap (λ w. w.pending) replaced.is;
     acted = acted;
     slots = let same = ap (λ w. w.free_slots) replaced.is in omega arith;
     cells = ap (λ w. w.free_cells) replaced.is;
@@ -262,7 +262,7 @@ module _ (s : Stored) (next seat : ℕ) where
     decided = (a, used);
     replied = is ∙ ap (λ v. reply.Text (text_of (held s next) v)) (serial_is s at over serves);
     graph = refl;
-    unfinished = refl;
+    pending = refl;
     acted = acted_same s;
     slots = omega arith;
     cells = refl;
@@ -280,7 +280,7 @@ module _ (s : Stored) (next seat : ℕ) where
     decided = (a, used);
     replied = is ∙ ap (λ v. reply.Edges (edges_of (held s next) v)) (serial_is s of at serves);
     graph = refl;
-    unfinished = refl;
+    pending = refl;
     acted = acted_same s;
     slots = omega arith;
     cells = refl;
@@ -298,7 +298,7 @@ module _ (s : Stored) (next seat : ℕ) where
     decided = (refl, denied);
     replied = refl;
     graph = refl;
-    unfinished = refl;
+    pending = refl;
     acted = acted_same s;
     slots = omega arith;
     cells = refl;

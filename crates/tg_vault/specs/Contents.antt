@@ -48,7 +48,7 @@ held_now v = held v.store (graph_now v).next
 
 -- the world of the vault, with its entries
 abbrev pub moment : Contents → Moment
-moment v = record { world = record { graph = graph_now v; seats = v.seats; pending = v.store.unfinished; used = v.limits.slots - v.store.free_slots }; history = v.history }
+moment v = record { world = record { graph = graph_now v; seats = v.seats; pending = v.store.pending; used = v.limits.slots - v.store.free_slots }; history = v.history }
 
 -- what no event changes
 pub record Keeps (old new : Contents) : Type 0 where
@@ -82,4 +82,4 @@ pub record IsFresh (c : Config) (v : Contents) : Type 0 where
   pub held : held_now v ≡ config.opening c
   pub unparked : (x : ℕ) → set.contains v.store.parked x ≡ true → ⊥
   pub phase : v.store.phase ≡ Idle
-  pub idle : (seat : ℕ) → at_seat v.store.unfinished seat ≡ None
+  pub idle : (seat : ℕ) → at_seat v.store.pending seat ≡ None

@@ -1,7 +1,7 @@
 -- What is stored fits the graph of the history.
 use Rattle.std.specs.Prelude.{◌≡◌, ◌↔◌, ◌≤◌, ℕ, ◌+◌, length, Some, ◌⊎◌}
 use Rattle.std.specs.FinSet as set
-use Rattle.tg_rights.specs.Membership.{Holds}
+use Rattle.tg_rights.specs.Membership.{Contains}
 use Rattle.tg_graph.specs.Fullness.{vertex_count, edge_count}
 use Rattle.tg_graph.specs.Paths.{IsPart, Live}
 use Rattle.tg_graph.specs.Protection.{Protection, IsGraph, IsVertex}
@@ -10,7 +10,7 @@ use Rattle.tg_vault.specs.History.{Legal, IsPrincipal}
 use Rattle.tg_vault.specs.World.{World, at_seat}
 use Rattle.tg_vault.specs.Contents.{Contents, IsVault, graph_now, held_now, moment}
 
--- the roots of a world are the principals and the unfinished targets
+-- the roots of a world are the principals and the pending targets
 abbrev pub IsRoot : Protection → World → ℕ → Type 0
 IsRoot opening w x = IsPrincipal opening x ⊎ ((seat : ℕ) × (at_seat w.pending seat ≡ Some x))
 
@@ -24,7 +24,7 @@ pub record Joins (v : Contents) : Type 0 where
   pub opened : IsGraph v.opening
   pub part : IsPart (graph_now v) (held_now v)
   pub parked : (x : ℕ) → InSet v.store.parked x → IsVertex (graph_now v) x
-  pub principals : (x : ℕ) → Holds v.store.principals x ↔ IsPrincipal v.opening x
+  pub principals : (x : ℕ) → Contains v.store.principals x ↔ IsPrincipal v.opening x
   pub slots : length v.store.marks ≡ v.limits.slots
   pub cells : v.store.cells ≡ v.limits.cells
   pub many_slots : v.limits.slots ≤ v.store.free_slots + vertex_count (graph_now v)

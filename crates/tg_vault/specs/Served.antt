@@ -58,7 +58,7 @@ pub record Served (s t : Stored) (next after seat x : ℕ) (c : Command) (answer
   pub decided : Decided (held s next) s.free_slots s.free_cells x c outcome
   pub replied : answer ≡ reply_of (held s next) c outcome
   pub graph : held t after ≡ next_graph (held s next) x c outcome
-  pub unfinished : t.unfinished ≡ with_target s.unfinished seat (target_of (held s next) c outcome)
+  pub pending : t.pending ≡ with_target s.pending seat (target_of (held s next) c outcome)
   pub acted : Acted s t (new_serial next c outcome) (target_of (held s next) c outcome)
   pub slots : s.free_slots ≡ t.free_slots + slots_taken c outcome
   pub cells : CellsMoved (held s next) s.free_cells t.free_cells x c outcome

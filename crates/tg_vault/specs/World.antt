@@ -27,7 +27,7 @@ pub record World : Type 0 where
   pub graph : Protection
   -- the principal of each seat that is in use
   pub seats : List (Option ℕ)
-  -- the unfinished target of each seat that has one
+  -- the pending target of each seat that has one
   pub pending : List (Option ℕ)
   -- the slots that are not free
   pub used : ℕ
@@ -80,7 +80,7 @@ module _ (w : World) (seat : ℕ) where
   IsAskFault ask_fault.Busy = ask_refusal ≡ Some ask_fault.Busy
   IsAskFault ask_fault.OutOfMemory = ask_refusal ≡ None
 
--- the unfinished target that a command leaves, also where the edge was there
+-- the pending target that a command leaves, also where the edge was there
 abbrev pub allowed_target : Protection → Command → Option ℕ
 allowed_target G (command.Take α over from) = Some over
 allowed_target G (command.Grant α over to) = Some over

@@ -9,7 +9,7 @@ ghost use Rattle.tg_vault.specs.declared.plan.Plan.TheVariants as plan;
 ghost use Rattle.tg_vault.specs.Plans.{Serves, HasDocument, IsPlaced};
 
 use tg_collect::Store;
-use tg_graph::rules::{document_of, is_distinct, names_rights};
+use tg_graph::{document_of, is_distinct, names_rights};
 use tg_rights::{Cause, Command, Kind, Rights, Text};
 
 /// What an allowed command is to do in the store, with the slots that it needs for that.

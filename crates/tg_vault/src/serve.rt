@@ -1,7 +1,7 @@
 //! Carrying out what the rules allow in the store.
 ghost use Rattle.std.specs.Prelude.{◌≡◌, ◌≢◌, ◌<◌, ◌+◌, ℕ, List, IfOk, OnErr, OnOk, IsSome, Some, None, true, false};
 ghost use Rattle.tg_rights.specs.Letters.{is_none, includes};
-ghost use Rattle.tg_rights.specs.Membership.{Holds};
+ghost use Rattle.tg_rights.specs.Membership.{Contains};
 ghost use Rattle.tg_rights.specs.declared.outcome.Reply.TheVariants as reply;
 ghost use Rattle.tg_graph.specs.Protection.{label};
 ghost use Rattle.tg_graph.specs.Rules.{edges_of, text_of};
@@ -122,7 +122,7 @@ pub fn answer(
 ) -> Result<Reply, AllocError>
     requires seat { seat < 64 }
     requires idle { pending_of store.old seat ≡ None }
-    requires principal { Holds store.old.principals actor }
+    requires principal { Contains store.old.principals actor }
     requires unheld { IsHeldIn store.old next.old → ⊥ }
     requires unparked { InSet store.old.parked next.old → ⊥ }
     ensures served { IfOk result (λ answer. Served store.old store.new next.old next.new seat actor command.now answer) }

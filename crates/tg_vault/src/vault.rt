@@ -27,15 +27,14 @@ use crate::serve::answer;
 use std::alloc::{AllocError, Global};
 use std::marker::Model;
 use tg_collect::{Note, Store, runs_are_complete_and_bounded};
-use tg_graph::config::{Config, OpenFault};
-use tg_graph::graph::Graph;
+use tg_graph::{Config, Graph, OpenFault};
 use tg_rights::{Command, Outcome, Reply, Word};
 
 /// How many seats there are: seats are numbered from 0 to 63.
 pub const SEATS: u64 = 64;
 
 /// The whole state of the server: the opening graph with its principals' names, the seats, the store with its collector
-/// and the unfinished target of each seat, and the history of commands. Each call is one atomic step. Contracts see its
+/// and the pending target of each seat, and the history of commands. Each call is one atomic step. Contracts see its
 /// `Contents`; the graph of the history stands in them alone, and what is stored is what of it is still in use.
 ///
 /// The history is kept whole, and is legal: each entry's outcome is one that the take-grant rules (Lipton and Snyder
@@ -250,9 +249,9 @@ impl Vault {
         }
     }
 
-    /// The principal at the seat, which has no unfinished target.
+    /// The principal at the seat, which has no pending target.
     fn idle_at(&self, seat: u64) -> Result<u64, SeatFault>
-        ensures ok { IfOk result (λ x. (seat < 64) × (at_seat self.now.seats seat ≡ Some x) × (at_seat self.now.store.unfinished seat ≡ None)) }
+        ensures ok { IfOk result (λ x. (seat < 64) × (at_seat self.now.seats seat ≡ Some x) × (at_seat self.now.store.pending seat ≡ None)) }
         ensures err { IfErr result (λ fault. bye_fault (moment self.now).world seat ≡ Some fault) }
     {
         let principal = self.principal_at(seat)?;
@@ -263,7 +262,7 @@ impl Vault {
     }
 
     /// Empties the seat. Faults, in this order, after which all is as before: `NoSeat` for a seat above 63, `NoActor` for
-    /// an empty one, `Busy` while the seat has an unfinished target. Takes no memory.
+    /// an empty one, `Busy` while the seat has a pending target. Takes no memory.
     pub fn bye(&mut self, seat: u64) -> Result<(), SeatFault>
         ensures step { MatchResult result (λ _. Answers self.old (event.Bye seat) answer.Bye self.new) (λ fault. Answers self.old (event.Bye seat) (answer.Seat fault) self.new) }
         ensures keeps { Keeps self.old self.new }
@@ -275,7 +274,7 @@ impl Vault {
         Ok(())
     }
 
-    /// Finishes the seat's unfinished target and answers its serial, or `None` where there is none. Faults, in this order,
+    /// Finishes the seat's pending target and answers its serial, or `None` where there is none. Faults, in this order,
     /// after which all is as before: `NoSeat` for a seat above 63, `NoActor` for an empty one. Takes no memory.
     pub fn shade(&mut self, seat: u64) -> Result<Option<u64>, SeatFault>
         ensures step { MatchResult result (λ target. Answers self.old (event.Shade seat) (answer.Shaded target) self.new) (λ fault. Answers self.old (event.Shade seat) (answer.Seat fault) self.new) }
@@ -305,10 +304,10 @@ impl Vault {
 
     /// Judges the command of the seat's principal, carries it out where it is allowed, and enters it in the history with
     /// its outcome. Answers the entry's number, from 0, and the reply. An allowed take or grant makes `over` the seat's
-    /// unfinished target, also where the edge was there; an allowed create makes the new vertex so.
+    /// pending target, also where the edge was there; an allowed create makes the new vertex so.
     ///
     /// Faults, in this order, after which all is as before, nothing is entered and the command is dropped: `NoSeat` for a
-    /// seat above 63, `NoActor` for an empty one, `Busy` while the seat has an unfinished target, `OutOfMemory` where a
+    /// seat above 63, `NoActor` for an empty one, `Busy` while the seat has a pending target, `OutOfMemory` where a
     /// growth was refused, whatever the outcome would have been.
     ///
     /// The outcome and the reply are those of every graph that the actor can't tell from the graph of the history, a new
@@ -330,7 +329,7 @@ impl Vault {
 
     /// The actor of the seat's next command.
     fn ready_at(&self, seat: u64) -> Result<u64, AskFault>
-        ensures ok { IfOk result (λ x. (seat < 64) × (at_seat self.now.seats seat ≡ Some x) × (at_seat self.now.store.unfinished seat ≡ None) × (ask_refusal (moment self.now).world seat ≡ None)) }
+        ensures ok { IfOk result (λ x. (seat < 64) × (at_seat self.now.seats seat ≡ Some x) × (at_seat self.now.store.pending seat ≡ None) × (ask_refusal (moment self.now).world seat ≡ None)) }
         ensures err { IfErr result (λ fault. IsAskFault (moment self.now).world seat fault) }
     {
         match self.idle_at(seat) {
@@ -345,7 +344,7 @@ impl Vault {
     fn enter(&mut self, seat: u64, actor: u64, command: Command) -> Result<(u64, Reply), AllocError>
         requires seat { seat < 64 }
         requires seated { at_seat self.old.seats seat ≡ Some actor }
-        requires idle { at_seat self.old.store.unfinished seat ≡ None }
+        requires idle { at_seat self.old.store.pending seat ≡ None }
         ensures number { IfOk result (λ r. r.0 ≡ length self.old.history) }
         ensures ok { IfOk result (λ r. Enters self.old.limits (moment self.old) seat actor command r.1 (moment self.new)) }
         ensures err { OnErr result (self.new ≡ self.old) }

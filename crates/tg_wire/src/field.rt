@@ -9,8 +9,7 @@ ghost use Rattle.tg_wire.specs.Reading.{AnswersField};
 use crate::fault::WireFault;
 use serde_json::Value;
 use std::alloc::Global;
-use tg_rights::text::MAX_TEXT;
-use tg_rights::{Kind, Rights, Text, Word};
+use tg_rights::{Kind, MAX_TEXT, Rights, Text, Word};
 
 pub(crate) fn number(value: &Value, name: &str) -> Option<u64>
     ensures { result ≡ fields.number_in name.now (view value.now) }

@@ -4,7 +4,7 @@ use Rattle.tg_collect.specs.OpeningSteps.{Blank}
 use Rattle.tg_collect.proofs.OpeningLemmas.{blank_whole, blank_opens, blank_triples}
 use Rattle.tg_collect.proofs.machine.Machine.blank.Goals as goal
 
-is_blank : (c : goal.In_ok-unfinished) → Blank (record { heap = c.in_ok-heap.heap; progress = Idle; principals = c.in_ok-principals.principals; unfinished = c.in_ok-unfinished.unfinished }) c.args.slots c.args.cells
+is_blank : (c : goal.In_ok-pending) → Blank (record { heap = c.in_ok-heap.heap; progress = Idle; principals = c.in_ok-principals.principals; pending = c.in_ok-pending.pending }) c.args.slots c.args.cells
 is_blank c = record {
   table = c.in_ok-heap.ensures.0;
   free_cells = c.in_ok-heap.ensures.1;
@@ -12,8 +12,8 @@ is_blank c = record {
   lists = c.in_ok-heap.ensures.3;
   progress = refl;
   principals = c.in_ok-principals.ensures.items;
-  seats = c.in_ok-unfinished.ensures.length;
-  idle = c.in_ok-unfinished.ensures.idle;
+  seats = c.in_ok-pending.ensures.length;
+  idle = c.in_ok-pending.ensures.idle;
 }
 
 pub returns-clause-whole : goal.returns-clause-whole

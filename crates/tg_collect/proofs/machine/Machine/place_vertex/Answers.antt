@@ -1,5 +1,5 @@
 use Rattle.std.proofs.Common.{ℕ, List, inl, refl, sym, ◌∙◌, subst, Ok}
-use Rattle.tg_rights.specs.Membership.{Holds}
+use Rattle.tg_rights.specs.Membership.{Contains}
 use Rattle.tg_collect.specs.declared.machine.Machine.{Machine}
 use Rattle.tg_collect.specs.SessionLines.{Places}
 use Rattle.tg_collect.proofs.SessionLemmas.{placed_ahead, placed_behind, kept-placed}
@@ -9,7 +9,7 @@ use Rattle.tg_collect.proofs.machine.Machine.place_vertex.Goals.{then-has_passed
 placed : (c : goal.Joined-has_passed) → Places c.args.self.now c.args.serial c.args.kind c.args.text (Ok c.in-Ok.id) c.if-has_passed.self
 placed c =
     let m = c.args.self.now in
-    let listed = c.soundness.ensures.sound.table.listed_free c.in-Ok.id (subst (λ (l : List ℕ). Holds l c.in-Ok.id) (sym c.in-Ok.ensures.0) (inl refl)) in
+    let listed = c.soundness.ensures.sound.table.listed_free c.in-Ok.id (subst (λ (l : List ℕ). Contains l c.in-Ok.id) (sym c.in-Ok.ensures.0) (inl refl)) in
     elim c.if-has_passed.branch [
       | then-has_passed w ↦ subst (λ (x : Machine). Places m c.args.serial c.args.kind c.args.text (Ok c.in-Ok.id) x) (sym w.self-is)
           (subst (λ (h : _). Places m c.args.serial c.args.kind c.args.text (Ok c.in-Ok.id) (record m { heap = h })) (sym w.whiten.ensures)

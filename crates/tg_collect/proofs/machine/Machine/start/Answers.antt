@@ -1,7 +1,7 @@
 use Rattle.std.proofs.Common.{◌≡◌, ◌+◌, ◌-◌, ◌<◌, length, arith, inl, sym, subst, rules}
-use Rattle.tg_collect.proofs.MachineLemmas.{starting_step, all_dark, kept-start, DarkFrom, index_holds}
+use Rattle.tg_collect.proofs.MachineLemmas.{starting_step, all_dark, kept-start, DarkFrom, index_contains}
 use Rattle.tg_collect.proofs.StepLines.{steps_starts, started_none, started_more}
-use Rattle.tg_rights.specs.Membership.{Holds}
+use Rattle.tg_rights.specs.Membership.{Contains}
 use Rattle.tg_collect.specs.declared.machine.Machine.{Machine}
 use Rattle.tg_collect.proofs.machine.Machine.start.Goals as goal
 
@@ -9,7 +9,7 @@ pub shade_root-requires-clause-root : goal.shade_root-requires-clause-root
 shade_root-requires-clause-root c =
     let within = c.loop-left.invariant.starting.within in
     let below : c.loop-left.left - 1 < length c.loop-left.self.principals.items = omega (arith, within) in
-    inl (c.index.result.now.serial, index_holds c.loop-left.self.principals.items c.index.result.now c.index.result.now (c.loop-left.left - 1) below (sym c.index.ensures))
+    inl (c.index.result.now.serial, index_contains c.loop-left.self.principals.items c.index.result.now c.index.result.now (c.loop-left.left - 1) below (sym c.index.ensures))
 
 pub loop-left-init : goal.loop-left-init
 loop-left-init c = record { starting = search rules; from = started_none c.args.self.now _ (omega arith) }
@@ -20,12 +20,12 @@ loop-left-preserved c =
     let s = c.loop-left.invariant.from in
     let within = c.loop-left.invariant.starting.within in
     let below : c.loop-left.left - 1 < length c.loop-left.self.principals.items = omega (arith, within) in
-    let held = index_holds c.loop-left.self.principals.items c.index.result.now c.index.result.now (c.loop-left.left - 1) below (sym c.index.ensures) in
+    let held = index_contains c.loop-left.self.principals.items c.index.result.now c.index.result.now (c.loop-left.left - 1) below (sym c.index.ensures) in
     record {
       starting = starting_step c.loop-left.self c.shade_root.new.self c.loop-left.left (c.loop-left.left - 1) c.index.result.now c.loop-left.invariant.starting one c.index.ensures
           c.shade_root.ensures.step c.shade_root.ensures.kept c.shade_root.ensures.dark c.shade_root.ensures.whites;
       from = started_more c.args.self.now c.loop-left.self c.shade_root.new.self c.index.result.now.slot c.loop-left.left (c.loop-left.left - 1) s one
-          (c.index.result.now.serial, subst (λ (m : Machine). Holds m.principals.items c.index.result.now) s.is held) c.shade_root.ensures.step;
+          (c.index.result.now.serial, subst (λ (m : Machine). Contains m.principals.items c.index.result.now) s.is held) c.shade_root.ensures.step;
     }
 
 pub returns-clause-kept : goal.returns-clause-kept
