@@ -2,6 +2,7 @@
 use Rattle.std.specs.Prelude.{◌≡◌, ◌<◌, ◌≤◌, ℕ, ◌-◌, true, List, [], length, Option, Some, None, All, refl, replicate}
 use Rattle.std.specs.Coded.{Coded, code_by, coded×, coded_ℕ, coded_list, coded_option}
 use Rattle.std.specs.FinSet as set
+use Rattle.tg_rights.specs.declared.limits.TheConstants.{MAX_PRINCIPALS, SEATS}
 use Rattle.tg_graph.specs.Protection.{Protection}
 use Rattle.tg_graph.specs.declared.config.Config.{Config}
 use Rattle.tg_graph.specs.Fullness.{Limits}
@@ -57,18 +58,18 @@ pub record Keeps (old new : Contents) : Type 0 where
   pub limits : new.limits ≡ old.limits
 
 -- the event is answered so by the vault
-abbrev pub Answers : Contents → Event → Answer → Contents → Type 0
-Answers old e a new = Step old.limits old.names (moment old) e a (moment new)
+abbrev pub StepOf : Contents → Event → Answer → Contents → Type 0
+StepOf old e a new = Step old.limits old.names (moment old) e a (moment new)
 
-abbrev pub Runs : Contents → List Event → List Answer → Contents → Type 0
-Runs old es answers new = Run old.limits old.names (moment old) es answers (moment new)
+abbrev pub RunOf : Contents → List Event → List Answer → Contents → Type 0
+RunOf old es answers new = Run old.limits old.names (moment old) es answers (moment new)
 
--- the history is legal, the tables are those of 64 seats, and only principals sit on them
+-- the history is legal, the tables have one place for each seat, and only principals sit on them
 pub record IsVault (v : Contents) : Type 0 where
   pub legal : Legal v.limits v.opening v.history (graph_now v)
-  pub sat : All (λ e. e.seat < 64) v.history
-  pub seats : length v.seats ≡ 64
-  pub few : length v.names ≤ 64
+  pub sat : All (λ e. e.seat < SEATS) v.history
+  pub seats : length v.seats ≡ SEATS
+  pub few : length v.names ≤ MAX_PRINCIPALS
   pub named : (k : ℕ) → is_principal (length v.names) k ≡ true → IsPrincipal v.opening k
   pub seated : (seat x : ℕ) → at_seat v.seats seat ≡ Some x → IsPrincipal v.opening x
 
@@ -77,7 +78,7 @@ pub record IsFresh (c : Config) (v : Contents) : Type 0 where
   pub opening : v.opening ≡ config.opening c
   pub names : v.names ≡ c.principals.items
   pub limits : v.limits ≡ record { slots = c.slots; cells = c.cells }
-  pub seats : v.seats ≡ replicate 64 None
+  pub seats : v.seats ≡ replicate SEATS None
   pub history : v.history ≡ []
   pub held : held_now v ≡ config.opening c
   pub unparked : (x : ℕ) → set.contains v.store.parked x ≡ true → ⊥

@@ -5,7 +5,7 @@ use Rattle.tg_rights.specs.declared.outcome.Outcome.TheVariants as outcome
 use Rattle.tg_graph.specs.Rules.{Allowed}
 use Rattle.tg_vault.specs.declared.entry.Entry.{Entry}
 use Rattle.tg_vault.specs.Contents.{Contents, graph_now}
-use Rattle.tg_vault.specs.Served.{IsUsedUp}
+use Rattle.tg_vault.specs.CarriedOut.{IsUsedUp}
 
 -- the command that is entered is full for a list exactly where the rules allow it and that list is the first that it
 -- needs and that is used up

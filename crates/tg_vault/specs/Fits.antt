@@ -1,6 +1,7 @@
 -- What is stored fits the graph of the history.
 use Rattle.std.specs.Prelude.{◌≡◌, ◌↔◌, ◌≤◌, ℕ, ◌+◌, length, Some, ◌⊎◌}
 use Rattle.std.specs.FinSet as set
+use Rattle.tg_rights.specs.declared.limits.TheConstants.{MAX_CELLS, MAX_SLOTS}
 use Rattle.tg_rights.specs.Membership.{Contains}
 use Rattle.tg_graph.specs.Fullness.{vertex_count, edge_count}
 use Rattle.tg_graph.specs.Paths.{IsPart, Live}
@@ -19,7 +20,7 @@ abbrev pub HasSlot : Contents → ℕ → Type 0
 HasSlot v x = IsHeldIn v.store x ⊎ InSet v.store.parked x
 
 -- what a vault keeps besides what its store keeps of itself
-pub record Joins (v : Contents) : Type 0 where
+pub record Ties (v : Contents) : Type 0 where
   pub vault : IsVault v
   pub opened : IsGraph v.opening
   pub part : IsPart (graph_now v) (held_now v)
@@ -31,14 +32,14 @@ pub record Joins (v : Contents) : Type 0 where
   pub many_cells : v.limits.cells ≤ v.store.free_cells + edge_count (graph_now v)
 
 -- and the next serial is that of the graph
-pub record IsJoined (v : Contents) (next : ℕ) : Type 0 where
-  pub joins : Joins v
+pub record IsTied (v : Contents) (next : ℕ) : Type 0 where
+  pub joins : Ties v
   pub serial : next ≡ (graph_now v).next
 
 -- a vault has at most so many slots and cells
 pub record IsSmall (v : Contents) : Type 0 where
-  pub slots : v.limits.slots ≤ 65536
-  pub cells : v.limits.cells ≤ 1048576
+  pub slots : v.limits.slots ≤ MAX_SLOTS
+  pub cells : v.limits.cells ≤ MAX_CELLS
 
 -- the history is legal, and what is stored is what of its graph is still in use: each held vertex has the graph's kind,
 -- text and edges, which lead to held ones; what a root reaches is held; held and parked are apart, and vertices of the

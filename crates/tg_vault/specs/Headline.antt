@@ -2,7 +2,7 @@
 -- rules allow it in the graph that is never collected, unless refused as full; every denial names its rule and missing
 -- rights; no vertex reachable from a principal or an unfinished step loses its slot; what is unreachable when a cycle
 -- starts has no slot when the next cycle ends.
-use Rattle.std.specs.Prelude.{◌≡◌, ◌⊎◌, List, [], ◌∷◌}
+use Rattle.std.specs.Prelude.{◌≡◌, ◌↔◌, ◌⊎◌, List, [], ◌∷◌}
 use Rattle.tg_rights.specs.declared.command.Rule.{Rule}
 use Rattle.tg_rights.specs.declared.outcome.Cause.{Cause}
 use Rattle.tg_rights.specs.declared.outcome.Which.{Which}
@@ -13,30 +13,32 @@ use Rattle.tg_graph.specs.Rules.{Allowed, Denied, next_graph}
 use Rattle.tg_vault.specs.declared.entry.Entry.{Entry}
 use Rattle.tg_vault.specs.declared.event.Event.{Event}
 use Rattle.tg_vault.specs.declared.event.Answer.{Answer}
-use Rattle.tg_vault.specs.Contents.{Contents, Runs}
+use Rattle.tg_vault.specs.Contents.{Contents, RunOf}
 use Rattle.tg_vault.specs.Added.{AddsAsked}
 use Rattle.tg_vault.specs.Fits.{Fits}
-use Rattle.tg_vault.specs.Course.{Course}
-use Rattle.tg_vault.specs.Cycles.{IsComplete}
+use Rattle.tg_vault.specs.Course.{Course, IsCoherent}
+use Rattle.tg_vault.specs.Cycles.{IsComplete, IsBounded}
 
 -- something holds of each entry, and of the graph that the entries before it leave, from which nothing is ever collected
 abbrev pub EachEntry : (Protection → Entry → Type 0) → Protection → List Entry → Type 0
 EachEntry P G [] = Unit {0}
 EachEntry P G (e ∷ es) = P G e × EachEntry P (next_graph G e.actor e.command e.outcome) es
 
--- an entry is carried out only where the rules allow it, and where they do, it is, unless it is refused as full
-abbrev pub IsCarriedOutWhenAllowed : Limits → Protection → Entry → Type 0
-IsCarriedOutWhenAllowed limits G e =
-    (e.outcome ≡ outcome.Allowed → Allowed G e.actor e.command)
-    × (Allowed G e.actor e.command → (e.outcome ≡ outcome.Allowed) ⊎ ((w : Which) × (e.outcome ≡ outcome.Full w) × MayBeFull limits G e.actor e.command w))
+-- an entry is carried out only where the rules allow it; where they do, it is, unless it is refused as full; and it is
+-- refused as full only where the rules allow it and the world may be full
+pub record IsCarriedOutWhenAllowed (limits : Limits) (G : Protection) (e : Entry) : Type 0 where
+  pub only : e.outcome ≡ outcome.Allowed → Allowed G e.actor e.command
+  pub unless_full : Allowed G e.actor e.command → (e.outcome ≡ outcome.Allowed) ⊎ ((w : Which) × (e.outcome ≡ outcome.Full w))
+  pub full : (w : Which) → e.outcome ≡ outcome.Full w → Allowed G e.actor e.command × MayBeFull limits G e.actor e.command w
 
--- a denial names the command's rule and the first cause, with the rights that lack
+-- an entry is denied exactly where the rules deny it, by the command's rule and for the first cause, with the rights that
+-- lack
 abbrev pub IsDenialNamed : Protection → Entry → Type 0
-IsDenialNamed G e = (rule : Rule) (cause : Cause) → e.outcome ≡ outcome.Denied rule cause → Denied G e.actor e.command rule cause
+IsDenialNamed G e = (rule : Rule) (cause : Cause) → (e.outcome ≡ outcome.Denied rule cause) ↔ Denied G e.actor e.command rule cause
 
 -- the four clauses of a run, whose answers are those of the world; what is kept is kept after each event on the way, too
 pub record Headline (old : Contents) (es : List Event) (answers : List Answer) (new : Contents) : Type 0 where
-  pub run : Runs old es answers new
+  pub run : RunOf old es answers new
   pub added : AddsAsked old answers new
   pub carried_out : EachEntry (IsCarriedOutWhenAllowed new.limits) new.opening new.history
   pub denied : EachEntry IsDenialNamed new.opening new.history

@@ -6,13 +6,13 @@ use Rattle.tg_graph.specs.Rules.{next_graph}
 use Rattle.tg_vault.specs.declared.entry.Entry.{Entry}
 
 -- the entry leads from one graph to the next
-abbrev pub Turns : Limits → Protection → Entry → Protection → Type 0
-Turns limits G e H = Permitted limits G e.actor e.command e.outcome × (H ≡ next_graph G e.actor e.command e.outcome)
+abbrev pub EntryStep : Limits → Protection → Entry → Protection → Type 0
+EntryStep limits G e H = Permitted limits G e.actor e.command e.outcome × (H ≡ next_graph G e.actor e.command e.outcome)
 
 -- the entries lead from one graph to another, by the graphs in between
-abbrev pub GraphsAlong : Limits → Protection → List Entry → Protection → Type 0
-GraphsAlong limits G [] H = H ≡ G
-GraphsAlong limits G (e ∷ es) H = (between : Protection) × Turns limits G e between × GraphsAlong limits between es H
+abbrev pub EntryRun : Limits → Protection → List Entry → Protection → Type 0
+EntryRun limits G [] H = H ≡ G
+EntryRun limits G (e ∷ es) H = (between : Protection) × EntryStep limits G e between × EntryRun limits between es H
 
 -- the principals are the subjects of the opening graph
 abbrev pub IsPrincipal : Protection → ℕ → Type 0
@@ -20,7 +20,7 @@ IsPrincipal opening x = IsSubject opening x
 
 -- the rules permit the entries from the opening graph on, and G is the graph of the history
 pub record Legal (limits : Limits) (opening : Protection) (entries : List Entry) (G : Protection) : Type 0 where
-  pub graphs : GraphsAlong limits opening entries G
+  pub graphs : EntryRun limits opening entries G
   pub actors : All (λ e. IsPrincipal opening e.actor) entries
 
 -- the graph of a legal history

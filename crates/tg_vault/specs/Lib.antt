@@ -1,10 +1,10 @@
 pub mod History
 pub mod Plans
 pub mod World
-pub mod Served
+pub mod CarriedOut
 pub mod Contents
 pub mod Fits
-pub mod Moves
+pub mod StoreSteps
 pub mod Exact
 pub mod Agreement
 pub mod Told
@@ -12,3 +12,4 @@ pub mod Added
 pub mod Course
 pub mod Cycles
 pub mod Headline
+pub mod Laws

@@ -9,15 +9,15 @@ use Rattle.tg_collect.specs.Stored.{Stored, held}
 use Rattle.tg_collect.specs.Views.{place, serial_at}
 
 -- the plan does what x asks: its slots are those of the vertices that the command names
-abbrev pub Serves : Stored → ℕ → Command → Plan → Type 0
-Serves s x (command.Take α over from) (plan.Join owner target rights) = (rights ≡ α) × (place s owner ≡ Some x) × (place s target ≡ Some over)
-Serves s x (command.Grant α over to) (plan.Join owner target rights) = (rights ≡ α) × (place s owner ≡ Some to) × (place s target ≡ Some over)
-Serves s x (command.Create k α) (plan.Make kind rights) = (kind ≡ k) × (rights ≡ α)
-Serves s x (command.Remove α over) (plan.Drop vertex rights) = (vertex ≡ over) × (rights ≡ α)
-Serves s x (command.Read over) (plan.Tell at) = place s at ≡ Some over
-Serves s x (command.Write over text) (plan.Replace at copied) = (copied.now ≡ text) × (place s at ≡ Some over)
-Serves s x (command.Look z) (plan.List of) = place s of ≡ Some z
-Serves s x _ _ = ⊥
+abbrev pub Fulfils : Stored → ℕ → Command → Plan → Type 0
+Fulfils s x (command.Take α over from) (plan.Join owner target rights) = (rights ≡ α) × (place s owner ≡ Some x) × (place s target ≡ Some over)
+Fulfils s x (command.Grant α over to) (plan.Join owner target rights) = (rights ≡ α) × (place s owner ≡ Some to) × (place s target ≡ Some over)
+Fulfils s x (command.Create k α) (plan.Make kind rights) = (kind ≡ k) × (rights ≡ α)
+Fulfils s x (command.Remove α over) (plan.Drop vertex rights) = (vertex ≡ over) × (rights ≡ α)
+Fulfils s x (command.Read over) (plan.Tell at) = place s at ≡ Some over
+Fulfils s x (command.Write over text) (plan.Replace at copied) = (copied.now ≡ text) × (place s at ≡ Some over)
+Fulfils s x (command.Look z) (plan.List of) = place s of ≡ Some z
+Fulfils s x _ _ = ⊥
 
 -- a plan to tell or to replace a text names the slot of some vertex
 abbrev pub IsPlaced : Stored → Plan → Type 0

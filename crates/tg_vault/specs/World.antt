@@ -1,8 +1,9 @@
 -- Worlds, and what each event may answer in one.
-use Rattle.std.specs.Prelude.{◌≡◌, ◌↔◌, ◌≤◌, ℕ, ◌+◌, Bool, true, cond, nat_lt, ◌==◌, List, [], ◌∷◌, ◌++◌, length, get_or, slice_set, Option, Some, None, is_some}
+use Rattle.std.specs.Prelude.{◌≡◌, ◌↔◌, ◌≤◌, ℕ, ◌+◌, Bool, true, cond, not, nat_lt, ◌==◌, List, [], ◌∷◌, ◌++◌, length, get_or, slice_set, Option, Some, None, is_some}
 use Rattle.std.specs.Option.{option_map}
 use Rattle.std.specs.List.{position}
 use Rattle.std.specs.Cmp.Lexicographic.{pointwise}
+use Rattle.tg_rights.specs.declared.limits.TheConstants.{SEATS}
 use Rattle.tg_rights.specs.declared.command.Command.{Command}
 use Rattle.tg_rights.specs.declared.command.Command.TheVariants as command
 use Rattle.tg_rights.specs.declared.outcome.Outcome.{Outcome}
@@ -52,7 +53,7 @@ actor_at w seat = at_seat w.seats seat
 -- the first fault of each call, if it has one
 module _ (w : World) (seat : ℕ) where
   abbrev pub no_seat : Bool
-  no_seat = nat_lt 63 seat
+  no_seat = not (nat_lt seat SEATS)
 
   abbrev pub in_use : Bool
   in_use = is_some (at_seat w.seats seat)

@@ -1,14 +1,16 @@
 //! The vault: a history of commands, and the seats from which they come, over a store with its collector.
 #![tactic(auto)]
 
-pub mod entry;
-pub mod event;
+mod carry_out;
+mod entry;
+mod event;
+mod laws;
 mod plan;
-mod serve;
 #[cfg(test)]
 mod tests;
-pub mod vault;
+mod vault;
 
 pub use entry::Entry;
 pub use event::{Answer, AskFault, Event, SeatFault};
-pub use vault::{Ran, SEATS, Swept, Vault};
+pub use laws::{courses_have_the_headline, courses_join};
+pub use vault::{Ran, Swept, Vault};

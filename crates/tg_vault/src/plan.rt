@@ -6,7 +6,7 @@ ghost use Rattle.tg_graph.specs.Rules.{Allowed, AllMet, DeniedFor, need, needs, 
 ghost use Rattle.tg_collect.specs.Stored.{held};
 ghost use Rattle.tg_collect.specs.Views.{place};
 ghost use Rattle.tg_vault.specs.declared.plan.Plan.TheVariants as plan;
-ghost use Rattle.tg_vault.specs.Plans.{Serves, HasDocument, IsPlaced};
+ghost use Rattle.tg_vault.specs.Plans.{Fulfils, HasDocument, IsPlaced};
 
 use tg_collect::Store;
 use tg_graph::{document_of, is_distinct, names_rights};
@@ -91,7 +91,7 @@ fn needed<'command>(
 ) -> Result<Plan<'command>, Cause>
     requires at { place store.now id ≡ Some actor }
     requires named { names_rights command.now ≡ true }
-    ensures served { IfOk result (λ plan. Serves store.now actor command.now plan) }
+    ensures carried { IfOk result (λ plan. Fulfils store.now actor command.now plan) }
     ensures met { IfOk result (λ _. (next : ℕ) → AllMet (held store.now next) (needs actor command.now)) }
     ensures unmet { IfErr result (λ cause. (next : ℕ) → option_map (unmet_cause (held store.now next)) (first_unmet (held store.now next) (needs actor command.now)) ≡ Some cause) }
 {
@@ -153,7 +153,7 @@ pub fn decide<'command>(
     command: &'command Command,
 ) -> Result<Plan<'command>, Cause>
     requires { place store.now id ≡ Some actor }
-    ensures served { IfOk result (λ plan. Serves store.now actor command.now plan) }
+    ensures carried { IfOk result (λ plan. Fulfils store.now actor command.now plan) }
     ensures allowed { IfOk result (λ _. (next : ℕ) → Allowed (held store.now next) actor command.now) }
     ensures denied { IfErr result (λ cause. (next : ℕ) → DeniedFor (held store.now next) actor command.now cause) }
 {

@@ -2,36 +2,34 @@
 ghost use Rattle.std.specs.Prelude.{◌≡◌, ◌==◌, ◌<◌, ◌≤◌, ◌+◌, length, slice_get, replicate, Some, None, IfOk, IfErr, IfSome, IfNone, OnErr, MatchResult, take};
 ghost use Rattle.std.specs.List.{position};
 ghost use Rattle.std.specs.Cmp.Lexicographic.{pointwise};
+ghost use Rattle.tg_rights.specs.declared.limits.TheConstants.{MAX_PRINCIPALS, SEATS};
 ghost use Rattle.tg_rights.specs.declared.outcome.Outcome.{Outcome};
 ghost use Rattle.tg_graph.specs.Opening.{opening, first_fault, IsRefusal};
 ghost use Rattle.tg_vault.specs.declared.entry.Entry.{Entry};
 ghost use Rattle.tg_vault.specs.declared.event.Event.TheVariants as event;
 ghost use Rattle.tg_vault.specs.declared.event.Answer.TheVariants as answer;
-ghost use Rattle.tg_collect.specs.Views.{IsStore};
 ghost use Rattle.tg_collect.specs.Sessions.{Shaded};
 ghost use Rattle.tg_vault.specs.World.{at_seat, principal_named, bye_fault, shade_fault, ask_refusal, Enters, IsAskFault};
-ghost use Rattle.tg_vault.specs.Contents.{Contents, Answers, IsFresh, Runs, Keeps, IsVault, moment};
-ghost use Rattle.tg_vault.specs.Fits.{Fits, IsSmall, Joins};
-ghost use Rattle.tg_vault.specs.Moves.{StoreActs, StoreMoves};
+ghost use Rattle.tg_vault.specs.Contents.{Contents, StepOf, IsFresh, RunOf, Keeps, IsVault, moment};
+ghost use Rattle.tg_vault.specs.Fits.{Fits, IsSmall};
+ghost use Rattle.tg_vault.specs.StoreSteps.{SessionStep, StoreAnswer, StoreStep};
 ghost use Rattle.tg_vault.specs.Told.{told};
 ghost use Rattle.tg_vault.specs.Added.{AddsAsked};
 ghost use Rattle.tg_vault.specs.Agreement.{SameForAgreeing};
 ghost use Rattle.tg_vault.specs.Exact.{IsExact};
-ghost use Rattle.tg_vault.specs.Course.{Course};
+ghost use Rattle.tg_vault.specs.Course.{Course, IsCoherent};
 ghost use Rattle.tg_vault.specs.Cycles.{IsBounded, IsCycle};
 ghost use Rattle.tg_vault.specs.Headline.{Headline};
 
 use crate::entry::Entry;
 use crate::event::{Answer, AskFault, Event, SeatFault};
-use crate::serve::answer;
+use crate::carry_out::answer;
+use crate::laws::courses_have_the_headline;
 use std::alloc::{AllocError, Global};
 use std::marker::Model;
-use tg_collect::{Note, Store, runs_are_complete_and_bounded};
+use tg_collect::{Note, Store};
 use tg_graph::{Config, Graph, OpenFault};
-use tg_rights::{Command, Outcome, Reply, Word};
-
-/// How many seats there are: seats are numbered from 0 to 63.
-pub const SEATS: u64 = 64;
+use tg_rights::{Command, Outcome, Reply, SEATS, Word};
 
 /// The whole state of the server: the opening graph with its principals' names, the seats, the store with its collector
 /// and the pending target of each seat, and the history of commands. Each call is one atomic step. Contracts see its
@@ -54,7 +52,7 @@ pub struct Vault {
 
 impl Model for Vault {
     ghost use Rattle.tg_vault.specs.Contents.{Contents, contents_code};
-    ghost use Rattle.tg_vault.specs.Fits.{IsJoined};
+    ghost use Rattle.tg_vault.specs.Fits.{IsTied};
 
     ghost Value = { Contents };
 
@@ -62,7 +60,7 @@ impl Model for Vault {
 
     ghost view = { λ v. record { opening = v.opening; names = v.names.items; limits = record { slots = v.slots; cells = v.cells }; seats = v.seats.items; store = v.store; history = v.history.items } };
 
-    ghost invariant = { λ v. IsJoined (record { opening = v.opening; names = v.names.items; limits = record { slots = v.slots; cells = v.cells }; seats = v.seats.items; store = v.store; history = v.history.items }) v.next };
+    ghost invariant = { λ v. IsTied (record { opening = v.opening; names = v.names.items; limits = record { slots = v.slots; cells = v.cells }; seats = v.seats.items; store = v.store; history = v.history.items }) v.next };
 }
 
 /// What the collector steps of a cycle did.
@@ -95,7 +93,7 @@ fn at_seat(table: &[Option<u64>], seat: u64) -> Option<u64>
 
 /// Seats that nobody has.
 fn empty_seats(alloc: Global) -> Result<Vec<Option<u64>>, AllocError>
-    ensures { IfOk result (λ seats. seats.items ≡ replicate 64 None) }
+    ensures { IfOk result (λ seats. seats.items ≡ replicate SEATS None) }
 {
     let mut seats = Vec::with_capacity(alloc, SEATS as usize)?;
     while seats.len() < SEATS as usize {
@@ -113,7 +111,7 @@ fn position_of(names: &[Word], name: &str) -> Option<usize>
 
 /// The serial of the principal of this name.
 fn principal_named(names: &[Word], name: &str) -> Option<u64>
-    requires { length names.now ≤ 64 }
+    requires { length names.now ≤ MAX_PRINCIPALS }
     ensures { result ≡ principal_named names.now name.now }
 {
     match position_of(names, name) {
@@ -129,7 +127,7 @@ fn outcome_of(reply: &Reply) -> Outcome
     match reply {
         Reply::Denied(rule, cause) => Outcome::Denied(*rule, *cause),
         Reply::Full(which) => Outcome::Full(*which),
-        _ => Outcome::Allowed,
+        Reply::Done | Reply::Created(_) | Reply::Text(_) | Reply::Edges(_) => Outcome::Allowed,
     }
 }
 
@@ -176,14 +174,13 @@ impl Vault {
         })
     }
 
-    /// Does nothing. By its clauses a caller learns what every vault has: a legal history of seats from 0 to 63, a table
-    /// of 64 seats with only principals in them, and a store that fits the graph of the history.
+    /// No-op; its postcondition exposes the invariant: a legal history of seats from 0 to 63, a table of 64 seats with
+    /// only principals in them, and a store that fits the graph of the history.
     pub fn soundness(&self)
         ensures vault { IsVault self.now }
         ensures small { IsSmall self.now }
-        ensures joins { Joins self.now }
+        ensures coherent { IsCoherent self.now }
         ensures fits { Fits self.now }
-        ensures store { IsStore self.now.store }
     {
         self.opening.soundness();
         self.store.soundness();
@@ -215,7 +212,7 @@ impl Vault {
     /// order, after which all is as before: `NoSeat` for a seat above 63, `Bound` for one in use, `NoPrincipal` where nobody
     /// has the name. Takes no memory.
     pub fn hello(&mut self, seat: u64, name: &str) -> Result<u64, SeatFault>
-        ensures step { MatchResult result (λ x. Answers self.old (event.Hello seat name.now) (answer.Hello x) self.new) (λ fault. Answers self.old (event.Hello seat name.now) (answer.Seat fault) self.new) }
+        ensures step { MatchResult result (λ x. StepOf self.old (event.Hello seat name.now) (answer.Hello x) self.new) (λ fault. StepOf self.old (event.Hello seat name.now) (answer.Seat fault) self.new) }
         ensures keeps { Keeps self.old self.new }
         ensures store { self.new.store ≡ self.old.store }
         ensures unchanged { OnErr result (self.new ≡ self.old) }
@@ -237,7 +234,7 @@ impl Vault {
 
     /// The principal at the seat.
     fn principal_at(&self, seat: u64) -> Result<u64, SeatFault>
-        ensures ok { IfOk result (λ x. (seat < 64) × (at_seat self.now.seats seat ≡ Some x)) }
+        ensures ok { IfOk result (λ x. (seat < SEATS) × (at_seat self.now.seats seat ≡ Some x)) }
         ensures err { IfErr result (λ fault. shade_fault (moment self.now).world seat ≡ Some fault) }
     {
         if seat >= SEATS {
@@ -251,7 +248,7 @@ impl Vault {
 
     /// The principal at the seat, which has no pending target.
     fn idle_at(&self, seat: u64) -> Result<u64, SeatFault>
-        ensures ok { IfOk result (λ x. (seat < 64) × (at_seat self.now.seats seat ≡ Some x) × (at_seat self.now.store.pending seat ≡ None)) }
+        ensures ok { IfOk result (λ x. (seat < SEATS) × (at_seat self.now.seats seat ≡ Some x) × (at_seat self.now.store.pending seat ≡ None)) }
         ensures err { IfErr result (λ fault. bye_fault (moment self.now).world seat ≡ Some fault) }
     {
         let principal = self.principal_at(seat)?;
@@ -264,7 +261,7 @@ impl Vault {
     /// Empties the seat. Faults, in this order, after which all is as before: `NoSeat` for a seat above 63, `NoActor` for
     /// an empty one, `Busy` while the seat has a pending target. Takes no memory.
     pub fn bye(&mut self, seat: u64) -> Result<(), SeatFault>
-        ensures step { MatchResult result (λ _. Answers self.old (event.Bye seat) answer.Bye self.new) (λ fault. Answers self.old (event.Bye seat) (answer.Seat fault) self.new) }
+        ensures step { MatchResult result (λ _. StepOf self.old (event.Bye seat) answer.Bye self.new) (λ fault. StepOf self.old (event.Bye seat) (answer.Seat fault) self.new) }
         ensures keeps { Keeps self.old self.new }
         ensures store { self.new.store ≡ self.old.store }
         ensures unchanged { OnErr result (self.new ≡ self.old) }
@@ -277,10 +274,10 @@ impl Vault {
     /// Finishes the seat's pending target and answers its serial, or `None` where there is none. Faults, in this order,
     /// after which all is as before: `NoSeat` for a seat above 63, `NoActor` for an empty one. Takes no memory.
     pub fn shade(&mut self, seat: u64) -> Result<Option<u64>, SeatFault>
-        ensures step { MatchResult result (λ target. Answers self.old (event.Shade seat) (answer.Shaded target) self.new) (λ fault. Answers self.old (event.Shade seat) (answer.Seat fault) self.new) }
+        ensures step { MatchResult result (λ target. StepOf self.old (event.Shade seat) (answer.Shaded target) self.new) (λ fault. StepOf self.old (event.Shade seat) (answer.Seat fault) self.new) }
         ensures keeps { Keeps self.old self.new }
         ensures shaded { IfOk result (λ target. Shaded self.old.store self.new.store seat target) }
-        ensures acts { StoreActs self.old self.new }
+        ensures acts { SessionStep self.old self.new }
         ensures unchanged { OnErr result (self.new ≡ self.old) }
     {
         self.principal_at(seat)?;
@@ -292,9 +289,9 @@ impl Vault {
 
     /// One step of the collector, as its table has it. Takes no memory.
     pub fn collect(&mut self) -> Note
-        ensures step { Answers self.old event.Collect (answer.Noted result) self.new }
+        ensures step { StepOf self.old event.Collect (answer.Noted result) self.new }
         ensures keeps { Keeps self.old self.new }
-        ensures moves { StoreMoves self.old event.Collect (answer.Noted result) self.new }
+        ensures stored { StoreStep self.old event.Collect (answer.Noted result) self.new }
     {
         self.store.soundness();
         let note = self.store.collect();
@@ -303,7 +300,7 @@ impl Vault {
     }
 
     /// Judges the command of the seat's principal, carries it out where it is allowed, and enters it in the history with
-    /// its outcome. Answers the entry's number, from 0, and the reply. An allowed take or grant makes `over` the seat's
+    /// its outcome. StepOf the entry's number, from 0, and the reply. An allowed take or grant makes `over` the seat's
     /// pending target, also where the edge was there; an allowed create makes the new vertex so.
     ///
     /// Faults, in this order, after which all is as before, nothing is entered and the command is dropped: `NoSeat` for a
@@ -313,11 +310,11 @@ impl Vault {
     /// The outcome and the reply are those of every graph that the actor can't tell from the graph of the history, a new
     /// vertex's serial and fullness aside.
     pub fn command(&mut self, seat: u64, command: Command) -> Result<(u64, Reply), AskFault>
-        ensures step { MatchResult result (λ r. Answers self.old (event.Ask seat command) (answer.Asked r.0 r.1) self.new) (λ fault. Answers self.old (event.Ask seat command) (answer.Ask fault) self.new) }
+        ensures step { MatchResult result (λ r. StepOf self.old (event.Ask seat command) (answer.Asked r.0 r.1) self.new) (λ fault. StepOf self.old (event.Ask seat command) (answer.Ask fault) self.new) }
         ensures keeps { Keeps self.old self.new }
         ensures agrees { IfOk result (λ r. SameForAgreeing self.old self.new r.1) }
         ensures exact { IfOk result (λ r. IsExact self.old self.new) }
-        ensures acts { StoreActs self.old self.new }
+        ensures acts { SessionStep self.old self.new }
         ensures unchanged { OnErr result (self.new ≡ self.old) }
     {
         let actor = self.ready_at(seat)?;
@@ -329,7 +326,7 @@ impl Vault {
 
     /// The actor of the seat's next command.
     fn ready_at(&self, seat: u64) -> Result<u64, AskFault>
-        ensures ok { IfOk result (λ x. (seat < 64) × (at_seat self.now.seats seat ≡ Some x) × (at_seat self.now.store.pending seat ≡ None) × (ask_refusal (moment self.now).world seat ≡ None)) }
+        ensures ok { IfOk result (λ x. (seat < SEATS) × (at_seat self.now.seats seat ≡ Some x) × (at_seat self.now.store.pending seat ≡ None) × (ask_refusal (moment self.now).world seat ≡ None)) }
         ensures err { IfErr result (λ fault. IsAskFault (moment self.now).world seat fault) }
     {
         match self.idle_at(seat) {
@@ -342,7 +339,7 @@ impl Vault {
 
     /// Carries out the actor's command and enters it.
     fn enter(&mut self, seat: u64, actor: u64, command: Command) -> Result<(u64, Reply), AllocError>
-        requires seat { seat < 64 }
+        requires seat { seat < SEATS }
         requires seated { at_seat self.old.seats seat ≡ Some actor }
         requires idle { at_seat self.old.store.pending seat ≡ None }
         ensures number { IfOk result (λ r. r.0 ≡ length self.old.history) }
@@ -351,7 +348,7 @@ impl Vault {
         ensures keeps { Keeps self.old self.new }
         ensures agrees { IfOk result (λ r. SameForAgreeing self.old self.new r.1) }
         ensures exact { IfOk result (λ r. IsExact self.old self.new) }
-        ensures acts { StoreActs self.old self.new }
+        ensures acts { SessionStep self.old self.new }
     {
         let number = self.count();
         self.history.try_reserve(1)?;
@@ -373,9 +370,11 @@ impl Vault {
 
     /// Carries out a copy of the command, which is made only once the seat has no fault.
     fn command_copy(&mut self, seat: u64, command: &Command) -> Result<(u64, Reply), AskFault>
-        ensures step { MatchResult result (λ r. Answers self.old (event.Ask seat command.now) (answer.Asked r.0 r.1) self.new) (λ fault. Answers self.old (event.Ask seat command.now) (answer.Ask fault) self.new) }
+        ensures step { MatchResult result (λ r. StepOf self.old (event.Ask seat command.now) (answer.Asked r.0 r.1) self.new) (λ fault. StepOf self.old (event.Ask seat command.now) (answer.Ask fault) self.new) }
         ensures keeps { Keeps self.old self.new }
-        ensures acts { StoreActs self.old self.new }
+        ensures exact { IfOk result (λ r. IsExact self.old self.new) }
+        ensures acts { SessionStep self.old self.new }
+        ensures unchanged { OnErr result (self.new ≡ self.old) }
     {
         self.ready_at(seat)?;
         let Ok(copy) = command.copy() else {
@@ -386,9 +385,10 @@ impl Vault {
 
     /// Carries out one event.
     fn step(&mut self, event: &Event) -> Answer
-        ensures step { Answers self.old event.now result self.new }
+        ensures step { StepOf self.old event.now result self.new }
         ensures keeps { Keeps self.old self.new }
-        ensures moves { StoreMoves self.old event.now result self.new }
+        ensures stored { StoreStep self.old event.now result self.new }
+        ensures told { StoreAnswer self.old event.now result self.new }
     {
         match event {
             Event::Hello { seat, name } => match self.hello(*seat, name.get()) {
@@ -443,7 +443,7 @@ impl Vault {
     /// `S * S + 3 * S + C + 3` collector steps in a row, for S slots and C cells, one ends a cycle.
     pub fn run(self, events: &[Event]) -> Ran
         ensures headline { Headline self (take (length result.answers.items) events.now) result.answers.items result.vault }
-        ensures run { Runs self (take (length result.answers.items) events.now) result.answers.items result.vault }
+        ensures run { RunOf self (take (length result.answers.items) events.now) result.answers.items result.vault }
         ensures course { Course self (take (length result.answers.items) events.now) result.answers.items result.vault }
         ensures added { AddsAsked self result.answers.items result.vault }
         ensures bounded { IsBounded self result.answers.items }
@@ -451,7 +451,7 @@ impl Vault {
         ensures keeps { Keeps self result.vault }
     {
         self.soundness();
-        runs_are_complete_and_bounded();
+        courses_have_the_headline();
         self.go(events)
     }
 
@@ -460,7 +460,6 @@ impl Vault {
         ensures course { Course self (take (length result.answers.items) events.now) result.answers.items result.vault }
         ensures few { length result.answers.items ≤ length events.now }
         ensures keeps { Keeps self result.vault }
-        ensures fits { Fits result.vault }
     {
         let mut vault = self;
         vault.soundness();

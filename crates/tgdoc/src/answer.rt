@@ -6,7 +6,7 @@ ghost use Rattle.tg_vault.specs.declared.vault.Swept.{Swept};
 ghost use Rattle.tg_vault.specs.Contents.{Keeps};
 ghost use Rattle.tg_vault.specs.Cycles.{IsCycle};
 ghost use Rattle.tg_wire.specs.Answers.{is_error as is_error_line};
-ghost use Rattle.tgdoc.specs.Runs.{RunsOver};
+ghost use Rattle.tgdoc.specs.Runs.{VaultRan};
 ghost use Rattle.tgdoc.specs.Turns.{AnswersLine, TellsAnswer, TellsSwept, steps_of, text_of, one_if};
 
 use std::alloc::Global;
@@ -42,7 +42,7 @@ pub(crate) fn answer(alloc: Global, vault: Vault, bytes: &[u8]) -> Answered
 #[inline(always)]
 fn carry_out(alloc: Global, vault: Vault, event: Event) -> Answered
     ensures keeps { Keeps vault result.vault }
-    ensures carried { (answer : Option Answer) × RunsOver vault (steps_of event answer) result.vault
+    ensures carried { (answer : Option Answer) × VaultRan vault (steps_of event answer) result.vault
         × TellsAnswer answer (text_of result.text) result.is_error }
 {
     let ran = vault.run(&[event]);

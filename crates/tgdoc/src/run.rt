@@ -4,11 +4,11 @@ ghost use Rattle.std.specs.Prelude.{◌≡◌, ◌≢◌, ◌↔◌, ◌≤◌, 
 ghost use Rattle.std.specs.Io.KnownBytes.{Keeps, prepend_known};
 ghost use Rattle.tg_talk.specs.Devices.{Sends, device_of, has_failed};
 ghost use Rattle.tg_talk.specs.declared.fault.TalkFault.TheVariants.{OutOfMemory, Reading, Writing};
-ghost use Rattle.tgdoc.specs.Runs.{Ran, RefusesOpening};
-ghost use Rattle.tgdoc.specs.Turns.{EndsOnce, Opens, Served};
+ghost use Rattle.tgdoc.specs.Runs.{LinesRan, RefusesOpening};
+ghost use Rattle.tgdoc.specs.Turns.{EndsOnce, Opens, LinesServed};
 
 use crate::finished::Finished;
-use crate::session::{Session, Turn};
+use crate::run_state::{RunState, Turn};
 use std::alloc::Global;
 use std::io::{Read, Write};
 use tg_talk::{Found, LineBuffer, TalkFault, Watched, send_line};
@@ -33,7 +33,7 @@ pub fn run_lines<R: Read, W: Write>(
     ensures unread { result.fault ≡ Some OutOfMemory
         → (result.lines ≡ 0) × Keeps (R.remaining (device_of reader.old)) (R.remaining (device_of reader.new)) }
     ensures ran { IfSome (R.remaining (device_of reader.old))
-        (Ran result (W.contents (device_of writer.old)) (W.contents (device_of writer.new)) (has_failed writer.new)) }
+        (LinesRan result (W.contents (device_of writer.old)) (W.contents (device_of writer.new)) (has_failed writer.new)) }
 {
     let Ok(mut buffer) = LineBuffer::new(alloc) else {
         return Finished {
@@ -59,7 +59,7 @@ pub fn run_lines<R: Read, W: Write>(
             Err(text) => refuse(writer, 1, text, None),
             Ok(vault) => {
                 buffer.consume(n + 1);
-                serve(alloc, vault, buffer, reader, writer)
+                answer_lines(alloc, vault, buffer, reader, writer)
             }
         },
         Found::Last => match open(alloc, buffer.bytes()) {
@@ -67,7 +67,7 @@ pub fn run_lines<R: Read, W: Write>(
             Ok(vault) => {
                 let n = buffer.bytes().len();
                 buffer.consume(n);
-                serve(alloc, vault, buffer, reader, writer)
+                answer_lines(alloc, vault, buffer, reader, writer)
             }
         },
     }
@@ -87,7 +87,7 @@ fn open(alloc: Global, bytes: &[u8]) -> Result<Vault, &'static [u8]>
     }
 }
 
-/// Answers the first line by a refusal, which ends the run.
+/// LineAnswer the first line by a refusal, which ends the run.
 fn refuse<W: Write>(
     writer: &mut Watched<W>,
     lines: u64,
@@ -111,8 +111,8 @@ fn refuse<W: Write>(
     }
 }
 
-/// Answers the lines behind the configuration.
-fn serve<R: Read, W: Write>(
+/// LineAnswer the lines behind the configuration.
+fn answer_lines<R: Read, W: Write>(
     alloc: Global,
     vault: Vault,
     buffer: LineBuffer,
@@ -126,9 +126,9 @@ fn serve<R: Read, W: Write>(
     ensures memory { result.fault ≢ Some OutOfMemory }
     ensures few { result.lines ≤ 1000001 }
     ensures served { IfSome (prepend_known buffer (R.remaining (device_of reader.old)))
-        (Served vault result (W.contents (device_of writer.old)) (W.contents (device_of writer.new)) (has_failed writer.new)) }
+        (LinesServed vault result (W.contents (device_of writer.old)) (W.contents (device_of writer.new)) (has_failed writer.new)) }
 {
-    let mut session = Session {
+    let mut session = RunState {
         buffer,
         lines: 1,
         errors: 0,

@@ -2,7 +2,7 @@ use Rattle.std.proofs.Common.{sym, subst, rules}
 use Rattle.tg_graph.specs.Rules.{IsDocumentWhereAsked}
 use Rattle.tg_graph.proofs.Outcomes.{missing-DeniedFor}
 use Rattle.tg_collect.specs.Stored.{held}
-use Rattle.tg_vault.proofs.Planning.{placed_served, document_served}
+use Rattle.tg_vault.proofs.PlanLemmas.{placed_served, document_served}
 use Rattle.tg_vault.proofs.plan.decide.Goals as goal
 
 pub returns-in-Err-clause-denied : goal.returns-in-Err-clause-denied
@@ -14,7 +14,7 @@ returns-in-None-clause-allowed c = λ next.
     record { rights_named = search rules; distinct = search rules; met = c.in-Ok.ensures.met next; document = subst (IsDocumentWhereAsked (held c.args.store.now next)) c.in-None.ensures tt }
 
 pub is_document-requires : goal.is_document-requires
-is_document-requires c = placed_served c.args.store.now c.args.actor c.args.command.now _ c.in-Ok.ensures.served
+is_document-requires c = placed_served c.args.store.now c.args.actor c.args.command.now _ c.in-Ok.ensures.carried
 
 pub returns-then-is_document-clause-allowed : goal.returns-then-is_document-clause-allowed
 returns-then-is_document-clause-allowed c = λ next.
@@ -23,7 +23,7 @@ returns-then-is_document-clause-allowed c = λ next.
       distinct = search rules;
       met = c.in-Ok.ensures.met next;
       document = subst (IsDocumentWhereAsked (held c.args.store.now next)) c.in-Some.ensures
-          ((document_served c.args.store.now c.args.actor c.args.command.now _ _ _ next c.in-Ok.ensures.served (sym c.in-Some.ensures) c.is_document.ensures).0 c.if-is_document.true);
+          ((document_served c.args.store.now c.args.actor c.args.command.now _ _ _ next c.in-Ok.ensures.carried (sym c.in-Some.ensures) c.is_document.ensures).0 c.if-is_document.true);
     }
 
 pub returns-else-is_document-clause-denied : goal.returns-else-is_document-clause-denied
@@ -32,5 +32,5 @@ returns-else-is_document-clause-denied c = λ next. (
   search rules,
   c.in-Ok.ensures.met next,
   sym c.in-Some.ensures,
-  λ is. absurd (cc ((document_served c.args.store.now c.args.actor c.args.command.now _ _ _ next c.in-Ok.ensures.served (sym c.in-Some.ensures) c.is_document.ensures).1 is, c.if-is_document.false)),
+  λ is. absurd (cc ((document_served c.args.store.now c.args.actor c.args.command.now _ _ _ next c.in-Ok.ensures.carried (sym c.in-Some.ensures) c.is_document.ensures).1 is, c.if-is_document.false)),
 )

@@ -3,7 +3,7 @@ use Rattle.tg_rights.specs.Letters.{includes, without}
 use Rattle.tg_rights.specs.declared.outcome.Cause.TheVariants as cause
 use Rattle.tg_graph.specs.Protection.{label}
 use Rattle.tg_collect.specs.Stored.{held}
-use Rattle.tg_vault.proofs.Places.{serial_is}
+use Rattle.tg_vault.proofs.PlaceLemmas.{serial_is}
 use Rattle.tg_vault.proofs.plan.met.Goals as goal
 
 pub returns-then-contains-clause-met : goal.returns-then-contains-clause-met

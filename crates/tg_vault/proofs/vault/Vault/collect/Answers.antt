@@ -1,7 +1,7 @@
 use Rattle.std.proofs.Common.{◌≡◌, ℕ, ◌+◌, subst}
 use Rattle.tg_vault.specs.World.{with_used}
 use Rattle.tg_vault.specs.Contents.{Contents, moment}
-use Rattle.tg_vault.proofs.Collecting.{collected_joins, collected_step}
+use Rattle.tg_vault.proofs.CollectLemmas.{collected_joins, collected_step}
 use Rattle.tg_vault.proofs.vault.Vault.collect.Goals as goal
 
 -- the vault before

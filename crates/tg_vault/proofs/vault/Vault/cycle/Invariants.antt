@@ -1,4 +1,4 @@
-use Rattle.tg_vault.proofs.Sweeping.{SoFar}
+use Rattle.tg_vault.proofs.SweptLemmas.{SoFar}
 use Rattle.tg_vault.proofs.vault.Vault.cycle.Given as goal
 
 abbrev pub invariant-step : goal.invariant-step

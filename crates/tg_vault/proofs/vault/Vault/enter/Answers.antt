@@ -2,12 +2,12 @@ use Rattle.std.proofs.Common.{◌≡◌, refl, sym, subst, ◌∙◌, [], ◌∷
 use Rattle.tg_collect.specs.Views.{IsHeldIn, InSet}
 use Rattle.tg_vault.specs.World.{Enters, at_seat}
 use Rattle.tg_vault.specs.Contents.{Contents, moment}
-use Rattle.tg_vault.specs.Moves.{StoreActs}
+use Rattle.tg_vault.specs.StoreSteps.{SessionStep}
 use Rattle.tg_vault.specs.Exact.{IsExact}
 use Rattle.tg_vault.specs.Agreement.{SameForAgreeing}
 use Rattle.tg_vault.specs.Told.{told}
-use Rattle.tg_vault.proofs.Joined.{next_unheld}
-use Rattle.tg_vault.proofs.Entering.{Pushed, pushed_joined, pushed_enters, pushed_same, pushed_exact, pushed_acts, next_unparked}
+use Rattle.tg_vault.proofs.DecidedLemmas.{next_unheld}
+use Rattle.tg_vault.proofs.EntryLemmas.{Pushed, pushed_joined, pushed_enters, pushed_same, pushed_exact, pushed_acts, next_unparked}
 use Rattle.tg_vault.proofs.vault.Vault.enter.Goals as goal
 
 pub answer-requires-clause-unheld : goal.answer-requires-clause-unheld
@@ -35,7 +35,7 @@ pushed c = record {
   counted = c.soundness-2.ensures.sound;
   within = c.requires.seat;
   seated = subst (λ (w : Contents). at_seat w.seats c.args.seat ≡ Some c.args.actor) (sym c.self.view_is) c.requires.seated;
-  served = c.in_ok-reply.ensures.served;
+  carried = c.in_ok-reply.ensures.carried;
   decision_is = refl;
   history_is =
       c.in_ok-push.ensures.items
@@ -62,5 +62,5 @@ returns-clause-exact c =
 
 pub returns-clause-acts : goal.returns-clause-acts
 returns-clause-acts c =
-    subst (λ (w : Contents). StoreActs w (record (before c) { store = c.answer.new.store; history = c.push.new.self.items })) c.self.view_is
+    subst (λ (w : Contents). SessionStep w (record (before c) { store = c.answer.new.store; history = c.push.new.self.items })) c.self.view_is
     (pushed_acts (before c) _ _ _ _ _ _ _ _ _ (pushed c))

@@ -1,6 +1,6 @@
 use Rattle.std.proofs.Common.{◌+◌, ap, ◌∙◌, length, List, [], ◌∷◌, ◌++◌}
 use Rattle.tg_vault.specs.declared.event.Answer.{Answer}
-use Rattle.tg_vault.proofs.Courses.{course_longer, keeps_on, one_more}
+use Rattle.tg_vault.proofs.CourseLemmas.{course_longer, keeps_on, one_more}
 use Rattle.tg_vault.proofs.vault.Vault.go.Goals as goal
 
 pub loop-event-preserved : goal.loop-event-preserved
@@ -10,9 +10,8 @@ loop-event-preserved c =
     record {
       course = course_longer c.args.self c.loop-event.vault c.step-answer.new.self c.args.events.now c.loop-event.answers.items c.push.new.self.items c.loop-event.event-index c.event-item.result c.step-answer.result
           c.loop-event.invariant.course
-          (record { step = c.step-answer.ensures.step; keeps = c.step-answer.ensures.keeps; moves = c.step-answer.ensures.moves; fits = c.soundness-in-loop-event.ensures.fits; joins = c.soundness-in-loop-event.ensures.joins; store = c.soundness-in-loop-event.ensures.store })
+          (record { step = c.step-answer.ensures.step; keeps = c.step-answer.ensures.keeps; stored = c.step-answer.ensures.stored; told = c.step-answer.ensures.told; fits = c.soundness-in-loop-event.ensures.fits; coherent = c.soundness-in-loop-event.ensures.coherent })
           c.loop-event-test.true c.event-item.is (pushed ∙ ap (λ (all : List Answer). all ++ c.step-answer.result ∷ []) reserved);
       count = ap length pushed ∙ ap (λ (all : List Answer). length (all ++ c.step-answer.result ∷ [])) reserved ∙ one_more c.loop-event.answers.items c.step-answer.result ∙ ap (λ n. n + 1) c.loop-event.invariant.count;
       keeps = keeps_on c.args.self c.loop-event.vault c.step-answer.new.self c.loop-event.invariant.keeps c.step-answer.ensures.keeps;
-      fits = c.soundness-in-loop-event.ensures.fits;
     }

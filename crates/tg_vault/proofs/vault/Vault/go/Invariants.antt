@@ -1,7 +1,6 @@
 use Rattle.std.proofs.Common.{◌≡◌, length, take}
 use Rattle.tg_vault.specs.Contents.{Keeps}
 use Rattle.tg_vault.specs.Course.{Course}
-use Rattle.tg_vault.specs.Fits.{Fits}
 use Rattle.tg_vault.proofs.vault.Vault.go.Given as goal
 
 abbrev pub invariant-loop-event : goal.invariant-loop-event
@@ -9,5 +8,4 @@ invariant-loop-event l = record {
   course : Course l.fn.self (take l.event-index l.events) l.answers.items l.vault;
   count : length l.answers.items ≡ l.event-index;
   keeps : Keeps l.fn.self l.vault;
-  fits : Fits l.vault;
 }

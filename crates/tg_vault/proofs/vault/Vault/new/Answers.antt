@@ -1,7 +1,7 @@
 use Rattle.std.proofs.Common.{sym, subst}
 use Rattle.tg_vault.specs.Contents.{Contents, IsFresh}
-use Rattle.tg_vault.specs.Fits.{IsJoined}
-use Rattle.tg_vault.proofs.Opened.{opening_fits, fresh_joined, fresh_is}
+use Rattle.tg_vault.specs.Fits.{IsTied}
+use Rattle.tg_vault.proofs.FreshLemmas.{opening_fits, fresh_joined, fresh_is}
 use Rattle.tg_vault.proofs.vault.Vault.new.Goals as goal
 
 pub new-requires-clause-opening : goal.new-requires-clause-opening
@@ -9,7 +9,7 @@ new-requires-clause-opening c = opening_fits c.args.config c.in_ok-opening.openi
 
 pub invariant_of-result : goal.invariant_of-result
 invariant_of-result c =
-    subst (λ (w : Contents). IsJoined w c.args.config.next)
+    subst (λ (w : Contents). IsTied w c.args.config.next)
     (λ i. record {
       opening = c.in_ok-opening.opening;
       names = c.args.config.principals.items;

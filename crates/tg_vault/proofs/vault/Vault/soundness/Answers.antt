@@ -1,6 +1,6 @@
 use Rattle.std.proofs.Common.{subst}
 use Rattle.tg_vault.specs.Fits.{Fits}
-use Rattle.tg_vault.proofs.Fitting.{fits_are}
+use Rattle.tg_vault.proofs.FitsLemmas.{fits_are}
 use Rattle.tg_vault.proofs.vault.Vault.soundness.Goals as goal
 
 pub returns-clause-fits : goal.returns-clause-fits

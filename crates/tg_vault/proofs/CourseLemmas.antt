@@ -1,0 +1,51 @@
+-- Courses with one event more, and what they make of a run.
+use Rattle.std.proofs.Common.{◌≡◌, ℕ, ◌+◌, ◌<◌, List, [], ◌∷◌, ◌++◌, length, take, get_or, length-append, refl, sym, ap, subst, ◌∙◌}
+use Rattle.std.proofs.lemmas.List.{take_more}
+use Rattle.tg_vault.specs.declared.event.Event.{Event}
+use Rattle.tg_vault.specs.declared.event.Answer.{Answer}
+use Rattle.tg_graph.specs.Fullness.{Limits}
+use Rattle.tg_vault.specs.World.{Run}
+use Rattle.tg_vault.specs.Contents.{Contents, RunOf, Keeps, moment}
+use Rattle.tg_vault.specs.Course.{Course, VaultStep}
+
+pub keeps_on : (old mid new : Contents) → Keeps old mid → Keeps mid new → Keeps old new
+keeps_on old mid new first next = record { opening = next.opening ∙ first.opening; names = next.names ∙ first.names; limits = next.limits ∙ first.limits }
+
+pub course_more : (v : Contents) (es : List Event) (answers : List Answer) (w : Contents) (e : Event) (a : Answer) (u : Contents) → Course v es answers w → VaultStep w e a u → Course v (es ++ e ∷ []) (answers ++ a ∷ []) u
+course_more v [] [] w e a u same goes = (u, (let P : Contents → Type 0 = λ k. VaultStep k e a u in subst P same goes), refl)
+course_more v (x ∷ es) (b ∷ answers) w e a u course goes = (course.0, course.1, course_more course.0 es answers w e a u course.2 goes)
+course_more v [] (b ∷ answers) w e a u course goes = absurd course
+course_more v (x ∷ es) [] w e a u course goes = absurd course
+
+pub course_longer : (old mid new : Contents) (es : List Event) (answers longer : List Answer) (k : ℕ) (e : Event) (a : Answer) →
+    Course old (take k es) answers mid → VaultStep mid e a new → k < length es → e ≡ get_or es k e → longer ≡ answers ++ a ∷ [] → Course old (take (k + 1) es) longer new
+course_longer old mid new es answers longer k e a course goes within is more =
+    let events : take (k + 1) es ≡ take k es ++ e ∷ [] = take_more es k e within ∙ ap (λ d. take k es ++ d ∷ []) (sym is) in
+    let whole : Course old (take k es ++ e ∷ []) (answers ++ a ∷ []) new = course_more old (take k es) answers mid e a new course goes in
+    subst (λ all. Course old (take (k + 1) es) all new) (sym more) (subst (λ es. Course old es (answers ++ a ∷ []) new) (sym events) whole)
+
+pub one_more : (answers : List Answer) (a : Answer) → length (answers ++ a ∷ []) ≡ length answers + 1
+one_more answers a = length-append answers (a ∷ [])
+
+-- one course behind another
+pub course_append : (u v w : Contents) (es fs : List Event) (answers more : List Answer) → Course u es answers v → Course v fs more w → Course u (es ++ fs) (answers ++ more) w
+course_append u v w [] fs [] more first then = subst (λ k. Course k fs more w) first then
+course_append u v w (e ∷ es) fs (a ∷ answers) more first then = (first.0, first.1, course_append first.0 v w es fs answers more first.2 then)
+course_append u v w [] fs (a ∷ answers) more first then = absurd first
+course_append u v w (e ∷ es) fs [] more first then = absurd first
+
+-- a course is a run of the world
+pub course_run : (v : Contents) (es : List Event) (answers : List Answer) (w : Contents) → Course v es answers w → RunOf v es answers w
+course_run v [] [] w same = ap moment same
+course_run v (e ∷ es) (a ∷ answers) w course =
+    let u : Contents = course.0 in
+    let rest : RunOf u es answers w = course_run u es answers w course.2 in
+    (moment u, course.1.step, subst (λ (l : Limits). Run l v.names (moment u) es answers (moment w)) course.1.keeps.limits (subst (λ n. Run u.limits n (moment u) es answers (moment w)) course.1.keeps.names rest))
+course_run v [] (a ∷ answers) w course = absurd course
+course_run v (e ∷ es) [] w course = absurd course
+
+pub course_keeps : (v : Contents) (es : List Event) (answers : List Answer) (w : Contents) → Course v es answers w → Keeps v w
+course_keeps v [] [] w same = record { opening = ap (λ (k : Contents). k.opening) same; names = ap (λ (k : Contents). k.names) same; limits = ap (λ (k : Contents). k.limits) same }
+course_keeps v (e ∷ es) (a ∷ answers) w course = keeps_on v course.0 w course.1.keeps (course_keeps course.0 es answers w course.2)
+course_keeps v [] (a ∷ answers) w course = absurd course
+course_keeps v (e ∷ es) [] w course = absurd course

@@ -1,0 +1,296 @@
+-- Completeness and the bound, over a course.
+use Rattle.std.proofs.Common.{◌≡◌, ℕ, zero, suc, ◌+◌, ◌<◌, ◌≤◌, List, [], ◌∷◌, ◌++◌, length, take, drop, cond, refl, sym, ap, subst, ◌∙◌, ◌⊎◌, inl, inr, Some, Bool, true, false, arith}
+use Rattle.std.specs.Prelude.{Option}
+use Rattle.std.proofs.lemmas.List.Sums.{sum_by-cons}
+use Rattle.tg_rights.specs.Letters.{is_none}
+use Rattle.tg_rights.specs.Membership.{Contains}
+use Rattle.tg_graph.specs.Protection.{Protection, IsVertex, IsEdge}
+use Rattle.tg_graph.specs.Paths.{Leads, Live}
+use Rattle.tg_graph.specs.Fullness.{Limits}
+use Rattle.tg_graph.specs.Rules.{next_graph}
+use Rattle.tg_vault.specs.declared.entry.Entry.{Entry}
+use Rattle.tg_vault.specs.declared.event.Event.{Event}
+use Rattle.tg_vault.specs.declared.event.Event.TheVariants as event
+use Rattle.tg_vault.specs.declared.event.Answer.{Answer}
+use Rattle.tg_vault.specs.declared.event.Answer.TheVariants as answer
+use Rattle.tg_collect.specs.declared.note.Note.{Note}
+use Rattle.tg_collect.specs.declared.note.Phase.{Phase}
+use Rattle.tg_collect.specs.declared.note.Phase.TheVariants.{Idle, Mark, Sweep}
+use Rattle.tg_collect.specs.Runs.{Follows}
+use Rattle.tg_collect.specs.Stored.{Stored, held, cycle_bound}
+use Rattle.tg_collect.specs.Views.{IsStore, IsRootIn, IsHeldIn, Collected}
+use Rattle.tg_collect.specs.StoreRuns.{StoreRun, start, acts, goes, ends}
+use Rattle.tg_collect.specs.StoreRuns as store_runs
+use Rattle.tg_vault.specs.History.{graph_of}
+use Rattle.tg_vault.specs.World.{Run, at_seat}
+use Rattle.tg_vault.specs.Contents.{Contents, RunOf, Keeps, graph_now, held_now, moment}
+use Rattle.tg_vault.specs.Fits.{Ties, IsRoot, HasSlot}
+use Rattle.tg_vault.specs.StoreSteps.{SessionStep}
+use Rattle.tg_vault.specs.Course.{Course, VaultStep, IsCoherent}
+use Rattle.tg_vault.specs.Cycles.{phase_after, notes_in, ended_in, IsComplete, IsBounded}
+use Rattle.tg_vault.proofs.EdgeLemmas.{label_next}
+use Rattle.tg_vault.proofs.CountLemmas.{next_grows}
+use Rattle.tg_vault.proofs.DecidedLemmas.{graph_is, of_graph}
+use Rattle.tg_vault.proofs.CourseLemmas.{course_run, course_keeps}
+use Rattle.tg_vault.proofs.AddedLemmas.{step_adds}
+
+-- what an answer adds to the ends of cycles, and to the collector steps since the last
+abbrev ended_of : Answer → ℕ
+ended_of (answer.Hello x) = 0
+ended_of answer.Bye = 0
+ended_of (answer.Asked number reply) = 0
+ended_of (answer.Shaded target) = 0
+ended_of (answer.Noted note) = cond note.ended 1 0
+ended_of (answer.Seat fault) = 0
+ended_of (answer.Ask fault) = 0
+
+abbrev since_of : ℕ → Answer → ℕ
+since_of k (answer.Hello x) = k
+since_of k answer.Bye = k
+since_of k (answer.Asked number reply) = k
+since_of k (answer.Shaded target) = k
+since_of k (answer.Noted note) = cond note.ended 0 (k + 1)
+since_of k (answer.Seat fault) = k
+since_of k (answer.Ask fault) = k
+
+abbrev since_in : ℕ → List Answer → ℕ
+since_in k [] = k
+since_in k (a ∷ answers) = since_in (since_of k a) answers
+
+ended_more : (a : Answer) (answers : List Answer) → ended_in (a ∷ answers) ≡ ended_of a + ended_in answers
+ended_more (answer.Hello x) answers = omega arith
+ended_more answer.Bye answers = omega arith
+ended_more (answer.Asked number reply) answers = omega arith
+ended_more (answer.Shaded target) answers = omega arith
+ended_more (answer.Noted note) answers = sum_by-cons (λ n. cond n.ended 1 0) note (notes_in answers)
+ended_more (answer.Seat fault) answers = omega arith
+ended_more (answer.Ask fault) answers = omega arith
+
+-- while no cycle ends, each collector step counts
+since_grows : (k : ℕ) (answers : List Answer) → ended_in answers ≡ 0 → since_in k answers ≡ k + length (notes_in answers)
+since_grows k [] none = omega arith
+since_grows k (answer.Hello x ∷ answers) none = since_grows k answers none
+since_grows k (answer.Bye ∷ answers) none = since_grows k answers none
+since_grows k (answer.Asked number reply ∷ answers) none = since_grows k answers none
+since_grows k (answer.Shaded target ∷ answers) none = since_grows k answers none
+since_grows k (answer.Noted note ∷ answers) none =
+    let more = sum_by-cons (λ (n : Note). cond n.ended 1 0) note (notes_in answers) in
+    by note.ended (let sum : cond note.ended 1 0 + ended_in answers ≡ 0 = sym more ∙ none in sum) (since_grows (k + 1) answers) where
+      by : (b : Bool) → cond b 1 0 + ended_in answers ≡ 0 → (ended_in answers ≡ 0 → since_in (k + 1) answers ≡ k + 1 + length (notes_in answers)) →
+          since_in (cond b 0 (k + 1)) answers ≡ k + suc (length (notes_in answers))
+      by true sum rest = absurd (omega arith)
+      by false sum rest = rest (omega arith) ∙ (omega arith)
+since_grows k (answer.Seat fault ∷ answers) none = since_grows k answers none
+since_grows k (answer.Ask fault ∷ answers) none = since_grows k answers none
+
+-- what is live in what is held does not depend on the next serial
+leads_next : (s : Stored) (n m : ℕ) (later : List ℕ) (x y : ℕ) → Leads (held s n) x later y → Leads (held s m) x later y
+leads_next s n m [] x y is = is
+leads_next s n m (z ∷ zs) x y leads = (ap is_none (label_next s m n x z) ∙ leads.0, leads_next s n m zs z y leads.1)
+
+live_next : (s : Stored) (n m : ℕ) (root : ℕ → Type 0) (x : ℕ) → Live (held s n) root x → Live (held s m) root x
+live_next s n m root x live = (live.0, live.1, (live.2.0, (live.2.1.0, leads_next s n m live.2.0 live.0 x live.2.1.1)))
+
+-- next serials never fall
+graph_grows : (G : Protection) (es : List Entry) → G.next ≤ (graph_of G es).next
+graph_grows G [] = omega arith
+graph_grows G (e ∷ es) =
+    let first = next_grows G e.actor e.command e.outcome in
+    let rest = graph_grows (next_graph G e.actor e.command e.outcome) es in
+    omega arith
+
+goes_grow : (v : Contents) (e : Event) (a : Answer) (u : Contents) → VaultStep v e a u → (graph_now v).next ≤ (graph_now u).next
+goes_grow v e a u g =
+    let adds = step_adds v.limits v.names (moment v) e a (moment u) g.step in
+    let same = ap (λ (G : Protection). G.next) adds.graph in
+    let grows = graph_grows (graph_now v) adds.added in
+    omega arith
+
+module _ (next : ℕ) (first : Stored) where
+  acts_run : (v u : Contents) (ended since : ℕ) → next ≤ (graph_now v).next → StoreRun next first v.store ended since → SessionStep v u → IsStore u.store → StoreRun next first u.store ended since
+  acts_run v u ended since low run a store =
+      acts v.store u.store ended since a.came a.target run a.acted
+      (λ x is. let up = a.next x is in omega arith)
+      (λ x is. elim (a.live x is) [ inl live ↦ inl (live_next v.store (graph_now v).next next (IsRootIn v.store) x live) | inr above ↦ inr (omega arith) ])
+      store
+
+  -- nothing was collected
+  same_counts : (u : Contents) (ended since : ℕ) → StoreRun next first u.store ended since → StoreRun next first u.store (ended + 0) since
+  same_counts u ended since run = subst (λ n. StoreRun next first u.store n since) (let e : ended ≡ ended + 0 = omega arith in e) run
+
+  collects_run : (v u : Contents) (note : Note) (ended since : ℕ) → StoreRun next first v.store ended since → Collected v.store u.store note.freed note.ended → IsStore u.store →
+      StoreRun next first u.store (ended + cond note.ended 1 0) (cond note.ended 0 (since + 1))
+  collects_run v u note ended since run collected store = by note.ended collected where
+    by : (b : Bool) → Collected v.store u.store note.freed b → StoreRun next first u.store (ended + cond b 1 0) (cond b 0 (since + 1))
+    by true c = ends v.store u.store ended since note.freed run c store
+    by false c = subst (λ n. StoreRun next first u.store n (since + 1)) (let e : ended ≡ ended + 0 = omega arith in e) (goes v.store u.store ended since note.freed run c store)
+
+  goes_run : (v : Contents) (e : Event) (a : Answer) (u : Contents) (ended since : ℕ) → next ≤ (graph_now v).next → StoreRun next first v.store ended since → VaultStep v e a u →
+      StoreRun next first u.store (ended + ended_of a) (since_of since a)
+  goes_run v (event.Hello seat name) (answer.Hello x) u ended since low run g = same_counts u ended since (acts_run v u ended since low run g.stored g.coherent.store)
+  goes_run v (event.Hello seat name) (answer.Seat fault) u ended since low run g = same_counts u ended since (acts_run v u ended since low run g.stored g.coherent.store)
+  goes_run v (event.Hello seat name) _ u ended since low run g = absurd g.step
+  goes_run v (event.Bye seat) answer.Bye u ended since low run g = same_counts u ended since (acts_run v u ended since low run g.stored g.coherent.store)
+  goes_run v (event.Bye seat) (answer.Seat fault) u ended since low run g = same_counts u ended since (acts_run v u ended since low run g.stored g.coherent.store)
+  goes_run v (event.Bye seat) _ u ended since low run g = absurd g.step
+  goes_run v (event.Ask seat c) (answer.Asked number reply) u ended since low run g = same_counts u ended since (acts_run v u ended since low run g.stored g.coherent.store)
+  goes_run v (event.Ask seat c) (answer.Ask fault) u ended since low run g = same_counts u ended since (acts_run v u ended since low run g.stored g.coherent.store)
+  goes_run v (event.Ask seat c) _ u ended since low run g = absurd g.step
+  goes_run v (event.Shade seat) (answer.Shaded target) u ended since low run g = same_counts u ended since (acts_run v u ended since low run g.stored g.coherent.store)
+  goes_run v (event.Shade seat) (answer.Seat fault) u ended since low run g = same_counts u ended since (acts_run v u ended since low run g.stored g.coherent.store)
+  goes_run v (event.Shade seat) _ u ended since low run g = absurd g.step
+  goes_run v event.Collect (answer.Noted note) u ended since low run g = collects_run v u note ended since run g.stored.0 g.coherent.store
+  goes_run v event.Collect _ u ended since low run g = absurd g.step
+
+  course_store : (v : Contents) (es : List Event) (answers : List Answer) (w : Contents) (ended since : ℕ) → next ≤ (graph_now v).next → StoreRun next first v.store ended since → Course v es answers w →
+      StoreRun next first w.store (ended + ended_in answers) (since_in since answers)
+  course_store v [] [] w ended since low run same =
+      subst (λ (s : Stored). StoreRun next first s (ended + 0) since) (sym (ap (λ (k : Contents). k.store) same)) (same_counts v ended since run)
+  course_store v (e ∷ es) (a ∷ answers) w ended since low run course =
+      let u : Contents = course.0 in
+      let up : next ≤ (graph_now u).next = (let grows = goes_grow v e a u course.1 in omega arith) in
+      let rest = course_store u es answers w (ended + ended_of a) (since_of since a) up (goes_run v e a u ended since low run course.1) course.2 in
+      subst (λ n. StoreRun next first w.store n (since_in (since_of since a) answers)) (let more = ended_more a answers in let same : ended + ended_of a + ended_in answers ≡ ended + ended_in (a ∷ answers) = omega arith in same) rest
+  course_store v [] (a ∷ answers) w ended since low run course = absurd course
+  course_store v (e ∷ es) [] w ended since low run course = absurd course
+
+-- the course up to an answer, and from it on
+pub record Split (v : Contents) (es : List Event) (front rest : List Answer) (w : Contents) : Type 0 where
+  pub mid : Contents
+  pub before : Course v (take (length front) es) front mid
+  pub from : Course mid (drop (length front) es) rest w
+
+split : (v : Contents) (es : List Event) (front rest : List Answer) (w : Contents) → Course v es (front ++ rest) w → Split v es front rest w
+split v es [] rest w course = record { mid = v; before = refl; from = course }
+split v (e ∷ es) (a ∷ front) rest w course =
+    let s = split course.0 es front rest w course.2 in
+    record { mid = s.mid; before = (course.0, course.1, s.before); from = s.from }
+split v [] (a ∷ front) rest w course = absurd course
+
+-- the phase that the answers tell
+goes_phase : (v : Contents) (e : Event) (a : Answer) (u : Contents) → VaultStep v e a u → u.store.phase ≡ phase_after v.store.phase (a ∷ [])
+goes_phase v (event.Hello seat name) (answer.Hello x) u g = g.stored.acted.phase
+goes_phase v (event.Hello seat name) (answer.Seat fault) u g = g.stored.acted.phase
+goes_phase v (event.Hello seat name) _ u g = absurd g.step
+goes_phase v (event.Bye seat) answer.Bye u g = g.stored.acted.phase
+goes_phase v (event.Bye seat) (answer.Seat fault) u g = g.stored.acted.phase
+goes_phase v (event.Bye seat) _ u g = absurd g.step
+goes_phase v (event.Ask seat c) (answer.Asked number reply) u g = g.stored.acted.phase
+goes_phase v (event.Ask seat c) (answer.Ask fault) u g = g.stored.acted.phase
+goes_phase v (event.Ask seat c) _ u g = absurd g.step
+goes_phase v (event.Shade seat) (answer.Shaded target) u g = g.stored.acted.phase
+goes_phase v (event.Shade seat) (answer.Seat fault) u g = g.stored.acted.phase
+goes_phase v (event.Shade seat) _ u g = absurd g.step
+goes_phase v event.Collect (answer.Noted note) u g = sym g.stored.1
+goes_phase v event.Collect _ u g = absurd g.step
+
+phase_on : (p : Phase) (a : Answer) (answers : List Answer) → phase_after (phase_after p (a ∷ [])) answers ≡ phase_after p (a ∷ answers)
+phase_on p (answer.Hello x) answers = refl
+phase_on p answer.Bye answers = refl
+phase_on p (answer.Asked number reply) answers = refl
+phase_on p (answer.Shaded target) answers = refl
+phase_on p (answer.Noted note) answers = refl
+phase_on p (answer.Seat fault) answers = refl
+phase_on p (answer.Ask fault) answers = refl
+
+course_phase : (v : Contents) (es : List Event) (answers : List Answer) (w : Contents) → Course v es answers w → w.store.phase ≡ phase_after v.store.phase answers
+course_phase v [] [] w same = ap (λ (k : Contents). k.store.phase) same
+course_phase v (e ∷ es) (a ∷ answers) w course =
+    course_phase course.0 es answers w course.2 ∙ ap (λ p. phase_after p answers) (goes_phase v e a course.0 course.1) ∙ phase_on v.store.phase a answers
+course_phase v [] (a ∷ answers) w course = absurd course
+course_phase v (e ∷ es) [] w course = absurd course
+
+-- each vault of a course is coherent
+pub course_coherent : (v : Contents) (es : List Event) (answers : List Answer) (w : Contents) → IsCoherent v → Course v es answers w → IsCoherent w
+course_coherent v [] [] w sound same = subst IsCoherent (sym same) sound
+course_coherent v (e ∷ es) (a ∷ answers) w sound course = course_coherent course.0 es answers w course.1.coherent course.2
+course_coherent v [] (a ∷ answers) w sound course = absurd course
+course_coherent v (e ∷ es) [] w sound course = absurd course
+
+-- what is live in what is held is live in the graph
+contains_seat : (table : List (Option ℕ)) (x : ℕ) → Contains table (Some x) → (seat : ℕ) × (at_seat table seat ≡ Some x)
+contains_seat [] x h = absurd h
+contains_seat (o ∷ table) x (inl is) = (0, sym is)
+contains_seat (o ∷ table) x (inr h) = let later = contains_seat table x h in (suc later.0, later.1)
+
+module _ (v : Contents) (s : IsCoherent v) where
+  leads_so : (later : List ℕ) (x y : ℕ) → IsVertex (held_now v) x → Leads (held_now v) x later y → Leads (graph_now v) x later y
+  leads_so [] x y h is = is
+  leads_so (z ∷ zs) x y h leads =
+      let e : IsEdge (graph_now v) x z = ap is_none (s.ties.part.labels x z h) ∙ leads.0 in
+      (e, leads_so zs z y (s.ties.part.closed x z h e) leads.1)
+
+  root_so : (x : ℕ) → IsRootIn v.store x → IsRoot v.opening (moment v).world x
+  root_so x (inl principal) = inl ((s.ties.principals x).0 principal)
+  root_so x (inr target) = inr (contains_seat v.store.pending x target)
+
+  live_so : (x : ℕ) → Live (held_now v) (IsRootIn v.store) x → Live (graph_now v) (IsRoot v.opening (moment v).world) x
+  live_so x live = (live.0, root_so live.0 live.1, (live.2.0, (of_graph v s.ties s.store live.0 live.2.1.0, leads_so live.2.0 live.0 x live.2.1.0 live.2.1.1)))
+
+  held_below : (x : ℕ) → IsHeldIn v.store x → x < (graph_now v).next
+  held_below x h = (graph_is v s.ties s.store).below_next x (of_graph v s.ties s.store x h)
+
+follows_idle : (p q : Phase) (ended : Bool) → p ≡ Idle → Follows p q ended → ended ≡ false
+follows_idle Idle Idle ended is f = absurd f
+follows_idle Idle Mark true is f = absurd f
+follows_idle Idle Mark false is f = refl
+follows_idle Idle Sweep ended is f = absurd f
+follows_idle Mark q ended is f = absurd (cc is)
+follows_idle Sweep q ended is f = absurd (cc is)
+
+-- a cycle that starts here, and two that end from here on
+from_idle : store_runs.IsComplete → (m : Contents) → IsCoherent m → m.store.phase ≡ Idle → (after : List Event) (note : Note) (back : List Answer) (w : Contents) → Course m after (answer.Noted note ∷ back) w →
+    2 ≤ ended_in (answer.Noted note ∷ back) → (x : ℕ) → HasSlot w x → Live (held_now m) (IsRootIn m.store) x ⊎ ((graph_now m).next ≤ x)
+from_idle law m sound idle [] note back w course two x slot = absurd course
+from_idle law m sound idle (event.Hello seat name ∷ es) note back w course two x slot = absurd course.1.step
+from_idle law m sound idle (event.Bye seat ∷ es) note back w course two x slot = absurd course.1.step
+from_idle law m sound idle (event.Ask seat c ∷ es) note back w course two x slot = absurd course.1.step
+from_idle law m sound idle (event.Shade seat ∷ es) note back w course two x slot = absurd course.1.step
+from_idle law m sound idle (event.Collect ∷ es) note back w course two x slot =
+    let u : Contents = course.0 in
+    let g : VaultStep m event.Collect (answer.Noted note) u = course.1 in
+    let open_end : note.ended ≡ false = follows_idle m.store.phase u.store.phase note.ended idle g.stored.0.phases in
+    let next = (graph_now m).next in
+    let grows = goes_grow m event.Collect (answer.Noted note) u g in
+    let run = course_store next u.store u es back w 0 0 grows start course.2 in
+    let more = ended_more (answer.Noted note) back in
+    let first : ◌≡◌ {A = ℕ} (cond note.ended 1 0) 0 = ap (λ b. cond b 1 0) open_end in
+    law m.store u.store w.store next (0 + ended_in back) (since_in 0 back) note.freed sound.store idle
+    (subst (λ b. Collected m.store u.store note.freed b) open_end g.stored.0) g.coherent.store (held_below m sound) run (omega arith) x slot
+
+pub course_complete : store_runs.IsComplete → (v : Contents) (es : List Event) (answers : List Answer) (w : Contents) → IsCoherent v → Course v es answers w → IsComplete v es answers w
+course_complete law v es answers w sound course = λ front back note is idle two.
+    let s = split v es front (answer.Noted note ∷ back) w (subst (λ (all : List Answer). Course v es all w) is course) in
+    let m : Contents = s.mid in
+    let here : IsCoherent m = course_coherent v (take (length front) es) front m sound s.before in
+    let kept : Keeps v m = course_keeps v (take (length front) es) front m s.before in
+    let phase : m.store.phase ≡ Idle = course_phase v (take (length front) es) front m s.before ∙ idle in
+    let rest : RunOf m (drop (length front) es) (answer.Noted note ∷ back) w = course_run m (drop (length front) es) (answer.Noted note ∷ back) w s.from in (
+      moment m,
+      record {
+        before = course_run v (take (length front) es) front m s.before;
+        after = subst (λ (l : Limits). Run l v.names (moment m) (drop (length front) es) (answer.Noted note ∷ back) (moment w)) kept.limits (subst (λ n. Run m.limits n (moment m) (drop (length front) es) (answer.Noted note ∷ back) (moment w)) kept.names rest);
+      },
+      λ x slot. elim (from_idle law m here phase (drop (length front) es) note back w s.from two x slot) [
+        | inl live ↦ inl (subst (λ (opening : Protection). Live (graph_now m) (IsRoot opening (moment m).world) x) kept.opening (live_so m here x live))
+        | inr above ↦ inr above
+      ],
+    )
+
+pub course_bounded : store_runs.IsBounded → (v : Contents) (es : List Event) (answers : List Answer) (w : Contents) → IsCoherent v → Course v es answers w → IsBounded v answers
+course_bounded law v es answers w sound course = λ front middle back is many.
+    let s = split v es front (middle ++ back) w (subst (λ (all : List Answer). Course v es all w) is course) in
+    let m : Contents = s.mid in
+    let here : IsCoherent m = course_coherent v (take (length front) es) front m sound s.before in
+    let kept : Keeps v m = course_keeps v (take (length front) es) front m s.before in
+    let t = split m (drop (length front) es) middle back w s.from in
+    let low : (graph_now m).next ≤ (graph_now m).next = omega arith in
+    let run = course_store (graph_now m).next m.store m (take (length middle) (drop (length front) es)) middle t.mid 0 0 low start t.before in
+    let few = law m.store t.mid.store (graph_now m).next (0 + ended_in middle) (since_in 0 middle) here.store run in
+    let bound : cycle_bound (length m.store.marks) m.store.cells ≡ cycle_bound v.limits.slots v.limits.cells =
+    λ i. cycle_bound ((here.ties.slots ∙ ap (λ (l : Limits). l.slots) kept.limits) i) ((here.ties.cells ∙ ap (λ (l : Limits). l.cells) kept.limits) i) in
+    some (ended_in middle) refl (since_in 0 middle) (length (notes_in middle)) (cycle_bound v.limits.slots v.limits.cells) many
+    (subst (λ n. since_in 0 middle < n) bound few) (λ none. since_grows 0 middle none) where
+      some : (n : ℕ) → n ≡ n → (since steps most : ℕ) → most ≤ steps → since < most → (n ≡ 0 → since ≡ 0 + steps) → 1 ≤ n
+      some zero same since steps most many few grows = let all = grows refl in absurd (omega arith)
+      some (suc n) same since steps most many few grows = omega arith

@@ -1,0 +1,196 @@
+-- What is held is a part of the graph of the history: what the rules decide in one, they decide in the other.
+use Rattle.std.proofs.Common.{◌≡◌, ℕ, ◌+◌, ◌-◌, ◌<◌, ◌≤◌, true, refl, sym, ap, subst, ◌∙◌, ◌⊎◌, inl, inr, arith}
+use Rattle.std.specs.Prelude.{◌↔◌}
+use Rattle.std.specs.Option.{is_some}
+use Rattle.tg_rights.specs.Letters.{is_none, grant_alone}
+use Rattle.tg_rights.specs.declared.command.Command.{Command}
+use Rattle.tg_rights.specs.declared.command.Command.TheVariants as command
+use Rattle.tg_rights.specs.declared.outcome.Which.{Which}
+use Rattle.tg_rights.specs.declared.outcome.Which.TheVariants as which
+use Rattle.tg_rights.specs.declared.outcome.Outcome.{Outcome}
+use Rattle.tg_rights.specs.declared.outcome.Outcome.TheVariants as outcome
+use Rattle.tg_graph.specs.Protection.{Protection, IsGraph, IsVertex, IsSubject, label}
+use Rattle.tg_graph.specs.Paths.{Agree}
+use Rattle.tg_graph.specs.Fullness.{Limits, MakesEdge, Permitted, vertex_count, edge_count}
+use Rattle.tg_graph.specs.Rules.{Allowed, Judged, allowed_reply, reply_of, is_create, last_serial}
+use Rattle.tg_graph.proofs.Agreement.{Judged-agrees}
+use Rattle.tg_graph.proofs.Ends.{includes_some, edge_to}
+use Rattle.tg_graph.proofs.Kept.{part_agrees}
+use Rattle.tg_graph.proofs.Outcomes.{verdict-Judged}
+use Rattle.tg_graph.proofs.Replies.{same_reply}
+use Rattle.tg_collect.specs.Views.{IsStore, IsHeldIn, IsRootIn}
+use Rattle.tg_vault.specs.History.{IsPrincipal}
+use Rattle.tg_vault.specs.World.{ExactSlots, World}
+use Rattle.tg_vault.specs.Contents.{Contents, graph_now, held_now}
+use Rattle.tg_vault.specs.Fits.{Ties}
+use Rattle.tg_vault.specs.CarriedOut.{Decided, IsUsedUp}
+use Rattle.tg_vault.proofs.HistoryLemmas.{legal_keeps}
+
+pub agree_back : (G H : Protection) (x : ℕ) → Agree G H x → Agree H G x
+agree_back G H x a = record {
+  subject = a.subject_too;
+  subject_too = a.subject;
+  paths = λ later y. ((a.paths later y).1, (a.paths later y).0);
+  vertices = λ later y p. sym (a.vertices later y ((a.paths later y).1 p));
+  labels = λ later y z p. sym (a.labels later y z ((a.paths later y).1 p));
+}
+
+module _ (v : Contents) (j : Ties v) (store : IsStore v.store) where
+  abbrev G : Protection
+  G = graph_now v
+
+  abbrev H : Protection
+  H = held_now v
+
+  pub graph_is : IsGraph (graph_now v)
+  graph_is = (legal_keeps v.limits v.opening v.history (graph_now v) j.opened j.vault.legal).0
+
+  pub of_graph : (x : ℕ) → IsVertex H x → IsVertex G x
+  of_graph x h = ap is_some (j.part.vertices x h) ∙ h
+
+  pub held_is : IsGraph (held_now v)
+  held_is = record {
+    below_next = λ x h. graph_is.below_next x (of_graph x h);
+    from_vertex = λ t h. store.from_held t h;
+    to_vertex = λ t h. store.to_held t h;
+    distinct = λ t h. store.distinct t h;
+  }
+
+  -- the next serial is nobody's
+  pub next_unheld : IsHeldIn v.store (graph_now v).next → ⊥
+  next_unheld h = let below : (graph_now v).next < (graph_now v).next = held_is.below_next (graph_now v).next h in absurd (omega arith)
+
+  module _ (x : ℕ) (principal : IsPrincipal v.opening x) where
+    pub root_is : IsRootIn v.store x
+    root_is = inl ((j.principals x).1 principal)
+
+    pub actor_held : IsVertex (held_now v) x
+    actor_held = store.roots_held x root_is
+
+    pub actor_subject : IsSubject (graph_now v) x
+    actor_subject = (legal_keeps v.limits v.opening v.history (graph_now v) j.opened j.vault.legal).1 x principal
+
+    pub actor_agrees : Agree (held_now v) (graph_now v) x
+    actor_agrees = agree_back G H x (part_agrees G H j.part x actor_held actor_subject)
+
+    pub judged_so : (c : Command) (o : Outcome) → Judged H x c o → Judged G x c o
+    judged_so c o = Judged-agrees H G x c o actor_agrees
+
+    -- the same edges are made in both
+    pub makes_so : (c : Command) → Allowed H x c → MakesEdge H x c → MakesEdge G x c
+    makes_so (command.Take α over from) a new = λ e. new (ap is_none (sym (j.part.labels x over actor_held)) ∙ e)
+    makes_so (command.Grant α over to) a new =
+        let to_held : IsVertex H to = edge_to H held_is x to (includes_some (label H x to) grant_alone a.met.0 refl) in
+        λ e. new (ap is_none (sym (j.part.labels to over to_held)) ∙ e)
+    makes_so (command.Create k α) a new = new
+    makes_so (command.Remove α over) a new = new
+    makes_so (command.Read over) a new = new
+    makes_so (command.Write over text) a new = new
+    makes_so (command.Look at) a new = new
+
+    pub makes_back : (c : Command) → Allowed H x c → MakesEdge G x c → MakesEdge H x c
+    makes_back (command.Take α over from) a new = λ e. new (ap is_none (j.part.labels x over actor_held) ∙ e)
+    makes_back (command.Grant α over to) a new =
+        let to_held : IsVertex H to = edge_to H held_is x to (includes_some (label H x to) grant_alone a.met.0 refl) in
+        λ e. new (ap is_none (j.part.labels to over to_held) ∙ e)
+    makes_back (command.Create k α) a new = new
+    makes_back (command.Remove α over) a new = new
+    makes_back (command.Read over) a new = new
+    makes_back (command.Write over text) a new = new
+    makes_back (command.Look at) a new = new
+
+    pub used_up_so : (c : Command) (f g : ℕ) (w : Which) → Allowed H x c → IsUsedUp H f g x c w → IsUsedUp G f g x c w
+    used_up_so c f g which.Serials a u = u
+    used_up_so c f g which.Slots a u = u
+    used_up_so c f g which.Cells a u = (makes_so c a u.0, u.1, u.2)
+
+    pub used_up_back : (c : Command) (f g : ℕ) (w : Which) → Allowed H x c → IsUsedUp G f g x c w → IsUsedUp H f g x c w
+    used_up_back c f g which.Serials a u = u
+    used_up_back c f g which.Slots a u = u
+    used_up_back c f g which.Cells a u = (makes_back c a u.0, u.1, u.2)
+
+    pub decided_so : (c : Command) (f g : ℕ) (o : Outcome) → Decided H f g x c o → Decided G f g x c o
+    decided_so c f g outcome.Allowed d = (judged_so c outcome.Allowed d.0, λ w u. d.1 w (used_up_back c f g w d.0 u))
+    decided_so c f g (outcome.Denied rule cause) d = judged_so c (outcome.Denied rule cause) d
+    decided_so c f g (outcome.Full w) d = (judged_so c outcome.Allowed d.0, used_up_so c f g w d.0 d.1)
+
+    pub replied_so : (c : Command) (o : Outcome) → Judged H x c outcome.Allowed ⊎ ((o ≡ outcome.Allowed) → ⊥) → reply_of H c o ≡ reply_of G c o
+    replied_so c outcome.Allowed (inl a) = by c a where
+      by : (c : Command) → Allowed H x c → allowed_reply H c ≡ allowed_reply G c
+      by (command.Take α over from) a = refl
+      by (command.Grant α over to) a = refl
+      by (command.Create k α) a = refl
+      by (command.Remove α over) a = refl
+      by (command.Read over) a = same_reply H G x actor_agrees (command.Read over) held_is graph_is a refl
+      by (command.Write over text) a = refl
+      by (command.Look at) a = same_reply H G x actor_agrees (command.Look at) held_is graph_is a refl
+    replied_so c outcome.Allowed (inr not) = absurd (not refl)
+    replied_so c (outcome.Denied rule cause) a = refl
+    replied_so c (outcome.Full w) a = refl
+
+-- what a graph allows it does not deny
+-- a command has one outcome by the rules
+pub judged_once : (G : Protection) (x : ℕ) (c : Command) (o p : Outcome) → Judged G x c o → Judged G x c p → p ≡ o
+judged_once G x c o p a d = verdict-Judged G x c p d ∙ sym (verdict-Judged G x c o a)
+
+pub not_both : (G : Protection) (x : ℕ) (c : Command) (o : Outcome) → Judged G x c outcome.Allowed → Judged G x c o → o ≡ outcome.Allowed
+not_both G x c o a d = judged_once G x c outcome.Allowed o a d
+
+-- a history permits what is decided so
+pub decided_permitted : (limits : Limits) (G : Protection) (f g x : ℕ) (c : Command) (o : Outcome) → limits.slots ≤ f + vertex_count G → limits.cells ≤ g + edge_count G →
+    Decided G f g x c o → Permitted limits G x c o
+decided_permitted limits G f g x c outcome.Allowed slots cells d = (d.0, λ create. let left : last_serial < G.next → ⊥ = λ above. d.1 which.Serials (create, above) in omega arith)
+decided_permitted limits G f g x c (outcome.Denied rule cause) slots cells d = d
+decided_permitted limits G f g x c (outcome.Full which.Serials) slots cells d = d
+decided_permitted limits G f g x c (outcome.Full which.Slots) slots cells d = (d.0, (d.1.0, d.1.1, (let none = d.1.2 in omega arith)))
+decided_permitted limits G f g x c (outcome.Full which.Cells) slots cells d = (d.0, (d.1.0, (let none = d.1.2 in omega arith)))
+
+-- full for slots, exactly by the count
+pub exact_slots : (limits : Limits) (w : World) (f g x : ℕ) (c : Command) (o : Outcome) → w.used ≡ limits.slots - f → f ≤ limits.slots → Decided w.graph f g x c o → ExactSlots limits w x c o
+exact_slots limits w f g x c o used few d = (to o d, back o d) where
+  to : (o : Outcome) → Decided w.graph f g x c o → o ≡ outcome.Full which.Slots → (is_create c ≡ true) × Allowed w.graph x c × (w.graph.next ≤ last_serial) × (w.used ≡ limits.slots)
+  to outcome.Allowed d is = absurd (cc is)
+  to (outcome.Denied rule cause) d is = absurd (cc is)
+  to (outcome.Full which.Serials) d is = absurd (cc is)
+  to (outcome.Full which.Slots) d is = (d.1.0, d.0, d.1.1, (let none = d.1.2 in omega arith))
+  to (outcome.Full which.Cells) d is = absurd (cc is)
+
+  back : (o : Outcome) → Decided w.graph f g x c o → (is_create c ≡ true) × Allowed w.graph x c × (w.graph.next ≤ last_serial) × (w.used ≡ limits.slots) → o ≡ outcome.Full which.Slots
+  back outcome.Allowed d h = absurd (d.1 which.Slots (h.0, h.2, (let full = h.3 in omega arith)))
+  back (outcome.Denied rule cause) d h = absurd (cc (not_both w.graph x c (outcome.Denied rule cause) h.1 d))
+  back (outcome.Full which.Serials) d h = let above = d.1.1 in let below = h.2 in absurd (omega arith)
+  back (outcome.Full which.Slots) d h = refl
+  back (outcome.Full which.Cells) d h = absurd (d.1.1 h.0 (let full = h.3 in omega arith))
+
+no_serial : (G : Protection) (f g x : ℕ) (c : Command) → IsUsedUp G f g x c which.Serials → IsUsedUp G f g x c which.Cells → ⊥
+no_serial G f g x (command.Create k α) a b = let above = a.1 in let below = b.0 in absurd (omega arith)
+no_serial G f g x (command.Take α over from) a b = cc a.0
+no_serial G f g x (command.Grant α over to) a b = cc a.0
+no_serial G f g x (command.Remove α over) a b = cc a.0
+no_serial G f g x (command.Read over) a b = cc a.0
+no_serial G f g x (command.Write over text) a b = cc a.0
+no_serial G f g x (command.Look at) a b = cc a.0
+
+-- full exactly where something is used up
+pub exact_full : (G : Protection) (f g x : ℕ) (c : Command) (o : Outcome) (w : Which) → Decided G f g x c o → (o ≡ outcome.Full w) ↔ (Allowed G x c × IsUsedUp G f g x c w)
+exact_full G f g x c o w d = (to o d, back o d) where
+  to : (o : Outcome) → Decided G f g x c o → o ≡ outcome.Full w → Allowed G x c × IsUsedUp G f g x c w
+  to outcome.Allowed d is = absurd (cc is)
+  to (outcome.Denied rule cause) d is = absurd (cc is)
+  to (outcome.Full u) d is = let same : u ≡ w = cc is in (d.0, subst (IsUsedUp G f g x c) same d.1)
+
+  one : (u w : Which) → IsUsedUp G f g x c u → IsUsedUp G f g x c w → u ≡ w
+  one which.Serials which.Serials a b = refl
+  one which.Serials which.Slots a b = let above = a.1 in let below = b.1 in absurd (omega arith)
+  one which.Serials which.Cells a b = absurd (no_serial G f g x c a b)
+  one which.Slots which.Serials a b = let above = b.1 in let below = a.1 in absurd (omega arith)
+  one which.Slots which.Slots a b = refl
+  one which.Slots which.Cells a b = absurd (b.1 a.0 a.2)
+  one which.Cells which.Serials a b = absurd (no_serial G f g x c b a)
+  one which.Cells which.Slots a b = absurd (a.1 b.0 b.2)
+  one which.Cells which.Cells a b = refl
+
+  back : (o : Outcome) → Decided G f g x c o → Allowed G x c × IsUsedUp G f g x c w → o ≡ outcome.Full w
+  back outcome.Allowed d h = absurd (d.1 w h.1)
+  back (outcome.Denied rule cause) d h = absurd (cc (not_both G x c (outcome.Denied rule cause) h.0 d))
+  back (outcome.Full u) d h = ap (λ u. outcome.Full u) (one u w d.1 h.1)

@@ -1,0 +1,308 @@
+-- A vault with one entry more.
+use Rattle.std.proofs.Common.{◌≡◌, ℕ, ◌+◌, ◌-◌, ◌<◌, ◌≤◌, List, [], ◌∷◌, ◌++◌, refl, sym, ap, subst, ◌∙◌, ◌⊎◌, inl, inr, Some, arith}
+use Rattle.std.specs.Prelude.{◌↔◌}
+use Rattle.std.proofs.lemmas.List.Elements.{All-append, All-cons, All-nil}
+use Rattle.std.proofs.lemmas.Bool.{not-true}
+use Rattle.tg_rights.specs.Letters.{joined, without, take_alone, grant_alone}
+use Rattle.tg_rights.specs.Membership.{Contains}
+use Rattle.tg_rights.specs.declared.command.Command.{Command}
+use Rattle.tg_rights.specs.declared.command.Command.TheVariants as command
+use Rattle.tg_rights.specs.declared.outcome.Outcome.{Outcome}
+use Rattle.tg_rights.specs.declared.outcome.Outcome.TheVariants as outcome
+use Rattle.tg_rights.specs.declared.outcome.Reply.{Reply}
+use Rattle.tg_graph.specs.Protection.{Protection, IsGraph, IsVertex, IsEdge, label}
+use Rattle.tg_graph.specs.Paths.{Agree, IsPart, Live}
+use Rattle.tg_graph.specs.Fullness.{Permitted, edges_at, vertex_count, edge_count}
+use Rattle.tg_graph.specs.Rules.{Allowed, Judged, next_graph, reply_of, after}
+use Rattle.tg_graph.proofs.Agreement.{Judged-agrees}
+use Rattle.tg_graph.proofs.Ends.{edge_to, includes_some}
+use Rattle.tg_graph.proofs.Kept.{part_stays}
+use Rattle.tg_graph.proofs.Replies.{same_reply}
+use Rattle.tg_graph.proofs.Vertices.{IsVertex-from_kind}
+use Rattle.tg_vault.specs.declared.entry.Entry.{Entry}
+use Rattle.tg_collect.specs.Stored.{Stored, held}
+use Rattle.tg_collect.specs.Views.{IsStore, IsRootIn, InSet}
+use Rattle.tg_vault.specs.History.{IsPrincipal}
+use Rattle.tg_vault.specs.World.{at_seat, target_of, with_target, slots_taken, entered, Enters}
+use Rattle.tg_vault.specs.Contents.{Contents, IsVault, graph_now, held_now, moment}
+use Rattle.tg_vault.specs.Fits.{Ties, IsTied}
+use Rattle.tg_vault.specs.StoreSteps.{SessionStep}
+use Rattle.tg_vault.specs.Exact.{IsExact}
+use Rattle.tg_vault.specs.Agreement.{SameForAgreeing, JudgedAlike, IsOfGraph}
+use Rattle.tg_vault.specs.Told.{told}
+use Rattle.tg_vault.specs.CarriedOut.{CarriedOut, Decided, CellsMoved, new_serial}
+use Rattle.tg_vault.proofs.HistoryLemmas.{graph_of_more, along_more, told_outcome}
+use Rattle.tg_vault.proofs.DecidedLemmas.{graph_is, held_is, actor_held, actor_subject, root_is, decided_so, replied_so, decided_permitted, exact_slots, exact_full}
+use Rattle.tg_vault.proofs.CountLemmas.{next_same, target_same, vertex_stays, vertices_counted, edges_counted}
+
+judged_alike : (G K : Protection) (f g x : ℕ) (c : Command) (o : Outcome) → Agree G K x → Decided G f g x c o → JudgedAlike K x c o
+judged_alike G K f g x c outcome.Allowed agree d = Judged-agrees G K x c outcome.Allowed agree d.0
+judged_alike G K f g x c (outcome.Denied rule cause) agree d = Judged-agrees G K x c (outcome.Denied rule cause) agree d
+judged_alike G K f g x c (outcome.Full w) agree d = Judged-agrees G K x c outcome.Allowed agree d.0
+
+alike : (G K : Protection) (f g x : ℕ) (c : Command) (o : Outcome) → IsGraph G → IsGraph K → Agree G K x → Decided G f g x c o → IsOfGraph c o → reply_of G c o ≡ reply_of K c o
+alike G K f g x c outcome.Allowed in_G in_K agree d other = same_reply G K x agree c in_G in_K d.0 other
+alike G K f g x c (outcome.Denied rule cause) in_G in_K agree d other = refl
+alike G K f g x c (outcome.Full w) in_G in_K agree d other = absurd other
+
+allowed_of : (G : Protection) (f g x : ℕ) (c : Command) (o : Outcome) → Decided G f g x c o → o ≡ outcome.Allowed → Allowed G x c
+allowed_of G f g x c outcome.Allowed d is = d.0
+allowed_of G f g x c (outcome.Denied rule cause) d is = absurd (cc is)
+allowed_of G f g x c (outcome.Full w) d is = absurd (cc is)
+
+judged_or : (G : Protection) (f g x : ℕ) (c : Command) (o : Outcome) → Decided G f g x c o → Judged G x c outcome.Allowed ⊎ ((o ≡ outcome.Allowed) → ⊥)
+judged_or G f g x c outcome.Allowed d = inl d.0
+judged_or G f g x c (outcome.Denied rule cause) d = inr (λ is. cc is)
+judged_or G f g x c (outcome.Full w) d = inr (λ is. cc is)
+
+-- a target is reached from the actor, or new
+target_live : (H : Protection) (root : ℕ → Type 0) (x : ℕ) (c : Command) (o : Outcome) → root x → IsVertex H x → (o ≡ outcome.Allowed → Allowed H x c) → (y : ℕ) → target_of H c o ≡ Some y → Live H root y ⊎ (H.next ≤ y)
+target_live H root x (command.Take α over from) outcome.Allowed is_root x_in a y is =
+    let same : over ≡ y = cc is in
+    let first : IsEdge H x from = includes_some (label H x from) take_alone (a refl).met.0 refl in
+    let next : IsEdge H from over = includes_some (label H from over) α (a refl).met.1.0 (not-true _ (a refl).rights_named) in
+    inl (x, is_root, (from ∷ over ∷ [], (x_in, (first, (next, same)))))
+target_live H root x (command.Grant α over to) outcome.Allowed is_root x_in a y is =
+    let same : over ≡ y = cc is in
+    let here : IsEdge H x over = includes_some (label H x over) α (a refl).met.1.0 (not-true _ (a refl).rights_named) in
+    inl (x, is_root, (over ∷ [], (x_in, (here, same))))
+target_live H root x (command.Create k α) outcome.Allowed is_root x_in a y is = let same : H.next ≡ y = cc is in inr (omega arith)
+target_live H root x (command.Remove α over) outcome.Allowed is_root x_in a y is = absurd (cc is)
+target_live H root x (command.Read over) outcome.Allowed is_root x_in a y is = absurd (cc is)
+target_live H root x (command.Write over text) outcome.Allowed is_root x_in a y is = absurd (cc is)
+target_live H root x (command.Look at) outcome.Allowed is_root x_in a y is = absurd (cc is)
+target_live H root x c (outcome.Denied rule cause) is_root x_in a y is = absurd (cc is)
+target_live H root x c (outcome.Full w) is_root x_in a y is = absurd (cc is)
+
+new_is_next : (next : ℕ) (c : Command) (o : Outcome) (y : ℕ) → new_serial next c o ≡ Some y → next ≤ y
+new_is_next next (command.Take α over from) outcome.Allowed y is = absurd (cc is)
+new_is_next next (command.Grant α over to) outcome.Allowed y is = absurd (cc is)
+new_is_next next (command.Create k α) outcome.Allowed y is = let same : next ≡ y = cc is in omega arith
+new_is_next next (command.Remove α over) outcome.Allowed y is = absurd (cc is)
+new_is_next next (command.Read over) outcome.Allowed y is = absurd (cc is)
+new_is_next next (command.Write over text) outcome.Allowed y is = absurd (cc is)
+new_is_next next (command.Look at) outcome.Allowed y is = absurd (cc is)
+new_is_next next c (outcome.Denied rule cause) y is = absurd (cc is)
+new_is_next next c (outcome.Full w) y is = absurd (cc is)
+
+-- the labels that change are the same in both
+moved_so : (v : Contents) → Ties v → IsStore v.store → (x : ℕ) → IsVertex (held_now v) x → (c : Command) (o : Outcome) (before after : ℕ) → (o ≡ outcome.Allowed → Allowed (held_now v) x c) →
+    CellsMoved (held_now v) before after x c o → CellsMoved (graph_now v) before after x c o
+moved_so v j store x x_in (command.Take α over from) outcome.Allowed before after a moved =
+    subst (λ l. after + edges_at (joined l α) ≡ before + edges_at l) (sym (j.part.labels x over x_in)) moved
+moved_so v j store x x_in (command.Grant α over to) outcome.Allowed before after a moved =
+    let to_in : IsVertex (held_now v) to = edge_to (held_now v) (held_is v j store) x to (includes_some (label (held_now v) x to) grant_alone (a refl).met.0 refl) in
+    subst (λ l. after + edges_at (joined l α) ≡ before + edges_at l) (sym (j.part.labels to over to_in)) moved
+moved_so v j store x x_in (command.Create k α) outcome.Allowed before after a moved = moved
+moved_so v j store x x_in (command.Remove α over) outcome.Allowed before after a moved =
+    subst (λ l. after + edges_at (without l α) ≡ before + edges_at l) (sym (j.part.labels x over x_in)) moved
+moved_so v j store x x_in (command.Read over) outcome.Allowed before after a moved = moved
+moved_so v j store x x_in (command.Write over text) outcome.Allowed before after a moved = moved
+moved_so v j store x x_in (command.Look at) outcome.Allowed before after a moved = moved
+moved_so v j store x x_in c (outcome.Denied rule cause) before after a moved = moved
+moved_so v j store x x_in c (outcome.Full w) before after a moved = moved
+
+-- what is free is at most all
+pub free_few : (v : Contents) → Ties v → IsStore v.store → v.store.free_slots ≤ v.limits.slots
+free_few v j counted = let all = counted.slots 0 in let many = j.slots in omega arith
+
+-- a command was carried out in the store of a vault
+pub record Serving (v : Contents) (seat x : ℕ) (c : Command) (answer : Reply) (t : Stored) (after : ℕ) : Type 0 where
+  pub joins : Ties v
+  pub store : IsStore v.store
+  pub counted : IsStore v.store
+  pub within : seat < 64
+  pub seated : at_seat v.seats seat ≡ Some x
+  pub carried : CarriedOut v.store t (graph_now v).next after seat x c answer
+
+module _ (v : Contents) (seat x : ℕ) (c : Command) (answer : Reply) (t : Stored) (after : ℕ) (s : Serving v seat x c answer t after) where
+  abbrev j : Ties v
+  j = s.joins
+
+  abbrev G : Protection
+  G = graph_now v
+
+  abbrev H : Protection
+  H = held_now v
+
+  abbrev o : Outcome
+  o = s.carried.outcome
+
+  abbrev pub e : Entry
+  e = record { seat = seat; actor = x; command = c; outcome = o }
+
+  -- the vault with the entry
+  abbrev pub left : Contents
+  left = record v { store = t; history = v.history ++ e ∷ [] }
+
+  principal : IsPrincipal v.opening x
+  principal = j.vault.seated seat x s.seated
+
+  in_G : IsGraph G
+  in_G = graph_is v j s.store
+
+  x_in : IsVertex H x
+  x_in = actor_held v j s.store x principal
+
+  x_in_G : IsVertex G x
+  x_in_G = IsVertex-from_kind G x _ (actor_subject v j s.store x principal)
+
+  decided : Decided G v.store.free_slots v.store.free_cells x c o
+  decided = decided_so v j s.store x principal c v.store.free_slots v.store.free_cells o s.carried.decided
+
+  allowed : o ≡ outcome.Allowed → Allowed G x c
+  allowed = allowed_of G v.store.free_slots v.store.free_cells x c o decided
+
+  allowed_held : o ≡ outcome.Allowed → Allowed H x c
+  allowed_held = allowed_of H v.store.free_slots v.store.free_cells x c o s.carried.decided
+
+  permitted : Permitted v.limits G x c o
+  permitted = decided_permitted v.limits G v.store.free_slots v.store.free_cells x c o j.many_slots j.many_cells decided
+
+  replied : answer ≡ reply_of G c o
+  replied = s.carried.replied ∙ replied_so v j s.store x principal c o (judged_or H v.store.free_slots v.store.free_cells x c o s.carried.decided)
+
+  graph_left : graph_now left ≡ next_graph G x c o
+  graph_left = graph_of_more v.opening v.history e
+
+  pub after_is : after ≡ (graph_now left).next
+  after_is = ap (λ (K : Protection). K.next) s.carried.graph ∙ next_same H G x c o refl ∙ sym (ap (λ (K : Protection). K.next) graph_left)
+
+  target_is : target_of H c o ≡ target_of G c o
+  target_is = target_same H G c o refl
+
+  pub moment_left : moment left ≡ entered (moment v) e
+  moment_left = λ i. record {
+    world = record {
+      graph = graph_left i;
+      seats = v.seats;
+      pending = (s.carried.pending ∙ ap (with_target v.store.pending seat) target_is) i;
+      used = used i;
+    };
+    history = v.history ++ e ∷ [];
+  } where
+    used : v.limits.slots - t.free_slots ≡ v.limits.slots - v.store.free_slots + slots_taken c o
+    used = let few = free_few v j s.counted in let moved = s.carried.slots in omega arith
+
+  pub serving_enters : Enters v.limits (moment v) seat x c answer (moment left)
+  serving_enters = record {
+    outcome = o;
+    permitted = permitted;
+    exact = exact_slots v.limits (moment v).world v.store.free_slots v.store.free_cells x c o refl (free_few v j s.counted) decided;
+    replied = replied;
+    left = moment_left;
+  }
+
+  pub serving_same : SameForAgreeing v left answer
+  serving_same = record {
+    entry = e;
+    added = refl;
+    outcome = λ K agree. judged_alike G K v.store.free_slots v.store.free_cells x c o agree decided;
+    reply = λ K in_K agree other. replied ∙ alike G K v.store.free_slots v.store.free_cells x c o in_G in_K agree decided other;
+  }
+
+  pub serving_exact : IsExact v left
+  serving_exact = record { entry = e; added = refl; full = λ w. exact_full G v.store.free_slots v.store.free_cells x c o w decided }
+
+  pub serving_acts : SessionStep v left
+  serving_acts = record {
+    came = new_serial (graph_now v).next c o;
+    target = target_of H c o;
+    acted = s.carried.acted;
+    next = λ y is. new_is_next (graph_now v).next c o y is;
+    live = λ y is. target_live H (IsRootIn v.store) x c o (root_is v j s.store x principal) x_in allowed_held y is;
+  }
+
+  still_vault : IsVault left
+  still_vault = record {
+    legal = record {
+      graphs = along_more v.limits v.opening v.history G e (graph_now left) j.vault.legal.graphs (permitted, graph_left);
+      actors = All-append (λ (e : Entry). IsPrincipal v.opening e.actor) v.history (e ∷ []) j.vault.legal.actors (All-cons (λ (e : Entry). IsPrincipal v.opening e.actor) e [] principal (All-nil _));
+    };
+    sat = All-append (λ (e : Entry). e.seat < 64) v.history (e ∷ []) j.vault.sat (All-cons (λ (e : Entry). e.seat < 64) e [] s.within (All-nil _));
+    seats = j.vault.seats;
+    few = j.vault.few;
+    named = j.vault.named;
+    seated = j.vault.seated;
+  }
+
+  part_next : (d : Outcome) → (d ≡ outcome.Allowed → Allowed G x c) → IsPart (next_graph G x c d) (next_graph H x c d)
+  part_next outcome.Allowed a = part_stays G H j.part x c in_G (held_is v j s.store) refl x_in x_in_G (a refl)
+  part_next (outcome.Denied rule cause) a = j.part
+  part_next (outcome.Full w) a = j.part
+
+  still_part : IsPart (graph_now left) (held_now left)
+  still_part =
+      let same : next_graph H x c o ≡ held_now left = sym s.carried.graph ∙ ap (held t) after_is in
+      subst (λ K. IsPart (graph_now left) K) same (subst (λ K. IsPart K (next_graph H x c o)) (sym graph_left) (part_next o allowed))
+
+  pub serving_joined : IsTied left after
+  serving_joined = record {
+    joins = record {
+      vault = still_vault;
+      opened = j.opened;
+      part = still_part;
+      parked = λ y h. subst (λ (K : Protection). IsVertex K y) (sym graph_left) (vertex_stays G in_G x x_in_G c o allowed y (j.parked y (subst (λ p. InSet p y) s.carried.acted.parked h)));
+      principals = λ y. subst (λ (ps : List ℕ). Contains ps y ↔ IsPrincipal v.opening y) (sym s.carried.acted.principals) (j.principals y);
+      slots = s.carried.acted.slots ∙ j.slots;
+      cells = s.carried.acted.cells ∙ j.cells;
+      many_slots =
+          let many = j.many_slots in
+          let moved = s.carried.slots in
+          let counted = ap vertex_count graph_left ∙ vertices_counted G in_G x x_in_G c o allowed in
+          omega arith;
+      many_cells =
+          let many = j.many_cells in
+          let same = ap edge_count graph_left in
+          let counted = edges_counted G in_G x x_in_G c o v.store.free_cells t.free_cells allowed (moved_so v j s.store x x_in c o v.store.free_cells t.free_cells allowed_held s.carried.cells) in
+          omega arith;
+    };
+    serial = after_is;
+  }
+
+-- the entry is that of the reply, and is pushed
+pub record Pushed (v : Contents) (next seat x : ℕ) (c : Command) (answer : Reply) (t : Stored) (after : ℕ) (decision : Outcome) (history : List Entry) : Type 0 where
+  pub joined : IsTied v next
+  pub store : IsStore v.store
+  pub counted : IsStore v.store
+  pub within : seat < 64
+  pub seated : at_seat v.seats seat ≡ Some x
+  pub carried : CarriedOut v.store t next after seat x c answer
+  pub decision_is : decision ≡ told answer
+  pub history_is : history ≡ v.history ++ record { seat = seat; actor = x; command = c; outcome = decision } ∷ []
+
+module _ (v : Contents) (next seat x : ℕ) (c : Command) (answer : Reply) (t : Stored) (after : ℕ) (decision : Outcome) (history : List Entry) (p : Pushed v next seat x c answer t after decision history) where
+  serving : Serving v seat x c answer t after
+  serving = record {
+    joins = p.joined.joins;
+    store = p.store;
+    counted = p.counted;
+    within = p.within;
+    seated = p.seated;
+    carried = subst (λ n. CarriedOut v.store t n after seat x c answer) p.joined.serial p.carried;
+  }
+
+  pushed_is : left v seat x c answer t after serving ≡ record v { store = t; history = history }
+  pushed_is =
+      let s = serving in
+      let told_is : told answer ≡ s.carried.outcome = ap told s.carried.replied ∙ told_outcome (held_now v) c s.carried.outcome in
+      λ i. record v { store = t; history = sym (p.history_is ∙ ap (λ d. v.history ++ record { seat = seat; actor = x; command = c; outcome = d } ∷ []) (p.decision_is ∙ told_is)) i }
+
+  pub pushed_joined : IsTied (record v { store = t; history = history }) after
+  pushed_joined = subst (λ (w : Contents). IsTied w after) pushed_is (serving_joined v seat x c answer t after serving)
+
+  pub pushed_enters : Enters v.limits (moment v) seat x c answer (moment (record v { store = t; history = history }))
+  pushed_enters = subst (λ (w : Contents). Enters v.limits (moment v) seat x c answer (moment w)) pushed_is (serving_enters v seat x c answer t after serving)
+
+  pub pushed_same : SameForAgreeing v (record v { store = t; history = history }) answer
+  pushed_same = subst (λ (w : Contents). SameForAgreeing v w answer) pushed_is (serving_same v seat x c answer t after serving)
+
+  pub pushed_exact : IsExact v (record v { store = t; history = history })
+  pushed_exact = subst (λ (w : Contents). IsExact v w) pushed_is (serving_exact v seat x c answer t after serving)
+
+  pub pushed_acts : SessionStep v (record v { store = t; history = history })
+  pushed_acts = subst (λ (w : Contents). SessionStep v w) pushed_is (serving_acts v seat x c answer t after serving)
+
+-- the next serial is nobody's, also not of one that waits to be swept
+pub next_unparked : (v : Contents) → Ties v → IsStore v.store → InSet v.store.parked (graph_now v).next → ⊥
+next_unparked v j store h = let below : (graph_now v).next < (graph_now v).next = (graph_is v j store).below_next (graph_now v).next (j.parked (graph_now v).next h) in absurd (omega arith)

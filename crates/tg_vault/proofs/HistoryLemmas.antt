@@ -1,0 +1,59 @@
+-- A history with one entry more.
+use Rattle.std.proofs.Common.{◌≡◌, ℕ, List, [], ◌∷◌, ◌++◌, refl, sym, ap, subst, ◌∙◌}
+use Rattle.std.specs.Prelude.{All}
+use Rattle.std.proofs.lemmas.List.Elements.{All-head, All-tail}
+use Rattle.tg_rights.specs.declared.command.Command.{Command}
+use Rattle.tg_rights.specs.declared.command.Command.TheVariants as command
+use Rattle.tg_rights.specs.declared.outcome.Outcome.{Outcome}
+use Rattle.tg_rights.specs.declared.outcome.Outcome.TheVariants as outcome
+use Rattle.tg_graph.specs.Protection.{Protection, IsGraph, IsSubject}
+use Rattle.tg_graph.specs.Rules.{next_graph, reply_of}
+use Rattle.tg_graph.proofs.Stays.{graph_stays, subject_stays}
+use Rattle.tg_vault.specs.declared.entry.Entry.{Entry}
+use Rattle.tg_graph.specs.Fullness.{Limits, Permitted}
+use Rattle.tg_vault.specs.History.{Legal, EntryStep, EntryRun, graph_of}
+use Rattle.tg_vault.specs.Told.{told}
+
+pub graph_of_more : (G : Protection) (es : List Entry) (e : Entry) → graph_of G (es ++ e ∷ []) ≡ next_graph (graph_of G es) e.actor e.command e.outcome
+graph_of_more G [] e = refl
+graph_of_more G (x ∷ es) e = graph_of_more (next_graph G x.actor x.command x.outcome) es e
+
+pub along_more : (limits : Limits) (G : Protection) (es : List Entry) (H : Protection) (e : Entry) (K : Protection) → EntryRun limits G es H → EntryStep limits H e K → EntryRun limits G (es ++ e ∷ []) K
+along_more limits G [] H e K same turns = (K, (let P : Protection → Type 0 = λ F. EntryStep limits F e K in subst P same turns), refl)
+along_more limits G (x ∷ es) H e K along turns = (along.0, along.1, along_more limits along.0 es H e K along.2 turns)
+
+-- the graphs along a history are those that the outcomes give
+pub along_ends : (limits : Limits) (G : Protection) (es : List Entry) (H : Protection) → EntryRun limits G es H → H ≡ graph_of G es
+along_ends limits G [] H same = same
+along_ends limits G (x ∷ es) H along = along_ends limits along.0 es H along.2 ∙ ap (λ F. graph_of F es) along.1.1
+
+pub told_outcome : (G : Protection) (c : Command) (o : Outcome) → told (reply_of G c o) ≡ o
+told_outcome G (command.Take α over from) outcome.Allowed = refl
+told_outcome G (command.Grant α over to) outcome.Allowed = refl
+told_outcome G (command.Create k α) outcome.Allowed = refl
+told_outcome G (command.Remove α over) outcome.Allowed = refl
+told_outcome G (command.Read over) outcome.Allowed = refl
+told_outcome G (command.Write over text) outcome.Allowed = refl
+told_outcome G (command.Look at) outcome.Allowed = refl
+told_outcome G c (outcome.Denied rule cause) = refl
+told_outcome G c (outcome.Full which) = refl
+
+-- what an entry leaves is a graph, and each subject a subject
+turn_keeps : (limits : Limits) (G : Protection) (x : ℕ) (c : Command) (o : Outcome) → IsGraph G → IsSubject G x → Permitted limits G x c o →
+    IsGraph (next_graph G x c o) × ((v : ℕ) → IsSubject G v → IsSubject (next_graph G x c o) v)
+turn_keeps limits G x c outcome.Allowed graph subject permitted = (graph_stays G x c graph subject permitted.0, subject_stays G x c graph permitted.0)
+turn_keeps limits G x c (outcome.Denied rule cause) graph subject permitted = (graph, λ v s. s)
+turn_keeps limits G x c (outcome.Full which) graph subject permitted = (graph, λ v s. s)
+
+along_keeps : (limits : Limits) (first G : Protection) (es : List Entry) (H : Protection) → IsGraph G → ((v : ℕ) → IsSubject first v → IsSubject G v) →
+    All (λ e. IsSubject first e.actor) es → EntryRun limits G es H → IsGraph H × ((v : ℕ) → IsSubject first v → IsSubject H v)
+along_keeps limits first G [] H graph subjects actors along = (subst IsGraph (sym along) graph, λ v s. subst (λ K. IsSubject K v) (sym along) (subjects v s))
+along_keeps limits first G (e ∷ es) H graph subjects actors along =
+    let actor : IsSubject G e.actor = subjects e.actor (All-head (λ (e : Entry). IsSubject first e.actor) e es actors) in
+    let kept = turn_keeps limits G e.actor e.command e.outcome graph actor along.1.0 in
+    along_keeps limits first along.0 es H (subst IsGraph (sym along.1.1) kept.0) (λ v s. subst (λ K. IsSubject K v) (sym along.1.1) (kept.1 v (subjects v s)))
+    (All-tail (λ (e : Entry). IsSubject first e.actor) e es actors) along.2
+
+-- the graph of a legal history is a graph, and each subject of the opening graph is one of it
+pub legal_keeps : (limits : Limits) (first : Protection) (es : List Entry) (G : Protection) → IsGraph first → Legal limits first es G → IsGraph G × ((v : ℕ) → IsSubject first v → IsSubject G v)
+legal_keeps limits first es G graph legal = along_keeps limits first first es G graph (λ v s. s) legal.actors legal.graphs

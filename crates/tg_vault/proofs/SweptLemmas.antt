@@ -1,0 +1,95 @@
+-- A cycle, step by step.
+use Rattle.std.proofs.Common.{◌≡◌, ℕ, ◌+◌, ◌*◌, ◌≤◌, List, [], ◌∷◌, ◌++◌, length, map, refl, sym, ap, subst, ◌∙◌, inl, inr, true, false, length-append, arith}
+use Rattle.std.specs.Prelude.{sum_by, All}
+use Rattle.std.proofs.lemmas.List.Elements.{All-append, All-cons, All-nil}
+use Rattle.std.proofs.lemmas.List.Sums.{sum_by-cons, sum_by-append}
+use Rattle.tg_graph.specs.Fullness.{Limits}
+use Rattle.tg_rights.proofs.MembershipLemmas.{map_append}
+use Rattle.tg_collect.specs.declared.note.Note.{Note}
+use Rattle.tg_vault.specs.declared.event.Event.{Event}
+use Rattle.tg_vault.specs.declared.event.Event.TheVariants as event
+use Rattle.tg_vault.specs.declared.event.Answer.{Answer}
+use Rattle.tg_vault.specs.declared.event.Answer.TheVariants as answer
+use Rattle.tg_collect.specs.Stored.{cycle_bound}
+use Rattle.tg_vault.specs.Contents.{Contents}
+use Rattle.tg_vault.specs.Fits.{IsSmall}
+use Rattle.tg_vault.specs.Course.{Course, VaultStep, IsCoherent}
+use Rattle.tg_vault.specs.Cycles.{IsCycle}
+use Rattle.tg_vault.proofs.CourseLemmas.{course_more}
+
+abbrev pub collects : List Note → List Event
+collects notes = map (λ _. event.Collect) notes
+
+abbrev pub noted : List Note → List Answer
+noted notes = map (λ n. answer.Noted n) notes
+
+-- the steps so far, none of which ended a cycle
+pub record SoFar (v w : Contents) (freed steps : ℕ) : Type 0 where
+  pub notes : List Note
+  pub course : Course v (collects notes) (noted notes) w
+  pub none : All (λ n. n.ended ≡ false) notes
+  pub freed_is : freed ≡ sum_by (λ n. n.freed) notes
+  pub steps_are : steps ≡ length notes
+  pub slots : v.store.free_slots + freed ≡ w.store.free_slots
+  pub left : steps + w.store.left ≤ v.store.left
+  pub coherent : IsCoherent w
+  pub small : IsSmall w
+
+-- one step more
+module _ (v w u : Contents) (freed steps : ℕ) (note : Note) (s : SoFar v w freed steps) (g : VaultStep w event.Collect (answer.Noted note) u) where
+  abbrev notes : List Note
+  notes = s.notes ++ note ∷ []
+
+  more_course : Course v (collects notes) (noted notes) u
+  more_course =
+      let long = course_more v (collects s.notes) (noted s.notes) w event.Collect (answer.Noted note) u s.course g in
+      subst (λ (es : List Event). Course v es (noted notes) u) (sym (map_append (λ _. event.Collect) s.notes (note ∷ [])))
+      (subst (λ (answers : List Answer). Course v (collects s.notes ++ event.Collect ∷ []) answers u) (sym (map_append (λ n. answer.Noted n) s.notes (note ∷ []))) long)
+
+  more_freed : freed + note.freed ≡ sum_by (λ n. n.freed) notes
+  more_freed =
+      let front = s.freed_is in
+      let all = sum_by-append (λ n. n.freed) s.notes (note ∷ []) in
+      let last = sum_by-cons (λ (n : Note). n.freed) note [] in
+      omega arith
+
+  more_steps : steps + 1 ≡ length s.notes + 1
+  more_steps = let front = s.steps_are in omega arith
+
+  steps_below : steps + 1 ≤ v.store.left
+  steps_below = let left = s.left in let some = s.coherent.store.some_left in omega arith
+
+  module _ (small : IsSmall u) where
+    pub goes_on : note.ended ≡ false → SoFar v u (freed + note.freed) (steps + 1)
+    goes_on open_end = record {
+      notes = notes;
+      course = more_course;
+      none = All-append (λ (n : Note). n.ended ≡ false) s.notes (note ∷ []) s.none (All-cons (λ (n : Note). n.ended ≡ false) note [] open_end (All-nil _));
+      freed_is = more_freed;
+      steps_are = more_steps ∙ sym (length-append s.notes (note ∷ []));
+      slots = let before = s.slots in let moved = g.stored.0.free_slots in omega arith;
+      left = elim g.stored.0.left [ inl ended ↦ absurd (cc (open_end, ended)) | inr less ↦ (let left = s.left in omega arith) ];
+      coherent = g.coherent;
+      small = small;
+    }
+
+  -- the greatest number of steps
+  module _ (coherent : IsCoherent v) where
+    pub few_steps : steps + 1 ≤ cycle_bound v.limits.slots v.limits.cells
+    few_steps =
+        let most = coherent.store.most_left in
+        let bound : cycle_bound (length v.store.marks) v.store.cells ≡ cycle_bound v.limits.slots v.limits.cells = λ i. cycle_bound (coherent.ties.slots i) (coherent.ties.cells i) in
+        let below = steps_below in
+        omega (arith, most, bound, below)
+
+    pub ends_here : note.ended ≡ true → IsCycle v (record { freed = freed + note.freed; steps = steps + 1 }) u
+    ends_here ended = record {
+      notes = s.notes;
+      last = note;
+      course = more_course;
+      none = s.none;
+      ended = ended;
+      freed = more_freed;
+      steps = more_steps;
+      few = few_steps;
+    }

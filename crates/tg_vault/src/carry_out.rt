@@ -1,0 +1,152 @@
+//! Carrying out what the rules allow in the store.
+ghost use Rattle.std.specs.Prelude.{◌≡◌, ◌≢◌, ◌<◌, ◌+◌, ℕ, List, IfOk, OnErr, OnOk, IsSome, Some, None, true, false};
+ghost use Rattle.tg_rights.specs.Letters.{is_none, includes};
+ghost use Rattle.tg_rights.specs.Membership.{Contains};
+ghost use Rattle.tg_rights.specs.declared.limits.TheConstants.{SEATS};
+ghost use Rattle.tg_rights.specs.declared.outcome.Reply.TheVariants as reply;
+ghost use Rattle.tg_graph.specs.Protection.{label};
+ghost use Rattle.tg_graph.specs.Rules.{edges_of, text_of};
+ghost use Rattle.tg_collect.specs.Stored.{held};
+ghost use Rattle.tg_collect.specs.Views.{InSet, IsEdgeIn, IsHeldIn, place, serial_at};
+ghost use Rattle.tg_collect.specs.Sessions.{pending_of, RightsRemoved, TextReplaced};
+ghost use Rattle.tg_collect.specs.StoreRuns.{Acted};
+ghost use Rattle.tg_vault.specs.CarriedOut.{Joined, Made, CarriedOut};
+
+use crate::plan::{Plan, decide};
+use std::alloc::{AllocError, Global};
+use tg_collect::Store;
+use tg_graph::LAST_SERIAL;
+use tg_heap::HeapFull;
+use tg_rights::{Command, EdgeList, Kind, Reply, Rights, Text, Which};
+
+/// The edge gains the rights, and its target is the seat's; full where it is new and no cell is free.
+fn join(store: &mut Store, seat: u64, owner: u32, target: u32, rights: Rights) -> Reply
+    requires seat { seat < SEATS }
+    requires idle { pending_of store.old seat ≡ None }
+    requires source { IsSome (place store.old owner) }
+    requires target { IsSome (place store.old target) }
+    requires distinct { target ≢ owner }
+    requires some { is_none rights ≡ false }
+    ensures { Joined store.old store.new seat (serial_at store.old owner) (serial_at store.old target) rights result }
+{
+    match store.store_edge(seat, owner, target, rights) {
+        Ok(()) => Reply::Done,
+        Err(_) => Reply::Full(Which::Cells),
+    }
+}
+
+/// A vertex of the next serial comes in, and is the seat's target; full where there is no serial, slot or cell for it.
+fn make(
+    store: &mut Store,
+    next: &mut u64,
+    alloc: Global,
+    seat: u64,
+    id: u32,
+    kind: Kind,
+    rights: Rights,
+) -> Reply
+    requires seat { seat < SEATS }
+    requires idle { pending_of store.old seat ≡ None }
+    requires source { IsSome (place store.old id) }
+    requires some { is_none rights ≡ false }
+    requires unheld { IsHeldIn store.old next.old → ⊥ }
+    requires unparked { InSet store.old.parked next.old → ⊥ }
+    ensures { Made store.old store.new next.old next.new seat (serial_at store.old id) kind rights result }
+{
+    if *next > LAST_SERIAL {
+        return Reply::Full(Which::Serials);
+    }
+    let serial = *next;
+    match store.store_vertex(seat, id, serial, kind, rights, Text::empty(alloc)) {
+        Ok(()) => {
+            *next += 1;
+            Reply::Created(serial)
+        }
+        Err((HeapFull::Slots, _)) => Reply::Full(Which::Slots),
+        Err((HeapFull::Cells, _)) => Reply::Full(Which::Cells),
+    }
+}
+
+/// The edge loses the rights.
+fn remove(store: &mut Store, id: u32, over: u64, rights: Rights) -> Reply
+    requires source { IsSome (place store.old id) }
+    requires edge { IsEdgeIn store.old (serial_at store.old id) over }
+    requires has { includes (label (held store.old 0) (serial_at store.old id) over) rights ≡ true }
+    ensures done { result ≡ reply.Done }
+    ensures removed { RightsRemoved store.old store.new (serial_at store.old id) over rights }
+    ensures acted { Acted store.old store.new None None }
+{
+    store.remove_rights(id, over, rights);
+    Reply::Done
+}
+
+/// A copy of the text is told.
+fn tell(store: &Store, at: u32) -> Result<Reply, AllocError>
+    requires { IsSome (place store.now at) }
+    ensures { IfOk result (λ answer. (next : ℕ) → answer ≡ reply.Text (text_of (held store.now next) (serial_at store.now at))) }
+{
+    let text = store.text(at).copy()?;
+    Ok(Reply::Text(text))
+}
+
+/// A copy of the text stands in place of the old one.
+fn replace(store: &mut Store, at: u32, text: &Text) -> Result<Reply, AllocError>
+    requires { IsSome (place store.old at) }
+    ensures done { IfOk result (λ answer. answer ≡ reply.Done) }
+    ensures replaced { OnOk result ((old : List ℕ) × TextReplaced store.old store.new (serial_at store.old at) text.now old) }
+    ensures acted { OnOk result (Acted store.old store.new None None) }
+    ensures unchanged { OnErr result (store.new ≡ store.old) }
+{
+    let copy = text.copy()?;
+    store.set_text(at, copy);
+    Ok(Reply::Done)
+}
+
+/// The edges are told, by rising serial.
+fn list(store: &Store, alloc: Global, of: u32) -> Result<Reply, AllocError>
+    requires { IsSome (place store.now of) }
+    ensures { IfOk result (λ answer. (next : ℕ) → answer ≡ reply.Edges (edges_of (held store.now next) (serial_at store.now of))) }
+{
+    let edges = store.edges(alloc, of)?;
+    Ok(Reply::Edges(EdgeList::new(edges)))
+}
+
+/// Decides the command of the principal, carries it out where the rules allow it, unless something that it needs is used
+/// up, and answers it. `AllocError` leaves all as it was.
+pub fn answer(
+    store: &mut Store,
+    next: &mut u64,
+    alloc: Global,
+    seat: u64,
+    actor: u64,
+    command: &Command,
+) -> Result<Reply, AllocError>
+    requires seat { seat < SEATS }
+    requires idle { pending_of store.old seat ≡ None }
+    requires principal { Contains store.old.principals actor }
+    requires unheld { IsHeldIn store.old next.old → ⊥ }
+    requires unparked { InSet store.old.parked next.old → ⊥ }
+    ensures carried { IfOk result (λ answer. CarriedOut store.old store.new next.old next.new seat actor command.now answer) }
+    ensures unchanged { OnErr result (store.new ≡ store.old) }
+    ensures same { OnErr result (next.new ≡ next.old) }
+{
+    let Some(id) = store.principal(actor) else {
+        unreachable!();
+    };
+    let plan = match decide(store, id, actor, command) {
+        Ok(plan) => plan,
+        Err(cause) => return Ok(Reply::Denied(command.rule(), cause)),
+    };
+    match plan {
+        Plan::Join {
+            owner,
+            target,
+            rights,
+        } => Ok(join(store, seat, owner, target, rights)),
+        Plan::Make { kind, rights } => Ok(make(store, next, alloc, seat, id, kind, rights)),
+        Plan::Drop { over, rights } => Ok(remove(store, id, over, rights)),
+        Plan::Tell { at } => tell(store, at),
+        Plan::Replace { at, text } => replace(store, at, text),
+        Plan::List { of } => list(store, alloc, of),
+    }
+}
