@@ -61,7 +61,7 @@ denied limits G e p rule cause = (named e.outcome p, denies e.outcome p) where
   named (outcome.Full w) p is = absurd (cc is)
 
   denies : (o : Outcome) → P o → Denied G e.actor e.command rule cause → o ≡ outcome.Denied rule cause
-  denies outcome.Allowed p d = absurd (cc (not_both G e.actor e.command (outcome.Denied rule cause) p d))
+  denies outcome.Allowed p d = absurd (cc (not_both G e.actor e.command (outcome.Denied rule cause) p.0 d))
   denies (outcome.Denied r why) p d = judged_once G e.actor e.command (outcome.Denied rule cause) (outcome.Denied r why) d p
   denies (outcome.Full w) p d = absurd (cc (not_both G e.actor e.command (outcome.Denied rule cause) p.0 d))
 
