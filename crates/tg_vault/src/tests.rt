@@ -7,161 +7,394 @@ use tg_collect::{Note, Phase};
 use tg_graph::{Config, OpenFault};
 use tg_rights::{Cause, Command, Kind, Outcome, Reply, Rights, Rule, Text, Which, Word};
 
-/// The configuration of the principals alice and bob, who are 1 and 2.
-fn configuration(
-    alloc: Global,
+/// What a seat asks. Rights are given by their letters: r, w, t and g.
+#[derive(Clone, Copy)]
+enum Ask {
+    Take(&'static str, u64, u64),
+    Grant(&'static str, u64, u64),
+    Document(&'static str),
+    Remove(&'static str, u64),
+    Read(u64),
+    Write(u64, &'static str),
+    Look(u64),
+}
+
+/// What a command is answered.
+#[derive(Clone, Copy)]
+enum Want {
+    Done,
+    Created(u64),
+    Text(&'static str),
+    Edges(&'static [(u64, &'static str)]),
+    /// Denied, since the label of the first vertex to the second lacks these rights.
+    Lacks(u64, u64, &'static str),
+    Empty,
+    NotDistinct,
+    NotDocument(u64),
+    Full(Which),
+    /// Not entered.
+    Fault(AskFault),
+}
+
+/// One step of a case, with its answer.
+#[derive(Clone, Copy)]
+enum Line {
+    Hello(u64, &'static str, Result<u64, SeatFault>),
+    Bye(u64, Result<(), SeatFault>),
+    /// The seat has finished its target of this serial.
+    Shaded(u64, u64),
+    Shade(u64, Result<Option<u64>, SeatFault>),
+    Ask(u64, Ask, Want),
+    /// A cycle that frees so many slots in so many steps.
+    Cycle(u64, u64),
+    /// Collector steps, each with its note: m and s are the phase after it, f a step of the sweep that freed a slot, e
+    /// the end of a cycle.
+    Collect(&'static str),
+}
+
+/// A case over the principals alice and bob, who are 1 and 2.
+struct Case {
     slots: u64,
     cells: u64,
-    edges: &[(u64, Rights, u64)],
-) -> Result<Config, AllocError> {
-    let mut principals = Vec::new(alloc);
-    principals.push(Word::new(String::from_str(alloc, "alice")?))?;
-    principals.push(Word::new(String::from_str(alloc, "bob")?))?;
-    let mut listed = Vec::new(alloc);
-    listed.extend_from_slice(edges)?;
-    Ok(Config {
-        principals,
-        edges: listed,
+    next: u64,
+    edges: &'static [(u64, &'static str, u64)],
+    lines: &'static [Line],
+}
+
+const ALICE: Line = Line::Hello(0, "alice", Ok(1));
+
+const BOB: Line = Line::Hello(1, "bob", Ok(2));
+
+const CASES: &[Case] = &[
+    // seats are refused in the order of their faults
+    Case {
+        slots: 8,
+        cells: 8,
         next: 3,
-        slots,
-        cells,
-    })
-}
+        edges: &[],
+        lines: &[
+            Line::Shade(0, Err(SeatFault::NoActor)),
+            Line::Hello(64, "alice", Err(SeatFault::NoSeat)),
+            Line::Hello(0, "carol", Err(SeatFault::NoPrincipal)),
+            ALICE,
+            Line::Hello(0, "alice", Err(SeatFault::Bound)),
+            Line::Bye(0, Ok(())),
+            Line::Bye(0, Err(SeatFault::NoActor)),
+        ],
+    },
+    // a target keeps the seat busy
+    Case {
+        slots: 8,
+        cells: 8,
+        next: 3,
+        edges: &[],
+        lines: &[
+            BOB,
+            Line::Ask(1, Ask::Document("r"), Want::Created(3)),
+            Line::Ask(1, Ask::Look(2), Want::Fault(AskFault::Busy)),
+            Line::Bye(1, Err(SeatFault::Busy)),
+            Line::Shaded(1, 3),
+            Line::Shade(1, Ok(None)),
+        ],
+    },
+    // a take of an edge that is there leaves a target
+    Case {
+        slots: 8,
+        cells: 8,
+        next: 3,
+        edges: &[(1, "t", 2)],
+        lines: &[
+            ALICE,
+            BOB,
+            Line::Ask(1, Ask::Document("r"), Want::Created(3)),
+            Line::Ask(0, Ask::Take("r", 3, 2), Want::Done),
+            Line::Shaded(0, 3),
+            Line::Ask(0, Ask::Take("r", 3, 2), Want::Done),
+            Line::Shaded(0, 3),
+        ],
+    },
+    // garbage needs two cycles, and a serial that was freed is denied like one that never was
+    Case {
+        slots: 3,
+        cells: 4,
+        next: 3,
+        edges: &[],
+        lines: &[
+            ALICE,
+            BOB,
+            Line::Ask(0, Ask::Read(99), Want::Lacks(1, 99, "r")),
+            Line::Ask(0, Ask::Document("r"), Want::Created(3)),
+            Line::Shaded(0, 3),
+            Line::Ask(0, Ask::Remove("r", 3), Want::Done),
+            Line::Ask(0, Ask::Document("r"), Want::Full(Which::Slots)),
+            Line::Cycle(0, 12),
+            Line::Cycle(1, 10),
+            Line::Ask(0, Ask::Read(3), Want::Lacks(1, 3, "r")),
+            Line::Ask(0, Ask::Document("r"), Want::Created(4)),
+        ],
+    },
+    // each step of a cycle is noted
+    Case {
+        slots: 3,
+        cells: 4,
+        next: 3,
+        edges: &[],
+        lines: &[
+            ALICE,
+            BOB,
+            Line::Ask(0, Ask::Document("r"), Want::Created(3)),
+            Line::Shaded(0, 3),
+            Line::Ask(0, Ask::Remove("r", 3), Want::Done),
+            Line::Collect("mmmmmmmsssse"),
+            Line::Collect("mmmmmsssfe"),
+        ],
+    },
+    // the last serial is given, and no more
+    Case {
+        slots: 8,
+        cells: 4,
+        next: 18_446_744_073_709_551_614,
+        edges: &[],
+        lines: &[
+            ALICE,
+            Line::Ask(
+                0,
+                Ask::Document("r"),
+                Want::Created(18_446_744_073_709_551_614),
+            ),
+            Line::Shaded(0, 18_446_744_073_709_551_614),
+            Line::Ask(0, Ask::Document("r"), Want::Full(Which::Serials)),
+        ],
+    },
+    // denials come before fullness
+    Case {
+        slots: 8,
+        cells: 3,
+        next: 3,
+        edges: &[(1, "t", 2)],
+        lines: &[
+            ALICE,
+            BOB,
+            Line::Ask(1, Ask::Document("r"), Want::Created(3)),
+            Line::Shaded(1, 3),
+            Line::Ask(1, Ask::Document("r"), Want::Created(4)),
+            Line::Shaded(1, 4),
+            Line::Ask(0, Ask::Take("w", 3, 2), Want::Lacks(2, 3, "w")),
+            Line::Ask(0, Ask::Take("r", 3, 2), Want::Full(Which::Cells)),
+        ],
+    },
+    // a subject has no text to read, and a label is asked for first
+    Case {
+        slots: 4,
+        cells: 4,
+        next: 3,
+        edges: &[(1, "r", 2)],
+        lines: &[
+            ALICE,
+            Line::Ask(0, Ask::Read(2), Want::NotDocument(2)),
+            Line::Ask(0, Ask::Write(2, "x"), Want::Lacks(1, 2, "w")),
+            Line::Ask(0, Ask::Read(1), Want::NotDistinct),
+        ],
+    },
+    // a denial names only the rights that lack
+    Case {
+        slots: 8,
+        cells: 8,
+        next: 3,
+        edges: &[(1, "tg", 2)],
+        lines: &[
+            ALICE,
+            BOB,
+            Line::Ask(1, Ask::Document("r"), Want::Created(3)),
+            Line::Ask(0, Ask::Take("rw", 3, 2), Want::Lacks(2, 3, "w")),
+        ],
+    },
+    // a denial names the first need that fails; empty comes before not distinct
+    Case {
+        slots: 8,
+        cells: 8,
+        next: 3,
+        edges: &[],
+        lines: &[
+            ALICE,
+            Line::Ask(0, Ask::Take("w", 3, 2), Want::Lacks(1, 2, "t")),
+            Line::Ask(0, Ask::Take("r", 1, 2), Want::NotDistinct),
+            Line::Ask(0, Ask::Take("", 1, 2), Want::Empty),
+        ],
+    },
+    // rights that are taken join the label
+    Case {
+        slots: 8,
+        cells: 8,
+        next: 3,
+        edges: &[(1, "tg", 2)],
+        lines: &[
+            ALICE,
+            BOB,
+            Line::Ask(1, Ask::Document("rwg"), Want::Created(3)),
+            Line::Shaded(1, 3),
+            Line::Ask(0, Ask::Take("r", 3, 2), Want::Done),
+            Line::Shaded(0, 3),
+            Line::Ask(0, Ask::Take("w", 3, 2), Want::Done),
+            Line::Shaded(0, 3),
+            Line::Ask(0, Ask::Look(1), Want::Edges(&[(2, "tg"), (3, "rw")])),
+            Line::Ask(0, Ask::Look(2), Want::Edges(&[(3, "rwg")])),
+        ],
+    },
+    // a look tells the edges by rising serial
+    Case {
+        slots: 8,
+        cells: 8,
+        next: 3,
+        edges: &[(1, "t", 2), (2, "g", 1)],
+        lines: &[
+            ALICE,
+            BOB,
+            Line::Ask(1, Ask::Document("r"), Want::Created(3)),
+            Line::Shaded(1, 3),
+            Line::Ask(1, Ask::Document("w"), Want::Created(4)),
+            Line::Shaded(1, 4),
+            Line::Ask(
+                0,
+                Ask::Look(2),
+                Want::Edges(&[(1, "g"), (3, "r"), (4, "w")]),
+            ),
+        ],
+    },
+    // a look at another needs take; where there is no edge, none is told
+    Case {
+        slots: 8,
+        cells: 8,
+        next: 3,
+        edges: &[(1, "g", 2)],
+        lines: &[
+            ALICE,
+            BOB,
+            Line::Ask(0, Ask::Look(1), Want::Edges(&[(2, "g")])),
+            Line::Ask(0, Ask::Look(2), Want::Lacks(1, 2, "t")),
+            Line::Ask(0, Ask::Document("rw"), Want::Created(3)),
+            Line::Ask(1, Ask::Look(1), Want::Lacks(2, 1, "t")),
+            Line::Ask(1, Ask::Look(2), Want::Edges(&[])),
+        ],
+    },
+    // a new text is empty, and an empty text takes the place of another
+    Case {
+        slots: 4,
+        cells: 4,
+        next: 3,
+        edges: &[],
+        lines: &[
+            ALICE,
+            Line::Ask(0, Ask::Document("rw"), Want::Created(3)),
+            Line::Shaded(0, 3),
+            Line::Ask(0, Ask::Read(3), Want::Text("")),
+            Line::Ask(0, Ask::Write(3, "hi"), Want::Done),
+            Line::Ask(0, Ask::Read(3), Want::Text("hi")),
+            Line::Ask(0, Ask::Write(3, ""), Want::Done),
+            Line::Ask(0, Ask::Read(3), Want::Text("")),
+        ],
+    },
+    // a removed edge gives its cell back
+    Case {
+        slots: 4,
+        cells: 1,
+        next: 3,
+        edges: &[(1, "t", 2)],
+        lines: &[
+            ALICE,
+            Line::Ask(0, Ask::Document("r"), Want::Full(Which::Cells)),
+            Line::Ask(0, Ask::Remove("t", 2), Want::Done),
+            Line::Ask(0, Ask::Document("r"), Want::Created(3)),
+        ],
+    },
+    // a target that was taken while alice is black and it is white is kept through the cycle
+    Case {
+        slots: 3,
+        cells: 8,
+        next: 3,
+        edges: &[(1, "tg", 2)],
+        lines: &[
+            ALICE,
+            BOB,
+            Line::Ask(1, Ask::Document("rw"), Want::Created(3)),
+            Line::Shaded(1, 3),
+            Line::Ask(1, Ask::Write(3, "hi"), Want::Done),
+            Line::Cycle(0, 14),
+            Line::Collect("mmmm"),
+            Line::Ask(0, Ask::Take("r", 3, 2), Want::Done),
+            Line::Ask(1, Ask::Remove("rw", 3), Want::Done),
+            Line::Cycle(0, 10),
+            Line::Shaded(0, 3),
+            Line::Ask(0, Ask::Read(3), Want::Text("hi")),
+        ],
+    },
+    // slots that are taken in the sweep are kept by it
+    Case {
+        slots: 5,
+        cells: 8,
+        next: 3,
+        edges: &[],
+        lines: &[
+            ALICE,
+            BOB,
+            Line::Ask(0, Ask::Document("r"), Want::Created(3)),
+            Line::Shaded(0, 3),
+            Line::Ask(0, Ask::Remove("r", 3), Want::Done),
+            Line::Cycle(0, 14),
+            Line::Collect("mmmmmsssf"),
+            Line::Ask(0, Ask::Document("r"), Want::Created(4)),
+            Line::Shaded(0, 4),
+            Line::Ask(0, Ask::Document("r"), Want::Created(5)),
+            Line::Cycle(0, 3),
+            Line::Shaded(0, 5),
+            Line::Ask(0, Ask::Read(4), Want::Text("")),
+            Line::Ask(0, Ask::Read(5), Want::Text("")),
+            Line::Cycle(0, 18),
+        ],
+    },
+    // a ring of documents that have rights over each other is freed
+    Case {
+        slots: 4,
+        cells: 8,
+        next: 3,
+        edges: &[],
+        lines: &[
+            ALICE,
+            BOB,
+            Line::Ask(0, Ask::Document("rg"), Want::Created(3)),
+            Line::Shaded(0, 3),
+            Line::Ask(0, Ask::Document("rg"), Want::Created(4)),
+            Line::Shaded(0, 4),
+            Line::Ask(0, Ask::Grant("r", 4, 3), Want::Done),
+            Line::Shaded(0, 4),
+            Line::Ask(0, Ask::Grant("r", 3, 4), Want::Done),
+            Line::Shaded(0, 3),
+            Line::Ask(0, Ask::Remove("rg", 3), Want::Done),
+            Line::Ask(0, Ask::Remove("rg", 4), Want::Done),
+            Line::Cycle(0, 17),
+            Line::Cycle(2, 13),
+        ],
+    },
+];
 
-/// A vault of that configuration.
-fn opened(
-    rt: &impl Abort,
-    alloc: Global,
-    slots: u64,
-    cells: u64,
-    edges: &[(u64, Rights, u64)],
-) -> Result<Vault, AllocError> {
-    let config = configuration(alloc, slots, cells, edges)?;
-    Ok(Vault::new(alloc, config).ok().expect(rt, "refused"))
-}
-
-/// No vault is opened, and this fault of the configuration is answered.
-fn refuses(
-    rt: &impl Abort,
-    alloc: Global,
-    slots: u64,
-    edges: &[(u64, Rights, u64)],
-    fault: OpenFault,
-) -> Result<(), AllocError> {
-    let config = configuration(alloc, slots, 8, edges)?;
-    assert_eq!(rt; Vault::new(alloc, config).err(), Some(fault));
-    Ok(())
-}
-
-/// Alice takes seat 0, and bob seat 1.
-fn takes_seats(rt: &impl Abort, vault: &mut Vault) {
-    assert_eq!(rt; vault.hello(0, "alice"), Ok(1));
-    assert_eq!(rt; vault.hello(1, "bob"), Ok(2));
-}
-
-/// A vault with alice on seat 0 and bob on seat 1.
-fn seated(
-    rt: &impl Abort,
-    alloc: Global,
-    slots: u64,
-    cells: u64,
-    edges: &[(u64, Rights, u64)],
-) -> Result<Vault, AllocError> {
-    let mut vault = opened(rt, alloc, slots, cells, edges)?;
-    takes_seats(rt, &mut vault);
-    Ok(vault)
-}
-
-/// The reply to a command from the seat; None where it was not entered.
-fn ask(vault: &mut Vault, seat: u64, command: Command) -> Option<Reply> {
-    vault.command(seat, command).ok().map(|entered| entered.1)
-}
-
-/// The command of the seat is carried out, and there is nothing to tell.
-fn does(rt: &impl Abort, vault: &mut Vault, seat: u64, command: Command) {
-    let reply = ask(vault, seat, command);
-    assert!(rt; matches!(&reply, Some(Reply::Done)));
-}
-
-/// The command of the seat is full for this.
-fn is_full(rt: &impl Abort, vault: &mut Vault, seat: u64, command: Command, which: Which) {
-    let reply = ask(vault, seat, command);
-    assert!(rt; matches!(&reply, Some(Reply::Full(found)) if *found == which));
-}
-
-/// The command of the seat is denied by this rule for this cause.
-fn is_denied(
-    rt: &impl Abort,
-    vault: &mut Vault,
-    seat: u64,
-    command: Command,
-    denial: (Rule, Cause),
-) {
-    let reply = ask(vault, seat, command);
-    assert!(rt; matches!(&reply, Some(Reply::Denied(rule, cause)) if (*rule, *cause) == denial));
-}
-
-/// The cause that the label of `from` to `to` lacks these rights.
-fn missing(from: u64, to: u64, rights: Rights) -> Cause {
-    Cause::Missing { from, to, rights }
-}
-
-/// A document is asked for, with these rights over it.
-fn document(rights: Rights) -> Command {
-    Command::Create {
-        kind: Kind::Document,
-        rights,
+/// The right of a letter.
+fn right_of(letter: u8) -> Rights {
+    match letter {
+        b'r' => Rights::READ,
+        b'w' => Rights::WRITE,
+        b't' => Rights::TAKE,
+        b'g' => Rights::GRANT,
+        _ => Rights::empty(),
     }
 }
 
-/// These rights over `over` are asked for, from one who has them.
-fn take(rights: Rights, over: u64, from: u64) -> Command {
-    Command::Take { rights, over, from }
-}
-
-/// These rights over `over` are to be given to `to`.
-fn grant(rights: Rights, over: u64, to: u64) -> Command {
-    Command::Grant { rights, over, to }
-}
-
-/// These rights over `over` are to be given up.
-fn remove(rights: Rights, over: u64) -> Command {
-    Command::Remove { rights, over }
-}
-
-/// The seat makes a document, which is its target until it is shaded.
-fn creates(rt: &impl Abort, vault: &mut Vault, seat: u64, rights: Rights, serial: u64) {
-    let reply = ask(vault, seat, document(rights));
-    assert!(rt; matches!(&reply, Some(Reply::Created(made)) if *made == serial));
-}
-
-/// The seat's target is this.
-fn shades(rt: &impl Abort, vault: &mut Vault, seat: u64, serial: u64) {
-    assert_eq!(rt; vault.shade(seat), Ok(Some(serial)));
-}
-
-/// A cycle frees so many slots in so many steps.
-fn sweeps(rt: &impl Abort, vault: &mut Vault, freed: u64, steps: u64) {
-    assert_eq!(rt; vault.cycle(), Swept { freed, steps });
-}
-
-/// Collector steps, each with its note: m and s are the phase after it, f a step of the sweep that freed a slot, e the
-/// end of a cycle.
-fn collects(rt: &impl Abort, vault: &mut Vault, wanted: &str) {
-    for letter in wanted.as_bytes() {
-        let (phase, freed, ended) = match *letter {
-            b'm' => (Phase::Mark, 0, false),
-            b's' => (Phase::Sweep, 0, false),
-            b'f' => (Phase::Sweep, 1, false),
-            _ => (Phase::Idle, 0, true),
-        };
-        let wanted = Note {
-            phase,
-            freed,
-            ended,
-        };
-        assert_eq!(rt; vault.collect(), wanted);
+/// The rights of the letters.
+fn rights_of(letters: &str) -> Rights {
+    let mut rights = Rights::empty();
+    for letter in letters.as_bytes() {
+        rights = rights.union(right_of(*letter));
     }
+    rights
 }
 
 /// A text of these bytes.
@@ -172,351 +405,278 @@ fn text(rt: &impl Abort, alloc: Global, content: &str) -> Result<Text, AllocErro
     }
 }
 
-/// The seat writes this text.
-fn writes(
+/// The command that is asked, and its rule.
+fn command(rt: &impl Abort, alloc: Global, ask: Ask) -> Result<(Command, Rule), AllocError> {
+    Ok(match ask {
+        Ask::Take(rights, over, from) => {
+            let rights = rights_of(rights);
+            (Command::Take { rights, over, from }, Rule::Take)
+        }
+        Ask::Grant(rights, over, to) => {
+            let rights = rights_of(rights);
+            (Command::Grant { rights, over, to }, Rule::Grant)
+        }
+        Ask::Document(rights) => {
+            let kind = Kind::Document;
+            let rights = rights_of(rights);
+            (Command::Create { kind, rights }, Rule::Create)
+        }
+        Ask::Remove(rights, over) => {
+            let rights = rights_of(rights);
+            (Command::Remove { rights, over }, Rule::Remove)
+        }
+        Ask::Read(over) => (Command::Read { over }, Rule::Read),
+        Ask::Write(over, content) => {
+            let text = text(rt, alloc, content)?;
+            (Command::Write { over, text }, Rule::Write)
+        }
+        Ask::Look(at) => (Command::Look { at }, Rule::Look),
+    })
+}
+
+/// The edges told are these.
+fn are_edges(found: &[(u64, Rights)], wanted: &[(u64, &str)]) -> bool {
+    found.len() == wanted.len()
+        && found.iter().zip(wanted.iter()).all(|(edge, want)| edge.0 == want.0
+            && edge.1 == rights_of(want.1))
+}
+
+/// Whether the denial is the one that is wanted.
+fn is_cause(cause: Cause, want: Want) -> bool {
+    match want {
+        Want::Lacks(from, to, letters) => {
+            let rights = rights_of(letters);
+            cause == Cause::Missing { from, to, rights }
+        }
+        Want::Empty => cause == Cause::Empty,
+        Want::NotDistinct => cause == Cause::NotDistinct,
+        Want::NotDocument(vertex) => cause == Cause::NotDocument { vertex },
+        _ => false,
+    }
+}
+
+/// Whether the reply is the one that is wanted.
+fn is_reply(reply: &Reply, rule: Rule, want: Want) -> bool {
+    match reply {
+        Reply::Done => matches!(want, Want::Done),
+        Reply::Created(serial) => matches!(want, Want::Created(wanted) if wanted == *serial),
+        Reply::Text(text) => matches!(want, Want::Text(wanted) if text.get() == wanted),
+        Reply::Edges(edges) => {
+            matches!(want, Want::Edges(wanted) if are_edges(edges.get(), wanted))
+        }
+        Reply::Denied(found, cause) => *found == rule && is_cause(*cause, want),
+        Reply::Full(which) => matches!(want, Want::Full(wanted) if wanted == *which),
+    }
+}
+
+/// The seat's command is answered so.
+fn asks(
     rt: &impl Abort,
     alloc: Global,
     vault: &mut Vault,
     seat: u64,
-    over: u64,
-    content: &str,
+    ask: Ask,
+    want: Want,
 ) -> Result<(), AllocError> {
-    let text = text(rt, alloc, content)?;
-    does(rt, vault, seat, Command::Write { over, text });
+    let (command, rule) = command(rt, alloc, ask)?;
+    match vault.command(seat, command) {
+        Ok(entered) => assert!(rt; is_reply(&entered.1, rule, want)),
+        Err(fault) => assert!(rt; matches!(want, Want::Fault(wanted) if wanted == fault)),
+    }
     Ok(())
 }
 
-/// The seat reads this text.
-fn reads(rt: &impl Abort, vault: &mut Vault, seat: u64, over: u64, text: &str) {
-    match ask(vault, seat, Command::Read { over }) {
-        Some(Reply::Text(found)) => assert!(rt; found.get() == text),
-        _ => panic!(rt; "no text"),
+/// The note of a letter.
+fn note_of(letter: u8) -> Note {
+    let (phase, freed, ended) = match letter {
+        b'm' => (Phase::Mark, 0, false),
+        b's' => (Phase::Sweep, 0, false),
+        b'f' => (Phase::Sweep, 1, false),
+        _ => (Phase::Idle, 0, true),
+    };
+    Note {
+        phase,
+        freed,
+        ended,
     }
 }
 
-/// The seat's look at the vertex tells these edges.
-fn sees(rt: &impl Abort, vault: &mut Vault, seat: u64, at: u64, edges: &[(u64, Rights)]) {
-    match ask(vault, seat, Command::Look { at }) {
-        Some(Reply::Edges(found)) => assert!(rt; found.get() == edges),
-        _ => panic!(rt; "no edges"),
+/// Collector steps with these notes.
+fn collects(rt: &impl Abort, vault: &mut Vault, wanted: &str) {
+    for letter in wanted.as_bytes() {
+        assert_eq!(rt; vault.collect(), note_of(*letter));
     }
+}
+
+/// The line is answered so.
+fn answers(
+    rt: &impl Abort,
+    alloc: Global,
+    vault: &mut Vault,
+    line: Line,
+) -> Result<(), AllocError> {
+    match line {
+        Line::Hello(seat, name, wanted) => assert_eq!(rt; vault.hello(seat, name), wanted),
+        Line::Bye(seat, wanted) => assert_eq!(rt; vault.bye(seat), wanted),
+        Line::Shaded(seat, serial) => assert_eq!(rt; vault.shade(seat), Ok(Some(serial))),
+        Line::Shade(seat, wanted) => assert_eq!(rt; vault.shade(seat), wanted),
+        Line::Ask(seat, ask, want) => asks(rt, alloc, vault, seat, ask, want)?,
+        Line::Cycle(freed, steps) => assert_eq!(rt; vault.cycle(), Swept { freed, steps }),
+        Line::Collect(wanted) => collects(rt, vault, wanted),
+    }
+    Ok(())
+}
+
+/// The configuration of a case.
+fn configuration(
+    alloc: Global,
+    slots: u64,
+    cells: u64,
+    next: u64,
+    listed: &[(u64, &str, u64)],
+) -> Result<Config, AllocError> {
+    let mut principals = Vec::new(alloc);
+    principals.push(Word::new(String::from_str(alloc, "alice")?))?;
+    principals.push(Word::new(String::from_str(alloc, "bob")?))?;
+    let mut edges = Vec::new(alloc);
+    for (from, letters, to) in listed {
+        edges.push((*from, rights_of(letters), *to))?;
+    }
+    Ok(Config {
+        principals,
+        edges,
+        next,
+        slots,
+        cells,
+    })
+}
+
+/// A vault of 8 slots and 8 cells over these edges.
+fn opened(rt: &impl Abort, alloc: Global, edges: &[(u64, &str, u64)]) -> Result<Vault, AllocError> {
+    let config = configuration(alloc, 8, 8, 3, edges)?;
+    Ok(Vault::new(alloc, config).ok().expect(rt, "refused"))
+}
+
+/// The case's lines are answered as it says.
+fn is_answered(rt: &impl Abort, alloc: Global, case: &Case) -> Result<(), AllocError> {
+    let config = configuration(alloc, case.slots, case.cells, case.next, case.edges)?;
+    let mut vault = Vault::new(alloc, config).ok().expect(rt, "refused");
+    for line in case.lines {
+        answers(rt, alloc, &mut vault, *line)?;
+    }
+    Ok(())
+}
+
+#[test]
+fn each_case_is_answered_as_worked_out(rt: HostRuntime) -> Result<(), AllocError> {
+    for case in CASES {
+        is_answered(&rt, rt.alloc(), case)?;
+    }
+    Ok(())
+}
+
+/// Lines of one round: alice makes two documents, links one to the other, and drops both; two cycles free them.
+fn round(first: u64) -> [Line; 10] {
+    let second = first + 1;
+    [
+        Line::Ask(0, Ask::Document("rg"), Want::Created(first)),
+        Line::Shaded(0, first),
+        Line::Ask(0, Ask::Document("rg"), Want::Created(second)),
+        Line::Shaded(0, second),
+        Line::Ask(0, Ask::Grant("r", second, first), Want::Done),
+        Line::Shaded(0, second),
+        Line::Ask(0, Ask::Remove("rg", first), Want::Done),
+        Line::Ask(0, Ask::Remove("rg", second), Want::Done),
+        Line::Cycle(0, 16),
+        Line::Cycle(2, 12),
+    ]
+}
+
+/// After three rounds the graph that is never collected has three edges, as many as there are cells; all cells are free.
+#[test]
+fn cells_are_free_though_the_history_has_as_many_edges(rt: HostRuntime) -> Result<(), AllocError> {
+    let config = configuration(rt.alloc(), 4, 3, 3, &[])?;
+    let mut vault = Vault::new(rt.alloc(), config).ok().expect(&rt, "refused");
+    answers(&rt, rt.alloc(), &mut vault, ALICE)?;
+    for first in [3, 5, 7] {
+        for line in round(first) {
+            answers(&rt, rt.alloc(), &mut vault, line)?;
+        }
+    }
+    asks(
+        &rt,
+        rt.alloc(),
+        &mut vault,
+        0,
+        Ask::Document("r"),
+        Want::Created(9),
+    )
+}
+
+/// No vault is opened, and this fault of the configuration is answered.
+fn refuses(
+    rt: &impl Abort,
+    alloc: Global,
+    slots: u64,
+    edges: &[(u64, &str, u64)],
+    fault: OpenFault,
+) -> Result<(), AllocError> {
+    let config = configuration(alloc, slots, 8, 3, edges)?;
+    assert_eq!(rt; Vault::new(alloc, config).err(), Some(fault));
+    Ok(())
 }
 
 #[test]
 fn the_first_of_two_faults_is_answered(rt: HostRuntime) -> Result<(), AllocError> {
-    let itself = [(1, Rights::TAKE, 1)];
-    refuses(&rt, rt.alloc(), 1, &itself, OpenFault::SelfEdge)?;
+    refuses(&rt, rt.alloc(), 1, &[(1, "t", 1)], OpenFault::SelfEdge)?;
     refuses(&rt, rt.alloc(), 1, &[], OpenFault::FewSlots)?;
-    let stray = [(1, Rights::empty(), 2), (1, Rights::TAKE, 3)];
+    let stray = [(1, "", 2), (1, "t", 3)];
     refuses(&rt, rt.alloc(), 8, &stray, OpenFault::EdgeEnd)
 }
 
 #[test]
-fn seats_are_refused_in_order(rt: HostRuntime) -> Result<(), AllocError> {
-    let mut vault = opened(&rt, rt.alloc(), 8, 8, &[])?;
-    assert_eq!(rt; vault.shade(0), Err(SeatFault::NoActor));
-    assert_eq!(rt; vault.hello(64, "alice"), Err(SeatFault::NoSeat));
-    assert_eq!(rt; vault.hello(0, "carol"), Err(SeatFault::NoPrincipal));
-    assert_eq!(rt; vault.hello(0, "alice"), Ok(1));
-    assert_eq!(rt; vault.hello(0, "alice"), Err(SeatFault::Bound));
-    assert_eq!(rt; vault.bye(0), Ok(()));
-    assert_eq!(rt; vault.bye(0), Err(SeatFault::NoActor));
-    Ok(())
-}
-
-#[test]
-fn a_target_keeps_the_seat_busy(rt: HostRuntime) -> Result<(), AllocError> {
-    let mut vault = seated(&rt, rt.alloc(), 8, 8, &[])?;
-    creates(&rt, &mut vault, 1, Rights::READ, 3);
-    let busy = vault.command(1, Command::Look { at: 2 });
-    assert!(rt; matches!(&busy, Err(AskFault::Busy)));
-    assert_eq!(rt; vault.bye(1), Err(SeatFault::Busy));
-    shades(&rt, &mut vault, 1, 3);
-    assert_eq!(rt; vault.shade(1), Ok(None));
-    Ok(())
-}
-
-#[test]
-fn a_take_of_an_edge_that_is_there_leaves_a_target(rt: HostRuntime) -> Result<(), AllocError> {
-    let mut vault = seated(&rt, rt.alloc(), 8, 8, &[(1, Rights::TAKE, 2)])?;
-    creates(&rt, &mut vault, 1, Rights::READ, 3);
-    does(&rt, &mut vault, 0, take(Rights::READ, 3, 2));
-    shades(&rt, &mut vault, 0, 3);
-    does(&rt, &mut vault, 0, take(Rights::READ, 3, 2));
-    shades(&rt, &mut vault, 0, 3);
-    Ok(())
-}
-
-#[test]
 fn the_history_has_each_command(rt: HostRuntime) -> Result<(), AllocError> {
-    let mut vault = seated(&rt, rt.alloc(), 8, 8, &[(1, Rights::TAKE, 2)])?;
-    let denial = (Rule::Read, missing(1, 2, Rights::READ));
-    is_denied(&rt, &mut vault, 0, Command::Read { over: 2 }, denial);
+    let mut vault = opened(&rt, rt.alloc(), &[(1, "t", 2)])?;
+    answers(&rt, rt.alloc(), &mut vault, ALICE)?;
+    asks(
+        &rt,
+        rt.alloc(),
+        &mut vault,
+        0,
+        Ask::Read(2),
+        Want::Lacks(1, 2, "r"),
+    )?;
     assert_eq!(rt; vault.count(), 1);
     let entry = vault.entry(0).expect(&rt, "no entry");
     assert_eq!(rt; (entry.seat, entry.actor), (0, 1));
     assert!(rt;
-        matches!(&entry.outcome, Outcome::Denied(rule, cause) if (*rule, *cause) == denial)
+        matches!(&entry.outcome,
+        Outcome::Denied(Rule::Read, cause) if is_cause(*cause, Want::Lacks(1, 2, "r")))
     );
     assert!(rt; vault.entry(1).is_none());
-    assert_eq!(rt; vault.opening().rights(1, 2), Rights::TAKE);
-    Ok(())
-}
-
-#[test]
-fn garbage_needs_two_cycles(rt: HostRuntime) -> Result<(), AllocError> {
-    let mut vault = seated(&rt, rt.alloc(), 3, 4, &[])?;
-    creates(&rt, &mut vault, 0, Rights::READ, 3);
-    shades(&rt, &mut vault, 0, 3);
-    does(&rt, &mut vault, 0, remove(Rights::READ, 3));
-    is_full(&rt, &mut vault, 0, document(Rights::READ), Which::Slots);
-    sweeps(&rt, &mut vault, 0, 12);
-    sweeps(&rt, &mut vault, 1, 10);
-    creates(&rt, &mut vault, 0, Rights::READ, 4);
-    Ok(())
-}
-
-#[test]
-fn each_step_of_a_cycle_is_noted(rt: HostRuntime) -> Result<(), AllocError> {
-    let mut vault = seated(&rt, rt.alloc(), 3, 4, &[])?;
-    creates(&rt, &mut vault, 0, Rights::READ, 3);
-    shades(&rt, &mut vault, 0, 3);
-    does(&rt, &mut vault, 0, remove(Rights::READ, 3));
-    collects(&rt, &mut vault, "mmmmmmmsssse");
-    collects(&rt, &mut vault, "mmmmmsssfe");
-    Ok(())
-}
-
-#[test]
-fn an_unknown_serial_is_denied_like_a_freed_one(rt: HostRuntime) -> Result<(), AllocError> {
-    let mut vault = seated(&rt, rt.alloc(), 3, 4, &[])?;
-    let unknown = (Rule::Read, missing(1, 99, Rights::READ));
-    is_denied(&rt, &mut vault, 0, Command::Read { over: 99 }, unknown);
-    creates(&rt, &mut vault, 0, Rights::READ, 3);
-    shades(&rt, &mut vault, 0, 3);
-    does(&rt, &mut vault, 0, remove(Rights::READ, 3));
-    sweeps(&rt, &mut vault, 0, 12);
-    sweeps(&rt, &mut vault, 1, 10);
-    let freed = (Rule::Read, missing(1, 3, Rights::READ));
-    is_denied(&rt, &mut vault, 0, Command::Read { over: 3 }, freed);
-    Ok(())
-}
-
-#[test]
-fn the_last_serial_is_given_and_no_more(rt: HostRuntime) -> Result<(), AllocError> {
-    let mut config = configuration(rt.alloc(), 8, 4, &[])?;
-    config.next = 18446744073709551614;
-    let mut vault = Vault::new(rt.alloc(), config).ok().expect(&rt, "refused");
-    takes_seats(&rt, &mut vault);
-    creates(&rt, &mut vault, 0, Rights::READ, 18446744073709551614);
-    shades(&rt, &mut vault, 0, 18446744073709551614);
-    is_full(&rt, &mut vault, 0, document(Rights::READ), Which::Serials);
-    Ok(())
-}
-
-#[test]
-fn denials_come_before_fullness(rt: HostRuntime) -> Result<(), AllocError> {
-    let mut vault = seated(&rt, rt.alloc(), 8, 3, &[(1, Rights::TAKE, 2)])?;
-    creates(&rt, &mut vault, 1, Rights::READ, 3);
-    shades(&rt, &mut vault, 1, 3);
-    creates(&rt, &mut vault, 1, Rights::READ, 4);
-    shades(&rt, &mut vault, 1, 4);
-    let denial = (Rule::Take, missing(2, 3, Rights::WRITE));
-    is_denied(&rt, &mut vault, 0, take(Rights::WRITE, 3, 2), denial);
-    is_full(&rt, &mut vault, 0, take(Rights::READ, 3, 2), Which::Cells);
-    Ok(())
-}
-
-#[test]
-fn a_subject_has_no_text_to_read(rt: HostRuntime) -> Result<(), AllocError> {
-    let mut vault = seated(&rt, rt.alloc(), 4, 4, &[(1, Rights::READ, 2)])?;
-    let subject = (Rule::Read, Cause::NotDocument { vertex: 2 });
-    is_denied(&rt, &mut vault, 0, Command::Read { over: 2 }, subject);
-    let text = text(&rt, rt.alloc(), "x")?;
-    let denial = (Rule::Write, missing(1, 2, Rights::WRITE));
-    is_denied(&rt, &mut vault, 0, Command::Write { over: 2, text }, denial);
-    let itself = (Rule::Read, Cause::NotDistinct);
-    is_denied(&rt, &mut vault, 0, Command::Read { over: 1 }, itself);
-    Ok(())
-}
-
-#[test]
-fn a_denial_names_only_the_rights_that_lack(rt: HostRuntime) -> Result<(), AllocError> {
-    let both = Rights::TAKE.union(Rights::GRANT);
-    let mut vault = seated(&rt, rt.alloc(), 8, 8, &[(1, both, 2)])?;
-    creates(&rt, &mut vault, 1, Rights::READ, 3);
-    let asked = take(Rights::READ.union(Rights::WRITE), 3, 2);
-    let denial = (Rule::Take, missing(2, 3, Rights::WRITE));
-    is_denied(&rt, &mut vault, 0, asked, denial);
-    Ok(())
-}
-
-#[test]
-fn a_denial_names_the_first_need_that_fails(rt: HostRuntime) -> Result<(), AllocError> {
-    let mut vault = seated(&rt, rt.alloc(), 8, 8, &[])?;
-    let denial = (Rule::Take, missing(1, 2, Rights::TAKE));
-    is_denied(&rt, &mut vault, 0, take(Rights::WRITE, 3, 2), denial);
-    Ok(())
-}
-
-#[test]
-fn empty_comes_before_not_distinct(rt: HostRuntime) -> Result<(), AllocError> {
-    let mut vault = seated(&rt, rt.alloc(), 8, 8, &[])?;
-    let itself = (Rule::Take, Cause::NotDistinct);
-    is_denied(&rt, &mut vault, 0, take(Rights::READ, 1, 2), itself);
-    let empty = (Rule::Take, Cause::Empty);
-    is_denied(&rt, &mut vault, 0, take(Rights::empty(), 1, 2), empty);
-    Ok(())
-}
-
-/// Alice has taken the right to read bob's document, and then the one to write it.
-fn taken_twice(rt: &impl Abort, alloc: Global) -> Result<Vault, AllocError> {
-    let both = Rights::READ.union(Rights::WRITE);
-    let opening = [(1, Rights::TAKE.union(Rights::GRANT), 2)];
-    let mut vault = seated(rt, alloc, 8, 8, &opening)?;
-    creates(rt, &mut vault, 1, both.union(Rights::GRANT), 3);
-    shades(rt, &mut vault, 1, 3);
-    does(rt, &mut vault, 0, take(Rights::READ, 3, 2));
-    shades(rt, &mut vault, 0, 3);
-    does(rt, &mut vault, 0, take(Rights::WRITE, 3, 2));
-    shades(rt, &mut vault, 0, 3);
-    Ok(vault)
-}
-
-#[test]
-fn rights_that_are_taken_join_the_label(rt: HostRuntime) -> Result<(), AllocError> {
-    let both = Rights::READ.union(Rights::WRITE);
-    let mut vault = taken_twice(&rt, rt.alloc())?;
-    let of_alice = [(2, Rights::TAKE.union(Rights::GRANT)), (3, both)];
-    sees(&rt, &mut vault, 0, 1, &of_alice);
-    let of_bob = [(3, both.union(Rights::GRANT))];
-    sees(&rt, &mut vault, 0, 2, &of_bob);
-    Ok(())
-}
-
-#[test]
-fn a_look_tells_the_edges_by_rising_serial(rt: HostRuntime) -> Result<(), AllocError> {
-    let opening = [(1, Rights::TAKE, 2), (2, Rights::GRANT, 1)];
-    let mut vault = seated(&rt, rt.alloc(), 8, 8, &opening)?;
-    creates(&rt, &mut vault, 1, Rights::READ, 3);
-    shades(&rt, &mut vault, 1, 3);
-    creates(&rt, &mut vault, 1, Rights::WRITE, 4);
-    shades(&rt, &mut vault, 1, 4);
-    let of_bob = [(1, Rights::GRANT), (3, Rights::READ), (4, Rights::WRITE)];
-    sees(&rt, &mut vault, 0, 2, &of_bob);
-    Ok(())
-}
-
-#[test]
-fn a_look_at_another_needs_take(rt: HostRuntime) -> Result<(), AllocError> {
-    let both = Rights::READ.union(Rights::WRITE);
-    let mut vault = seated(&rt, rt.alloc(), 8, 8, &[(1, Rights::GRANT, 2)])?;
-    sees(&rt, &mut vault, 0, 1, &[(2, Rights::GRANT)]);
-    let at_bob = (Rule::Look, missing(1, 2, Rights::TAKE));
-    is_denied(&rt, &mut vault, 0, Command::Look { at: 2 }, at_bob);
-    creates(&rt, &mut vault, 0, both, 3);
-    let at_alice = (Rule::Look, missing(2, 1, Rights::TAKE));
-    is_denied(&rt, &mut vault, 1, Command::Look { at: 1 }, at_alice);
-    sees(&rt, &mut vault, 1, 2, &[]);
+    assert_eq!(rt; vault.opening().rights(1, 2), rights_of("t"));
     Ok(())
 }
 
 #[test]
 fn a_longest_text_is_written_and_read(rt: HostRuntime) -> Result<(), AllocError> {
     let longest = "a".repeat(rt.alloc(), 4096)?;
-    let mut vault = seated(&rt, rt.alloc(), 4, 4, &[])?;
-    creates(&rt, &mut vault, 0, Rights::READ.union(Rights::WRITE), 3);
-    shades(&rt, &mut vault, 0, 3);
-    writes(&rt, rt.alloc(), &mut vault, 0, 3, longest.as_str())?;
-    reads(&rt, &mut vault, 0, 3, longest.as_str());
-    Ok(())
-}
-
-#[test]
-fn a_removed_edge_gives_its_cell_back(rt: HostRuntime) -> Result<(), AllocError> {
-    let mut vault = seated(&rt, rt.alloc(), 4, 1, &[(1, Rights::TAKE, 2)])?;
-    is_full(&rt, &mut vault, 0, document(Rights::READ), Which::Cells);
-    does(&rt, &mut vault, 0, remove(Rights::TAKE, 2));
-    creates(&rt, &mut vault, 0, Rights::READ, 3);
-    Ok(())
-}
-
-/// Bob's document with a text, while alice is black in the second cycle and the document is white.
-fn white_edge(rt: &impl Abort, alloc: Global) -> Result<Vault, AllocError> {
-    let both = Rights::TAKE.union(Rights::GRANT);
-    let mut vault = seated(rt, alloc, 3, 8, &[(1, both, 2)])?;
-    creates(rt, &mut vault, 1, Rights::READ.union(Rights::WRITE), 3);
-    shades(rt, &mut vault, 1, 3);
-    writes(rt, alloc, &mut vault, 1, 3, "hi")?;
-    sweeps(rt, &mut vault, 0, 14);
-    collects(rt, &mut vault, "mmmm");
-    Ok(vault)
-}
-
-#[test]
-fn a_taken_target_is_kept_through_the_cycle(rt: HostRuntime) -> Result<(), AllocError> {
-    let mut vault = white_edge(&rt, rt.alloc())?;
-    does(&rt, &mut vault, 0, take(Rights::READ, 3, 2));
-    does(
+    let mut vault = opened(&rt, rt.alloc(), &[])?;
+    answers(&rt, rt.alloc(), &mut vault, ALICE)?;
+    asks(
         &rt,
+        rt.alloc(),
         &mut vault,
-        1,
-        remove(Rights::READ.union(Rights::WRITE), 3),
-    );
-    sweeps(&rt, &mut vault, 0, 10);
-    shades(&rt, &mut vault, 0, 3);
-    reads(&rt, &mut vault, 0, 3, "hi");
-    Ok(())
-}
-
-/// Alice's document is freed by the last of these steps, in the sweep.
-fn sweeping(rt: &impl Abort, alloc: Global) -> Result<Vault, AllocError> {
-    let mut vault = seated(rt, alloc, 5, 8, &[])?;
-    creates(rt, &mut vault, 0, Rights::READ, 3);
-    shades(rt, &mut vault, 0, 3);
-    does(rt, &mut vault, 0, remove(Rights::READ, 3));
-    sweeps(rt, &mut vault, 0, 14);
-    collects(rt, &mut vault, "mmmmmsssf");
-    Ok(vault)
-}
-
-#[test]
-fn new_slots_are_kept_in_the_sweep(rt: HostRuntime) -> Result<(), AllocError> {
-    let mut vault = sweeping(&rt, rt.alloc())?;
-    creates(&rt, &mut vault, 0, Rights::READ, 4);
-    shades(&rt, &mut vault, 0, 4);
-    creates(&rt, &mut vault, 0, Rights::READ, 5);
-    sweeps(&rt, &mut vault, 0, 3);
-    shades(&rt, &mut vault, 0, 5);
-    reads(&rt, &mut vault, 0, 4, "");
-    reads(&rt, &mut vault, 0, 5, "");
-    sweeps(&rt, &mut vault, 0, 18);
-    Ok(())
-}
-
-/// Two documents of alice that have rights over each other.
-fn ring(rt: &impl Abort, alloc: Global) -> Result<Vault, AllocError> {
-    let both = Rights::READ.union(Rights::GRANT);
-    let mut vault = seated(rt, alloc, 4, 8, &[])?;
-    creates(rt, &mut vault, 0, both, 3);
-    shades(rt, &mut vault, 0, 3);
-    creates(rt, &mut vault, 0, both, 4);
-    shades(rt, &mut vault, 0, 4);
-    does(rt, &mut vault, 0, grant(Rights::READ, 4, 3));
-    shades(rt, &mut vault, 0, 4);
-    does(rt, &mut vault, 0, grant(Rights::READ, 3, 4));
-    shades(rt, &mut vault, 0, 3);
-    Ok(vault)
-}
-
-#[test]
-fn a_ring_of_documents_is_freed(rt: HostRuntime) -> Result<(), AllocError> {
-    let both = Rights::READ.union(Rights::GRANT);
-    let mut vault = ring(&rt, rt.alloc())?;
-    does(&rt, &mut vault, 0, remove(both, 3));
-    does(&rt, &mut vault, 0, remove(both, 4));
-    sweeps(&rt, &mut vault, 0, 17);
-    sweeps(&rt, &mut vault, 2, 13);
+        0,
+        Ask::Document("rw"),
+        Want::Created(3),
+    )?;
+    answers(&rt, rt.alloc(), &mut vault, Line::Shaded(0, 3))?;
+    let text = text(&rt, rt.alloc(), longest.as_str())?;
+    let written = vault.command(0, Command::Write { over: 3, text });
+    assert!(rt; matches!(&written, Ok((1, Reply::Done))));
+    let read = vault.command(0, Command::Read { over: 3 });
+    assert!(rt; matches!(&read, Ok((2, Reply::Text(found))) if found.get() == longest.as_str()));
     Ok(())
 }
 
@@ -528,31 +688,42 @@ fn hello(alloc: Global, seat: u64, name: &str) -> Result<Event, AllocError> {
     })
 }
 
-/// The answers of a run of alice's first look.
+/// The answers of a run of alice's first look, with a refused hello, bye and shade between.
 fn first_look(rt: &impl Abort, alloc: Global) -> Result<Ran, AllocError> {
-    let vault = opened(rt, alloc, 8, 8, &[(1, Rights::GRANT, 2)])?;
+    let vault = opened(rt, alloc, &[(1, "g", 2)])?;
     let mut events = Vec::new(alloc);
+    events.push(hello(alloc, 64, "alice")?)?;
     events.push(hello(alloc, 0, "alice")?)?;
+    events.push(Event::Bye { seat: 1 })?;
     let command = Command::Look { at: 1 };
     events.push(Event::Ask { seat: 0, command })?;
+    events.push(Event::Shade { seat: 1 })?;
     events.push(Event::Shade { seat: 0 })?;
     events.push(Event::Collect)?;
     Ok(vault.run(&events))
 }
 
+/// Whether these are the answers of that run.
+fn are_first_look(answers: &[Answer]) -> bool {
+    match answers {
+        [refused, taken, left, asked, empty, shaded, noted] => {
+            matches!(refused, Answer::Seat(SeatFault::NoSeat))
+                && matches!(taken, Answer::Hello(1))
+                && matches!(left, Answer::Seat(SeatFault::NoActor))
+                && matches!(asked, Answer::Asked(0, Reply::Edges(edges))
+                    if are_edges(edges.get(), &[(2, "g")]))
+                && matches!(empty, Answer::Seat(SeatFault::NoActor))
+                && matches!(shaded, Answer::Shaded(None))
+                && matches!(noted, Answer::Noted(note) if note.freed == 0 && !note.ended)
+        }
+        _ => false,
+    }
+}
+
 #[test]
 fn a_run_answers_each_event(rt: HostRuntime) -> Result<(), AllocError> {
     let ran = first_look(&rt, rt.alloc())?;
-    assert_eq!(rt; ran.answers.len(), 4);
-    assert!(rt; matches!(&ran.answers[0], Answer::Hello(1)));
-    match &ran.answers[1] {
-        Answer::Asked(0, Reply::Edges(edges)) => assert!(rt;
-            edges.get() == [(2, Rights::GRANT)].as_slice()
-        ),
-        _ => panic!(rt; "no edges"),
-    }
-    assert!(rt; matches!(&ran.answers[2], Answer::Shaded(None)));
-    assert!(rt; matches!(&ran.answers[3], Answer::Noted(note) if note.freed == 0 && !note.ended));
+    assert!(rt; are_first_look(&ran.answers));
     assert_eq!(rt; ran.vault.count(), 1);
     Ok(())
 }

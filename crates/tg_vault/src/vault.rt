@@ -21,9 +21,9 @@ ghost use Rattle.tg_vault.specs.Course.{Course, IsCoherent};
 ghost use Rattle.tg_vault.specs.Cycles.{IsBounded, IsCycle};
 ghost use Rattle.tg_vault.specs.Headline.{Headline};
 
+use crate::carry_out::answer;
 use crate::entry::Entry;
 use crate::event::{Answer, AskFault, Event, SeatFault};
-use crate::carry_out::answer;
 use crate::laws::courses_have_the_headline;
 use std::alloc::{AllocError, Global};
 use std::marker::Model;

@@ -5,14 +5,14 @@ ghost use Rattle.std.specs.Io.KnownBytes.{Keeps, prepend_known};
 ghost use Rattle.tg_talk.specs.Devices.{Sends, device_of, has_failed};
 ghost use Rattle.tg_talk.specs.declared.fault.TalkFault.TheVariants.{OutOfMemory, Reading, Writing};
 ghost use Rattle.tgdoc.specs.Runs.{LinesRan, RefusesOpening};
-ghost use Rattle.tgdoc.specs.Turns.{EndsOnce, Opens, LinesServed};
+ghost use Rattle.tgdoc.specs.Turns.{EndsOnce, Opens, RestAnswered};
 
 use crate::finished::Finished;
 use crate::run_state::{RunState, Turn};
 use std::alloc::Global;
 use std::io::{Read, Write};
 use tg_talk::{Found, LineBuffer, TalkFault, Watched, send_line};
-use tg_vault::Vault;
+use tg_vault::{Vault, courses_have_the_headline, courses_join};
 use tg_wire::{WireFault, error_line, open_fault_line, read_config};
 
 /// Reads a configuration line and then event lines, and answers each as soon as it is read. A configuration line that is
@@ -35,6 +35,7 @@ pub fn run_lines<R: Read, W: Write>(
     ensures ran { IfSome (R.remaining (device_of reader.old))
         (LinesRan result (W.contents (device_of writer.old)) (W.contents (device_of writer.new)) (has_failed writer.new)) }
 {
+    courses_have_the_headline();
     let Ok(mut buffer) = LineBuffer::new(alloc) else {
         return Finished {
             lines: 0,
@@ -82,7 +83,10 @@ fn open(alloc: Global, bytes: &[u8]) -> Result<Vault, &'static [u8]>
         Err(fault) => Err(error_line(fault)),
         Ok(config) => match Vault::new(alloc, config) {
             Err(fault) => Err(open_fault_line(fault)),
-            Ok(vault) => Ok(vault),
+            Ok(vault) => {
+                vault.soundness();
+                Ok(vault)
+            }
         },
     }
 }
@@ -125,22 +129,23 @@ fn answer_lines<R: Read, W: Write>(
     ensures writing { (has_failed writer.new ≡ true) ↔ (result.fault ≡ Some Writing) }
     ensures memory { result.fault ≢ Some OutOfMemory }
     ensures few { result.lines ≤ 1000001 }
-    ensures served { IfSome (prepend_known buffer (R.remaining (device_of reader.old)))
-        (LinesServed vault result (W.contents (device_of writer.old)) (W.contents (device_of writer.new)) (has_failed writer.new)) }
+    ensures answered { IfSome (prepend_known buffer (R.remaining (device_of reader.old)))
+        (RestAnswered vault result (W.contents (device_of writer.old)) (W.contents (device_of writer.new)) (has_failed writer.new)) }
 {
-    let mut session = RunState {
+    courses_join();
+    let mut state = RunState {
         buffer,
         lines: 1,
         errors: 0,
     };
     let mut vault = vault;
     loop {
-        match session.turn(alloc, vault, reader, writer) {
+        match state.turn(alloc, vault, reader, writer) {
             Turn::GoOn(after) => vault = after,
             Turn::Ended(fault) => {
                 return Finished {
-                    lines: session.lines,
-                    errors: session.errors,
+                    lines: state.lines,
+                    errors: state.errors,
                     fault,
                 };
             }

@@ -1,7 +1,7 @@
 use Rattle.std.proofs.Common.{refl, arith}
-use Rattle.tgdoc.specs.Turns.{LinesServed}
-use Rattle.tgdoc.proofs.Turning.{weaker}
-use Rattle.tgdoc.proofs.Serving.{SoFar, so_far-start, so_far-goes_on, so_far-ends}
+use Rattle.tgdoc.specs.Turns.{RestAnswered}
+use Rattle.tgdoc.proofs.TurnLemmas.{weaker}
+use Rattle.tgdoc.proofs.RestLemmas.{SoFar, so_far-start, so_far-goes_on, so_far-ends}
 use Rattle.tgdoc.proofs.run.answer_lines.Goals as goal
 
 pub loop-after-init : goal.loop-after-init
@@ -20,9 +20,9 @@ loop-after-preserved g c = record {
   reads = c.in-GoOn.ensures.reads refl;
   writes = c.in-GoOn.ensures.writes refl;
   so_far = weaker _ (SoFar _ _ _ _ _ _ _) (SoFar _ _ _ _ _ _ _) c.loop-after.invariant.so_far
-      (λ xs so. so_far-goes_on _ _ _ _ _ _ _ _ _ _ _ _ _ xs (c.in-GoOn.ensures.writes refl) so c.in-GoOn.ensures.turned);
+      (λ xs so. so_far-goes_on c.courses_join.ensures _ _ _ _ _ _ _ _ _ _ _ _ _ xs (c.in-GoOn.ensures.writes refl) so c.in-GoOn.ensures.turned);
 }
 
-pub returns-in-Ended-clause-served : goal.returns-in-Ended-clause-served
-returns-in-Ended-clause-served g c =
-    weaker _ (SoFar _ _ _ _ _ _ _) (LinesServed _ _ _ _ _) c.loop-after.invariant.so_far (λ xs so. so_far-ends _ _ _ _ _ _ _ _ _ _ _ _ xs _ so c.in-Ended.ensures.turned)
+pub returns-in-Ended-clause-answered : goal.returns-in-Ended-clause-answered
+returns-in-Ended-clause-answered g c =
+    weaker _ (SoFar _ _ _ _ _ _ _) (RestAnswered _ _ _ _ _) c.loop-after.invariant.so_far (λ xs so. so_far-ends c.courses_join.ensures _ _ _ _ _ _ _ _ _ _ _ _ xs _ so c.in-Ended.ensures.turned)

@@ -1,18 +1,18 @@
 use Rattle.std.proofs.Common.{◌≡◌, ◌≤◌, ◌-◌, false, IfSome}
 use Rattle.std.specs.Io.KnownBytes.{prepend_known}
 use Rattle.tg_talk.specs.Devices.{device_of, has_failed}
-use Rattle.tgdoc.proofs.Serving.{SoFar}
+use Rattle.tgdoc.proofs.RestLemmas.{SoFar}
 use Rattle.tgdoc.proofs.run.answer_lines.Given as goal
 
 abbrev pub invariant-loop-after : goal.invariant-loop-after
 invariant-loop-after g l = record {
-  few : l.session.lines ≤ 1000000;
-  errors : l.session.errors ≤ l.session.lines;
+  few : l.state.lines ≤ 1000000;
+  errors : l.state.errors ≤ l.state.lines;
   reads : has_failed l.reader ≡ false;
   writes : has_failed l.writer ≡ false;
   so_far : IfSome (prepend_known l.fn.buffer (g.R.Read.remaining (device_of l.fn.reader)))
-      (SoFar l.fn.vault l.vault l.session.lines l.session.errors (prepend_known l.session.buffer (g.R.Read.remaining (device_of l.reader))) (g.W.Write.contents (device_of l.fn.writer)) (g.W.Write.contents (device_of l.writer)));
+      (SoFar l.fn.vault l.vault l.state.lines l.state.errors (prepend_known l.state.buffer (g.R.Read.remaining (device_of l.reader))) (g.W.Write.contents (device_of l.fn.writer)) (g.W.Write.contents (device_of l.writer)));
 }
 
 abbrev pub decreases-loop-after : goal.decreases-loop-after
-decreases-loop-after g l = 1000000 - l.session.lines
+decreases-loop-after g l = 1000000 - l.state.lines
