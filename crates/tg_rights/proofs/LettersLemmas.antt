@@ -1,9 +1,9 @@
 -- The operations on sets of letters, right by right.
-use Rattle.std.proofs.Common.{◌≡◌, Bool, true, false, not, ◌&&◌, ◌||◌, refl, sym, ap}
+use Rattle.std.proofs.Common.{◌≡◌, Bool, true, false, not, ◌&&◌, ◌||◌, refl, sym, ap, ◌∙◌}
 use Rattle.std.proofs.lemmas.Bool.{and_from}
 use Rattle.tg_rights.specs.Letters.{Letters, Right, read, write, take, grant, has, none, joined, without, includes, is_none, AreSetOperations}
 use Rattle.tg_rights.proofs.Bools.{and_both}
-use Rattle.tg_rights.proofs.Masks.{letters-number}
+use Rattle.tg_rights.proofs.BitsLemmas.{letters-number}
 
 implied : (a b : Bool) → (not b || a) ≡ true → b ≡ true → a ≡ true
 implied a true e b_is = e
@@ -17,19 +17,19 @@ untrue : (a : Bool) → not a ≡ true → a ≡ false
 untrue true e = sym e
 untrue false e = refl
 
-has_joined : (a b : Letters) (r : Right) → has (joined a b) r ≡ (has a r || has b r)
+pub has_joined : (a b : Letters) (r : Right) → has (joined a b) r ≡ (has a r || has b r)
 has_joined a b read = refl
 has_joined a b write = refl
 has_joined a b take = refl
 has_joined a b grant = refl
 
-has_without : (a b : Letters) (r : Right) → has (without a b) r ≡ (has a r && not (has b r))
+pub has_without : (a b : Letters) (r : Right) → has (without a b) r ≡ (has a r && not (has b r))
 has_without a b read = refl
 has_without a b write = refl
 has_without a b take = refl
 has_without a b grant = refl
 
-has_none : (r : Right) → has none r ≡ false
+pub has_none : (r : Right) → has none r ≡ false
 has_none read = refl
 has_none write = refl
 has_none take = refl
@@ -73,6 +73,24 @@ nothing_there a e = each (all_four (not a.read) (not a.write) (not a.take) (not 
 
 lacking : (a : Letters) → ((r : Right) → has a r ≡ false) → is_none a ≡ true
 lacking a f = from_all (ap not (f read)) (ap not (f write)) (ap not (f take)) (ap not (f grant))
+
+pub some_right : (a : Letters) → is_none a ≡ false → (r : Right) × (has a r ≡ true)
+some_right a e = by a.read a.write a.take a.grant e where
+  by : (r w t g : Bool) → (not r && not w && not t && not g) ≡ false → (s : Right) × (has (record { read = r; write = w; take = t; grant = g }) s ≡ true)
+  by true w t g e = (read, refl)
+  by false true t g e = (write, refl)
+  by false false true g e = (take, refl)
+  by false false false true e = (grant, refl)
+  by false false false false e = absurd (cc e)
+
+pub right_some : (a : Letters) (r : Right) → has a r ≡ true → is_none a ≡ false
+right_some a r h = by (is_none a) refl where
+  by : (b : Bool) → is_none a ≡ b → b ≡ false
+  by true e = absurd (cc (sym h ∙ nothing_there a e r))
+  by false e = refl
+
+pub is_none-none : (a : Letters) → is_none a ≡ true → a ≡ none
+is_none-none a e = λ i. record { read = nothing_there a e read i; write = nothing_there a e write i; take = nothing_there a e take i; grant = nothing_there a e grant i }
 
 pub are_set_operations : AreSetOperations
 are_set_operations = record {
