@@ -204,10 +204,10 @@ fn sees(rt: &impl Abort, vault: &mut Vault, seat: u64, at: u64, edges: &[(u64, R
 
 #[test]
 fn the_first_of_two_faults_is_answered(rt: HostRuntime) -> Result<(), AllocError> {
-    let itself = [(1, Rights::TAKE, 1)];
+    let itself = [(1, Rights::take(), 1)];
     refuses(&rt, rt.alloc(), 1, &itself, OpenFault::SelfEdge)?;
     refuses(&rt, rt.alloc(), 1, &[], OpenFault::FewSlots)?;
-    let stray = [(1, Rights::empty(), 2), (1, Rights::TAKE, 3)];
+    let stray = [(1, Rights::empty(), 2), (1, Rights::take(), 3)];
     refuses(&rt, rt.alloc(), 8, &stray, OpenFault::EdgeEnd)
 }
 
@@ -227,7 +227,7 @@ fn seats_are_refused_in_order(rt: HostRuntime) -> Result<(), AllocError> {
 #[test]
 fn a_target_keeps_the_seat_busy(rt: HostRuntime) -> Result<(), AllocError> {
     let mut vault = seated(&rt, rt.alloc(), 8, 8, &[])?;
-    creates(&rt, &mut vault, 1, Rights::READ, 3);
+    creates(&rt, &mut vault, 1, Rights::read(), 3);
     let busy = vault.command(1, Command::Look { at: 2 });
     assert!(rt; matches!(&busy, Err(AskFault::Busy)));
     assert_eq!(rt; vault.bye(1), Err(SeatFault::Busy));
@@ -238,19 +238,19 @@ fn a_target_keeps_the_seat_busy(rt: HostRuntime) -> Result<(), AllocError> {
 
 #[test]
 fn a_take_of_an_edge_that_is_there_leaves_a_target(rt: HostRuntime) -> Result<(), AllocError> {
-    let mut vault = seated(&rt, rt.alloc(), 8, 8, &[(1, Rights::TAKE, 2)])?;
-    creates(&rt, &mut vault, 1, Rights::READ, 3);
-    does(&rt, &mut vault, 0, take(Rights::READ, 3, 2));
+    let mut vault = seated(&rt, rt.alloc(), 8, 8, &[(1, Rights::take(), 2)])?;
+    creates(&rt, &mut vault, 1, Rights::read(), 3);
+    does(&rt, &mut vault, 0, take(Rights::read(), 3, 2));
     shades(&rt, &mut vault, 0, 3);
-    does(&rt, &mut vault, 0, take(Rights::READ, 3, 2));
+    does(&rt, &mut vault, 0, take(Rights::read(), 3, 2));
     shades(&rt, &mut vault, 0, 3);
     Ok(())
 }
 
 #[test]
 fn the_history_has_each_command(rt: HostRuntime) -> Result<(), AllocError> {
-    let mut vault = seated(&rt, rt.alloc(), 8, 8, &[(1, Rights::TAKE, 2)])?;
-    let denial = (Rule::Read, missing(1, 2, Rights::READ));
+    let mut vault = seated(&rt, rt.alloc(), 8, 8, &[(1, Rights::take(), 2)])?;
+    let denial = (Rule::Read, missing(1, 2, Rights::read()));
     is_denied(&rt, &mut vault, 0, Command::Read { over: 2 }, denial);
     assert_eq!(rt; vault.count(), 1);
     let entry = vault.entry(0).expect(&rt, "no entry");
@@ -259,29 +259,29 @@ fn the_history_has_each_command(rt: HostRuntime) -> Result<(), AllocError> {
         matches!(&entry.outcome, Outcome::Denied(rule, cause) if (*rule, *cause) == denial)
     );
     assert!(rt; vault.entry(1).is_none());
-    assert_eq!(rt; vault.opening().rights(1, 2), Rights::TAKE);
+    assert_eq!(rt; vault.opening().rights(1, 2), Rights::take());
     Ok(())
 }
 
 #[test]
 fn garbage_needs_two_cycles(rt: HostRuntime) -> Result<(), AllocError> {
     let mut vault = seated(&rt, rt.alloc(), 3, 4, &[])?;
-    creates(&rt, &mut vault, 0, Rights::READ, 3);
+    creates(&rt, &mut vault, 0, Rights::read(), 3);
     shades(&rt, &mut vault, 0, 3);
-    does(&rt, &mut vault, 0, remove(Rights::READ, 3));
-    is_full(&rt, &mut vault, 0, document(Rights::READ), Which::Slots);
+    does(&rt, &mut vault, 0, remove(Rights::read(), 3));
+    is_full(&rt, &mut vault, 0, document(Rights::read()), Which::Slots);
     sweeps(&rt, &mut vault, 0, 12);
     sweeps(&rt, &mut vault, 1, 10);
-    creates(&rt, &mut vault, 0, Rights::READ, 4);
+    creates(&rt, &mut vault, 0, Rights::read(), 4);
     Ok(())
 }
 
 #[test]
 fn each_step_of_a_cycle_is_noted(rt: HostRuntime) -> Result<(), AllocError> {
     let mut vault = seated(&rt, rt.alloc(), 3, 4, &[])?;
-    creates(&rt, &mut vault, 0, Rights::READ, 3);
+    creates(&rt, &mut vault, 0, Rights::read(), 3);
     shades(&rt, &mut vault, 0, 3);
-    does(&rt, &mut vault, 0, remove(Rights::READ, 3));
+    does(&rt, &mut vault, 0, remove(Rights::read(), 3));
     collects(&rt, &mut vault, "mmmmmmmsssse");
     collects(&rt, &mut vault, "mmmmmsssfe");
     Ok(())
@@ -290,14 +290,14 @@ fn each_step_of_a_cycle_is_noted(rt: HostRuntime) -> Result<(), AllocError> {
 #[test]
 fn an_unknown_serial_is_denied_like_a_freed_one(rt: HostRuntime) -> Result<(), AllocError> {
     let mut vault = seated(&rt, rt.alloc(), 3, 4, &[])?;
-    let unknown = (Rule::Read, missing(1, 99, Rights::READ));
+    let unknown = (Rule::Read, missing(1, 99, Rights::read()));
     is_denied(&rt, &mut vault, 0, Command::Read { over: 99 }, unknown);
-    creates(&rt, &mut vault, 0, Rights::READ, 3);
+    creates(&rt, &mut vault, 0, Rights::read(), 3);
     shades(&rt, &mut vault, 0, 3);
-    does(&rt, &mut vault, 0, remove(Rights::READ, 3));
+    does(&rt, &mut vault, 0, remove(Rights::read(), 3));
     sweeps(&rt, &mut vault, 0, 12);
     sweeps(&rt, &mut vault, 1, 10);
-    let freed = (Rule::Read, missing(1, 3, Rights::READ));
+    let freed = (Rule::Read, missing(1, 3, Rights::read()));
     is_denied(&rt, &mut vault, 0, Command::Read { over: 3 }, freed);
     Ok(())
 }
@@ -308,32 +308,32 @@ fn the_last_serial_is_given_and_no_more(rt: HostRuntime) -> Result<(), AllocErro
     config.next = 18446744073709551614;
     let mut vault = Vault::new(rt.alloc(), config).ok().expect(&rt, "refused");
     takes_seats(&rt, &mut vault);
-    creates(&rt, &mut vault, 0, Rights::READ, 18446744073709551614);
+    creates(&rt, &mut vault, 0, Rights::read(), 18446744073709551614);
     shades(&rt, &mut vault, 0, 18446744073709551614);
-    is_full(&rt, &mut vault, 0, document(Rights::READ), Which::Serials);
+    is_full(&rt, &mut vault, 0, document(Rights::read()), Which::Serials);
     Ok(())
 }
 
 #[test]
 fn denials_come_before_fullness(rt: HostRuntime) -> Result<(), AllocError> {
-    let mut vault = seated(&rt, rt.alloc(), 8, 3, &[(1, Rights::TAKE, 2)])?;
-    creates(&rt, &mut vault, 1, Rights::READ, 3);
+    let mut vault = seated(&rt, rt.alloc(), 8, 3, &[(1, Rights::take(), 2)])?;
+    creates(&rt, &mut vault, 1, Rights::read(), 3);
     shades(&rt, &mut vault, 1, 3);
-    creates(&rt, &mut vault, 1, Rights::READ, 4);
+    creates(&rt, &mut vault, 1, Rights::read(), 4);
     shades(&rt, &mut vault, 1, 4);
-    let denial = (Rule::Take, missing(2, 3, Rights::WRITE));
-    is_denied(&rt, &mut vault, 0, take(Rights::WRITE, 3, 2), denial);
-    is_full(&rt, &mut vault, 0, take(Rights::READ, 3, 2), Which::Cells);
+    let denial = (Rule::Take, missing(2, 3, Rights::write()));
+    is_denied(&rt, &mut vault, 0, take(Rights::write(), 3, 2), denial);
+    is_full(&rt, &mut vault, 0, take(Rights::read(), 3, 2), Which::Cells);
     Ok(())
 }
 
 #[test]
 fn a_subject_has_no_text_to_read(rt: HostRuntime) -> Result<(), AllocError> {
-    let mut vault = seated(&rt, rt.alloc(), 4, 4, &[(1, Rights::READ, 2)])?;
+    let mut vault = seated(&rt, rt.alloc(), 4, 4, &[(1, Rights::read(), 2)])?;
     let subject = (Rule::Read, Cause::NotDocument { vertex: 2 });
     is_denied(&rt, &mut vault, 0, Command::Read { over: 2 }, subject);
     let text = text(&rt, rt.alloc(), "x")?;
-    let denial = (Rule::Write, missing(1, 2, Rights::WRITE));
+    let denial = (Rule::Write, missing(1, 2, Rights::write()));
     is_denied(&rt, &mut vault, 0, Command::Write { over: 2, text }, denial);
     let itself = (Rule::Read, Cause::NotDistinct);
     is_denied(&rt, &mut vault, 0, Command::Read { over: 1 }, itself);
@@ -342,11 +342,11 @@ fn a_subject_has_no_text_to_read(rt: HostRuntime) -> Result<(), AllocError> {
 
 #[test]
 fn a_denial_names_only_the_rights_that_lack(rt: HostRuntime) -> Result<(), AllocError> {
-    let both = Rights::TAKE.union(Rights::GRANT);
+    let both = Rights::take().union(Rights::grant());
     let mut vault = seated(&rt, rt.alloc(), 8, 8, &[(1, both, 2)])?;
-    creates(&rt, &mut vault, 1, Rights::READ, 3);
-    let asked = take(Rights::READ.union(Rights::WRITE), 3, 2);
-    let denial = (Rule::Take, missing(2, 3, Rights::WRITE));
+    creates(&rt, &mut vault, 1, Rights::read(), 3);
+    let asked = take(Rights::read().union(Rights::write()), 3, 2);
+    let denial = (Rule::Take, missing(2, 3, Rights::write()));
     is_denied(&rt, &mut vault, 0, asked, denial);
     Ok(())
 }
@@ -354,8 +354,8 @@ fn a_denial_names_only_the_rights_that_lack(rt: HostRuntime) -> Result<(), Alloc
 #[test]
 fn a_denial_names_the_first_need_that_fails(rt: HostRuntime) -> Result<(), AllocError> {
     let mut vault = seated(&rt, rt.alloc(), 8, 8, &[])?;
-    let denial = (Rule::Take, missing(1, 2, Rights::TAKE));
-    is_denied(&rt, &mut vault, 0, take(Rights::WRITE, 3, 2), denial);
+    let denial = (Rule::Take, missing(1, 2, Rights::take()));
+    is_denied(&rt, &mut vault, 0, take(Rights::write(), 3, 2), denial);
     Ok(())
 }
 
@@ -363,7 +363,7 @@ fn a_denial_names_the_first_need_that_fails(rt: HostRuntime) -> Result<(), Alloc
 fn empty_comes_before_not_distinct(rt: HostRuntime) -> Result<(), AllocError> {
     let mut vault = seated(&rt, rt.alloc(), 8, 8, &[])?;
     let itself = (Rule::Take, Cause::NotDistinct);
-    is_denied(&rt, &mut vault, 0, take(Rights::READ, 1, 2), itself);
+    is_denied(&rt, &mut vault, 0, take(Rights::read(), 1, 2), itself);
     let empty = (Rule::Take, Cause::Empty);
     is_denied(&rt, &mut vault, 0, take(Rights::empty(), 1, 2), empty);
     Ok(())
@@ -371,51 +371,55 @@ fn empty_comes_before_not_distinct(rt: HostRuntime) -> Result<(), AllocError> {
 
 /// Alice has taken the right to read bob's document, and then the one to write it.
 fn taken_twice(rt: &impl Abort, alloc: Global) -> Result<Vault, AllocError> {
-    let both = Rights::READ.union(Rights::WRITE);
-    let opening = [(1, Rights::TAKE.union(Rights::GRANT), 2)];
+    let both = Rights::read().union(Rights::write());
+    let opening = [(1, Rights::take().union(Rights::grant()), 2)];
     let mut vault = seated(rt, alloc, 8, 8, &opening)?;
-    creates(rt, &mut vault, 1, both.union(Rights::GRANT), 3);
+    creates(rt, &mut vault, 1, both.union(Rights::grant()), 3);
     shades(rt, &mut vault, 1, 3);
-    does(rt, &mut vault, 0, take(Rights::READ, 3, 2));
+    does(rt, &mut vault, 0, take(Rights::read(), 3, 2));
     shades(rt, &mut vault, 0, 3);
-    does(rt, &mut vault, 0, take(Rights::WRITE, 3, 2));
+    does(rt, &mut vault, 0, take(Rights::write(), 3, 2));
     shades(rt, &mut vault, 0, 3);
     Ok(vault)
 }
 
 #[test]
 fn rights_that_are_taken_join_the_label(rt: HostRuntime) -> Result<(), AllocError> {
-    let both = Rights::READ.union(Rights::WRITE);
+    let both = Rights::read().union(Rights::write());
     let mut vault = taken_twice(&rt, rt.alloc())?;
-    let of_alice = [(2, Rights::TAKE.union(Rights::GRANT)), (3, both)];
+    let of_alice = [(2, Rights::take().union(Rights::grant())), (3, both)];
     sees(&rt, &mut vault, 0, 1, &of_alice);
-    let of_bob = [(3, both.union(Rights::GRANT))];
+    let of_bob = [(3, both.union(Rights::grant()))];
     sees(&rt, &mut vault, 0, 2, &of_bob);
     Ok(())
 }
 
 #[test]
 fn a_look_tells_the_edges_by_rising_serial(rt: HostRuntime) -> Result<(), AllocError> {
-    let opening = [(1, Rights::TAKE, 2), (2, Rights::GRANT, 1)];
+    let opening = [(1, Rights::take(), 2), (2, Rights::grant(), 1)];
     let mut vault = seated(&rt, rt.alloc(), 8, 8, &opening)?;
-    creates(&rt, &mut vault, 1, Rights::READ, 3);
+    creates(&rt, &mut vault, 1, Rights::read(), 3);
     shades(&rt, &mut vault, 1, 3);
-    creates(&rt, &mut vault, 1, Rights::WRITE, 4);
+    creates(&rt, &mut vault, 1, Rights::write(), 4);
     shades(&rt, &mut vault, 1, 4);
-    let of_bob = [(1, Rights::GRANT), (3, Rights::READ), (4, Rights::WRITE)];
+    let of_bob = [
+        (1, Rights::grant()),
+        (3, Rights::read()),
+        (4, Rights::write()),
+    ];
     sees(&rt, &mut vault, 0, 2, &of_bob);
     Ok(())
 }
 
 #[test]
 fn a_look_at_another_needs_take(rt: HostRuntime) -> Result<(), AllocError> {
-    let both = Rights::READ.union(Rights::WRITE);
-    let mut vault = seated(&rt, rt.alloc(), 8, 8, &[(1, Rights::GRANT, 2)])?;
-    sees(&rt, &mut vault, 0, 1, &[(2, Rights::GRANT)]);
-    let at_bob = (Rule::Look, missing(1, 2, Rights::TAKE));
+    let both = Rights::read().union(Rights::write());
+    let mut vault = seated(&rt, rt.alloc(), 8, 8, &[(1, Rights::grant(), 2)])?;
+    sees(&rt, &mut vault, 0, 1, &[(2, Rights::grant())]);
+    let at_bob = (Rule::Look, missing(1, 2, Rights::take()));
     is_denied(&rt, &mut vault, 0, Command::Look { at: 2 }, at_bob);
     creates(&rt, &mut vault, 0, both, 3);
-    let at_alice = (Rule::Look, missing(2, 1, Rights::TAKE));
+    let at_alice = (Rule::Look, missing(2, 1, Rights::take()));
     is_denied(&rt, &mut vault, 1, Command::Look { at: 1 }, at_alice);
     sees(&rt, &mut vault, 1, 2, &[]);
     Ok(())
@@ -425,7 +429,7 @@ fn a_look_at_another_needs_take(rt: HostRuntime) -> Result<(), AllocError> {
 fn a_longest_text_is_written_and_read(rt: HostRuntime) -> Result<(), AllocError> {
     let longest = "a".repeat(rt.alloc(), 4096)?;
     let mut vault = seated(&rt, rt.alloc(), 4, 4, &[])?;
-    creates(&rt, &mut vault, 0, Rights::READ.union(Rights::WRITE), 3);
+    creates(&rt, &mut vault, 0, Rights::read().union(Rights::write()), 3);
     shades(&rt, &mut vault, 0, 3);
     writes(&rt, rt.alloc(), &mut vault, 0, 3, longest.as_str())?;
     reads(&rt, &mut vault, 0, 3, longest.as_str());
@@ -434,18 +438,18 @@ fn a_longest_text_is_written_and_read(rt: HostRuntime) -> Result<(), AllocError>
 
 #[test]
 fn a_removed_edge_gives_its_cell_back(rt: HostRuntime) -> Result<(), AllocError> {
-    let mut vault = seated(&rt, rt.alloc(), 4, 1, &[(1, Rights::TAKE, 2)])?;
-    is_full(&rt, &mut vault, 0, document(Rights::READ), Which::Cells);
-    does(&rt, &mut vault, 0, remove(Rights::TAKE, 2));
-    creates(&rt, &mut vault, 0, Rights::READ, 3);
+    let mut vault = seated(&rt, rt.alloc(), 4, 1, &[(1, Rights::take(), 2)])?;
+    is_full(&rt, &mut vault, 0, document(Rights::read()), Which::Cells);
+    does(&rt, &mut vault, 0, remove(Rights::take(), 2));
+    creates(&rt, &mut vault, 0, Rights::read(), 3);
     Ok(())
 }
 
 /// Bob's document with a text, while alice is black in the second cycle and the document is white.
 fn white_edge(rt: &impl Abort, alloc: Global) -> Result<Vault, AllocError> {
-    let both = Rights::TAKE.union(Rights::GRANT);
+    let both = Rights::take().union(Rights::grant());
     let mut vault = seated(rt, alloc, 3, 8, &[(1, both, 2)])?;
-    creates(rt, &mut vault, 1, Rights::READ.union(Rights::WRITE), 3);
+    creates(rt, &mut vault, 1, Rights::read().union(Rights::write()), 3);
     shades(rt, &mut vault, 1, 3);
     writes(rt, alloc, &mut vault, 1, 3, "hi")?;
     sweeps(rt, &mut vault, 0, 14);
@@ -456,12 +460,12 @@ fn white_edge(rt: &impl Abort, alloc: Global) -> Result<Vault, AllocError> {
 #[test]
 fn a_taken_target_is_kept_through_the_cycle(rt: HostRuntime) -> Result<(), AllocError> {
     let mut vault = white_edge(&rt, rt.alloc())?;
-    does(&rt, &mut vault, 0, take(Rights::READ, 3, 2));
+    does(&rt, &mut vault, 0, take(Rights::read(), 3, 2));
     does(
         &rt,
         &mut vault,
         1,
-        remove(Rights::READ.union(Rights::WRITE), 3),
+        remove(Rights::read().union(Rights::write()), 3),
     );
     sweeps(&rt, &mut vault, 0, 10);
     shades(&rt, &mut vault, 0, 3);
@@ -472,9 +476,9 @@ fn a_taken_target_is_kept_through_the_cycle(rt: HostRuntime) -> Result<(), Alloc
 /// Alice's document is freed by the last of these steps, in the sweep.
 fn sweeping(rt: &impl Abort, alloc: Global) -> Result<Vault, AllocError> {
     let mut vault = seated(rt, alloc, 5, 8, &[])?;
-    creates(rt, &mut vault, 0, Rights::READ, 3);
+    creates(rt, &mut vault, 0, Rights::read(), 3);
     shades(rt, &mut vault, 0, 3);
-    does(rt, &mut vault, 0, remove(Rights::READ, 3));
+    does(rt, &mut vault, 0, remove(Rights::read(), 3));
     sweeps(rt, &mut vault, 0, 14);
     collects(rt, &mut vault, "mmmmmsssf");
     Ok(vault)
@@ -483,9 +487,9 @@ fn sweeping(rt: &impl Abort, alloc: Global) -> Result<Vault, AllocError> {
 #[test]
 fn new_slots_are_kept_in_the_sweep(rt: HostRuntime) -> Result<(), AllocError> {
     let mut vault = sweeping(&rt, rt.alloc())?;
-    creates(&rt, &mut vault, 0, Rights::READ, 4);
+    creates(&rt, &mut vault, 0, Rights::read(), 4);
     shades(&rt, &mut vault, 0, 4);
-    creates(&rt, &mut vault, 0, Rights::READ, 5);
+    creates(&rt, &mut vault, 0, Rights::read(), 5);
     sweeps(&rt, &mut vault, 0, 3);
     shades(&rt, &mut vault, 0, 5);
     reads(&rt, &mut vault, 0, 4, "");
@@ -496,22 +500,22 @@ fn new_slots_are_kept_in_the_sweep(rt: HostRuntime) -> Result<(), AllocError> {
 
 /// Two documents of alice that have rights over each other.
 fn ring(rt: &impl Abort, alloc: Global) -> Result<Vault, AllocError> {
-    let both = Rights::READ.union(Rights::GRANT);
+    let both = Rights::read().union(Rights::grant());
     let mut vault = seated(rt, alloc, 4, 8, &[])?;
     creates(rt, &mut vault, 0, both, 3);
     shades(rt, &mut vault, 0, 3);
     creates(rt, &mut vault, 0, both, 4);
     shades(rt, &mut vault, 0, 4);
-    does(rt, &mut vault, 0, grant(Rights::READ, 4, 3));
+    does(rt, &mut vault, 0, grant(Rights::read(), 4, 3));
     shades(rt, &mut vault, 0, 4);
-    does(rt, &mut vault, 0, grant(Rights::READ, 3, 4));
+    does(rt, &mut vault, 0, grant(Rights::read(), 3, 4));
     shades(rt, &mut vault, 0, 3);
     Ok(vault)
 }
 
 #[test]
 fn a_ring_of_documents_is_freed(rt: HostRuntime) -> Result<(), AllocError> {
-    let both = Rights::READ.union(Rights::GRANT);
+    let both = Rights::read().union(Rights::grant());
     let mut vault = ring(&rt, rt.alloc())?;
     does(&rt, &mut vault, 0, remove(both, 3));
     does(&rt, &mut vault, 0, remove(both, 4));
@@ -530,7 +534,7 @@ fn hello(alloc: Global, seat: u64, name: &str) -> Result<Event, AllocError> {
 
 /// The answers of a run of alice's first look.
 fn first_look(rt: &impl Abort, alloc: Global) -> Result<Ran, AllocError> {
-    let vault = opened(rt, alloc, 8, 8, &[(1, Rights::GRANT, 2)])?;
+    let vault = opened(rt, alloc, 8, 8, &[(1, Rights::grant(), 2)])?;
     let mut events = Vec::new(alloc);
     events.push(hello(alloc, 0, "alice")?)?;
     let command = Command::Look { at: 1 };
@@ -547,7 +551,7 @@ fn a_run_answers_each_event(rt: HostRuntime) -> Result<(), AllocError> {
     assert!(rt; matches!(&ran.answers[0], Answer::Hello(1)));
     match &ran.answers[1] {
         Answer::Asked(0, Reply::Edges(edges)) => assert!(rt;
-            edges.get() == [(2, Rights::GRANT)].as_slice()
+            edges.get() == [(2, Rights::grant())].as_slice()
         ),
         _ => panic!(rt; "no edges"),
     }

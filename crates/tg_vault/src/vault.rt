@@ -378,7 +378,7 @@ impl Vault {
         ensures acts { StoreActs self.old self.new }
     {
         self.ready_at(seat)?;
-        let Ok(copy) = command.copy() else {
+        let Ok(copy) = command.copy(self.alloc) else {
             return Err(AskFault::OutOfMemory);
         };
         self.command(seat, copy)
