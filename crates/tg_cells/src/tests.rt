@@ -72,41 +72,41 @@ fn list(alloc: Global, cells: &Cells, owner: u32) -> Result<Vec<(u32, u64, Right
 fn each_owner_has_its_list(rt: HostRuntime) -> Result<(), AllocError> {
     let mut cells = Cells::new(rt.alloc(), 2, 5)?;
     cells.soundness();
-    assert!(rt; link(&rt, &mut cells, 0, 7, 70, Rights::READ));
-    assert!(rt; link(&rt, &mut cells, 1, 8, 70, Rights::TAKE));
-    assert!(rt; link(&rt, &mut cells, 0, 9, 90, Rights::GRANT));
+    assert!(rt; link(&rt, &mut cells, 0, 7, 70, Rights::read()));
+    assert!(rt; link(&rt, &mut cells, 1, 8, 70, Rights::take()));
+    assert!(rt; link(&rt, &mut cells, 0, 9, 90, Rights::grant()));
     assert_eq!(rt; cells.free(), 2);
     let first = list(rt.alloc(), &cells, 0)?;
-    assert!(rt; first.as_slice() == [(9, 90, Rights::GRANT), (7, 70, Rights::READ)].as_slice());
+    assert!(rt; first.as_slice() == [(9, 90, Rights::grant()), (7, 70, Rights::read())].as_slice());
     let second = list(rt.alloc(), &cells, 1)?;
-    assert!(rt; second.as_slice() == [(8, 70, Rights::TAKE)].as_slice());
+    assert!(rt; second.as_slice() == [(8, 70, Rights::take())].as_slice());
     Ok(())
 }
 
 #[test]
 fn a_cell_leaves_its_list_alone(rt: HostRuntime) -> Result<(), AllocError> {
     let mut cells = Cells::new(rt.alloc(), 2, 4)?;
-    assert!(rt; link(&rt, &mut cells, 0, 1, 10, Rights::READ));
-    assert!(rt; link(&rt, &mut cells, 1, 2, 20, Rights::READ));
-    assert!(rt; link(&rt, &mut cells, 0, 3, 30, Rights::READ));
-    assert!(rt; link(&rt, &mut cells, 0, 4, 40, Rights::READ));
+    assert!(rt; link(&rt, &mut cells, 0, 1, 10, Rights::read()));
+    assert!(rt; link(&rt, &mut cells, 1, 2, 20, Rights::read()));
+    assert!(rt; link(&rt, &mut cells, 0, 3, 30, Rights::read()));
+    assert!(rt; link(&rt, &mut cells, 0, 4, 40, Rights::read()));
     unlink(&rt, &mut cells, 0, 30);
     assert_eq!(rt; cells.free(), 1);
     let rest = list(rt.alloc(), &cells, 0)?;
-    assert!(rt; rest.as_slice() == [(4, 40, Rights::READ), (1, 10, Rights::READ)].as_slice());
+    assert!(rt; rest.as_slice() == [(4, 40, Rights::read()), (1, 10, Rights::read())].as_slice());
     let other = list(rt.alloc(), &cells, 1)?;
-    assert!(rt; other.as_slice() == [(2, 20, Rights::READ)].as_slice());
+    assert!(rt; other.as_slice() == [(2, 20, Rights::read())].as_slice());
     Ok(())
 }
 
 #[test]
 fn a_label_is_replaced(rt: HostRuntime) -> Result<(), AllocError> {
     let mut cells = Cells::new(rt.alloc(), 1, 2)?;
-    assert!(rt; link(&rt, &mut cells, 0, 1, 10, Rights::READ));
-    assert!(rt; link(&rt, &mut cells, 0, 2, 20, Rights::READ));
-    relabel(&rt, &mut cells, 0, 10, Rights::WRITE);
+    assert!(rt; link(&rt, &mut cells, 0, 1, 10, Rights::read()));
+    assert!(rt; link(&rt, &mut cells, 0, 2, 20, Rights::read()));
+    relabel(&rt, &mut cells, 0, 10, Rights::write());
     let all = list(rt.alloc(), &cells, 0)?;
-    assert!(rt; all.as_slice() == [(2, 20, Rights::READ), (1, 10, Rights::WRITE)].as_slice());
+    assert!(rt; all.as_slice() == [(2, 20, Rights::read()), (1, 10, Rights::write())].as_slice());
     assert_eq!(rt; cells.find(0, 30), None);
     Ok(())
 }
@@ -114,12 +114,12 @@ fn a_label_is_replaced(rt: HostRuntime) -> Result<(), AllocError> {
 #[test]
 fn one_cell_is_used_again(rt: HostRuntime) -> Result<(), AllocError> {
     let mut cells = Cells::new(rt.alloc(), 1, 1)?;
-    assert!(rt; link(&rt, &mut cells, 0, 1, 10, Rights::READ));
-    assert!(rt; !link(&rt, &mut cells, 0, 2, 20, Rights::READ));
+    assert!(rt; link(&rt, &mut cells, 0, 1, 10, Rights::read()));
+    assert!(rt; !link(&rt, &mut cells, 0, 2, 20, Rights::read()));
     assert_eq!(rt; cells.free(), 0);
     unlink(&rt, &mut cells, 0, 10);
     assert_eq!(rt; (cells.free(), cells.first(0)), (1, None));
-    assert!(rt; link(&rt, &mut cells, 0, 2, 20, Rights::READ));
+    assert!(rt; link(&rt, &mut cells, 0, 2, 20, Rights::read()));
     Ok(())
 }
 
@@ -128,10 +128,10 @@ fn four(rt: &impl Abort, alloc: Global) -> Result<Cells, AllocError>
     ensures { IfOk result (λ c. 0 < length c.lists) }
 {
     let mut cells = Cells::new(alloc, 1, 4)?;
-    assert!(rt; link(rt, &mut cells, 0, 1, 10, Rights::READ));
-    assert!(rt; link(rt, &mut cells, 0, 2, 20, Rights::READ));
-    assert!(rt; link(rt, &mut cells, 0, 3, 30, Rights::READ));
-    assert!(rt; link(rt, &mut cells, 0, 4, 40, Rights::READ));
+    assert!(rt; link(rt, &mut cells, 0, 1, 10, Rights::read()));
+    assert!(rt; link(rt, &mut cells, 0, 2, 20, Rights::read()));
+    assert!(rt; link(rt, &mut cells, 0, 3, 30, Rights::read()));
+    assert!(rt; link(rt, &mut cells, 0, 4, 40, Rights::read()));
     Ok(cells)
 }
 
@@ -175,7 +175,7 @@ fn the_last_cell_leaves(rt: HostRuntime) -> Result<(), AllocError> {
     assert!(rt; serials(rt.alloc(), &cells, 0)?.as_slice() == [40, 30, 20].as_slice());
     unlink(&rt, &mut cells, 0, 20);
     assert!(rt; serials(rt.alloc(), &cells, 0)?.as_slice() == [40, 30].as_slice());
-    assert!(rt; link(&rt, &mut cells, 0, 5, 50, Rights::READ));
+    assert!(rt; link(&rt, &mut cells, 0, 5, 50, Rights::read()));
     assert!(rt; serials(rt.alloc(), &cells, 0)?.as_slice() == [50, 40, 30].as_slice());
     Ok(())
 }
@@ -183,12 +183,12 @@ fn the_last_cell_leaves(rt: HostRuntime) -> Result<(), AllocError> {
 #[test]
 fn the_only_cell_leaves(rt: HostRuntime) -> Result<(), AllocError> {
     let mut cells = Cells::new(rt.alloc(), 2, 3)?;
-    assert!(rt; link(&rt, &mut cells, 0, 1, 10, Rights::READ));
-    assert!(rt; link(&rt, &mut cells, 1, 2, 20, Rights::READ));
+    assert!(rt; link(&rt, &mut cells, 0, 1, 10, Rights::read()));
+    assert!(rt; link(&rt, &mut cells, 1, 2, 20, Rights::read()));
     unlink(&rt, &mut cells, 0, 10);
     assert_eq!(rt; (cells.first(0), cells.free()), (None, 2));
     assert!(rt; serials(rt.alloc(), &cells, 1)?.as_slice() == [20].as_slice());
-    assert!(rt; link(&rt, &mut cells, 0, 3, 30, Rights::READ));
+    assert!(rt; link(&rt, &mut cells, 0, 3, 30, Rights::read()));
     assert!(rt; serials(rt.alloc(), &cells, 0)?.as_slice() == [30].as_slice());
     Ok(())
 }
@@ -197,14 +197,14 @@ fn the_only_cell_leaves(rt: HostRuntime) -> Result<(), AllocError> {
 #[test]
 fn the_cell_freed_last_is_taken_first(rt: HostRuntime) -> Result<(), AllocError> {
     let mut cells = Cells::new(rt.alloc(), 2, 3)?;
-    assert!(rt; link(&rt, &mut cells, 0, 1, 10, Rights::READ));
-    assert!(rt; link(&rt, &mut cells, 0, 2, 20, Rights::READ));
+    assert!(rt; link(&rt, &mut cells, 0, 1, 10, Rights::read()));
+    assert!(rt; link(&rt, &mut cells, 0, 2, 20, Rights::read()));
     assert_eq!(rt; (cells.find(0, 10), cells.find(0, 20)), (Some(0), Some(1)));
     unlink(&rt, &mut cells, 0, 10);
     unlink(&rt, &mut cells, 0, 20);
-    assert!(rt; link(&rt, &mut cells, 1, 3, 30, Rights::READ));
-    assert!(rt; link(&rt, &mut cells, 0, 4, 40, Rights::READ));
-    assert!(rt; link(&rt, &mut cells, 1, 5, 50, Rights::READ));
+    assert!(rt; link(&rt, &mut cells, 1, 3, 30, Rights::read()));
+    assert!(rt; link(&rt, &mut cells, 0, 4, 40, Rights::read()));
+    assert!(rt; link(&rt, &mut cells, 1, 5, 50, Rights::read()));
     assert_eq!(rt; (cells.find(1, 30), cells.find(0, 40)), (Some(1), Some(0)));
     assert_eq!(rt; (cells.find(1, 50), cells.free()), (Some(2), 0));
     Ok(())
@@ -221,11 +221,11 @@ fn as_many_owners_and_cells_as_there_may_be(rt: HostRuntime) -> Result<(), Alloc
             65_535,
             1,
             18_446_744_073_709_551_614,
-            Rights::READ
+            Rights::read()
         )
     );
     assert_eq!(rt; cells.free(), 1_048_575);
     let last = list(rt.alloc(), &cells, 65_535)?;
-    assert!(rt; last.as_slice() == [(1, 18_446_744_073_709_551_614, Rights::READ)].as_slice());
+    assert!(rt; last.as_slice() == [(1, 18_446_744_073_709_551_614, Rights::read())].as_slice());
     Ok(())
 }

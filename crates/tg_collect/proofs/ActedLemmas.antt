@@ -14,7 +14,7 @@ use Rattle.tg_slots.specs.declared.colour.Colour.{Colour}
 use Rattle.tg_slots.specs.declared.colour.Colour.TheVariants.{White, Grey, Black}
 use Rattle.tg_graph.specs.declared.vertex.Vertex.{Vertex}
 use Rattle.tg_graph.specs.Triples.{edge}
-use Rattle.tg_graph.proofs.Sets.{triple_cmp_total}
+use Rattle.tg_graph.proofs.TriplesLemmas.{triple_cmp_total}
 use Rattle.tg_collect.specs.Stored.{Stored}
 use Rattle.tg_collect.specs.Views.{InSet, IsHeldIn, IsEdgeIn, IsRootIn}
 use Rattle.tg_collect.specs.StoreRuns.{Acted}

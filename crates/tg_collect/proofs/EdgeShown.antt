@@ -11,7 +11,7 @@ use Rattle.tg_rights.specs.Membership.{Contains, Distinct}
 use Rattle.tg_rights.proofs.MembershipLemmas.{contains_append, contains_left, contains_right}
 use Rattle.tg_graph.specs.declared.vertex.Vertex.{Vertex}
 use Rattle.tg_graph.specs.Triples.{Triple, Triples, edge}
-use Rattle.tg_graph.proofs.Sets.{triple_cmp_total, same_triples}
+use Rattle.tg_graph.proofs.TriplesLemmas.{triple_cmp_total, same_triples}
 use Rattle.tg_slots.specs.Table.{Mark, Has, slot}
 use Rattle.tg_slots.specs.declared.slots.Occupant.{Occupant}
 use Rattle.tg_cells.specs.Lists.{Edge, serials}

@@ -1,8 +1,8 @@
 -- A configuration without a fault opens a graph that a store can open.
 use Rattle.std.proofs.Common.{refl, arith}
 use Rattle.tg_graph.specs.Opening.{principal_count, opening}
-use Rattle.tg_graph.proofs.Fitting as fitting
-use Rattle.tg_graph.proofs.Stays.{principals_are_few}
+use Rattle.tg_graph.proofs.OpeningsFitLemmas as fitting
+use Rattle.tg_graph.proofs.CommandsKeepGraphsLemmas.{principals_are_few}
 use Rattle.tg_collect.specs.Openings.{OpeningsCanBeStored}
 
 pub openings_can_be_stored : OpeningsCanBeStored

@@ -27,8 +27,8 @@ use Rattle.tg_graph.specs.Protection.{Protection, IsGraph, label}
 use Rattle.tg_graph.specs.Opening.{subjects}
 use Rattle.tg_graph.specs.Rules.{labelled, edges_of}
 use Rattle.tg_graph.specs.Fullness.{edge_count}
-use Rattle.tg_graph.proofs.Sets.{triple_cmp_total, same_triples}
-use Rattle.tg_graph.proofs.Changes.{contains-label}
+use Rattle.tg_graph.proofs.TriplesLemmas.{triple_cmp_total, same_triples}
+use Rattle.tg_graph.proofs.LabelLemmas.{contains-label}
 use Rattle.tg_heap.specs.Graph.{HeapGraph, edges, mark_at, IsHeap}
 use Rattle.tg_collect.specs.declared.note.Phase.TheVariants as phase
 use Rattle.tg_collect.specs.declared.machine.Root.{Root}

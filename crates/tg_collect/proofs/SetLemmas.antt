@@ -26,7 +26,7 @@ use Rattle.tg_rights.specs.Letters.{Letters, has}
 use Rattle.tg_rights.proofs.MembershipLemmas.{contains_append, contains_left, contains_right}
 use Rattle.tg_graph.specs.declared.vertex.Vertex.{Vertex}
 use Rattle.tg_graph.specs.Triples.{Triple, triple_cmp, edge, edge_list}
-use Rattle.tg_graph.proofs.Sets.{contains-edge, triple_cmp_total, triple_cmp-IsAntisymmetric}
+use Rattle.tg_graph.proofs.TriplesLemmas.{contains-edge, triple_cmp_total, triple_cmp-IsAntisymmetric}
 use Rattle.tg_collect.specs.Stored.{vertex_of, triples_from, gather, by_place, vertex_entry, triple_entry, parked_entry, coloured_at, is_colour, condemned, vertices_of, triples_of, parked_of, of_colour}
 use Rattle.tg_collect.specs.Views.{InSet}
 use Rattle.tg_collect.proofs.GatherLemmas.{gather_contains, contains_gather}

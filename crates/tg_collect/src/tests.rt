@@ -172,23 +172,23 @@ fn write(
 #[test]
 fn garbage_needs_two_cycles(rt: HostRuntime) -> Result<(), Fail> {
     let mut store = open(&rt, rt.alloc(), 3, 4, &[])?;
-    assert!(rt; create(&rt, rt.alloc(), &mut store, 0, 1, 3, Rights::READ).is_ok());
+    assert!(rt; create(&rt, rt.alloc(), &mut store, 0, 1, 3, Rights::read()).is_ok());
     assert_eq!(rt; shade(&rt, &mut store, 0), Some(3));
-    remove(&rt, &mut store, 1, 3, Rights::READ);
-    let full = create(&rt, rt.alloc(), &mut store, 0, 1, 4, Rights::READ);
+    remove(&rt, &mut store, 1, 3, Rights::read());
+    let full = create(&rt, rt.alloc(), &mut store, 0, 1, 4, Rights::read());
     assert_eq!(rt; full, Err(HeapFull::Slots));
     steps(&rt, &mut store, "mmmmmmmsssse");
     steps(&rt, &mut store, "mmmmmsssfe");
-    assert!(rt; create(&rt, rt.alloc(), &mut store, 0, 1, 4, Rights::READ).is_ok());
+    assert!(rt; create(&rt, rt.alloc(), &mut store, 0, 1, 4, Rights::read()).is_ok());
     Ok(())
 }
 
 #[test]
 fn busy_until_shaded(rt: HostRuntime) -> Result<(), Fail> {
     let mut store = open(&rt, rt.alloc(), 3, 4, &[])?;
-    assert!(rt; create(&rt, rt.alloc(), &mut store, 0, 1, 3, Rights::READ).is_ok());
+    assert!(rt; create(&rt, rt.alloc(), &mut store, 0, 1, 3, Rights::read()).is_ok());
     assert_eq!(rt; store.pending(0), Some(3));
-    remove(&rt, &mut store, 1, 3, Rights::READ);
+    remove(&rt, &mut store, 1, 3, Rights::read());
     steps(&rt, &mut store, "mmmmmmmmsssse");
     assert_eq!(rt; store.pending(0), Some(3));
     assert_eq!(rt; shade(&rt, &mut store, 0), Some(3));
@@ -202,8 +202,8 @@ fn busy_until_shaded(rt: HostRuntime) -> Result<(), Fail> {
 
 #[test]
 fn take_from_a_white_edge_during_marking(rt: HostRuntime) -> Result<(), Fail> {
-    let both = Rights::READ.union(Rights::WRITE);
-    let tg = Rights::TAKE.union(Rights::GRANT);
+    let both = Rights::read().union(Rights::write());
+    let tg = Rights::take().union(Rights::grant());
     let mut store = open(&rt, rt.alloc(), 3, 8, &[(1, tg, 2)])?;
     assert!(rt; create(&rt, rt.alloc(), &mut store, 1, 2, 3, both).is_ok());
     assert_eq!(rt; shade(&rt, &mut store, 1), Some(3));
@@ -211,7 +211,7 @@ fn take_from_a_white_edge_during_marking(rt: HostRuntime) -> Result<(), Fail> {
     assert!(rt; old.get() == "");
     steps(&rt, &mut store, "mmmmmmmmmsssse");
     steps(&rt, &mut store, "mmmm");
-    assert!(rt; join(&rt, &mut store, 0, (1, 1), (2, 3), Rights::READ).is_ok());
+    assert!(rt; join(&rt, &mut store, 0, (1, 1), (2, 3), Rights::read()).is_ok());
     remove(&rt, &mut store, 2, 3, both);
     steps(&rt, &mut store, "mmmmmsssse");
     assert_eq!(rt; shade(&rt, &mut store, 0), Some(3));
@@ -224,15 +224,15 @@ fn take_from_a_white_edge_during_marking(rt: HostRuntime) -> Result<(), Fail> {
 #[test]
 fn create_during_the_sweep(rt: HostRuntime) -> Result<(), Fail> {
     let mut store = open(&rt, rt.alloc(), 5, 8, &[])?;
-    assert!(rt; create(&rt, rt.alloc(), &mut store, 0, 1, 3, Rights::READ).is_ok());
+    assert!(rt; create(&rt, rt.alloc(), &mut store, 0, 1, 3, Rights::read()).is_ok());
     assert_eq!(rt; shade(&rt, &mut store, 0), Some(3));
-    remove(&rt, &mut store, 1, 3, Rights::READ);
+    remove(&rt, &mut store, 1, 3, Rights::read());
     steps(&rt, &mut store, "mmmmmmmsssssse");
     steps(&rt, &mut store, "mmmmmsssf");
-    assert!(rt; create(&rt, rt.alloc(), &mut store, 0, 1, 4, Rights::READ).is_ok());
+    assert!(rt; create(&rt, rt.alloc(), &mut store, 0, 1, 4, Rights::read()).is_ok());
     assert_eq!(rt; at(&rt, &store, 1, 4), 2);
     assert_eq!(rt; shade(&rt, &mut store, 0), Some(4));
-    assert!(rt; create(&rt, rt.alloc(), &mut store, 0, 1, 5, Rights::READ).is_ok());
+    assert!(rt; create(&rt, rt.alloc(), &mut store, 0, 1, 5, Rights::read()).is_ok());
     assert_eq!(rt; at(&rt, &store, 1, 5), 3);
     steps(&rt, &mut store, "sse");
     assert_eq!(rt; shade(&rt, &mut store, 0), Some(5));
@@ -243,15 +243,15 @@ fn create_during_the_sweep(rt: HostRuntime) -> Result<(), Fail> {
 
 #[test]
 fn a_ring_of_documents_is_freed(rt: HostRuntime) -> Result<(), Fail> {
-    let rg = Rights::READ.union(Rights::GRANT);
+    let rg = Rights::read().union(Rights::grant());
     let mut store = open(&rt, rt.alloc(), 4, 8, &[])?;
     assert!(rt; create(&rt, rt.alloc(), &mut store, 0, 1, 3, rg).is_ok());
     assert_eq!(rt; shade(&rt, &mut store, 0), Some(3));
     assert!(rt; create(&rt, rt.alloc(), &mut store, 0, 1, 4, rg).is_ok());
     assert_eq!(rt; shade(&rt, &mut store, 0), Some(4));
-    assert!(rt; join(&rt, &mut store, 0, (1, 3), (1, 4), Rights::READ).is_ok());
+    assert!(rt; join(&rt, &mut store, 0, (1, 3), (1, 4), Rights::read()).is_ok());
     assert_eq!(rt; shade(&rt, &mut store, 0), Some(4));
-    assert!(rt; join(&rt, &mut store, 0, (1, 4), (1, 3), Rights::READ).is_ok());
+    assert!(rt; join(&rt, &mut store, 0, (1, 4), (1, 3), Rights::read()).is_ok());
     assert_eq!(rt; shade(&rt, &mut store, 0), Some(3));
     remove(&rt, &mut store, 1, 3, rg);
     remove(&rt, &mut store, 1, 4, rg);
@@ -267,11 +267,11 @@ fn a_ring_of_documents_is_freed(rt: HostRuntime) -> Result<(), Fail> {
 #[test]
 fn the_least_seat_with_a_white_target_is_first(rt: HostRuntime) -> Result<(), Fail> {
     let mut store = open(&rt, rt.alloc(), 4, 8, &[])?;
-    assert!(rt; create(&rt, rt.alloc(), &mut store, 1, 2, 3, Rights::READ).is_ok());
-    assert!(rt; create(&rt, rt.alloc(), &mut store, 0, 1, 4, Rights::READ).is_ok());
-    assert!(rt; join(&rt, &mut store, 2, (1, 4), (2, 3), Rights::READ).is_ok());
-    remove(&rt, &mut store, 2, 3, Rights::READ);
-    remove(&rt, &mut store, 1, 4, Rights::READ);
+    assert!(rt; create(&rt, rt.alloc(), &mut store, 1, 2, 3, Rights::read()).is_ok());
+    assert!(rt; create(&rt, rt.alloc(), &mut store, 0, 1, 4, Rights::read()).is_ok());
+    assert!(rt; join(&rt, &mut store, 2, (1, 4), (2, 3), Rights::read()).is_ok());
+    remove(&rt, &mut store, 2, 3, Rights::read());
+    remove(&rt, &mut store, 1, 4, Rights::read());
     steps(&rt, &mut store, "mmmmmmmmmmmssssse");
     Ok(())
 }
@@ -281,7 +281,7 @@ fn the_least_seat_with_a_white_target_is_first(rt: HostRuntime) -> Result<(), Fa
 fn the_last_principal_is_shaded_first(rt: HostRuntime) -> Result<(), Fail> {
     let mut store = open(&rt, rt.alloc(), 3, 4, &[])?;
     steps(&rt, &mut store, "mmm");
-    assert!(rt; create(&rt, rt.alloc(), &mut store, 0, 1, 3, Rights::READ).is_ok());
+    assert!(rt; create(&rt, rt.alloc(), &mut store, 0, 1, 3, Rights::read()).is_ok());
     assert_eq!(rt; shade(&rt, &mut store, 0), Some(3));
     steps(&rt, &mut store, "mmmmsssse");
     Ok(())
@@ -292,7 +292,7 @@ fn the_last_principal_is_shaded_first(rt: HostRuntime) -> Result<(), Fail> {
 fn a_new_vertex_is_white_during_marking(rt: HostRuntime) -> Result<(), Fail> {
     let mut store = open(&rt, rt.alloc(), 3, 4, &[])?;
     steps(&rt, &mut store, "mmm");
-    assert!(rt; create(&rt, rt.alloc(), &mut store, 0, 1, 3, Rights::READ).is_ok());
+    assert!(rt; create(&rt, rt.alloc(), &mut store, 0, 1, 3, Rights::read()).is_ok());
     steps(&rt, &mut store, "mmmmmsssse");
     Ok(())
 }
@@ -302,15 +302,15 @@ fn a_new_vertex_is_white_during_marking(rt: HostRuntime) -> Result<(), Fail> {
 fn freed_slots_are_taken_first(rt: HostRuntime) -> Result<(), Fail> {
     let mut store = open(&rt, rt.alloc(), 5, 8, &[])?;
     for (serial, slot) in [(3, 2), (4, 3)] {
-        assert!(rt; create(&rt, rt.alloc(), &mut store, 0, 1, serial, Rights::READ).is_ok());
+        assert!(rt; create(&rt, rt.alloc(), &mut store, 0, 1, serial, Rights::read()).is_ok());
         assert_eq!(rt; at(&rt, &store, 1, serial), slot);
         assert_eq!(rt; shade(&rt, &mut store, 0), Some(serial));
-        remove(&rt, &mut store, 1, serial, Rights::READ);
+        remove(&rt, &mut store, 1, serial, Rights::read());
     }
     steps(&rt, &mut store, "mmmmmmmmmsssssse");
     steps(&rt, &mut store, "mmmmmsssffse");
     for (serial, slot) in [(5, 3), (6, 2), (7, 4)] {
-        assert!(rt; create(&rt, rt.alloc(), &mut store, 0, 1, serial, Rights::READ).is_ok());
+        assert!(rt; create(&rt, rt.alloc(), &mut store, 0, 1, serial, Rights::read()).is_ok());
         assert_eq!(rt; at(&rt, &store, 1, serial), slot);
         assert_eq!(rt; shade(&rt, &mut store, 0), Some(serial));
     }
@@ -323,12 +323,12 @@ fn freed_slots_are_taken_first(rt: HostRuntime) -> Result<(), Fail> {
 fn a_cursor_moves_to_the_next_cell(rt: HostRuntime) -> Result<(), Fail> {
     let mut store = open(&rt, rt.alloc(), 4, 8, &[])?;
     for serial in [3, 4] {
-        assert!(rt; create(&rt, rt.alloc(), &mut store, 0, 1, serial, Rights::READ).is_ok());
+        assert!(rt; create(&rt, rt.alloc(), &mut store, 0, 1, serial, Rights::read()).is_ok());
         assert_eq!(rt; shade(&rt, &mut store, 0), Some(serial));
     }
     steps(&rt, &mut store, "mmmmmmmmmmmssssse");
     steps(&rt, &mut store, "mm");
-    remove(&rt, &mut store, 1, 4, Rights::READ);
+    remove(&rt, &mut store, 1, 4, Rights::read());
     steps(&rt, &mut store, "mmmmmmssssfe");
     assert_eq!(rt; store.free_slots(), 1);
     assert_eq!(rt; at(&rt, &store, 1, 3), 2);
@@ -337,22 +337,22 @@ fn a_cursor_moves_to_the_next_cell(rt: HostRuntime) -> Result<(), Fail> {
 
 #[test]
 fn refusals_change_nothing(rt: HostRuntime) -> Result<(), Fail> {
-    let mut store = open(&rt, rt.alloc(), 3, 1, &[(2, Rights::READ, 1)])?;
+    let mut store = open(&rt, rt.alloc(), 3, 1, &[(2, Rights::read(), 1)])?;
     assert_eq!(rt; store.free_cells(), 0);
-    let full = create(&rt, rt.alloc(), &mut store, 0, 1, 3, Rights::READ);
+    let full = create(&rt, rt.alloc(), &mut store, 0, 1, 3, Rights::read());
     assert_eq!(rt; full, Err(HeapFull::Cells));
-    let full = join(&rt, &mut store, 0, (1, 1), (2, 2), Rights::READ);
+    let full = join(&rt, &mut store, 0, (1, 1), (2, 2), Rights::read());
     assert_eq!(rt; full, Err(HeapFull::Cells));
     assert_eq!(rt; store.pending(0), None);
-    assert!(rt; join(&rt, &mut store, 0, (2, 2), (1, 1), Rights::TAKE).is_ok());
+    assert!(rt; join(&rt, &mut store, 0, (2, 2), (1, 1), Rights::take()).is_ok());
     assert_eq!(rt; shade(&rt, &mut store, 0), Some(1));
     let bob = at(&rt, &store, 2, 2);
-    let both = Rights::READ.union(Rights::TAKE);
+    let both = Rights::read().union(Rights::take());
     let edges = store.edges(rt.alloc(), bob)?;
     assert!(rt; edges.as_slice() == [(1, both)].as_slice());
-    remove(&rt, &mut store, 2, 1, Rights::READ);
+    remove(&rt, &mut store, 2, 1, Rights::read());
     assert_eq!(rt; store.free_cells(), 0);
-    remove(&rt, &mut store, 2, 1, Rights::TAKE);
+    remove(&rt, &mut store, 2, 1, Rights::take());
     assert_eq!(rt; store.free_cells(), 1);
     Ok(())
 }

@@ -1,20 +1,22 @@
-pub mod Outcomes
-pub mod Sets
-pub mod Shown
-pub mod Changes
-pub mod Vertices
-pub mod Listed
-pub mod Ends
-pub mod Agreement
-pub mod Opened
-pub mod Kept
-pub mod SameEdges
-pub mod Replies
-pub mod Stays
-pub mod Alike
-pub mod EdgeLists
-pub mod SearchLemmas
-pub mod OtherWords
-pub mod Counting
-pub mod Fitting
-pub mod Counts
+-- Lemma files that other crates may use, each named after the definition or law that it serves.
+pub mod CommandsKeepGraphsLemmas
+pub mod EdgesAreCountedLemmas
+pub mod ExactlyOneOutcomeLemmas
+pub mod FullnessLemmas
+pub mod LabelLemmas
+pub mod LawsLemmas
+pub mod OpeningsFitLemmas
+pub mod OutcomesAgreeLemmas
+pub mod PartsStayLemmas
+pub mod ProtectionLemmas
+pub mod RepliesAgreeLemmas
+pub mod TriplesLemmas
+pub mod VertexLemmas
+-- Lemma files of this crate's own proofs.
+mod AnswersAgreeLemmas
+mod EdgesAreListedLemmas
+mod EdgesOfLemmas
+mod OpeningLemmas
+mod SameEdgesLemmas
+mod SearchingLemmas
+mod ViewsLemmas

@@ -8,6 +8,7 @@ use Rattle.std.specs.FinSet as set
 use Rattle.tg_rights.specs.Letters.{Letters, has, joined as joined_rights, without, is_none}
 use Rattle.tg_rights.specs.Membership.{Contains}
 use Rattle.tg_rights.specs.declared.kind.Kind.TheVariants as kind
+use Rattle.tg_rights.specs.declared.limits.TheConstants.{MAX_CELLS, MAX_PRINCIPALS, MAX_SLOTS}
 use Rattle.tg_rights.specs.declared.command.Command.{Command}
 use Rattle.tg_rights.specs.declared.outcome.Outcome.{Outcome}
 use Rattle.tg_rights.specs.declared.outcome.Reply.{Reply}
@@ -51,14 +52,14 @@ CommandsKeepGraphs =
 abbrev pub OpeningsAreSound : Type 0
 OpeningsAreSound =
     (c : Config) → first_fault c ≡ None →
-    (principal_count c ≤ 64) × ((k : ℕ) → is_principal (principal_count c) k ≡ true → IsSubject (opening c) k)
+    (principal_count c ≤ MAX_PRINCIPALS) × ((k : ℕ) → is_principal (principal_count c) k ≡ true → IsSubject (opening c) k)
 
 -- and needs no more slots and cells than it names: one for each principal and for each edge of the list
 abbrev pub OpeningsFit : Type 0
 OpeningsFit =
     (c : Config) → first_fault c ≡ None →
     (vertex_count (opening c) ≡ principal_count c) × (edge_count (opening c) ≤ length c.edges.items) × (principal_count c ≤ c.slots) × (length c.edges.items ≤ c.cells)
-    × (1 ≤ c.slots) × (c.slots ≤ 65536) × (1 ≤ c.cells) × (c.cells ≤ 1048576)
+    × (1 ≤ c.slots) × (c.slots ≤ MAX_SLOTS) × (1 ≤ c.cells) × (c.cells ≤ MAX_CELLS)
 
 -- a part of a graph agrees with it for each of its subjects
 abbrev pub PartsAgree : Type 0
@@ -102,8 +103,8 @@ pub record CountsEdges (G : Protection) (x : ℕ) (α : Letters) : Type 0 where
 abbrev pub EdgesAreCounted : Type 0
 EdgesAreCounted = (G : Protection) (x : ℕ) (α : Letters) → IsGraph G → IsVertex G x → CountsEdges G x α
 
--- some element of the list stands before one that the test finds the same
-pub record StandsTwice {X : Type 0} (same : X → X → Bool) (xs : List X) : Type 0 where
+-- some element of the list occurs before one that the test finds the same
+pub record OccursTwice {X : Type 0} (same : X → X → Bool) (xs : List X) : Type 0 where
   pub before : List X
   pub first : X
   pub between : List X
@@ -112,8 +113,8 @@ pub record StandsTwice {X : Type 0} (same : X → X → Bool) (xs : List X) : Ty
   pub is : xs ≡ before ++ first ∷ (between ++ again ∷ after)
   pub alike : IsTrue (same first again)
 
--- a pair of vertices, or a name, is found twice exactly where it stands at two places of the list
+-- a pair of vertices, or a name, is found twice exactly where it occurs at two places of the list
 abbrev pub TwiceIsTwoPlaces : Type 0
 TwiceIsTwoPlaces =
-    ((es : List Edge) → (has_twice same_pair es ≡ true) ↔ StandsTwice same_pair es)
-    × ((names : List (List ℕ)) → (has_twice (pointwise (λ a b. a == b)) names ≡ true) ↔ StandsTwice (pointwise (λ a b. a == b)) names)
+    ((es : List Edge) → (has_twice same_pair es ≡ true) ↔ OccursTwice same_pair es)
+    × ((names : List (List ℕ)) → (has_twice (pointwise (λ a b. a == b)) names ≡ true) ↔ OccursTwice (pointwise (λ a b. a == b)) names)

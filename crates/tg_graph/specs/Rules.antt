@@ -185,6 +185,17 @@ is_create (command.Read over) = false
 is_create (command.Write over text) = false
 is_create (command.Look at) = false
 
+-- what carrying it out may take memory for: a label, a vertex, or what is told. A write moves its text, and a remove
+-- only drops
+abbrev pub takes_memory : Command → Bool
+takes_memory (command.Take α over from) = true
+takes_memory (command.Grant α over to) = true
+takes_memory (command.Create k α) = true
+takes_memory (command.Remove α over) = false
+takes_memory (command.Read over) = true
+takes_memory (command.Write over text) = false
+takes_memory (command.Look at) = true
+
 -- how the plain graph alone decides, which is full for serials and nothing else: a create also needs a serial
 abbrev pub PlainlyDecided : Protection → ℕ → Command → Outcome → Type 0
 PlainlyDecided G x c outcome.Allowed = Allowed G x c × (is_create c ≡ true → G.next ≤ last_serial)

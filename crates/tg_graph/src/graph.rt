@@ -6,7 +6,7 @@ ghost use Rattle.std.specs.FinSet as set;
 ghost use Rattle.tg_graph.specs.Agreement.{IsRepliedAlike, KeepsViewers};
 ghost use Rattle.tg_graph.specs.Paths.{Agree, Reaches};
 ghost use Rattle.tg_graph.specs.Protection.{Protection, IsGraph, IsSubject, IsVertex, kind_of, label, vertex};
-ghost use Rattle.tg_graph.specs.Rules.{Judged, Applies, text_of, with_text, Allowed, after, allowed_reply, edges_of, need, needs, unmet_cause, first_unmet, last_serial, is_create};
+ghost use Rattle.tg_graph.specs.Rules.{Judged, Applies, text_of, with_text, Allowed, takes_memory, after, allowed_reply, edges_of, need, needs, unmet_cause, first_unmet, last_serial, is_create};
 ghost use Rattle.tg_graph.specs.Searching.{IsSearching, work_left};
 ghost use Rattle.tg_graph.specs.Opening.{first_fault, opening, subjects, IsRefusal};
 ghost use Rattle.tg_graph.specs.Triples.{edge};
@@ -105,8 +105,8 @@ impl Graph {
         })
     }
 
-    /// Does nothing. By its clause a caller learns what every graph has: the ends of each triple are distinct
-    /// vertices, and the next serial is above every vertex's.
+    /// No-op; its postcondition exposes the invariant: the ends of each triple are distinct vertices, and the next
+    /// serial is above every vertex's.
     pub fn soundness(&self)
         ensures { IsGraph self.now }
     {
@@ -172,20 +172,24 @@ impl Graph {
         ensures { result ≡ option_map (unmet_cause self.now) (first_unmet self.now (needs actor command.now)) }
     {
         match command {
-            Command::Take { rights, over, from } => match self.missing(actor, *from, Rights::TAKE) {
+            Command::Take { rights, over, from } => match self.missing(
+                actor,
+                *from,
+                Rights::take(),
+            ) {
                 None => self.missing(*from, *over, *rights),
                 cause => cause,
             },
-            Command::Grant { rights, over, to } => match self.missing(actor, *to, Rights::GRANT) {
+            Command::Grant { rights, over, to } => match self.missing(actor, *to, Rights::grant()) {
                 None => self.missing(actor, *over, *rights),
                 cause => cause,
             },
             Command::Create { .. } => None,
             Command::Remove { rights, over } => self.missing(actor, *over, *rights),
-            Command::Read { over } => self.missing(actor, *over, Rights::READ),
-            Command::Write { over, .. } => self.missing(actor, *over, Rights::WRITE),
+            Command::Read { over } => self.missing(actor, *over, Rights::read()),
+            Command::Write { over, .. } => self.missing(actor, *over, Rights::write()),
             Command::Look { at } if *at == actor => None,
-            Command::Look { at } => self.missing(actor, *at, Rights::TAKE),
+            Command::Look { at } => self.missing(actor, *at, Rights::take()),
         }
     }
 
@@ -207,8 +211,9 @@ impl Graph {
 
     /// Carries out the actor's command where the rules allow it and, for a create, a serial is left; otherwise the
     /// graph stays, and the reply says why: `Denied` by the rule, with the first cause, or `Full` for serials, which is
-    /// the only thing that a plain graph has too few of. `AllocError` where there is no memory for what is told or
-    /// stored; then too the graph stays. The command is used up in each case.
+    /// the only thing that a plain graph has too few of. `AllocError` only for an allowed command that takes memory for
+    /// what is told or stored, so never for a denial, a remove or a write; then too the graph stays. The command is used
+    /// up in each case.
     ///
     /// In graphs that agree for the actor the reply is the same, a new vertex's serial and fullness aside, and graphs
     /// with the same next serial that agree for some subjects, the actor among them, agree for them afterwards.
@@ -216,6 +221,8 @@ impl Graph {
         requires { IsSubject self.old actor }
         ensures ok { IfOk result (λ reply. Applies self.old actor command reply self.new) }
         ensures err { OnErr result (self.new ≡ self.old) }
+        ensures needed { OnErr result (Allowed self.old actor command) }
+        ensures memory { OnErr result (takes_memory command ≡ true) }
         ensures graph { IsGraph self.new }
         ensures alike { IfOk result (λ reply. IsRepliedAlike self.old actor command reply) }
         ensures viewers { IfOk result (λ reply. KeepsViewers self.old actor command reply self.new) }
@@ -231,6 +238,8 @@ impl Graph {
         requires { IsSubject self.old actor }
         ensures ok { IfOk result (λ reply. Applies self.old actor command reply self.new) }
         ensures err { OnErr result (self.new ≡ self.old) }
+        ensures needed { OnErr result (Allowed self.old actor command) }
+        ensures memory { OnErr result (takes_memory command ≡ true) }
     {
         match self.decide(actor, &command) {
             Outcome::Allowed if is_create(&command) && self.next > LAST_SERIAL => {
@@ -250,6 +259,7 @@ impl Graph {
         ensures reply { IfOk result (λ reply. reply ≡ allowed_reply self.old command) }
         ensures ok { OnOk result (self.new ≡ after self.old actor command) }
         ensures err { OnErr result (self.new ≡ self.old) }
+        ensures memory { OnErr result (takes_memory command ≡ true) }
     {
         let _ = &self.vertices;
         match command {
@@ -344,7 +354,7 @@ impl Graph {
         ensures { IfOk result (λ t. t ≡ text_of self.now of) }
     {
         match self.vertices.get(&of) {
-            Some(found) => found.text.copy(),
+            Some(found) => found.text.copy(self.alloc),
             None => Ok(Text::empty(self.alloc)),
         }
     }

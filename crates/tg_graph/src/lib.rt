@@ -81,7 +81,7 @@ pub fn edges_are_counted()
     ensures { EdgesAreCounted }
 {}
 
-/// What a configuration has twice stands at two places of its list.
+/// What a configuration has twice occurs at two places of its list.
 pub fn twice_is_two_places()
     ensures { TwiceIsTwoPlaces }
 {}

@@ -120,12 +120,12 @@ fn labels_are_joined(rt: HostRuntime) -> Result<(), AllocError> {
     for (serial, id) in [(10, 0), (20, 1), (30, 2)] {
         assert_eq!(rt; put(&rt, rt.alloc(), &mut heap, serial), id);
     }
-    assert!(rt; add(&rt, &mut heap, 0, 1, Rights::READ).is_ok());
-    assert!(rt; add(&rt, &mut heap, 0, 2, Rights::GRANT).is_ok());
-    assert!(rt; add(&rt, &mut heap, 0, 1, Rights::WRITE).is_ok());
-    let both = Rights::READ.union(Rights::WRITE);
+    assert!(rt; add(&rt, &mut heap, 0, 1, Rights::read()).is_ok());
+    assert!(rt; add(&rt, &mut heap, 0, 2, Rights::grant()).is_ok());
+    assert!(rt; add(&rt, &mut heap, 0, 1, Rights::write()).is_ok());
+    let both = Rights::read().union(Rights::write());
     let edges = list(&rt, rt.alloc(), &heap, 0)?;
-    assert!(rt; edges.as_slice() == [(2, 30, Rights::GRANT), (1, 20, both)].as_slice());
+    assert!(rt; edges.as_slice() == [(2, 30, Rights::grant()), (1, 20, both)].as_slice());
     assert_eq!(rt; heap.free_cells(), 2);
     let none = list(&rt, rt.alloc(), &heap, 1)?;
     assert!(rt; none.is_empty());
@@ -138,16 +138,16 @@ fn an_edge_that_keeps_no_right_is_gone(rt: HostRuntime) -> Result<(), AllocError
     for (serial, id) in [(10, 0), (20, 1)] {
         assert_eq!(rt; put(&rt, rt.alloc(), &mut heap, serial), id);
     }
-    let both = Rights::READ.union(Rights::WRITE);
-    assert!(rt; add(&rt, &mut heap, 0, 0, Rights::TAKE).is_ok());
+    let both = Rights::read().union(Rights::write());
+    assert!(rt; add(&rt, &mut heap, 0, 0, Rights::take()).is_ok());
     assert!(rt; add(&rt, &mut heap, 0, 1, both).is_ok());
     assert_eq!(rt;
-        drop_from(&rt, &mut heap, 0, 20, Rights::READ),
+        drop_from(&rt, &mut heap, 0, 20, Rights::read()),
         Dropped::Kept
     );
     let edges = list(&rt, rt.alloc(), &heap, 0)?;
-    assert!(rt; edges.as_slice() == [(1, 20, Rights::WRITE), (0, 10, Rights::TAKE)].as_slice());
-    match drop_from(&rt, &mut heap, 0, 20, Rights::WRITE) {
+    assert!(rt; edges.as_slice() == [(1, 20, Rights::write()), (0, 10, Rights::take())].as_slice());
+    match drop_from(&rt, &mut heap, 0, 20, Rights::write()) {
         Dropped::Kept => panic!(rt; "an edge without rights"),
         Dropped::Gone { next, .. } => {
             assert!(rt; 0 < heap.len());
@@ -158,7 +158,7 @@ fn an_edge_that_keeps_no_right_is_gone(rt: HostRuntime) -> Result<(), AllocError
     assert_eq!(rt; heap.free_cells(), 2);
     assert!(rt; 0 < heap.len());
     assert!(rt; heap.edge(0, 20).is_none());
-    assert!(rt; heap.edge(0, 10) == Some((0, Rights::TAKE)));
+    assert!(rt; heap.edge(0, 10) == Some((0, Rights::take())));
     Ok(())
 }
 
@@ -218,14 +218,14 @@ fn a_heap_is_filled_and_emptied(rt: HostRuntime) -> Result<(), AllocError> {
         Err((full, text)) => assert_eq!(rt; (full, text.get()), (HeapFull::Slots, "")),
     }
     for (id, target) in [(0, 1), (0, 2), (1, 0), (2, 0)] {
-        assert_eq!(rt; add(&rt, &mut heap, id, target, Rights::READ), Ok(()));
+        assert_eq!(rt; add(&rt, &mut heap, id, target, Rights::read()), Ok(()));
     }
     assert_eq!(rt; (heap.free_slots(), heap.free_cells()), (0, 0));
     assert_eq!(rt;
-        add(&rt, &mut heap, 2, 1, Rights::READ),
+        add(&rt, &mut heap, 2, 1, Rights::read()),
         Err(HeapFull::Cells)
     );
-    assert_eq!(rt; add(&rt, &mut heap, 0, 1, Rights::WRITE), Ok(()));
+    assert_eq!(rt; add(&rt, &mut heap, 0, 1, Rights::write()), Ok(()));
     for (id, cells) in [(1, 1), (0, 3), (2, 4)] {
         clear(&rt, &mut heap, id);
         assert_eq!(rt; heap.free_cells(), cells);
@@ -243,7 +243,7 @@ fn as_many_slots_and_cells_as_there_may_be(rt: HostRuntime) -> Result<(), AllocE
     for id in 0..65_536 {
         assert_eq!(rt; put(&rt, rt.alloc(), &mut heap, 10), id);
     }
-    assert_eq!(rt; add(&rt, &mut heap, 65_535, 0, Rights::GRANT), Ok(()));
+    assert_eq!(rt; add(&rt, &mut heap, 65_535, 0, Rights::grant()), Ok(()));
     assert_eq!(rt; (heap.free_slots(), heap.free_cells()), (0, 1_048_575));
     for id in 0..65_536 {
         clear(&rt, &mut heap, id);

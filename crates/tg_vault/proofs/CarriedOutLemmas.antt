@@ -18,7 +18,7 @@ use Rattle.tg_graph.specs.Triples.{edge}
 use Rattle.tg_graph.specs.Protection.{Protection, IsEdge, label, vertex}
 use Rattle.tg_graph.specs.Fullness.{edges_at}
 use Rattle.tg_graph.specs.Rules.{Allowed, DeniedFor, after, text_of, edges_of, with_text}
-use Rattle.tg_graph.proofs.Ends.{includes_some}
+use Rattle.tg_graph.proofs.ProtectionLemmas.{includes_some}
 use Rattle.tg_vault.specs.declared.plan.Plan.TheVariants as plan
 use Rattle.tg_collect.specs.Stored.{Stored, held}
 use Rattle.tg_collect.specs.Views.{IsEdgeIn, serial_at}

@@ -10,10 +10,10 @@ use Rattle.tg_graph.specs.declared.vertex.Vertex.{Vertex}
 use Rattle.tg_graph.specs.Protection.{Protection, IsGraph, IsVertex, vertex, label}
 use Rattle.tg_graph.specs.Fullness.{vertex_count, edge_count}
 use Rattle.tg_graph.specs.Rules.{Allowed, after, next_graph}
-use Rattle.tg_graph.proofs.Counting.{edge_count-union, edge_count-difference, edge_count-new}
-use Rattle.tg_graph.proofs.Counts.{vertex_count-again, edge_count-again, vertex_count-new}
-use Rattle.tg_graph.proofs.Ends.{edge_to, includes_some, take_to, grant_from, grant_to}
-use Rattle.tg_graph.proofs.Vertices.{IsVertex-from_kind, IsVertex-insert, with_text-document, with_text-next}
+use Rattle.tg_graph.proofs.EdgesAreCountedLemmas.{edge_count-union, edge_count-difference, edge_count-new}
+use Rattle.tg_graph.proofs.FullnessLemmas.{vertex_count-again, edge_count-again, vertex_count-new}
+use Rattle.tg_graph.proofs.ProtectionLemmas.{edge_to, includes_some, take_to, grant_from, grant_to}
+use Rattle.tg_graph.proofs.VertexLemmas.{IsVertex-from_kind, IsVertex-insert, with_text-document, with_text-next}
 use Rattle.tg_vault.specs.World.{slots_taken, target_of}
 use Rattle.tg_vault.specs.CarriedOut.{CellsMoved}
 

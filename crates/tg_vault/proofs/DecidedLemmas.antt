@@ -13,11 +13,11 @@ use Rattle.tg_graph.specs.Protection.{Protection, IsGraph, IsVertex, IsSubject, 
 use Rattle.tg_graph.specs.Paths.{Agree}
 use Rattle.tg_graph.specs.Fullness.{Limits, MakesEdge, Permitted, vertex_count, edge_count}
 use Rattle.tg_graph.specs.Rules.{Allowed, Judged, allowed_reply, reply_of, is_create, last_serial}
-use Rattle.tg_graph.proofs.Agreement.{Judged-agrees}
-use Rattle.tg_graph.proofs.Ends.{includes_some, edge_to}
-use Rattle.tg_graph.proofs.Kept.{part_agrees}
-use Rattle.tg_graph.proofs.Outcomes.{verdict-Judged}
-use Rattle.tg_graph.proofs.Replies.{same_reply}
+use Rattle.tg_graph.proofs.OutcomesAgreeLemmas.{Judged-agrees}
+use Rattle.tg_graph.proofs.ProtectionLemmas.{includes_some, edge_to}
+use Rattle.tg_graph.proofs.PartsStayLemmas.{part_agrees}
+use Rattle.tg_graph.proofs.ExactlyOneOutcomeLemmas.{verdict-Judged}
+use Rattle.tg_graph.proofs.RepliesAgreeLemmas.{same_reply}
 use Rattle.tg_collect.specs.Views.{IsStore, IsHeldIn, IsRootIn}
 use Rattle.tg_vault.specs.History.{IsPrincipal}
 use Rattle.tg_vault.specs.World.{ExactSlots, World}

@@ -5,8 +5,8 @@ use Rattle.std.proofs.lemmas.Bool.{eq-eqb}
 use Rattle.tg_rights.specs.Letters.{Letters, Right, read, write, take, grant, has, is_none, joined, without}
 use Rattle.tg_graph.specs.Triples.{edge}
 use Rattle.tg_graph.specs.Protection.{Protection, IsEdge, label}
-use Rattle.tg_graph.proofs.Changes.{contains-label, difference-Relabels}
-use Rattle.tg_graph.proofs.Kept.{label-relabelled}
+use Rattle.tg_graph.proofs.LabelLemmas.{contains-label, difference-Relabels}
+use Rattle.tg_graph.proofs.PartsStayLemmas.{label-relabelled}
 use Rattle.tg_collect.specs.Stored.{Stored, held}
 use Rattle.tg_collect.specs.Views.{IsEdgeIn}
 

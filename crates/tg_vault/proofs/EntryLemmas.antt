@@ -14,11 +14,11 @@ use Rattle.tg_graph.specs.Protection.{Protection, IsGraph, IsVertex, IsEdge, lab
 use Rattle.tg_graph.specs.Paths.{Agree, IsPart, Live}
 use Rattle.tg_graph.specs.Fullness.{Permitted, edges_at, vertex_count, edge_count}
 use Rattle.tg_graph.specs.Rules.{Allowed, Judged, next_graph, reply_of, after}
-use Rattle.tg_graph.proofs.Agreement.{Judged-agrees}
-use Rattle.tg_graph.proofs.Ends.{edge_to, includes_some}
-use Rattle.tg_graph.proofs.Kept.{part_stays}
-use Rattle.tg_graph.proofs.Replies.{same_reply}
-use Rattle.tg_graph.proofs.Vertices.{IsVertex-from_kind}
+use Rattle.tg_graph.proofs.OutcomesAgreeLemmas.{Judged-agrees}
+use Rattle.tg_graph.proofs.ProtectionLemmas.{edge_to, includes_some}
+use Rattle.tg_graph.proofs.PartsStayLemmas.{part_stays}
+use Rattle.tg_graph.proofs.RepliesAgreeLemmas.{same_reply}
+use Rattle.tg_graph.proofs.VertexLemmas.{IsVertex-from_kind}
 use Rattle.tg_vault.specs.declared.entry.Entry.{Entry}
 use Rattle.tg_collect.specs.Stored.{Stored, held}
 use Rattle.tg_collect.specs.Views.{IsStore, IsRootIn, InSet}

@@ -16,13 +16,13 @@ use Rattle.tg_graph.specs.Opening.{first_fault, opening, subjects}
 use Rattle.tg_graph.specs.Protection.{Protection, IsGraph, IsSubject}
 use Rattle.tg_graph.specs.Paths.{IsPart}
 use Rattle.tg_graph.specs.Fullness.{vertex_count, edge_count}
-use Rattle.tg_graph.proofs.Counts.{length-keys}
-use Rattle.tg_graph.proofs.Ends.{edge_to}
-use Rattle.tg_graph.proofs.Fitting.{len-subjects}
+use Rattle.tg_graph.proofs.FullnessLemmas.{length-keys}
+use Rattle.tg_graph.proofs.ProtectionLemmas.{edge_to}
+use Rattle.tg_graph.proofs.OpeningsFitLemmas.{len-subjects}
 use Rattle.tg_collect.proofs.FitLemmas.{openings_can_be_stored}
-use Rattle.tg_graph.proofs.OtherWords.{opened}
-use Rattle.tg_graph.proofs.Stays.{principal_is_subject, principals_are_few}
-use Rattle.tg_graph.proofs.Vertices.{IsVertex-insert, IsVertex-from_kind}
+use Rattle.tg_graph.proofs.LawsLemmas.{opened}
+use Rattle.tg_graph.proofs.CommandsKeepGraphsLemmas.{principal_is_subject, principals_are_few}
+use Rattle.tg_graph.proofs.VertexLemmas.{IsVertex-insert, IsVertex-from_kind}
 use Rattle.tg_collect.specs.Stored.{Stored, held}
 use Rattle.tg_collect.specs.Views.{IsStore}
 use Rattle.tg_collect.specs.Openings.{IsOpening, Opened, first_serials}

@@ -8,7 +8,7 @@ use Rattle.tg_rights.specs.declared.outcome.Outcome.{Outcome}
 use Rattle.tg_rights.specs.declared.outcome.Outcome.TheVariants as outcome
 use Rattle.tg_graph.specs.Protection.{Protection, IsGraph, IsSubject}
 use Rattle.tg_graph.specs.Rules.{next_graph, reply_of}
-use Rattle.tg_graph.proofs.Stays.{graph_stays, subject_stays}
+use Rattle.tg_graph.proofs.CommandsKeepGraphsLemmas.{graph_stays, subject_stays}
 use Rattle.tg_vault.specs.declared.entry.Entry.{Entry}
 use Rattle.tg_graph.specs.Fullness.{Limits, Permitted}
 use Rattle.tg_vault.specs.History.{Legal, EntryStep, EntryRun, graph_of}

@@ -81,23 +81,23 @@ fn remove(store: &mut Store, id: u32, over: u64, rights: Rights) -> Reply
 }
 
 /// A copy of the text is told.
-fn tell(store: &Store, at: u32) -> Result<Reply, AllocError>
+fn tell(store: &Store, alloc: Global, at: u32) -> Result<Reply, AllocError>
     requires { IsSome (place store.now at) }
     ensures { IfOk result (λ answer. (next : ℕ) → answer ≡ reply.Text (text_of (held store.now next) (serial_at store.now at))) }
 {
-    let text = store.text(at).copy()?;
+    let text = store.text(at).copy(alloc)?;
     Ok(Reply::Text(text))
 }
 
 /// A copy of the text stands in place of the old one.
-fn replace(store: &mut Store, at: u32, text: &Text) -> Result<Reply, AllocError>
+fn replace(store: &mut Store, alloc: Global, at: u32, text: &Text) -> Result<Reply, AllocError>
     requires { IsSome (place store.old at) }
     ensures done { IfOk result (λ answer. answer ≡ reply.Done) }
     ensures replaced { OnOk result ((old : List ℕ) × TextReplaced store.old store.new (serial_at store.old at) text.now old) }
     ensures acted { OnOk result (Acted store.old store.new None None) }
     ensures unchanged { OnErr result (store.new ≡ store.old) }
 {
-    let copy = text.copy()?;
+    let copy = text.copy(alloc)?;
     store.set_text(at, copy);
     Ok(Reply::Done)
 }
@@ -145,8 +145,8 @@ pub fn answer(
         } => Ok(join(store, seat, owner, target, rights)),
         Plan::Make { kind, rights } => Ok(make(store, next, alloc, seat, id, kind, rights)),
         Plan::Drop { over, rights } => Ok(remove(store, id, over, rights)),
-        Plan::Tell { at } => tell(store, at),
-        Plan::Replace { at, text } => replace(store, at, text),
+        Plan::Tell { at } => tell(store, alloc, at),
+        Plan::Replace { at, text } => replace(store, alloc, at, text),
         Plan::List { of } => list(store, alloc, of),
     }
 }

@@ -97,12 +97,12 @@ fn needed<'command>(
 {
     match command {
         Command::Take { rights, over, from } => {
-            let via = met(store, id, actor, *from, Rights::TAKE)?;
+            let via = met(store, id, actor, *from, Rights::take())?;
             let target = met(store, via, *from, *over, *rights)?;
             Ok(join(id, target, *rights))
         }
         Command::Grant { rights, over, to } => {
-            let owner = met(store, id, actor, *to, Rights::GRANT)?;
+            let owner = met(store, id, actor, *to, Rights::grant())?;
             let target = met(store, id, actor, *over, *rights)?;
             Ok(join(owner, target, *rights))
         }
@@ -118,16 +118,16 @@ fn needed<'command>(
             })
         }
         Command::Read { over } => {
-            let at = met(store, id, actor, *over, Rights::READ)?;
+            let at = met(store, id, actor, *over, Rights::read())?;
             Ok(Plan::Tell { at })
         }
         Command::Write { over, text } => {
-            let at = met(store, id, actor, *over, Rights::WRITE)?;
+            let at = met(store, id, actor, *over, Rights::write())?;
             Ok(Plan::Replace { at, text })
         }
         Command::Look { at } if *at == actor => Ok(Plan::List { of: id }),
         Command::Look { at } => {
-            let of = met(store, id, actor, *at, Rights::TAKE)?;
+            let of = met(store, id, actor, *at, Rights::take())?;
             Ok(Plan::List { of })
         }
     }

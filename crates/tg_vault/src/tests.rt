@@ -380,10 +380,10 @@ const CASES: &[Case] = &[
 /// The right of a letter.
 fn right_of(letter: u8) -> Rights {
     match letter {
-        b'r' => Rights::READ,
-        b'w' => Rights::WRITE,
-        b't' => Rights::TAKE,
-        b'g' => Rights::GRANT,
+        b'r' => Rights::read(),
+        b'w' => Rights::write(),
+        b't' => Rights::take(),
+        b'g' => Rights::grant(),
         _ => Rights::empty(),
     }
 }
@@ -576,8 +576,7 @@ fn each_case_is_answered_as_worked_out(rt: HostRuntime) -> Result<(), AllocError
 }
 
 /// Lines of one round: alice makes two documents, links one to the other, and drops both; two cycles free them.
-fn round(first: u64) -> [Line; 10] {
-    let second = first + 1;
+fn round(first: u64, second: u64) -> [Line; 10] {
     [
         Line::Ask(0, Ask::Document("rg"), Want::Created(first)),
         Line::Shaded(0, first),
@@ -598,8 +597,8 @@ fn cells_are_free_though_the_history_has_as_many_edges(rt: HostRuntime) -> Resul
     let config = configuration(rt.alloc(), 4, 3, 3, &[])?;
     let mut vault = Vault::new(rt.alloc(), config).ok().expect(&rt, "refused");
     answers(&rt, rt.alloc(), &mut vault, ALICE)?;
-    for first in [3, 5, 7] {
-        for line in round(first) {
+    for (first, second) in [(3, 4), (5, 6), (7, 8)] {
+        for line in round(first, second) {
             answers(&rt, rt.alloc(), &mut vault, line)?;
         }
     }

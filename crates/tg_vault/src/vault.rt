@@ -377,7 +377,7 @@ impl Vault {
         ensures unchanged { OnErr result (self.new ≡ self.old) }
     {
         self.ready_at(seat)?;
-        let Ok(copy) = command.copy() else {
+        let Ok(copy) = command.copy(self.alloc) else {
             return Err(AskFault::OutOfMemory);
         };
         self.command(seat, copy)

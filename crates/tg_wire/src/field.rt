@@ -86,16 +86,16 @@ fn rights_named(text: &str) -> Rights
     let letters = text.as_bytes();
     let mut rights = Rights::empty();
     if stands_in(letters, b'r') {
-        rights = rights.union(Rights::READ);
+        rights = rights.union(Rights::read());
     }
     if stands_in(letters, b'w') {
-        rights = rights.union(Rights::WRITE);
+        rights = rights.union(Rights::write());
     }
     if stands_in(letters, b't') {
-        rights = rights.union(Rights::TAKE);
+        rights = rights.union(Rights::take());
     }
     if stands_in(letters, b'g') {
-        rights = rights.union(Rights::GRANT);
+        rights = rights.union(Rights::grant());
     }
     rights
 }

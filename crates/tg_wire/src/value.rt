@@ -76,10 +76,10 @@ fn rights_text(alloc: Global, rights: Rights) -> Result<String, AllocError>
     ensures { IfOk result (λ s. string_bytes s ≡ text_of_rights rights) }
 {
     let mut text = String::new(alloc);
-    push_if(&mut text, rights.contains(Rights::READ), "r")?;
-    push_if(&mut text, rights.contains(Rights::WRITE), "w")?;
-    push_if(&mut text, rights.contains(Rights::TAKE), "t")?;
-    push_if(&mut text, rights.contains(Rights::GRANT), "g")?;
+    push_if(&mut text, rights.contains(Rights::read()), "r")?;
+    push_if(&mut text, rights.contains(Rights::write()), "w")?;
+    push_if(&mut text, rights.contains(Rights::take()), "t")?;
+    push_if(&mut text, rights.contains(Rights::grant()), "g")?;
     Ok(text)
 }
 

@@ -1,6 +1,6 @@
 use Rattle.std.proofs.Common.{sym, subst, rules}
 use Rattle.tg_graph.specs.Rules.{IsDocumentWhereAsked}
-use Rattle.tg_graph.proofs.Outcomes.{missing-DeniedFor}
+use Rattle.tg_graph.proofs.ExactlyOneOutcomeLemmas.{missing-DeniedFor}
 use Rattle.tg_collect.specs.Stored.{held}
 use Rattle.tg_vault.proofs.PlanLemmas.{placed_served, document_served}
 use Rattle.tg_vault.proofs.plan.decide.Goals as goal

@@ -1,7 +1,7 @@
 use Rattle.std.proofs.Common.{subst}
 use Rattle.tg_graph.specs.Protection.{IsGraph}
 use Rattle.tg_graph.specs.Rules.{Allowed}
-use Rattle.tg_graph.proofs.Ends.{take_to, grant_from, grant_to}
+use Rattle.tg_graph.proofs.ProtectionLemmas.{take_to, grant_from, grant_to}
 use Rattle.tg_graph.proofs.graph.Graph.carry_out.Goals as goal
 
 pub add_rights-requires-clause-to_vertex : goal.add_rights-requires-clause-to_vertex

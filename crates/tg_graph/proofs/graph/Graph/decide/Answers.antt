@@ -1,5 +1,5 @@
 use Rattle.std.proofs.Common.{sym, ◌∙◌, rules}
-use Rattle.tg_graph.proofs.Outcomes.{missing-DeniedFor}
+use Rattle.tg_graph.proofs.ExactlyOneOutcomeLemmas.{missing-DeniedFor}
 use Rattle.tg_graph.proofs.graph.Graph.decide.Goals as goal
 
 pub returns-in-Some : goal.returns-in-Some

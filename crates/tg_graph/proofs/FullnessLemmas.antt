@@ -1,17 +1,17 @@
 -- How many vertices and edges a graph has after each command.
-use Rattle.std.proofs.Common.{◌≡◌, ℕ, suc, ◌+◌, ◌∷◌, [], List, Bool, true, false, T, map as map_list, cond, length, refl, sym, ap, subst, ◌∙◌, ◌==◌, ◌&&◌, ◌||◌, Some, None, arith}
-use Rattle.std.specs.Prelude.{sum_by, Option}
+use Rattle.std.proofs.Common.{◌≡◌, ℕ, suc, ◌+◌, ◌∷◌, [], List, Bool, true, false, T, map as map_list, cond, length, refl, sym, ap, subst, ◌∙◌, ◌==◌, ◌&&◌, ◌||◌, Some, None}
+use Rattle.std.specs.Prelude.{sum_by}
 use Rattle.std.specs.Option.{is_some}
 use Rattle.std.specs.Ordering.{nat_cmp, eq_by_cmp, is_lt}
-use Rattle.std.specs.Cmp.{nat_cmp_total, unsigned_tied}
+use Rattle.std.specs.Cmp.{nat_cmp_total}
 use Rattle.std.specs.FinMap as map
 use Rattle.std.specs.FinMap.Entries.{below_all, same_entries}
-use Rattle.std.proofs.lemmas.Bool.{eqb-true, eq-eqb}
+use Rattle.std.proofs.lemmas.Bool.{eqb-true}
 use Rattle.tg_graph.specs.declared.vertex.Vertex.{Vertex}
 use Rattle.tg_graph.specs.Protection.{Protection, IsGraph, IsVertex, label}
 use Rattle.tg_graph.specs.Fullness.{edge_count, vertex_count}
 use Rattle.tg_graph.specs.Rules.{labelled, edges_of}
-use Rattle.tg_graph.proofs.Vertices.{IsVertex-insert, next_is_free}
+use Rattle.tg_graph.proofs.VertexLemmas.{IsVertex-insert, next_is_free}
 
 abbrev Entries : Type 0
 Entries = List (ℕ × Vertex)

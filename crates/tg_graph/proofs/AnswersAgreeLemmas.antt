@@ -13,11 +13,11 @@ use Rattle.tg_graph.specs.Protection.{Protection, IsGraph, vertex}
 use Rattle.tg_graph.specs.Paths.{Agree}
 use Rattle.tg_graph.specs.Agreement.{SameReply, IsRepliedAlike, KeepsViewers}
 use Rattle.tg_graph.specs.Rules.{Judged, Allowed, PlainlyDecided, Applies, after, next_graph, reply_of, allowed_reply, is_create, last_serial}
-use Rattle.tg_graph.proofs.Agreement.{Judged-agrees}
-use Rattle.tg_graph.proofs.Outcomes.{verdict-Judged}
-use Rattle.tg_graph.proofs.Replies.{same_reply}
-use Rattle.tg_graph.proofs.Vertices.{with_text-next}
-use Rattle.tg_graph.proofs.Kept.{kept}
+use Rattle.tg_graph.proofs.OutcomesAgreeLemmas.{Judged-agrees}
+use Rattle.tg_graph.proofs.ExactlyOneOutcomeLemmas.{verdict-Judged}
+use Rattle.tg_graph.proofs.RepliesAgreeLemmas.{same_reply}
+use Rattle.tg_graph.proofs.VertexLemmas.{with_text-next}
+use Rattle.tg_graph.proofs.PartsStayLemmas.{kept}
 
 module _ (G H : Protection) (x : ℕ) (in_G : IsGraph G) (in_H : IsGraph H) (own : Agree G H x) where
   one : (c : Command) (o p : Outcome) → Judged G x c o → Judged H x c p → o ≡ p

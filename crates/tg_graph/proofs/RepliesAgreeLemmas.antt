@@ -10,9 +10,9 @@ use Rattle.tg_rights.specs.declared.outcome.Reply.TheVariants as reply
 use Rattle.tg_graph.specs.Protection.{Protection, IsGraph, IsVertex, label}
 use Rattle.tg_graph.specs.Rules.{Allowed, AllMet, need, allowed_reply, is_create}
 use Rattle.tg_graph.specs.Paths.{Agree}
-use Rattle.tg_graph.proofs.Vertices.{IsVertex-from_kind}
-use Rattle.tg_graph.proofs.Ends.{includes_some}
-use Rattle.tg_graph.proofs.SameEdges.{same_edges}
+use Rattle.tg_graph.proofs.VertexLemmas.{IsVertex-from_kind}
+use Rattle.tg_graph.proofs.ProtectionLemmas.{includes_some}
+use Rattle.tg_graph.proofs.SameEdgesLemmas.{same_edges}
 
 module _ (G H : Protection) (x : ℕ) (agree : Agree G H x) where
   here : IsVertex G x

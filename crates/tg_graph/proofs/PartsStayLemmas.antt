@@ -17,10 +17,10 @@ use Rattle.tg_graph.specs.Triples.{edge}
 use Rattle.tg_graph.specs.Protection.{Protection, IsGraph, IsVertex, IsSubject, IsDocument, IsEdge, vertex, label}
 use Rattle.tg_graph.specs.Rules.{Allowed, after, with_text}
 use Rattle.tg_graph.specs.Paths.{Agree, IsPart, Leads, Reaches}
-use Rattle.tg_graph.proofs.Changes.{Relabels, union-Relabels, difference-Relabels}
-use Rattle.tg_graph.proofs.Vertices.{IsVertex-from_kind, IsVertex-insert, with_text-document}
-use Rattle.tg_graph.proofs.Ends.{includes_some}
-use Rattle.tg_graph.proofs.Stays.{subject_stays}
+use Rattle.tg_graph.proofs.LabelLemmas.{Relabels, union-Relabels, difference-Relabels}
+use Rattle.tg_graph.proofs.VertexLemmas.{IsVertex-from_kind, IsVertex-insert, with_text-document}
+use Rattle.tg_graph.proofs.ProtectionLemmas.{includes_some}
+use Rattle.tg_graph.proofs.CommandsKeepGraphsLemmas.{subject_stays}
 
 -- the labels of a relabelled set
 pub label-relabelled : (G K : Protection) (x y : ℕ) (l : Letters) → Relabels G x y l K.triples → (v z : ℕ) → label K v z ≡ cond ((x == v) && (y == z)) l (label G v z)

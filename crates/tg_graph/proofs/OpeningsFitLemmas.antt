@@ -1,24 +1,24 @@
 -- A configuration without a fault has room for the graph that it opens.
-use Rattle.std.proofs.Common.{◌≡◌, ℕ, zero, suc, ◌+◌, ◌<◌, ◌≤◌, ◌∷◌, [], List, Bool, true, false, cond, length, refl, sym, ap, subst, ◌∙◌, ◌&&◌, arith}
+use Rattle.std.proofs.Common.{◌≡◌, ℕ, zero, suc, ◌+◌, ◌≤◌, ◌∷◌, [], List, Bool, true, false, cond, length, refl, sym, ap, ◌∙◌, ◌&&◌, arith}
 use Rattle.std.specs.Prelude.{map as map_list}
 use Rattle.std.specs.Ordering.{nat_cmp}
 use Rattle.std.specs.Cmp.{nat_cmp_total}
 use Rattle.std.specs.FinMap as map
 use Rattle.std.specs.FinSet as set
 use Rattle.std.specs.List.{list_all}
-use Rattle.std.proofs.lemmas.Bool.{and_parts, not-false, leb-true, leb-false, ltb-false}
+use Rattle.std.proofs.lemmas.Bool.{and_parts, not-false, leb-true, ltb-false}
 use Rattle.tg_rights.specs.Letters.{Letters, joined, is_none}
 use Rattle.tg_rights.specs.declared.kind.Kind.TheVariants as kind
-use Rattle.tg_graph.specs.declared.config.Config.{Config}
+use Rattle.tg_rights.specs.declared.limits.TheConstants.{MAX_CELLS, MAX_SLOTS}
 use Rattle.tg_graph.specs.declared.config.OpenFault.TheVariants as fault
 use Rattle.tg_graph.specs.declared.vertex.Vertex.{Vertex}
 use Rattle.tg_graph.specs.Triples.{Triples, edge}
 use Rattle.tg_graph.specs.Protection.{Protection, label}
 use Rattle.tg_graph.specs.Fullness.{vertex_count, edge_count, edges_at}
 use Rattle.tg_graph.specs.Laws.{OpeningsFit}
-use Rattle.tg_graph.specs.Opening.{Edge, first_fault, faults, is_principal, principal_count, opening, subjects, with_edges}
-use Rattle.tg_graph.proofs.Opened.{none_at, ends-sound, subjects-within, subjects-has}
-use Rattle.tg_graph.proofs.Counting.{edge_count-union, edge_count-bare}
+use Rattle.tg_graph.specs.Opening.{Edge, faults, is_principal, principal_count, opening, subjects, with_edges}
+use Rattle.tg_graph.proofs.OpeningLemmas.{none_at, ends-sound, subjects-within, subjects-has}
+use Rattle.tg_graph.proofs.EdgesAreCountedLemmas.{edge_count-union, edge_count-bare}
 
 length-map : {X Y : Type 0} (f : X → Y) (xs : List X) → length (map_list f xs) ≡ length xs
 length-map f [] = refl
@@ -73,7 +73,7 @@ openings_fit c sound =
       ltb-false c.slots count (none_at c (faults c) sound 7 fault.Limit (omega arith)),
       ltb-false c.cells (length c.edges.items) (none_at c (faults c) sound 8 fault.Limit (omega arith)),
       leb-true 1 c.slots slots.0,
-      leb-true c.slots 65536 slots.1,
+      leb-true c.slots MAX_SLOTS slots.1,
       leb-true 1 c.cells cells.1,
-      leb-true c.cells 1048576 limit.1,
+      leb-true c.cells MAX_CELLS limit.1,
     )

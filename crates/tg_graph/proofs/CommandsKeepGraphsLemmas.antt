@@ -7,16 +7,17 @@ use Rattle.std.proofs.lemmas.Bool.{eqb-true, eq-eqb, leb-true, and_parts, not-fa
 use Rattle.tg_rights.specs.declared.kind.Kind.TheVariants as kind
 use Rattle.tg_rights.specs.declared.command.Command.{Command}
 use Rattle.tg_rights.specs.declared.command.Command.TheVariants as command
+use Rattle.tg_rights.specs.declared.limits.TheConstants.{MAX_PRINCIPALS}
 use Rattle.tg_graph.specs.declared.config.Config.{Config}
 use Rattle.tg_graph.specs.declared.config.OpenFault.TheVariants as fault
 use Rattle.tg_graph.specs.declared.vertex.Vertex.{Vertex}
 use Rattle.tg_graph.specs.Opening.{first_fault, is_principal, principal_count, opening, subjects, faults}
 use Rattle.tg_graph.specs.Protection.{Protection, IsGraph, IsSubject, vertex, kind_of}
 use Rattle.tg_graph.specs.Rules.{Allowed, after}
-use Rattle.tg_graph.proofs.Changes.{union-IsGraph, difference-IsGraph}
-use Rattle.tg_graph.proofs.Vertices.{IsVertex-from_kind, with_text-document, new-IsGraph, replace-IsGraph}
-use Rattle.tg_graph.proofs.Opened.{none_at}
-use Rattle.tg_graph.proofs.Ends.{take_to, grant_from, grant_to}
+use Rattle.tg_graph.proofs.LabelLemmas.{union-IsGraph, difference-IsGraph}
+use Rattle.tg_graph.proofs.VertexLemmas.{IsVertex-from_kind, with_text-document, new-IsGraph, replace-IsGraph}
+use Rattle.tg_graph.proofs.OpeningLemmas.{none_at}
+use Rattle.tg_graph.proofs.ProtectionLemmas.{take_to, grant_from, grant_to}
 
 apart : (x y : ℕ) → not (x == y) ≡ true → x ≢ y
 apart x y e is = absurd (cc (sym (ap not (eq-eqb x y is)) ∙ e))
@@ -69,5 +70,5 @@ pub principal_is_subject : (c : Config) → first_fault c ≡ None → (k : ℕ)
 unfolding opening
 principal_is_subject c sound k h = subjects_kind (principal_count c) k (leb-true 1 k (and_parts _ _ h).0) (leb-true k (principal_count c) (and_parts _ _ h).1)
 
-pub principals_are_few : (c : Config) → first_fault c ≡ None → principal_count c ≤ 64
-principals_are_few c sound = leb-true (principal_count c) 64 (and_parts _ _ (not-false _ (none_at c (faults c) sound 0 fault.Limit (omega arith)))).1
+pub principals_are_few : (c : Config) → first_fault c ≡ None → principal_count c ≤ MAX_PRINCIPALS
+principals_are_few c sound = leb-true (principal_count c) MAX_PRINCIPALS (and_parts _ _ (not-false _ (none_at c (faults c) sound 0 fault.Limit (omega arith)))).1

@@ -10,9 +10,9 @@ use Rattle.tg_graph.specs.Protection.{Protection, IsGraph, IsVertex, IsEdge, lab
 use Rattle.tg_graph.specs.Paths.{Leads, Reaches}
 use Rattle.tg_graph.specs.Rules.{edges_of}
 use Rattle.tg_graph.specs.Searching.{has_seen, Starts, Adds, IsSearching, unseen, work_left}
-use Rattle.tg_graph.proofs.Ends.{edge_to}
-use Rattle.tg_graph.proofs.EdgeLists.{vertex_listed, edge_listed, listed_edge}
-use Rattle.tg_graph.proofs.Kept.{leads_on}
+use Rattle.tg_graph.proofs.ProtectionLemmas.{edge_to}
+use Rattle.tg_graph.proofs.EdgesAreListedLemmas.{vertex_listed, edge_listed, listed_edge}
+use Rattle.tg_graph.proofs.PartsStayLemmas.{leads_on}
 
 counts : (a b : Bool) → (a ≡ true → b ≡ true) → cond b 0 1 ≤ cond a 0 1
 counts true b h = let e = h refl in rw e (omega arith)

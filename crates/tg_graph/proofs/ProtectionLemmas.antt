@@ -4,6 +4,7 @@ use Rattle.std.proofs.lemmas.Bool.{not-true}
 use Rattle.std.specs.FinSet as set
 use Rattle.tg_rights.specs.Letters.{Letters, Right, read, write, take, grant, grant_alone, has, is_none, includes}
 use Rattle.tg_rights.specs.declared.command.Command.TheVariants as command
+use Rattle.tg_rights.proofs.LettersLemmas.{some_right}
 use Rattle.tg_graph.specs.Protection.{Protection, IsGraph, IsVertex, IsEdge, label}
 use Rattle.tg_graph.specs.Rules.{Allowed}
 
@@ -15,15 +16,6 @@ includes_some a b e f = some a.read a.write a.take a.grant b.read b.write b.take
   some r w t g r' w' t' g' e f = grind arith
 
 module _ (G : Protection) (g : IsGraph G) (x y : ℕ) where
-  by_right : {P : Type 0} (l : Letters) → is_none l ≡ false → ((r : Right) → has l r ≡ true → P) → P
-  by_right {P} l some found = first l.read l.write l.take l.grant some found where
-    first : (r w t g : Bool) → (not r && not w && not t && not g) ≡ false → ((s : Right) → has (record { read = r; write = w; take = t; grant = g }) s ≡ true → P) → P
-    first true w t g e f = f read refl
-    first false true t g e f = f write refl
-    first false false true g e f = f take refl
-    first false false false true e f = f grant refl
-    first false false false false e f = absurd (cc e)
-
   member : (r : Right) → has (label G x y) r ≡ true → set.contains G.triples (record { from = x; right = r; to = y }) ≡ true
   unfolding label
   member read h = h
@@ -32,10 +24,10 @@ module _ (G : Protection) (g : IsGraph G) (x y : ℕ) where
   member grant h = h
 
   pub edge_from : IsEdge G x y → IsVertex G x
-  edge_from e = by_right (label G x y) e (λ r h. g.from_vertex (record { from = x; right = r; to = y }) (member r h))
+  edge_from e = let r = some_right (label G x y) e in g.from_vertex (record { from = x; right = r.0; to = y }) (member r.0 r.1)
 
   pub edge_to : IsEdge G x y → IsVertex G y
-  edge_to e = by_right (label G x y) e (λ r h. g.to_vertex (record { from = x; right = r; to = y }) (member r h))
+  edge_to e = let r = some_right (label G x y) e in g.to_vertex (record { from = x; right = r.0; to = y }) (member r.0 r.1)
 
   pub needed_edge : (rights : Letters) → includes (label G x y) rights ≡ true → is_none rights ≡ false → IsEdge G x y
   needed_edge rights e some = includes_some (label G x y) rights e some

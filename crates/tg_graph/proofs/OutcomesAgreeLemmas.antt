@@ -13,9 +13,9 @@ use Rattle.tg_rights.specs.declared.outcome.Outcome.TheVariants as outcome
 use Rattle.tg_graph.specs.Protection.{Protection, IsVertex, IsEdge, label}
 use Rattle.tg_graph.specs.Rules.{Need, need, needs, names_rights, is_distinct, document_of, is_met, first_unmet, AllMet, Judged}
 use Rattle.tg_graph.specs.Paths.{Agree}
-use Rattle.tg_graph.proofs.Outcomes.{decide, verdict, is_document, is_document_kind, Judged-verdict, verdict-Judged}
-use Rattle.tg_graph.proofs.Vertices.{IsVertex-from_kind}
-use Rattle.tg_graph.proofs.Ends.{includes_some}
+use Rattle.tg_graph.proofs.ExactlyOneOutcomeLemmas.{decide, verdict, is_document, is_document_kind, Judged-verdict, verdict-Judged}
+use Rattle.tg_graph.proofs.VertexLemmas.{IsVertex-from_kind}
+use Rattle.tg_graph.proofs.ProtectionLemmas.{includes_some}
 
 module _ (G H : Protection) where
   -- each need is read alike, as far as the earlier ones are met
