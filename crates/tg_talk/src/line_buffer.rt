@@ -19,7 +19,7 @@ pub const LONGEST_LINE: usize = 16_384;
 pub const MOST_LINES: u64 = 1_000_000;
 
 /// The bytes that were read and not yet taken, seen as their list. Lines are taken from its front: `find` reads until
-/// one stands there, `bytes` lends it and `consume` takes it away.
+/// one is there, `bytes` lends it and `consume` takes it away.
 #[derive(Drop)]
 pub struct LineBuffer {
     bytes: Vec<u8>,
@@ -27,7 +27,7 @@ pub struct LineBuffer {
     end: usize,
 }
 
-/// What stands at the front of the buffer.
+/// What is at the front of the buffer.
 #[derive(Clone, Copy, Debug, PartialEq, Eq)]
 pub enum Found {
     /// A line of so many bytes, and its line feed.
@@ -63,7 +63,7 @@ impl LineBuffer {
     ghost use Rattle.std.specs.Io.{StartsWith};
     ghost use Rattle.std.specs.Io.KnownBytes.{Keeps, IsAtEnd, prepend_known};
     ghost use Rattle.tg_talk.specs.Devices.{device_of, has_failed};
-    ghost use Rattle.tg_talk.specs.Finding.{FindsLine, Fills};
+    ghost use Rattle.tg_talk.specs.Finding.{FindsLine, Fills, is_decided};
 
     /// No bytes. The memory for all lines, 32,768 bytes, is taken here and never again; `AllocError` where it is refused.
     pub fn new(alloc: Global) -> Result<LineBuffer, AllocError>
@@ -100,14 +100,16 @@ impl LineBuffer {
         self.start += n;
     }
 
-    /// Reads until the next line stands at the front, and says which it is: one of at most 16,384 bytes, the last one,
-    /// the end, one that is too long, or that the reader failed. A read happens only where the bytes at hand have no
-    /// line feed and are at most 16,384, so a line is answered before more is asked for. Takes no memory.
+    /// Reads until the next line is at the front, and says which it is: one of at most 16,384 bytes, the last one,
+    /// the end, one that is too long, or that the reader failed. Nothing is read ahead: a read is made only where the
+    /// bytes at hand have no line feed and are at most 16,384, so a whole line is found before more is asked for, and
+    /// none is left at a failed read. Takes no memory.
     pub fn find<R: Read>(&mut self, reader: &mut Watched<R>) -> Found
         requires { has_failed reader.old ≡ false }
         ensures kept { Keeps (prepend_known self.old (R.remaining (device_of reader.old))) (prepend_known self.new (R.remaining (device_of reader.new))) }
         ensures found { FindsLine result self.new (R.remaining (device_of reader.new)) }
         ensures failed { (has_failed reader.new ≡ true) ↔ (result ≡ Found.Failed) }
+        ensures at_hand { is_decided self.old ≡ true → (self.new ≡ self.old) × (reader.new ≡ reader.old) }
     {
         let mut searched = 0;
         loop {
