@@ -2,6 +2,8 @@
 
 ghost use Rattle.std.specs.Prelude.{◌≡◌, ℕ, ◌+◌, ◌-◌, ◌<◌, ◌≤◌, ◌↔◌, List, length, take, drop, IfSome, IfNone, None, true, false};
 ghost use Rattle.std.specs.Io.KnownBytes.{Consumes, Keeps, IsAtEnd};
+ghost use Rattle.tg_talk.specs.declared.line_buffer.TheConstants.{CAPACITY};
+ghost use Rattle.tg_wire.specs.declared.line.TheConstants.{LONGEST_LINE};
 ghost use Rattle.tg_talk.specs.Devices.{device_of, has_failed};
 
 use crate::newline::newline_from;
@@ -9,11 +11,10 @@ use crate::watched::Watched;
 use std::alloc::{AllocError, Global};
 use std::io::Read;
 use std::marker::Model;
+use tg_wire::LONGEST_LINE;
 
+/// The bytes of a buffer: room for a read behind those of the longest line.
 const CAPACITY: usize = 32_768;
-
-/// The greatest number of bytes in a line, without its line feed.
-pub const LONGEST_LINE: usize = 16_384;
 
 /// The greatest number of lines of a run or a talk.
 pub const MOST_LINES: u64 = 1_000_000;
@@ -55,7 +56,7 @@ impl Model for LineBuffer {
 
     ghost view = { λ b. take (b.end - b.start) (drop b.start b.bytes.items) };
 
-    ghost invariant = { λ b. (b.start ≤ b.end) × (b.end ≤ 32768) × (length b.bytes.items ≡ 32768) };
+    ghost invariant = { λ b. (b.start ≤ b.end) × (b.end ≤ CAPACITY) × (length b.bytes.items ≡ CAPACITY) };
 }
 
 impl LineBuffer {
@@ -75,7 +76,7 @@ impl LineBuffer {
 
     // Nothing read, over this memory.
     fn over(bytes: Vec<u8>) -> LineBuffer
-        requires { length bytes.items ≡ 32768 }
+        requires { length bytes.items ≡ CAPACITY }
         ensures { result ≡ [] }
     {
         LineBuffer {
@@ -140,7 +141,7 @@ impl LineBuffer {
 
     // One read, behind the bytes that are there.
     fn fill<R: Read>(&mut self, reader: &mut Watched<R>) -> Filled
-        requires room { length self.old ≤ 16384 }
+        requires room { length self.old ≤ LONGEST_LINE }
         requires unfailed { has_failed reader.old ≡ false }
         ensures kept { Keeps (prepend_known self.old (R.remaining (device_of reader.old))) (prepend_known self.new (R.remaining (device_of reader.new))) }
         ensures front { StartsWith self.new self.old }
