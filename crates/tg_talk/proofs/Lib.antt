@@ -1,3 +1,2 @@
-pub mod KnownBytes
-pub mod Newlines
-pub mod Taking
+pub mod KnownBytesLemmas
+pub mod InputLinesLemmas

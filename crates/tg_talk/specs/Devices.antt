@@ -16,7 +16,7 @@ abbrev pub took_none : {E : Type 0} → Result ℕ E → List ℕ → Bool
 took_none (Ok n) buf = (n == 0) && nat_lt 0 (length buf)
 took_none (Err e) buf = true
 
--- What a writer holds after bytes were sent: all of them, or where it failed a front of them.
+-- what a writer holds after bytes were sent: all of them, or where it failed a prefix of them
 pub record Sends (old new : Option (List ℕ)) (failed : Bool) (bytes : List ℕ) : Type 0 where
   pub done : List ℕ
   pub rest : List ℕ
@@ -24,7 +24,7 @@ pub record Sends (old new : Option (List ℕ)) (failed : Bool) (bytes : List ℕ
   pub appended : Appends old new done
   pub whole : failed ≡ false → rest ≡ []
 
--- What it holds after `before` and `last` were sent in turn: all of `before`, and of `last` all, or where it failed a front.
+-- what it holds after `before` and `last` were sent in turn: all of `before`, and of `last` all, or where it failed a prefix
 pub record SendsLast (old new : Option (List ℕ)) (failed : Bool) (before last : List ℕ) : Type 0 where
   pub done : List ℕ
   pub rest : List ℕ

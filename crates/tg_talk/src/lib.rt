@@ -11,7 +11,7 @@ mod watched;
 mod write_line;
 
 pub use fault::TalkFault;
-pub use line_buffer::{Found, LONGEST_LINE, LineBuffer, MOST_LINES};
+pub use line_buffer::{Found, LineBuffer, MOST_LINES};
 pub use refusal::too_many_line;
 pub use watched::Watched;
 pub use write_line::send_line;

@@ -2,6 +2,8 @@
 
 ghost use Rattle.std.specs.Prelude.{◌≡◌, ℕ, ◌+◌, ◌-◌, ◌<◌, ◌≤◌, ◌↔◌, List, length, take, drop, IfSome, IfNone, None, true, false};
 ghost use Rattle.std.specs.Io.KnownBytes.{Consumes, Keeps, IsAtEnd};
+ghost use Rattle.tg_talk.specs.declared.line_buffer.TheConstants.{CAPACITY};
+ghost use Rattle.tg_wire.specs.declared.line.TheConstants.{LONGEST_LINE};
 ghost use Rattle.tg_talk.specs.Devices.{device_of, has_failed};
 
 use crate::newline::newline_from;
@@ -9,17 +11,16 @@ use crate::watched::Watched;
 use std::alloc::{AllocError, Global};
 use std::io::Read;
 use std::marker::Model;
+use tg_wire::LONGEST_LINE;
 
+/// The bytes of a buffer: room for a read behind those of the longest line.
 const CAPACITY: usize = 32_768;
-
-/// The greatest number of bytes in a line, without its line feed.
-pub const LONGEST_LINE: usize = 16_384;
 
 /// The greatest number of lines of a run or a talk.
 pub const MOST_LINES: u64 = 1_000_000;
 
 /// The bytes that were read and not yet taken, seen as their list. Lines are taken from its front: `find` reads until
-/// one stands there, `bytes` lends it and `consume` takes it away.
+/// one is there, `bytes` lends it and `consume` takes it away.
 #[derive(Drop)]
 pub struct LineBuffer {
     bytes: Vec<u8>,
@@ -27,7 +28,7 @@ pub struct LineBuffer {
     end: usize,
 }
 
-/// What stands at the front of the buffer.
+/// What is at the front of the buffer.
 #[derive(Clone, Copy, Debug, PartialEq, Eq)]
 pub enum Found {
     /// A line of so many bytes, and its line feed.
@@ -55,7 +56,7 @@ impl Model for LineBuffer {
 
     ghost view = { λ b. take (b.end - b.start) (drop b.start b.bytes.items) };
 
-    ghost invariant = { λ b. (b.start ≤ b.end) × (b.end ≤ 32768) × (length b.bytes.items ≡ 32768) };
+    ghost invariant = { λ b. (b.start ≤ b.end) × (b.end ≤ CAPACITY) × (length b.bytes.items ≡ CAPACITY) };
 }
 
 impl LineBuffer {
@@ -63,7 +64,7 @@ impl LineBuffer {
     ghost use Rattle.std.specs.Io.{StartsWith};
     ghost use Rattle.std.specs.Io.KnownBytes.{Keeps, IsAtEnd, prepend_known};
     ghost use Rattle.tg_talk.specs.Devices.{device_of, has_failed};
-    ghost use Rattle.tg_talk.specs.Finding.{FindsLine, Fills};
+    ghost use Rattle.tg_talk.specs.Finding.{FindsLine, Fills, is_decided};
 
     /// No bytes. The memory for all lines, 32,768 bytes, is taken here and never again; `AllocError` where it is refused.
     pub fn new(alloc: Global) -> Result<LineBuffer, AllocError>
@@ -75,7 +76,7 @@ impl LineBuffer {
 
     // Nothing read, over this memory.
     fn over(bytes: Vec<u8>) -> LineBuffer
-        requires { length bytes.items ≡ 32768 }
+        requires { length bytes.items ≡ CAPACITY }
         ensures { result ≡ [] }
     {
         LineBuffer {
@@ -100,14 +101,16 @@ impl LineBuffer {
         self.start += n;
     }
 
-    /// Reads until the next line stands at the front, and says which it is: one of at most 16,384 bytes, the last one,
-    /// the end, one that is too long, or that the reader failed. A read happens only where the bytes at hand have no
-    /// line feed and are at most 16,384, so a line is answered before more is asked for. Takes no memory.
+    /// Reads until the next line is at the front, and says which it is: one of at most 16,384 bytes, the last one,
+    /// the end, one that is too long, or that the reader failed. Nothing is read ahead: a read is made only where the
+    /// bytes at hand have no line feed and are at most 16,384, so a whole line is found before more is asked for, and
+    /// none is left at a failed read. Takes no memory.
     pub fn find<R: Read>(&mut self, reader: &mut Watched<R>) -> Found
         requires { has_failed reader.old ≡ false }
         ensures kept { Keeps (prepend_known self.old (R.remaining (device_of reader.old))) (prepend_known self.new (R.remaining (device_of reader.new))) }
         ensures found { FindsLine result self.new (R.remaining (device_of reader.new)) }
         ensures failed { (has_failed reader.new ≡ true) ↔ (result ≡ Found.Failed) }
+        ensures at_hand { is_decided self.old ≡ true → (self.new ≡ self.old) × (reader.new ≡ reader.old) }
     {
         let mut searched = 0;
         loop {
@@ -138,7 +141,7 @@ impl LineBuffer {
 
     // One read, behind the bytes that are there.
     fn fill<R: Read>(&mut self, reader: &mut Watched<R>) -> Filled
-        requires room { length self.old ≤ 16384 }
+        requires room { length self.old ≤ LONGEST_LINE }
         requires unfailed { has_failed reader.old ≡ false }
         ensures kept { Keeps (prepend_known self.old (R.remaining (device_of reader.old))) (prepend_known self.new (R.remaining (device_of reader.new))) }
         ensures front { StartsWith self.new self.old }

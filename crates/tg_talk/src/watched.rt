@@ -74,12 +74,8 @@ impl<W: Write> Write for Watched<W> {
 
     fn flush(&mut self) -> io::Result<()>
         ensures bytes { Keeps (W.contents (device_of self.old)) (W.contents (device_of self.new)) }
-        ensures failed { has_failed self.new ≡ (has_failed self.old || is_err result) }
+        ensures failed { has_failed self.new ≡ has_failed self.old }
     {
-        let result = self.device.flush();
-        if result.is_err() {
-            self.failed = true;
-        }
-        result
+        self.device.flush()
     }
 }

@@ -7,8 +7,8 @@ ghost use Rattle.tg_talk.specs.Devices.{device_of, has_failed, Sends};
 use crate::watched::Watched;
 use std::io::Write;
 
-/// Writes the bytes, in as many writes as the writer asks for. It stops where the writer fails, and a front of them is
-/// then written; an interrupted write counts as a failed one. Takes no memory.
+/// Writes the bytes, in as many writes as the writer asks for. It stops where the writer fails, and a prefix of them
+/// is then written; an interrupted write counts as a failed one. Takes no memory.
 pub fn send_line<W: Write>(writer: &mut Watched<W>, bytes: &[u8])
     requires { has_failed writer.old ≡ false }
     ensures { Sends (W.contents (device_of writer.old)) (W.contents (device_of writer.new)) (has_failed writer.new) bytes.now }

@@ -1,9 +1,9 @@
 pub mod Literals
-pub mod Json
-pub mod Keys
-pub mod NoFloats
-pub mod ListLemmas
-pub mod Compact
-pub mod OneLine
-pub mod Worked
-pub mod Saying
+pub mod ReadingLemmas
+pub mod TextsLemmas
+pub mod NoFloatLemmas
+pub mod FieldsLemmas
+pub mod LineTextLemmas
+pub mod RepliesLemmas
+pub mod WorkedLinesLemmas
+pub mod LawsLemmas

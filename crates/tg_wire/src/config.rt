@@ -1,5 +1,6 @@
 //! From a line to a configuration, and from a line to a goal.
 
+ghost use Rattle.tg_wire.specs.declared.line.TheConstants.{LONGEST_LINE};
 ghost use Rattle.std.specs.Prelude.{◌≡◌, ◌≤◌, Err, length, option_map};
 ghost use Rattle.serde_json.specs.View.{view, items_view};
 ghost use Rattle.tg_wire.specs.Fields as fields;
@@ -21,7 +22,7 @@ use tg_rights::{Rights, Word};
 #[tactic(auto, unfolding(crate::specs::Lines::config_of))]
 pub fn read_config(alloc: Global, bytes: &[u8]) -> Result<Config, WireFault>
     ensures answered { AnswersBy opening_of result (config_of bytes.now) }
-    ensures short { result ≡ Err OutOfMemory → length bytes.now ≤ 16384 }
+    ensures short { result ≡ Err OutOfMemory → length bytes.now ≤ LONGEST_LINE }
 {
     let value = object(alloc, bytes)?;
     has_required(&["principals"], &value)?;
@@ -38,7 +39,7 @@ pub fn read_config(alloc: Global, bytes: &[u8]) -> Result<Config, WireFault>
 #[tactic(auto, unfolding(crate::specs::Lines::goal_of))]
 pub fn read_goal(alloc: Global, bytes: &[u8]) -> Result<Goal, WireFault>
     ensures answered { Answers result (goal_of bytes.now) }
-    ensures short { result ≡ Err OutOfMemory → length bytes.now ≤ 16384 }
+    ensures short { result ≡ Err OutOfMemory → length bytes.now ≤ LONGEST_LINE }
 {
     let value = object(alloc, bytes)?;
     has_required(&["from", "to", "rights"], &value)?;

@@ -85,23 +85,23 @@ fn rights_named(text: &str) -> Rights
 {
     let letters = text.as_bytes();
     let mut rights = Rights::empty();
-    if stands_in(letters, b'r') {
+    if has_letter(letters, b'r') {
         rights = rights.union(Rights::read());
     }
-    if stands_in(letters, b'w') {
+    if has_letter(letters, b'w') {
         rights = rights.union(Rights::write());
     }
-    if stands_in(letters, b't') {
+    if has_letter(letters, b't') {
         rights = rights.union(Rights::take());
     }
-    if stands_in(letters, b'g') {
+    if has_letter(letters, b'g') {
         rights = rights.union(Rights::grant());
     }
     rights
 }
 
-fn stands_in(bytes: &[u8], letter: u8) -> bool
-    ensures { result ≡ fields.stands_in letter bytes.now }
+fn has_letter(bytes: &[u8], letter: u8) -> bool
+    ensures { result ≡ fields.has_letter letter bytes.now }
 {
     bytes.iter().any(|c| *c == letter)
 }

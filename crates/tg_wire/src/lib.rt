@@ -18,7 +18,7 @@ mod write;
 pub use config::{read_config, read_goal};
 pub use fault::WireFault;
 pub use laws::{configs_say, goals_say, lines_say, one_reply_a_line, steps_say, worked_lines};
-pub use line::Line;
+pub use line::{LONGEST_LINE, Line};
 pub use read::{read_line, read_step};
 pub use refusal::{error_line, open_fault_line};
 pub use write::{write_answer, write_reply, write_swept, write_verdict};

@@ -1,25 +1,24 @@
 //! A line as a JSON object, and which fields it has.
 
+ghost use Rattle.tg_wire.specs.declared.line.TheConstants.{LONGEST_LINE};
 ghost use Rattle.std.specs.Prelude.{◌≡◌, ◌≤◌, ◌++◌, Err, is_some, length, map, string_bytes, nat_le};
 ghost use Rattle.std.specs.List.{list_all};
 ghost use Rattle.std.specs.BTreeMap.{keys};
 ghost use Rattle.serde_json.specs.Find.{as_object, get};
 ghost use Rattle.serde_json.specs.View.{view};
 ghost use Rattle.tg_wire.specs.Reading.{json_of, object_of, has_all as has_all_of, knows_all as knows_all_of, guard, or_else, AnswersBy};
-ghost use Rattle.tg_wire.specs.Texts.{stands_in, stands_in_either};
+ghost use Rattle.tg_wire.specs.Texts.{is_listed, is_listed_in_either};
 ghost use Rattle.tg_wire.specs.declared.fault.WireFault.TheVariants.{NotJson, NotObject, MissingField, UnknownField, TooLong, OutOfMemory};
 
 use crate::fault::WireFault;
+use crate::line::LONGEST_LINE;
 use serde_json::{Map, Value};
 use std::alloc::Global;
-
-/// The greatest number of bytes in a line, without its line feed.
-const LONGEST_LINE: usize = 16_384;
 
 /// The object of a line. Its length is asked before any memory is.
 pub(crate) fn object(alloc: Global, bytes: &[u8]) -> Result<Value, WireFault>
     ensures answered { AnswersBy view result (object_of bytes.now) }
-    ensures short { result ≡ Err OutOfMemory → length bytes.now ≤ 16384 }
+    ensures short { result ≡ Err OutOfMemory → length bytes.now ≤ LONGEST_LINE }
 {
     fits(bytes)?;
     let value = json(alloc, bytes)?;
@@ -28,7 +27,7 @@ pub(crate) fn object(alloc: Global, bytes: &[u8]) -> Result<Value, WireFault>
 }
 
 fn fits(bytes: &[u8]) -> Result<(), WireFault>
-    ensures { result ≡ guard (nat_le (length bytes.now) 16384) TooLong }
+    ensures { result ≡ guard (nat_le (length bytes.now) LONGEST_LINE) TooLong }
 {
     if bytes.len() <= LONGEST_LINE {
         Ok(())
@@ -61,8 +60,8 @@ fn is_object(value: &Value) -> Result<(), WireFault>
     }
 }
 
-/// Each of the names stands in the object.
-#[tactic(auto, using(crate::proofs::Keys::has_all_texts))]
+/// Each of the names is a key of the object.
+#[tactic(auto, using(crate::proofs::TextsLemmas::has_all_texts))]
 pub(crate) fn has_required(names: &[&str], value: &Value) -> Result<(), WireFault>
     ensures { result ≡ guard (has_all_of (map (λ s. s.now) names.now) (view value.now)) MissingField }
 {
@@ -100,7 +99,7 @@ fn all_known(others: &[&str], required: &[&str], value: &Value) -> bool
 }
 
 fn are_known(others: &[&str], required: &[&str], members: &Map<String, Value>) -> bool
-    ensures { result ≡ list_all (λ key. stands_in_either others.now required.now (string_bytes key)) (keys members.now) }
+    ensures { result ≡ list_all (λ key. is_listed_in_either others.now required.now (string_bytes key)) (keys members.now) }
 {
     members
         .keys()
@@ -108,13 +107,13 @@ fn are_known(others: &[&str], required: &[&str], members: &Map<String, Value>) -
 }
 
 fn is_known(others: &[&str], required: &[&str], key: &str) -> bool
-    ensures { result ≡ stands_in_either others.now required.now key.now }
+    ensures { result ≡ is_listed_in_either others.now required.now key.now }
 {
     is_one_of(key, others) || is_one_of(key, required)
 }
 
 fn is_one_of(key: &str, names: &[&str]) -> bool
-    ensures { result ≡ stands_in key.now names.now }
+    ensures { result ≡ is_listed key.now names.now }
 {
     names.iter().any(|name| key == *name)
 }

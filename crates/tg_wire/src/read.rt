@@ -1,5 +1,6 @@
 //! From a line to what it asks for, and from a line to a step.
 
+ghost use Rattle.tg_wire.specs.declared.line.TheConstants.{LONGEST_LINE};
 ghost use Rattle.std.specs.Prelude.{◌≡◌, ◌≤◌, Err, length, option_map, map, codes, ◌∷◌, []};
 ghost use Rattle.serde_json.specs.View.{view};
 ghost use Rattle.tg_wire.specs.Ops.{command_in, line_in};
@@ -19,11 +20,11 @@ use tg_rights::{Command, Rule};
 use tg_vault::Event;
 
 /// The value of an event line, or its first fault. `seat` is 0 where it is absent; `collect` and `cycle` don't use it, but
-/// where it stands it is a number there too.
+/// where it is given it is a number there too.
 #[tactic(auto, unfolding(crate::specs::Lines::line_of))]
 pub fn read_line(alloc: Global, bytes: &[u8]) -> Result<Line, WireFault>
     ensures answered { Answers result (line_of bytes.now) }
-    ensures short { result ≡ Err OutOfMemory → length bytes.now ≤ 16384 }
+    ensures short { result ≡ Err OutOfMemory → length bytes.now ≤ LONGEST_LINE }
 {
     let value = object(alloc, bytes)?;
     let op = op(&value)?;
@@ -37,7 +38,7 @@ pub fn read_line(alloc: Global, bytes: &[u8]) -> Result<Line, WireFault>
 #[tactic(auto, unfolding(crate::specs::Lines::step_of))]
 pub fn read_step(alloc: Global, bytes: &[u8]) -> Result<Step, WireFault>
     ensures answered { Answers result (step_of bytes.now) }
-    ensures short { result ≡ Err OutOfMemory → length bytes.now ≤ 16384 }
+    ensures short { result ≡ Err OutOfMemory → length bytes.now ≤ LONGEST_LINE }
 {
     let value = object(alloc, bytes)?;
     let rule = rule(&value)?;

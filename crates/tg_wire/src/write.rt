@@ -14,8 +14,8 @@ use tg_graph::Verdict;
 use tg_rights::Reply;
 use tg_vault::{Answer, Swept};
 
-/// The line of a reply, which ends with a line feed. Keys stand in rising order, with no white space.
-#[tactic(auto, using(crate::proofs::NoFloats::reply_no_float), unfolding(crate::specs::Replies::reply_line))]
+/// The line of a reply, which ends with a line feed. Keys are in rising order, with no white space.
+#[tactic(auto, using(crate::proofs::NoFloatLemmas::reply_no_float), unfolding(crate::specs::Replies::reply_line))]
 pub fn write_reply(alloc: Global, reply: &Reply) -> Result<Vec<u8>, AllocError>
     ensures { IfOk result (λ line. line.items ≡ reply_line reply.now) }
 {
@@ -23,8 +23,8 @@ pub fn write_reply(alloc: Global, reply: &Reply) -> Result<Vec<u8>, AllocError>
     line(alloc, &value)
 }
 
-/// The line of an answer, which ends with a line feed. Keys stand in rising order, with no white space.
-#[tactic(auto, using(crate::proofs::NoFloats::answer_no_float), unfolding(crate::specs::Answers::answer_line))]
+/// The line of an answer, which ends with a line feed. Keys are in rising order, with no white space.
+#[tactic(auto, using(crate::proofs::NoFloatLemmas::answer_no_float), unfolding(crate::specs::Answers::answer_line))]
 pub fn write_answer(alloc: Global, answer: &Answer) -> Result<Vec<u8>, AllocError>
     ensures { IfOk result (λ line. line.items ≡ answer_line answer.now) }
 {
@@ -32,8 +32,8 @@ pub fn write_answer(alloc: Global, answer: &Answer) -> Result<Vec<u8>, AllocErro
     line(alloc, &value)
 }
 
-/// The line of what a cycle did, which ends with a line feed. Keys stand in rising order, with no white space.
-#[tactic(auto, using(crate::proofs::NoFloats::swept_no_float), unfolding(crate::specs::Answers::swept_line))]
+/// The line of what a cycle did, which ends with a line feed. Keys are in rising order, with no white space.
+#[tactic(auto, using(crate::proofs::NoFloatLemmas::swept_no_float), unfolding(crate::specs::Answers::swept_line))]
 pub fn write_swept(alloc: Global, swept: Swept) -> Result<Vec<u8>, AllocError>
     ensures { IfOk result (λ line. line.items ≡ swept_line swept) }
 {
@@ -41,8 +41,8 @@ pub fn write_swept(alloc: Global, swept: Swept) -> Result<Vec<u8>, AllocError>
     line(alloc, &value)
 }
 
-/// The line of a verdict, which ends with a line feed. Keys stand in rising order, with no white space.
-#[tactic(auto, using(crate::proofs::NoFloats::verdict_no_float), unfolding(crate::specs::Answers::verdict_line))]
+/// The line of a verdict, which ends with a line feed. Keys are in rising order, with no white space.
+#[tactic(auto, using(crate::proofs::NoFloatLemmas::verdict_no_float), unfolding(crate::specs::Answers::verdict_line))]
 pub fn write_verdict(alloc: Global, verdict: &Verdict) -> Result<Vec<u8>, AllocError>
     ensures { IfOk result (λ line. line.items ≡ verdict_line verdict.now) }
 {

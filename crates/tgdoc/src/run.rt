@@ -91,7 +91,7 @@ fn open(alloc: Global, bytes: &[u8]) -> Result<Vault, &'static [u8]>
     }
 }
 
-/// LineAnswer the first line by a refusal, which ends the run.
+/// Answers the first line by a refusal, which ends the run.
 fn refuse<W: Write>(
     writer: &mut Watched<W>,
     lines: u64,
@@ -115,7 +115,7 @@ fn refuse<W: Write>(
     }
 }
 
-/// LineAnswer the lines behind the configuration.
+/// Answers the lines behind the configuration.
 fn answer_lines<R: Read, W: Write>(
     alloc: Global,
     vault: Vault,

@@ -87,7 +87,7 @@ impl RunState {
         }
     }
 
-    /// LineAnswer the line of `n` bytes at the front, which takes `all` bytes with its line feed.
+    /// Answers the line of `n` bytes at the front, which takes `all` bytes with its line feed.
     #[inline(always)]
     fn take<W: Write>(
         &mut self,
@@ -131,7 +131,7 @@ impl RunState {
         }
     }
 
-    /// LineAnswer a line above the limit, which ends the run.
+    /// Answers a line above the limit, which ends the run.
     fn refuse_long<W: Write>(&mut self, writer: &mut Watched<W>) -> Turn
         requires few { self.old.lines ≤ 1000000 }
         requires errors { self.old.errors ≤ self.old.lines }
@@ -151,7 +151,7 @@ impl RunState {
         }
     }
 
-    /// LineAnswer the last line with the text of an `error` line.
+    /// Answers the last line with the text of an `error` line.
     fn end<W: Write>(&mut self, writer: &mut Watched<W>, text: &[u8], fault: TalkFault) -> Turn
         requires reading { fault ≢ Reading }
         requires writing { fault ≢ Writing }

@@ -1,4 +1,4 @@
-use Rattle.tg_talk.proofs.Newlines.{first_of, none_of}
+use Rattle.tg_talk.proofs.InputLinesLemmas.{first_of, none_of}
 use Rattle.tg_talk.proofs.newline.newline.Goals as goal
 
 pub returns-clause-found : goal.returns-clause-found

@@ -1,6 +1,6 @@
 use Rattle.std.proofs.Common.{subst}
 use Rattle.tg_talk.specs.InputLines.{IsFirstNewline}
-use Rattle.tg_talk.proofs.Newlines.{is_first_from}
+use Rattle.tg_talk.proofs.InputLinesLemmas.{is_first_from}
 use Rattle.tg_talk.proofs.newline.newline_from.Goals as goal
 
 pub returns-in-Some-clause-found : goal.returns-in-Some-clause-found

@@ -1,5 +1,5 @@
 use Rattle.std.proofs.Common.{◌++◌, take, rules}
-use Rattle.tg_talk.proofs.KnownBytes.{Appends-more, moves_front}
+use Rattle.tg_talk.proofs.KnownBytesLemmas.{Appends-more, moves_front}
 use Rattle.tg_talk.proofs.write_line.send_line.Goals as goal
 
 pub loop-rest-preserved : goal.loop-rest-preserved

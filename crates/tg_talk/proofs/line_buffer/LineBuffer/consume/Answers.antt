@@ -1,5 +1,5 @@
 use Rattle.std.proofs.Common.{◌∙◌, ◌≤◌, ◌+◌, ap, drop, length, arith}
-use Rattle.tg_talk.proofs.KnownBytes.{view_consumed, view_length}
+use Rattle.tg_talk.proofs.KnownBytesLemmas.{view_consumed, view_length}
 use Rattle.tg_talk.proofs.line_buffer.LineBuffer.consume.Goals as goal
 
 pub returns : goal.returns

@@ -1,6 +1,6 @@
 use Rattle.std.proofs.Common.{◌≡◌, ◌-◌, ◌∙◌, take, drop, subst}
 use Rattle.std.specs.Io.KnownBytes.{Keeps, prepend_known}
-use Rattle.tg_talk.proofs.KnownBytes.{Keeps-consumed, front_grown}
+use Rattle.tg_talk.proofs.KnownBytesLemmas.{Keeps-consumed, front_grown}
 use Rattle.tg_talk.proofs.line_buffer.LineBuffer.fill.Goals as goal
 
 pub returns-in-Some-clause-kept : goal.returns-in-Some-clause-kept

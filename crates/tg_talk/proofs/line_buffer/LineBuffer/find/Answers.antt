@@ -1,6 +1,6 @@
 use Rattle.std.proofs.Common.{◌≡◌, length, subst, ap, arith, false}
 use Rattle.tg_talk.specs.InputLines.{has_newline, IsFirstNewline}
-use Rattle.tg_talk.proofs.Newlines.{none_in_front, none_in_shorter}
+use Rattle.tg_talk.proofs.InputLinesLemmas.{none_in_front, none_in_shorter}
 use Rattle.tg_talk.proofs.line_buffer.LineBuffer.find.Goals as goal
 
 pub returns-else-n-le-LONGEST_LINE-clause-found : goal.returns-else-n-le-LONGEST_LINE-clause-found

@@ -1,5 +1,5 @@
 use Rattle.std.proofs.Common.{◌≡◌, ◌+◌, ◌++◌, [], length, take, drop, ap, arith, length-take}
-use Rattle.tg_talk.proofs.Taking.{lines_of-long}
+use Rattle.tg_talk.proofs.InputLinesLemmas.{lines_of-long}
 use Rattle.tgdoc.specs.Turns.{Turned}
 use Rattle.tgdoc.proofs.TurnLemmas.{by_split, sends_none, turns_of, turns_long, turns_ended, turns_stopped, end_of, all_here, front_line, last_line, left_after, left_none}
 use Rattle.tgdoc.proofs.run_state.RunState.turn.Goals as goal

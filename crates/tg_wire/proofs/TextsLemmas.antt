@@ -1,5 +1,5 @@
 -- The keys of an object, and the tests on lists of texts that lie in memory.
-use Rattle.std.proofs.Common.{◌≡◌, ℕ, List, [], ◌∷◌, ◌++◌, map, true, ◌&&◌, ◌||◌, is_some, Some, None, String, Global, string_bytes, bytes_eq, Bor, refl, sym, ap, ◌∙◌}
+use Rattle.std.proofs.Common.{◌≡◌, ℕ, List, [], ◌∷◌, ◌++◌, map, ◌&&◌, ◌||◌, is_some, Some, String, Global, string_bytes, bytes_eq, Bor, refl, sym, ap, ◌∙◌}
 use Rattle.std.specs.List.{list_all, list_any}
 use Rattle.std.specs.Map.{keys_of}
 use Rattle.std.proofs.lemmas.List.Folds.{list_any-append}
@@ -7,7 +7,7 @@ use Rattle.serde_json.specs.Data.{Data, Members, null, boolean, number, string, 
 use Rattle.serde_json.specs.Find.{get, as_object}
 use Rattle.serde_json.specs.View.{members_view}
 use Rattle.serde_json.specs.declared.value.Value.{Value}
-use Rattle.tg_wire.specs.Texts.{stands_in, stands_in_either}
+use Rattle.tg_wire.specs.Texts.{is_listed, is_listed_in_either}
 use Rattle.tg_wire.specs.Reading.{has_all, is_among, member_keys, knows_all}
 
 -- the texts of a list in memory
@@ -18,19 +18,19 @@ pub has_all_texts : (d : Data) (names : List (Bor (List ℕ))) → has_all (map 
 has_all_texts d [] = refl
 has_all_texts d (n ∷ ns) = ap (λ rest. is_some (get n.now d) && rest) (has_all_texts d ns)
 
-any_texts : (key : List ℕ) (names : List (Bor (List ℕ))) → list_any (bytes_eq key) (texts names) ≡ stands_in key names
+any_texts : (key : List ℕ) (names : List (Bor (List ℕ))) → list_any (bytes_eq key) (texts names) ≡ is_listed key names
 any_texts key [] = refl
 any_texts key (n ∷ ns) = ap (λ rest. bytes_eq key n.now || rest) (any_texts key ns)
 
-among_either : (a b : List (Bor (List ℕ))) (key : List ℕ) → is_among (texts a ++ texts b) key ≡ stands_in_either a b key
+among_either : (a b : List (Bor (List ℕ))) (key : List ℕ) → is_among (texts a ++ texts b) key ≡ is_listed_in_either a b key
 among_either a b key =
-    list_any-append (bytes_eq key) (texts a) (texts b) ∙ ap (λ x. x || list_any (bytes_eq key) (texts b)) (any_texts key a) ∙ ap (λ y. stands_in key a || y) (any_texts key b)
+    list_any-append (bytes_eq key) (texts a) (texts b) ∙ ap (λ x. x || list_any (bytes_eq key) (texts b)) (any_texts key a) ∙ ap (λ y. is_listed key a || y) (any_texts key b)
 
 keys_known : (a b : List (Bor (List ℕ))) (es : List (String Global × Value))
-    → list_all (is_among (texts a ++ texts b)) (member_keys (members_view es)) ≡ list_all (λ key. stands_in_either a b (string_bytes key)) (keys_of es)
+    → list_all (is_among (texts a ++ texts b)) (member_keys (members_view es)) ≡ list_all (λ key. is_listed_in_either a b (string_bytes key)) (keys_of es)
 keys_known a b [] = refl
 keys_known a b (e ∷ es) = ap (λ x. x && list_all (is_among (texts a ++ texts b)) (member_keys (members_view es))) (among_either a b (string_bytes e.0))
-    ∙ ap (λ rest. stands_in_either a b (string_bytes e.0) && rest) (keys_known a b es)
+    ∙ ap (λ rest. is_listed_in_either a b (string_bytes e.0) && rest) (keys_known a b es)
 
 keys_at : (names : List (List ℕ)) (d : Data) (ms : Members) → Some ms ≡ as_object d → knows_all names d ≡ list_all (is_among names) (member_keys ms)
 keys_at names null ms e = absurd (cc)
@@ -42,14 +42,5 @@ keys_at names (object os) ms e = let same : ms ≡ os = cc in ap (λ m. list_all
 
 -- what the test on the entries says of the object's keys
 pub knows_members : (a b : List (Bor (List ℕ))) (d : Data) (es : List (String Global × Value)) → Some (members_view es) ≡ as_object d
-    → knows_all (texts a ++ texts b) d ≡ list_all (λ key. stands_in_either a b (string_bytes key)) (keys_of es)
+    → knows_all (texts a ++ texts b) d ≡ list_all (λ key. is_listed_in_either a b (string_bytes key)) (keys_of es)
 knows_members a b d es e = keys_at (texts a ++ texts b) d (members_view es) e ∙ keys_known a b es
-
--- what is no object has no keys
-pub knows_none : (names : List (List ℕ)) (d : Data) → None ≡ as_object d → knows_all names d ≡ true
-knows_none names null e = refl
-knows_none names (boolean b) e = refl
-knows_none names (number n) e = refl
-knows_none names (string s) e = refl
-knows_none names (array ds) e = refl
-knows_none names (object os) e = absurd (cc)
