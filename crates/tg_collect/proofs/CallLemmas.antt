@@ -23,10 +23,10 @@ use Rattle.tg_collect.specs.Stored.{Stored, stored, held, serial_of, vertex_of, 
 use Rattle.tg_collect.specs.Views.{IsHeldIn, IsEdgeIn, place, serial_at}
 use Rattle.tg_collect.specs.Sessions.{pending_of, EdgeStored, VertexStored}
 use Rattle.tg_collect.proofs.MachineLemmas.{held_within, index_contains}
-use Rattle.tg_collect.proofs.SetLemmas.{stands_get}
+use Rattle.tg_collect.proofs.SetLemmas.{stands_get, place_named, named_place}
 use Rattle.tg_collect.proofs.EdgeShown.{says_triple, triple_says}
 use Rattle.tg_collect.proofs.EdgeCalls.{edge_listed}
-use Rattle.tg_collect.proofs.StoreLemmas.{place_named, named_place, is_store}
+use Rattle.tg_collect.proofs.StoreLemmas.{is_store}
 use Rattle.tg_collect.proofs.VertexCalls.{VertexPlaced, vertex_stored}
 use Rattle.tg_collect.proofs.CollectLemmas.{both_true, at_serial}
 

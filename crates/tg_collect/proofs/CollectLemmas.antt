@@ -34,7 +34,7 @@ use Rattle.tg_collect.specs.Views.{InSet, IsEdgeIn, IsRootIn, Parks, Unparks, Co
 use Rattle.tg_collect.specs.StoreRuns.{seen}
 use Rattle.tg_collect.proofs.PathLemmas.{live_in}
 use Rattle.tg_collect.proofs.MachineLemmas.{to_sound, reached-black}
-use Rattle.tg_collect.proofs.SetLemmas.{colour_shows, shows_colour, parked_waits, waits_parked, Stands, get_stands, stands_get, contains_stands, named_held, triple_owned, owned_triple, same_key, key_same}
+use Rattle.tg_collect.proofs.SetLemmas.{colour_shows, shows_colour, parked_waits, waits_parked, Stands, get_stands, stands_get, contains_stands, named_held, triple_owned, owned_triple, same_key, key_same, place_named, named_place}
 use Rattle.tg_collect.proofs.LineLemmas.{line_phases, line_vertices, line_triples, line_places, line_parked, line_counts, line_marks, line_cells}
 use Rattle.std.proofs.lemmas.List.{length-map}
 use Rattle.std.proofs.Math.ListN.{get_or-map}
@@ -167,6 +167,7 @@ parks m at none settled kept n = record {
         right = s.right;
         held = held_after s.at s.held.0 (black_slot t.from s.at (s.occupant, s.is, sym s.from) d.1);
       }));
+  places = λ i x e. let n = place_named (Sweeping 0) m.heap i x e in named_place m.progress m.heap i x n.0 (held_before i n.1.0);
   parked = λ x t.
       let s = parked_waits m.heap (Sweeping 0) x t in
       let white : mark_at m.heap s.at ≡ Has White = s.condemned.1 in

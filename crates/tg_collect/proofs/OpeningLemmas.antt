@@ -43,8 +43,8 @@ use Rattle.tg_collect.specs.Sessions.{pending_of, EdgeStored, with_black}
 use Rattle.tg_collect.specs.Openings.{first_serials, Opens, Opened}
 use Rattle.tg_collect.specs.OpeningSteps.{Blank, PrincipalOpened, PrincipalsOpened, EdgeOpened, Before, OpensEdges}
 use Rattle.tg_collect.proofs.MachineLemmas.{index_contains, cleared_before}
-use Rattle.tg_collect.proofs.SetLemmas.{same_key, key_same, colour_shows, edge_parts, parts_edge}
-use Rattle.tg_collect.proofs.StoreLemmas.{is_store, named_place}
+use Rattle.tg_collect.proofs.SetLemmas.{same_key, key_same, colour_shows, edge_parts, parts_edge, named_place}
+use Rattle.tg_collect.proofs.StoreLemmas.{is_store}
 use Rattle.tg_collect.proofs.VertexCalls.{VertexPlaced}
 use Rattle.tg_collect.proofs.PathLemmas.{edge_in}
 use Rattle.tg_collect.proofs.CollectLemmas.{both_true, some_right}

@@ -1,5 +1,5 @@
 -- The maps and sets that contracts see, slot by slot.
-use Rattle.std.proofs.Common.{◌≡◌, ℕ, ◌<◌, List, [], ◌∷◌, length, Option, Some, None, inl, inr, sym, ◌∙◌, subst, ap, refl, get_or, Bool, true, false, cond, eqb-true, eq-eqb, ◌||◌, ◌&&◌, ◌==◌}
+use Rattle.std.proofs.Common.{◌≡◌, ℕ, zero, suc, ◌+◌, ◌<◌, List, [], ◌∷◌, ◌++◌, length, Option, Some, None, inl, inr, sym, ◌∙◌, subst, ap, refl, arith, get_or, Bool, true, false, cond, eqb-true, eq-eqb, ◌||◌, ◌&&◌, ◌==◌}
 use Rattle.std.specs.List.{list_any}
 use Rattle.std.specs.Ordering.{nat_cmp, eq_by_cmp}
 use Rattle.std.specs.Cmp.{nat_cmp_total, unsigned_tied}
@@ -27,7 +27,7 @@ use Rattle.tg_rights.proofs.MembershipLemmas.{contains_append, contains_left, co
 use Rattle.tg_graph.specs.declared.vertex.Vertex.{Vertex}
 use Rattle.tg_graph.specs.Triples.{Triple, triple_cmp, edge, edge_list}
 use Rattle.tg_graph.proofs.Sets.{contains-edge, triple_cmp_total, triple_cmp-IsAntisymmetric}
-use Rattle.tg_collect.specs.Stored.{vertex_of, triples_from, gather, by_place, vertex_entry, triple_entry, parked_entry, coloured_at, is_colour, condemned, vertices_of, triples_of, parked_of, of_colour}
+use Rattle.tg_collect.specs.Stored.{vertex_of, triples_from, gather, by_place, vertex_entry, triple_entry, parked_entry, place_entry, coloured_at, is_colour, condemned, vertices_of, triples_of, parked_of, of_colour, places_of}
 use Rattle.tg_collect.specs.Views.{InSet}
 use Rattle.tg_collect.proofs.GatherLemmas.{gather_contains, contains_gather}
 use Rattle.tg_collect.proofs.PlaceLemmas.{get_contains, condemned_is, is_condemned, not_condemned}
@@ -311,3 +311,39 @@ owned_triple h p t s =
     let here : Contains (f s.at (Some o)) t = subst (λ (b : Bool). Contains (cond b [] (triples_from o.serial (edges h s.at))) t) (sym test) (edge_from o.serial (edges h s.at) t s.edge s.owned s.from s.to s.right) in
     contains_triples (gather f 0 h.table.slots) t (contains_gather f h.table.slots t s.at (occupied_within h.table.slots s.at o.colour (ap mark_of s.is))
     (subst (λ (v : Option Occupant). Contains (f s.at v) t) (sym s.is) here))
+
+-- The serial that a slot shows.
+abbrev pub shown_at : Progress → ℕ → Option Occupant → Option ℕ
+shown_at p i None = None
+shown_at p i (Some o) = cond (condemned p i (Has o.colour)) None (Some o.serial)
+
+one_each : (p : Progress) (ls : List (List Edge)) (i : ℕ) (v : Option Occupant) → by_place (None ∷ []) place_entry p ls i v ≡ shown_at p i v ∷ []
+one_each p ls i None = refl
+one_each p ls i (Some o) = refl
+
+from_at : (p : Progress) (ls : List (List Edge)) (k : ℕ) (os : List (Option Occupant)) (i : ℕ) → get_or (gather (by_place (None ∷ []) place_entry p ls) k os) i None ≡ shown_at p (k + i) (get_or os i None)
+from_at p ls k [] i = refl
+from_at p ls k (v ∷ os) zero = let stay : k ≡ k + 0 = omega arith in
+    ap (λ (l : List (Option ℕ)). get_or (l ++ gather (by_place (None ∷ []) place_entry p ls) (suc k) os) 0 None) (one_each p ls k v) ∙ ap (λ (n : ℕ). shown_at p n v) stay
+from_at p ls k (v ∷ os) (suc i) =
+    let move : suc k + i ≡ k + suc i = omega arith in
+    ap (λ (l : List (Option ℕ)). get_or (l ++ gather (by_place (None ∷ []) place_entry p ls) (suc k) os) (suc i) None) (one_each p ls k v)
+    ∙ from_at p ls (suc k) os i ∙ ap (λ (n : ℕ). shown_at p n (get_or os i None)) move
+
+pub place_at : (p : Progress) (h : HeapGraph) (i : ℕ) → get_or (places_of p h) i None ≡ shown_at p i (slot h.table i)
+place_at p h i = let stay : 0 + i ≡ i = omega arith in from_at p h.lists 0 h.table.slots i ∙ ap (λ (n : ℕ). shown_at p n (slot h.table i)) stay
+
+-- A place names a held slot, and each held slot has its place.
+pub place_named : (p : Progress) (h : HeapGraph) (i x : ℕ) → get_or (places_of p h) i None ≡ Some x → IsNamed h i x × HeldAt h p i
+place_named p h i x e = by (slot h.table i) refl (sym (place_at p h i) ∙ e) where
+  by : (v : Option Occupant) → slot h.table i ≡ v → shown_at p i v ≡ Some x → IsNamed h i x × HeldAt h p i
+  by None s t = absurd (cc)
+  by (Some o) s t = test (condemned p i (Has o.colour)) refl t where
+    test : (b : Bool) → condemned p i (Has o.colour) ≡ b → cond b None (Some o.serial) ≡ Some x → IsNamed h i x × HeldAt h p i
+    test true c t = absurd (cc)
+    test false c t = ((o, s, (cc)), held_by_test h p i o s c)
+
+pub named_place : (p : Progress) (h : HeapGraph) (i x : ℕ) → IsNamed h i x → HeldAt h p i → get_or (places_of p h) i None ≡ Some x
+named_place p h i x n held =
+    let o : Occupant = n.0 in
+    place_at p h i ∙ ap (shown_at p i) n.1 ∙ ap (λ (b : Bool). cond b None (Some o.serial)) (not_condemned h p i (Has o.colour) (ap mark_of n.1) held.1) ∙ ap Some n.2

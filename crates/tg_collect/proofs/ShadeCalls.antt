@@ -25,12 +25,11 @@ use Rattle.tg_collect.specs.Stored.{stored, serial_of, targets_of, of_colour}
 use Rattle.tg_collect.specs.Sessions.{shaded_mark, Shaded}
 use Rattle.tg_collect.proofs.MachineLemmas.{shades, was_not_free, condemned_after, seat_pending, root_within, cleared_before}
 use Rattle.tg_collect.proofs.PlaceLemmas.{shaded_vertices, shaded_triples, shaded_parked, shaded_places}
-use Rattle.tg_collect.proofs.SetLemmas.{colour_shows, shows_colour, same_key, key_same}
+use Rattle.tg_collect.proofs.SetLemmas.{colour_shows, shows_colour, same_key, key_same, named_place}
 use Rattle.tg_collect.proofs.LineLemmas.{shaded_other, shaded_free}
 use Rattle.tg_collect.proofs.LeftLemmas.{left_shade}
 use Rattle.tg_collect.proofs.ColourLines.{shaded_black, black_shaded}
 use Rattle.tg_collect.proofs.NameLines.{shaded_slots, recolours_back, recolours_forth, one_name}
-use Rattle.tg_collect.proofs.StoreLemmas.{named_place}
 use Rattle.tg_collect.proofs.CollectLemmas.{both_true}
 
 -- A slot is shaded and some roots go.

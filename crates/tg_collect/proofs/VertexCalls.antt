@@ -37,11 +37,10 @@ use Rattle.tg_collect.specs.Views.{InSet, IsHeldIn, IsEdgeIn}
 use Rattle.tg_collect.specs.Sessions.{with_black, TextReplaced, EdgeStored, VertexStored}
 use Rattle.tg_collect.proofs.GatherLemmas.{gather_set, total_most}
 use Rattle.tg_collect.proofs.PlaceLemmas.{not_condemned, is_condemned, condemned_is}
-use Rattle.tg_collect.proofs.SetLemmas.{same_key, key_same, colour_shows, shows_colour, waits_parked, Stands, get_stands, stands_get, named_held}
+use Rattle.tg_collect.proofs.SetLemmas.{same_key, key_same, colour_shows, shows_colour, waits_parked, Stands, get_stands, stands_get, named_held, shown_at}
 use Rattle.tg_collect.proofs.NameLines.{one_name}
 use Rattle.tg_collect.proofs.NameSteps.{names_vertex}
 use Rattle.tg_collect.proofs.SessionLemmas.{kept-places}
-use Rattle.tg_collect.proofs.StoreLemmas.{shown_at}
 use Rattle.tg_collect.proofs.CollectLemmas.{same_found, both_true}
 
 -- The vertex of one serial comes in or changes.

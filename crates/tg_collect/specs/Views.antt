@@ -1,12 +1,14 @@
 -- What a store's value says, by serials; what each store has; and what a collector step does.
-use Rattle.std.specs.Prelude.{◌≡◌, ◌≢◌, ℕ, zero, suc, ◌+◌, ◌<◌, ◌≤◌, List, length, Option, Some, None, ◌⊎◌, Bool, true, cond, ◌&&◌, get_or}
+use Rattle.std.specs.Prelude.{◌≡◌, ◌≢◌, ℕ, zero, suc, ◌+◌, ◌<◌, ◌≤◌, List, length, Option, Some, None, ◌⊎◌, Bool, true, cond, ◌&&◌, get_or, sum_by}
 use Rattle.std.specs.Option.{unwrap_or}
 use Rattle.std.specs.FinMap as finmap
 use Rattle.std.specs.FinSet as finset
 use Rattle.std.specs.Ordering.{nat_cmp}
 use Rattle.tg_rights.specs.Letters.{Right}
 use Rattle.tg_rights.specs.Membership.{Contains}
-use Rattle.tg_slots.specs.Table.{Free}
+use Rattle.tg_slots.specs.Table as table
+use Rattle.tg_slots.specs.Table.{Free, Has}
+use Rattle.tg_slots.specs.declared.colour.Colour.TheVariants.{Grey, Black}
 use Rattle.tg_graph.specs.Triples.{Triple}
 use Rattle.tg_graph.specs.Paths.{Live}
 use Rattle.tg_graph.specs.Fullness.{vertex_count, edge_count}
@@ -36,6 +38,15 @@ place v id = get_or v.places id None
 abbrev pub serial_at : Stored → ℕ → ℕ
 serial_at v id = unwrap_or (place v id) 0
 
+-- Whether a slot is free, or its colour.
+abbrev pub mark_in : Stored → ℕ → table.Mark
+mark_in v id = get_or v.marks id Free
+
+-- One for a free slot.
+abbrev pub free_one : table.Mark → ℕ
+free_one Free = 1
+free_one (Has c) = 0
+
 -- What each store has.
 pub record IsStore (v : Stored) : Type 0 where
   pub from_held : (t : Triple) → finset.contains v.triples t ≡ true → IsHeldIn v t.from
@@ -50,6 +61,12 @@ pub record IsStore (v : Stored) : Type 0 where
   pub placed : (i x : ℕ) → place v i ≡ Some x → IsHeldIn v x
   pub has_place : (x : ℕ) → IsHeldIn v x → (i : ℕ) × (place v i ≡ Some x)
   pub one_place : (i j x : ℕ) → place v i ≡ Some x → place v j ≡ Some x → i ≡ j
+  pub free_empty : (i : ℕ) → mark_in v i ≡ Free → place v i ≡ None
+  pub marked_grey : (i x : ℕ) → place v i ≡ Some x → mark_in v i ≡ Has Grey → InSet v.grey x
+  pub grey_marked : (i x : ℕ) → place v i ≡ Some x → InSet v.grey x → mark_in v i ≡ Has Grey
+  pub marked_black : (i x : ℕ) → place v i ≡ Some x → mark_in v i ≡ Has Black → InSet v.black x
+  pub black_marked : (i x : ℕ) → place v i ≡ Some x → InSet v.black x → mark_in v i ≡ Has Black
+  pub free_marks : v.free_slots ≡ sum_by free_one v.marks
   pub seats : length v.pending ≡ 64
   pub few : length v.principals ≤ 64
   pub slots : (next : ℕ) → v.free_slots + vertex_count (held v next) + finset.len v.parked ≡ length v.marks
@@ -63,11 +80,12 @@ abbrev pub Stays : Phase → Phase → Type 0
 Stays Mark Sweep = ⊥
 Stays _ _ = Unit {0}
 
--- The step into the sweep finds nothing grey. What is black stays, with its edges; what is not is parked, and was unreachable.
+-- The step into the sweep finds nothing grey. What is black stays in its slot, with its edges; what is not is parked, and was unreachable.
 pub record Parks (v w : Stored) : Type 0 where
   pub no_grey : (x : ℕ) → InSet v.grey x → ⊥
   pub vertices : (x : ℕ) → finmap.get w.vertices x ≡ cond (finset.contains v.black x) (finmap.get v.vertices x) None
   pub triples : (t : Triple) → finset.contains w.triples t ≡ (finset.contains v.triples t && finset.contains v.black t.from)
+  pub places : (i x : ℕ) → place w i ≡ Some x → place v i ≡ Some x
   pub parked : (x : ℕ) → InSet w.parked x → IsHeldIn v x × (InSet v.black x → ⊥)
   pub all : (x : ℕ) → IsHeldIn v x → (InSet v.black x → ⊥) → InSet w.parked x
   pub unreached : (next x : ℕ) → InSet w.parked x → Live (held v next) (IsRootIn v) x → ⊥
