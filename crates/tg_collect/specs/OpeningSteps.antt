@@ -1,10 +1,10 @@
 -- The steps by which a graph is opened.
-use Rattle.std.specs.Prelude.{◌≡◌, ℕ, ◌+◌, ◌<◌, ◌≤◌, [], ◌∷◌, ◌++◌, length, Some, None, ◌⊎◌, get_or, set, true}
+use Rattle.std.specs.Prelude.{◌≡◌, ℕ, ◌+◌, ◌<◌, ◌≤◌, List, [], ◌∷◌, ◌++◌, length, Some, None, ◌⊎◌, get_or, set, true}
 use Rattle.std.specs.FinMap as finmap
 use Rattle.std.specs.FinSet as finset
 use Rattle.tg_rights.specs.Letters.{Letters}
 use Rattle.tg_rights.specs.declared.kind.Kind.TheVariants.{Subject}
-use Rattle.tg_slots.specs.Table.{Has, fresh}
+use Rattle.tg_slots.specs.Table.{Has, fresh, indices}
 use Rattle.tg_slots.specs.declared.colour.Colour.TheVariants.{White}
 use Rattle.tg_graph.specs.Triples.{Triple, edge}
 use Rattle.tg_graph.specs.Protection.{Protection, IsGraph}
@@ -13,7 +13,8 @@ use Rattle.tg_graph.specs.Fullness.{edge_count}
 use Rattle.tg_heap.specs.Graph.{edges}
 use Rattle.tg_collect.specs.declared.machine.Progress.TheVariants.{Idle}
 use Rattle.tg_collect.specs.declared.machine.Machine.{Machine}
-use Rattle.tg_collect.specs.Stored.{Stored}
+use Rattle.tg_collect.specs.Stored.{Stored, stored}
+use Rattle.tg_collect.specs.Views.{place}
 use Rattle.tg_collect.specs.Openings.{Opens}
 
 -- A machine of free slots and free cells.
@@ -28,9 +29,9 @@ pub record Blank (m : Machine) (slots cells : ℕ) : Type 0 where
   pub idle : (k : ℕ) → get_or m.pending.items k None ≡ None
 
 -- One more principal, white, in a slot that was free.
-pub record PrincipalOpened (v w : Stored) (serial : ℕ) : Type 0 where
-  pub slot : ℕ
+pub record PrincipalOpened (v w : Stored) (serial slot : ℕ) : Type 0 where
   pub within : slot < length v.marks
+  pub placed : place w slot ≡ Some serial
   pub free_slots : v.free_slots ≡ w.free_slots + 1
   pub is : w ≡ record v {
     vertices = finmap.insert v.vertices serial (record { kind = Subject; text = [] });
@@ -40,6 +41,14 @@ pub record PrincipalOpened (v w : Stored) (serial : ℕ) : Type 0 where
     free_slots = w.free_slots;
     left = w.left;
   }
+
+-- The principal takes the first free slot.
+abbrev pub OpensFirst : (m n : Machine) → ℕ → Type 0
+OpensFirst m n serial = (i : ℕ) × (m.heap.table.free ≡ i ∷ n.heap.table.free) × PrincipalOpened (stored m) (stored n) serial i
+
+-- The free slots are those from an index on, in this order.
+abbrev pub IsFreeFrom : ℕ → List ℕ → Type 0
+IsFreeFrom first free = free ≡ indices first (length free)
 
 -- The graph's principals are there, and no edge.
 pub record PrincipalsOpened (v w : Stored) (G : Protection) : Type 0 where

@@ -1,5 +1,5 @@
 -- The store that a graph opens.
-use Rattle.std.specs.Prelude.{◌≡◌, ℕ, zero, suc, ◌+◌, ◌≤◌, List, [], ◌∷◌, ◌++◌, length, None, ◌⊎◌, get_or}
+use Rattle.std.specs.Prelude.{◌≡◌, ℕ, zero, suc, ◌+◌, ◌<◌, ◌≤◌, List, [], ◌∷◌, ◌++◌, length, Some, None, ◌⊎◌, get_or}
 use Rattle.tg_slots.specs.Table.{Free, Has}
 use Rattle.tg_slots.specs.declared.colour.Colour.TheVariants.{White}
 use Rattle.tg_graph.specs.Protection.{Protection}
@@ -8,7 +8,7 @@ use Rattle.tg_graph.specs.Opening.{subjects, first_fault, opening}
 use Rattle.tg_graph.specs.Fullness.{edge_count}
 use Rattle.tg_collect.specs.declared.note.Phase.TheVariants.{Idle}
 use Rattle.tg_collect.specs.Stored.{Stored}
-use Rattle.tg_collect.specs.Views.{InSet}
+use Rattle.tg_collect.specs.Views.{InSet, place}
 use Rattle.tg_collect.specs.Sessions.{pending_of}
 
 -- The serials from 1 to the count.
@@ -24,10 +24,11 @@ pub record IsOpening (G : Protection) (all_slots all_cells : ℕ) : Type 0 where
   pub slots : count ≤ all_slots
   pub cells : edge_count G ≤ all_cells
 
--- This many principals, all white, with nothing parked and no target.
+-- this many principals in the first slots, in the order of their serials, all white, with nothing parked and no target
 pub record Opens (v : Stored) (count all_slots all_cells : ℕ) : Type 0 where
   pub vertices : v.vertices ≡ subjects count
   pub principals : v.principals ≡ first_serials count
+  pub places : (k : ℕ) → k < count → place v k ≡ Some (k + 1)
   pub phase : v.phase ≡ Idle
   pub idle : (seat : ℕ) → pending_of v seat ≡ None
   pub marks : (i : ℕ) → (get_or v.marks i Free ≡ Free) ⊎ (get_or v.marks i Free ≡ Has White)
