@@ -61,10 +61,7 @@ line_place n f laws P U h _ _ _ _ _ (condemns g s) y z = absurd y
 line_place n f laws P U h _ _ _ _ _ (skips at l m) y z = gather_same _ _ h.table.slots h.table.slots refl
     (λ j b. moved n f (Sweeping (at + 1)) (Sweeping at) h.lists j (get_or h.table.slots j None) (elim (cases_eq j at) [
       | inl is ↦
-          let dark : mark_at h j ≡ Has White → ⊥ = λ w. elim m [
-            | inl free ↦ (let here = subst (λ (i : ℕ). mark_at h i ≡ Free) (sym is) free in let u : Free ≡ Has White = sym here ∙ w in cc)
-            | inr grey ↦ (let here = subst (λ (i : ℕ). mark_at h i ≡ Has Grey) (sym is) grey in let u : Has Grey ≡ Has White = sym here ∙ w in cc)
-          ] in condemned_dark (Sweeping (at + 1)) j (mark_at h j) dark ∙ sym (condemned_dark (Sweeping at) j (mark_at h j) dark)
+          let dark : mark_at h j ≡ Has White → ⊥ = λ w. let here = subst (λ (i : ℕ). mark_at h i ≡ Free) (sym is) m in let u : Free ≡ Has White = sym here ∙ w in cc in condemned_dark (Sweeping (at + 1)) j (mark_at h j) dark ∙ sym (condemned_dark (Sweeping at) j (mark_at h j) dark)
       | inr other ↦ condemned_next at j (mark_at h j) other
     ]))
 line_place n f laws P U h _ _ _ _ _ (whitens at l m) y z = painted_place n f laws (Sweeping (at + 1)) (Sweeping at) h.lists h.table.slots at White

@@ -177,6 +177,31 @@ kept-pop m i rest at list heap kept =
           (remaining_split [] (edges m.heap i) (heap.cells.cell_once i)) (passed_split [] (edges m.heap i) (heap.cells.cell_once i)) old;
     }
 
+-- Nothing grey is left when the sweep starts.
+pub kept-start_sweep : (m : Machine) → m.progress ≡ Marking None → m.heap.table.grey ≡ [] → Invariant m → ((i : ℕ) → IsPending m i → mark_at m.heap i ≡ Has White → ⊥) → Invariant (record m { progress = Sweeping 0 })
+kept-start_sweep m at none kept settled = record {
+  roots_held = λ i r. ((kept.roots_held i r).0, λ c. settled i (old.roots i r c.1) c.1);
+  closed = λ i e h o.
+      let dark = black i h.0 (λ w. h.1 (omega arith, w)) in
+      ((kept.closed i e (held_marking m None i at h.0) o).0, λ c. settled e.target (old.black_edges i dark e o c.1) c.1);
+  phase = (λ i g. absurd (not_grey i g), λ i b k. omega (arith, b), λ i b g. not_grey i g);
+} where
+  old : PhaseHolds (Marking None) m
+  old = subst (λ (p : Progress). PhaseHolds p m) at kept.phase
+
+  not_grey : (i : ℕ) → mark_at m.heap i ≡ Has Grey → ⊥
+  not_grey i g = elim (old.grey_known i g) [ inl w ↦ subst (λ (l : List ℕ). Contains l i) none w | inr s ↦ s ]
+
+  black : (i : ℕ) → mark_at m.heap i ≢ Free → (mark_at m.heap i ≡ Has White → ⊥) → mark_at m.heap i ≡ Has Black
+  black i f w = elim (mark_at m.heap i) as (λ k. mark_at m.heap i ≡ k → mark_at m.heap i ≡ Has Black) [
+    | Free ↦ λ e. absurd (f e)
+    | Has c ↦ λ e. by c e
+  ] refl where
+    by : (c : Colour) → mark_at m.heap i ≡ Has c → mark_at m.heap i ≡ Has Black
+    by White e = absurd (w e)
+    by Grey e = absurd (not_grey i e)
+    by Black e = e
+
 -- Condemned or not, by the phase.
 condemned_to : (m : Machine) (p : Progress) (i : ℕ) → m.progress ≡ p → CondemnedAt m.progress m.heap i → CondemnedAt p m.heap i
 condemned_to m p i e c = subst (λ (q : Progress). CondemnedAt q m.heap i) e c
@@ -207,6 +232,10 @@ kept-sweep m h' at e s stays same kept = record {
     λ i b k. elim (cases_eq i at) [
       | inl is ↦ s.not_black (subst (λ (n : ℕ). mark_at h' n ≡ Has Black) is k)
       | inr other ↦ old.1 i (omega arith) (sym (s.others i other) ∙ k)
+    ],
+    λ i b g. elim (cases_eq i at) [
+      | inl is ↦ s.not_grey (subst (λ (n : ℕ). mark_at h' n ≡ Has Grey) is g)
+      | inr other ↦ old.2 i (omega arith) (sym (s.others i other) ∙ g)
     ],
   );
 } where
@@ -298,11 +327,18 @@ condemned_after h (Sweeping k) i j w n c = let s = shades h.table i w in elim (s
   | inr changed ↦ absurd (n (subst (λ (q : ℕ). CondemnedAt (Sweeping k) h q) changed.0 c))
 ]
 
-phase-shade : (h : HeapGraph) (p : Progress) (Root Root' Unf Unf' : ℕ → Type 0) (i : ℕ) → i < length h.table.slots → PhaseAt p h Root Unf
+phase-shade : (h : HeapGraph) (p : Progress) (Root Root' Unf Unf' : ℕ → Type 0) (i : ℕ) → i < length h.table.slots → (CondemnedAt p h i → ⊥) → PhaseAt p h Root Unf
     → ((j : ℕ) → Root' j → Root j) → ((j : ℕ) → Unf j → Unf' j ⊎ (j ≡ i)) → PhaseAt p (record h { table = shaded h.table i }) Root' Unf'
-phase-shade h Idle Root Root' Unf Unf' i w old fewer less = (grey_waits h i w old.0, λ j b. old.1 j (never_new h i j Black (λ q. cc) w b))
-phase-shade h (Sweeping k) Root Root' Unf Unf' i w old fewer less = (grey_waits h i w old.0, λ j l b. old.1 j l (never_new h i j Black (λ q. cc) w b))
-phase-shade h (Marking s) Root Root' Unf Unf' i w old fewer less =
+phase-shade h Idle Root Root' Unf Unf' i w n old fewer less = (grey_waits h i w old.0, λ j b. old.1 j (never_new h i j Black (λ q. cc) w b))
+phase-shade h (Sweeping k) Root Root' Unf Unf' i w n old fewer less = (
+  grey_waits h i w old.0,
+  λ j l b. old.1 j l (never_new h i j Black (λ q. cc) w b),
+  λ j l g. let s = shades h.table i w in elim (s.each j) [
+    | inl same ↦ old.2 j l (sym same ∙ g)
+    | inr changed ↦ n (subst (CondemnedAt (Sweeping k) h) changed.0 (l, changed.1))
+  ],
+)
+phase-shade h (Marking s) Root Root' Unf Unf' i w n old fewer less =
     let change = shades h.table i w in
     tricolour-settle (mark (shaded h.table i)) (edges h) (Contains (shaded h.table i).grey) Root Root' Unf Unf' (scan_of s)
     (λ j u. elim (less j u) [ inl is ↦ inl is | inr here ↦ inr (λ b. change.done (subst (λ (q : ℕ). mark (shaded h.table i) q ≡ Has White) here b)) ]) fewer
@@ -314,7 +350,7 @@ pub sound-shade : (h : HeapGraph) (p : Progress) (Root Root' Unf Unf' : ℕ → 
 sound-shade h p Root Root' Unf Unf' i w held kept fewer less = record {
   roots_held = λ j r. forward j (kept.roots_held j (fewer j r));
   closed = λ j e g o. forward e.target (kept.closed j e (back j g) o);
-  phase = phase-shade h p Root Root' Unf Unf' i w kept.phase fewer less;
+  phase = phase-shade h p Root Root' Unf Unf' i w held.1 kept.phase fewer less;
 } where
   forward : (j : ℕ) → HeldAt h p j → HeldAt (record h { table = shaded h.table i }) p j
   forward j g = (not_free (mark h.table) (mark (shaded h.table i)) _ _ i j (shades h.table i w) g.0, λ c. g.1 (condemned_before h p i j w c))

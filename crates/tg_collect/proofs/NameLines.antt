@@ -118,8 +118,7 @@ condemned_stays P U h _ _ _ _ _ (takes i rest g) j d = absurd d
 condemned_stays P U h _ _ _ _ _ (settles i g u w) j d = absurd d
 condemned_stays P U h _ _ _ _ _ (condemns g s) j d = absurd d
 condemned_stays P U h _ _ _ _ _ (skips at l m) j d = elim (cases_eq j at) [
-  | inl is ↦ absurd (let w : mark_at h at ≡ Has White = subst (λ (k : ℕ). mark_at h k ≡ Has White) is d.1 in
-      elim m [ inl free ↦ (let u : Free ≡ Has White = sym free ∙ w in cc) | inr grey ↦ (let u : Has Grey ≡ Has White = sym grey ∙ w in cc) ])
+  | inl is ↦ absurd (let w : mark_at h at ≡ Has White = subst (λ (k : ℕ). mark_at h k ≡ Has White) is d.1 in let u : Free ≡ Has White = sym m ∙ w in cc)
   | inr other ↦ inl ((let a = d.0 in omega (arith, a, other)), d.1)
 ]
 condemned_stays P U h _ _ _ _ _ (whitens at l m) j d = elim (cases_eq j at) [

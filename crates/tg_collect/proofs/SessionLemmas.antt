@@ -248,7 +248,7 @@ kept-rewrites m slots same kept =
         → PhaseAt p (record m.heap { table = record m.heap.table { slots = slots } }) (IsRoot m) (IsPending m)
     phase c Idle h = (λ i g. h.0 i (sym (same i) ∙ g), λ i b. h.1 i (sym (same i) ∙ b))
     phase c (Marking s) h = subst (λ (k : ℕ → Mark). Tricolour k (edges m.heap) (Contains m.heap.table.grey) (IsRoot m) (IsPending m) (scan_of s)) c h
-    phase c (Sweeping k) h = (λ i g. h.0 i (sym (same i) ∙ g), λ i l b. h.1 i l (sym (same i) ∙ b))
+    phase c (Sweeping k) h = (λ i g. h.0 i (sym (same i) ∙ g), λ i l b. h.1 i l (sym (same i) ∙ b), λ i l g. h.2 i l (sym (same i) ∙ g))
 
 -- Another text leaves the mark.
 pub same_mark : (os : List (Option Occupant)) (i : ℕ) (text : List ℕ) (j : ℕ) → mark_of (get_or (set os i (with_text text (get_or os i None))) j None) ≡ mark_of (get_or os j None)

@@ -1,7 +1,7 @@
 -- Each private step of the machine is one line of the table.
-use Rattle.std.proofs.Common.{◌≡◌, ℕ, suc, ◌+◌, ◌<◌, ◌≤◌, List, [], ◌∷◌, length, Option, Some, None, ◌⊎◌, sym, ◌∙◌, subst, ap, refl, arith, true, false}
+use Rattle.std.proofs.Common.{◌≡◌, ℕ, suc, ◌+◌, ◌<◌, ◌≤◌, List, [], ◌∷◌, length, Option, Some, None, sym, ◌∙◌, subst, ap, refl, arith, true, false}
 use Rattle.tg_slots.specs.Table.{Table, Free, Has}
-use Rattle.tg_slots.specs.declared.colour.Colour.TheVariants.{White, Grey, Black}
+use Rattle.tg_slots.specs.declared.colour.Colour.TheVariants.{White, Black}
 use Rattle.tg_heap.specs.Graph.{HeapGraph, edges, mark_at, shaded, painted}
 use Rattle.tg_cells.specs.Lists.{Edge, first_cell}
 use Rattle.tg_collect.specs.declared.machine.Progress.{Progress}
@@ -52,7 +52,7 @@ pub steps_condemns : (m : Machine) → m.progress ≡ Marking None → m.heap.ta
     → Steps m (record m { progress = Sweeping 0 }) 0 false
 steps_condemns m at g s = by_line m _ _ m.heap 0 false at (condemns g s)
 
-pub steps_skips : (m : Machine) (i : ℕ) → m.progress ≡ Sweeping i → i < length m.heap.table.slots → (mark_at m.heap i ≡ Free) ⊎ (mark_at m.heap i ≡ Has Grey)
+pub steps_skips : (m : Machine) (i : ℕ) → m.progress ≡ Sweeping i → i < length m.heap.table.slots → mark_at m.heap i ≡ Free
     → Steps m (record m { progress = Sweeping (i + 1) }) 0 false
 steps_skips m i at l s = by_line m _ _ m.heap 0 false at (skips i l s)
 

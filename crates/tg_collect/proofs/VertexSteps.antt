@@ -136,4 +136,12 @@ sound-vertex h p Root Unf i o rest within free bare fits kept = (
           ])
       | inr n ↦ old.1 j l (sym (there j n) ∙ b)
     ],
+    λ j l g. elim (cases_eq j i) [
+      | inl is ↦ (let g' = subst (λ (q : ℕ). mark_at (with_vertex h i o rest) q ≡ Has Grey) is g in
+          elim c [
+            | inl before ↦ (let w = before.1 in let u : Has White ≡ Has Grey = ap Has (sym w) ∙ (sym here ∙ g') in cc)
+            | inr after ↦ (let w = after.1 in let u : Has Black ≡ Has Grey = ap Has (sym w) ∙ (sym here ∙ g') in cc)
+          ])
+      | inr n ↦ old.2 j l (sym (there j n) ∙ g)
+    ],
   )

@@ -1,7 +1,7 @@
 -- The lines of the collector's table, over the heap and the progress.
-use Rattle.std.specs.Prelude.{◌≡◌, ℕ, suc, ◌+◌, ◌<◌, ◌≤◌, List, [], ◌∷◌, ◌++◌, length, Some, None, ◌⊎◌, Bool, true, false}
+use Rattle.std.specs.Prelude.{◌≡◌, ℕ, suc, ◌+◌, ◌<◌, ◌≤◌, List, [], ◌∷◌, ◌++◌, length, Some, None, Bool, true, false}
 use Rattle.tg_slots.specs.Table.{Table, Free, Has}
-use Rattle.tg_slots.specs.declared.colour.Colour.TheVariants.{White, Grey, Black}
+use Rattle.tg_slots.specs.declared.colour.Colour.TheVariants.{White, Black}
 use Rattle.tg_heap.specs.Graph.{HeapGraph, edges, mark_at, shaded, painted}
 use Rattle.tg_cells.specs.Lists.{Edge, first_cell}
 use Rattle.tg_collect.specs.declared.machine.Progress.{Progress}
@@ -25,7 +25,7 @@ pub data Line (Principal Pending : ℕ → Type 0) (h : HeapGraph) : Progress �
   settles : (i : ℕ) → h.table.grey ≡ [] → Pending i → mark_at h i ≡ Has White
       → Line Principal Pending h (Marking None) (record h { table = shaded h.table i }) (Marking None) 0 false
   condemns : h.table.grey ≡ [] → ((i : ℕ) → Pending i → mark_at h i ≡ Has White → ⊥) → Line Principal Pending h (Marking None) h (Sweeping 0) 0 false
-  skips : (at : ℕ) → at < length h.table.slots → (mark_at h at ≡ Free) ⊎ (mark_at h at ≡ Has Grey) → Line Principal Pending h (Sweeping at) h (Sweeping (at + 1)) 0 false
+  skips : (at : ℕ) → at < length h.table.slots → mark_at h at ≡ Free → Line Principal Pending h (Sweeping at) h (Sweeping (at + 1)) 0 false
   whitens : (at : ℕ) → at < length h.table.slots → mark_at h at ≡ Has Black → Line Principal Pending h (Sweeping at) (record h { table = painted h.table at White }) (Sweeping (at + 1)) 0 false
   strips : (at : ℕ) (e : Edge) (r : List Edge) → at < length h.table.slots → mark_at h at ≡ Has White → edges h at ≡ e ∷ r → Line Principal Pending h (Sweeping at) (with_list h at r) (Sweeping at) 0 false
   frees : (at : ℕ) → at < length h.table.slots → mark_at h at ≡ Has White → edges h at ≡ [] → Line Principal Pending h (Sweeping at) (without_slot h at) (Sweeping (at + 1)) 1 false

@@ -52,7 +52,7 @@ GreyWaits h = (i : ℕ) → mark_at h i ≡ Has Grey → Contains h.table.grey i
 abbrev pub PhaseAt : Progress → HeapGraph → (ℕ → Type 0) → (ℕ → Type 0) → Type 0
 PhaseAt Idle h Root Pending = GreyWaits h × ((i : ℕ) → mark_at h i ≢ Has Black)
 PhaseAt (Marking s) h Root Pending = Tricolour (mark_at h) (edges h) (Contains h.table.grey) Root Pending (scan_of s)
-PhaseAt (Sweeping k) h Root Pending = GreyWaits h × ((i : ℕ) → i < k → mark_at h i ≢ Has Black)
+PhaseAt (Sweeping k) h Root Pending = GreyWaits h × ((i : ℕ) → i < k → mark_at h i ≢ Has Black) × ((i : ℕ) → k ≤ i → mark_at h i ≢ Has Grey)
 
 abbrev pub PhaseHolds : Progress → Machine → Type 0
 PhaseHolds p m = PhaseAt p m.heap (IsRoot m) (IsPending m)

@@ -109,10 +109,10 @@ impl Machine {
         }
     }
 
-    /// Passes a slot that stays as it is.
+    /// Passes a free slot.
     fn skip(&mut self, at: u32)
         requires at { self.old.progress ≡ Progress.Sweeping at }
-        requires stays { (mark_at self.old.heap at ≡ Free) ⊎ (mark_at self.old.heap at ≡ Has Colour.Grey) }
+        requires free { mark_at self.old.heap at ≡ Free }
         requires inside { at < length self.old.heap.table.slots }
         requires size { length self.old.heap.table.slots ≤ 65536 }
         requires kept { Invariant self.old }
@@ -398,10 +398,11 @@ impl Machine {
             return self.note(0, true);
         }
         match self.heap.colour(at) {
-            None | Some(Colour::Grey) => {
+            None => {
                 self.skip(at);
                 self.note(0, false)
             }
+            Some(Colour::Grey) => unreachable!(),
             Some(Colour::Black) => {
                 self.whiten(at);
                 self.note(0, false)
