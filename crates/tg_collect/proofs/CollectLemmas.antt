@@ -23,9 +23,9 @@ use Rattle.tg_collect.specs.declared.machine.Root.{Root}
 use Rattle.tg_collect.specs.declared.machine.Progress.{Progress}
 use Rattle.tg_collect.specs.declared.machine.Progress.TheVariants.{Idle, Marking, Sweeping}
 use Rattle.tg_collect.specs.declared.machine.Machine.{Machine}
-use Rattle.tg_collect.specs.Machine.{IsPrincipal, IsPending, IsRoot, IsReached, IsHeld, CondemnedAt, HeldAt, Invariant, PhaseHolds, phase_of, without_slot}
+use Rattle.tg_collect.specs.Machine.{IsPendingOf, IsPrincipal, IsPending, IsRoot, IsReached, IsHeld, CondemnedAt, HeldAt, Invariant, PhaseHolds, phase_of, without_slot}
 use Rattle.tg_collect.specs.Names.{IsNamed, IsRootOf, Names, Whole}
-use Rattle.tg_collect.specs.Lines.{Line, starts, scans, blackens, takes, settles, condemns, skips, whitens, strips, frees, finishes, Steps}
+use Rattle.tg_collect.specs.Lines.{Line, starts, scans, blackens, takes, shades_pending, starts_sweep, skips, whitens, strips, frees, finishes, Steps}
 use Rattle.tg_rights.specs.Letters.{Letters, Right, has, is_none}
 use Rattle.tg_rights.specs.Letters as right
 use Rattle.tg_graph.specs.declared.vertex.Vertex.{Vertex}
@@ -231,37 +231,37 @@ parks m at none settled kept n = record {
   by x u s dark (Has Black) e = absurd (dark (shows_colour m.heap Black x (record { at = s.at; named = (s.occupant, s.is, s.serial); mark = e })))
 
 -- Which line goes to the sweep.
-pub record Condemns (U : ℕ → Type 0) (h h' : HeapGraph) (p q : Progress) : Type 0 where
+pub record StartsSweep (U : List (Option Root)) (h h' : HeapGraph) (p q : Progress) : Type 0 where
   pub before : p ≡ Marking None
   pub after : q ≡ Sweeping 0
   pub same : h' ≡ h
   pub none : h.table.grey ≡ []
-  pub settled : (i : ℕ) → U i → mark_at h i ≡ Has White → ⊥
+  pub settled : (i : ℕ) → IsPendingOf U i → mark_at h i ≡ Has White → ⊥
 
-pub line_condemns : (P U : ℕ → Type 0) (h h' : HeapGraph) (p q : Progress) (c : ℕ) (e : Bool) → Line P U h p h' q c e → phase_of p ≡ phase.Mark → phase_of q ≡ phase.Sweep → Condemns U h h' p q
-line_condemns P U h _ _ _ _ _ (starts t k s few) a b = absurd (cc)
-line_condemns P U h _ _ _ _ _ (scans i cursor y e x w at) a b = absurd (cc)
-line_condemns P U h _ _ _ _ _ (blackens i) a b = absurd (cc)
-line_condemns P U h _ _ _ _ _ (takes i rest l) a b = absurd (cc)
-line_condemns P U h _ _ _ _ _ (settles i g u w) a b = absurd (cc)
-line_condemns P U h _ _ _ _ _ (condemns g s) a b = record { before = refl; after = refl; same = refl; none = g; settled = s }
-line_condemns P U h _ _ _ _ _ (skips at l m) a b = absurd (cc)
-line_condemns P U h _ _ _ _ _ (whitens at l m) a b = absurd (cc)
-line_condemns P U h _ _ _ _ _ (strips at e r l m w) a b = absurd (cc)
-line_condemns P U h _ _ _ _ _ (frees at l m w) a b = absurd (cc)
-line_condemns P U h _ _ _ _ _ (finishes at l) a b = absurd (cc)
+pub line_starts_sweep : (P : List Root) (U : List (Option Root)) (h h' : HeapGraph) (p q : Progress) (c : ℕ) (e : Bool) → Line P U h p h' q c e → phase_of p ≡ phase.Mark → phase_of q ≡ phase.Sweep → StartsSweep U h h' p q
+line_starts_sweep P U h _ _ _ _ _ (starts few) a b = absurd (cc)
+line_starts_sweep P U h _ _ _ _ _ (scans i cursor y e x w at) a b = absurd (cc)
+line_starts_sweep P U h _ _ _ _ _ (blackens i) a b = absurd (cc)
+line_starts_sweep P U h _ _ _ _ _ (takes i rest l) a b = absurd (cc)
+line_starts_sweep P U h _ _ _ _ _ (shades_pending k r g f) a b = absurd (cc)
+line_starts_sweep P U h _ _ _ _ _ (starts_sweep g s) a b = record { before = refl; after = refl; same = refl; none = g; settled = s }
+line_starts_sweep P U h _ _ _ _ _ (skips at l m) a b = absurd (cc)
+line_starts_sweep P U h _ _ _ _ _ (whitens at l m) a b = absurd (cc)
+line_starts_sweep P U h _ _ _ _ _ (strips at e r l m w) a b = absurd (cc)
+line_starts_sweep P U h _ _ _ _ _ (frees at l m w) a b = absurd (cc)
+line_starts_sweep P U h _ _ _ _ _ (finishes at l) a b = absurd (cc)
 
 same_steps : (m n : Machine) (h : HeapGraph) (q : Progress) → n.heap ≡ h → n.progress ≡ q → n.principals ≡ m.principals → n.pending ≡ m.pending → n ≡ record m { heap = h; progress = q }
 same_steps m n h q a b c d = rw (sym a, sym b, sym c, sym d) refl
 
 -- Slots are freed in the sweep alone.
-line_freed : (P U : ℕ → Type 0) (h h' : HeapGraph) (p q : Progress) (c : ℕ) (e : Bool) → Line P U h p h' q c e → (phase_of p ≡ phase.Sweep) ⊎ (c ≡ 0)
-line_freed P U h _ _ _ _ _ (starts t k s few) = inr refl
+line_freed : (P : List Root) (U : List (Option Root)) (h h' : HeapGraph) (p q : Progress) (c : ℕ) (e : Bool) → Line P U h p h' q c e → (phase_of p ≡ phase.Sweep) ⊎ (c ≡ 0)
+line_freed P U h _ _ _ _ _ (starts few) = inr refl
 line_freed P U h _ _ _ _ _ (scans i cursor y e x w at) = inr refl
 line_freed P U h _ _ _ _ _ (blackens i) = inr refl
 line_freed P U h _ _ _ _ _ (takes i rest l) = inr refl
-line_freed P U h _ _ _ _ _ (settles i g u w) = inr refl
-line_freed P U h _ _ _ _ _ (condemns g s) = inr refl
+line_freed P U h _ _ _ _ _ (shades_pending k r g f) = inr refl
+line_freed P U h _ _ _ _ _ (starts_sweep g s) = inr refl
 line_freed P U h _ _ _ _ _ (skips at l m) = inl refl
 line_freed P U h _ _ _ _ _ (whitens at l m) = inl refl
 line_freed P U h _ _ _ _ _ (strips at e r l m w) = inl refl
@@ -314,14 +314,14 @@ frees_one h at l w once =
     )
 
 -- What is parked loses the slot that is freed.
-line_unparks : (P U : ℕ → Type 0) (h h' : HeapGraph) (p q : Progress) (c : ℕ) (e : Bool) → Line P U h p h' q c e → ((i j x : ℕ) → IsNamed h i x → IsNamed h j x → i ≡ j) → (v w : Stored)
+line_unparks : (P : List Root) (U : List (Option Root)) (h h' : HeapGraph) (p q : Progress) (c : ℕ) (e : Bool) → Line P U h p h' q c e → ((i j x : ℕ) → IsNamed h i x → IsNamed h j x → i ≡ j) → (v w : Stored)
     → v.parked ≡ parked_of p h → w.parked ≡ parked_of q h' → (c ≡ 0 → w.parked ≡ v.parked) → Unparks v w c
-line_unparks P U h _ _ _ _ _ (starts t k s few) once v w a b z = z refl
+line_unparks P U h _ _ _ _ _ (starts few) once v w a b z = z refl
 line_unparks P U h _ _ _ _ _ (scans i cursor y e x l at) once v w a b z = z refl
 line_unparks P U h _ _ _ _ _ (blackens i) once v w a b z = z refl
 line_unparks P U h _ _ _ _ _ (takes i rest l) once v w a b z = z refl
-line_unparks P U h _ _ _ _ _ (settles i g u x) once v w a b z = z refl
-line_unparks P U h _ _ _ _ _ (condemns g s) once v w a b z = z refl
+line_unparks P U h _ _ _ _ _ (shades_pending k r g f) once v w a b z = z refl
+line_unparks P U h _ _ _ _ _ (starts_sweep g s) once v w a b z = z refl
 line_unparks P U h _ _ _ _ _ (skips at l m) once v w a b z = z refl
 line_unparks P U h _ _ _ _ _ (whitens at l m) once v w a b z = z refl
 line_unparks P U h _ _ _ _ _ (strips at e r l m x) once v w a b z = z refl
@@ -333,8 +333,8 @@ line_unparks P U h _ _ _ _ _ (finishes at l) once v w a b z = z refl
 -- All that is promised of a collector step.
 pub collected : (m n : Machine) (c : ℕ) (e : Bool) → Steps m n c e → IsHeap m.heap → Invariant m → Names m.heap m.progress (IsRootOf m) → Collected (stored m) (stored n) c e
 collected m n c e s ok kept names =
-    let P : ℕ → Type 0 = IsPrincipal m in
-    let U : ℕ → Type 0 = IsPending m in
+    let P : List Root = m.principals.items in
+    let U : List (Option Root) = m.pending.items in
     let sound = to_sound m kept in
     let counts = line_counts P U m.heap n.heap m.progress n.progress c e s.line in
     record {
@@ -346,7 +346,7 @@ collected m n c e s ok kept names =
       triples = line_triples P U m.heap n.heap m.progress n.progress c e s.line;
       places = line_places P U m.heap n.heap m.progress n.progress c e s.line;
       parks = λ a b.
-          let d = line_condemns P U m.heap n.heap m.progress n.progress c e s.line a b in
+          let d = line_starts_sweep P U m.heap n.heap m.progress n.progress c e s.line a b in
           subst (λ (x : Machine). Parks (stored m) (stored x)) (sym (same_steps m n m.heap (Sweeping 0) d.same d.after s.principals s.pending)) (parks m d.before d.none d.settled kept names);
       freed = line_freed P U m.heap n.heap m.progress n.progress c e s.line;
       parked = λ y. line_unparks P U m.heap n.heap m.progress n.progress c e s.line names.once (stored m) (stored n) refl refl
@@ -401,9 +401,9 @@ collected m n c e s ok kept names =
     not_white (Marking z) i b d = d
     not_white (Sweeping k) i b d = let w = d.1 in let u : Has White ≡ Has Black = sym w ∙ b in cc
 
-    lower : (b : Bool) → Line (IsPrincipal m) (IsPending m) m.heap m.progress n.heap n.progress c b → (b ≡ true) ⊎ ((stored n).left < (stored m).left)
+    lower : (b : Bool) → Line m.principals.items m.pending.items m.heap m.progress n.heap n.progress c b → (b ≡ true) ⊎ ((stored n).left < (stored m).left)
     lower true l = inl refl
-    lower false l = inr (line_left (IsPrincipal m) (IsPending m) m.heap n.heap m.progress n.progress c l ok (names_slim m.heap m.progress (IsRootOf m) ok names) (to_sound m kept))
+    lower false l = inr (line_left m.principals.items m.pending.items m.heap n.heap m.progress n.progress c l ok (names_slim m.heap m.progress (IsRootOf m) ok names) (to_sound m kept))
 
 -- A step keeps the names.
 pub whole_steps : (m n : Machine) (c : ℕ) (e : Bool) → Steps m n c e → IsHeap m.heap → Whole m → Invariant n → Whole n
@@ -411,7 +411,7 @@ whole_steps m n c e s ok w kept = record {
   seats = ap (λ (v : Vec (Option Root) Global). length v.items) s.pending ∙ w.seats;
   few = subst (λ (v : Vec Root Global). length v.items ≤ 64) (sym s.principals) w.few;
   kept = kept;
-  names = moved (line_names (IsPrincipal m) (IsPending m) (IsRootOf m) m.heap n.heap m.progress n.progress c e s.line ok root (to_sound m w.kept) w.names);
+  names = moved (line_names m.principals.items m.pending.items (IsRootOf m) m.heap n.heap m.progress n.progress c e s.line ok root (to_sound m w.kept) w.names);
 } where
   root : (i x : ℕ) → IsRootOf m i x → IsPrincipal m i ⊎ IsPending m i
   root i x (inl p) = inl (x, p)

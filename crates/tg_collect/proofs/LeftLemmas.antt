@@ -15,10 +15,12 @@ use Rattle.tg_heap.proofs.CursorLemmas.{cells, remaining_split, contains_right}
 use Rattle.tg_collect.specs.declared.machine.Scan.{Scan}
 use Rattle.tg_collect.specs.declared.machine.Progress.{Progress}
 use Rattle.tg_collect.specs.declared.machine.Progress.TheVariants.{Idle, Marking, Sweeping}
-use Rattle.tg_collect.specs.Machine.{CondemnedAt, HeldAt, Sound, without_slot, with_list}
+use Rattle.tg_collect.specs.declared.machine.Root.{Root}
+use Rattle.tg_collect.specs.Machine.{IsPrincipalOf, IsPendingOf, CondemnedAt, HeldAt, Sound, without_slot, with_list}
 use Rattle.tg_collect.specs.Stored.{slot_weight, weight_at, parked_cells_at, condemned, total, cycle_bound, left_of}
-use Rattle.tg_collect.specs.Lines.{Line, starts, scans, blackens, takes, settles, condemns, skips, whitens, strips, frees, finishes, Shadings, none, one_more}
+use Rattle.tg_collect.specs.Lines.{Line, starts, scans, blackens, takes, shades_pending, starts_sweep, skips, whitens, strips, frees, finishes}
 use Rattle.tg_collect.proofs.MachineLemmas.{shades}
+use Rattle.tg_collect.proofs.LineLemmas.{Shadings, none, one_more, all_shadings}
 use Rattle.tg_collect.proofs.GatherLemmas.{total_most, total_less, total_bound}
 use Rattle.tg_collect.proofs.PlaceLemmas.{is_condemned, condemned_dark, condemned_passed, condemned_next}
 
@@ -175,8 +177,8 @@ left_takes h k rest grey few once =
     ]) in
     omega (arith, all)
 
-pub left_settles : (h : HeapGraph) (i : ℕ) → mark_at h i ≡ Has White → left_of (Marking None) (record h { table = shaded h.table i }) < left_of (Marking None) h
-left_settles h k w =
+pub left_shades_pending : (h : HeapGraph) (i : ℕ) → mark_at h i ≡ Has White → left_of (Marking None) (record h { table = shaded h.table i }) < left_of (Marking None) h
+left_shades_pending h k w =
     let size : ℕ = length h.table.slots in
     let inside = occupied_within h.table.slots k White w in
     let same : length (shaded h.table k).slots ≡ size = shaded_length h.table k in
@@ -230,8 +232,8 @@ parked_some p ls i o = by (condemned p i (mark_of o)) where
   by true = omega arith
   by false = omega arith
 
-pub left_condemns : (h : HeapGraph) → IsHeap h → left_of (Sweeping 0) h < left_of (Marking None) h
-left_condemns h ok =
+pub left_starts_sweep : (h : HeapGraph) → IsHeap h → left_of (Sweeping 0) h < left_of (Marking None) h
+left_starts_sweep h ok =
     let whole = ok.cells.whole in
     let all = listed (parked_cells_at (Sweeping 0) h.lists) h.lists 0 h.table.slots (λ k o. parked_some (Sweeping 0) h.lists k o) in
     omega (arith, all, whole)
@@ -306,17 +308,17 @@ slim_few h i b ok s =
     let n = targets_length (edges h i) in omega (arith, few, n)
 
 -- The collector's step lowers what is left, unless it ends the cycle.
-pub line_left : (P U : ℕ → Type 0) (h h' : HeapGraph) (p q : Progress) (c : ℕ) → Line P U h p h' q c false → IsHeap h → ((i : ℕ) → HeldAt h p i → Slim h i)
-    → Sound h p (λ i. P i ⊎ U i) U → left_of q h' < left_of p h
-line_left P U h _ _ _ _ (starts t k s few) ok slim kept = left_starts P h t k s
+pub line_left : (P : List Root) (U : List (Option Root)) (h h' : HeapGraph) (p q : Progress) (c : ℕ) → Line P U h p h' q c false → IsHeap h → ((i : ℕ) → HeldAt h p i → Slim h i)
+    → Sound h p (λ i. IsPrincipalOf P i ⊎ IsPendingOf U i) (IsPendingOf U) → left_of q h' < left_of p h
+line_left P U h _ _ _ _ (starts few) ok slim kept = left_starts (IsPrincipalOf P) h _ _ (all_shadings P h.table)
 line_left P U h _ _ _ _ (scans k cursor b e a w at) ok slim kept =
     left_scans h k cursor b e a w at ok kept.phase.scanned.grey (ok.targets k e (subst (λ (l : List Edge). Contains l e) (sym w) (contains_right b (e ∷ a) e (inl refl))))
 line_left P U h _ _ _ _ (blackens k) ok slim kept = left_blackens h k kept.phase.scanned.grey
 line_left P U h _ _ _ _ (takes i rest g) ok slim kept =
     let grey = ok.table.listed_grey i (subst (λ (l : List ℕ). Contains l i) (sym g) (inl refl)) in
     left_takes h i rest grey.1 (slim_few h i grey.0 ok (slim i (λ f. (let u : Free ≡ Has Grey = sym f ∙ grey.1 in cc), λ c. c))) (ok.cells.cell_once i)
-line_left P U h _ _ _ _ (settles i g u w) ok slim kept = left_settles h i w
-line_left P U h _ _ _ _ (condemns g s) ok slim kept = left_condemns h ok
+line_left P U h _ _ _ _ (shades_pending k r g f) ok slim kept = left_shades_pending h r.slot f.white
+line_left P U h _ _ _ _ (starts_sweep g s) ok slim kept = left_starts_sweep h ok
 line_left P U h _ _ _ _ (skips at l m) ok slim kept = left_moves h h at l refl refl (λ j n. refl)
 line_left P U h _ _ _ _ (whitens at l m) ok slim kept = left_moves h (record h { table = painted h.table at White }) at l (length-set h.table.slots at _) refl (λ j n. get_or-set_other h.table.slots at j _ None n)
 line_left P U h _ _ _ _ (strips at e r l m w) ok slim kept = left_strips h at e r l m w ok.owners
@@ -416,13 +418,13 @@ left_shade (Sweeping k) h i w n g =
     rw same (omega (arith, all))
 
 -- The number of slots stays.
-pub line_size : (P U : ℕ → Type 0) (h h' : HeapGraph) (p q : Progress) (c : ℕ) (e : Bool) → Line P U h p h' q c e → length h'.table.slots ≡ length h.table.slots
-line_size P U h _ _ _ _ _ (starts t k s few) = shadings_length P h.table t k s
+pub line_size : (P : List Root) (U : List (Option Root)) (h h' : HeapGraph) (p q : Progress) (c : ℕ) (e : Bool) → Line P U h p h' q c e → length h'.table.slots ≡ length h.table.slots
+line_size P U h _ _ _ _ _ (starts few) = shadings_length (IsPrincipalOf P) h.table _ _ (all_shadings P h.table)
 line_size P U h _ _ _ _ _ (scans i cursor y e x w at) = shaded_length h.table e.target
 line_size P U h _ _ _ _ _ (blackens i) = length-set h.table.slots i _
 line_size P U h _ _ _ _ _ (takes i rest l) = refl
-line_size P U h _ _ _ _ _ (settles i g u w) = shaded_length h.table i
-line_size P U h _ _ _ _ _ (condemns g s) = refl
+line_size P U h _ _ _ _ _ (shades_pending k r g f) = shaded_length h.table r.slot
+line_size P U h _ _ _ _ _ (starts_sweep g s) = refl
 line_size P U h _ _ _ _ _ (skips at l m) = refl
 line_size P U h _ _ _ _ _ (whitens at l m) = length-set h.table.slots at _
 line_size P U h _ _ _ _ _ (strips at e r l m w) = refl

@@ -358,6 +358,11 @@ sound-shade h p Root Root' Unf Unf' i w held kept fewer less = record {
   back : (j : ℕ) → HeldAt (record h { table = shaded h.table i }) p j → HeldAt h p j
   back j g = (was_not_free (mark h.table) (mark (shaded h.table i)) _ _ i j (shades h.table i w) g.0, λ c. g.1 (condemned_after h p i j w held.1 c))
 
+pub seat_contains : (us : List (Option Root)) (k : ℕ) (r : Root) → get_or us k None ≡ Some r → Contains us (Some r)
+seat_contains [] k r e = absurd (cc)
+seat_contains (u ∷ us) zero r e = inl (sym e)
+seat_contains (u ∷ us) (suc k) r e = inr (seat_contains us k r e)
+
 -- A seat's target is pending, and so it is held.
 pub seat_pending : (m : Machine) (k : ℕ) (r : Root) → k < length m.pending.items → get_or m.pending.items k None ≡ Some r → IsPending m r.slot
 seat_pending m k r h e = (r.serial, index_contains m.pending.items (Some r) None k h e)

@@ -17,11 +17,18 @@ use Rattle.tg_collect.specs.declared.machine.Progress.{Progress}
 use Rattle.tg_collect.specs.declared.machine.Progress.TheVariants.{Idle, Marking, Sweeping}
 use Rattle.tg_collect.specs.declared.machine.Machine.{Machine}
 
+-- the slot of one of these principals, and of one of these targets
+abbrev pub IsPrincipalOf : List Root → ℕ → Type 0
+IsPrincipalOf principals i = (s : ℕ) × Contains principals (record { serial = s; slot = i })
+
+abbrev pub IsPendingOf : List (Option Root) → ℕ → Type 0
+IsPendingOf pending i = (s : ℕ) × Contains pending (Some (record { serial = s; slot = i }))
+
 abbrev pub IsPrincipal : Machine → ℕ → Type 0
-IsPrincipal m i = (s : ℕ) × Contains m.principals.items (record { serial = s; slot = i })
+IsPrincipal m i = IsPrincipalOf m.principals.items i
 
 abbrev pub IsPending : Machine → ℕ → Type 0
-IsPending m i = (s : ℕ) × Contains m.pending.items (Some (record { serial = s; slot = i }))
+IsPending m i = IsPendingOf m.pending.items i
 
 abbrev pub IsRoot : Machine → ℕ → Type 0
 IsRoot m i = IsPrincipal m i ⊎ IsPending m i
