@@ -48,9 +48,6 @@ idle_seat m seat e = by (get_or m.pending.items seat None) (sym (get_or-map seri
   by None e = refl
   by (Some r) e = absurd (cc)
 
-pub seat_shown : (m : Machine) (seat : ℕ) → pending_of (stored m) seat ≡ serial_of (get_or m.pending.items seat None)
-seat_shown m seat = get_or-map serial_of m.pending.items seat None
-
 pub seat_within : (m : Machine) (seat : ℕ) → Whole m → seat < 64 → seat < length m.pending.items
 seat_within m seat w b = let s = w.seats in omega (arith, s, b)
 
@@ -178,9 +175,6 @@ other_slot m v serial kind text i id a e is =
     let n = placed_name m id e in
     let f : mark_at m.heap i ≡ Free = sym (get_or-map mark_of m.heap.table.slots i None) ∙ a.free in
     n.1.0 (subst (λ (k : ℕ). mark_at m.heap k ≡ Free) is f)
-
-pub still_idle : (v w : Stored) (serial : ℕ) (kind : Kind) (text : List ℕ) (i seat : ℕ) → VertexPlaced v w serial kind text i → pending_of v seat ≡ None → pending_of w seat ≡ None
-still_idle v w serial kind text i seat a e = ap (λ (z : Stored). pending_of z seat) a.is ∙ e
 
 -- A new serial has no edge to it.
 pub no_edge_to : (m : Machine) (x serial : ℕ) → IsHeap m.heap → Whole m → (IsHeldIn (stored m) serial → ⊥) → IsEdgeIn (stored m) x serial → ⊥

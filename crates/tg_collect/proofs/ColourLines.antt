@@ -9,7 +9,7 @@ use Rattle.tg_slots.specs.declared.colour.Colour.TheVariants.{White, Grey, Black
 use Rattle.tg_slots.proofs.TableLemmas.{mark_here, mark_there}
 use Rattle.tg_heap.specs.Graph.{HeapGraph, edges, mark_at, shaded, shaded_by, painted}
 use Rattle.tg_cells.specs.Lists.{Edge}
-use Rattle.tg_heap.proofs.CursorLemmas.{contains_right}
+use Rattle.tg_rights.proofs.MembershipLemmas.{contains_right}
 use Rattle.std.specs.FinSet as finset
 use Rattle.std.specs.Ordering.{nat_cmp}
 use Rattle.tg_collect.specs.declared.note.Phase.TheVariants as phase

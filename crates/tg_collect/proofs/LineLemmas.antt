@@ -19,10 +19,10 @@ use Rattle.tg_collect.specs.declared.machine.Root.{Root}
 use Rattle.tg_collect.specs.Machine.{IsPrincipalOf, phase_of}
 use Rattle.tg_graph.specs.declared.vertex.Vertex.{Vertex}
 use Rattle.tg_graph.specs.Triples.{Triple, triple_cmp}
-use Rattle.tg_collect.specs.Stored.{gather, by_place, vertex_entry, triple_entry, parked_entry, place_entry, condemned, vertices_of, triples_of, parked_of, places_of}
+use Rattle.tg_collect.specs.Stored.{gather, by_place, vertex_entry, triple_entry, parked_entry, place_entry, is_parked, vertices_of, triples_of, parked_of, places_of}
 use Rattle.tg_collect.specs.Lines.{Line, starts, scans, blackens, takes, shades_pending, starts_sweep, skips, whitens, strips, frees, finishes, all_shaded}
 use Rattle.tg_collect.proofs.GatherLemmas.{gather_same, gather_set}
-use Rattle.tg_collect.proofs.PlaceLemmas.{IsByPlace, moved, painted_place, shaded_place, vertex_by_place, triple_by_place, parked_by_place, place_by_place, is_condemned, condemned_dark, condemned_passed, condemned_next}
+use Rattle.tg_collect.proofs.PlaceLemmas.{IsByPlace, moved, painted_place, shaded_place, vertex_by_place, triple_by_place, parked_by_place, place_by_place, parked_holds, parked_dark, parked_passed, parked_next}
 
 -- A table after some slots of a kind were shaded, one after the other, and how many.
 pub data Shadings (P : ℕ → Type 0) (t : Table) : Table → ℕ → Type 0 where
@@ -49,7 +49,7 @@ line_phases P U h _ _ _ _ _ (strips at e r l m w) = tt
 line_phases P U h _ _ _ _ _ (frees at l m w) = tt
 line_phases P U h _ _ _ _ _ (finishes at l) = tt
 
--- Lists by place stay where no slot changes its place: on each line but the one that starts the sweep, and where a free slot gives what a condemned one gives.
+-- Lists by place stay where no slot changes its place: on each line but the one that starts the sweep, and where a free slot gives what a parked one gives.
 abbrev pub Stays : Progress → Progress → Type 0
 Stays p q = views.Stays (phase_of p) (phase_of q)
 
@@ -73,34 +73,34 @@ line_place n f laws P U h _ _ _ _ _ (starts_sweep g s) y z = absurd y
 line_place n f laws P U h _ _ _ _ _ (skips at l m) y z = gather_same _ _ h.table.slots h.table.slots refl
     (λ j b. moved n f (Sweeping (at + 1)) (Sweeping at) h.lists j (get_or h.table.slots j None) (elim (cases_eq j at) [
       | inl is ↦
-          let dark : mark_at h j ≡ Has White → ⊥ = λ w. let here = subst (λ (i : ℕ). mark_at h i ≡ Free) (sym is) m in let u : Free ≡ Has White = sym here ∙ w in cc in condemned_dark (Sweeping (at + 1)) j (mark_at h j) dark ∙ sym (condemned_dark (Sweeping at) j (mark_at h j) dark)
-      | inr other ↦ condemned_next at j (mark_at h j) other
+          let dark : mark_at h j ≡ Has White → ⊥ = λ w. let here = subst (λ (i : ℕ). mark_at h i ≡ Free) (sym is) m in let u : Free ≡ Has White = sym here ∙ w in cc in parked_dark (Sweeping (at + 1)) j (mark_at h j) dark ∙ sym (parked_dark (Sweeping at) j (mark_at h j) dark)
+      | inr other ↦ parked_next at j (mark_at h j) other
     ]))
 line_place n f laws P U h _ _ _ _ _ (whitens at l m) y z = painted_place n f laws (Sweeping (at + 1)) (Sweeping at) h.lists h.table.slots at White
-    (condemned_passed (at + 1) at (mark_of (coloured White (slot h.table at))) (omega arith) ∙ sym (condemned_dark (Sweeping at) at (mark_at h at) (λ w. let u : Has Black ≡ Has White = sym m ∙ w in cc)))
-    (λ j b o. condemned_next at j (mark_at h j) o)
+    (parked_passed (at + 1) at (mark_of (coloured White (slot h.table at))) (omega arith) ∙ sym (parked_dark (Sweeping at) at (mark_at h at) (λ w. let u : Has Black ≡ Has White = sym m ∙ w in cc)))
+    (λ j b o. parked_next at j (mark_at h j) o)
 line_place n f laws P U h _ _ _ _ _ (strips at e r l m w) y z = gather_same _ _ h.table.slots h.table.slots refl (λ j b. by j (get_or h.table.slots j None) refl) where
   by : (j : ℕ) (v : Option Occupant) → get_or h.table.slots j None ≡ v → by_place n f (Sweeping at) (set h.lists at r) j v ≡ by_place n f (Sweeping at) h.lists j v
   by j None d = refl
   by j (Some o) d = elim (cases_eq j at) [
     | inl is ↦
         let white : mark_at h j ≡ Has White = subst (λ (i : ℕ). mark_at h i ≡ Has White) (sym is) m in
-        let gone : condemned (Sweeping at) j (Has o.colour) ≡ true = subst (λ (k : Mark). condemned (Sweeping at) j k ≡ true) (ap mark_of d) (is_condemned h (Sweeping at) j (omega (arith, is), white)) in
+        let gone : is_parked (Sweeping at) j (Has o.colour) ≡ true = subst (λ (k : Mark). is_parked (Sweeping at) j k ≡ true) (ap mark_of d) (parked_holds h (Sweeping at) j (omega (arith, is), white)) in
         ap (λ (b : Bool). f (set h.lists at r) b j o) gone ∙ laws.gone (set h.lists at r) h.lists j o ∙ sym (ap (λ (b : Bool). f h.lists b j o) gone)
-    | inr other ↦ laws.other h.lists (condemned (Sweeping at) j (Has o.colour)) j at r o other
+    | inr other ↦ laws.other h.lists (is_parked (Sweeping at) j (Has o.colour)) j at r o other
   ]
 line_place n f laws P U h _ _ _ _ _ (frees at l m w) y (inl zero_is) = absurd (omega (arith, zero_is))
 line_place n f laws P U h _ _ _ _ _ (frees at l m w) y (inr none_given) = gather_set _ _ h.table.slots at None (by (slot h.table at) refl)
-    (λ j b o. moved n f (Sweeping (at + 1)) (Sweeping at) h.lists j (get_or h.table.slots j None) (condemned_next at j (mark_at h j) o)) where
+    (λ j b o. moved n f (Sweeping (at + 1)) (Sweeping at) h.lists j (get_or h.table.slots j None) (parked_next at j (mark_at h j) o)) where
       by : (v : Option Occupant) → slot h.table at ≡ v → n ≡ by_place n f (Sweeping at) h.lists at v
       by None d = refl
       by (Some o) d =
-          let gone : condemned (Sweeping at) at (Has o.colour) ≡ true = subst (λ (k : Mark). condemned (Sweeping at) at k ≡ true) (ap mark_of d) (is_condemned h (Sweeping at) at (omega arith, m)) in
+          let gone : is_parked (Sweeping at) at (Has o.colour) ≡ true = subst (λ (k : Mark). is_parked (Sweeping at) at k ≡ true) (ap mark_of d) (parked_holds h (Sweeping at) at (omega arith, m)) in
           sym (none_given h.lists at o) ∙ sym (ap (λ (b : Bool). f h.lists b at o) gone)
 line_place n f laws P U h _ _ _ _ _ (finishes at l) y z = gather_same _ _ h.table.slots h.table.slots refl
-    (λ j b. moved n f Idle (Sweeping at) h.lists j (get_or h.table.slots j None) (sym (condemned_passed at j (mark_at h j) (omega (arith, b, l)))))
+    (λ j b. moved n f Idle (Sweeping at) h.lists j (get_or h.table.slots j None) (sym (parked_passed at j (mark_at h j) (omega (arith, b, l)))))
 
--- Only the line that condemns changes what is held, and where.
+-- Only the line that parks changes what is held, and where.
 pub line_vertices : (P : List Root) (U : List (Option Root)) (h h' : HeapGraph) (p q : Progress) (c : ℕ) (e : Bool) → Line P U h p h' q c e → Stays p q → vertices_of q h' ≡ vertices_of p h
 line_vertices P U h h' p q c e l y = ap (λ (es : List (ℕ × Vertex)). finmap.from_entries {R = nat_cmp} es) (line_place [] vertex_entry vertex_by_place P U h h' p q c e l y (inr (λ ls i o. refl)))
 

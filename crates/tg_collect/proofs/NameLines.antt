@@ -11,7 +11,7 @@ use Rattle.tg_heap.specs.Graph.{HeapGraph, edges, mark_at, shaded, shaded_by, Is
 use Rattle.tg_cells.specs.Lists.{Edge}
 use Rattle.tg_collect.specs.declared.machine.Progress.{Progress}
 use Rattle.tg_collect.specs.declared.machine.Root.{Root}
-use Rattle.tg_collect.specs.Machine.{IsPrincipalOf, IsPendingOf, CondemnedAt, HeldAt, Sound, without_slot}
+use Rattle.tg_collect.specs.Machine.{IsPrincipalOf, IsPendingOf, ParkedAt, HeldAt, Sound, without_slot}
 use Rattle.tg_collect.specs.Names.{IsNamed, Names}
 use Rattle.tg_collect.specs.Lines.{Line, starts, scans, blackens, takes, shades_pending, starts_sweep, skips, whitens, strips, frees, finishes}
 use Rattle.tg_collect.proofs.LineLemmas.{Shadings, none, one_more, all_shadings}
@@ -58,9 +58,9 @@ pub shadings_slots : (P : ℕ → Type 0) (t u : Table) (k j : ℕ) → Shadings
 shadings_slots P t _ _ j none = recolours_same (slot t j)
 shadings_slots P t _ _ j (one_more u k i s r) = recolours_both (slot t j) (slot u j) (slot (shaded u i) j) (shadings_slots P t u k j s) (shaded_slots u i j)
 
--- Each slot keeps its vertex, but a condemned one may turn free.
+-- Each slot keeps its vertex, but a parked one may turn free.
 pub line_slots : (P : List Root) (U : List (Option Root)) (h h' : HeapGraph) (p q : Progress) (c : ℕ) (e : Bool) → Line P U h p h' q c e → (j : ℕ)
-    → Recolours (slot h.table j) (slot h'.table j) ⊎ (CondemnedAt p h j × (slot h'.table j ≡ None))
+    → Recolours (slot h.table j) (slot h'.table j) ⊎ (ParkedAt p h j × (slot h'.table j ≡ None))
 line_slots P U h _ _ _ _ _ (starts few) j = inl (shadings_slots (IsPrincipalOf P) h.table _ _ j (all_shadings P h.table))
 line_slots P U h _ _ _ _ _ (scans i cursor b e a w at) j = inl (shaded_slots h.table e.target j)
 line_slots P U h _ _ _ _ _ (blackens i) j = inl (recoloured_slots h.table.slots i j Black)
@@ -105,34 +105,34 @@ named_back P U h h' p q c e l i x n = elim (line_slots P U h h' p q c e l i) [
   | inr gone ↦ absurd (let u : Some n.0 ≡ None = sym n.1 ∙ gone.1 in cc)
 ]
 
-pub named_forth : (P : List Root) (U : List (Option Root)) (h h' : HeapGraph) (p q : Progress) (c : ℕ) (e : Bool) → Line P U h p h' q c e → (i x : ℕ) → (CondemnedAt p h i → ⊥) → IsNamed h i x → IsNamed h' i x
+pub named_forth : (P : List Root) (U : List (Option Root)) (h h' : HeapGraph) (p q : Progress) (c : ℕ) (e : Bool) → Line P U h p h' q c e → (i x : ℕ) → (ParkedAt p h i → ⊥) → IsNamed h i x → IsNamed h' i x
 named_forth P U h h' p q c e l i x d n = elim (line_slots P U h h' p q c e l i) [
   | inl r ↦ recolours_forth (slot h.table i) (slot h'.table i) x r n
   | inr gone ↦ absurd (d gone.0)
 ]
 
--- What is condemned stays so, or is freed.
-condemned_stays : (P : List Root) (U : List (Option Root)) (h h' : HeapGraph) (p q : Progress) (c : ℕ) (e : Bool) → Line P U h p h' q c e → (j : ℕ) → CondemnedAt p h j → CondemnedAt q h' j ⊎ (mark_at h' j ≡ Free)
-condemned_stays P U h _ _ _ _ _ (starts few) j d = absurd d
-condemned_stays P U h _ _ _ _ _ (scans i cursor b e a w at) j d = absurd d
-condemned_stays P U h _ _ _ _ _ (blackens i) j d = absurd d
-condemned_stays P U h _ _ _ _ _ (takes i rest g) j d = absurd d
-condemned_stays P U h _ _ _ _ _ (shades_pending k r g f) j d = absurd d
-condemned_stays P U h _ _ _ _ _ (starts_sweep g s) j d = absurd d
-condemned_stays P U h _ _ _ _ _ (skips at l m) j d = elim (cases_eq j at) [
+-- What is parked stays so, or is freed.
+parked_stays : (P : List Root) (U : List (Option Root)) (h h' : HeapGraph) (p q : Progress) (c : ℕ) (e : Bool) → Line P U h p h' q c e → (j : ℕ) → ParkedAt p h j → ParkedAt q h' j ⊎ (mark_at h' j ≡ Free)
+parked_stays P U h _ _ _ _ _ (starts few) j d = absurd d
+parked_stays P U h _ _ _ _ _ (scans i cursor b e a w at) j d = absurd d
+parked_stays P U h _ _ _ _ _ (blackens i) j d = absurd d
+parked_stays P U h _ _ _ _ _ (takes i rest g) j d = absurd d
+parked_stays P U h _ _ _ _ _ (shades_pending k r g f) j d = absurd d
+parked_stays P U h _ _ _ _ _ (starts_sweep g s) j d = absurd d
+parked_stays P U h _ _ _ _ _ (skips at l m) j d = elim (cases_eq j at) [
   | inl is ↦ absurd (let w : mark_at h at ≡ Has White = subst (λ (k : ℕ). mark_at h k ≡ Has White) is d.1 in let u : Free ≡ Has White = sym m ∙ w in cc)
   | inr other ↦ inl ((let a = d.0 in omega (arith, a, other)), d.1)
 ]
-condemned_stays P U h _ _ _ _ _ (whitens at l m) j d = elim (cases_eq j at) [
+parked_stays P U h _ _ _ _ _ (whitens at l m) j d = elim (cases_eq j at) [
   | inl is ↦ absurd (let w : mark_at h at ≡ Has White = subst (λ (k : ℕ). mark_at h k ≡ Has White) is d.1 in let u : Has Black ≡ Has White = sym m ∙ w in cc)
   | inr other ↦ inl ((let a = d.0 in omega (arith, a, other)), mark_there h.table.slots at j _ other ∙ d.1)
 ]
-condemned_stays P U h _ _ _ _ _ (strips at e r l m w) j d = inl d
-condemned_stays P U h _ _ _ _ _ (frees at l m w) j d = elim (cases_eq j at) [
+parked_stays P U h _ _ _ _ _ (strips at e r l m w) j d = inl d
+parked_stays P U h _ _ _ _ _ (frees at l m w) j d = elim (cases_eq j at) [
   | inl is ↦ inr (subst (λ (k : ℕ). mark_at (without_slot h at) k ≡ Free) (sym is) (mark_here h.table.slots at None l))
   | inr other ↦ inl ((let a = d.0 in omega (arith, a, other)), mark_there h.table.slots at j None other ∙ d.1)
 ]
-condemned_stays P U h _ _ _ _ _ (finishes at l) j d = absurd (let a = d.0 in let b = occupied_within h.table.slots j White d.1 in omega (arith, a, b, l))
+parked_stays P U h _ _ _ _ _ (finishes at l) j d = absurd (let a = d.0 in let b = occupied_within h.table.slots j White d.1 in omega (arith, a, b, l))
 
 pub held_back : (P : List Root) (U : List (Option Root)) (h h' : HeapGraph) (p q : Progress) (c : ℕ) (e : Bool) → Line P U h p h' q c e → (j : ℕ) → HeldAt h' q j → HeldAt h p j
 held_back P U h h' p q c e l j g = (
@@ -140,7 +140,7 @@ held_back P U h h' p q c e l j g = (
     | inl r ↦ recolours_occupied (slot h.table j) (slot h'.table j) r g.0
     | inr gone ↦ absurd (g.0 (ap mark_of gone.1))
   ],
-  λ d. elim (condemned_stays P U h h' p q c e l j d) [ inl still ↦ g.1 still | inr free ↦ g.0 free ],
+  λ d. elim (parked_stays P U h h' p q c e l j d) [ inl still ↦ g.1 still | inr free ↦ g.0 free ],
 )
 
 pub edges_back : (P : List Root) (U : List (Option Root)) (h h' : HeapGraph) (p q : Progress) (c : ℕ) (e : Bool) → Line P U h p h' q c e → (j : ℕ) (x : Edge) → j < length h.lists → Contains (edges h' j) x → Contains (edges h j) x

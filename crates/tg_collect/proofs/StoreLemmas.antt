@@ -15,7 +15,7 @@ use Rattle.tg_collect.specs.declared.machine.Root.{Root}
 use Rattle.tg_collect.specs.declared.machine.Progress.{Progress}
 use Rattle.tg_collect.specs.declared.machine.Progress.TheVariants.{Idle, Marking, Sweeping}
 use Rattle.tg_collect.specs.declared.machine.Machine.{Machine}
-use Rattle.tg_collect.specs.Machine.{IsHeld, CondemnedAt, PhaseHolds, phase_of}
+use Rattle.tg_collect.specs.Machine.{IsHeld, ParkedAt, PhaseHolds, phase_of}
 use Rattle.tg_collect.specs.Names.{IsNamed, IsRootOf, Whole}
 use Rattle.tg_collect.specs.Stored.{stored, serial_of, of_colour}
 use Rattle.tg_collect.specs.Views.{InSet, IsStore, place, mark_in, free_one}
@@ -59,8 +59,8 @@ is_store m ok w = record {
       let s = contains_stands m.heap m.progress x h in
       let k = parked_waits m.heap m.progress x t in
       let e : k.at ≡ s.1.at = w.names.once k.at s.1.at x k.named (s.1.occupant, s.1.is, s.1.serial) in
-      s.1.held.1 (subst (CondemnedAt m.progress m.heap) e k.condemned);
-  unparked = λ n x t. let s = parked_waits m.heap m.progress x t in outside m.progress n s.at s.condemned;
+      s.1.held.1 (subst (ParkedAt m.progress m.heap) e k.is_parked);
+  unparked = λ n x t. let s = parked_waits m.heap m.progress x t in outside m.progress n s.at s.is_parked;
   idle = λ e x t. let s = colour_shows m.heap Black x t in no_black m.progress e w.kept.phase s.at s.mark;
   placed = λ i x e. let n = place_named m.progress m.heap i x e in named_held m.heap m.progress w.names.once i x n.0 n.1;
   has_place = λ x h. let s = contains_stands m.heap m.progress x h in (s.1.at, named_place m.progress m.heap s.1.at x (s.1.occupant, s.1.is, s.1.serial) s.1.held);
@@ -92,14 +92,14 @@ is_store m ok w = record {
       let s = colour_shows m.heap c x t in
       subst (λ (k : ℕ). mark_at m.heap k ≡ Has c) (w.names.once s.at i x s.named (place_named m.progress m.heap i x e).0) s.mark
 
-  outside : (p : Progress) → phase_of p ≢ phase.Sweep → (i : ℕ) → CondemnedAt p m.heap i → ⊥
+  outside : (p : Progress) → phase_of p ≢ phase.Sweep → (i : ℕ) → ParkedAt p m.heap i → ⊥
   outside Idle n i c = c
   outside (Marking s) n i c = c
   outside (Sweeping k) n i c = n refl
 
   held_dark : (i : ℕ) → mark_at m.heap i ≡ Has Black → IsHeld m i
   held_dark i b = ((λ f. let u : Free ≡ Has Black = sym f ∙ b in cc), by m.progress) where
-    by : (q : Progress) → CondemnedAt q m.heap i → ⊥
+    by : (q : Progress) → ParkedAt q m.heap i → ⊥
     by Idle c = c
     by (Marking s) c = c
     by (Sweeping k) c = let z = c.1 in let u : Has White ≡ Has Black = sym z ∙ b in cc

@@ -8,7 +8,7 @@ ghost use Rattle.tg_cells.specs.Lists.{Edge, first_cell, HasNone, Found};
 ghost use Rattle.tg_heap.specs.Graph.{edges, mark_at, shaded, painted, IsHeap};
 ghost use Rattle.tg_collect.specs.Machine.{Invariant, IsPending, IsReached, IsHeld, IsRoot, without_slot, with_list, progress_without, phase_of, has_passed, colour_ahead};
 ghost use Rattle.tg_collect.specs.Lines.{Steps, IsFirstWhite, all_shaded};
-ghost use Rattle.tg_collect.specs.SessionLines.{Adds, Removes, Places, Rewrites, Settles};
+ghost use Rattle.tg_collect.specs.SessionLines.{Adds, Removes, Places, Rewrites, ShadesTarget};
 
 use crate::note::{Note, Phase};
 use tg_heap::{Dropped, Heap, HeapFull};
@@ -62,12 +62,12 @@ impl Machine {
         self.progress = Progress::Marking(Some(Scan { slot, cursor: next }));
     }
 
-    /// Condemns all white slots.
+    /// Parks all white slots.
     fn start_sweep(&mut self)
         requires at { self.old.progress ≡ Progress.Marking None }
         requires none_grey { self.old.heap.table.grey ≡ [] }
         requires kept { Invariant self.old }
-        requires settled { (i : ℕ) → IsPending self.old i → mark_at self.old.heap i ≡ Has Colour.White → ⊥ }
+        requires none_white { (i : ℕ) → IsPending self.old i → mark_at self.old.heap i ≡ Has Colour.White → ⊥ }
         ensures kept { Invariant self.new }
         ensures line { Steps self.old self.new 0 false }
         ensures step { self.new ≡ record self.old { progress = Progress.Sweeping 0 } }
@@ -140,7 +140,7 @@ impl Machine {
         self.progress = Progress::Sweeping(at + 1);
     }
 
-    /// Frees a condemned slot's first cell, or the slot where it has none; true where it freed the slot.
+    /// Frees a parked slot's first cell, or the slot where it has none; true where it freed the slot.
     fn reclaim(&mut self, at: u32) -> bool
         requires at { self.old.progress ≡ Progress.Sweeping at }
         requires white { mark_at self.old.heap at ≡ Has Colour.White }
@@ -216,7 +216,7 @@ impl Machine {
         requires seat { seat < length self.old.pending.items }
         requires kept { Invariant self.old }
         ensures kept { Invariant self.new }
-        ensures step { Settles self.old seat result self.new }
+        ensures step { ShadesTarget self.old seat result self.new }
     {
         match self.pending[seat] {
             None => None,
