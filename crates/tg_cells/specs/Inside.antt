@@ -1,4 +1,4 @@
--- The lists that linked cells stand for: one chain from each owner's head, and one row of free cells.
+-- the lists that linked cells represent: one chain from each owner's head, and one row of free cells
 use Rattle.std.specs.Prelude.{◌≡◌, ℕ, ◌<◌, ◌≤◌, List, length, map}
 use Rattle.std.proofs.Common.{get_or}
 use Rattle.tg_rights.specs.Membership.{Distinct}
@@ -7,14 +7,14 @@ use Rattle.tg_cells.specs.declared.cells.Cells.TheInside.{Inside}
 use Rattle.tg_cells.specs.Lists.{CellLists, owned, IsCells}
 use Rattle.tg_cells.specs.Chain.{walk, Chain, Row}
 
--- The row of the free cells, which are so many.
+-- the row of the free cells, which are so many
 pub record IsFree (end : ℕ) (cs : List Cell) (owners head count : ℕ) : Type 0 where
   pub numbers : List ℕ
   pub once : Distinct numbers
   pub row : Row end cs owners head numbers
   pub counted : count ≡ length numbers
 
--- These fields show the lists v: there is a chain for each of its lists, and a row of as many cells as are free.
+-- these fields show the lists v: there is a chain for each of its lists, and a row of as many cells as are free
 pub record Shows (s : Inside) (v : CellLists) : Type 0 where
   pub size : length s.cells.items ≡ v.size
   pub heads : length s.heads.items ≡ length v.lists
@@ -23,7 +23,7 @@ pub record Shows (s : Inside) (v : CellLists) : Type 0 where
   pub count : s.free_count ≡ v.free
   pub sound : IsCells v
 
--- What the walks from all heads give. No list is longer than the number of cells.
+-- what the walks from all heads give. No list is longer than the number of cells.
 abbrev pub view_of : Inside → CellLists
 view_of s = record {
   lists = map (λ h. walk (length s.cells.items) s.cells.items (length s.cells.items) h) s.heads.items;

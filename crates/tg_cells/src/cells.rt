@@ -1,3 +1,4 @@
+//! The cells: arrays of numbers, and a list through them for each owner.
 ghost use Rattle.std.specs.Prelude.{◌≡◌, ℕ, ◌+◌, ◌<◌, ◌≤◌, List, [], ◌∷◌, ◌++◌, length, MatchOption, MatchBool, IfOk, Some, None, cond, ltb, set, false};
 ghost use Rattle.tg_rights.specs.Letters.{is_none};
 ghost use Rattle.tg_cells.specs.Lists.{CellLists, Edge, owned, first_cell, Stands, IsLinked, IsLinkedBy, HasNone, IsFresh, Found, IsCells};
@@ -7,7 +8,7 @@ use std::alloc::{AllocError, Global};
 use std::marker::Model;
 use tg_rights::Rights;
 
-// A cell, and its neighbours in the list that it stands in. A free cell has the number of owners as its owner.
+// A cell, and its neighbours in its list. A free cell has the number of owners as its owner.
 #[derive(Drop)]
 struct Cell {
     owner: u32,
@@ -91,8 +92,8 @@ fn set_head(heads: &mut [u32], owner: u32, is_first: bool, next: u32)
 }
 
 impl Cells {
-    /// Empty lists for that many owners, 1 to 65,536, and that many free cells, 1 to 1,048,576. The only error is want
-    /// of memory.
+    /// Empty lists for that many owners, 1 to 65,536, and that many free cells, 1 to 1,048,576. The only error is that
+    /// an allocation failed.
     pub fn new(alloc: Global, owners: u32, count: u32) -> Result<Cells, AllocError>
         requires low_owners { 1 ≤ owners }
         requires high_owners { owners ≤ 65536 }
@@ -120,7 +121,7 @@ impl Cells {
         })
     }
 
-    /// Tells a caller what always holds of the lists; it does nothing.
+    /// No-op; its postcondition exposes the invariant.
     pub fn soundness(&self)
         ensures sound { IsCells self.now }
         ensures size { self.now.size ≤ 1048576 }

@@ -23,10 +23,10 @@ use Rattle.tg_collect.specs.Stored.{Stored, stored, held, serial_of, vertex_of, 
 use Rattle.tg_collect.specs.Views.{IsHeldIn, IsEdgeIn, place, serial_at}
 use Rattle.tg_collect.specs.Sessions.{pending_of, EdgeStored, VertexStored}
 use Rattle.tg_collect.proofs.MachineLemmas.{held_within, index_contains}
-use Rattle.tg_collect.proofs.SetLemmas.{stands_get}
+use Rattle.tg_collect.proofs.SetLemmas.{stands_get, place_named, named_place}
 use Rattle.tg_collect.proofs.EdgeShown.{says_triple, triple_says}
 use Rattle.tg_collect.proofs.EdgeCalls.{edge_listed}
-use Rattle.tg_collect.proofs.StoreLemmas.{place_named, named_place, is_store}
+use Rattle.tg_collect.proofs.StoreLemmas.{is_store}
 use Rattle.tg_collect.proofs.VertexCalls.{VertexPlaced, vertex_stored}
 use Rattle.tg_collect.proofs.CollectLemmas.{both_true, at_serial}
 
@@ -47,9 +47,6 @@ idle_seat m seat e = by (get_or m.pending.items seat None) (sym (get_or-map seri
   by : (r : Option Root) → serial_of r ≡ None → r ≡ None
   by None e = refl
   by (Some r) e = absurd (cc)
-
-pub seat_shown : (m : Machine) (seat : ℕ) → pending_of (stored m) seat ≡ serial_of (get_or m.pending.items seat None)
-seat_shown m seat = get_or-map serial_of m.pending.items seat None
 
 pub seat_within : (m : Machine) (seat : ℕ) → Whole m → seat < 64 → seat < length m.pending.items
 seat_within m seat w b = let s = w.seats in omega (arith, s, b)
@@ -178,9 +175,6 @@ other_slot m v serial kind text i id a e is =
     let n = placed_name m id e in
     let f : mark_at m.heap i ≡ Free = sym (get_or-map mark_of m.heap.table.slots i None) ∙ a.free in
     n.1.0 (subst (λ (k : ℕ). mark_at m.heap k ≡ Free) is f)
-
-pub still_idle : (v w : Stored) (serial : ℕ) (kind : Kind) (text : List ℕ) (i seat : ℕ) → VertexPlaced v w serial kind text i → pending_of v seat ≡ None → pending_of w seat ≡ None
-still_idle v w serial kind text i seat a e = ap (λ (z : Stored). pending_of z seat) a.is ∙ e
 
 -- A new serial has no edge to it.
 pub no_edge_to : (m : Machine) (x serial : ℕ) → IsHeap m.heap → Whole m → (IsHeldIn (stored m) serial → ⊥) → IsEdgeIn (stored m) x serial → ⊥

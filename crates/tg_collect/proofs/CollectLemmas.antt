@@ -23,9 +23,9 @@ use Rattle.tg_collect.specs.declared.machine.Root.{Root}
 use Rattle.tg_collect.specs.declared.machine.Progress.{Progress}
 use Rattle.tg_collect.specs.declared.machine.Progress.TheVariants.{Idle, Marking, Sweeping}
 use Rattle.tg_collect.specs.declared.machine.Machine.{Machine}
-use Rattle.tg_collect.specs.Machine.{IsPrincipal, IsPending, IsRoot, IsReached, IsHeld, CondemnedAt, HeldAt, Invariant, PhaseHolds, phase_of, without_slot}
+use Rattle.tg_collect.specs.Machine.{IsPendingOf, IsPrincipal, IsPending, IsRoot, IsReached, IsHeld, ParkedAt, HeldAt, Invariant, PhaseHolds, phase_of, without_slot}
 use Rattle.tg_collect.specs.Names.{IsNamed, IsRootOf, Names, Whole}
-use Rattle.tg_collect.specs.Lines.{Line, starts, scans, blackens, takes, settles, condemns, skips, whitens, strips, frees, finishes, Steps}
+use Rattle.tg_collect.specs.Lines.{Line, starts, scans, blackens, takes, shades_pending, starts_sweep, skips, whitens, strips, frees, finishes, Steps}
 use Rattle.tg_rights.specs.Letters.{Letters, Right, has, is_none}
 use Rattle.tg_rights.specs.Letters as right
 use Rattle.tg_graph.specs.declared.vertex.Vertex.{Vertex}
@@ -34,7 +34,7 @@ use Rattle.tg_collect.specs.Views.{InSet, IsEdgeIn, IsRootIn, Parks, Unparks, Co
 use Rattle.tg_collect.specs.StoreRuns.{seen}
 use Rattle.tg_collect.proofs.PathLemmas.{live_in}
 use Rattle.tg_collect.proofs.MachineLemmas.{to_sound, reached-black}
-use Rattle.tg_collect.proofs.SetLemmas.{colour_shows, shows_colour, parked_waits, waits_parked, Stands, get_stands, stands_get, contains_stands, named_held, triple_owned, owned_triple, same_key, key_same}
+use Rattle.tg_collect.proofs.SetLemmas.{colour_shows, shows_colour, parked_waits, waits_parked, Stands, get_stands, stands_get, contains_stands, named_held, triple_owned, owned_triple, same_key, key_same, place_named, named_place}
 use Rattle.tg_collect.proofs.LineLemmas.{line_phases, line_vertices, line_triples, line_places, line_parked, line_counts, line_marks, line_cells}
 use Rattle.std.proofs.lemmas.List.{length-map}
 use Rattle.std.proofs.Math.ListN.{get_or-map}
@@ -108,10 +108,10 @@ live_slot m kept n _ (edge_lives x y l e) =
     let owned : Contains (edges m.heap here.0) s.edge = subst (λ (k : ℕ). Contains (edges m.heap k) s.edge) at s.owned in
     (s.edge.target, subst (IsNamed m.heap s.edge.target) (sym s.to) (n.edge here.0 s.edge here.3 owned), along here.0 s.edge here.2 owned, kept.closed here.0 s.edge here.3 owned)
 
--- A grey slot that isn't condemned shows an edge.
+-- A grey slot that isn't parked shows an edge.
 pub held_of_mark : (h : HeapGraph) (p : Progress) (i : ℕ) → mark_at h i ≡ Has Grey → HeldAt h p i
 held_of_mark h p i g = ((λ f. let u : Free ≡ Has Grey = sym f ∙ g in cc), by p) where
-  by : (q : Progress) → CondemnedAt q h i → ⊥
+  by : (q : Progress) → ParkedAt q h i → ⊥
   by Idle c = c
   by (Marking s) c = c
   by (Sweeping k) c = let w = c.1 in let u : Has White ≡ Has Grey = sym w ∙ g in cc
@@ -143,7 +143,7 @@ some_right l e = by l.read l.write l.take l.grant e where
 -- The step into the sweep.
 pub parks : (m : Machine) → m.progress ≡ Marking None → m.heap.table.grey ≡ [] → ((i : ℕ) → IsPending m i → mark_at m.heap i ≡ Has White → ⊥)
     → Invariant m → Names m.heap m.progress (IsRootOf m) → Parks (stored m) (stored (record m { progress = Sweeping 0 }))
-parks m at none settled kept n = record {
+parks m at none none_white kept n = record {
   no_grey = λ x t. let s = colour_shows m.heap Grey x t in not_grey s.at s.mark;
   vertices = λ x. vertex_at x (finset.contains (of_colour Black m.heap) x) refl;
   triples = λ t. both_true (finset.contains (triples_of (Sweeping 0) m.heap) t) (finset.contains (triples_of m.progress m.heap) t && finset.contains (of_colour Black m.heap) t.from)
@@ -167,9 +167,10 @@ parks m at none settled kept n = record {
         right = s.right;
         held = held_after s.at s.held.0 (black_slot t.from s.at (s.occupant, s.is, sym s.from) d.1);
       }));
+  places = λ i x e. let n = place_named (Sweeping 0) m.heap i x e in named_place m.progress m.heap i x n.0 (held_before i n.1.0);
   parked = λ x t.
       let s = parked_waits m.heap (Sweeping 0) x t in
-      let white : mark_at m.heap s.at ≡ Has White = s.condemned.1 in
+      let white : mark_at m.heap s.at ≡ Has White = s.is_parked.1 in
       let free : mark_at m.heap s.at ≢ Free = λ f. let u : Free ≡ Has White = sym f ∙ white in cc in (
         named_held m.heap m.progress n.once s.at x s.named (held_before s.at free),
         λ b. let black = black_slot x s.at s.named b in (let u : Has White ≡ Has Black = sym white ∙ black in cc),
@@ -181,8 +182,8 @@ parks m at none settled kept n = record {
       let s = parked_waits m.heap (Sweeping 0) x t in
       let r = live_slot m kept n x (live_in (stored m) next x l) in
       let e : s.at ≡ r.0 = n.once s.at r.0 x s.named r.1 in
-      let black = reached-black m at none kept settled r.0 r.2 in
-      let white : mark_at m.heap r.0 ≡ Has White = subst (λ (k : ℕ). mark_at m.heap k ≡ Has White) e s.condemned.1 in
+      let black = reached-black m at none kept none_white r.0 r.2 in
+      let white : mark_at m.heap r.0 ≡ Has White = subst (λ (k : ℕ). mark_at m.heap k ≡ Has White) e s.is_parked.1 in
       (let u : Has White ≡ Has Black = sym white ∙ black in cc);
 } where
   old : PhaseHolds (Marking None) m
@@ -192,7 +193,7 @@ parks m at none settled kept n = record {
   not_grey i g = elim (old.grey_known i g) [ inl w ↦ subst (λ (l : List ℕ). Contains l i) none w | inr s ↦ s ]
 
   held_before : (i : ℕ) → mark_at m.heap i ≢ Free → HeldAt m.heap m.progress i
-  held_before i f = (f, λ c. subst (λ (p : Progress). CondemnedAt p m.heap i) at c)
+  held_before i f = (f, λ c. subst (λ (p : Progress). ParkedAt p m.heap i) at c)
 
   held_after : (i : ℕ) → mark_at m.heap i ≢ Free → mark_at m.heap i ≡ Has Black → HeldAt m.heap (Sweeping 0) i
   held_after i f b = (f, λ c. let w = c.1 in let z : Has White ≡ Has Black = sym w ∙ b in cc)
@@ -224,43 +225,43 @@ parks m at none settled kept n = record {
       (let u : true ≡ false = sym b ∙ t in cc)))
 
   by : (x : ℕ) (u : Vertex) (s : Stands m.heap m.progress x u) → (InSet (of_colour Black m.heap) x → ⊥) → (k : Mark) → mark_at m.heap s.at ≡ k → InSet (parked_of (Sweeping 0) m.heap) x
-  by x u s dark (Has White) e = waits_parked m.heap (Sweeping 0) x (record { at = s.at; named = (s.occupant, s.is, s.serial); condemned = (omega arith, e) })
+  by x u s dark (Has White) e = waits_parked m.heap (Sweeping 0) x (record { at = s.at; named = (s.occupant, s.is, s.serial); is_parked = (omega arith, e) })
   by x u s dark Free e = absurd (s.held.0 e)
   by x u s dark (Has Grey) e = absurd (not_grey s.at e)
   by x u s dark (Has Black) e = absurd (dark (shows_colour m.heap Black x (record { at = s.at; named = (s.occupant, s.is, s.serial); mark = e })))
 
 -- Which line goes to the sweep.
-pub record Condemns (U : ℕ → Type 0) (h h' : HeapGraph) (p q : Progress) : Type 0 where
+pub record StartsSweep (U : List (Option Root)) (h h' : HeapGraph) (p q : Progress) : Type 0 where
   pub before : p ≡ Marking None
   pub after : q ≡ Sweeping 0
   pub same : h' ≡ h
   pub none : h.table.grey ≡ []
-  pub settled : (i : ℕ) → U i → mark_at h i ≡ Has White → ⊥
+  pub none_white : (i : ℕ) → IsPendingOf U i → mark_at h i ≡ Has White → ⊥
 
-pub line_condemns : (P U : ℕ → Type 0) (h h' : HeapGraph) (p q : Progress) (c : ℕ) (e : Bool) → Line P U h p h' q c e → phase_of p ≡ phase.Mark → phase_of q ≡ phase.Sweep → Condemns U h h' p q
-line_condemns P U h _ _ _ _ _ (starts t k s few) a b = absurd (cc)
-line_condemns P U h _ _ _ _ _ (scans i cursor y e x w at) a b = absurd (cc)
-line_condemns P U h _ _ _ _ _ (blackens i) a b = absurd (cc)
-line_condemns P U h _ _ _ _ _ (takes i rest l) a b = absurd (cc)
-line_condemns P U h _ _ _ _ _ (settles i g u w) a b = absurd (cc)
-line_condemns P U h _ _ _ _ _ (condemns g s) a b = record { before = refl; after = refl; same = refl; none = g; settled = s }
-line_condemns P U h _ _ _ _ _ (skips at l m) a b = absurd (cc)
-line_condemns P U h _ _ _ _ _ (whitens at l m) a b = absurd (cc)
-line_condemns P U h _ _ _ _ _ (strips at e r l m w) a b = absurd (cc)
-line_condemns P U h _ _ _ _ _ (frees at l m w) a b = absurd (cc)
-line_condemns P U h _ _ _ _ _ (finishes at l) a b = absurd (cc)
+pub line_starts_sweep : (P : List Root) (U : List (Option Root)) (h h' : HeapGraph) (p q : Progress) (c : ℕ) (e : Bool) → Line P U h p h' q c e → phase_of p ≡ phase.Mark → phase_of q ≡ phase.Sweep → StartsSweep U h h' p q
+line_starts_sweep P U h _ _ _ _ _ (starts few) a b = absurd (cc)
+line_starts_sweep P U h _ _ _ _ _ (scans i cursor y e x w at) a b = absurd (cc)
+line_starts_sweep P U h _ _ _ _ _ (blackens i) a b = absurd (cc)
+line_starts_sweep P U h _ _ _ _ _ (takes i rest l) a b = absurd (cc)
+line_starts_sweep P U h _ _ _ _ _ (shades_pending k r g f) a b = absurd (cc)
+line_starts_sweep P U h _ _ _ _ _ (starts_sweep g s) a b = record { before = refl; after = refl; same = refl; none = g; none_white = s }
+line_starts_sweep P U h _ _ _ _ _ (skips at l m) a b = absurd (cc)
+line_starts_sweep P U h _ _ _ _ _ (whitens at l m) a b = absurd (cc)
+line_starts_sweep P U h _ _ _ _ _ (strips at e r l m w) a b = absurd (cc)
+line_starts_sweep P U h _ _ _ _ _ (frees at l m w) a b = absurd (cc)
+line_starts_sweep P U h _ _ _ _ _ (finishes at l) a b = absurd (cc)
 
 same_steps : (m n : Machine) (h : HeapGraph) (q : Progress) → n.heap ≡ h → n.progress ≡ q → n.principals ≡ m.principals → n.pending ≡ m.pending → n ≡ record m { heap = h; progress = q }
 same_steps m n h q a b c d = rw (sym a, sym b, sym c, sym d) refl
 
 -- Slots are freed in the sweep alone.
-line_freed : (P U : ℕ → Type 0) (h h' : HeapGraph) (p q : Progress) (c : ℕ) (e : Bool) → Line P U h p h' q c e → (phase_of p ≡ phase.Sweep) ⊎ (c ≡ 0)
-line_freed P U h _ _ _ _ _ (starts t k s few) = inr refl
+line_freed : (P : List Root) (U : List (Option Root)) (h h' : HeapGraph) (p q : Progress) (c : ℕ) (e : Bool) → Line P U h p h' q c e → (phase_of p ≡ phase.Sweep) ⊎ (c ≡ 0)
+line_freed P U h _ _ _ _ _ (starts few) = inr refl
 line_freed P U h _ _ _ _ _ (scans i cursor y e x w at) = inr refl
 line_freed P U h _ _ _ _ _ (blackens i) = inr refl
 line_freed P U h _ _ _ _ _ (takes i rest l) = inr refl
-line_freed P U h _ _ _ _ _ (settles i g u w) = inr refl
-line_freed P U h _ _ _ _ _ (condemns g s) = inr refl
+line_freed P U h _ _ _ _ _ (shades_pending k r g f) = inr refl
+line_freed P U h _ _ _ _ _ (starts_sweep g s) = inr refl
 line_freed P U h _ _ _ _ _ (skips at l m) = inl refl
 line_freed P U h _ _ _ _ _ (whitens at l m) = inl refl
 line_freed P U h _ _ _ _ _ (strips at e r l m w) = inl refl
@@ -284,17 +285,17 @@ frees_one h at l w once =
     let o = occupant_of h at White w in
     let x : ℕ = o.0.serial in (
       x,
-      waits_parked h (Sweeping at) x (record { at = at; named = (o.0, o.1, refl); condemned = (omega arith, w) }),
+      waits_parked h (Sweeping at) x (record { at = at; named = (o.0, o.1, refl); is_parked = (omega arith, w) }),
       same_set nat_cmp_total nat_cmp-IsAntisymmetric (parked_of (Sweeping (at + 1)) (without_slot h at)) (finset.remove (parked_of (Sweeping at) h) x) (λ q.
           both_true (finset.contains (parked_of (Sweeping (at + 1)) (without_slot h at)) q) (finset.contains (finset.remove (parked_of (Sweeping at) h) x) q)
           (λ t.
           let s = parked_waits (without_slot h at) (Sweeping (at + 1)) q t in
-          let far = s.condemned.0 in
+          let far = s.is_parked.0 in
           let apart : s.at ≢ at = λ e. omega (arith, e, far) in
           let same : get_or (set h.table.slots at None) s.at None ≡ slot h.table s.at = get_or-set_other h.table.slots at s.at None None apart in
           let named : IsNamed h s.at q = (s.named.0, sym same ∙ s.named.1, s.named.2) in
-          let white : mark_at h s.at ≡ Has White = sym (ap mark_of same) ∙ s.condemned.1 in
-          let old : InSet (parked_of (Sweeping at) h) q = waits_parked h (Sweeping at) q (record { at = s.at; named = named; condemned = (omega (arith, far), white) }) in
+          let white : mark_at h s.at ≡ Has White = sym (ap mark_of same) ∙ s.is_parked.1 in
+          let old : InSet (parked_of (Sweeping at) h) q = waits_parked h (Sweeping at) q (record { at = s.at; named = named; is_parked = (omega (arith, far), white) }) in
           let other : eq_by_cmp nat_cmp q x ≡ false = other_key q x (λ e. apart (once s.at at x (subst (IsNamed h s.at) e named) (o.0, o.1, refl))) in
           contains-remove nat_cmp_total (parked_of (Sweeping at) h) x q ∙ rw (other, old) refl)
           (λ t.
@@ -303,24 +304,24 @@ frees_one h at l w once =
           let apart : s.at ≢ at = λ e.
           let same : q ≡ x = one_name h at q x (subst (λ (k : ℕ). IsNamed h k q) e s.named) (o.0, o.1, refl) in
           let yes = key_same q x same in let no = both.0 in (let u : true ≡ false = sym yes ∙ no in cc) in
-          let far = s.condemned.0 in
+          let far = s.is_parked.0 in
           let same : get_or (set h.table.slots at None) s.at None ≡ slot h.table s.at = get_or-set_other h.table.slots at s.at None None apart in
           waits_parked (without_slot h at) (Sweeping (at + 1)) q (record {
             at = s.at;
             named = (s.named.0, same ∙ s.named.1, s.named.2);
-            condemned = (omega (arith, far, apart), ap mark_of same ∙ s.condemned.1);
+            is_parked = (omega (arith, far, apart), ap mark_of same ∙ s.is_parked.1);
           }))),
     )
 
 -- What is parked loses the slot that is freed.
-line_unparks : (P U : ℕ → Type 0) (h h' : HeapGraph) (p q : Progress) (c : ℕ) (e : Bool) → Line P U h p h' q c e → ((i j x : ℕ) → IsNamed h i x → IsNamed h j x → i ≡ j) → (v w : Stored)
+line_unparks : (P : List Root) (U : List (Option Root)) (h h' : HeapGraph) (p q : Progress) (c : ℕ) (e : Bool) → Line P U h p h' q c e → ((i j x : ℕ) → IsNamed h i x → IsNamed h j x → i ≡ j) → (v w : Stored)
     → v.parked ≡ parked_of p h → w.parked ≡ parked_of q h' → (c ≡ 0 → w.parked ≡ v.parked) → Unparks v w c
-line_unparks P U h _ _ _ _ _ (starts t k s few) once v w a b z = z refl
+line_unparks P U h _ _ _ _ _ (starts few) once v w a b z = z refl
 line_unparks P U h _ _ _ _ _ (scans i cursor y e x l at) once v w a b z = z refl
 line_unparks P U h _ _ _ _ _ (blackens i) once v w a b z = z refl
 line_unparks P U h _ _ _ _ _ (takes i rest l) once v w a b z = z refl
-line_unparks P U h _ _ _ _ _ (settles i g u x) once v w a b z = z refl
-line_unparks P U h _ _ _ _ _ (condemns g s) once v w a b z = z refl
+line_unparks P U h _ _ _ _ _ (shades_pending k r g f) once v w a b z = z refl
+line_unparks P U h _ _ _ _ _ (starts_sweep g s) once v w a b z = z refl
 line_unparks P U h _ _ _ _ _ (skips at l m) once v w a b z = z refl
 line_unparks P U h _ _ _ _ _ (whitens at l m) once v w a b z = z refl
 line_unparks P U h _ _ _ _ _ (strips at e r l m x) once v w a b z = z refl
@@ -332,8 +333,8 @@ line_unparks P U h _ _ _ _ _ (finishes at l) once v w a b z = z refl
 -- All that is promised of a collector step.
 pub collected : (m n : Machine) (c : ℕ) (e : Bool) → Steps m n c e → IsHeap m.heap → Invariant m → Names m.heap m.progress (IsRootOf m) → Collected (stored m) (stored n) c e
 collected m n c e s ok kept names =
-    let P : ℕ → Type 0 = IsPrincipal m in
-    let U : ℕ → Type 0 = IsPending m in
+    let P : List Root = m.principals.items in
+    let U : List (Option Root) = m.pending.items in
     let sound = to_sound m kept in
     let counts = line_counts P U m.heap n.heap m.progress n.progress c e s.line in
     record {
@@ -345,8 +346,8 @@ collected m n c e s ok kept names =
       triples = line_triples P U m.heap n.heap m.progress n.progress c e s.line;
       places = line_places P U m.heap n.heap m.progress n.progress c e s.line;
       parks = λ a b.
-          let d = line_condemns P U m.heap n.heap m.progress n.progress c e s.line a b in
-          subst (λ (x : Machine). Parks (stored m) (stored x)) (sym (same_steps m n m.heap (Sweeping 0) d.same d.after s.principals s.pending)) (parks m d.before d.none d.settled kept names);
+          let d = line_starts_sweep P U m.heap n.heap m.progress n.progress c e s.line a b in
+          subst (λ (x : Machine). Parks (stored m) (stored x)) (sym (same_steps m n m.heap (Sweeping 0) d.same d.after s.principals s.pending)) (parks m d.before d.none d.none_white kept names);
       freed = line_freed P U m.heap n.heap m.progress n.progress c e s.line;
       parked = λ y. line_unparks P U m.heap n.heap m.progress n.progress c e s.line names.once (stored m) (stored n) refl refl
           (λ z. line_parked P U m.heap n.heap m.progress n.progress e (subst (λ (k : ℕ). Line P U m.heap m.progress n.heap n.progress k e) z s.line) y);
@@ -395,14 +396,14 @@ collected m n c e s ok kept names =
       left = lower e s.line;
     }
   where
-    not_white : (p : Progress) (i : ℕ) → mark_at m.heap i ≡ Has Black → CondemnedAt p m.heap i → ⊥
+    not_white : (p : Progress) (i : ℕ) → mark_at m.heap i ≡ Has Black → ParkedAt p m.heap i → ⊥
     not_white Idle i b d = d
     not_white (Marking z) i b d = d
     not_white (Sweeping k) i b d = let w = d.1 in let u : Has White ≡ Has Black = sym w ∙ b in cc
 
-    lower : (b : Bool) → Line (IsPrincipal m) (IsPending m) m.heap m.progress n.heap n.progress c b → (b ≡ true) ⊎ ((stored n).left < (stored m).left)
+    lower : (b : Bool) → Line m.principals.items m.pending.items m.heap m.progress n.heap n.progress c b → (b ≡ true) ⊎ ((stored n).left < (stored m).left)
     lower true l = inl refl
-    lower false l = inr (line_left (IsPrincipal m) (IsPending m) m.heap n.heap m.progress n.progress c l ok (names_slim m.heap m.progress (IsRootOf m) ok names) (to_sound m kept))
+    lower false l = inr (line_left m.principals.items m.pending.items m.heap n.heap m.progress n.progress c l ok (names_slim m.heap m.progress (IsRootOf m) ok names) (to_sound m kept))
 
 -- A step keeps the names.
 pub whole_steps : (m n : Machine) (c : ℕ) (e : Bool) → Steps m n c e → IsHeap m.heap → Whole m → Invariant n → Whole n
@@ -410,7 +411,7 @@ whole_steps m n c e s ok w kept = record {
   seats = ap (λ (v : Vec (Option Root) Global). length v.items) s.pending ∙ w.seats;
   few = subst (λ (v : Vec Root Global). length v.items ≤ 64) (sym s.principals) w.few;
   kept = kept;
-  names = moved (line_names (IsPrincipal m) (IsPending m) (IsRootOf m) m.heap n.heap m.progress n.progress c e s.line ok root (to_sound m w.kept) w.names);
+  names = moved (line_names m.principals.items m.pending.items (IsRootOf m) m.heap n.heap m.progress n.progress c e s.line ok root (to_sound m w.kept) w.names);
 } where
   root : (i x : ℕ) → IsRootOf m i x → IsPrincipal m i ⊎ IsPending m i
   root i x (inl p) = inl (x, p)

@@ -18,12 +18,12 @@ use Rattle.tg_collect.specs.declared.machine.Progress.{Progress}
 use Rattle.tg_collect.specs.declared.machine.Progress.TheVariants.{Idle, Marking, Sweeping}
 use Rattle.tg_slots.specs.declared.colour.Colour.TheVariants.{White}
 use Rattle.tg_collect.specs.declared.machine.Machine.{Machine}
-use Rattle.tg_collect.specs.Machine.{HeldAt, CondemnedAt}
+use Rattle.tg_collect.specs.Machine.{HeldAt, ParkedAt}
 use Rattle.tg_collect.specs.Names.{IsNamed, Whole}
-use Rattle.tg_collect.specs.Stored.{stored, held, gather, total, by_place, parked_entry, condemned, parked_cells_at, vertices_of}
+use Rattle.tg_collect.specs.Stored.{stored, held, gather, total, by_place, parked_entry, is_parked, parked_cells_at, vertices_of}
 use Rattle.tg_collect.specs.Views.{InSet}
 use Rattle.tg_collect.proofs.GatherLemmas.{from_contains, gather_contains, contains_gather, total_most}
-use Rattle.tg_collect.proofs.PlaceLemmas.{condemned_is, not_condemned}
+use Rattle.tg_collect.proofs.PlaceLemmas.{parked_is, not_parked}
 use Rattle.tg_collect.proofs.SetLemmas.{held_by_test, contains_stands, named_held, waits_parked}
 use Rattle.tg_collect.proofs.PathLemmas.{edge_in, in_edge}
 use Rattle.tg_collect.proofs.EdgeCalls.{list_edge, edge_listed}
@@ -72,15 +72,15 @@ other_once false x = tt
 -- What a slot gives names it.
 serial_named : (h : HeapGraph) (p : Progress) (k : ℕ) (v : Option Occupant) (x : ℕ) → slot h.table k ≡ v → Contains (by_place [] serial_entry p h.lists k v) x → IsNamed h k x × HeldAt h p k
 serial_named h p k None x e m = absurd m
-serial_named h p k (Some o) x e m = by (condemned p k (Has o.colour)) refl m where
-  by : (b : Bool) → condemned p k (Has o.colour) ≡ b → Contains (cond b [] (o.serial ∷ [])) x → IsNamed h k x × HeldAt h p k
+serial_named h p k (Some o) x e m = by (is_parked p k (Has o.colour)) refl m where
+  by : (b : Bool) → is_parked p k (Has o.colour) ≡ b → Contains (cond b [] (o.serial ∷ [])) x → IsNamed h k x × HeldAt h p k
   by true t m = absurd m
   by false t (inl is) = ((o, e, sym is), held_by_test h p k o e t)
   by false t (inr z) = absurd z
 
 parked_named : (h : HeapGraph) (p : Progress) (k : ℕ) (v : Option Occupant) (x : ℕ) → slot h.table k ≡ v → Contains (by_place [] parked_entry p h.lists k v) x → IsNamed h k x
 parked_named h p k None x e m = absurd m
-parked_named h p k (Some o) x e m = by (condemned p k (Has o.colour)) m where
+parked_named h p k (Some o) x e m = by (is_parked p k (Has o.colour)) m where
   by : (b : Bool) → Contains (cond b (o.serial ∷ []) []) x → IsNamed h k x
   by true (inl is) = (o, e, sym is)
   by true (inr z) = absurd z
@@ -94,7 +94,7 @@ serials_once h p once = from_once (by_place [] serial_entry p h.lists) 0 h.table
     (serial_named h p k (slot h.table k) x refl (subst (λ (z : ℕ). Contains (by_place [] serial_entry p h.lists z (slot h.table k)) x) ek n)).0) where
       each : (k : ℕ) (v : Option Occupant) → Distinct (by_place [] serial_entry p h.lists k v)
       each k None = tt
-      each k (Some o) = one_once (condemned p k (Has o.colour)) o.serial
+      each k (Some o) = one_once (is_parked p k (Has o.colour)) o.serial
 
 parked_once : (h : HeapGraph) (p : Progress) → ((i j x : ℕ) → IsNamed h i x → IsNamed h j x → i ≡ j) → Distinct (gather (by_place [] parked_entry p h.lists) 0 h.table.slots)
 parked_once h p once = from_once (by_place [] parked_entry p h.lists) 0 h.table.slots (λ k v. each k v) (λ j k x a b m n.
@@ -104,7 +104,7 @@ parked_once h p once = from_once (by_place [] parked_entry p h.lists) 0 h.table.
     (parked_named h p k (slot h.table k) x refl (subst (λ (z : ℕ). Contains (by_place [] parked_entry p h.lists z (slot h.table k)) x) ek n))) where
       each : (k : ℕ) (v : Option Occupant) → Distinct (by_place [] parked_entry p h.lists k v)
       each k None = tt
-      each k (Some o) = other_once (condemned p k (Has o.colour)) o.serial
+      each k (Some o) = other_once (is_parked p k (Has o.colour)) o.serial
 
 -- The held serials are the keys of the map of the held vertices.
 serial_key : (m : Machine) → Whole m → (x : ℕ) → Contains (held_serials m.progress m.heap) x → Contains (finmap.keys (vertices_of m.progress m.heap)) x
@@ -116,7 +116,7 @@ serial_key m w x h =
 key_serial : (m : Machine) → (x : ℕ) → Contains (finmap.keys (vertices_of m.progress m.heap)) x → Contains (held_serials m.progress m.heap) x
 key_serial m x k =
     let s = (contains_stands m.heap m.progress x (keys_contains (vertices_of m.progress m.heap) x k)).1 in
-    let dark = not_condemned m.heap m.progress s.at (Has s.occupant.colour) (ap mark_of s.is) s.held.1 in
+    let dark = not_parked m.heap m.progress s.at (Has s.occupant.colour) (ap mark_of s.is) s.held.1 in
     let here : Contains (by_place [] serial_entry m.progress m.heap.lists s.at (Some s.occupant)) x = subst (λ (b : Bool). Contains (cond b [] (s.occupant.serial ∷ [])) x) (sym dark) (inl (sym s.serial)) in
     contains_gather (by_place [] serial_entry m.progress m.heap.lists) m.heap.table.slots x s.at (occupied_within m.heap.table.slots s.at s.occupant.colour (ap mark_of s.is))
     (subst (λ (v : Option Occupant). Contains (by_place [] serial_entry m.progress m.heap.lists s.at v) x) (sym s.is) here)
@@ -135,7 +135,7 @@ each_slot p ls i (o ∷ os) =
   where
     one : (v : Option Occupant) → if_free v + length (by_place [] serial_entry p ls i v) + length (by_place [] parked_entry p ls i v) ≡ 1
     one None = refl
-    one (Some o) = by (condemned p i (Has o.colour)) where
+    one (Some o) = by (is_parked p i (Has o.colour)) where
       by : (b : Bool) → 0 + length (cond b [] (o.serial ∷ [])) + length (cond b (o.serial ∷ []) []) ≡ 1
       by true = refl
       by false = refl
@@ -231,14 +231,14 @@ cells_counted m ok w next =
         → sum_by (λ x. length (edges_of (held (stored m) next) x)) (by_place [] serial_entry m.progress m.heap.lists j v) + parked_cells_at m.progress m.heap.lists j v ≡ length (get_or m.heap.lists j [])
     each j None e =
         let bare : length (get_or m.heap.lists j []) ≡ 0 = ap length (ok.free_bare j (ap mark_of e)) in
-        let none : parked_cells_at m.progress m.heap.lists j None ≡ 0 = never (condemned m.progress j Free) in
+        let none : parked_cells_at m.progress m.heap.lists j None ≡ 0 = never (is_parked m.progress j Free) in
         omega (arith, bare, none)
       where
         never : (b : Bool) → cond b (length (get_or m.heap.lists j [])) 0 ≡ 0
         never true = ap length (ok.free_bare j (ap mark_of e))
         never false = refl
-    each j (Some o) e = by (condemned m.progress j (Has o.colour)) refl where
-      by : (b : Bool) → condemned m.progress j (Has o.colour) ≡ b
+    each j (Some o) e = by (is_parked m.progress j (Has o.colour)) refl where
+      by : (b : Bool) → is_parked m.progress j (Has o.colour) ≡ b
           → sum_by (λ x. length (edges_of (held (stored m) next) x)) (cond b [] (o.serial ∷ [])) + cond b (length (get_or m.heap.lists j [])) 0 ≡ length (get_or m.heap.lists j [])
       by true t = omega arith
       by false t =
@@ -246,8 +246,8 @@ cells_counted m ok w next =
           let s = sum_by-cons (λ x. length (edges_of (held (stored m) next) x)) o.serial [] in
           omega (arith, k, s)
 
--- A free slot is not condemned.
-free_dark : (h : HeapGraph) (p : Progress) (k : ℕ) → mark_at h k ≡ Free → CondemnedAt p h k → ⊥
+-- A free slot is not parked.
+free_dark : (h : HeapGraph) (p : Progress) (k : ℕ) → mark_at h k ≡ Free → ParkedAt p h k → ⊥
 free_dark h Idle k f c = c
 free_dark h (Marking s) k f c = c
 free_dark h (Sweeping n) k f c = let w = c.1 in let u : Free ≡ Has White = sym f ∙ w in cc
@@ -264,11 +264,11 @@ none_parked m none =
     zero_total i (o ∷ os) = let r = zero_total (suc i) os in omega (arith, r)
 
     each : (k : ℕ) (v : Option Occupant) → slot m.heap.table k ≡ v → parked_cells_at m.progress m.heap.lists k v ≤ 0
-    each k None e = by (condemned m.progress k Free) refl where
-      by : (b : Bool) → condemned m.progress k Free ≡ b → cond b (length (get_or m.heap.lists k [])) 0 ≤ 0
-      by true t = absurd (free_dark m.heap m.progress k (ap mark_of e) (condemned_is m.heap m.progress k Free (ap mark_of e) t))
+    each k None e = by (is_parked m.progress k Free) refl where
+      by : (b : Bool) → is_parked m.progress k Free ≡ b → cond b (length (get_or m.heap.lists k [])) 0 ≤ 0
+      by true t = absurd (free_dark m.heap m.progress k (ap mark_of e) (parked_is m.heap m.progress k Free (ap mark_of e) t))
       by false t = omega arith
-    each k (Some o) e = by (condemned m.progress k (Has o.colour)) refl where
-      by : (b : Bool) → condemned m.progress k (Has o.colour) ≡ b → cond b (length (get_or m.heap.lists k [])) 0 ≤ 0
-      by true t = absurd (none o.serial (waits_parked m.heap m.progress o.serial (record { at = k; named = (o, e, refl); condemned = condemned_is m.heap m.progress k (Has o.colour) (ap mark_of e) t })))
+    each k (Some o) e = by (is_parked m.progress k (Has o.colour)) refl where
+      by : (b : Bool) → is_parked m.progress k (Has o.colour) ≡ b → cond b (length (get_or m.heap.lists k [])) 0 ≤ 0
+      by true t = absurd (none o.serial (waits_parked m.heap m.progress o.serial (record { at = k; named = (o, e, refl); is_parked = parked_is m.heap m.progress k (Has o.colour) (ap mark_of e) t })))
       by false t = omega arith

@@ -18,22 +18,22 @@ use Rattle.tg_cells.specs.Lists.{Edge, serials}
 use Rattle.tg_heap.specs.Graph.{HeapGraph, edges, mark_at}
 use Rattle.tg_collect.specs.declared.machine.Progress.{Progress}
 use Rattle.tg_collect.specs.declared.machine.Progress.TheVariants.{Idle, Marking, Sweeping}
-use Rattle.tg_collect.specs.Machine.{CondemnedAt, HeldAt, phase_of, progress_without, is_at}
+use Rattle.tg_collect.specs.Machine.{ParkedAt, HeldAt, phase_of, progress_without, is_at}
 use Rattle.tg_collect.specs.Names.{IsNamed, Names}
-use Rattle.tg_collect.specs.Stored.{gather, by_place, vertex_entry, parked_entry, place_entry, condemned, vertices_of, triples_of, parked_of, places_of}
+use Rattle.tg_collect.specs.Stored.{gather, by_place, vertex_entry, parked_entry, place_entry, is_parked, vertices_of, triples_of, parked_of, places_of}
 use Rattle.tg_collect.proofs.GatherLemmas.{gather_same}
-use Rattle.tg_collect.proofs.PlaceLemmas.{condemned_is, is_condemned}
+use Rattle.tg_collect.proofs.PlaceLemmas.{parked_is, parked_holds}
 use Rattle.tg_collect.proofs.SetLemmas.{triple_owned, owned_triple, edge_parts, parts_edge}
 use Rattle.tg_collect.proofs.EdgeSteps.{relisted}
 use Rattle.tg_collect.proofs.CollectLemmas.{both_true, and_both}
 
--- The same phase, and the same slots condemned.
+-- The same phase, and the same slots parked.
 pub record AsFar (p q : Progress) : Type 0 where
-  pub condemned : (i : ℕ) (m : Mark) → condemned q i m ≡ condemned p i m
+  pub is_parked : (i : ℕ) (m : Mark) → is_parked q i m ≡ is_parked p i m
   pub phase : phase_of q ≡ phase_of p
 
 pub as_far : (p : Progress) → AsFar p p
-as_far p = record { condemned = λ i m. refl; phase = refl }
+as_far p = record { is_parked = λ i m. refl; phase = refl }
 
 pub without_as_far : (p : Progress) (i c : ℕ) (n : Option ℕ) → AsFar p (progress_without p i c n)
 without_as_far Idle i c n = as_far Idle
@@ -41,20 +41,20 @@ without_as_far (Sweeping k) i c n = as_far (Sweeping k)
 without_as_far (Marking None) i c n = as_far (Marking None)
 without_as_far (Marking (Some s)) i c n = by (eqb s.slot i && is_at s.cursor c) where
   by : (b : Bool) → AsFar (Marking (Some s)) (cond b (Marking (Some (record { slot = i; cursor = n }))) (Marking (Some s)))
-  by true = record { condemned = λ i m. refl; phase = refl }
+  by true = record { is_parked = λ i m. refl; phase = refl }
   by false = as_far (Marking (Some s))
 
-pub far_condemned : (h : HeapGraph) (p q : Progress) (i : ℕ) → AsFar p q → CondemnedAt q h i → CondemnedAt p h i
-far_condemned h p q i f c = condemned_is h p i (mark_at h i) refl (sym (f.condemned i (mark_at h i)) ∙ is_condemned h q i c)
+pub far_parked : (h : HeapGraph) (p q : Progress) (i : ℕ) → AsFar p q → ParkedAt q h i → ParkedAt p h i
+far_parked h p q i f c = parked_is h p i (mark_at h i) refl (sym (f.is_parked i (mark_at h i)) ∙ parked_holds h q i c)
 
-pub condemned_far : (h : HeapGraph) (p q : Progress) (i : ℕ) → AsFar p q → CondemnedAt p h i → CondemnedAt q h i
-condemned_far h p q i f c = condemned_is h q i (mark_at h i) refl (f.condemned i (mark_at h i) ∙ is_condemned h p i c)
+pub parked_far : (h : HeapGraph) (p q : Progress) (i : ℕ) → AsFar p q → ParkedAt p h i → ParkedAt q h i
+parked_far h p q i f c = parked_is h q i (mark_at h i) refl (f.is_parked i (mark_at h i) ∙ parked_holds h p i c)
 
 pub far_held : (h : HeapGraph) (p q : Progress) (i : ℕ) → AsFar p q → HeldAt h q i → HeldAt h p i
-far_held h p q i f g = (g.0, λ c. g.1 (condemned_far h p q i f c))
+far_held h p q i f g = (g.0, λ c. g.1 (parked_far h p q i f c))
 
 pub held_far : (h : HeapGraph) (p q : Progress) (i : ℕ) → AsFar p q → HeldAt h p i → HeldAt h q i
-held_far h p q i f g = (g.0, λ c. g.1 (far_condemned h p q i f c))
+held_far h p q i f g = (g.0, λ c. g.1 (far_parked h p q i f c))
 
 pub names_far : (h : HeapGraph) (p q : Progress) (R : ℕ → ℕ → Type 0) → AsFar p q → Names h p R → Names h q R
 names_far h p q R f k = record {
@@ -81,7 +81,7 @@ listless : {X : Type 0} (n : List X) (f : List (List Edge) → Bool → ℕ → 
 listless n f same p q ls ls' os far = gather_same (by_place n f q ls') (by_place n f p ls) os os refl (λ k b. by k (get_or os k None)) where
   by : (k : ℕ) (v : Option Occupant) → by_place n f q ls' k v ≡ by_place n f p ls k v
   by k None = refl
-  by k (Some o) = ap (λ (b : Bool). f ls' b k o) (far.condemned k (Has o.colour)) ∙ same ls' ls (condemned p k (Has o.colour)) k o
+  by k (Some o) = ap (λ (b : Bool). f ls' b k o) (far.is_parked k (Has o.colour)) ∙ same ls' ls (is_parked p k (Has o.colour)) k o
 
 pub relisted_vertices : (p q : Progress) (h : HeapGraph) (ls : List (List Edge)) (n : ℕ) → AsFar p q → vertices_of q (relisted h ls n) ≡ vertices_of p h
 relisted_vertices p q h ls n far = ap (λ (es : List (ℕ × Vertex)). finmap.from_entries {R = nat_cmp} es) (listless [] vertex_entry (λ ls ls' b i o. refl) p q h.lists ls h.table.slots far)

@@ -14,21 +14,21 @@ use Rattle.tg_heap.proofs.EdgeLemmas.{scan_link, drop_cell, contains_drop, scan_
 use Rattle.tg_collect.specs.declared.machine.Scan.{Scan}
 use Rattle.tg_collect.specs.declared.machine.Progress.{Progress}
 use Rattle.tg_collect.specs.declared.machine.Progress.TheVariants.{Idle, Marking, Sweeping}
-use Rattle.tg_collect.specs.Machine.{CondemnedAt, scan_of, HeldAt, PhaseAt, Sound}
+use Rattle.tg_collect.specs.Machine.{ParkedAt, scan_of, HeldAt, PhaseAt, Sound}
 
 -- A heap with other lists.
 abbrev pub relisted : HeapGraph → List (List Edge) → ℕ → HeapGraph
 relisted h ls n = record h { lists = ls; free_cells = n }
 
-condemned_same : (h : HeapGraph) (ls : List (List Edge)) (n : ℕ) (p : Progress) (j : ℕ) → CondemnedAt p (relisted h ls n) j → CondemnedAt p h j
-condemned_same h ls n Idle j c = c
-condemned_same h ls n (Marking s) j c = c
-condemned_same h ls n (Sweeping k) j c = c
+parked_same : (h : HeapGraph) (ls : List (List Edge)) (n : ℕ) (p : Progress) (j : ℕ) → ParkedAt p (relisted h ls n) j → ParkedAt p h j
+parked_same h ls n Idle j c = c
+parked_same h ls n (Marking s) j c = c
+parked_same h ls n (Sweeping k) j c = c
 
-condemned_still : (h : HeapGraph) (ls : List (List Edge)) (n : ℕ) (p : Progress) (j : ℕ) → CondemnedAt p h j → CondemnedAt p (relisted h ls n) j
-condemned_still h ls n Idle j c = c
-condemned_still h ls n (Marking s) j c = c
-condemned_still h ls n (Sweeping k) j c = c
+parked_still : (h : HeapGraph) (ls : List (List Edge)) (n : ℕ) (p : Progress) (j : ℕ) → ParkedAt p h j → ParkedAt p (relisted h ls n) j
+parked_still h ls n Idle j c = c
+parked_still h ls n (Marking s) j c = c
+parked_still h ls n (Sweeping k) j c = c
 
 -- The slot under scan keeps its edges.
 scan_same : (colour : ℕ → Mark) (out out' : ℕ → List Edge) (Waits Unf Unf' : ℕ → Type 0) (s : ScanAt) → out' s.slot ≡ out s.slot → ((j : ℕ) → Unf j → Unf' j)
@@ -51,10 +51,10 @@ sound-link h ls n p Root Root' Unf Unf' id e here others once new held more root
   phase = turn p kept.phase;
 } where
   to : (j : ℕ) → HeldAt h p j → HeldAt (relisted h ls n) p j
-  to j g = (g.0, λ c. g.1 (condemned_same h ls n p j c))
+  to j g = (g.0, λ c. g.1 (parked_same h ls n p j c))
 
   back : (j : ℕ) → HeldAt (relisted h ls n) p j → HeldAt h p j
-  back j g = (g.0, λ c. g.1 (condemned_still h ls n p j c))
+  back j g = (g.0, λ c. g.1 (parked_still h ls n p j c))
 
   from : (j : ℕ) (x : Edge) → Contains (get_or ls j []) x → (x ≡ e) ⊎ Contains (edges h j) x
   from j x o = elim (cases_eq j id) [
@@ -90,10 +90,10 @@ sound-unlink h ls n p Root Unf id c here others apart kept = record {
   phase = turn p apart kept.phase;
 } where
   to : (j : ℕ) → HeldAt h p j → HeldAt (relisted h ls n) p j
-  to j g = (g.0, λ c. g.1 (condemned_same h ls n p j c))
+  to j g = (g.0, λ c. g.1 (parked_same h ls n p j c))
 
   back : (j : ℕ) → HeldAt (relisted h ls n) p j → HeldAt h p j
-  back j g = (g.0, λ c. g.1 (condemned_still h ls n p j c))
+  back j g = (g.0, λ c. g.1 (parked_still h ls n p j c))
 
   from : (j : ℕ) (x : Edge) → Contains (get_or ls j []) x → Contains (edges h j) x
   from j x o = elim (cases_eq j id) [
@@ -207,10 +207,10 @@ sound-alike h ls n p Root Root' Unf Unf' id alike others more roots kept = recor
   phase = turn p kept.phase;
 } where
   to : (j : ℕ) → HeldAt h p j → HeldAt (relisted h ls n) p j
-  to j g = (g.0, λ c. g.1 (condemned_same h ls n p j c))
+  to j g = (g.0, λ c. g.1 (parked_same h ls n p j c))
 
   back : (j : ℕ) → HeldAt (relisted h ls n) p j → HeldAt h p j
-  back j g = (g.0, λ c. g.1 (condemned_still h ls n p j c))
+  back j g = (g.0, λ c. g.1 (parked_still h ls n p j c))
 
   from : (j : ℕ) (x : Edge) → Contains (get_or ls j []) x → (y : Edge) × Contains (edges h j) y × (y.target ≡ x.target)
   from j x o = elim (cases_eq j id) [

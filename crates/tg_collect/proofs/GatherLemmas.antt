@@ -3,7 +3,7 @@ use Rattle.std.proofs.Common.{◌≡◌, ◌≢◌, ℕ, zero, suc, ◌+◌, ◌
 use Rattle.std.proofs.lemmas.Bool.{cases_eq}
 use Rattle.std.proofs.Math.Nat.{suc-mul}
 use Rattle.tg_rights.specs.Membership.{Contains}
-use Rattle.tg_heap.proofs.CursorLemmas.{contains_append, contains_left, contains_right}
+use Rattle.tg_rights.proofs.MembershipLemmas.{contains_append, contains_left, contains_right}
 use Rattle.tg_slots.specs.declared.slots.Occupant.{Occupant}
 use Rattle.tg_collect.specs.Stored.{gather, total}
 

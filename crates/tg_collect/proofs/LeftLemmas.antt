@@ -11,16 +11,19 @@ use Rattle.tg_slots.proofs.TableLemmas.{mark_here, mark_there, mark_coloured, oc
 use Rattle.tg_heap.specs.Graph.{HeapGraph, edges, mark_at, shaded, shaded_by, painted, IsHeap}
 use Rattle.tg_cells.specs.Lists.{Edge, first_cell}
 use Rattle.tg_heap.specs.Marking.{remaining}
-use Rattle.tg_heap.proofs.CursorLemmas.{cells, remaining_split, contains_right}
+use Rattle.tg_heap.proofs.CursorLemmas.{cells, remaining_split}
+use Rattle.tg_rights.proofs.MembershipLemmas.{contains_right}
 use Rattle.tg_collect.specs.declared.machine.Scan.{Scan}
 use Rattle.tg_collect.specs.declared.machine.Progress.{Progress}
 use Rattle.tg_collect.specs.declared.machine.Progress.TheVariants.{Idle, Marking, Sweeping}
-use Rattle.tg_collect.specs.Machine.{CondemnedAt, HeldAt, Sound, without_slot, with_list}
-use Rattle.tg_collect.specs.Stored.{slot_weight, weight_at, parked_cells_at, condemned, total, cycle_bound, left_of}
-use Rattle.tg_collect.specs.Lines.{Line, starts, scans, blackens, takes, settles, condemns, skips, whitens, strips, frees, finishes, Shadings, none, one_more}
+use Rattle.tg_collect.specs.declared.machine.Root.{Root}
+use Rattle.tg_collect.specs.Machine.{IsPrincipalOf, IsPendingOf, ParkedAt, HeldAt, Sound, without_slot, with_list}
+use Rattle.tg_collect.specs.Stored.{slot_weight, weight_at, parked_cells_at, is_parked, total, cycle_bound, left_of}
+use Rattle.tg_collect.specs.Lines.{Line, starts, scans, blackens, takes, shades_pending, starts_sweep, skips, whitens, strips, frees, finishes}
 use Rattle.tg_collect.proofs.MachineLemmas.{shades}
+use Rattle.tg_collect.proofs.LineLemmas.{Shadings, none, one_more, all_shadings}
 use Rattle.tg_collect.proofs.GatherLemmas.{total_most, total_less, total_bound}
-use Rattle.tg_collect.proofs.PlaceLemmas.{is_condemned, condemned_dark, condemned_passed, condemned_next}
+use Rattle.tg_collect.proofs.PlaceLemmas.{parked_holds, parked_dark, parked_passed, parked_next}
 
 -- Distinct numbers, each of which has the weight one in a list, are no more than the sum of the weights.
 pub at_most_sum : (l ws : List ℕ) → Distinct l → ((j : ℕ) → Contains l j → (j < length ws) × (get_or ws j 0 ≡ 1)) → length l ≤ sum_by (λ w. w) ws
@@ -175,8 +178,8 @@ left_takes h k rest grey few once =
     ]) in
     omega (arith, all)
 
-pub left_settles : (h : HeapGraph) (i : ℕ) → mark_at h i ≡ Has White → left_of (Marking None) (record h { table = shaded h.table i }) < left_of (Marking None) h
-left_settles h k w =
+pub left_shades_pending : (h : HeapGraph) (i : ℕ) → mark_at h i ≡ Has White → left_of (Marking None) (record h { table = shaded h.table i }) < left_of (Marking None) h
+left_shades_pending h k w =
     let size : ℕ = length h.table.slots in
     let inside = occupied_within h.table.slots k White w in
     let same : length (shaded h.table k).slots ≡ size = shaded_length h.table k in
@@ -225,23 +228,23 @@ listed f ls i (o ∷ os) h =
     first_of (l ∷ ls) (suc i) = first_of ls i
 
 pub parked_some : (p : Progress) (ls : List (List Edge)) (i : ℕ) (o : Option Occupant) → parked_cells_at p ls i o ≤ length (get_or ls i [])
-parked_some p ls i o = by (condemned p i (mark_of o)) where
+parked_some p ls i o = by (is_parked p i (mark_of o)) where
   by : (b : Bool) → cond b (length (get_or ls i [])) 0 ≤ length (get_or ls i [])
   by true = omega arith
   by false = omega arith
 
-pub left_condemns : (h : HeapGraph) → IsHeap h → left_of (Sweeping 0) h < left_of (Marking None) h
-left_condemns h ok =
+pub left_starts_sweep : (h : HeapGraph) → IsHeap h → left_of (Sweeping 0) h < left_of (Marking None) h
+left_starts_sweep h ok =
     let whole = ok.cells.whole in
     let all = listed (parked_cells_at (Sweeping 0) h.lists) h.lists 0 h.table.slots (λ k o. parked_some (Sweeping 0) h.lists k o) in
     omega (arith, all, whole)
 
--- The sweep: the index moves on and the condemned slots keep their cells, or the index stays and a cell goes.
+-- The sweep: the index moves on and the parked slots keep their cells, or the index stays and a cell goes.
 next_cells : (at j : ℕ) (ls : List (List Edge)) (v : Option Occupant) → j ≢ at → parked_cells_at (Sweeping (at + 1)) ls j v ≡ parked_cells_at (Sweeping at) ls j v
-next_cells at j ls v n = ap (λ (b : Bool). cond b (length (get_or ls j [])) 0) (condemned_next at j (mark_of v) n)
+next_cells at j ls v n = ap (λ (b : Bool). cond b (length (get_or ls j [])) 0) (parked_next at j (mark_of v) n)
 
 passed_cells : (at : ℕ) (ls : List (List Edge)) (v : Option Occupant) → parked_cells_at (Sweeping (at + 1)) ls at v ≡ 0
-passed_cells at ls v = ap (λ (b : Bool). cond b (length (get_or ls at [])) 0) (condemned_passed (at + 1) at (mark_of v) (omega arith))
+passed_cells at ls v = ap (λ (b : Bool). cond b (length (get_or ls at [])) 0) (parked_passed (at + 1) at (mark_of v) (omega arith))
 
 -- One slot changes and the index moves on.
 pub left_moves : (h h' : HeapGraph) (at : ℕ) → at < length h.table.slots → length h'.table.slots ≡ length h.table.slots → h'.lists ≡ h.lists
@@ -263,7 +266,7 @@ left_moves h h' at l same lists others =
 pub left_strips : (h : HeapGraph) (at : ℕ) (e : Edge) (r : List Edge) → at < length h.table.slots → mark_at h at ≡ Has White → edges h at ≡ e ∷ r → length h.lists ≡ length h.table.slots
     → left_of (Sweeping at) (with_list h at r) < left_of (Sweeping at) h
 left_strips h at e r l w was owners =
-    let gone = is_condemned h (Sweeping at) at (omega arith, w) in
+    let gone = parked_holds h (Sweeping at) at (omega arith, w) in
     let inside : at < length h.lists = omega (arith, l, owners) in
     let now : get_or (set h.lists at r) at [] ≡ r = get_or-set_same h.lists at r [] inside in
     let here : parked_cells_at (Sweeping at) (set h.lists at r) at (get_or h.table.slots at None) < parked_cells_at (Sweeping at) h.lists at (get_or h.table.slots at None) =
@@ -275,7 +278,7 @@ left_strips h at e r l w was owners =
       | inl is ↦ subst (λ (n : ℕ). parked_cells_at (Sweeping at) (set h.lists at r) n (get_or h.table.slots n None) ≤ parked_cells_at (Sweeping at) h.lists n (get_or h.table.slots n None)) (sym is) (omega (arith, here))
       | inr other ↦
           let x : parked_cells_at (Sweeping at) (set h.lists at r) j (get_or h.table.slots j None) ≡ parked_cells_at (Sweeping at) h.lists j (get_or h.table.slots j None) =
-          ap (λ (es : List Edge). cond (condemned (Sweeping at) j (mark_of (get_or h.table.slots j None))) (length es) 0) (get_or-set_other h.lists at j r [] other) in
+          ap (λ (es : List Edge). cond (is_parked (Sweeping at) j (mark_of (get_or h.table.slots j None))) (length es) 0) (get_or-set_other h.lists at j r [] other) in
           omega (arith, x)
     ]) in
     omega (arith, all)
@@ -306,17 +309,17 @@ slim_few h i b ok s =
     let n = targets_length (edges h i) in omega (arith, few, n)
 
 -- The collector's step lowers what is left, unless it ends the cycle.
-pub line_left : (P U : ℕ → Type 0) (h h' : HeapGraph) (p q : Progress) (c : ℕ) → Line P U h p h' q c false → IsHeap h → ((i : ℕ) → HeldAt h p i → Slim h i)
-    → Sound h p (λ i. P i ⊎ U i) U → left_of q h' < left_of p h
-line_left P U h _ _ _ _ (starts t k s few) ok slim kept = left_starts P h t k s
+pub line_left : (P : List Root) (U : List (Option Root)) (h h' : HeapGraph) (p q : Progress) (c : ℕ) → Line P U h p h' q c false → IsHeap h → ((i : ℕ) → HeldAt h p i → Slim h i)
+    → Sound h p (λ i. IsPrincipalOf P i ⊎ IsPendingOf U i) (IsPendingOf U) → left_of q h' < left_of p h
+line_left P U h _ _ _ _ (starts few) ok slim kept = left_starts (IsPrincipalOf P) h _ _ (all_shadings P h.table)
 line_left P U h _ _ _ _ (scans k cursor b e a w at) ok slim kept =
     left_scans h k cursor b e a w at ok kept.phase.scanned.grey (ok.targets k e (subst (λ (l : List Edge). Contains l e) (sym w) (contains_right b (e ∷ a) e (inl refl))))
 line_left P U h _ _ _ _ (blackens k) ok slim kept = left_blackens h k kept.phase.scanned.grey
 line_left P U h _ _ _ _ (takes i rest g) ok slim kept =
     let grey = ok.table.listed_grey i (subst (λ (l : List ℕ). Contains l i) (sym g) (inl refl)) in
     left_takes h i rest grey.1 (slim_few h i grey.0 ok (slim i (λ f. (let u : Free ≡ Has Grey = sym f ∙ grey.1 in cc), λ c. c))) (ok.cells.cell_once i)
-line_left P U h _ _ _ _ (settles i g u w) ok slim kept = left_settles h i w
-line_left P U h _ _ _ _ (condemns g s) ok slim kept = left_condemns h ok
+line_left P U h _ _ _ _ (shades_pending k r g f) ok slim kept = left_shades_pending h r.slot f.white
+line_left P U h _ _ _ _ (starts_sweep g s) ok slim kept = left_starts_sweep h ok
 line_left P U h _ _ _ _ (skips at l m) ok slim kept = left_moves h h at l refl refl (λ j n. refl)
 line_left P U h _ _ _ _ (whitens at l m) ok slim kept = left_moves h (record h { table = painted h.table at White }) at l (length-set h.table.slots at _) refl (λ j n. get_or-set_other h.table.slots at j _ None n)
 line_left P U h _ _ _ _ (strips at e r l m w) ok slim kept = left_strips h at e r l m w ok.owners
@@ -372,8 +375,8 @@ left_most (Sweeping k) h ok few =
     let all = listed (parked_cells_at (Sweeping k) h.lists) h.lists 0 h.table.slots (λ j o. parked_some (Sweeping k) h.lists j o) in
     omega (arith, all, whole)
 
--- Shading by a session: a slot that isn't condemned.
-pub left_shade : (p : Progress) (h : HeapGraph) (i : ℕ) → i < length h.table.slots → (CondemnedAt p h i → ⊥)
+-- Shading by a session: a slot that isn't parked.
+pub left_shade : (p : Progress) (h : HeapGraph) (i : ℕ) → i < length h.table.slots → (ParkedAt p h i → ⊥)
     → ((s : Scan) → p ≡ Marking (Some s) → mark_at h s.slot ≡ Has Grey) → left_of p (record h { table = shaded h.table i }) ≤ left_of p h
 left_shade Idle h i w n g = let same = shaded_length h.table i in rw same (omega arith)
 left_shade (Marking None) h i w n g =
@@ -407,22 +410,22 @@ left_shade (Sweeping k) h i w n g =
     let same = shaded_length h.table i in
     let all = total_most (parked_cells_at (Sweeping k) h.lists) (parked_cells_at (Sweeping k) h.lists) (shaded h.table i).slots h.table.slots same (λ j b. elim ((shades h.table i w).each j) [
       | inl stays ↦ (let x : parked_cells_at (Sweeping k) h.lists j (get_or (shaded h.table i).slots j None) ≡ parked_cells_at (Sweeping k) h.lists j (get_or h.table.slots j None) =
-          ap (λ (m : Mark). cond (condemned (Sweeping k) j m) (length (get_or h.lists j [])) 0) stays in omega (arith, x))
+          ap (λ (m : Mark). cond (is_parked (Sweeping k) j m) (length (get_or h.lists j [])) 0) stays in omega (arith, x))
       | inr changed ↦
-          let dark : condemned (Sweeping k) j (mark (shaded h.table i) j) ≡ false = condemned_dark (Sweeping k) j (mark (shaded h.table i) j) (λ q. let a = changed.2 in let u : Has Grey ≡ Has White = sym a ∙ q in cc) in
+          let dark : is_parked (Sweeping k) j (mark (shaded h.table i) j) ≡ false = parked_dark (Sweeping k) j (mark (shaded h.table i) j) (λ q. let a = changed.2 in let u : Has Grey ≡ Has White = sym a ∙ q in cc) in
           let x : parked_cells_at (Sweeping k) h.lists j (get_or (shaded h.table i).slots j None) ≡ 0 = ap (λ (b : Bool). cond b (length (get_or h.lists j [])) 0) dark in
           omega (arith, x)
     ]) in
     rw same (omega (arith, all))
 
 -- The number of slots stays.
-pub line_size : (P U : ℕ → Type 0) (h h' : HeapGraph) (p q : Progress) (c : ℕ) (e : Bool) → Line P U h p h' q c e → length h'.table.slots ≡ length h.table.slots
-line_size P U h _ _ _ _ _ (starts t k s few) = shadings_length P h.table t k s
+pub line_size : (P : List Root) (U : List (Option Root)) (h h' : HeapGraph) (p q : Progress) (c : ℕ) (e : Bool) → Line P U h p h' q c e → length h'.table.slots ≡ length h.table.slots
+line_size P U h _ _ _ _ _ (starts few) = shadings_length (IsPrincipalOf P) h.table _ _ (all_shadings P h.table)
 line_size P U h _ _ _ _ _ (scans i cursor y e x w at) = shaded_length h.table e.target
 line_size P U h _ _ _ _ _ (blackens i) = length-set h.table.slots i _
 line_size P U h _ _ _ _ _ (takes i rest l) = refl
-line_size P U h _ _ _ _ _ (settles i g u w) = shaded_length h.table i
-line_size P U h _ _ _ _ _ (condemns g s) = refl
+line_size P U h _ _ _ _ _ (shades_pending k r g f) = shaded_length h.table r.slot
+line_size P U h _ _ _ _ _ (starts_sweep g s) = refl
 line_size P U h _ _ _ _ _ (skips at l m) = refl
 line_size P U h _ _ _ _ _ (whitens at l m) = length-set h.table.slots at _
 line_size P U h _ _ _ _ _ (strips at e r l m w) = refl

@@ -12,9 +12,9 @@ use Rattle.tg_collect.specs.declared.machine.Scan.{Scan}
 use Rattle.tg_collect.specs.declared.machine.Progress.{Progress}
 use Rattle.tg_collect.specs.declared.machine.Progress.TheVariants.{Idle, Marking, Sweeping}
 use Rattle.tg_collect.specs.Machine.{HeldAt, progress_without, is_at}
-use Rattle.tg_collect.specs.Stored.{slot_weight, weight_at, parked_cells_at, condemned, left_of}
+use Rattle.tg_collect.specs.Stored.{slot_weight, weight_at, parked_cells_at, is_parked, left_of}
 use Rattle.tg_collect.proofs.GatherLemmas.{total_most}
-use Rattle.tg_collect.proofs.PlaceLemmas.{not_condemned}
+use Rattle.tg_collect.proofs.PlaceLemmas.{not_parked}
 use Rattle.tg_collect.proofs.EdgeSteps.{relisted, alike_relabelled, alike_remaining, alike_length}
 use Rattle.tg_heap.proofs.CursorLemmas.{remaining_split}
 use Rattle.tg_collect.proofs.LeftLemmas.{scan_lengths}
@@ -73,13 +73,13 @@ left_relisted (Marking (Some s)) h i n l within held less = left_scanning h i n 
 left_relisted (Sweeping k) h i n l within held less =
     let all = total_most (parked_cells_at (Sweeping k) (set h.lists i l)) (parked_cells_at (Sweeping k) h.lists) h.table.slots h.table.slots refl (λ j b. elim (cases_eq j i) [
       | inl now ↦
-          let dark : condemned (Sweeping k) i (mark_at h i) ≡ false = not_condemned h (Sweeping k) i (mark_at h i) refl held.1 in
+          let dark : is_parked (Sweeping k) i (mark_at h i) ≡ false = not_parked h (Sweeping k) i (mark_at h i) refl held.1 in
           let zero_at : parked_cells_at (Sweeping k) (set h.lists i l) i (get_or h.table.slots i None) ≡ 0 = ap (λ (b : Bool). cond b (length (get_or (set h.lists i l) i [])) 0) dark in
           let x : parked_cells_at (Sweeping k) (set h.lists i l) j (get_or h.table.slots j None) ≡ 0 = subst (λ (m : ℕ). parked_cells_at (Sweeping k) (set h.lists i l) m (get_or h.table.slots m None) ≡ 0) (sym now) zero_at in
           omega (arith, x)
       | inr other ↦
           let x : parked_cells_at (Sweeping k) (set h.lists i l) j (get_or h.table.slots j None) ≡ parked_cells_at (Sweeping k) h.lists j (get_or h.table.slots j None) =
-          ap (λ (es : List Edge). cond (condemned (Sweeping k) j (mark_at h j)) (length es) 0) (get_or-set_other h.lists i j l [] other) in
+          ap (λ (es : List Edge). cond (is_parked (Sweeping k) j (mark_at h j)) (length es) 0) (get_or-set_other h.lists i j l [] other) in
           omega (arith, x)
     ]) in
     omega (arith, all)

@@ -3,7 +3,7 @@ use Rattle.std.proofs.Common.{◌≡◌, ◌≢◌, ℕ, zero, suc, ◌+◌, ◌
 use Rattle.std.proofs.lemmas.Bool.{cases_eq}
 use Rattle.std.specs.declared.vec.Vec.{Vec}
 use Rattle.std.proofs.Common.{Global}
-use Rattle.tg_rights.specs.Membership.{Contains, Distinct}
+use Rattle.tg_rights.specs.Membership.{Contains}
 use Rattle.tg_slots.specs.Table.{Table, Mark, Free, Has, mark, mark_of, slot, recoloured}
 use Rattle.tg_slots.specs.declared.colour.Colour.{Colour}
 use Rattle.tg_slots.specs.declared.colour.Colour.TheVariants.{White, Grey, Black}
@@ -11,15 +11,16 @@ use Rattle.tg_slots.proofs.TableLemmas.{mark_here, mark_there, mark_coloured, oc
 use Rattle.tg_heap.specs.Graph.{HeapGraph, edges, mark_at, shaded, shaded_by, painted, IsHeap}
 use Rattle.tg_cells.specs.Lists.{Edge, first_cell, Stands}
 use Rattle.tg_heap.specs.Marking.{Shades, remaining, passed}
-use Rattle.tg_heap.proofs.MarkingLemmas.{reached_black, tricolour-shade, tricolour-pop, tricolour-blacken}
-use Rattle.tg_heap.proofs.CursorLemmas.{split_whole, contains_right, remaining_split, passed_split}
-use Rattle.tg_heap.proofs.StepLemmas.{tricolour-scan, tricolour-settle}
+use Rattle.tg_heap.proofs.MarkingLemmas.{reached_black, tricolour-shade, tricolour-blacken}
+use Rattle.tg_heap.proofs.CursorLemmas.{split_whole}
+use Rattle.tg_rights.proofs.MembershipLemmas.{contains_right}
+use Rattle.tg_heap.proofs.StepLemmas.{tricolour-scan, tricolour-fewer}
 use Rattle.tg_collect.specs.declared.machine.Scan.{Scan}
 use Rattle.tg_collect.specs.declared.machine.Root.{Root}
 use Rattle.tg_collect.specs.declared.machine.Progress.{Progress}
 use Rattle.tg_collect.specs.declared.machine.Progress.TheVariants.{Idle, Marking, Sweeping}
 use Rattle.tg_collect.specs.declared.machine.Machine.{Machine}
-use Rattle.tg_collect.specs.Machine.{IsPrincipal, IsPending, IsRoot, CondemnedAt, IsHeld, scan_of, IsReached, GreyWaits, PhaseHolds, Invariant, without_slot, HeldAt, PhaseAt, Sound}
+use Rattle.tg_collect.specs.Machine.{IsPrincipal, IsPending, IsRoot, ParkedAt, IsHeld, scan_of, IsReached, GreyWaits, PhaseHolds, Invariant, without_slot, HeldAt, PhaseAt, Sound}
 
 -- The edges before a cursor that names a cell, that cell's edge, and those after it.
 pub record Split (es : List Edge) (cursor : ℕ) : Type 0 where
@@ -81,7 +82,7 @@ was_not_free c c' W W' i j s h f = elim (s.each j) [ inl same ↦ h (same ∙ f)
 
 -- While marking, held is not free.
 held_marking : (m : Machine) (s : Option Scan) (i : ℕ) → m.progress ≡ Marking s → mark_at m.heap i ≢ Free → IsHeld m i
-held_marking m s i e h = (h, λ c. subst (λ (p : Progress). CondemnedAt p m.heap i) e c)
+held_marking m s i e h = (h, λ c. subst (λ (p : Progress). ParkedAt p m.heap i) e c)
 
 -- A scanned cell.
 pub kept-scan : (m : Machine) (slot cursor : ℕ) (s : Split (edges m.heap slot) cursor) → IsHeap m.heap
@@ -107,10 +108,10 @@ kept-scan m slot cursor s heap at kept within =
 pub reached-black : (m : Machine) → m.progress ≡ Marking None → m.heap.table.grey ≡ [] → Invariant m
     → ((i : ℕ) → IsPending m i → mark_at m.heap i ≡ Has White → ⊥)
     → (i : ℕ) → IsReached m i → mark_at m.heap i ≡ Has Black
-reached-black m at none kept settled i r =
+reached-black m at none kept none_white i r =
     let old : PhaseHolds (Marking None) m = subst (λ (p : Progress). PhaseHolds p m) at kept.phase in
     reached_black (mark_at m.heap) (edges m.heap) (Contains m.heap.table.grey) (IsRoot m) (IsPending m) old
-    (λ j w. subst (λ (g : List ℕ). Contains g j) none w) settled (λ j x. (kept.roots_held j x).0)
+    (λ j w. subst (λ (g : List ℕ). Contains g j) none w) none_white (λ j x. (kept.roots_held j x).0)
     (λ j e f o. (kept.closed j e (held_marking m None j at f) o).0) i r
 
 -- The cell at the cursor stands in the list of the slot under scan.
@@ -162,27 +163,37 @@ kept-blacken m slot at kept =
           (λ j n. painted_other m.heap.table slot j Black n) (painted_here m.heap.table slot Black Grey grey) (λ j. cases_eq j slot) old;
     }
 
--- The first of the grey list comes under scan.
-pub kept-pop : (m : Machine) (i : ℕ) (rest : List ℕ) → m.progress ≡ Marking None → m.heap.table.grey ≡ i ∷ rest → IsHeap m.heap → Invariant m
-    → Invariant (record m { heap = record m.heap { table = record m.heap.table { grey = rest } }; progress = Marking (Some (record { slot = i; cursor = first_cell (edges m.heap i) })) })
-kept-pop m i rest at list heap kept =
-    let old : PhaseHolds (Marking None) m = subst (λ (p : Progress). PhaseHolds p m) at kept.phase in
-    let once : Distinct (i ∷ rest) = subst Distinct list heap.table.grey_once in
-    let listed : (j : ℕ) → Contains (i ∷ rest) j → Contains m.heap.table.grey j = λ j w. subst (λ (g : List ℕ). Contains g j) (sym list) w in
-    record {
-      roots_held = λ j r. ((kept.roots_held j r).0, λ c. c);
-      closed = λ j e h o. ((kept.closed j e (held_marking m _ j at h.0) o).0, λ c. c);
-      phase = tricolour-pop (mark m.heap.table) (edges m.heap) (Contains m.heap.table.grey) (Contains rest) (IsRoot m) (IsPending m) i
-          (heap.table.listed_grey i (listed i (inl refl))).1 once.0 (λ j w. subst (λ (g : List ℕ). Contains g j) list w)
-          (remaining_split [] (edges m.heap i) (heap.cells.cell_once i)) (passed_split [] (edges m.heap i) (heap.cells.cell_once i)) old;
-    }
+-- Nothing grey is left when the sweep starts.
+pub kept-start_sweep : (m : Machine) → m.progress ≡ Marking None → m.heap.table.grey ≡ [] → Invariant m → ((i : ℕ) → IsPending m i → mark_at m.heap i ≡ Has White → ⊥) → Invariant (record m { progress = Sweeping 0 })
+kept-start_sweep m at none kept none_white = record {
+  roots_held = λ i r. ((kept.roots_held i r).0, λ c. none_white i (old.roots i r c.1) c.1);
+  closed = λ i e h o.
+      let dark = black i h.0 (λ w. h.1 (omega arith, w)) in
+      ((kept.closed i e (held_marking m None i at h.0) o).0, λ c. none_white e.target (old.black_edges i dark e o c.1) c.1);
+  phase = (λ i g. absurd (not_grey i g), λ i b k. omega (arith, b), λ i b g. not_grey i g);
+} where
+  old : PhaseHolds (Marking None) m
+  old = subst (λ (p : Progress). PhaseHolds p m) at kept.phase
 
--- Condemned or not, by the phase.
-condemned_to : (m : Machine) (p : Progress) (i : ℕ) → m.progress ≡ p → CondemnedAt m.progress m.heap i → CondemnedAt p m.heap i
-condemned_to m p i e c = subst (λ (q : Progress). CondemnedAt q m.heap i) e c
+  not_grey : (i : ℕ) → mark_at m.heap i ≡ Has Grey → ⊥
+  not_grey i g = elim (old.grey_known i g) [ inl w ↦ subst (λ (l : List ℕ). Contains l i) none w | inr s ↦ s ]
 
-condemned_from : (m : Machine) (p : Progress) (i : ℕ) → m.progress ≡ p → CondemnedAt p m.heap i → CondemnedAt m.progress m.heap i
-condemned_from m p i e c = subst (λ (q : Progress). CondemnedAt q m.heap i) (sym e) c
+  black : (i : ℕ) → mark_at m.heap i ≢ Free → (mark_at m.heap i ≡ Has White → ⊥) → mark_at m.heap i ≡ Has Black
+  black i f w = elim (mark_at m.heap i) as (λ k. mark_at m.heap i ≡ k → mark_at m.heap i ≡ Has Black) [
+    | Free ↦ λ e. absurd (f e)
+    | Has c ↦ λ e. by c e
+  ] refl where
+    by : (c : Colour) → mark_at m.heap i ≡ Has c → mark_at m.heap i ≡ Has Black
+    by White e = absurd (w e)
+    by Grey e = absurd (not_grey i e)
+    by Black e = e
+
+-- Parked or not, by the phase.
+parked_to : (m : Machine) (p : Progress) (i : ℕ) → m.progress ≡ p → ParkedAt m.progress m.heap i → ParkedAt p m.heap i
+parked_to m p i e c = subst (λ (q : Progress). ParkedAt q m.heap i) e c
+
+parked_from : (m : Machine) (p : Progress) (i : ℕ) → m.progress ≡ p → ParkedAt p m.heap i → ParkedAt m.progress m.heap i
+parked_from m p i e c = subst (λ (q : Progress). ParkedAt q m.heap i) (sym e) c
 
 -- One slot changes its place in the sweep: what was held stays, and nothing else comes in.
 pub record Sweeps (h h' : HeapGraph) (at : ℕ) : Type 0 where
@@ -208,6 +219,10 @@ kept-sweep m h' at e s stays same kept = record {
       | inl is ↦ s.not_black (subst (λ (n : ℕ). mark_at h' n ≡ Has Black) is k)
       | inr other ↦ old.1 i (omega arith) (sym (s.others i other) ∙ k)
     ],
+    λ i b g. elim (cases_eq i at) [
+      | inl is ↦ s.not_grey (subst (λ (n : ℕ). mark_at h' n ≡ Has Grey) is g)
+      | inr other ↦ old.2 i (omega arith) (sym (s.others i other) ∙ g)
+    ],
   );
 } where
   old : PhaseHolds (Sweeping at) m
@@ -216,7 +231,7 @@ kept-sweep m h' at e s stays same kept = record {
   forward : (i : ℕ) → IsHeld m i → IsHeld (record m { heap = h'; progress = Sweeping (at + 1) }) i
   forward i h = elim (cases_eq i at) [
     | inl is ↦ (subst (λ (k : ℕ). mark_at h' k ≢ Free) (sym is) (stays (subst (IsHeld m) is h)), λ c. omega (arith, c.0))
-    | inr other ↦ (λ f. h.0 (sym (s.others i other) ∙ f), λ c. h.1 (condemned_from m (Sweeping at) i e (omega (arith, c.0), sym (s.others i other) ∙ c.1)))
+    | inr other ↦ (λ f. h.0 (sym (s.others i other) ∙ f), λ c. h.1 (parked_from m (Sweeping at) i e (omega (arith, c.0), sym (s.others i other) ∙ c.1)))
   ]
 
   back : (i : ℕ) → IsHeld (record m { heap = h'; progress = Sweeping (at + 1) }) i → IsHeld m i
@@ -225,7 +240,7 @@ kept-sweep m h' at e s stays same kept = record {
     | inr other ↦ (
       λ f. h.0 (s.others i other ∙ f),
       λ c.
-          let d = condemned_to m (Sweeping at) i e c in
+          let d = parked_to m (Sweeping at) i e c in
           h.1 (omega (arith, d.0, other), s.others i other ∙ d.1),
     )
   ]
@@ -236,7 +251,7 @@ kept-whiten m at e b kept =
     let now : mark (painted m.heap.table at White) at ≡ Has White = painted_here m.heap.table at White Black b in
     kept-sweep m (record m.heap { table = painted m.heap.table at White }) at e
     (record { others = λ j n. painted_other m.heap.table at j White n; lists = refl; grey = refl; not_grey = λ g. cc; not_black = λ g. cc })
-    (λ h f. cc) (λ f. (λ g. cc, λ c. let w = (condemned_to m (Sweeping at) at e c).1 in cc)) kept
+    (λ h f. cc) (λ f. (λ g. cc, λ c. let w = (parked_to m (Sweeping at) at e c).1 in cc)) kept
 
 pub kept-free : (m : Machine) (at : ℕ) → m.progress ≡ Sweeping at → mark_at m.heap at ≡ Has White → Invariant m
     → Invariant (record m { heap = without_slot m.heap at; progress = Sweeping (at + 1) })
@@ -244,7 +259,7 @@ kept-free m at e w kept =
     let now : mark_at (without_slot m.heap at) at ≡ Free = mark_here m.heap.table.slots at None (occupied_within m.heap.table.slots at White w) in
     kept-sweep m (without_slot m.heap at) at e
     (record { others = λ j n. mark_there m.heap.table.slots at j None n; lists = refl; grey = refl; not_grey = λ g. cc; not_black = λ g. cc })
-    (λ h f. h.1 (condemned_from m (Sweeping at) at e (omega arith, w))) (λ f. absurd (f now)) kept
+    (λ h f. h.1 (parked_from m (Sweeping at) at e (omega arith, w))) (λ f. absurd (f now)) kept
 
 -- A held slot is one of the table.
 pub held_within : (m : Machine) (i : ℕ) → mark_at m.heap i ≢ Free → i < length m.heap.table.slots
@@ -285,42 +300,54 @@ never_new h i j c n w e = let s = shades h.table i w in elim (s.each j) [
   same_colour : (a b : Colour) → Has a ≡ Has b → a ≡ b
   same_colour a b q = cc
 
-condemned_before : (h : HeapGraph) (p : Progress) (i j : ℕ) → i < length h.table.slots → CondemnedAt p (record h { table = shaded h.table i }) j → CondemnedAt p h j
-condemned_before h Idle i j w c = c
-condemned_before h (Marking s) i j w c = c
-condemned_before h (Sweeping k) i j w c = (c.0, never_new h i j White (λ q. cc) w c.1)
+parked_before : (h : HeapGraph) (p : Progress) (i j : ℕ) → i < length h.table.slots → ParkedAt p (record h { table = shaded h.table i }) j → ParkedAt p h j
+parked_before h Idle i j w c = c
+parked_before h (Marking s) i j w c = c
+parked_before h (Sweeping k) i j w c = (c.0, never_new h i j White (λ q. cc) w c.1)
 
-pub condemned_after : (h : HeapGraph) (p : Progress) (i j : ℕ) → i < length h.table.slots → (CondemnedAt p h i → ⊥) → CondemnedAt p h j → CondemnedAt p (record h { table = shaded h.table i }) j
-condemned_after h Idle i j w n c = c
-condemned_after h (Marking s) i j w n c = c
-condemned_after h (Sweeping k) i j w n c = let s = shades h.table i w in elim (s.each j) [
+pub parked_after : (h : HeapGraph) (p : Progress) (i j : ℕ) → i < length h.table.slots → (ParkedAt p h i → ⊥) → ParkedAt p h j → ParkedAt p (record h { table = shaded h.table i }) j
+parked_after h Idle i j w n c = c
+parked_after h (Marking s) i j w n c = c
+parked_after h (Sweeping k) i j w n c = let s = shades h.table i w in elim (s.each j) [
   | inl same ↦ (c.0, same ∙ c.1)
-  | inr changed ↦ absurd (n (subst (λ (q : ℕ). CondemnedAt (Sweeping k) h q) changed.0 c))
+  | inr changed ↦ absurd (n (subst (λ (q : ℕ). ParkedAt (Sweeping k) h q) changed.0 c))
 ]
 
-phase-shade : (h : HeapGraph) (p : Progress) (Root Root' Unf Unf' : ℕ → Type 0) (i : ℕ) → i < length h.table.slots → PhaseAt p h Root Unf
+phase-shade : (h : HeapGraph) (p : Progress) (Root Root' Unf Unf' : ℕ → Type 0) (i : ℕ) → i < length h.table.slots → (ParkedAt p h i → ⊥) → PhaseAt p h Root Unf
     → ((j : ℕ) → Root' j → Root j) → ((j : ℕ) → Unf j → Unf' j ⊎ (j ≡ i)) → PhaseAt p (record h { table = shaded h.table i }) Root' Unf'
-phase-shade h Idle Root Root' Unf Unf' i w old fewer less = (grey_waits h i w old.0, λ j b. old.1 j (never_new h i j Black (λ q. cc) w b))
-phase-shade h (Sweeping k) Root Root' Unf Unf' i w old fewer less = (grey_waits h i w old.0, λ j l b. old.1 j l (never_new h i j Black (λ q. cc) w b))
-phase-shade h (Marking s) Root Root' Unf Unf' i w old fewer less =
+phase-shade h Idle Root Root' Unf Unf' i w n old fewer less = (grey_waits h i w old.0, λ j b. old.1 j (never_new h i j Black (λ q. cc) w b))
+phase-shade h (Sweeping k) Root Root' Unf Unf' i w n old fewer less = (
+  grey_waits h i w old.0,
+  λ j l b. old.1 j l (never_new h i j Black (λ q. cc) w b),
+  λ j l g. let s = shades h.table i w in elim (s.each j) [
+    | inl same ↦ old.2 j l (sym same ∙ g)
+    | inr changed ↦ n (subst (ParkedAt (Sweeping k) h) changed.0 (l, changed.1))
+  ],
+)
+phase-shade h (Marking s) Root Root' Unf Unf' i w n old fewer less =
     let change = shades h.table i w in
-    tricolour-settle (mark (shaded h.table i)) (edges h) (Contains (shaded h.table i).grey) Root Root' Unf Unf' (scan_of s)
+    tricolour-fewer (mark (shaded h.table i)) (edges h) (Contains (shaded h.table i).grey) Root Root' Unf Unf' (scan_of s)
     (λ j u. elim (less j u) [ inl is ↦ inl is | inr here ↦ inr (λ b. change.done (subst (λ (q : ℕ). mark (shaded h.table i) q ≡ Has White) here b)) ]) fewer
     (tricolour-shade (mark h.table) (mark (shaded h.table i)) (edges h) (Contains h.table.grey) (Contains (shaded h.table i).grey) Root Unf (scan_of s) i change old)
 
--- One more slot is shaded, in any phase; roots do not come in, and a target is settled only where it is that slot.
+-- One more slot is shaded, in any phase; roots do not come in, and a target is no longer pending only where it is that slot.
 pub sound-shade : (h : HeapGraph) (p : Progress) (Root Root' Unf Unf' : ℕ → Type 0) (i : ℕ) → i < length h.table.slots → HeldAt h p i → Sound h p Root Unf
     → ((j : ℕ) → Root' j → Root j) → ((j : ℕ) → Unf j → Unf' j ⊎ (j ≡ i)) → Sound (record h { table = shaded h.table i }) p Root' Unf'
 sound-shade h p Root Root' Unf Unf' i w held kept fewer less = record {
   roots_held = λ j r. forward j (kept.roots_held j (fewer j r));
   closed = λ j e g o. forward e.target (kept.closed j e (back j g) o);
-  phase = phase-shade h p Root Root' Unf Unf' i w kept.phase fewer less;
+  phase = phase-shade h p Root Root' Unf Unf' i w held.1 kept.phase fewer less;
 } where
   forward : (j : ℕ) → HeldAt h p j → HeldAt (record h { table = shaded h.table i }) p j
-  forward j g = (not_free (mark h.table) (mark (shaded h.table i)) _ _ i j (shades h.table i w) g.0, λ c. g.1 (condemned_before h p i j w c))
+  forward j g = (not_free (mark h.table) (mark (shaded h.table i)) _ _ i j (shades h.table i w) g.0, λ c. g.1 (parked_before h p i j w c))
 
   back : (j : ℕ) → HeldAt (record h { table = shaded h.table i }) p j → HeldAt h p j
-  back j g = (was_not_free (mark h.table) (mark (shaded h.table i)) _ _ i j (shades h.table i w) g.0, λ c. g.1 (condemned_after h p i j w held.1 c))
+  back j g = (was_not_free (mark h.table) (mark (shaded h.table i)) _ _ i j (shades h.table i w) g.0, λ c. g.1 (parked_after h p i j w held.1 c))
+
+pub seat_contains : (us : List (Option Root)) (k : ℕ) (r : Root) → get_or us k None ≡ Some r → Contains us (Some r)
+seat_contains [] k r e = absurd (cc)
+seat_contains (u ∷ us) zero r e = inl (sym e)
+seat_contains (u ∷ us) (suc k) r e = inr (seat_contains us k r e)
 
 -- A seat's target is pending, and so it is held.
 pub seat_pending : (m : Machine) (k : ℕ) (r : Root) → k < length m.pending.items → get_or m.pending.items k None ≡ Some r → IsPending m r.slot
@@ -343,7 +370,7 @@ any_default (x ∷ xs) (suc k) d e h = any_default xs k d e (omega arith)
 pub at_seat : (xs : List (Option Root)) (k : ℕ) (v : Option Root) (r : Root) → k < length xs → v ≡ get_or xs k v → v ≡ Some r → get_or xs k None ≡ Some r
 at_seat xs k v r h e is = any_default xs k None v h ∙ sym e ∙ is
 
--- An pending target that is shaded stays pending.
+-- A pending target that is shaded stays pending.
 pub kept-shade : (m : Machine) (i : ℕ) → IsRoot m i → Invariant m → Invariant (record m { heap = record m.heap { table = shaded m.heap.table i } })
 kept-shade m i r kept = of_sound (record m { heap = record m.heap { table = shaded m.heap.table i } })
     (sound-shade m.heap m.progress (IsRoot m) (IsRoot m) (IsPending m) (IsPending m) i (root_within m i kept r) (kept.roots_held i r) (to_sound m kept) (λ j x. x) (λ j u. inl u))
@@ -364,10 +391,10 @@ cleared_after (x ∷ xs) (suc k) r q e (inl i) = inl (inl i)
 cleared_after (x ∷ xs) (suc k) r q e (inr h) = elim (cleared_after xs k r q e h) [ inl there ↦ inl (inr there) | inr here ↦ inr here ]
 
 -- The seat's target is shaded and the seat is cleared.
-pub kept-settle : (m n : Machine) (k : ℕ) (q : Root) → get_or m.pending.items k None ≡ Some q → k < length m.pending.items → Invariant m
+pub kept-shade_target : (m n : Machine) (k : ℕ) (q : Root) → get_or m.pending.items k None ≡ Some q → k < length m.pending.items → Invariant m
     → n.heap ≡ record m.heap { table = shaded m.heap.table q.slot } → n.progress ≡ m.progress → n.principals ≡ m.principals → n.pending.items ≡ set m.pending.items k None
     → Invariant n
-kept-settle m n k q e h kept eh ep er eu =
+kept-shade_target m n k q e h kept eh ep er eu =
     let root : IsRoot m q.slot = inr (seat_pending m k q h e) in
     let fewer : (j : ℕ) → IsPending n j → IsPending m j = λ j u. (u.0, cleared_before m.pending.items k (record { serial = u.0; slot = j }) (subst (λ (l : List (Option Root)). Contains l (Some (record { serial = u.0; slot = j }))) eu u.1)) in
     let s = sound-shade m.heap m.progress (IsRoot m) (IsRoot n) (IsPending m) (IsPending n) q.slot (root_within m q.slot kept root) (kept.roots_held q.slot root) (to_sound m kept)
@@ -390,7 +417,7 @@ shaded_whites h i j w b = never_new h i j White (λ q. cc) w b
 pub kept-start : (m : Machine) → m.progress ≡ Idle → ((i : ℕ) → IsPrincipal m i → mark_at m.heap i ≡ Has White → ⊥) → Invariant m → Invariant (record m { progress = Marking None })
 kept-start m e dark kept =
     let old : PhaseHolds Idle m = subst (λ (p : Progress). PhaseHolds p m) e kept.phase in
-    let back : (i : ℕ) → mark_at m.heap i ≢ Free → IsHeld m i = λ i h. (h, λ c. subst (λ (p : Progress). CondemnedAt p m.heap i) e c) in
+    let back : (i : ℕ) → mark_at m.heap i ≢ Free → IsHeld m i = λ i h. (h, λ c. subst (λ (p : Progress). ParkedAt p m.heap i) e c) in
     record {
       roots_held = λ i r. ((kept.roots_held i r).0, λ c. c);
       closed = λ i x h o. ((kept.closed i x (back i h.0) o).0, λ c. c);

@@ -10,9 +10,11 @@ use Rattle.tg_slots.proofs.TableLemmas.{mark_here, mark_there, occupied_within}
 use Rattle.tg_heap.specs.Graph.{HeapGraph, edges, mark_at, shaded, shaded_by, IsHeap}
 use Rattle.tg_cells.specs.Lists.{Edge}
 use Rattle.tg_collect.specs.declared.machine.Progress.{Progress}
-use Rattle.tg_collect.specs.Machine.{CondemnedAt, HeldAt, Sound, without_slot}
+use Rattle.tg_collect.specs.declared.machine.Root.{Root}
+use Rattle.tg_collect.specs.Machine.{IsPrincipalOf, IsPendingOf, ParkedAt, HeldAt, Sound, without_slot}
 use Rattle.tg_collect.specs.Names.{IsNamed, Names}
-use Rattle.tg_collect.specs.Lines.{Line, starts, scans, blackens, takes, settles, condemns, skips, whitens, strips, frees, finishes, Shadings, none, one_more}
+use Rattle.tg_collect.specs.Lines.{Line, starts, scans, blackens, takes, shades_pending, starts_sweep, skips, whitens, strips, frees, finishes}
+use Rattle.tg_collect.proofs.LineLemmas.{Shadings, none, one_more, all_shadings}
 use Rattle.tg_collect.proofs.LeftLemmas.{Slim}
 
 -- The same vertex in another colour, or free in both.
@@ -56,15 +58,15 @@ pub shadings_slots : (P : ℕ → Type 0) (t u : Table) (k j : ℕ) → Shadings
 shadings_slots P t _ _ j none = recolours_same (slot t j)
 shadings_slots P t _ _ j (one_more u k i s r) = recolours_both (slot t j) (slot u j) (slot (shaded u i) j) (shadings_slots P t u k j s) (shaded_slots u i j)
 
--- Each slot keeps its vertex, but a condemned one may turn free.
-pub line_slots : (P U : ℕ → Type 0) (h h' : HeapGraph) (p q : Progress) (c : ℕ) (e : Bool) → Line P U h p h' q c e → (j : ℕ)
-    → Recolours (slot h.table j) (slot h'.table j) ⊎ (CondemnedAt p h j × (slot h'.table j ≡ None))
-line_slots P U h _ _ _ _ _ (starts t k s few) j = inl (shadings_slots P h.table t k j s)
+-- Each slot keeps its vertex, but a parked one may turn free.
+pub line_slots : (P : List Root) (U : List (Option Root)) (h h' : HeapGraph) (p q : Progress) (c : ℕ) (e : Bool) → Line P U h p h' q c e → (j : ℕ)
+    → Recolours (slot h.table j) (slot h'.table j) ⊎ (ParkedAt p h j × (slot h'.table j ≡ None))
+line_slots P U h _ _ _ _ _ (starts few) j = inl (shadings_slots (IsPrincipalOf P) h.table _ _ j (all_shadings P h.table))
 line_slots P U h _ _ _ _ _ (scans i cursor b e a w at) j = inl (shaded_slots h.table e.target j)
 line_slots P U h _ _ _ _ _ (blackens i) j = inl (recoloured_slots h.table.slots i j Black)
 line_slots P U h _ _ _ _ _ (takes i rest g) j = inl (recolours_same (slot h.table j))
-line_slots P U h _ _ _ _ _ (settles i g u w) j = inl (shaded_slots h.table i j)
-line_slots P U h _ _ _ _ _ (condemns g s) j = inl (recolours_same (slot h.table j))
+line_slots P U h _ _ _ _ _ (shades_pending k r g f) j = inl (shaded_slots h.table r.slot j)
+line_slots P U h _ _ _ _ _ (starts_sweep g s) j = inl (recolours_same (slot h.table j))
 line_slots P U h _ _ _ _ _ (skips at l m) j = inl (recolours_same (slot h.table j))
 line_slots P U h _ _ _ _ _ (whitens at l m) j = inl (recoloured_slots h.table.slots at j White)
 line_slots P U h _ _ _ _ _ (strips at e r l m w) j = inl (recolours_same (slot h.table j))
@@ -97,58 +99,57 @@ recolours_occupied None None r f g = f g
 recolours_occupied None (Some p) r f g = r
 recolours_occupied (Some o) w r f g = cc
 
-pub named_back : (P U : ℕ → Type 0) (h h' : HeapGraph) (p q : Progress) (c : ℕ) (e : Bool) → Line P U h p h' q c e → (i x : ℕ) → IsNamed h' i x → IsNamed h i x
+pub named_back : (P : List Root) (U : List (Option Root)) (h h' : HeapGraph) (p q : Progress) (c : ℕ) (e : Bool) → Line P U h p h' q c e → (i x : ℕ) → IsNamed h' i x → IsNamed h i x
 named_back P U h h' p q c e l i x n = elim (line_slots P U h h' p q c e l i) [
   | inl r ↦ recolours_back (slot h.table i) (slot h'.table i) x r n
   | inr gone ↦ absurd (let u : Some n.0 ≡ None = sym n.1 ∙ gone.1 in cc)
 ]
 
-pub named_forth : (P U : ℕ → Type 0) (h h' : HeapGraph) (p q : Progress) (c : ℕ) (e : Bool) → Line P U h p h' q c e → (i x : ℕ) → (CondemnedAt p h i → ⊥) → IsNamed h i x → IsNamed h' i x
+pub named_forth : (P : List Root) (U : List (Option Root)) (h h' : HeapGraph) (p q : Progress) (c : ℕ) (e : Bool) → Line P U h p h' q c e → (i x : ℕ) → (ParkedAt p h i → ⊥) → IsNamed h i x → IsNamed h' i x
 named_forth P U h h' p q c e l i x d n = elim (line_slots P U h h' p q c e l i) [
   | inl r ↦ recolours_forth (slot h.table i) (slot h'.table i) x r n
   | inr gone ↦ absurd (d gone.0)
 ]
 
--- What is condemned stays so, or is freed.
-condemned_stays : (P U : ℕ → Type 0) (h h' : HeapGraph) (p q : Progress) (c : ℕ) (e : Bool) → Line P U h p h' q c e → (j : ℕ) → CondemnedAt p h j → CondemnedAt q h' j ⊎ (mark_at h' j ≡ Free)
-condemned_stays P U h _ _ _ _ _ (starts t k s few) j d = absurd d
-condemned_stays P U h _ _ _ _ _ (scans i cursor b e a w at) j d = absurd d
-condemned_stays P U h _ _ _ _ _ (blackens i) j d = absurd d
-condemned_stays P U h _ _ _ _ _ (takes i rest g) j d = absurd d
-condemned_stays P U h _ _ _ _ _ (settles i g u w) j d = absurd d
-condemned_stays P U h _ _ _ _ _ (condemns g s) j d = absurd d
-condemned_stays P U h _ _ _ _ _ (skips at l m) j d = elim (cases_eq j at) [
-  | inl is ↦ absurd (let w : mark_at h at ≡ Has White = subst (λ (k : ℕ). mark_at h k ≡ Has White) is d.1 in
-      elim m [ inl free ↦ (let u : Free ≡ Has White = sym free ∙ w in cc) | inr grey ↦ (let u : Has Grey ≡ Has White = sym grey ∙ w in cc) ])
+-- What is parked stays so, or is freed.
+parked_stays : (P : List Root) (U : List (Option Root)) (h h' : HeapGraph) (p q : Progress) (c : ℕ) (e : Bool) → Line P U h p h' q c e → (j : ℕ) → ParkedAt p h j → ParkedAt q h' j ⊎ (mark_at h' j ≡ Free)
+parked_stays P U h _ _ _ _ _ (starts few) j d = absurd d
+parked_stays P U h _ _ _ _ _ (scans i cursor b e a w at) j d = absurd d
+parked_stays P U h _ _ _ _ _ (blackens i) j d = absurd d
+parked_stays P U h _ _ _ _ _ (takes i rest g) j d = absurd d
+parked_stays P U h _ _ _ _ _ (shades_pending k r g f) j d = absurd d
+parked_stays P U h _ _ _ _ _ (starts_sweep g s) j d = absurd d
+parked_stays P U h _ _ _ _ _ (skips at l m) j d = elim (cases_eq j at) [
+  | inl is ↦ absurd (let w : mark_at h at ≡ Has White = subst (λ (k : ℕ). mark_at h k ≡ Has White) is d.1 in let u : Free ≡ Has White = sym m ∙ w in cc)
   | inr other ↦ inl ((let a = d.0 in omega (arith, a, other)), d.1)
 ]
-condemned_stays P U h _ _ _ _ _ (whitens at l m) j d = elim (cases_eq j at) [
+parked_stays P U h _ _ _ _ _ (whitens at l m) j d = elim (cases_eq j at) [
   | inl is ↦ absurd (let w : mark_at h at ≡ Has White = subst (λ (k : ℕ). mark_at h k ≡ Has White) is d.1 in let u : Has Black ≡ Has White = sym m ∙ w in cc)
   | inr other ↦ inl ((let a = d.0 in omega (arith, a, other)), mark_there h.table.slots at j _ other ∙ d.1)
 ]
-condemned_stays P U h _ _ _ _ _ (strips at e r l m w) j d = inl d
-condemned_stays P U h _ _ _ _ _ (frees at l m w) j d = elim (cases_eq j at) [
+parked_stays P U h _ _ _ _ _ (strips at e r l m w) j d = inl d
+parked_stays P U h _ _ _ _ _ (frees at l m w) j d = elim (cases_eq j at) [
   | inl is ↦ inr (subst (λ (k : ℕ). mark_at (without_slot h at) k ≡ Free) (sym is) (mark_here h.table.slots at None l))
   | inr other ↦ inl ((let a = d.0 in omega (arith, a, other)), mark_there h.table.slots at j None other ∙ d.1)
 ]
-condemned_stays P U h _ _ _ _ _ (finishes at l) j d = absurd (let a = d.0 in let b = occupied_within h.table.slots j White d.1 in omega (arith, a, b, l))
+parked_stays P U h _ _ _ _ _ (finishes at l) j d = absurd (let a = d.0 in let b = occupied_within h.table.slots j White d.1 in omega (arith, a, b, l))
 
-pub held_back : (P U : ℕ → Type 0) (h h' : HeapGraph) (p q : Progress) (c : ℕ) (e : Bool) → Line P U h p h' q c e → (j : ℕ) → HeldAt h' q j → HeldAt h p j
+pub held_back : (P : List Root) (U : List (Option Root)) (h h' : HeapGraph) (p q : Progress) (c : ℕ) (e : Bool) → Line P U h p h' q c e → (j : ℕ) → HeldAt h' q j → HeldAt h p j
 held_back P U h h' p q c e l j g = (
   elim (line_slots P U h h' p q c e l j) [
     | inl r ↦ recolours_occupied (slot h.table j) (slot h'.table j) r g.0
     | inr gone ↦ absurd (g.0 (ap mark_of gone.1))
   ],
-  λ d. elim (condemned_stays P U h h' p q c e l j d) [ inl still ↦ g.1 still | inr free ↦ g.0 free ],
+  λ d. elim (parked_stays P U h h' p q c e l j d) [ inl still ↦ g.1 still | inr free ↦ g.0 free ],
 )
 
-pub edges_back : (P U : ℕ → Type 0) (h h' : HeapGraph) (p q : Progress) (c : ℕ) (e : Bool) → Line P U h p h' q c e → (j : ℕ) (x : Edge) → j < length h.lists → Contains (edges h' j) x → Contains (edges h j) x
-edges_back P U h _ _ _ _ _ (starts t k s few) j x b o = o
+pub edges_back : (P : List Root) (U : List (Option Root)) (h h' : HeapGraph) (p q : Progress) (c : ℕ) (e : Bool) → Line P U h p h' q c e → (j : ℕ) (x : Edge) → j < length h.lists → Contains (edges h' j) x → Contains (edges h j) x
+edges_back P U h _ _ _ _ _ (starts few) j x b o = o
 edges_back P U h _ _ _ _ _ (scans i cursor y e a w at) j x b o = o
 edges_back P U h _ _ _ _ _ (blackens i) j x b o = o
 edges_back P U h _ _ _ _ _ (takes i rest g) j x b o = o
-edges_back P U h _ _ _ _ _ (settles i g u w) j x b o = o
-edges_back P U h _ _ _ _ _ (condemns g s) j x b o = o
+edges_back P U h _ _ _ _ _ (shades_pending k r g f) j x b o = o
+edges_back P U h _ _ _ _ _ (starts_sweep g s) j x b o = o
 edges_back P U h _ _ _ _ _ (skips at l m) j x b o = o
 edges_back P U h _ _ _ _ _ (whitens at l m) j x b o = o
 edges_back P U h _ _ _ _ _ (strips at e r l m w) j x b o = elim (cases_eq j at) [
@@ -168,8 +169,8 @@ occupied_at h j n = by (mark_at h j) refl where
   by (Has c) e = occupied_within h.table.slots j c e
 
 -- Names are kept by each line.
-pub line_names : (P U : ℕ → Type 0) (RootOf : ℕ → ℕ → Type 0) (h h' : HeapGraph) (p q : Progress) (c : ℕ) (e : Bool) → Line P U h p h' q c e → IsHeap h
-    → ((i x : ℕ) → RootOf i x → P i ⊎ U i) → Sound h p (λ i. P i ⊎ U i) U → Names h p RootOf → Names h' q RootOf
+pub line_names : (P : List Root) (U : List (Option Root)) (RootOf : ℕ → ℕ → Type 0) (h h' : HeapGraph) (p q : Progress) (c : ℕ) (e : Bool) → Line P U h p h' q c e → IsHeap h
+    → ((i x : ℕ) → RootOf i x → IsPrincipalOf P i ⊎ IsPendingOf U i) → Sound h p (λ i. IsPrincipalOf P i ⊎ IsPendingOf U i) (IsPendingOf U) → Names h p RootOf → Names h' q RootOf
 line_names P U RootOf h h' p q c e l ok roots kept n = record {
   once = λ i j x a b. n.once i j x (named_back P U h h' p q c e l i x a) (named_back P U h h' p q c e l j x b);
   edge = λ i y g o.

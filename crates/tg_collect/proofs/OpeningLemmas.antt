@@ -41,10 +41,10 @@ use Rattle.tg_collect.specs.Stored.{Stored, stored, held, gather, by_place, vert
 use Rattle.tg_collect.specs.Views.{IsHeldIn, IsEdgeIn, IsStore, place}
 use Rattle.tg_collect.specs.Sessions.{pending_of, EdgeStored, with_black}
 use Rattle.tg_collect.specs.Openings.{first_serials, Opens, Opened}
-use Rattle.tg_collect.specs.OpeningSteps.{Blank, PrincipalOpened, PrincipalsOpened, EdgeOpened, Before, OpensEdges}
+use Rattle.tg_collect.specs.OpeningSteps.{Blank, PrincipalOpened, OpensFirst, IsFreeFrom, PrincipalsOpened, EdgeOpened, Before, OpensEdges}
 use Rattle.tg_collect.proofs.MachineLemmas.{index_contains, cleared_before}
-use Rattle.tg_collect.proofs.SetLemmas.{same_key, key_same, colour_shows, edge_parts, parts_edge}
-use Rattle.tg_collect.proofs.StoreLemmas.{is_store, named_place}
+use Rattle.tg_collect.proofs.SetLemmas.{same_key, key_same, colour_shows, edge_parts, parts_edge, named_place}
+use Rattle.tg_collect.proofs.StoreLemmas.{is_store}
 use Rattle.tg_collect.proofs.VertexCalls.{VertexPlaced}
 use Rattle.tg_collect.proofs.PathLemmas.{edge_in}
 use Rattle.tg_collect.proofs.CollectLemmas.{both_true, some_right}
@@ -107,6 +107,7 @@ blank_opens m slots cells b = record {
   vertices = ap (λ (t : Table). finmap.from_entries (gather (by_place [] vertex_entry m.progress m.heap.lists) 0 t.slots)) b.table
       ∙ ap (λ (es : List (ℕ × Vertex)). finmap.from_entries {R = nat_cmp} es) (gather_nones (by_place [] vertex_entry m.progress m.heap.lists) 0 slots (λ k. refl));
   principals = ap principals_of b.principals;
+  places = λ k b. absurd (omega (arith, b));
   phase = ap phase_of b.progress;
   idle = λ seat. get_or-map serial_of m.pending.items seat None ∙ ap serial_of (b.idle seat);
   marks = λ i. inl (get_or-map mark_of m.heap.table.slots i None ∙ ap mark_of (blank_slot m slots cells b i));
@@ -114,6 +115,9 @@ blank_opens m slots cells b = record {
   free = (let f : length m.heap.table.free ≡ slots = ap (λ (t : Table). length t.free) b.table ∙ length_indices 0 slots in omega (arith, f));
   cells = b.cell_count;
 }
+
+pub blank_free : (m : Machine) (slots cells : ℕ) → Blank m slots cells → IsFreeFrom 0 m.heap.table.free
+blank_free m slots cells b = ap (λ (t : Table). t.free) b.table ∙ ap (indices 0) (sym (ap (λ (t : Table). length t.free) b.table ∙ length_indices 0 slots))
 
 pub blank_triples : (m : Machine) (slots cells : ℕ) → Blank m slots cells → (stored m).triples ≡ finset.empty
 blank_triples m slots cells b = ap (λ (t : Table). finset.from_list {R = triple_cmp} (gather (by_place [] triple_entry m.progress m.heap.lists) 0 t.slots)) b.table
@@ -194,9 +198,9 @@ principal_whole m ps i x idle w named held few e = record {
   ]
 
 pub principal_opened : (u : Stored) (m : Machine) (ps : Vec Root Global) (i x : ℕ) → u.phase ≡ phase.Idle → VertexPlaced u (stored m) x Subject [] i
-    → ps.items ≡ m.principals.items ++ record { serial = x; slot = i } ∷ [] → PrincipalOpened u (stored (with_principals m ps)) x
-principal_opened u m ps i x idle a e = record {
-  slot = i;
+    → place (stored m) i ≡ Some x → ps.items ≡ m.principals.items ++ record { serial = x; slot = i } ∷ [] → PrincipalOpened u (stored (with_principals m ps)) x i
+principal_opened u m ps i x idle a there e = record {
+  placed = there;
   within = a.within;
   free_slots = a.free_slots;
   is = principals ∙ (λ j. record (a.is j) { principals = u.principals ++ x ∷ []; free_slots = (stored m).free_slots; left = (stored m).left })
@@ -223,26 +227,31 @@ principal_opened u m ps i x idle a e = record {
   principals = ap (λ (l : List ℕ). record (stored m) { principals = l }) (ap principals_of e ∙ map_append (λ (r : Root). r.serial) m.principals.items (record { serial = x; slot = i } ∷ []) ∙ ap (λ (l : List ℕ). l ++ x ∷ []) old_principals)
 
 -- One more of the row.
-pub opens_more : (v w : Stored) (k slots cells : ℕ) → Opens v k slots cells → PrincipalOpened v w (suc k) → Opens w (suc k) slots cells
+pub opens_more : (v w : Stored) (k slots cells : ℕ) → Opens v k slots cells → PrincipalOpened v w (suc k) k → Opens w (suc k) slots cells
 opens_more v w k slots cells o p = record {
   vertices = ap (λ (z : Stored). z.vertices) p.is ∙ ap (λ (m : finmap.FinMap nat_cmp Vertex). finmap.insert m (suc k) (record { kind = Subject; text = [] })) o.vertices;
   principals = ap (λ (z : Stored). z.principals) p.is ∙ ap (λ (l : List ℕ). l ++ suc k ∷ []) o.principals;
   phase = ap (λ (z : Stored). z.phase) p.is ∙ o.phase;
   idle = λ seat. ap (λ (z : Stored). pending_of z seat) p.is ∙ o.idle seat;
-  marks = λ i. elim (cases_eq i p.slot) [
-    | inl is ↦ inr (ap (λ (z : Stored). get_or z.marks i Free) p.is ∙ ap (λ (j : ℕ). get_or (set v.marks p.slot (Has White)) j Free) is ∙ get_or-set_same v.marks p.slot (Has White) Free p.within)
+  places = λ i b. elim (cases_eq i k) [
+    | inl is ↦ (let e : suc k ≡ i + 1 = omega (arith, is) in subst (λ (j : ℕ). place w j ≡ Some (suc k)) (sym is) p.placed ∙ ap Some e)
+    | inr other ↦ ap (λ (z : Stored). place z i) p.is ∙ get_or-set_other v.places k i (Some (suc k)) None other ∙ o.places i (omega (arith, b, other))
+  ];
+  marks = λ i. elim (cases_eq i k) [
+    | inl is ↦ inr (ap (λ (z : Stored). get_or z.marks i Free) p.is ∙ ap (λ (j : ℕ). get_or (set v.marks k (Has White)) j Free) is ∙ get_or-set_same v.marks k (Has White) Free p.within)
     | inr other ↦
-        let e : get_or w.marks i Free ≡ get_or v.marks i Free = ap (λ (z : Stored). get_or z.marks i Free) p.is ∙ get_or-set_other v.marks p.slot i (Has White) Free other in
+        let e : get_or w.marks i Free ≡ get_or v.marks i Free = ap (λ (z : Stored). get_or z.marks i Free) p.is ∙ get_or-set_other v.marks k i (Has White) Free other in
         elim (o.marks i) [ inl f ↦ inl (e ∙ f) | inr b ↦ inr (e ∙ b) ]
   ];
-  slots = ap (λ (z : Stored). length z.marks) p.is ∙ length-set v.marks p.slot (Has White) ∙ o.slots;
+  slots = ap (λ (z : Stored). length z.marks) p.is ∙ length-set v.marks k (Has White) ∙ o.slots;
   free = (let f = o.free in let g = p.free_slots in omega (arith, f, g));
   cells = ap (λ (z : Stored). z.cells) p.is ∙ o.cells;
 }
 
--- How far the loop over the serials has come: all of those so far that there are.
-pub record SoFar (v : Stored) (S : Triples) (count serial slots cells : ℕ) : Type 0 where
+-- How far the loop over the serials has come: all of those so far that there are, and the slots from there on are free.
+pub record SoFar (v : Stored) (free : List ℕ) (S : Triples) (count serial slots cells : ℕ) : Type 0 where
   pub opened : ℕ
+  pub first : IsFreeFrom opened free
   pub opens : Opens v opened slots cells
   pub triples : v.triples ≡ S
   pub at : ((opened + 1 ≡ serial) × (opened ≤ count)) ⊎ ((opened ≡ count) × (count < serial))
@@ -396,6 +405,7 @@ pair_opened v w G count from to o e = record {
   opens = record {
     vertices = ap (λ (z : Stored). z.vertices) e.is ∙ o.opens.vertices;
     principals = ap (λ (z : Stored). z.principals) e.is ∙ o.opens.principals;
+    places = λ k b. ap (λ (z : Stored). place z k) e.is ∙ o.opens.places k b;
     phase = ap (λ (z : Stored). z.phase) e.is ∙ o.opens.phase;
     idle = λ seat. ap (λ (z : Stored). pending_of z seat) e.is ∙ o.opens.idle seat;
     marks = λ i. elim (o.opens.marks i) [ inl f ↦ inl (ap (λ (z : Stored). get_or z.marks i Free) e.is ∙ f) | inr b ↦ inr (ap (λ (z : Stored). get_or z.marks i Free) e.is ∙ b) ];
@@ -457,6 +467,7 @@ rows_done m G count slots cells ok w o es ec = record {
   opens = record {
     vertices = o.opens.vertices;
     principals = o.opens.principals;
+    places = o.opens.places;
     phase = o.opens.phase;
     idle = o.opens.idle;
     marks = o.opens.marks;
@@ -577,9 +588,6 @@ pair_done v w G count from to x y z rights o ex ey ez er e =
     (subst (λ (a : ℕ). EdgeOpened v w a y rights) ez e))))
 
 -- Along the serials.
-pub so_far_first : (v : Stored) (count slots cells : ℕ) → Opens v 0 slots cells → SoFar v v.triples count 1 slots cells
-so_far_first v count slots cells o = record { opened = 0; opens = o; triples = refl; at = inl (omega arith, omega arith) }
-
 kind_is : (G : Protection) (count serial : ℕ) → G.vertices ≡ subjects count → is_some (option_map (λ e. e.kind) (finmap.get G.vertices serial)) ≡ true → 1 ≤ serial → serial ≤ count
 kind_is G count serial e t one = elim (below_or count serial) [
   | inl b ↦ b
@@ -603,40 +611,52 @@ kind_none G count serial e t one = elim (below_or count serial) [
   below_or (suc c) (suc s) = elim (below_or c s) [ inl b ↦ inl (omega (arith, b)) | inr b ↦ inr (omega (arith, b)) ]
 
 -- The next serial is the row's next.
-pub next_serial : (v : Stored) (S : Triples) (G : Protection) (count serial slots cells : ℕ) (s : SoFar v S count serial slots cells) → G.vertices ≡ subjects count
+pub next_serial : (v : Stored) (free : List ℕ) (S : Triples) (G : Protection) (count serial slots cells : ℕ) (s : SoFar v free S count serial slots cells) → G.vertices ≡ subjects count
     → is_some (option_map (λ e. e.kind) (finmap.get G.vertices serial)) ≡ true → 1 ≤ serial → (s.opened + 1 ≡ serial) × (serial ≤ count)
-next_serial v S G count serial slots cells s e t one =
+next_serial v free S G count serial slots cells s e t one =
     let b = kind_is G count serial e t one in
     elim s.at [
       | inl a ↦ (a.0, b)
       | inr a ↦ (let c = a.1 in absurd (omega (arith, b, c)))
     ]
 
-pub so_far_more : (v w : Stored) (S : Triples) (count serial slots cells : ℕ) (s : SoFar v S count serial slots cells) → s.opened + 1 ≡ serial → serial ≤ count → PrincipalOpened v w serial → SoFar w S count (serial + 1) slots cells
-so_far_more v w S count serial slots cells s e b p =
+-- The first free slot is the next, and the others follow it.
+first_free : (k i : ℕ) (rest : List ℕ) → IsFreeFrom k (i ∷ rest) → (i ≡ k) × IsFreeFrom (suc k) rest
+first_free k i rest e = (ap first e, ap others e) where
+  first : List ℕ → ℕ
+  first [] = 0
+  first (x ∷ xs) = x
+
+  others : List ℕ → List ℕ
+  others [] = []
+  others (x ∷ xs) = xs
+
+pub so_far_more : (m n : Machine) (S : Triples) (count serial slots cells : ℕ) (s : SoFar (stored m) m.heap.table.free S count serial slots cells) → s.opened + 1 ≡ serial → serial ≤ count → OpensFirst m n serial
+    → SoFar (stored n) n.heap.table.free S count (serial + 1) slots cells
+so_far_more m n S count serial slots cells s e b p =
     let is : suc s.opened ≡ serial = (let f = e in omega (arith, f)) in
+    let f = first_free s.opened p.0 n.heap.table.free (subst (IsFreeFrom s.opened) p.1 s.first) in
     record {
       opened = suc s.opened;
-      opens = opens_more v w s.opened slots cells s.opens (subst (PrincipalOpened v w) (sym is) p);
-      triples = ap (λ (z : Stored). z.triples) p.is ∙ s.triples;
+      first = f.1;
+      opens = opens_more (stored m) (stored n) s.opened slots cells s.opens (subst (λ (x : ℕ). PrincipalOpened (stored m) (stored n) x s.opened) (sym is) (subst (PrincipalOpened (stored m) (stored n) serial) f.0 p.2));
+      triples = ap (λ (z : Stored). z.triples) p.2.is ∙ s.triples;
       at = inl (omega (arith, e), omega (arith, e, b));
     }
 
-pub so_far_same : (v : Stored) (S : Triples) (count serial slots cells : ℕ) (s : SoFar v S count serial slots cells) → count < serial → SoFar v S count (serial + 1) slots cells
-so_far_same v S count serial slots cells s b = record {
+pub so_far_same : (v : Stored) (free : List ℕ) (S : Triples) (count serial slots cells : ℕ) (s : SoFar v free S count serial slots cells) → count < serial → SoFar v free S count (serial + 1) slots cells
+so_far_same v free S count serial slots cells s b = record {
   opened = s.opened;
+  first = s.first;
   opens = s.opens;
   triples = s.triples;
   at = inr (elim s.at [ inl a ↦ (let c = a.0 in let d = a.1 in omega (arith, c, d, b)) | inr a ↦ a.0 ], omega (arith, b));
 }
 
-pub so_far_last : (v : Stored) (S : Triples) (count slots cells : ℕ) (s : SoFar v S count 65 slots cells) → count ≤ 64 → s.opened ≡ count
-so_far_last v S count slots cells s few = elim s.at [ inl a ↦ (let c = a.0 in let d = a.1 in omega (arith, c, d, few)) | inr a ↦ a.0 ]
-
 -- A new principal's serial is not held, a slot is free for it, and there is room for it.
-pub row_next : (v : Stored) (S : Triples) (count serial slots cells : ℕ) (s : SoFar v S count serial slots cells) → s.opened + 1 ≡ serial → serial ≤ count → count ≤ 64 → count ≤ slots
+pub row_next : (v : Stored) (free : List ℕ) (S : Triples) (count serial slots cells : ℕ) (s : SoFar v free S count serial slots cells) → s.opened + 1 ≡ serial → serial ≤ count → count ≤ 64 → count ≤ slots
     → (IsHeldIn v serial → ⊥) × (v.free_slots ≢ 0) × (length v.principals < 64)
-row_next v S count serial slots cells s e b few fits = (
+row_next v free S count serial slots cells s e b few fits = (
   λ h. (let r = subject_low s.opened serial (subst (λ (m : finmap.FinMap nat_cmp Vertex). finmap.contains_key m serial ≡ true) s.opens.vertices h) in let c = r.1 in omega (arith, c, e)),
   (let f = s.opens.free in omega (arith, f, e, b, fits)),
   (let l = ap length s.opens.principals in let r = row_length s.opened in omega (arith, l, r, e, b, few)),
@@ -655,6 +675,7 @@ no_edges_yet m n G slots cells none p es ec g room =
       opens = record {
         vertices = p.opens.vertices;
         principals = p.opens.principals;
+        places = p.opens.places;
         phase = p.opens.phase;
         idle = p.opens.idle;
         marks = p.opens.marks;

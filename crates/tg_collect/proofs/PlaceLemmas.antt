@@ -11,13 +11,13 @@ use Rattle.tg_slots.specs.declared.colour.Colour.{Colour}
 use Rattle.tg_heap.specs.Graph.{HeapGraph, mark_at, shaded, shaded_by}
 use Rattle.tg_cells.specs.Lists.{Edge}
 use Rattle.tg_slots.specs.declared.colour.Colour.TheVariants.{White, Grey, Black}
-use Rattle.tg_collect.specs.Machine.{CondemnedAt}
+use Rattle.tg_collect.specs.Machine.{ParkedAt}
 use Rattle.tg_collect.specs.declared.machine.Progress.{Progress}
 use Rattle.tg_collect.specs.declared.machine.Progress.TheVariants.{Idle, Marking, Sweeping}
 use Rattle.std.specs.FinSet as finset
 use Rattle.tg_graph.specs.declared.vertex.Vertex.{Vertex}
 use Rattle.tg_graph.specs.Triples.{Triple, triple_cmp}
-use Rattle.tg_collect.specs.Stored.{triples_from, white, condemned, gather, by_place, vertex_entry, triple_entry, parked_entry, place_entry, vertices_of, triples_of, parked_of, places_of}
+use Rattle.tg_collect.specs.Stored.{triples_from, white, is_parked, gather, by_place, vertex_entry, triple_entry, parked_entry, place_entry, vertices_of, triples_of, parked_of, places_of}
 use Rattle.tg_collect.proofs.GatherLemmas.{gather_set}
 use Rattle.std.proofs.lemmas.Bool.{lt-ltb, le-ltb, ltb-true, ltb-false}
 
@@ -36,82 +36,82 @@ find_contains ((k, v) ∷ es) q w e =
 pub get_contains : {X : Type 0} (es : List (ℕ × X)) (q : ℕ) (w : X) → finmap.get (finmap.from_entries {R = nat_cmp} es) q ≡ Some w → Contains es (q, w)
 get_contains es q w e = find_contains es q w (sym (get-from_entries nat_cmp_total es q) ∙ e)
 
--- The test of what is condemned, and the fact.
-pub condemned_is : (h : HeapGraph) (p : Progress) (i : ℕ) (m : Mark) → mark_at h i ≡ m → condemned p i m ≡ true → CondemnedAt p h i
-condemned_is h Idle i m e c = absurd (cc)
-condemned_is h (Marking s) i m e c = absurd (cc)
-condemned_is h (Sweeping k) i m e c = by (nat_lt i k) m refl e c where
-  by : (b : Bool) (m : Mark) → nat_lt i k ≡ b → mark_at h i ≡ m → cond b false (white m) ≡ true → CondemnedAt (Sweeping k) h i
+-- The test of what is parked, and the fact.
+pub parked_is : (h : HeapGraph) (p : Progress) (i : ℕ) (m : Mark) → mark_at h i ≡ m → is_parked p i m ≡ true → ParkedAt p h i
+parked_is h Idle i m e c = absurd (cc)
+parked_is h (Marking s) i m e c = absurd (cc)
+parked_is h (Sweeping k) i m e c = by (nat_lt i k) m refl e c where
+  by : (b : Bool) (m : Mark) → nat_lt i k ≡ b → mark_at h i ≡ m → cond b false (white m) ≡ true → ParkedAt (Sweeping k) h i
   by true m l e c = absurd (cc)
   by false Free l e c = absurd (cc)
   by false (Has White) l e c = (ltb-false i k l, e)
   by false (Has Grey) l e c = absurd (cc)
   by false (Has Black) l e c = absurd (cc)
 
-pub is_condemned : (h : HeapGraph) (p : Progress) (i : ℕ) → CondemnedAt p h i → condemned p i (mark_at h i) ≡ true
-is_condemned h Idle i c = absurd c
-is_condemned h (Marking s) i c = absurd c
-is_condemned h (Sweeping k) i c = rw (le-ltb i k c.0, c.1) refl
+pub parked_holds : (h : HeapGraph) (p : Progress) (i : ℕ) → ParkedAt p h i → is_parked p i (mark_at h i) ≡ true
+parked_holds h Idle i c = absurd c
+parked_holds h (Marking s) i c = absurd c
+parked_holds h (Sweeping k) i c = rw (le-ltb i k c.0, c.1) refl
 
-pub not_condemned : (h : HeapGraph) (p : Progress) (i : ℕ) (m : Mark) → mark_at h i ≡ m → (CondemnedAt p h i → ⊥) → condemned p i m ≡ false
-not_condemned h p i m e n = elim (condemned p i m) as (λ b. condemned p i m ≡ b → condemned p i m ≡ false) [
-  | true ↦ λ t. absurd (n (condemned_is h p i m e t))
+pub not_parked : (h : HeapGraph) (p : Progress) (i : ℕ) (m : Mark) → mark_at h i ≡ m → (ParkedAt p h i → ⊥) → is_parked p i m ≡ false
+not_parked h p i m e n = elim (is_parked p i m) as (λ b. is_parked p i m ≡ b → is_parked p i m ≡ false) [
+  | true ↦ λ t. absurd (n (parked_is h p i m e t))
   | false ↦ λ t. t
 ] refl
 
--- Only a white slot is condemned.
-pub condemned_dark : (p : Progress) (i : ℕ) (m : Mark) → (m ≡ Has White → ⊥) → condemned p i m ≡ false
-condemned_dark Idle i m n = refl
-condemned_dark (Marking s) i m n = refl
-condemned_dark (Sweeping k) i Free n = by (nat_lt i k) where
+-- Only a white slot is parked.
+pub parked_dark : (p : Progress) (i : ℕ) (m : Mark) → (m ≡ Has White → ⊥) → is_parked p i m ≡ false
+parked_dark Idle i m n = refl
+parked_dark (Marking s) i m n = refl
+parked_dark (Sweeping k) i Free n = by (nat_lt i k) where
   by : (b : Bool) → cond b false false ≡ false
   by true = refl
   by false = refl
-condemned_dark (Sweeping k) i (Has White) n = absurd (n refl)
-condemned_dark (Sweeping k) i (Has Grey) n = by (nat_lt i k) where
+parked_dark (Sweeping k) i (Has White) n = absurd (n refl)
+parked_dark (Sweeping k) i (Has Grey) n = by (nat_lt i k) where
   by : (b : Bool) → cond b false false ≡ false
   by true = refl
   by false = refl
-condemned_dark (Sweeping k) i (Has Black) n = by (nat_lt i k) where
+parked_dark (Sweeping k) i (Has Black) n = by (nat_lt i k) where
   by : (b : Bool) → cond b false false ≡ false
   by true = refl
   by false = refl
 
-pub condemned_passed : (k i : ℕ) (m : Mark) → i < k → condemned (Sweeping k) i m ≡ false
-condemned_passed k i m h = rw (lt-ltb i k h) refl
+pub parked_passed : (k i : ℕ) (m : Mark) → i < k → is_parked (Sweeping k) i m ≡ false
+parked_passed k i m h = rw (lt-ltb i k h) refl
 
-pub condemned_next : (k i : ℕ) (m : Mark) → i ≢ k → condemned (Sweeping (k + 1)) i m ≡ condemned (Sweeping k) i m
-condemned_next k i m n = elim (nat_lt i k) as (λ b. nat_lt i k ≡ b → cond (nat_lt i (k + 1)) false (white m) ≡ cond (nat_lt i k) false (white m)) [
+pub parked_next : (k i : ℕ) (m : Mark) → i ≢ k → is_parked (Sweeping (k + 1)) i m ≡ is_parked (Sweeping k) i m
+parked_next k i m n = elim (nat_lt i k) as (λ b. nat_lt i k ≡ b → cond (nat_lt i (k + 1)) false (white m) ≡ cond (nat_lt i k) false (white m)) [
   | true ↦ λ t. (let l = ltb-true i k t in rw (t, lt-ltb i (k + 1) (omega (arith, l))) refl)
   | false ↦ λ t. (let l = ltb-false i k t in rw (t, le-ltb i (k + 1) (omega (arith, l, n))) refl)
 ] refl
 
--- What a slot gives looks at its place and not at its colour, and a condemned slot's edges are not looked at.
+-- What a slot gives looks at its place and not at its colour, and a parked slot's edges are not looked at.
 pub record IsByPlace {X : Type 0} (n : List X) (f : List (List Edge) → Bool → ℕ → Occupant → List X) : Type 0 where
   pub colour : (ls : List (List Edge)) (b : Bool) (i : ℕ) (o : Occupant) (c : Colour) → f ls b i (record o { colour = c }) ≡ f ls b i o
   pub other : (ls : List (List Edge)) (b : Bool) (i k : ℕ) (r : List Edge) (o : Occupant) → i ≢ k → f (set ls k r) b i o ≡ f ls b i o
   pub gone : (ls ls' : List (List Edge)) (i : ℕ) (o : Occupant) → f ls true i o ≡ f ls' true i o
 
 pub turned : {X : Type 0} (n : List X) (f : List (List Edge) → Bool → ℕ → Occupant → List X) → IsByPlace n f → (p q : Progress) (ls : List (List Edge)) (i : ℕ) (v : Option Occupant) (c : Colour)
-    → condemned p i (mark_of (coloured c v)) ≡ condemned q i (mark_of v) → by_place n f p ls i (coloured c v) ≡ by_place n f q ls i v
+    → is_parked p i (mark_of (coloured c v)) ≡ is_parked q i (mark_of v) → by_place n f p ls i (coloured c v) ≡ by_place n f q ls i v
 turned n f laws p q ls i None c e = refl
-turned n f laws p q ls i (Some o) c e = ap (λ (b : Bool). f ls b i (record o { colour = c })) e ∙ laws.colour ls (condemned q i (Has o.colour)) i o c
+turned n f laws p q ls i (Some o) c e = ap (λ (b : Bool). f ls b i (record o { colour = c })) e ∙ laws.colour ls (is_parked q i (Has o.colour)) i o c
 
 pub moved : {X : Type 0} (n : List X) (f : List (List Edge) → Bool → ℕ → Occupant → List X) (p q : Progress) (ls : List (List Edge)) (i : ℕ) (v : Option Occupant)
-    → condemned p i (mark_of v) ≡ condemned q i (mark_of v) → by_place n f p ls i v ≡ by_place n f q ls i v
+    → is_parked p i (mark_of v) ≡ is_parked q i (mark_of v) → by_place n f p ls i v ≡ by_place n f q ls i v
 moved n f p q ls i None e = refl
 moved n f p q ls i (Some o) e = ap (λ (b : Bool). f ls b i o) e
 
 -- A slot that is coloured and stays at its place.
 pub painted_place : {X : Type 0} (n : List X) (f : List (List Edge) → Bool → ℕ → Occupant → List X) → IsByPlace n f → (p q : Progress) (ls : List (List Edge)) (os : List (Option Occupant)) (k : ℕ) (c : Colour)
-    → condemned p k (mark_of (coloured c (get_or os k None))) ≡ condemned q k (mark_of (get_or os k None))
-    → ((j : ℕ) → j < length os → j ≢ k → condemned p j (mark_of (get_or os j None)) ≡ condemned q j (mark_of (get_or os j None)))
+    → is_parked p k (mark_of (coloured c (get_or os k None))) ≡ is_parked q k (mark_of (get_or os k None))
+    → ((j : ℕ) → j < length os → j ≢ k → is_parked p j (mark_of (get_or os j None)) ≡ is_parked q j (mark_of (get_or os j None)))
     → gather (by_place n f p ls) 0 (set os k (coloured c (get_or os k None))) ≡ gather (by_place n f q ls) 0 os
 painted_place n f laws p q ls os k c here there =
     gather_set (by_place n f p ls) (by_place n f q ls) os k (coloured c (get_or os k None)) (turned n f laws p q ls k (get_or os k None) c here)
     (λ j b o. moved n f p q ls j (get_or os j None) (there j b o))
 
-pub shaded_place : {X : Type 0} (n : List X) (f : List (List Edge) → Bool → ℕ → Occupant → List X) → IsByPlace n f → (h : HeapGraph) (p : Progress) (i : ℕ) → (CondemnedAt p h i → ⊥)
+pub shaded_place : {X : Type 0} (n : List X) (f : List (List Edge) → Bool → ℕ → Occupant → List X) → IsByPlace n f → (h : HeapGraph) (p : Progress) (i : ℕ) → (ParkedAt p h i → ⊥)
     → gather (by_place n f p h.lists) 0 (shaded h.table i).slots ≡ gather (by_place n f p h.lists) 0 h.table.slots
 shaded_place n f laws h p i c = by (mark_at h i) refl where
   grey_not_white : (v : Option Occupant) → mark_of (coloured Grey v) ≡ Has White → ⊥
@@ -123,7 +123,7 @@ shaded_place n f laws h p i c = by (mark_at h i) refl where
   by (Has Grey) e = refl
   by (Has Black) e = refl
   by (Has White) e = painted_place n f laws p p h.lists h.table.slots i Grey
-      (condemned_dark p i (mark_of (coloured Grey (slot h.table i))) (λ w. grey_not_white (slot h.table i) w) ∙ sym (not_condemned h p i (mark_at h i) refl c)) (λ j b o. refl)
+      (parked_dark p i (mark_of (coloured Grey (slot h.table i))) (λ w. grey_not_white (slot h.table i) w) ∙ sym (not_parked h p i (mark_at h i) refl c)) (λ j b o. refl)
 
 pub vertex_by_place : IsByPlace [] vertex_entry
 vertex_by_place = record { colour = λ ls b i o c. refl; other = λ ls b i k r o n. refl; gone = λ ls ls' i o. refl }
@@ -142,14 +142,14 @@ pub place_by_place : IsByPlace (None ∷ []) place_entry
 place_by_place = record { colour = λ ls b i o c. refl; other = λ ls b i k r o n. refl; gone = λ ls ls' i o. refl }
 
 -- A held slot that is shaded.
-pub shaded_vertices : (h : HeapGraph) (p : Progress) (i : ℕ) → (CondemnedAt p h i → ⊥) → vertices_of p (record h { table = shaded h.table i }) ≡ vertices_of p h
+pub shaded_vertices : (h : HeapGraph) (p : Progress) (i : ℕ) → (ParkedAt p h i → ⊥) → vertices_of p (record h { table = shaded h.table i }) ≡ vertices_of p h
 shaded_vertices h p i n = ap (λ (es : List (ℕ × Vertex)). finmap.from_entries {R = nat_cmp} es) (shaded_place [] vertex_entry vertex_by_place h p i n)
 
-pub shaded_triples : (h : HeapGraph) (p : Progress) (i : ℕ) → (CondemnedAt p h i → ⊥) → triples_of p (record h { table = shaded h.table i }) ≡ triples_of p h
+pub shaded_triples : (h : HeapGraph) (p : Progress) (i : ℕ) → (ParkedAt p h i → ⊥) → triples_of p (record h { table = shaded h.table i }) ≡ triples_of p h
 shaded_triples h p i n = ap (λ (es : List Triple). finset.from_list {R = triple_cmp} es) (shaded_place [] triple_entry triple_by_place h p i n)
 
-pub shaded_parked : (h : HeapGraph) (p : Progress) (i : ℕ) → (CondemnedAt p h i → ⊥) → parked_of p (record h { table = shaded h.table i }) ≡ parked_of p h
+pub shaded_parked : (h : HeapGraph) (p : Progress) (i : ℕ) → (ParkedAt p h i → ⊥) → parked_of p (record h { table = shaded h.table i }) ≡ parked_of p h
 shaded_parked h p i n = ap (λ (es : List ℕ). finset.from_list {R = nat_cmp} es) (shaded_place [] parked_entry parked_by_place h p i n)
 
-pub shaded_places : (h : HeapGraph) (p : Progress) (i : ℕ) → (CondemnedAt p h i → ⊥) → places_of p (record h { table = shaded h.table i }) ≡ places_of p h
+pub shaded_places : (h : HeapGraph) (p : Progress) (i : ℕ) → (ParkedAt p h i → ⊥) → places_of p (record h { table = shaded h.table i }) ≡ places_of p h
 shaded_places h p i n = shaded_place (None ∷ []) place_entry place_by_place h p i n

@@ -27,7 +27,7 @@ use Rattle.std.specs.Prelude.{Ok}
 use Rattle.tg_slots.specs.declared.colour.Colour.{Colour}
 use Rattle.tg_slots.specs.Table.{coloured}
 use Rattle.tg_heap.specs.Graph.{painted}
-use Rattle.tg_collect.specs.Machine.{IsPending, IsRoot, IsHeld, HeldAt, CondemnedAt, PhaseAt, scan_of, Sound, Invariant, progress_without, is_at, with_vertex, new_colour, has_passed, colour_ahead}
+use Rattle.tg_collect.specs.Machine.{IsPending, IsRoot, IsHeld, HeldAt, ParkedAt, PhaseAt, scan_of, Sound, Invariant, progress_without, is_at, with_vertex, new_colour, has_passed, colour_ahead}
 use Rattle.tg_collect.specs.SessionLines.{newcomer, progress_dropped, Places}
 use Rattle.tg_collect.proofs.VertexSteps.{NewColour, sound-vertex}
 use Rattle.tg_collect.proofs.MachineLemmas.{to_sound, of_sound, held_within}
@@ -228,27 +228,27 @@ kept-rewrites m slots same kept =
       phase = phase colours m.progress kept.phase;
     }
   where
-    condemned : (c : mark_at m.heap ≡ (λ j. mark_of (get_or slots j None))) (p : Progress) (i : ℕ) → CondemnedAt p (record m.heap { table = record m.heap.table { slots = slots } }) i → CondemnedAt p m.heap i
-    condemned c Idle i x = x
-    condemned c (Marking s) i x = x
-    condemned c (Sweeping k) i x = (x.0, sym (same i) ∙ x.1)
+    is_parked : (c : mark_at m.heap ≡ (λ j. mark_of (get_or slots j None))) (p : Progress) (i : ℕ) → ParkedAt p (record m.heap { table = record m.heap.table { slots = slots } }) i → ParkedAt p m.heap i
+    is_parked c Idle i x = x
+    is_parked c (Marking s) i x = x
+    is_parked c (Sweeping k) i x = (x.0, sym (same i) ∙ x.1)
 
-    condemned_back : (c : mark_at m.heap ≡ (λ j. mark_of (get_or slots j None))) (p : Progress) (i : ℕ) → CondemnedAt p m.heap i → CondemnedAt p (record m.heap { table = record m.heap.table { slots = slots } }) i
-    condemned_back c Idle i x = x
-    condemned_back c (Marking s) i x = x
-    condemned_back c (Sweeping k) i x = (x.0, same i ∙ x.1)
+    parked_back : (c : mark_at m.heap ≡ (λ j. mark_of (get_or slots j None))) (p : Progress) (i : ℕ) → ParkedAt p m.heap i → ParkedAt p (record m.heap { table = record m.heap.table { slots = slots } }) i
+    parked_back c Idle i x = x
+    parked_back c (Marking s) i x = x
+    parked_back c (Sweeping k) i x = (x.0, same i ∙ x.1)
 
     held : (c : mark_at m.heap ≡ (λ j. mark_of (get_or slots j None))) (p : Progress) (i : ℕ) → HeldAt m.heap p i → HeldAt (record m.heap { table = record m.heap.table { slots = slots } }) p i
-    held c p i h = (λ f. h.0 (sym (same i) ∙ f), λ x. h.1 (condemned c p i x))
+    held c p i h = (λ f. h.0 (sym (same i) ∙ f), λ x. h.1 (is_parked c p i x))
 
     held_back : (c : mark_at m.heap ≡ (λ j. mark_of (get_or slots j None))) (p : Progress) (i : ℕ) → HeldAt (record m.heap { table = record m.heap.table { slots = slots } }) p i → HeldAt m.heap p i
-    held_back c p i h = (λ f. h.0 (same i ∙ f), λ x. h.1 (condemned_back c p i x))
+    held_back c p i h = (λ f. h.0 (same i ∙ f), λ x. h.1 (parked_back c p i x))
 
     phase : (c : mark_at m.heap ≡ (λ j. mark_of (get_or slots j None))) (p : Progress) → PhaseAt p m.heap (IsRoot m) (IsPending m)
         → PhaseAt p (record m.heap { table = record m.heap.table { slots = slots } }) (IsRoot m) (IsPending m)
     phase c Idle h = (λ i g. h.0 i (sym (same i) ∙ g), λ i b. h.1 i (sym (same i) ∙ b))
     phase c (Marking s) h = subst (λ (k : ℕ → Mark). Tricolour k (edges m.heap) (Contains m.heap.table.grey) (IsRoot m) (IsPending m) (scan_of s)) c h
-    phase c (Sweeping k) h = (λ i g. h.0 i (sym (same i) ∙ g), λ i l b. h.1 i l (sym (same i) ∙ b))
+    phase c (Sweeping k) h = (λ i g. h.0 i (sym (same i) ∙ g), λ i l b. h.1 i l (sym (same i) ∙ b), λ i l g. h.2 i l (sym (same i) ∙ g))
 
 -- Another text leaves the mark.
 pub same_mark : (os : List (Option Occupant)) (i : ℕ) (text : List ℕ) (j : ℕ) → mark_of (get_or (set os i (with_text text (get_or os i None))) j None) ≡ mark_of (get_or os j None)

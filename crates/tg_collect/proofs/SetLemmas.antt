@@ -1,5 +1,5 @@
 -- The maps and sets that contracts see, slot by slot.
-use Rattle.std.proofs.Common.{◌≡◌, ℕ, ◌<◌, List, [], ◌∷◌, length, Option, Some, None, inl, inr, sym, ◌∙◌, subst, ap, refl, get_or, Bool, true, false, cond, eqb-true, eq-eqb, ◌||◌, ◌&&◌, ◌==◌}
+use Rattle.std.proofs.Common.{◌≡◌, ℕ, zero, suc, ◌+◌, ◌<◌, List, [], ◌∷◌, ◌++◌, length, Option, Some, None, inl, inr, sym, ◌∙◌, subst, ap, refl, arith, get_or, Bool, true, false, cond, eqb-true, eq-eqb, ◌||◌, ◌&&◌, ◌==◌}
 use Rattle.std.specs.List.{list_any}
 use Rattle.std.specs.Ordering.{nat_cmp, eq_by_cmp}
 use Rattle.std.specs.Cmp.{nat_cmp_total, unsigned_tied}
@@ -16,7 +16,7 @@ use Rattle.tg_slots.proofs.TableLemmas.{occupied_within}
 use Rattle.tg_heap.specs.Graph.{HeapGraph, edges, mark_at}
 use Rattle.tg_cells.specs.Lists.{Edge}
 use Rattle.tg_collect.specs.declared.machine.Progress.{Progress}
-use Rattle.tg_collect.specs.Machine.{CondemnedAt, HeldAt}
+use Rattle.tg_collect.specs.Machine.{ParkedAt, HeldAt}
 use Rattle.tg_collect.specs.Names.{IsNamed}
 use Rattle.std.specs.Option.{is_some}
 use Rattle.std.specs.Ordering.{is_eq, ordering_reverse}
@@ -27,10 +27,10 @@ use Rattle.tg_rights.proofs.MembershipLemmas.{contains_append, contains_left, co
 use Rattle.tg_graph.specs.declared.vertex.Vertex.{Vertex}
 use Rattle.tg_graph.specs.Triples.{Triple, triple_cmp, edge, edge_list}
 use Rattle.tg_graph.proofs.TriplesLemmas.{contains-edge, triple_cmp_total, triple_cmp-IsAntisymmetric}
-use Rattle.tg_collect.specs.Stored.{vertex_of, triples_from, gather, by_place, vertex_entry, triple_entry, parked_entry, coloured_at, is_colour, condemned, vertices_of, triples_of, parked_of, of_colour}
+use Rattle.tg_collect.specs.Stored.{vertex_of, triples_from, gather, by_place, vertex_entry, triple_entry, parked_entry, place_entry, coloured_at, is_colour, is_parked, vertices_of, triples_of, parked_of, of_colour, places_of}
 use Rattle.tg_collect.specs.Views.{InSet}
 use Rattle.tg_collect.proofs.GatherLemmas.{gather_contains, contains_gather}
-use Rattle.tg_collect.proofs.PlaceLemmas.{get_contains, condemned_is, is_condemned, not_condemned}
+use Rattle.tg_collect.proofs.PlaceLemmas.{get_contains, parked_is, parked_holds, not_parked}
 
 -- A test by the order is equality.
 pub same_key : (x k : ℕ) → eq_by_cmp nat_cmp x k ≡ true → x ≡ k
@@ -143,11 +143,11 @@ shows_colour h c x s =
     same : {a b : Colour} → Has a ≡ Has b → a ≡ b
     same e = cc
 
--- The parked serials are those of condemned slots.
+-- The parked serials are those of parked slots.
 pub record Waits (h : HeapGraph) (p : Progress) (x : ℕ) : Type 0 where
   pub at : ℕ
   pub named : IsNamed h at x
-  pub condemned : CondemnedAt p h at
+  pub is_parked : ParkedAt p h at
 
 pub parked_waits : (h : HeapGraph) (p : Progress) (x : ℕ) → InSet (parked_of p h) x → Waits h p x
 parked_waits h p x t =
@@ -156,9 +156,9 @@ parked_waits h p x t =
     by g.0 (slot h.table g.0) refl g.2 where
       by : (k : ℕ) (v : Option Occupant) → slot h.table k ≡ v → Contains (by_place [] parked_entry p h.lists k v) x → Waits h p x
       by k None e n = absurd n
-      by k (Some o) e n = test (condemned p k (Has o.colour)) refl n where
-        test : (b : Bool) → condemned p k (Has o.colour) ≡ b → Contains (cond b (o.serial ∷ []) []) x → Waits h p x
-        test true y (inl is) = record { at = k; named = (o, e, sym is); condemned = condemned_is h p k (Has o.colour) (ap mark_of e) y }
+      by k (Some o) e n = test (is_parked p k (Has o.colour)) refl n where
+        test : (b : Bool) → is_parked p k (Has o.colour) ≡ b → Contains (cond b (o.serial ∷ []) []) x → Waits h p x
+        test true y (inl is) = record { at = k; named = (o, e, sym is); is_parked = parked_is h p k (Has o.colour) (ap mark_of e) y }
         test true y (inr z) = absurd z
         test false y z = absurd z
 
@@ -166,7 +166,7 @@ pub waits_parked : (h : HeapGraph) (p : Progress) (x : ℕ) → Waits h p x → 
 waits_parked h p x s =
     let f : ℕ → Option Occupant → List ℕ = by_place [] parked_entry p h.lists in
     let o : Occupant = s.named.0 in
-    let test : condemned p s.at (Has o.colour) ≡ true = subst (λ (m : Mark). condemned p s.at m ≡ true) (ap mark_of s.named.1) (is_condemned h p s.at s.condemned) in
+    let test : is_parked p s.at (Has o.colour) ≡ true = subst (λ (m : Mark). is_parked p s.at m ≡ true) (ap mark_of s.named.1) (parked_holds h p s.at s.is_parked) in
     let here : Contains (f s.at (Some o)) x = subst (λ (b : Bool). Contains (cond b (o.serial ∷ []) []) x) (sym test) (inl (sym s.named.2)) in
     contains_set (gather f 0 h.table.slots) x
     (contains_gather f h.table.slots x s.at (within (slot h.table s.at) s.named.1) (subst (λ (v : Option Occupant). Contains (f s.at v) x) (sym s.named.1) here))
@@ -183,11 +183,11 @@ pub record Stands (h : HeapGraph) (p : Progress) (x : ℕ) (w : Vertex) : Type 0
   pub vertex : w ≡ vertex_of occupant
   pub held : HeldAt h p at
 
--- What is not condemned by the test is held.
-pub held_by_test : (h : HeapGraph) (p : Progress) (i : ℕ) (o : Occupant) → slot h.table i ≡ Some o → condemned p i (Has o.colour) ≡ false → HeldAt h p i
+-- What is not parked by the test is held.
+pub held_by_test : (h : HeapGraph) (p : Progress) (i : ℕ) (o : Occupant) → slot h.table i ≡ Some o → is_parked p i (Has o.colour) ≡ false → HeldAt h p i
 held_by_test h p i o e t = (
   (λ f. let u : Has o.colour ≡ Free = sym (ap mark_of e) ∙ f in cc),
-  λ d. let y : condemned p i (Has o.colour) ≡ true = subst (λ (m : Mark). condemned p i m ≡ true) (ap mark_of e) (is_condemned h p i d) in
+  λ d. let y : is_parked p i (Has o.colour) ≡ true = subst (λ (m : Mark). is_parked p i m ≡ true) (ap mark_of e) (parked_holds h p i d) in
       let u : true ≡ false = sym y ∙ t in cc,
 )
 
@@ -198,8 +198,8 @@ get_stands h p x w g =
     by r.0 (slot h.table r.0) refl r.2 where
       by : (k : ℕ) (v : Option Occupant) → slot h.table k ≡ v → Contains {X = ℕ × Vertex} (by_place [] vertex_entry p h.lists k v) (x, w) → Stands h p x w
       by k None e n = absurd n
-      by k (Some o) e n = test (condemned p k (Has o.colour)) refl n where
-        test : (c : Bool) → condemned p k (Has o.colour) ≡ c → Contains {X = ℕ × Vertex} (cond c [] ((o.serial, vertex_of o) ∷ [])) (x, w) → Stands h p x w
+      by k (Some o) e n = test (is_parked p k (Has o.colour)) refl n where
+        test : (c : Bool) → is_parked p k (Has o.colour) ≡ c → Contains {X = ℕ × Vertex} (cond c [] ((o.serial, vertex_of o) ∷ [])) (x, w) → Stands h p x w
         test true t m = absurd m
         test false t (inl here) = record {
           at = k;
@@ -215,7 +215,7 @@ pub stands_get : (h : HeapGraph) (p : Progress) → ((i j x : ℕ) → IsNamed h
 stands_get h p once x w s =
     let f : ℕ → Option Occupant → List (ℕ × Vertex) = by_place [] vertex_entry p h.lists in
     let o : Occupant = s.occupant in
-    let test : condemned p s.at (Has o.colour) ≡ false = not_condemned h p s.at (Has o.colour) (ap mark_of s.is) s.held.1 in
+    let test : is_parked p s.at (Has o.colour) ≡ false = not_parked h p s.at (Has o.colour) (ap mark_of s.is) s.held.1 in
     let same : (x, w) ≡ (o.serial, vertex_of o) = rw (s.serial, s.vertex) refl in
     let here : Contains {X = ℕ × Vertex} (f s.at (Some o)) (x, w) = subst (λ (b : Bool). Contains {X = ℕ × Vertex} (cond b [] ((o.serial, vertex_of o) ∷ [])) (x, w)) (sym test) (inl same) in
     let listed : Contains {X = ℕ × Vertex} (gather f 0 h.table.slots) (x, w) = contains_gather f h.table.slots (x, w) s.at (occupied_within h.table.slots s.at o.colour (ap mark_of s.is))
@@ -297,8 +297,8 @@ triple_owned h p t c =
     by g.0 (slot h.table g.0) refl g.2 where
       by : (k : ℕ) (v : Option Occupant) → slot h.table k ≡ v → Contains (by_place [] triple_entry p h.lists k v) t → Owns h p t
       by k None e n = absurd n
-      by k (Some o) e n = test (condemned p k (Has o.colour)) refl n where
-        test : (b : Bool) → condemned p k (Has o.colour) ≡ b → Contains (cond b [] (triples_from o.serial (get_or h.lists k []))) t → Owns h p t
+      by k (Some o) e n = test (is_parked p k (Has o.colour)) refl n where
+        test : (b : Bool) → is_parked p k (Has o.colour) ≡ b → Contains (cond b [] (triples_from o.serial (get_or h.lists k []))) t → Owns h p t
         test true y m = absurd m
         test false y m = let s = from_edge o.serial (edges h k) t m in
             record { at = k; occupant = o; is = e; held = held_by_test h p k o e y; edge = s.0; owned = s.1; from = s.2; to = s.3; right = s.4 }
@@ -307,7 +307,43 @@ pub owned_triple : (h : HeapGraph) (p : Progress) (t : Triple) → Owns h p t �
 owned_triple h p t s =
     let f : ℕ → Option Occupant → List Triple = by_place [] triple_entry p h.lists in
     let o : Occupant = s.occupant in
-    let test : condemned p s.at (Has o.colour) ≡ false = not_condemned h p s.at (Has o.colour) (ap mark_of s.is) s.held.1 in
+    let test : is_parked p s.at (Has o.colour) ≡ false = not_parked h p s.at (Has o.colour) (ap mark_of s.is) s.held.1 in
     let here : Contains (f s.at (Some o)) t = subst (λ (b : Bool). Contains (cond b [] (triples_from o.serial (edges h s.at))) t) (sym test) (edge_from o.serial (edges h s.at) t s.edge s.owned s.from s.to s.right) in
     contains_triples (gather f 0 h.table.slots) t (contains_gather f h.table.slots t s.at (occupied_within h.table.slots s.at o.colour (ap mark_of s.is))
     (subst (λ (v : Option Occupant). Contains (f s.at v) t) (sym s.is) here))
+
+-- The serial that a slot shows.
+abbrev pub shown_at : Progress → ℕ → Option Occupant → Option ℕ
+shown_at p i None = None
+shown_at p i (Some o) = cond (is_parked p i (Has o.colour)) None (Some o.serial)
+
+one_each : (p : Progress) (ls : List (List Edge)) (i : ℕ) (v : Option Occupant) → by_place (None ∷ []) place_entry p ls i v ≡ shown_at p i v ∷ []
+one_each p ls i None = refl
+one_each p ls i (Some o) = refl
+
+from_at : (p : Progress) (ls : List (List Edge)) (k : ℕ) (os : List (Option Occupant)) (i : ℕ) → get_or (gather (by_place (None ∷ []) place_entry p ls) k os) i None ≡ shown_at p (k + i) (get_or os i None)
+from_at p ls k [] i = refl
+from_at p ls k (v ∷ os) zero = let stay : k ≡ k + 0 = omega arith in
+    ap (λ (l : List (Option ℕ)). get_or (l ++ gather (by_place (None ∷ []) place_entry p ls) (suc k) os) 0 None) (one_each p ls k v) ∙ ap (λ (n : ℕ). shown_at p n v) stay
+from_at p ls k (v ∷ os) (suc i) =
+    let move : suc k + i ≡ k + suc i = omega arith in
+    ap (λ (l : List (Option ℕ)). get_or (l ++ gather (by_place (None ∷ []) place_entry p ls) (suc k) os) (suc i) None) (one_each p ls k v)
+    ∙ from_at p ls (suc k) os i ∙ ap (λ (n : ℕ). shown_at p n (get_or os i None)) move
+
+pub place_at : (p : Progress) (h : HeapGraph) (i : ℕ) → get_or (places_of p h) i None ≡ shown_at p i (slot h.table i)
+place_at p h i = let stay : 0 + i ≡ i = omega arith in from_at p h.lists 0 h.table.slots i ∙ ap (λ (n : ℕ). shown_at p n (slot h.table i)) stay
+
+-- A place names a held slot, and each held slot has its place.
+pub place_named : (p : Progress) (h : HeapGraph) (i x : ℕ) → get_or (places_of p h) i None ≡ Some x → IsNamed h i x × HeldAt h p i
+place_named p h i x e = by (slot h.table i) refl (sym (place_at p h i) ∙ e) where
+  by : (v : Option Occupant) → slot h.table i ≡ v → shown_at p i v ≡ Some x → IsNamed h i x × HeldAt h p i
+  by None s t = absurd (cc)
+  by (Some o) s t = test (is_parked p i (Has o.colour)) refl t where
+    test : (b : Bool) → is_parked p i (Has o.colour) ≡ b → cond b None (Some o.serial) ≡ Some x → IsNamed h i x × HeldAt h p i
+    test true c t = absurd (cc)
+    test false c t = ((o, s, (cc)), held_by_test h p i o s c)
+
+pub named_place : (p : Progress) (h : HeapGraph) (i x : ℕ) → IsNamed h i x → HeldAt h p i → get_or (places_of p h) i None ≡ Some x
+named_place p h i x n held =
+    let o : Occupant = n.0 in
+    place_at p h i ∙ ap (shown_at p i) n.1 ∙ ap (λ (b : Bool). cond b None (Some o.serial)) (not_parked h p i (Has o.colour) (ap mark_of n.1) held.1) ∙ ap Some n.2

@@ -20,17 +20,16 @@ use Rattle.tg_collect.specs.declared.machine.Progress.TheVariants.{Marking}
 use Rattle.tg_collect.specs.declared.machine.Machine.{Machine}
 use Rattle.tg_collect.specs.Machine.{IsRoot, IsPending, HeldAt, Invariant, PhaseHolds}
 use Rattle.tg_collect.specs.Names.{IsNamed, IsRootOf, Names, Whole}
-use Rattle.tg_collect.specs.SessionLines.{Settles}
+use Rattle.tg_collect.specs.SessionLines.{ShadesTarget}
 use Rattle.tg_collect.specs.Stored.{stored, serial_of, targets_of, of_colour}
 use Rattle.tg_collect.specs.Sessions.{shaded_mark, Shaded}
-use Rattle.tg_collect.proofs.MachineLemmas.{shades, was_not_free, condemned_after, seat_pending, root_within, cleared_before}
+use Rattle.tg_collect.proofs.MachineLemmas.{shades, was_not_free, parked_after, seat_pending, root_within, cleared_before}
 use Rattle.tg_collect.proofs.PlaceLemmas.{shaded_vertices, shaded_triples, shaded_parked, shaded_places}
-use Rattle.tg_collect.proofs.SetLemmas.{colour_shows, shows_colour, same_key, key_same}
+use Rattle.tg_collect.proofs.SetLemmas.{colour_shows, shows_colour, same_key, key_same, named_place}
 use Rattle.tg_collect.proofs.LineLemmas.{shaded_other, shaded_free}
 use Rattle.tg_collect.proofs.LeftLemmas.{left_shade}
 use Rattle.tg_collect.proofs.ColourLines.{shaded_black, black_shaded}
 use Rattle.tg_collect.proofs.NameLines.{shaded_slots, recolours_back, recolours_forth, one_name}
-use Rattle.tg_collect.proofs.StoreLemmas.{named_place}
 use Rattle.tg_collect.proofs.CollectLemmas.{both_true}
 
 -- A slot is shaded and some roots go.
@@ -48,21 +47,21 @@ names_shaded h p R R' i w held fewer k = record {
   after j x n = recolours_forth (slot h.table j) (slot (shaded h.table i) j) x (shaded_slots h.table i j) n
 
   back : (j : ℕ) → HeldAt (record h { table = shaded h.table i }) p j → HeldAt h p j
-  back j g = (was_not_free (mark h.table) (mark (shaded h.table i)) _ _ i j (shades h.table i w) g.0, λ c. g.1 (condemned_after h p i j w held.1 c))
+  back j g = (was_not_free (mark h.table) (mark (shaded h.table i)) _ _ i j (shades h.table i w) g.0, λ c. g.1 (parked_after h p i j w held.1 c))
 
 -- The machine after a seat's target was shaded.
-abbrev pub settled : Machine → ℕ → Vec (Option Root) Global → Machine
-settled m i u = record m { heap = record m.heap { table = shaded m.heap.table i }; pending = u }
+abbrev pub target_shaded : Machine → ℕ → Vec (Option Root) Global → Machine
+target_shaded m i u = record m { heap = record m.heap { table = shaded m.heap.table i }; pending = u }
 
-whole_settled : (m : Machine) (k x i : ℕ) (u : Vec (Option Root) Global) → k < length m.pending.items → get_or m.pending.items k None ≡ Some (record { serial = x; slot = i })
-    → u.items ≡ set m.pending.items k None → Whole m → Invariant (settled m i u) → Whole (settled m i u)
-whole_settled m k x i u b at eu w kept =
+whole_shaded : (m : Machine) (k x i : ℕ) (u : Vec (Option Root) Global) → k < length m.pending.items → get_or m.pending.items k None ≡ Some (record { serial = x; slot = i })
+    → u.items ≡ set m.pending.items k None → Whole m → Invariant (target_shaded m i u) → Whole (target_shaded m i u)
+whole_shaded m k x i u b at eu w kept =
     let root : IsRoot m i = inr (seat_pending m k (record { serial = x; slot = i }) b at) in
     record {
       seats = ap length eu ∙ length-set m.pending.items k None ∙ w.seats;
       few = w.few;
       kept = kept;
-      names = names_shaded m.heap m.progress (IsRootOf m) (IsRootOf (settled m i u)) i (root_within m i w.kept root) (w.kept.roots_held i root) (λ j y r. elim r [
+      names = names_shaded m.heap m.progress (IsRootOf m) (IsRootOf (target_shaded m i u)) i (root_within m i w.kept root) (w.kept.roots_held i root) (λ j y r. elim r [
         | inl p ↦ inl p
         | inr t ↦ inr (cleared_before m.pending.items k (record { serial = y; slot = j }) (subst (λ (l : List (Option Root)). Contains l (Some (record { serial = y; slot = j }))) eu t))
       ]) w.names;
@@ -185,9 +184,9 @@ module _ (m : Machine) (seat x i : ℕ) (u : Vec (Option Root) Global) (b : seat
   scanned_grey : (s : Scan) → m.progress ≡ Marking (Some s) → mark_at m.heap s.slot ≡ Has Grey
   scanned_grey s e = let old : PhaseHolds (Marking (Some s)) m = subst (λ (p : Progress). PhaseHolds p m) e w.kept.phase in old.scanned.grey
 
-  pub shaded_settled : Shaded (stored m) (stored (settled m i u)) seat (Some x)
+  pub shaded_target : Shaded (stored m) (stored (target_shaded m i u)) seat (Some x)
   unfolding h'
-  shaded_settled = record {
+  shaded_target = record {
     was = get_or-map serial_of m.pending.items seat None ∙ ap serial_of at;
     slot = i;
     place = named_place m.progress m.heap i x named held;
@@ -206,17 +205,17 @@ module _ (m : Machine) (seat x i : ℕ) (u : Vec (Option Root) Global) (b : seat
       free_slots = shaded_free m.heap.table i j;
       free_cells = (stored m).free_cells;
       cells = (stored m).cells;
-      left = (stored (settled m i u)).left;
+      left = (stored (target_shaded m i u)).left;
     };
   } where
     targets : targets_of u.items ≡ set (targets_of m.pending.items) seat None
     targets = ap (λ (l : List (Option Root)). targets_of l) eu ∙ map-set (λ o. serial_of o) m.pending.items seat None
 
 -- The shade step: the invariant and what it does.
-pub after_shade : (m n : Machine) (seat : ℕ) (r : Option ℕ) → seat < length m.pending.items → Whole m → Invariant n → Settles m seat r n → Whole n × Shaded (stored m) (stored n) seat r
+pub after_shade : (m n : Machine) (seat : ℕ) (r : Option ℕ) → seat < length m.pending.items → Whole m → Invariant n → ShadesTarget m seat r n → Whole n × Shaded (stored m) (stored n) seat r
 after_shade m n seat None b w kept s = (subst Whole (sym s.1) w, (get_or-map serial_of m.pending.items seat None ∙ ap serial_of s.0, ap stored s.1))
 after_shade m n seat (Some x) b w kept s =
-    let is : n ≡ settled m s.0 n.pending = s.3 in (
-      subst Whole (sym is) (whole_settled m seat x s.0 n.pending b s.1 s.2 w (subst Invariant is kept)),
-      subst (λ (z : Machine). Shaded (stored m) (stored z) seat (Some x)) (sym is) (shaded_settled m seat x s.0 n.pending b s.1 s.2 w),
+    let is : n ≡ target_shaded m s.0 n.pending = s.3 in (
+      subst Whole (sym is) (whole_shaded m seat x s.0 n.pending b s.1 s.2 w (subst Invariant is kept)),
+      subst (λ (z : Machine). Shaded (stored m) (stored z) seat (Some x)) (sym is) (shaded_target m seat x s.0 n.pending b s.1 s.2 w),
     )

@@ -29,19 +29,18 @@ use Rattle.tg_collect.specs.declared.machine.Scan.{Scan}
 use Rattle.tg_collect.specs.declared.machine.Progress.{Progress}
 use Rattle.tg_collect.specs.declared.machine.Progress.TheVariants.{Idle, Marking, Sweeping}
 use Rattle.tg_collect.specs.declared.machine.Machine.{Machine}
-use Rattle.tg_collect.specs.Machine.{IsHeld, HeldAt, CondemnedAt, Invariant, with_vertex, new_colour, phase_of}
+use Rattle.tg_collect.specs.Machine.{IsHeld, HeldAt, ParkedAt, Invariant, with_vertex, new_colour, phase_of}
 use Rattle.tg_collect.specs.Names.{IsNamed, IsRootOf, Names, Whole}
 use Rattle.tg_collect.specs.SessionLines.{Places, Rewrites, newcomer}
-use Rattle.tg_collect.specs.Stored.{Stored, stored, vertex_of, triples_from, gather, total, by_place, triple_entry, parked_entry, place_entry, coloured_at, is_colour, condemned, slot_weight, weight_at, parked_cells_at, left_of, vertices_of, triples_of, parked_of, places_of, of_colour}
+use Rattle.tg_collect.specs.Stored.{Stored, stored, vertex_of, triples_from, gather, total, by_place, triple_entry, parked_entry, place_entry, coloured_at, is_colour, is_parked, slot_weight, weight_at, parked_cells_at, left_of, vertices_of, triples_of, parked_of, places_of, of_colour}
 use Rattle.tg_collect.specs.Views.{InSet, IsHeldIn, IsEdgeIn}
 use Rattle.tg_collect.specs.Sessions.{with_black, TextReplaced, EdgeStored, VertexStored}
 use Rattle.tg_collect.proofs.GatherLemmas.{gather_set, total_most}
-use Rattle.tg_collect.proofs.PlaceLemmas.{not_condemned, is_condemned, condemned_is}
-use Rattle.tg_collect.proofs.SetLemmas.{same_key, key_same, colour_shows, shows_colour, waits_parked, Stands, get_stands, stands_get, named_held}
+use Rattle.tg_collect.proofs.PlaceLemmas.{not_parked, parked_holds, parked_is}
+use Rattle.tg_collect.proofs.SetLemmas.{same_key, key_same, colour_shows, shows_colour, waits_parked, Stands, get_stands, stands_get, named_held, shown_at}
 use Rattle.tg_collect.proofs.NameLines.{one_name}
 use Rattle.tg_collect.proofs.NameSteps.{names_vertex}
 use Rattle.tg_collect.proofs.SessionLemmas.{kept-places}
-use Rattle.tg_collect.proofs.StoreLemmas.{shown_at}
 use Rattle.tg_collect.proofs.CollectLemmas.{same_found, both_true}
 
 -- The vertex of one serial comes in or changes.
@@ -64,7 +63,7 @@ serial_in None = 0
 serial_in (Some y) = y.serial
 
 -- A slot's entries where it turns from free to held, and gives what a free one gives.
-filled : {X : Type 0} (f : List (List Edge) → Bool → ℕ → Occupant → List X) (h : HeapGraph) (p : Progress) (i : ℕ) (o : Occupant) → mark_at h i ≡ Free → condemned p i (Has o.colour) ≡ false
+filled : {X : Type 0} (f : List (List Edge) → Bool → ℕ → Occupant → List X) (h : HeapGraph) (p : Progress) (i : ℕ) (o : Occupant) → mark_at h i ≡ Free → is_parked p i (Has o.colour) ≡ false
     → f h.lists false i o ≡ [] → gather (by_place [] f p h.lists) 0 (set h.table.slots i (Some o)) ≡ gather (by_place [] f p h.lists) 0 h.table.slots
 filled f h p i o free dark nothing = gather_set (by_place [] f p h.lists) (by_place [] f p h.lists) h.table.slots i (Some o)
     (ap (λ (b : Bool). f h.lists b i o) dark ∙ nothing ∙ sym (empty (slot h.table i) free)) (λ j b n. refl) where
@@ -104,7 +103,7 @@ places_set p ls k (w ∷ os) (suc i) v =
       after (Some o) l x = refl
 
 -- What a new vertex weighs is what a free slot weighs.
-left_vertex : (p : Progress) (h : HeapGraph) (i : ℕ) (o : Occupant) (rest : List ℕ) → mark_at h i ≡ Free → condemned p i (Has o.colour) ≡ false → ((s : Option Scan) → p ≡ Marking s → o.colour ≡ White) → i < length h.table.slots
+left_vertex : (p : Progress) (h : HeapGraph) (i : ℕ) (o : Occupant) (rest : List ℕ) → mark_at h i ≡ Free → is_parked p i (Has o.colour) ≡ false → ((s : Option Scan) → p ≡ Marking s → o.colour ≡ White) → i < length h.table.slots
     → left_of p (with_vertex h i o rest) ≤ left_of p h
 left_vertex Idle h i o rest free dark white within = let same = length-set h.table.slots i (Some o) in rw same (omega arith)
 left_vertex (Marking s) h i o rest free dark white within =
@@ -126,8 +125,8 @@ left_vertex (Sweeping k) h i o rest free dark white within =
     let same : length (set h.table.slots i (Some o)) ≡ length h.table.slots = length-set h.table.slots i (Some o) in
     let all = total_most (parked_cells_at (Sweeping k) h.lists) (parked_cells_at (Sweeping k) h.lists) (set h.table.slots i (Some o)) h.table.slots same (λ j b. elim (cases_eq j i) [
       | inl is ↦
-          let now : condemned (Sweeping k) j (mark_of (get_or (set h.table.slots i (Some o)) j None)) ≡ false =
-          ap (λ (n : ℕ). condemned (Sweeping k) n (mark_of (get_or (set h.table.slots i (Some o)) n None))) is ∙ ap (condemned (Sweeping k) i) (mark_here h.table.slots i (Some o) within) ∙ dark in
+          let now : is_parked (Sweeping k) j (mark_of (get_or (set h.table.slots i (Some o)) j None)) ≡ false =
+          ap (λ (n : ℕ). is_parked (Sweeping k) n (mark_of (get_or (set h.table.slots i (Some o)) n None))) is ∙ ap (is_parked (Sweeping k) i) (mark_here h.table.slots i (Some o) within) ∙ dark in
           let x : parked_cells_at (Sweeping k) h.lists j (get_or (set h.table.slots i (Some o)) j None) ≡ 0 = ap (λ (b : Bool). cond b (length (get_or h.lists j [])) 0) now in
           omega (arith, x)
       | inr other ↦
@@ -171,12 +170,12 @@ not_grey p i = elim (new_coloured p i) [ inl w ↦ ap (is_colour Grey) w | inr b
 
 -- The serial is in no slot where it is neither held nor parked.
 pub fresh_name : (m : Machine) → Whole m → (x : ℕ) → (IsHeldIn (stored m) x → ⊥) → (InSet (stored m).parked x → ⊥) → (j : ℕ) → IsNamed m.heap j x → ⊥
-fresh_name m w x unheld unparked j n = by (condemned m.progress j (mark_at m.heap j)) refl where
-  by : (b : Bool) → condemned m.progress j (mark_at m.heap j) ≡ b → ⊥
-  by true c = unparked (waits_parked m.heap m.progress x (record { at = j; named = n; condemned = condemned_is m.heap m.progress j (mark_at m.heap j) refl c }))
+fresh_name m w x unheld unparked j n = by (is_parked m.progress j (mark_at m.heap j)) refl where
+  by : (b : Bool) → is_parked m.progress j (mark_at m.heap j) ≡ b → ⊥
+  by true c = unparked (waits_parked m.heap m.progress x (record { at = j; named = n; is_parked = parked_is m.heap m.progress j (mark_at m.heap j) refl c }))
   by false c = unheld (named_held m.heap m.progress w.names.once j x n (
     (λ f. let u : Has n.0.colour ≡ Free = sym (ap mark_of n.1) ∙ f in cc),
-    λ d. let t = is_condemned m.heap m.progress j d in let u : true ≡ false = sym t ∙ c in cc,
+    λ d. let t = parked_holds m.heap m.progress j d in let u : true ≡ false = sym t ∙ c in cc,
   ))
 
 pub after_places : (m n : Machine) (serial : ℕ) (kind : Kind) (text : List ℕ) (i : ℕ) → IsHeap m.heap → Whole m → Invariant n → ((j : ℕ) → IsNamed m.heap j serial → ⊥)
@@ -218,8 +217,8 @@ after_places m n serial kind text i ok w kept fresh a = subst Result (sym a.2) (
   here : mark_at h' i ≡ Has o.colour
   here = mark_here m.heap.table.slots i (Some o) within
 
-  dark : condemned p i (Has o.colour) ≡ false
-  dark = not_condemned h' p i (Has o.colour) here held.1
+  dark : is_parked p i (Has o.colour) ≡ false
+  dark = not_parked h' p i (Has o.colour) here held.1
 
   there : (j : ℕ) → j ≢ i → mark_at h' j ≡ mark_at m.heap j
   there j e = mark_there m.heap.table.slots i j (Some o) e
@@ -227,12 +226,12 @@ after_places m n serial kind text i ok w kept fresh a = subst Result (sym a.2) (
   apart : (j : ℕ) → mark_at m.heap j ≢ Free → j ≢ i
   apart j f e = f (subst (λ (k : ℕ). mark_at m.heap k ≡ Free) (sym e) free)
 
-  same : (q : Progress) (j : ℕ) → j ≢ i → CondemnedAt q h' j → CondemnedAt q m.heap j
+  same : (q : Progress) (j : ℕ) → j ≢ i → ParkedAt q h' j → ParkedAt q m.heap j
   same Idle j e c = c
   same (Marking s) j e c = c
   same (Sweeping k) j e c = (c.0, sym (there j e) ∙ c.1)
 
-  still : (q : Progress) (j : ℕ) → j ≢ i → CondemnedAt q m.heap j → CondemnedAt q h' j
+  still : (q : Progress) (j : ℕ) → j ≢ i → ParkedAt q m.heap j → ParkedAt q h' j
   still Idle j e c = c
   still (Marking s) j e c = c
   still (Sweeping k) j e c = (c.0, there j e ∙ c.1)
@@ -370,12 +369,12 @@ after_rewrites m n id text answer w kept held x named a = subst Result (sym a.3)
     | inr e ↦ ap mark_of (there j e)
   ]
 
-  same : (q : Progress) (j : ℕ) → CondemnedAt q h' j → CondemnedAt q m.heap j
+  same : (q : Progress) (j : ℕ) → ParkedAt q h' j → ParkedAt q m.heap j
   same Idle j c = c
   same (Marking s) j c = c
   same (Sweeping k) j c = (c.0, sym (marks_same j) ∙ c.1)
 
-  still : (q : Progress) (j : ℕ) → CondemnedAt q m.heap j → CondemnedAt q h' j
+  still : (q : Progress) (j : ℕ) → ParkedAt q m.heap j → ParkedAt q h' j
   still Idle j c = c
   still (Marking s) j c = c
   still (Sweeping k) j c = (c.0, marks_same j ∙ c.1)
@@ -410,7 +409,7 @@ after_rewrites m n id text answer w kept held x named a = subst Result (sym a.3)
   whole = record { seats = w.seats; few = w.few; kept = subst Invariant a.3 kept; names = record { once = names.once; edge = names.edge; root = names.root; no_loop = names.no_loop } }
 
   -- what a slot gives that does not look at its text
-  textless : {X : Type 0} (n : List X) (f : List (List Edge) → Bool → ℕ → Occupant → List X) → (f m.heap.lists (condemned p id (Has a.0.colour)) id o ≡ f m.heap.lists (condemned p id (Has a.0.colour)) id a.0)
+  textless : {X : Type 0} (n : List X) (f : List (List Edge) → Bool → ℕ → Occupant → List X) → (f m.heap.lists (is_parked p id (Has a.0.colour)) id o ≡ f m.heap.lists (is_parked p id (Has a.0.colour)) id a.0)
       → gather (by_place n f p m.heap.lists) 0 slots ≡ gather (by_place n f p m.heap.lists) 0 m.heap.table.slots
   textless n f e = gather_set (by_place n f p m.heap.lists) (by_place n f p m.heap.lists) m.heap.table.slots id (Some o)
       (e ∙ ap (by_place n f p m.heap.lists id) (sym a.1)) (λ j b k. refl)

@@ -10,11 +10,12 @@ use Rattle.tg_slots.proofs.TableLemmas.{mark_here, mark_there}
 use Rattle.tg_heap.specs.Graph.{HeapGraph, edges, mark_at}
 use Rattle.tg_cells.specs.Lists.{Edge}
 use Rattle.tg_heap.specs.Marking.{Tricolour, ScanAt, ScanFits, passed, remaining, Covered}
-use Rattle.tg_heap.proofs.CursorLemmas.{split_whole, contains_left}
+use Rattle.tg_heap.proofs.CursorLemmas.{split_whole}
+use Rattle.tg_rights.proofs.MembershipLemmas.{contains_left}
 use Rattle.tg_collect.specs.declared.machine.Scan.{Scan}
 use Rattle.tg_collect.specs.declared.machine.Progress.{Progress}
 use Rattle.tg_collect.specs.declared.machine.Progress.TheVariants.{Idle, Marking, Sweeping}
-use Rattle.tg_collect.specs.Machine.{CondemnedAt, scan_of, HeldAt, PhaseAt, Sound, with_vertex}
+use Rattle.tg_collect.specs.Machine.{ParkedAt, scan_of, HeldAt, PhaseAt, Sound, with_vertex}
 
 -- The colour of a new vertex: white, but black where the sweep has yet to come.
 abbrev pub NewColour : Progress → ℕ → Colour → Type 0
@@ -45,12 +46,12 @@ sound-vertex h p Root Unf i o rest within free bare fits kept = (
   apart : (j : ℕ) → mark_at h j ≢ Free → j ≢ i
   apart j f is = f (subst (λ (k : ℕ). mark_at h k ≡ Free) (sym is) free)
 
-  same : (q : Progress) (j : ℕ) → j ≢ i → CondemnedAt q (with_vertex h i o rest) j → CondemnedAt q h j
+  same : (q : Progress) (j : ℕ) → j ≢ i → ParkedAt q (with_vertex h i o rest) j → ParkedAt q h j
   same Idle j n c = c
   same (Marking s) j n c = c
   same (Sweeping k) j n c = (c.0, sym (there j n) ∙ c.1)
 
-  still : (q : Progress) (j : ℕ) → j ≢ i → CondemnedAt q h j → CondemnedAt q (with_vertex h i o rest) j
+  still : (q : Progress) (j : ℕ) → j ≢ i → ParkedAt q h j → ParkedAt q (with_vertex h i o rest) j
   still Idle j n c = c
   still (Marking s) j n c = c
   still (Sweeping k) j n c = (c.0, there j n ∙ c.1)
@@ -135,5 +136,13 @@ sound-vertex h p Root Unf i o rest within free bare fits kept = (
             | inr after ↦ (let a = after.0 in omega (arith, a, l, is))
           ])
       | inr n ↦ old.1 j l (sym (there j n) ∙ b)
+    ],
+    λ j l g. elim (cases_eq j i) [
+      | inl is ↦ (let g' = subst (λ (q : ℕ). mark_at (with_vertex h i o rest) q ≡ Has Grey) is g in
+          elim c [
+            | inl before ↦ (let w = before.1 in let u : Has White ≡ Has Grey = ap Has (sym w) ∙ (sym here ∙ g') in cc)
+            | inr after ↦ (let w = after.1 in let u : Has Black ≡ Has Grey = ap Has (sym w) ∙ (sym here ∙ g') in cc)
+          ])
+      | inr n ↦ old.2 j l (sym (there j n) ∙ g)
     ],
   )

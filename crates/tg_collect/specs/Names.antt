@@ -1,4 +1,4 @@
--- What names say: serials stand in one slot each, and edges and roots name the serial of their slot.
+-- what names say: each serial is in one slot, and edges and roots name the serial of their slot
 use Rattle.std.specs.Prelude.{◌≡◌, ◌≢◌, ◌≤◌, ℕ, length, Some, ◌⊎◌}
 use Rattle.tg_rights.specs.Membership.{Contains}
 use Rattle.tg_slots.specs.Table.{slot}
@@ -9,7 +9,7 @@ use Rattle.tg_collect.specs.declared.machine.Progress.{Progress}
 use Rattle.tg_collect.specs.declared.machine.Machine.{Machine}
 use Rattle.tg_collect.specs.Machine.{HeldAt, Invariant}
 
--- The serial in a slot.
+-- the serial in a slot
 abbrev pub IsNamed : HeapGraph → ℕ → ℕ → Type 0
 IsNamed h i x = (o : Occupant) × (slot h.table i ≡ Some o) × (o.serial ≡ x)
 
@@ -22,7 +22,7 @@ pub record Names (h : HeapGraph) (p : Progress) (RootOf : ℕ → ℕ → Type 0
   pub root : (i x : ℕ) → RootOf i x → IsNamed h i x
   pub no_loop : (i : ℕ) (e : Edge) → HeldAt h p i → Contains (edges h i) e → e.target ≢ i
 
--- The invariant of the store.
+-- the invariant of the store
 pub record Whole (m : Machine) : Type 0 where
   pub seats : length m.pending.items ≡ 64
   pub few : length m.principals.items ≤ 64

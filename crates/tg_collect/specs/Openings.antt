@@ -1,5 +1,5 @@
--- The store that a graph opens.
-use Rattle.std.specs.Prelude.{◌≡◌, ℕ, zero, suc, ◌+◌, ◌≤◌, List, [], ◌∷◌, ◌++◌, length, None, ◌⊎◌, get_or}
+-- the store that a graph opens
+use Rattle.std.specs.Prelude.{◌≡◌, ℕ, zero, suc, ◌+◌, ◌<◌, ◌≤◌, List, [], ◌∷◌, ◌++◌, length, Some, None, ◌⊎◌, get_or}
 use Rattle.tg_slots.specs.Table.{Free, Has}
 use Rattle.tg_slots.specs.declared.colour.Colour.TheVariants.{White}
 use Rattle.tg_graph.specs.Protection.{Protection}
@@ -8,15 +8,15 @@ use Rattle.tg_graph.specs.Opening.{subjects, first_fault, opening}
 use Rattle.tg_graph.specs.Fullness.{edge_count}
 use Rattle.tg_collect.specs.declared.note.Phase.TheVariants.{Idle}
 use Rattle.tg_collect.specs.Stored.{Stored}
-use Rattle.tg_collect.specs.Views.{InSet}
+use Rattle.tg_collect.specs.Views.{InSet, place}
 use Rattle.tg_collect.specs.Sessions.{pending_of}
 
--- The serials from 1 to the count.
+-- the serials from 1 to the count
 abbrev pub first_serials : ℕ → List ℕ
 first_serials zero = []
 first_serials (suc count) = first_serials count ++ suc count ∷ []
 
--- A graph that a store can open: at most 64 subjects with the serials from 1 on in a row, which fit with their edges.
+-- a graph that a store can open: at most 64 subjects with the serials from 1 on in a row, which fit with their edges
 pub record IsOpening (G : Protection) (all_slots all_cells : ℕ) : Type 0 where
   pub count : ℕ
   pub few : count ≤ 64
@@ -24,10 +24,11 @@ pub record IsOpening (G : Protection) (all_slots all_cells : ℕ) : Type 0 where
   pub slots : count ≤ all_slots
   pub cells : edge_count G ≤ all_cells
 
--- This many principals, all white, with nothing parked and no target.
+-- this many principals in the first slots, in the order of their serials, all white, with nothing parked and no target
 pub record Opens (v : Stored) (count all_slots all_cells : ℕ) : Type 0 where
   pub vertices : v.vertices ≡ subjects count
   pub principals : v.principals ≡ first_serials count
+  pub places : (k : ℕ) → k < count → place v k ≡ Some (k + 1)
   pub phase : v.phase ≡ Idle
   pub idle : (seat : ℕ) → pending_of v seat ≡ None
   pub marks : (i : ℕ) → (get_or v.marks i Free ≡ Free) ⊎ (get_or v.marks i Free ≡ Has White)
@@ -35,7 +36,7 @@ pub record Opens (v : Stored) (count all_slots all_cells : ℕ) : Type 0 where
   pub free : v.free_slots + count ≡ all_slots
   pub cells : v.cells ≡ all_cells
 
--- The store that a graph opens, with all its vertices and edges.
+-- the store that a graph opens, with all its vertices and edges
 pub record Opened (v : Stored) (G : Protection) (all_slots all_cells : ℕ) : Type 0 where
   pub vertices : v.vertices ≡ G.vertices
   pub triples : v.triples ≡ G.triples
@@ -45,7 +46,7 @@ pub record Opened (v : Stored) (G : Protection) (all_slots all_cells : ℕ) : Ty
   pub count : ℕ
   pub opens : Opens v count all_slots all_cells
 
--- A graph that a store of so many slots and cells can open, and these in their range.
+-- a graph that a store of so many slots and cells can open, and these in their range
 pub record Fitted (G : Protection) (all_slots all_cells : ℕ) : Type 0 where
   pub low_slots : 1 ≤ all_slots
   pub high_slots : all_slots ≤ 65536
@@ -53,6 +54,6 @@ pub record Fitted (G : Protection) (all_slots all_cells : ℕ) : Type 0 where
   pub high_cells : all_cells ≤ 1048576
   pub opening : IsOpening G all_slots all_cells
 
--- A configuration without a fault opens a graph that a store can open, with the configuration's slots and cells.
+-- a configuration without a fault opens a graph that a store can open, with the configuration's slots and cells
 abbrev pub OpeningsCanBeStored : Type 0
 OpeningsCanBeStored = (c : Config) → first_fault c ≡ None → Fitted (opening c) c.slots c.cells

@@ -1,9 +1,9 @@
--- Runs of a store, by what its public clauses say of each step.
+-- runs of a store, by what its public clauses say of each step
 use Rattle.std.specs.Prelude.{◌≡◌, ℕ, ◌+◌, ◌<◌, ◌≤◌, ◌⊎◌, Bool, true, false, cond}
 use Rattle.tg_collect.specs.declared.note.Phase.{Phase}
 use Rattle.tg_collect.specs.declared.note.Phase.TheVariants.{Idle, Mark, Sweep}
 
--- What a store shows, by serials.
+-- what a store shows, by serials
 pub record Seen : Type 1 where
   pub phase : Phase
   pub held : ℕ → Type 0
@@ -18,7 +18,7 @@ pub data Live (s : Seen) : ℕ → Type 0 where
   root_lives : (x : ℕ) → s.root x → Live s x
   edge_lives : (x y : ℕ) → Live s x → s.edge x y → Live s y
 
--- The phase after a collector step, and whether the step ended a cycle.
+-- the phase after a collector step, and whether the step ended a cycle
 abbrev pub Follows : Phase → Phase → Bool → Type 0
 Follows Idle Mark false = Unit {0}
 Follows Mark Mark false = Unit {0}
@@ -27,14 +27,14 @@ Follows Sweep Sweep false = Unit {0}
 Follows Sweep Idle true = Unit {0}
 Follows _ _ _ = ⊥
 
--- What each state of a store has.
+-- what each state of a store has
 pub record Sane (most : ℕ) (s : Seen) : Type 0 where
   pub unparked : (s.phase ≡ Sweep → ⊥) → (x : ℕ) → s.parked x → ⊥
   pub idle : s.phase ≡ Idle → (x : ℕ) → s.black x → ⊥
   pub some_left : 1 ≤ s.left
   pub most_left : s.left ≤ most
 
--- One collector step.
+-- one collector step
 pub record Collects (s t : Seen) (ended : Bool) : Type 0 where
   pub phases : Follows s.phase t.phase ended
   pub roots : (x : ℕ) → t.root x → s.root x
@@ -46,7 +46,7 @@ pub record Collects (s t : Seen) (ended : Bool) : Type 0 where
   pub to_sweep : s.phase ≡ Mark → t.phase ≡ Sweep → ((x : ℕ) → s.grey x → ⊥) × ((x : ℕ) → t.held x → s.black x)
   pub lower : cond ended (Unit {0}) (t.left < s.left)
 
--- One session step; serials from `next` on are new.
+-- one session step; serials from `next` on are new
 pub record Acts (s t : Seen) (next : ℕ) : Type 0 where
   pub phase : t.phase ≡ s.phase
   pub roots : (x : ℕ) → t.root x → Live s x ⊎ (next ≤ x)
@@ -57,7 +57,7 @@ pub record Acts (s t : Seen) (next : ℕ) : Type 0 where
   pub black : (x : ℕ) → t.black x → s.black x ⊎ (next ≤ x)
   pub no_higher : t.left ≤ s.left
 
--- A run after a state: its last state, the cycles that ended and the collector steps since the last end.
+-- a run after a state: its last state, the cycles that ended and the collector steps since the last end
 pub data Run (next most : ℕ) (first : Seen) : Seen → ℕ → ℕ → Type 1 where
   start : Run next most first first 0 0
   acts : (s t : Seen) (ended since : ℕ) → Run next most first s ended since → Acts s t next → Sane most t → Run next most first t ended since

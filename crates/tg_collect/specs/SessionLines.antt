@@ -1,4 +1,4 @@
--- The session steps, over the machine as the crate sees it.
+-- the session steps, over the machine as the crate sees it
 use Rattle.std.specs.Prelude.{◌≡◌, ℕ, List, [], ◌∷◌, Option, Some, None, Result, Ok, Err, get_or, set}
 use Rattle.tg_rights.specs.Letters.{Letters}
 use Rattle.tg_rights.specs.declared.kind.Kind.{Kind}
@@ -16,21 +16,21 @@ use Rattle.tg_collect.specs.declared.machine.Progress.{Progress}
 use Rattle.tg_collect.specs.declared.machine.Machine.{Machine}
 use Rattle.tg_collect.specs.Machine.{new_colour, progress_without, with_vertex}
 
--- The seat's target is shaded and the seat is cleared.
-abbrev pub Settles : Machine → ℕ → Option ℕ → Machine → Type 0
-Settles m seat None n = (get_or m.pending.items seat None ≡ None) × (n ≡ m)
-Settles m seat (Some serial) n = (slot : ℕ) × (get_or m.pending.items seat None ≡ Some (record { serial = serial; slot = slot }))
+-- the seat's target is shaded and the seat is cleared
+abbrev pub ShadesTarget : Machine → ℕ → Option ℕ → Machine → Type 0
+ShadesTarget m seat None n = (get_or m.pending.items seat None ≡ None) × (n ≡ m)
+ShadesTarget m seat (Some serial) n = (slot : ℕ) × (get_or m.pending.items seat None ≡ Some (record { serial = serial; slot = slot }))
     × (n.pending.items ≡ set m.pending.items seat None)
     × (n ≡ record m { heap = record m.heap { table = shaded m.heap.table slot }; pending = n.pending })
 
--- An edge gains rights and its target is the seat's pending one; or the edge is new and no cell is free.
+-- an edge gains rights and its target is the seat's pending one; or the edge is new and no cell is free
 abbrev pub Adds : {U : Type 0} → Machine → (seat id : ℕ) → Root → Letters → Result U HeapFull → Machine → Type 0
 Adds m seat id target rights (Ok t) n = (o : Occupant) × (slot m.heap.table target.slot ≡ Some o) × IsAdded m.heap n.heap id target.slot o.serial rights
     × (n.pending.items ≡ set m.pending.items seat (Some target))
     × (n ≡ record m { heap = n.heap; pending = n.pending })
 Adds m seat id target rights (Err e) n = (e ≡ full.Cells) × (o : Occupant) × (slot m.heap.table target.slot ≡ Some o) × HasNone (edges m.heap id) o.serial × (m.heap.free_cells ≡ 0) × (n ≡ m)
 
--- Where the cursor stands after an edge has lost rights.
+-- where the cursor is after an edge has lost rights
 abbrev pub progress_dropped : Progress → ℕ → Dropped → Progress
 progress_dropped p id Kept = p
 progress_dropped p id (Gone cell next) = progress_without p id cell next
@@ -38,7 +38,7 @@ progress_dropped p id (Gone cell next) = progress_without p id cell next
 abbrev pub Removes : Machine → (id serial : ℕ) → Letters → Machine → Type 0
 Removes m id serial rights n = (d : Dropped) × IsDropped m.heap n.heap id serial rights d × (n ≡ record m { heap = n.heap; progress = progress_dropped m.progress id d })
 
--- The vertex that comes into a slot.
+-- the vertex that comes into a slot
 abbrev pub newcomer : Progress → (i serial : ℕ) → Kind → List ℕ → Occupant
 newcomer p i serial kind text = record { serial = serial; kind = kind; colour = new_colour p i; text = text }
 

@@ -1,4 +1,4 @@
--- What each session call does to a store, exactly.
+-- what each session call does to a store, exactly
 use Rattle.std.specs.Prelude.{◌≡◌, ℕ, ◌+◌, ◌<◌, ◌≤◌, List, length, Option, Some, None, ◌⊎◌, cond, get_or, set}
 use Rattle.std.specs.FinMap as finmap
 use Rattle.std.specs.FinSet as finset
@@ -14,22 +14,22 @@ use Rattle.tg_collect.specs.declared.note.Phase.TheVariants.{Sweep}
 use Rattle.tg_collect.specs.Stored.{Stored}
 use Rattle.tg_collect.specs.Views.{IsEdgeIn, place}
 
--- A seat's pending target.
+-- a seat's pending target
 abbrev pub pending_of : Stored → ℕ → Option ℕ
 pending_of v seat = get_or v.pending seat None
 
--- A white slot turns grey, and others stay.
+-- a white slot turns grey, and others stay
 abbrev pub shaded_mark : Mark → Mark
 shaded_mark Free = Free
 shaded_mark (Has White) = Has Grey
 shaded_mark (Has Grey) = Has Grey
 shaded_mark (Has Black) = Has Black
 
--- The grey ones after x was shaded: x is one of them, unless it is black.
+-- the grey ones after x was shaded: x is one of them, unless it is black
 abbrev pub with_grey : Stored → ℕ → finset.FinSet nat_cmp
 with_grey v x = cond (finset.contains v.black x) v.grey (finset.insert v.grey x)
 
--- The shade step of a seat that answers its target, which stands in some slot.
+-- the shade step of a seat that answers its target, which is in some slot
 pub record TargetShaded (v w : Stored) (seat x : ℕ) : Type 0 where
   pub was : pending_of v seat ≡ Some x
   pub slot : ℕ
@@ -58,13 +58,13 @@ pub record EdgeStored (v w : Stored) (seat x y : ℕ) (rights : Letters) : Type 
     left = w.left;
   }
 
--- The black ones after a vertex of this colour came in.
+-- the black ones after a vertex of this colour came in
 abbrev pub with_black : finset.FinSet nat_cmp → ℕ → Colour → finset.FinSet nat_cmp
 with_black black x White = black
 with_black black x Grey = black
 with_black black x Black = finset.insert black x
 
--- A new vertex, over which x has the rights, takes a free slot and a cell, and is the seat's target. It is white, or in the sweep perhaps black.
+-- a new vertex, over which x has the rights, takes a free slot and a cell, and is the seat's target. It is white, or in the sweep perhaps black.
 pub record VertexStored (v w : Stored) (seat x serial : ℕ) (kind : Kind) (text : List ℕ) (rights : Letters) : Type 0 where
   pub slot : ℕ
   pub colour : Colour
@@ -93,7 +93,7 @@ pub record RightsRemoved (v w : Stored) (x y : ℕ) (rights : Letters) : Type 0 
   pub left : w.left ≤ v.left
   pub is : w ≡ record v { triples = finset.difference v.triples (edge x rights y); free_cells = w.free_cells; left = w.left }
 
--- The text of x is replaced.
+-- the text of x is replaced
 pub record TextReplaced (v w : Stored) (x : ℕ) (text answer : List ℕ) : Type 0 where
   pub vertex : Vertex
   pub was : finmap.get v.vertices x ≡ Some vertex

@@ -1,4 +1,4 @@
--- What contracts see of a store.
+-- what contracts see of a store
 use Rattle.std.specs.Prelude.{ℕ, suc, ◌+◌, ◌-◌, ◌*◌, List, [], ◌∷◌, ◌++◌, length, map, Option, Some, None, Bool, true, false}
 use Rattle.std.specs.Ordering.{nat_cmp}
 use Rattle.std.specs.FinMap as finmap
@@ -25,9 +25,9 @@ use Rattle.tg_collect.specs.declared.machine.Progress.TheVariants.{Idle, Marking
 use Rattle.tg_collect.specs.declared.machine.Machine.{Machine}
 use Rattle.tg_collect.specs.Machine.{phase_of}
 
--- The held vertices and their edges; the serials that are condemned and not yet swept; the grey and the black held ones;
+-- the held vertices and their edges; the serials that are parked and not yet swept; the grey and the black held ones;
 -- by slot the serial that is held there, and whether the slot is free or its colour; the phase; the principals and the
--- pending target of each seat; free slots, free cells and all cells; and what is left of a cycle.
+-- pending target of each seat; free slots, free cells and all cells; and what is left of a cycle
 pub record Stored : Type 0 where
   pub vertices : finmap.FinMap nat_cmp Vertex
   pub triples : Triples
@@ -44,11 +44,11 @@ pub record Stored : Type 0 where
   pub cells : ℕ
   pub left : ℕ
 
--- What is held, as a protection graph with this next serial.
+-- what is held, as a protection graph with this next serial
 abbrev pub held : Stored → ℕ → Protection
 held s next = record { vertices = s.vertices; next = next; triples = s.triples }
 
--- The codes of the parts, by which a proof tells two stores apart.
+-- the codes of the parts, by which a proof tells two stores apart
 abbrev pub vertices_code : Coded (finmap.FinMap nat_cmp Vertex)
 vertices_code = finmap.code coded_ℕ vertex.the_row.coded
 
@@ -58,38 +58,38 @@ triples_code = finset.code triple_code
 abbrev pub serials_code : Coded (finset.FinSet nat_cmp)
 serials_code = finset.code coded_ℕ
 
--- The most collector steps of a cycle, with this many slots and cells.
+-- the most collector steps of a cycle, with this many slots and cells
 abbrev pub cycle_bound : (slots cells : ℕ) → ℕ
 cycle_bound slots cells = slots * slots + 3 * slots + cells + 3
 
--- Condemned, as a test.
+-- whether a slot is parked
 abbrev pub white : Mark → Bool
 white Free = false
 white (Has White) = true
 white (Has Grey) = false
 white (Has Black) = false
 
-abbrev pub condemned : Progress → ℕ → Mark → Bool
-condemned Idle i m = false
-condemned (Marking s) i m = false
-condemned (Sweeping k) i m = cond (nat_lt i k) false (white m)
+abbrev pub is_parked : Progress → ℕ → Mark → Bool
+is_parked Idle i m = false
+is_parked (Marking s) i m = false
+is_parked (Sweeping k) i m = cond (nat_lt i k) false (white m)
 
--- What each slot gives, in the order of the slots from i on.
+-- what each slot gives, in the order of the slots from i on
 abbrev pub gather : {X : Type 0} → (ℕ → Option Occupant → List X) → ℕ → List (Option Occupant) → List X
 gather f i [] = []
 gather f i (o ∷ os) = f i o ++ gather f (suc i) os
 
--- The sum of what each slot counts.
+-- the sum of what each slot counts
 abbrev pub total : (ℕ → Option Occupant → ℕ) → ℕ → List (Option Occupant) → ℕ
 total f i [] = 0
 total f i (o ∷ os) = f i o + total f (suc i) os
 
--- What a slot gives by whether it is condemned; `n` where it is free.
+-- what a slot gives by whether it is parked; `n` where it is free
 abbrev pub by_place : {X : Type 0} → List X → (List (List Edge) → Bool → ℕ → Occupant → List X) → Progress → List (List Edge) → ℕ → Option Occupant → List X
 by_place n f p ls i None = n
-by_place n f p ls i (Some o) = f ls (condemned p i (Has o.colour)) i o
+by_place n f p ls i (Some o) = f ls (is_parked p i (Has o.colour)) i o
 
--- The vertex in a slot, and the triples of its edges.
+-- the vertex in a slot, and the triples of its edges
 abbrev pub vertex_of : Occupant → Vertex
 vertex_of o = record { kind = o.kind; text = o.text }
 
@@ -97,7 +97,7 @@ abbrev pub triples_from : ℕ → List Edge → List Triple
 triples_from x [] = []
 triples_from x (e ∷ es) = edge_list x e.rights e.serial ++ triples_from x es
 
--- An entry of the map of the held vertices, the triples of a held one, a serial of the parked ones, and the serial held in a slot.
+-- an entry of the map of the held vertices, the triples of a held one, a serial of the parked ones, and the serial held in a slot
 abbrev pub vertex_entry : List (List Edge) → Bool → ℕ → Occupant → List (ℕ × Vertex)
 vertex_entry ls b i o = cond b [] ((o.serial, vertex_of o) ∷ [])
 
@@ -120,7 +120,7 @@ abbrev pub coloured_at : Colour → ℕ → Option Occupant → List ℕ
 coloured_at c i None = []
 coloured_at c i (Some o) = cond (is_colour c o.colour) (o.serial ∷ []) []
 
--- What is left of a cycle.
+-- what is left of a cycle
 abbrev pub scan_weight : Option Scan → ℕ → ℕ → List Edge → ℕ
 scan_weight None i other es = other
 scan_weight (Some s) i other es = cond (eqb s.slot i) (1 + length (remaining s.cursor es)) other
@@ -134,9 +134,9 @@ slot_weight size scan i (Has Black) es = 0
 abbrev pub weight_at : ℕ → Option Scan → List (List Edge) → ℕ → Option Occupant → ℕ
 weight_at size scan ls i o = slot_weight size scan i (mark_of o) (get_or ls i [])
 
--- The cells of a slot that is condemned.
+-- the cells of a slot that is parked
 abbrev pub parked_cells_at : Progress → List (List Edge) → ℕ → Option Occupant → ℕ
-parked_cells_at p ls i o = cond (condemned p i (mark_of o)) (length (get_or ls i [])) 0
+parked_cells_at p ls i o = cond (is_parked p i (mark_of o)) (length (get_or ls i [])) 0
 
 abbrev pub left_of : Progress → HeapGraph → ℕ
 left_of Idle h = cycle_bound (length h.table.slots) h.cell_count
@@ -147,7 +147,7 @@ abbrev pub serial_of : Option Root → Option ℕ
 serial_of None = None
 serial_of (Some r) = Some r.serial
 
--- The parts of what others see, by progress and heap.
+-- the parts of what others see, by progress and heap
 abbrev pub vertices_of : Progress → HeapGraph → finmap.FinMap nat_cmp Vertex
 vertices_of p h = finmap.from_entries (gather (by_place [] vertex_entry p h.lists) 0 h.table.slots)
 

@@ -1,3 +1,4 @@
+//! Laws of the store, stated as functions without a body.
 ghost use Rattle.tg_collect.specs.StoreRuns.{IsComplete, IsBounded};
 ghost use Rattle.tg_collect.specs.Openings.{OpeningsCanBeStored};
 

@@ -1,5 +1,5 @@
 //! The heap with its roots and the collector's progress: one private method for each line of the step table, and the session steps.
-ghost use Rattle.std.specs.Prelude.{◌≡◌, ◌≢◌, ℕ, ◌<◌, ◌≤◌, List, [], ◌∷◌, length, MatchOption, MatchBool, MatchResult, ◌⊎◌, ◌+◌, get_or, set, false, true, cond, None, Some};
+ghost use Rattle.std.specs.Prelude.{◌≡◌, ◌≢◌, ℕ, ◌<◌, ◌≤◌, List, [], ◌∷◌, ◌++◌, length, MatchOption, MatchBool, MatchResult, ◌⊎◌, ◌+◌, get_or, set, false, true, cond, None, Some};
 ghost use Rattle.std.specs.Bool.{OnFalse, OnTrue};
 ghost use Rattle.tg_rights.specs.Letters.{includes, is_none};
 ghost use Rattle.tg_slots.specs.Table.{Table, Free, Has, mark, slot, with_text};
@@ -7,8 +7,8 @@ ghost use Rattle.tg_slots.specs.declared.slots.Occupant.{Occupant};
 ghost use Rattle.tg_cells.specs.Lists.{Edge, first_cell, HasNone, Found};
 ghost use Rattle.tg_heap.specs.Graph.{edges, mark_at, shaded, painted, IsHeap};
 ghost use Rattle.tg_collect.specs.Machine.{Invariant, IsPending, IsReached, IsHeld, IsRoot, without_slot, with_list, progress_without, phase_of, has_passed, colour_ahead};
-ghost use Rattle.tg_collect.specs.Lines.{Steps};
-ghost use Rattle.tg_collect.specs.SessionLines.{Adds, Removes, Places, Rewrites, Settles};
+ghost use Rattle.tg_collect.specs.Lines.{Steps, IsFirstWhite, all_shaded};
+ghost use Rattle.tg_collect.specs.SessionLines.{Adds, Removes, Places, Rewrites, ShadesTarget};
 
 use crate::note::{Note, Phase};
 use tg_heap::{Dropped, Heap, HeapFull};
@@ -52,6 +52,8 @@ impl Machine {
         requires kept { Invariant self.old }
         ensures kept { Invariant self.new }
         ensures line { Steps self.old self.new 0 false }
+        ensures step { (before : List Edge) × (e : Edge) × (after : List Edge) × (edges self.old.heap slot ≡ before ++ e ∷ after) × (e.cell ≡ cursor)
+            × (self.new ≡ record self.old { heap = record self.old.heap { table = shaded self.old.heap.table e.target }; progress = Progress.Marking (Some (record { slot = slot; cursor = first_cell after })) }) }
     {
         self.heap.soundness();
         let target = self.heap.target(cursor);
@@ -60,12 +62,12 @@ impl Machine {
         self.progress = Progress::Marking(Some(Scan { slot, cursor: next }));
     }
 
-    /// Condemns all white slots.
+    /// Parks all white slots.
     fn start_sweep(&mut self)
         requires at { self.old.progress ≡ Progress.Marking None }
         requires none_grey { self.old.heap.table.grey ≡ [] }
         requires kept { Invariant self.old }
-        requires settled { (i : ℕ) → IsPending self.old i → mark_at self.old.heap i ≡ Has Colour.White → ⊥ }
+        requires none_white { (i : ℕ) → IsPending self.old i → mark_at self.old.heap i ≡ Has Colour.White → ⊥ }
         ensures kept { Invariant self.new }
         ensures line { Steps self.old self.new 0 false }
         ensures step { self.new ≡ record self.old { progress = Progress.Sweeping 0 } }
@@ -109,10 +111,10 @@ impl Machine {
         }
     }
 
-    /// Passes a slot that stays as it is.
+    /// Passes a free slot.
     fn skip(&mut self, at: u32)
         requires at { self.old.progress ≡ Progress.Sweeping at }
-        requires stays { (mark_at self.old.heap at ≡ Free) ⊎ (mark_at self.old.heap at ≡ Has Colour.Grey) }
+        requires free { mark_at self.old.heap at ≡ Free }
         requires inside { at < length self.old.heap.table.slots }
         requires size { length self.old.heap.table.slots ≤ 65536 }
         requires kept { Invariant self.old }
@@ -138,7 +140,7 @@ impl Machine {
         self.progress = Progress::Sweeping(at + 1);
     }
 
-    /// Frees a condemned slot's first cell, or the slot where it has none; true where it freed the slot.
+    /// Frees a parked slot's first cell, or the slot where it has none; true where it freed the slot.
     fn reclaim(&mut self, at: u32) -> bool
         requires at { self.old.progress ≡ Progress.Sweeping at }
         requires white { mark_at self.old.heap at ≡ Has Colour.White }
@@ -180,7 +182,7 @@ impl Machine {
         ensures kept { Invariant self.new }
         ensures line { OnTrue result (Steps self.old self.new 0 false) }
         ensures step { MatchBool result
-            ((i : ℕ) × IsPending self.old i × (mark_at self.old.heap i ≡ Has Colour.White) × (self.new ≡ record self.old { heap = record self.old.heap { table = shaded self.old.heap.table i } }))
+            ((seat : ℕ) × (target : Root) × IsFirstWhite self.old.pending.items self.old.heap seat target × (self.new ≡ record self.old { heap = record self.old.heap { table = shaded self.old.heap.table target.slot } }))
             (((i : ℕ) → IsPending self.old i → mark_at self.old.heap i ≡ Has Colour.White → ⊥) × (self.new ≡ self.old)) }
     {
         match self.white_target() {
@@ -197,7 +199,7 @@ impl Machine {
         requires kept { Invariant self.now }
         ensures { MatchOption result
             ((i : ℕ) → IsPending self.now i → mark_at self.now.heap i ≡ Has Colour.White → ⊥)
-            (λ i. IsPending self.now i × (mark_at self.now.heap i ≡ Has Colour.White)) }
+            (λ i. (seat : ℕ) × (target : Root) × (i ≡ target.slot) × IsFirstWhite self.now.pending.items self.now.heap seat target) }
     {
         for seat in 0..self.pending.len() {
             if let Some(root) = self.pending[seat] {
@@ -214,7 +216,7 @@ impl Machine {
         requires seat { seat < length self.old.pending.items }
         requires kept { Invariant self.old }
         ensures kept { Invariant self.new }
-        ensures step { Settles self.old seat result self.new }
+        ensures step { ShadesTarget self.old seat result self.new }
     {
         match self.pending[seat] {
             None => None,
@@ -308,7 +310,7 @@ impl Machine {
         requires kept { Invariant self.old }
         ensures kept { Invariant self.new }
         ensures line { Steps self.old self.new 0 false }
-        ensures marking { self.new.progress ≡ Progress.Marking None }
+        ensures step { self.new ≡ record self.old { heap = record self.old.heap { table = all_shaded self.old.principals.items self.old.heap.table }; progress = Progress.Marking None } }
     {
         let mut left = self.principals.len();
         while left > 0 {
@@ -398,10 +400,11 @@ impl Machine {
             return self.note(0, true);
         }
         match self.heap.colour(at) {
-            None | Some(Colour::Grey) => {
+            None => {
                 self.skip(at);
                 self.note(0, false)
             }
+            Some(Colour::Grey) => unreachable!(),
             Some(Colour::Black) => {
                 self.whiten(at);
                 self.note(0, false)

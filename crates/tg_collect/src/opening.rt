@@ -7,7 +7,7 @@ ghost use Rattle.tg_collect.specs.Stored.{stored};
 ghost use Rattle.tg_collect.specs.Views.{IsHeldIn, place, serial_at};
 ghost use Rattle.tg_collect.specs.Sessions.{pending_of};
 ghost use Rattle.tg_collect.specs.Openings.{IsOpening, Opens, Opened};
-ghost use Rattle.tg_collect.specs.OpeningSteps.{Blank, PrincipalOpened, PrincipalsOpened, EdgeOpened, OpensEdges};
+ghost use Rattle.tg_collect.specs.OpeningSteps.{Blank, OpensFirst, IsFreeFrom, PrincipalsOpened, EdgeOpened, OpensEdges};
 ghost use Rattle.tg_collect.specs.declared.note.Phase.TheVariants as phase;
 ghost use Rattle.std.specs.FinSet as finset;
 
@@ -48,6 +48,7 @@ impl Machine {
         ensures whole { IfOk result Whole }
         ensures opens { IfOk result (λ m. Opens (stored m) 0 slots cells) }
         ensures triples { IfOk result (λ m. (stored m).triples ≡ finset.empty) }
+        ensures free { IfOk result (λ m. IsFreeFrom 0 m.heap.table.free) }
     {
         let heap = Heap::new(alloc, slots, cells)?;
         heap.soundness();
@@ -65,6 +66,7 @@ impl Machine {
     fn open_principals(&mut self, alloc: Global, graph: &Graph) -> Result<(), AllocError>
         requires whole { Whole self.old }
         requires opens { Opens (stored self.old) 0 (length (stored self.old).marks) (stored self.old).cells }
+        requires free { IsFreeFrom 0 self.old.heap.table.free }
         requires opening { IsOpening graph.now (length (stored self.old).marks) (stored self.old).cells }
         ensures whole { OnOk result (Whole self.new) }
         ensures opened { OnOk result (PrincipalsOpened (stored self.old) (stored self.new) graph.now) }
@@ -85,7 +87,7 @@ impl Machine {
         requires room { (stored self.old).free_slots ≢ 0 }
         requires few { length (stored self.old).principals < 64 }
         ensures whole { OnOk result (Whole self.new) }
-        ensures opened { OnOk result (PrincipalOpened (stored self.old) (stored self.new) serial) }
+        ensures opened { OnOk result (OpensFirst self.old self.new serial) }
     {
         self.heap.soundness();
         match self.place_vertex(serial, Kind::Subject, Text::empty(alloc)) {

@@ -109,7 +109,7 @@ impl Machine {
     }
 
     /// The shade step of a seat.
-    pub fn settle(&mut self, seat: u64) -> Option<u64>
+    pub fn shade_target(&mut self, seat: u64) -> Option<u64>
         requires whole { Whole self.old }
         requires seat { seat < 64 }
         ensures whole { Whole self.new }

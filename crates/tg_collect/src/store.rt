@@ -13,7 +13,7 @@ ghost use Rattle.tg_collect.specs.StoreRuns.{Acted};
 ghost use Rattle.tg_collect.specs.Openings.{IsOpening, Opened};
 ghost use Rattle.tg_collect.specs.Sessions.{pending_of, Shaded, EdgeStored, VertexStored, RightsRemoved, TextReplaced};
 
-use crate::machine::{Machine, Root};
+use crate::machine::Machine;
 use crate::note::{Note, Phase};
 use std::alloc::{AllocError, Global};
 use std::marker::Model;
@@ -47,8 +47,8 @@ impl Model for Store {
 
 impl Store {
     /// The store of a graph of at most 64 subjects with the serials from 1 on in a row, which fit with their edges: its
-    /// principals. They stand in the first slots, white, in the order of their serials; their edges are put in by rising
-    /// pairs of their ends. All the room that later calls fill is taken here; the only error is that a growth was refused.
+    /// principals. They are in the first slots, white, in the order of their serials; their edges are put in by rising
+    /// pairs of their ends. All memory is allocated here; the only error is that an allocation failed.
     pub fn new(alloc: Global, graph: &Graph, slots: u32, cells: u32) -> Result<Store, AllocError>
         requires low_slots { 1 ≤ slots }
         requires high_slots { slots ≤ 65536 }
@@ -61,7 +61,7 @@ impl Store {
         Ok(Store { machine })
     }
 
-    /// What each store has, made known to a caller at no cost.
+    /// No-op; its postcondition exposes the invariant.
     pub fn soundness(&self)
         ensures sound { IsStore self.now }
         ensures slots { length self.now.marks ≤ 65536 }
@@ -104,7 +104,7 @@ impl Store {
     }
 
     /// The edges of the vertex in a slot: each serial over which it has rights, with these, by rising serial. The only
-    /// error is that a growth was refused.
+    /// error is that an allocation failed.
     pub fn edges(&self, alloc: Global, id: u32) -> Result<Vec<(u64, Rights)>, AllocError>
         requires { IsSome (place self.now id) }
         ensures { IfOk result (λ edges. (next : ℕ) → edges.items ≡ edges_of (held self.now next) (serial_at self.now id)) }
@@ -219,7 +219,7 @@ impl Store {
         ensures shaded { Shaded self.old self.new seat result }
         ensures acted { Acted self.old self.new None None }
     {
-        self.machine.settle(seat)
+        self.machine.shade_target(seat)
     }
 
     /// One step of the collector: one line of its table.

@@ -28,31 +28,318 @@ pub(crate) fn has(machine: &Machine, serial: u64) -> bool
     false
 }
 
-/// A store of alice and bob, who are 1 and 2.
-fn open(
-    rt: &impl Abort,
-    alloc: Global,
+/// One call of a script with its answer, or what must be seen after the calls before it. Rights are given by their letters.
+enum Act {
+    /// A principal's new document: seat, principal, serial, rights, and what is full.
+    Create(u64, u64, u64, &'static str, Option<HeapFull>),
+    /// An edge gains rights: seat, its two ends, each with a principal that has a right over it, rights, and what is full.
+    Join(u64, (u64, u64), (u64, u64), &'static str, Option<HeapFull>),
+    /// A principal loses rights over a serial.
+    Remove(u64, u64, &'static str),
+    /// A seat shades its target.
+    Shade(u64, Option<u64>),
+    /// The text of a document over which a principal has a right is replaced, with the old one.
+    Write(u64, u64, &'static str, &'static str),
+    /// Collector steps, each with its note: m, s and i are the phase after it, f a step of the sweep that freed a slot,
+    /// e the end of a cycle.
+    Steps(&'static str),
+    Pending(u64, Option<u64>),
+    FreeSlots(u32),
+    FreeCells(u32),
+    /// The slot of a serial over which a principal has a right.
+    At(u64, u64, u32),
+    /// The text of a document over which a principal has a right.
+    Reads(u64, u64, &'static str),
+    /// A principal's only edge.
+    Edge(u64, u64, &'static str),
+}
+
+use Act::{
+    At, Create, Edge, FreeCells, FreeSlots, Join, Pending, Reads, Remove, Shade, Steps, Write,
+};
+
+struct Script {
+    name: &'static str,
+    principals: &'static [&'static str],
+    edges: &'static [(u64, &'static str, u64)],
     slots: u32,
     cells: u32,
-    edges: &[(u64, Rights, u64)],
-) -> Result<Store, Fail> {
+    acts: &'static [Act],
+}
+
+const TWO: &[&str] = &["alice", "bob"];
+
+const SCRIPTS: &[Script] = &[
+    Script {
+        name: "garbage needs two cycles",
+        principals: TWO,
+        edges: &[],
+        slots: 3,
+        cells: 4,
+        acts: &[
+            Create(0, 1, 3, "r", None),
+            Shade(0, Some(3)),
+            Remove(1, 3, "r"),
+            Create(0, 1, 4, "r", Some(HeapFull::Slots)),
+            Steps("mmmmmmmsssse"),
+            Steps("mmmmmsssfe"),
+            Create(0, 1, 4, "r", None),
+        ],
+    },
+    Script {
+        name: "busy until shaded",
+        principals: TWO,
+        edges: &[],
+        slots: 3,
+        cells: 4,
+        acts: &[
+            Create(0, 1, 3, "r", None),
+            Pending(0, Some(3)),
+            Remove(1, 3, "r"),
+            Steps("mmmmmmmmsssse"),
+            Pending(0, Some(3)),
+            Shade(0, Some(3)),
+            Pending(0, None),
+            Steps("mmmmmmmsssse"),
+            FreeSlots(0),
+            Steps("mmmmmsssfe"),
+            FreeSlots(1),
+        ],
+    },
+    Script {
+        name: "take from a white edge during marking",
+        principals: TWO,
+        edges: &[(1, "tg", 2)],
+        slots: 3,
+        cells: 8,
+        acts: &[
+            Create(1, 2, 3, "rw", None),
+            Shade(1, Some(3)),
+            Write(2, 3, "hi", ""),
+            Steps("mmmmmmmmmsssse"),
+            Steps("mmmm"),
+            Join(0, (1, 1), (2, 3), "r", None),
+            Remove(2, 3, "rw"),
+            Steps("mmmmmsssse"),
+            Shade(0, Some(3)),
+            Reads(1, 3, "hi"),
+        ],
+    },
+    Script {
+        name: "create during the sweep",
+        principals: TWO,
+        edges: &[],
+        slots: 5,
+        cells: 8,
+        acts: &[
+            Create(0, 1, 3, "r", None),
+            Shade(0, Some(3)),
+            Remove(1, 3, "r"),
+            Steps("mmmmmmmsssssse"),
+            Steps("mmmmmsssf"),
+            Create(0, 1, 4, "r", None),
+            At(1, 4, 2),
+            Shade(0, Some(4)),
+            Create(0, 1, 5, "r", None),
+            At(1, 5, 3),
+            Steps("sse"),
+            Shade(0, Some(5)),
+            Steps("mmmmmmmmmmmsssssse"),
+            FreeSlots(1),
+        ],
+    },
+    Script {
+        name: "a ring of documents is freed",
+        principals: TWO,
+        edges: &[],
+        slots: 4,
+        cells: 8,
+        acts: &[
+            Create(0, 1, 3, "rg", None),
+            Shade(0, Some(3)),
+            Create(0, 1, 4, "rg", None),
+            Shade(0, Some(4)),
+            Join(0, (1, 3), (1, 4), "r", None),
+            Shade(0, Some(4)),
+            Join(0, (1, 4), (1, 3), "r", None),
+            Shade(0, Some(3)),
+            Remove(1, 3, "rg"),
+            Remove(1, 4, "rg"),
+            FreeCells(6),
+            Steps("mmmmmmmmmmmssssse"),
+            Steps("mmmmmssssfsfe"),
+            FreeSlots(2),
+            FreeCells(8),
+        ],
+    },
+    // seat 0's target has an edge to that of seat 1: were seat 1's shaded first, the other would need a step of its own
+    Script {
+        name: "the least seat with a white target is first",
+        principals: TWO,
+        edges: &[],
+        slots: 4,
+        cells: 8,
+        acts: &[
+            Create(1, 2, 3, "r", None),
+            Create(0, 1, 4, "r", None),
+            Join(2, (1, 4), (2, 3), "r", None),
+            Remove(2, 3, "r"),
+            Remove(1, 4, "r"),
+            Steps("mmmmmmmmmmmssssse"),
+        ],
+    },
+    // alice is scanned before bob: an edge that she gets after her scan is not looked at
+    Script {
+        name: "the last principal is shaded first",
+        principals: TWO,
+        edges: &[],
+        slots: 3,
+        cells: 4,
+        acts: &[
+            Steps("mmm"),
+            Create(0, 1, 3, "r", None),
+            Shade(0, Some(3)),
+            Steps("mmmmsssse"),
+        ],
+    },
+    // nothing but its seat leads to the vertex: the marking shades it, and then scans it
+    Script {
+        name: "a new vertex is white during marking",
+        principals: TWO,
+        edges: &[],
+        slots: 3,
+        cells: 4,
+        acts: &[
+            Steps("mmm"),
+            Create(0, 1, 3, "r", None),
+            Steps("mmmmmsssse"),
+        ],
+    },
+    // slots 2 and 3 are freed in this order; slot 4 was never used
+    Script {
+        name: "freed slots are taken first",
+        principals: TWO,
+        edges: &[],
+        slots: 5,
+        cells: 8,
+        acts: &[
+            Create(0, 1, 3, "r", None),
+            At(1, 3, 2),
+            Shade(0, Some(3)),
+            Remove(1, 3, "r"),
+            Create(0, 1, 4, "r", None),
+            At(1, 4, 3),
+            Shade(0, Some(4)),
+            Remove(1, 4, "r"),
+            Steps("mmmmmmmmmsssssse"),
+            Steps("mmmmmsssffse"),
+            Create(0, 1, 5, "r", None),
+            At(1, 5, 3),
+            Shade(0, Some(5)),
+            Create(0, 1, 6, "r", None),
+            At(1, 6, 2),
+            Shade(0, Some(6)),
+            Create(0, 1, 7, "r", None),
+            At(1, 7, 4),
+            FreeSlots(0),
+        ],
+    },
+    // alice's scan has passed the edge to 5 and is to look at that to 4, which goes: the edge to 3 is next, not 5's again
+    Script {
+        name: "a cursor moves to the next cell",
+        principals: TWO,
+        edges: &[],
+        slots: 5,
+        cells: 8,
+        acts: &[
+            Create(0, 1, 3, "r", None),
+            Shade(0, Some(3)),
+            Create(0, 1, 4, "r", None),
+            Shade(0, Some(4)),
+            Create(0, 1, 5, "r", None),
+            Shade(0, Some(5)),
+            Steps("mmmmmmmmmmmmmmsssssse"),
+            Steps("mmm"),
+            Remove(1, 4, "r"),
+            Steps("mmmmmmmmssssfse"),
+            FreeSlots(1),
+            At(1, 3, 2),
+            At(1, 5, 4),
+        ],
+    },
+    // edges open by rising pairs, each at the front: alice's scan has passed the edge to carol, and that to bob is next
+    Script {
+        name: "edges are opened by rising pairs",
+        principals: &["alice", "bob", "carol"],
+        edges: &[(1, "t", 2), (1, "t", 3)],
+        slots: 4,
+        cells: 8,
+        acts: &[
+            At(1, 1, 0),
+            At(2, 2, 1),
+            At(3, 3, 2),
+            Steps("mmm"),
+            Remove(1, 3, "t"),
+            Steps("mmmmmmssssse"),
+        ],
+    },
+    Script {
+        name: "refusals change nothing",
+        principals: TWO,
+        edges: &[(2, "r", 1)],
+        slots: 3,
+        cells: 1,
+        acts: &[
+            FreeCells(0),
+            Create(0, 1, 3, "r", Some(HeapFull::Cells)),
+            Join(0, (1, 1), (2, 2), "r", Some(HeapFull::Cells)),
+            Pending(0, None),
+            Join(0, (2, 2), (1, 1), "t", None),
+            Shade(0, Some(1)),
+            Edge(2, 1, "rt"),
+            Remove(2, 1, "r"),
+            FreeCells(0),
+            Remove(2, 1, "t"),
+            FreeCells(1),
+        ],
+    },
+];
+
+fn rights(letters: &str) -> Rights {
+    let mut all = Rights::empty();
+    for letter in letters.as_bytes() {
+        all = all.union(match *letter {
+            b'r' => Rights::read(),
+            b'w' => Rights::write(),
+            b't' => Rights::take(),
+            _ => Rights::grant(),
+        });
+    }
+    all
+}
+
+fn open(rt: &impl Abort, alloc: Global, script: &Script) -> Result<Store, Fail> {
     let mut principals = Vec::new(alloc);
-    principals.push(Word::new(String::from_str(alloc, "alice")?))?;
-    principals.push(Word::new(String::from_str(alloc, "bob")?))?;
-    let mut listed = Vec::new(alloc);
-    listed.extend_from_slice(edges)?;
+    for name in script.principals {
+        principals.push(Word::new(String::from_str(alloc, name)?))?;
+    }
+    let mut edges = Vec::new(alloc);
+    for edge in script.edges {
+        edges.push((edge.0, rights(edge.1), edge.2))?;
+    }
+    let next = principals.len() as u64 + 1;
     let config = Config {
         principals,
-        edges: listed,
-        next: 3,
-        slots: u64::from(slots),
-        cells: u64::from(cells),
+        edges,
+        next,
+        slots: u64::from(script.slots),
+        cells: u64::from(script.cells),
     };
     match Graph::build(alloc, &config) {
         Err(fault) => panic!(rt; "refused: {fault:?}"),
         Ok(graph) => {
             crate::openings_can_be_stored();
-            Ok(Store::new(alloc, &graph, slots, cells)?)
+            Ok(Store::new(alloc, &graph, script.slots, script.cells)?)
         }
     }
 }
@@ -126,14 +413,7 @@ fn remove(rt: &impl Abort, store: &mut Store, principal: u64, serial: u64, right
     }
 }
 
-fn shade(rt: &impl Abort, store: &mut Store, seat: u64) -> Option<u64> {
-    assert!(rt; seat < 64);
-    store.shade(seat)
-}
-
-/// Collector steps, each with its note: m, s and i are the phase after it, f a step of the sweep that freed a slot, e the
-/// end of a cycle.
-fn steps(rt: &impl Abort, store: &mut Store, wanted: &str) {
+fn steps(rt: &impl Abort, store: &mut Store, name: &str, wanted: &str) {
     for letter in wanted.as_bytes() {
         let note = store.collect();
         let (phase, freed, ended) = match *letter {
@@ -147,212 +427,86 @@ fn steps(rt: &impl Abort, store: &mut Store, wanted: &str) {
             freed,
             ended,
         };
-        assert_eq!(rt; note, wanted);
+        assert_eq!(rt; note, wanted, "{name}");
     }
 }
 
-/// The text of a document that a principal has a right over is replaced.
-fn write(
+fn reads(text: &Text, wanted: &str) -> bool {
+    text.get() == wanted
+}
+
+fn play(
     rt: &impl Abort,
     alloc: Global,
     store: &mut Store,
-    principal: u64,
-    serial: u64,
-    text: &str,
-) -> Result<Text, Fail> {
-    match Text::new(String::from_str(alloc, text)?) {
-        Err(_) => panic!(rt; "the text is too long"),
-        Ok(text) => {
-            let id = at(rt, store, principal, serial);
-            Ok(store.set_text(id, text))
+    name: &str,
+    act: &Act,
+) -> Result<(), Fail> {
+    match act {
+        Create(seat, principal, serial, letters, full) => {
+            let made = create(
+                rt,
+                alloc,
+                store,
+                *seat,
+                *principal,
+                *serial,
+                rights(letters),
+            );
+            assert_eq!(rt; made.err(), *full, "{name}");
+        }
+        Join(seat, from, to, letters, full) => {
+            let joined = join(rt, store, *seat, *from, *to, rights(letters));
+            assert_eq!(rt; joined.err(), *full, "{name}");
+        }
+        Remove(principal, serial, letters) => {
+            remove(rt, store, *principal, *serial, rights(letters));
+        }
+        Shade(seat, target) => {
+            assert!(rt; *seat < 64);
+            assert_eq!(rt; store.shade(*seat), *target, "{name}");
+        }
+        Write(principal, serial, new, old) => {
+            let Ok(text) = Text::new(String::from_str(alloc, new)?) else {
+                panic!(rt; "the text is too long");
+            };
+            let id = at(rt, store, *principal, *serial);
+            assert!(rt; reads(&store.set_text(id, text), old), "{name}");
+        }
+        Steps(wanted) => steps(rt, store, name, wanted),
+        Pending(seat, target) => {
+            assert!(rt; *seat < 64);
+            assert_eq!(rt; store.pending(*seat), *target, "{name}");
+        }
+        FreeSlots(count) => assert_eq!(rt; store.free_slots(), *count, "{name}"),
+        FreeCells(count) => assert_eq!(rt; store.free_cells(), *count, "{name}"),
+        At(principal, serial, slot) => {
+            assert_eq!(rt; at(rt, store, *principal, *serial), *slot, "{name}");
+        }
+        Reads(principal, serial, text) => {
+            let id = at(rt, store, *principal, *serial);
+            assert!(rt; reads(store.text(id), text), "{name}");
+            assert!(rt; store.kind(id) == Kind::Document, "{name}");
+        }
+        Edge(principal, serial, letters) => {
+            let id = at(rt, store, *principal, *principal);
+            let edges = store.edges(alloc, id)?;
+            assert!(rt;
+                edges.as_slice() == [(*serial, rights(letters))].as_slice(),
+                "{name}"
+            );
         }
     }
-}
-
-#[test]
-fn garbage_needs_two_cycles(rt: HostRuntime) -> Result<(), Fail> {
-    let mut store = open(&rt, rt.alloc(), 3, 4, &[])?;
-    assert!(rt; create(&rt, rt.alloc(), &mut store, 0, 1, 3, Rights::read()).is_ok());
-    assert_eq!(rt; shade(&rt, &mut store, 0), Some(3));
-    remove(&rt, &mut store, 1, 3, Rights::read());
-    let full = create(&rt, rt.alloc(), &mut store, 0, 1, 4, Rights::read());
-    assert_eq!(rt; full, Err(HeapFull::Slots));
-    steps(&rt, &mut store, "mmmmmmmsssse");
-    steps(&rt, &mut store, "mmmmmsssfe");
-    assert!(rt; create(&rt, rt.alloc(), &mut store, 0, 1, 4, Rights::read()).is_ok());
     Ok(())
 }
 
 #[test]
-fn busy_until_shaded(rt: HostRuntime) -> Result<(), Fail> {
-    let mut store = open(&rt, rt.alloc(), 3, 4, &[])?;
-    assert!(rt; create(&rt, rt.alloc(), &mut store, 0, 1, 3, Rights::read()).is_ok());
-    assert_eq!(rt; store.pending(0), Some(3));
-    remove(&rt, &mut store, 1, 3, Rights::read());
-    steps(&rt, &mut store, "mmmmmmmmsssse");
-    assert_eq!(rt; store.pending(0), Some(3));
-    assert_eq!(rt; shade(&rt, &mut store, 0), Some(3));
-    assert_eq!(rt; store.pending(0), None);
-    steps(&rt, &mut store, "mmmmmmmsssse");
-    assert_eq!(rt; store.free_slots(), 0);
-    steps(&rt, &mut store, "mmmmmsssfe");
-    assert_eq!(rt; store.free_slots(), 1);
-    Ok(())
-}
-
-#[test]
-fn take_from_a_white_edge_during_marking(rt: HostRuntime) -> Result<(), Fail> {
-    let both = Rights::read().union(Rights::write());
-    let tg = Rights::take().union(Rights::grant());
-    let mut store = open(&rt, rt.alloc(), 3, 8, &[(1, tg, 2)])?;
-    assert!(rt; create(&rt, rt.alloc(), &mut store, 1, 2, 3, both).is_ok());
-    assert_eq!(rt; shade(&rt, &mut store, 1), Some(3));
-    let old = write(&rt, rt.alloc(), &mut store, 2, 3, "hi")?;
-    assert!(rt; old.get() == "");
-    steps(&rt, &mut store, "mmmmmmmmmsssse");
-    steps(&rt, &mut store, "mmmm");
-    assert!(rt; join(&rt, &mut store, 0, (1, 1), (2, 3), Rights::read()).is_ok());
-    remove(&rt, &mut store, 2, 3, both);
-    steps(&rt, &mut store, "mmmmmsssse");
-    assert_eq!(rt; shade(&rt, &mut store, 0), Some(3));
-    let slot = at(&rt, &store, 1, 3);
-    assert!(rt; store.text(slot).get() == "hi");
-    assert!(rt; store.kind(slot) == Kind::Document);
-    Ok(())
-}
-
-#[test]
-fn create_during_the_sweep(rt: HostRuntime) -> Result<(), Fail> {
-    let mut store = open(&rt, rt.alloc(), 5, 8, &[])?;
-    assert!(rt; create(&rt, rt.alloc(), &mut store, 0, 1, 3, Rights::read()).is_ok());
-    assert_eq!(rt; shade(&rt, &mut store, 0), Some(3));
-    remove(&rt, &mut store, 1, 3, Rights::read());
-    steps(&rt, &mut store, "mmmmmmmsssssse");
-    steps(&rt, &mut store, "mmmmmsssf");
-    assert!(rt; create(&rt, rt.alloc(), &mut store, 0, 1, 4, Rights::read()).is_ok());
-    assert_eq!(rt; at(&rt, &store, 1, 4), 2);
-    assert_eq!(rt; shade(&rt, &mut store, 0), Some(4));
-    assert!(rt; create(&rt, rt.alloc(), &mut store, 0, 1, 5, Rights::read()).is_ok());
-    assert_eq!(rt; at(&rt, &store, 1, 5), 3);
-    steps(&rt, &mut store, "sse");
-    assert_eq!(rt; shade(&rt, &mut store, 0), Some(5));
-    steps(&rt, &mut store, "mmmmmmmmmmmsssssse");
-    assert_eq!(rt; store.free_slots(), 1);
-    Ok(())
-}
-
-#[test]
-fn a_ring_of_documents_is_freed(rt: HostRuntime) -> Result<(), Fail> {
-    let rg = Rights::read().union(Rights::grant());
-    let mut store = open(&rt, rt.alloc(), 4, 8, &[])?;
-    assert!(rt; create(&rt, rt.alloc(), &mut store, 0, 1, 3, rg).is_ok());
-    assert_eq!(rt; shade(&rt, &mut store, 0), Some(3));
-    assert!(rt; create(&rt, rt.alloc(), &mut store, 0, 1, 4, rg).is_ok());
-    assert_eq!(rt; shade(&rt, &mut store, 0), Some(4));
-    assert!(rt; join(&rt, &mut store, 0, (1, 3), (1, 4), Rights::read()).is_ok());
-    assert_eq!(rt; shade(&rt, &mut store, 0), Some(4));
-    assert!(rt; join(&rt, &mut store, 0, (1, 4), (1, 3), Rights::read()).is_ok());
-    assert_eq!(rt; shade(&rt, &mut store, 0), Some(3));
-    remove(&rt, &mut store, 1, 3, rg);
-    remove(&rt, &mut store, 1, 4, rg);
-    assert_eq!(rt; store.free_cells(), 6);
-    steps(&rt, &mut store, "mmmmmmmmmmmssssse");
-    steps(&rt, &mut store, "mmmmmssssfsfe");
-    assert_eq!(rt; store.free_slots(), 2);
-    assert_eq!(rt; store.free_cells(), 8);
-    Ok(())
-}
-
-// Seat 0's target has an edge to that of seat 1: were seat 1's shaded first, the other would need a step of its own.
-#[test]
-fn the_least_seat_with_a_white_target_is_first(rt: HostRuntime) -> Result<(), Fail> {
-    let mut store = open(&rt, rt.alloc(), 4, 8, &[])?;
-    assert!(rt; create(&rt, rt.alloc(), &mut store, 1, 2, 3, Rights::read()).is_ok());
-    assert!(rt; create(&rt, rt.alloc(), &mut store, 0, 1, 4, Rights::read()).is_ok());
-    assert!(rt; join(&rt, &mut store, 2, (1, 4), (2, 3), Rights::read()).is_ok());
-    remove(&rt, &mut store, 2, 3, Rights::read());
-    remove(&rt, &mut store, 1, 4, Rights::read());
-    steps(&rt, &mut store, "mmmmmmmmmmmssssse");
-    Ok(())
-}
-
-// Alice is scanned before bob: an edge that she gets after her scan is not looked at.
-#[test]
-fn the_last_principal_is_shaded_first(rt: HostRuntime) -> Result<(), Fail> {
-    let mut store = open(&rt, rt.alloc(), 3, 4, &[])?;
-    steps(&rt, &mut store, "mmm");
-    assert!(rt; create(&rt, rt.alloc(), &mut store, 0, 1, 3, Rights::read()).is_ok());
-    assert_eq!(rt; shade(&rt, &mut store, 0), Some(3));
-    steps(&rt, &mut store, "mmmmsssse");
-    Ok(())
-}
-
-// Nothing but its seat leads to the vertex: the marking shades it, and then scans it.
-#[test]
-fn a_new_vertex_is_white_during_marking(rt: HostRuntime) -> Result<(), Fail> {
-    let mut store = open(&rt, rt.alloc(), 3, 4, &[])?;
-    steps(&rt, &mut store, "mmm");
-    assert!(rt; create(&rt, rt.alloc(), &mut store, 0, 1, 3, Rights::read()).is_ok());
-    steps(&rt, &mut store, "mmmmmsssse");
-    Ok(())
-}
-
-// Slots 2 and 3 are freed in this order; slot 4 was never used.
-#[test]
-fn freed_slots_are_taken_first(rt: HostRuntime) -> Result<(), Fail> {
-    let mut store = open(&rt, rt.alloc(), 5, 8, &[])?;
-    for (serial, slot) in [(3, 2), (4, 3)] {
-        assert!(rt; create(&rt, rt.alloc(), &mut store, 0, 1, serial, Rights::read()).is_ok());
-        assert_eq!(rt; at(&rt, &store, 1, serial), slot);
-        assert_eq!(rt; shade(&rt, &mut store, 0), Some(serial));
-        remove(&rt, &mut store, 1, serial, Rights::read());
+fn scripts_go_as_worked_out(rt: HostRuntime) -> Result<(), Fail> {
+    for script in SCRIPTS {
+        let mut store = open(&rt, rt.alloc(), script)?;
+        for act in script.acts {
+            play(&rt, rt.alloc(), &mut store, script.name, act)?;
+        }
     }
-    steps(&rt, &mut store, "mmmmmmmmmsssssse");
-    steps(&rt, &mut store, "mmmmmsssffse");
-    for (serial, slot) in [(5, 3), (6, 2), (7, 4)] {
-        assert!(rt; create(&rt, rt.alloc(), &mut store, 0, 1, serial, Rights::read()).is_ok());
-        assert_eq!(rt; at(&rt, &store, 1, serial), slot);
-        assert_eq!(rt; shade(&rt, &mut store, 0), Some(serial));
-    }
-    assert_eq!(rt; store.free_slots(), 0);
-    Ok(())
-}
-
-// The cell that alice's scan is to look at next goes; the cell after it is looked at, and alice made black.
-#[test]
-fn a_cursor_moves_to_the_next_cell(rt: HostRuntime) -> Result<(), Fail> {
-    let mut store = open(&rt, rt.alloc(), 4, 8, &[])?;
-    for serial in [3, 4] {
-        assert!(rt; create(&rt, rt.alloc(), &mut store, 0, 1, serial, Rights::read()).is_ok());
-        assert_eq!(rt; shade(&rt, &mut store, 0), Some(serial));
-    }
-    steps(&rt, &mut store, "mmmmmmmmmmmssssse");
-    steps(&rt, &mut store, "mm");
-    remove(&rt, &mut store, 1, 4, Rights::read());
-    steps(&rt, &mut store, "mmmmmmssssfe");
-    assert_eq!(rt; store.free_slots(), 1);
-    assert_eq!(rt; at(&rt, &store, 1, 3), 2);
-    Ok(())
-}
-
-#[test]
-fn refusals_change_nothing(rt: HostRuntime) -> Result<(), Fail> {
-    let mut store = open(&rt, rt.alloc(), 3, 1, &[(2, Rights::read(), 1)])?;
-    assert_eq!(rt; store.free_cells(), 0);
-    let full = create(&rt, rt.alloc(), &mut store, 0, 1, 3, Rights::read());
-    assert_eq!(rt; full, Err(HeapFull::Cells));
-    let full = join(&rt, &mut store, 0, (1, 1), (2, 2), Rights::read());
-    assert_eq!(rt; full, Err(HeapFull::Cells));
-    assert_eq!(rt; store.pending(0), None);
-    assert!(rt; join(&rt, &mut store, 0, (2, 2), (1, 1), Rights::take()).is_ok());
-    assert_eq!(rt; shade(&rt, &mut store, 0), Some(1));
-    let bob = at(&rt, &store, 2, 2);
-    let both = Rights::read().union(Rights::take());
-    let edges = store.edges(rt.alloc(), bob)?;
-    assert!(rt; edges.as_slice() == [(1, both)].as_slice());
-    remove(&rt, &mut store, 2, 1, Rights::read());
-    assert_eq!(rt; store.free_cells(), 0);
-    remove(&rt, &mut store, 2, 1, Rights::take());
-    assert_eq!(rt; store.free_cells(), 1);
     Ok(())
 }

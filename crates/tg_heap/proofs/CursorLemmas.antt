@@ -1,30 +1,12 @@
 -- A cursor in a list without repeated cells: it names the first edge that is left.
-use Rattle.std.proofs.Common.{◌≡◌, ◌≢◌, ℕ, List, [], ◌∷◌, ◌++◌, Option, Some, None, ◌⊎◌, inl, inr, sym, subst, ap, refl, cond, true, false, eqb, eq-eqb, eqb-true, append-nil, map}
+use Rattle.std.proofs.Common.{◌≡◌, ◌≢◌, ℕ, List, [], ◌∷◌, ◌++◌, Option, Some, None, inl, sym, subst, ap, refl, cond, true, false, eqb, eq-eqb, eqb-true, append-nil, map}
 use Rattle.tg_rights.specs.Membership.{Contains, Distinct}
+use Rattle.tg_rights.proofs.MembershipLemmas.{contains_right}
 use Rattle.tg_cells.specs.Lists.{Edge, first_cell}
 use Rattle.tg_heap.specs.Marking.{remaining, passed}
 
 abbrev pub cells : List Edge → List ℕ
 cells es = map (λ e. e.cell) es
-
-pub contains_append : {X : Type 0} (xs ys : List X) (x : X) → Contains (xs ++ ys) x → Contains xs x ⊎ Contains ys x
-contains_append [] ys x h = inr h
-contains_append (y ∷ xs) ys x (inl e) = inl (inl e)
-contains_append (y ∷ xs) ys x (inr h) = elim (contains_append xs ys x h) [ inl a ↦ inl (inr a) | inr b ↦ inr b ]
-
-pub contains_left : {X : Type 0} (xs ys : List X) (x : X) → Contains xs x → Contains (xs ++ ys) x
-contains_left [] ys x h = absurd h
-contains_left (y ∷ xs) ys x (inl e) = inl e
-contains_left (y ∷ xs) ys x (inr h) = inr (contains_left xs ys x h)
-
-pub contains_right : {X : Type 0} (xs ys : List X) (x : X) → Contains ys x → Contains (xs ++ ys) x
-contains_right [] ys x h = h
-contains_right (y ∷ xs) ys x h = inr (contains_right xs ys x h)
-
-pub holds_cell : (es : List Edge) (e : Edge) → Contains es e → Contains (cells es) e.cell
-holds_cell [] e h = absurd h
-holds_cell (y ∷ es) e (inl i) = inl (ap (λ (a : Edge). a.cell) i)
-holds_cell (y ∷ es) e (inr h) = inr (holds_cell es e h)
 
 pub cells_append : (p r : List Edge) → cells (p ++ r) ≡ cells p ++ cells r
 cells_append [] r = refl

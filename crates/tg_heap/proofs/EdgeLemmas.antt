@@ -4,7 +4,8 @@ use Rattle.tg_slots.specs.Table.{Mark}
 use Rattle.tg_rights.specs.Membership.{Contains, Distinct}
 use Rattle.tg_cells.specs.Lists.{Edge, first_cell}
 use Rattle.tg_heap.specs.Marking.{remaining, passed, ScanAt, ScanHolds}
-use Rattle.tg_heap.proofs.CursorLemmas.{cells, contains_right, cells_append, passed_split, split_whole}
+use Rattle.tg_rights.proofs.MembershipLemmas.{contains_right}
+use Rattle.tg_heap.proofs.CursorLemmas.{cells, cells_append, passed_split, split_whole}
 use Rattle.tg_heap.proofs.StepLemmas.{scan_at}
 
 -- A new first edge counts as passed, so its target has to be pending.

@@ -64,11 +64,6 @@ joins_label t c d i p r e a is new j =
     joins_set t c d i (p ++ record e { rights = a } ∷ r) new (owner_occupied t c i p r e j is) (owner_within t c i p r e j is)
     (within_label (length t.slots) p r e a (subst (λ (l : List Edge). Within (length t.slots) l) is (j.targets i))) j
 
--- An occupied slot has one more edge, to a slot of the table.
-pub joins_link : (t : Table) (c d : CellLists) (i : ℕ) (e : Edge) → d.lists ≡ set c.lists i (e ∷ owned c.lists i) → mark t i ≢ Free → i < length c.lists → e.target < length t.slots → Joins t c → Joins t d
-joins_link t c d i e new occupied within to j =
-    joins_set t c d i (e ∷ owned c.lists i) new occupied within (λ x h. elim h [ inl is ↦ subst (λ (y : Edge). y.target < length t.slots) (sym is) to | inr m ↦ j.targets i x m ]) j
-
 -- A label is empty where the test says so.
 pub none_true : (l : Letters) → is_none l ≡ true → l ≡ none
 none_true l e = tested l.read l.write l.take l.grant e where

@@ -1,10 +1,10 @@
 -- What the tricolour invariant gives, and what keeps it.
-use Rattle.std.proofs.Common.{◌≡◌, ◌≢◌, ℕ, List, [], Option, Some, None, ◌⊎◌, inl, inr, sym, ◌∙◌, subst, refl}
+use Rattle.std.proofs.Common.{◌≡◌, ◌≢◌, ℕ, List, Option, Some, None, ◌⊎◌, inl, inr, sym, ◌∙◌, subst, refl}
 use Rattle.tg_slots.specs.Table.{Mark, Free, Has}
 use Rattle.tg_rights.specs.Membership.{Contains}
 use Rattle.tg_slots.specs.declared.colour.Colour.TheVariants.{White, Grey, Black}
-use Rattle.tg_cells.specs.Lists.{Edge, first_cell}
-use Rattle.tg_heap.specs.Marking.{remaining, passed, ScanAt, Covered, ScanFits, Tricolour, Reached, at_root, along, Shades}
+use Rattle.tg_cells.specs.Lists.{Edge}
+use Rattle.tg_heap.specs.Marking.{ScanAt, Covered, ScanFits, Tricolour, Reached, at_root, along, Shades}
 
 -- At the end of marking no reached slot is white.
 pub reached_black : (colour : ℕ → Mark) (out : ℕ → List Edge) (Waits Root Pending : ℕ → Type 0)
@@ -68,21 +68,6 @@ tricolour-shade colour colour' out Waits Waits' Root Pending scan i s t = record
     at = f.at;
     behind = covered-shade colour colour' Waits Waits' Pending i _ s f.behind;
   }
-
--- The slot taken from the grey list is under scan, at its first edge.
-pub tricolour-pop : (colour : ℕ → Mark) (out : ℕ → List Edge) (Waits Waits' Root Pending : ℕ → Type 0) (i : ℕ)
-    → colour i ≡ Has Grey → (Waits' i → ⊥) → ((j : ℕ) → Waits j → (j ≡ i) ⊎ Waits' j)
-    → remaining (first_cell (out i)) (out i) ≡ out i → passed (first_cell (out i)) (out i) ≡ []
-    → Tricolour colour out Waits Root Pending None → Tricolour colour out Waits' Root Pending (Some (record { slot = i; cursor = first_cell (out i) }))
-tricolour-pop colour out Waits Waits' Root Pending i g gone split whole none t = record {
-  black_edges = t.black_edges;
-  roots = t.roots;
-  grey_known = λ j e. elim (t.grey_known j e) [
-    | inl w ↦ elim (split j w) [ inl here ↦ inr here | inr there ↦ inl there ]
-    | inr x ↦ absurd x
-  ];
-  scanned = record { grey = g; taken = gone; at = rw whole refl; behind = λ e h. absurd (rw none at h) };
-}
 
 -- The slot under scan turns black once the cursor is at the end.
 pub tricolour-blacken : (colour colour' : ℕ → Mark) (out : ℕ → List Edge) (Waits Root Pending : ℕ → Type 0) (i : ℕ)

@@ -1,11 +1,12 @@
--- The tricolour invariant over a scanned cell, a settled target, and edges that come and go.
+-- The tricolour invariant over a scanned cell, a target that was shaded, and edges that come and go.
 use Rattle.std.proofs.Common.{◌≡◌, ℕ, List, [], ◌∷◌, ◌++◌, Option, Some, None, ◌⊎◌, inl, inr, sym, ◌∙◌, subst, ap, refl, append_assoc}
 use Rattle.tg_slots.specs.Table.{Mark, Has}
 use Rattle.tg_rights.specs.Membership.{Contains, Distinct}
 use Rattle.tg_slots.specs.declared.colour.Colour.TheVariants.{White, Grey}
 use Rattle.tg_cells.specs.Lists.{Edge, first_cell}
 use Rattle.tg_heap.specs.Marking.{remaining, passed, ScanAt, IsScanned, Covered, ScanHolds, ScanFits, Tricolour}
-use Rattle.tg_heap.proofs.CursorLemmas.{cells, contains_append, remaining_split, passed_split, split_whole}
+use Rattle.tg_rights.proofs.MembershipLemmas.{contains_append}
+use Rattle.tg_heap.proofs.CursorLemmas.{cells, remaining_split, passed_split, split_whole}
 
 -- What is known of the slot under scan, by the edges before the cursor and those from it on.
 pub scan_at : (colour : ℕ → Mark) (out : ℕ → List Edge) (Waits Pending : ℕ → Type 0) (i : ℕ) (p r : List Edge)
@@ -38,22 +39,22 @@ tricolour-scan colour out Waits Root Pending i cursor p r e ep er d dark t =
       ]);
     }
 
--- A target that is settled is not white; fewer are pending.
-pub tricolour-settle : (colour : ℕ → Mark) (out : ℕ → List Edge) (Waits Root Root' Pending Pending' : ℕ → Type 0) (scan : Option ScanAt)
+-- Fewer roots and targets: a target that is no longer pending is not white.
+pub tricolour-fewer : (colour : ℕ → Mark) (out : ℕ → List Edge) (Waits Root Root' Pending Pending' : ℕ → Type 0) (scan : Option ScanAt)
     → ((j : ℕ) → Pending j → Pending' j ⊎ (colour j ≡ Has White → ⊥)) → ((j : ℕ) → Root' j → Root j)
     → Tricolour colour out Waits Root Pending scan → Tricolour colour out Waits Root' Pending' scan
-tricolour-settle colour out Waits Root Root' Pending Pending' scan less fewer t = record {
+tricolour-fewer colour out Waits Root Root' Pending Pending' scan less fewer t = record {
   black_edges = λ j b e h w. still e.target (t.black_edges j b e h w) w;
   roots = λ j r w. still j (t.roots j (fewer j r) w) w;
   grey_known = t.grey_known;
-  scanned = scan_settle scan t.scanned;
+  scanned = scan_fewer scan t.scanned;
 } where
   still : (j : ℕ) → Pending j → colour j ≡ Has White → Pending' j
   still j u w = elim (less j u) [ inl is ↦ is | inr dark ↦ absurd (dark w) ]
 
-  scan_settle : (k : Option ScanAt) → ScanFits colour out Waits Pending k → ScanFits colour out Waits Pending' k
-  scan_settle None f = tt
-  scan_settle (Some k) f = record { grey = f.grey; taken = f.taken; at = f.at; behind = λ e h w. still e.target (f.behind e h w) w }
+  scan_fewer : (k : Option ScanAt) → ScanFits colour out Waits Pending k → ScanFits colour out Waits Pending' k
+  scan_fewer None f = tt
+  scan_fewer (Some k) f = record { grey = f.grey; taken = f.taken; at = f.at; behind = λ e h w. still e.target (f.behind e h w) w }
 
 -- Edges come and go: each edge that counts as passed was one before, by its target, or leads to a pending target.
 pub tricolour-edges : (colour : ℕ → Mark) (out out' : ℕ → List Edge) (Waits Root Root' Pending Pending' : ℕ → Type 0) (scan : Option ScanAt) (scan' : Option ScanAt)

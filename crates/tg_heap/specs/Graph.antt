@@ -1,4 +1,4 @@
--- What contracts see of the heap: a labelled graph over slots.
+-- what contracts see of the heap: a labelled graph over slots
 use Rattle.std.specs.Prelude.{◌≡◌, ℕ, ◌<◌, List, [], ◌∷◌, length}
 use Rattle.tg_slots.specs.Table.{Table, Mark, Free, Has, mark, recoloured, IsSound}
 use Rattle.tg_rights.specs.Membership.{Contains}
@@ -6,28 +6,28 @@ use Rattle.tg_cells.specs.Lists.{Edge, CellLists, owned, IsCells}
 use Rattle.tg_slots.specs.declared.colour.Colour.{Colour}
 use Rattle.tg_slots.specs.declared.colour.Colour.TheVariants.{White, Grey, Black}
 
--- The slots, each owner's edges from the first, the number of free cells and that of all cells.
+-- the slots, each owner's edges from the first, the number of free cells and that of all cells
 pub record HeapGraph : Type 0 where
   pub table : Table
   pub lists : List (List Edge)
   pub free_cells : ℕ
   pub cell_count : ℕ
 
--- The edges of the vertex in a slot.
+-- the edges of the vertex in a slot
 abbrev pub edges : HeapGraph → ℕ → List Edge
 edges h i = owned h.lists i
 
 abbrev pub mark_at : HeapGraph → ℕ → Mark
 mark_at h i = mark h.table i
 
--- The cells' part of a heap, and a heap from its two parts.
+-- the cells' part of a heap, and a heap from its two parts
 abbrev pub cell_lists : HeapGraph → CellLists
 cell_lists h = record { lists = h.lists; free = h.free_cells; size = h.cell_count }
 
 abbrev pub heap_of : Table → CellLists → HeapGraph
 heap_of t c = record { table = t; lists = c.lists; free_cells = c.free; cell_count = c.size }
 
--- A table after a slot was shaded: a white slot is grey and waits, others stay.
+-- a table after a slot was shaded: a white slot is grey and waits, others stay
 abbrev pub shaded_by : Mark → Table → ℕ → Table
 shaded_by Free t i = t
 shaded_by (Has White) t i = record t { slots = recoloured t i Grey; grey = i ∷ t.grey }
@@ -37,17 +37,17 @@ shaded_by (Has Black) t i = t
 abbrev pub shaded : Table → ℕ → Table
 shaded t i = shaded_by (mark t i) t i
 
--- A table after a vertex took a colour.
+-- a table after a vertex took a colour
 abbrev pub painted : Table → ℕ → Colour → Table
 painted t i c = record t { slots = recoloured t i c }
 
--- Each slot owns one list, edges lead to slots, and free slots have no edges.
+-- each slot owns one list, edges lead to slots, and free slots have no edges
 pub record Joins (t : Table) (c : CellLists) : Type 0 where
   pub owners : length c.lists ≡ length t.slots
   pub targets : (i : ℕ) (e : Edge) → Contains (owned c.lists i) e → e.target < length t.slots
   pub free_bare : (i : ℕ) → mark t i ≡ Free → owned c.lists i ≡ []
 
--- What always holds of a heap: of its slots, of its cells, and between the two.
+-- what always holds of a heap: of its slots, of its cells, and between the two
 pub record IsHeap (h : HeapGraph) : Type 0 where
   pub table : IsSound h.table
   pub cells : IsCells (cell_lists h)

@@ -1,3 +1,4 @@
+//! The heap: a table of slots and cells that belong to them.
 ghost use Rattle.std.specs.Prelude.{◌≡◌, ◌≢◌, ℕ, ◌<◌, ◌≤◌, ◌+◌, List, [], ◌∷◌, length, MatchResult, MatchOption, MatchBool, IfOk, IfSome, IsTrue, ◌↔◌, set, ◌⊎◌, Option, Some, None, true, false};
 ghost use Rattle.tg_rights.specs.Letters.{is_none, includes};
 ghost use Rattle.tg_rights.specs.Membership.{Contains};
@@ -48,7 +49,7 @@ impl Model for Heap {
 }
 
 impl Heap {
-    /// That many free slots, 1 to 65,536, and free cells, 1 to 1,048,576. The only error is want of memory.
+    /// That many free slots, 1 to 65,536, and free cells, 1 to 1,048,576. The only error is that an allocation failed.
     pub fn new(alloc: Global, slots: u32, cells: u32) -> Result<Heap, AllocError>
         requires low_slots { 1 ≤ slots }
         requires high_slots { slots ≤ 65536 }
@@ -64,7 +65,7 @@ impl Heap {
         })
     }
 
-    /// Tells a caller what always holds of the heap; it does nothing.
+    /// No-op; its postcondition exposes the invariant.
     pub fn soundness(&self)
         ensures sound { IsHeap self.now }
         ensures size { length self.now.table.slots ≤ 65536 }

@@ -42,11 +42,6 @@ chain_first end links i [] w c = absurd (let is : i ≡ end = c in omega arith)
 chain_first end links i (j ∷ l) w c =
     record { rest = l; is = ap (λ (k : ℕ). k ∷ l) (sym c.0); chain = subst (λ (k : ℕ). Chain end links (get_or links k end) l) (sym c.0) c.2 }
 
--- A head past the slots has no list.
-pub chain_none : (end : ℕ) (links : List ℕ) (i : ℕ) (l : List ℕ) → end ≤ i → Chain end links i l → l ≡ []
-chain_none end links i [] p c = refl
-chain_none end links i (j ∷ l) p c = absurd (let is : i ≡ j = c.0 in let within : j < end = c.1 in omega arith)
-
 -- Where each link leads to the next slot, a chain goes up to the end.
 pub chain_up : (end : ℕ) (links : List ℕ) (i n : ℕ) → i + n ≡ end → ((j : ℕ) → j < end → get_or links j end ≡ suc j) → Chain end links i (indices i n)
 chain_up end links i zero e up = omega (arith, e)

@@ -1,5 +1,5 @@
 -- What a change of one slot leaves of a sound table.
-use Rattle.std.proofs.Common.{◌≡◌, ◌≢◌, ℕ, zero, suc, ◌+◌, ◌<◌, ◌≤◌, List, [], ◌∷◌, length, Option, Some, None, inl, inr, sym, subst, ◌∙◌, ap, refl, arith, get_or, set, get_or-set_other, get_or-set_same, length-set, sum_by}
+use Rattle.std.proofs.Common.{◌≡◌, ◌≢◌, ℕ, zero, suc, ◌<◌, ◌≤◌, List, [], ◌∷◌, length, Option, Some, None, inl, inr, sym, subst, ◌∙◌, ap, refl, arith, get_or, set, get_or-set_other, get_or-set_same, length-set, sum_by}
 use Rattle.std.proofs.lemmas.Bool.{cases_eq, cases_lt}
 use Rattle.std.proofs.lemmas.List.{get_or_past}
 use Rattle.std.proofs.lemmas.List.Sums.{sum_by-set, sum_by-cons}
@@ -52,15 +52,6 @@ free_count-set t i c d w =
     let change = sum_by-set if_free t.slots i (coloured d (slot t i)) None within in
     let was : if_free (slot t i) ≡ 0 = if_free-occupied (slot t i) c w in
     let is : if_free (coloured d (slot t i)) ≡ 0 = if_free-occupied _ d (mark_coloured (slot t i) d c w) in
-    omega (arith, change, was, is)
-
-pub grey_count-set : (t : Table) (i : ℕ) (c d : Colour) → mark t i ≡ Has c
-    → sum_by if_grey (recoloured t i d) + grey_one (Has c) ≡ sum_by if_grey t.slots + grey_one (Has d)
-grey_count-set t i c d w =
-    let within : i < length t.slots = occupied_within t.slots i c w in
-    let change = sum_by-set if_grey t.slots i (coloured d (slot t i)) None within in
-    let was : if_grey (slot t i) ≡ grey_one (Has c) = ap grey_one w in
-    let is : if_grey (coloured d (slot t i)) ≡ grey_one (Has d) = ap grey_one (mark_coloured (slot t i) d c w) in
     omega (arith, change, was, is)
 
 -- A list of grey indices without repeats is no longer than the number of grey slots.

@@ -1,13 +1,13 @@
--- Lists of slot indices that stand in one link field of each slot; `end`, the number of slots, ends them.
+-- lists of slot indices through one link field of each slot; `end`, the number of slots, ends them
 use Rattle.std.specs.Prelude.{◌≡◌, ℕ, zero, suc, ◌<◌, List, [], ◌∷◌, cond, eqb}
 use Rattle.std.proofs.Common.{get_or}
 
--- The indices that the links lead to from a head, at most so many.
+-- the indices that the links lead to from a head, at most so many
 abbrev pub walk : ℕ → List ℕ → ℕ → ℕ → List ℕ
 walk end links zero head = []
 walk end links (suc n) head = cond (eqb head end) [] (head ∷ walk end links n (get_or links head end))
 
--- The links lead from the head over these indices, and end there.
+-- the links lead from the head over these indices, and end there
 abbrev pub Chain : ℕ → List ℕ → ℕ → List ℕ → Type 0
 Chain end links head [] = head ≡ end
 Chain end links head (j ∷ l) = (head ≡ j) × (j < end) × Chain end links (get_or links j end) l

@@ -1,4 +1,4 @@
--- What contracts see of a table of slots.
+-- what contracts see of a table of slots
 use Rattle.std.specs.Prelude.{◌≡◌, ℕ, zero, suc, ◌<◌, List, [], ◌∷◌, length, Option, Some, None, sum_by}
 use Rattle.std.proofs.Common.{get_or, set}
 use Rattle.tg_rights.specs.Membership.{Contains, Distinct}
@@ -6,17 +6,17 @@ use Rattle.tg_slots.specs.declared.slots.Occupant.{Occupant}
 use Rattle.tg_slots.specs.declared.colour.Colour.{Colour}
 use Rattle.tg_slots.specs.declared.colour.Colour.TheVariants.{White, Grey, Black}
 
--- The slots by index, the free indices and the waiting grey ones, each list from its first.
+-- the slots by index, the free indices and the waiting grey ones, each list from its first
 pub record Table : Type 0 where
   pub slots : List (Option Occupant)
   pub free : List ℕ
   pub grey : List ℕ
 
--- The vertex in a slot.
+-- the vertex in a slot
 abbrev pub slot : Table → ℕ → Option Occupant
 slot t i = get_or t.slots i None
 
--- A slot is free, or has the colour of its vertex.
+-- a slot is free, or has the colour of its vertex
 pub data Mark : Type 0 where
   Free : Mark
   Has : Colour → Mark
@@ -28,7 +28,7 @@ mark_of (Some o) = Has o.colour
 abbrev pub mark : Table → ℕ → Mark
 mark t i = mark_of (slot t i)
 
--- A vertex, if there is one, with another colour, and with another text.
+-- a vertex, if there is one, with another colour, and with another text
 abbrev pub coloured : Colour → Option Occupant → Option Occupant
 coloured c None = None
 coloured c (Some o) = Some (record o { colour = c })
@@ -37,16 +37,16 @@ abbrev pub with_text : List ℕ → Option Occupant → Option Occupant
 with_text x None = None
 with_text x (Some o) = Some (record o { text = x })
 
--- A field of the vertex in a slot, where there is one.
+-- a field of the vertex in a slot, where there is one
 abbrev pub in_slot : {X : Type 0} → (Occupant → X) → Option Occupant → Option X
 in_slot f None = None
 in_slot f (Some o) = Some (f o)
 
--- The slots after one of them has taken a colour.
+-- the slots after one of them has taken a colour
 abbrev pub recoloured : Table → ℕ → Colour → List (Option Occupant)
 recoloured t i c = set t.slots i (coloured c (slot t i))
 
--- One for a free slot, and one for a grey one.
+-- one for a free slot, and one for a grey one
 abbrev pub if_free : Option Occupant → ℕ
 if_free None = 1
 if_free (Some o) = 0
@@ -60,7 +60,7 @@ grey_one (Has Black) = 0
 abbrev pub if_grey : Option Occupant → ℕ
 if_grey o = grey_one (mark_of o)
 
--- The free list has each free index once and no other, the grey list has grey ones alone, each once.
+-- the free list has each free index once and no other, the grey list has grey ones alone, each once
 pub record IsSound (t : Table) : Type 0 where
   pub free_listed : (i : ℕ) → i < length t.slots → mark t i ≡ Free → Contains t.free i
   pub listed_free : (i : ℕ) → Contains t.free i → (i < length t.slots) × (mark t i ≡ Free)
@@ -69,7 +69,7 @@ pub record IsSound (t : Table) : Type 0 where
   pub listed_grey : (i : ℕ) → Contains t.grey i → (i < length t.slots) × (mark t i ≡ Has Grey)
   pub grey_once : Distinct t.grey
 
--- n free slots, and the indices from i on.
+-- n free slots, and the indices from i on
 abbrev pub nones : ℕ → List (Option Occupant)
 nones zero = []
 nones (suc n) = None ∷ nones n

@@ -1,3 +1,4 @@
+//! The table of slots, with the two lists through its link fields.
 ghost use Rattle.std.specs.Prelude.{◌≡◌, ◌≢◌, ◌<◌, ◌≤◌, [], ◌∷◌, length, MatchResult, MatchOption, IsTrue, ◌↔◌, set, ◌⊎◌, IfSome, IfOk, None, Some};
 ghost use Rattle.tg_rights.specs.Membership.{Contains};
 ghost use Rattle.tg_slots.specs.Table.{Table, Free, Has, slot, mark, coloured, recoloured, with_text, in_slot, IsSound, fresh};
@@ -16,7 +17,7 @@ pub struct Occupant {
     pub text: Text,
 }
 
-// A slot, and the next one of the list that it stands in.
+// A slot, and the next one of its list.
 #[derive(Drop)]
 struct Entry {
     occupant: Option<Occupant>,
@@ -57,7 +58,7 @@ impl Model for Slots {
 }
 
 impl Slots {
-    /// That many slots, 1 to 65,536, all free, in the order of their indices. The only error is want of memory.
+    /// That many slots, 1 to 65,536, all free, in the order of their indices. The only error is that an allocation failed.
     pub fn new(alloc: Global, count: u32) -> Result<Slots, AllocError>
         requires low { 1 ≤ count }
         requires high { count ≤ 65536 }
@@ -78,7 +79,7 @@ impl Slots {
         })
     }
 
-    /// Tells a caller what always holds of the table; it does nothing.
+    /// No-op; its postcondition exposes the invariant.
     pub fn soundness(&self)
         ensures sound { IsSound self.now }
         ensures size { length self.now.slots ≤ 65536 }

@@ -1,7 +1,7 @@
 use Rattle.std.proofs.Common.{refl}
 use Rattle.tg_collect.specs.declared.machine.Progress.TheVariants.{Idle}
 use Rattle.tg_collect.specs.OpeningSteps.{Blank}
-use Rattle.tg_collect.proofs.OpeningLemmas.{blank_whole, blank_opens, blank_triples}
+use Rattle.tg_collect.proofs.OpeningLemmas.{blank_whole, blank_opens, blank_free, blank_triples}
 use Rattle.tg_collect.proofs.machine.Machine.blank.Goals as goal
 
 is_blank : (c : goal.In_ok-pending) → Blank (record { heap = c.in_ok-heap.heap; progress = Idle; principals = c.in_ok-principals.principals; pending = c.in_ok-pending.pending }) c.args.slots c.args.cells
@@ -24,3 +24,6 @@ returns-clause-opens c = blank_opens _ c.args.slots c.args.cells (is_blank c)
 
 pub returns-clause-triples : goal.returns-clause-triples
 returns-clause-triples c = blank_triples _ c.args.slots c.args.cells (is_blank c)
+
+pub returns-clause-free : goal.returns-clause-free
+returns-clause-free c = blank_free _ c.args.slots c.args.cells (is_blank c)

@@ -2,7 +2,7 @@ use Rattle.std.proofs.Common.{subst, ℕ}
 use Rattle.tg_collect.specs.Sessions.{EdgeStored}
 use Rattle.tg_collect.specs.Stored.{stored}
 use Rattle.tg_collect.proofs.CallLemmas.{placed_name}
-use Rattle.tg_collect.proofs.StoreLemmas.{place_named}
+use Rattle.tg_collect.proofs.SetLemmas.{place_named}
 use Rattle.tg_collect.proofs.EdgeCalls.{after_adds}
 use Rattle.tg_collect.proofs.machine.Machine.link_new.Goals as goal
 

@@ -1,6 +1,8 @@
-use Rattle.std.proofs.Common.{sym, ◌∙◌, ap, subst, ◌≡◌, List, ℕ, [], Ok, length, arith}
+use Rattle.std.proofs.Common.{sym, ◌∙◌, ap, subst, ◌≡◌, List, ℕ, [], ◌∷◌, Ok, length, arith}
 use Rattle.std.proofs.lemmas.List.{length-map}
 use Rattle.tg_collect.specs.declared.machine.Root.{Root}
+use Rattle.tg_rights.specs.declared.kind.Kind.{Kind}
+use Rattle.tg_collect.specs.declared.machine.Machine.{Machine}
 use Rattle.tg_rights.specs.declared.kind.Kind.TheVariants.{Subject}
 use Rattle.tg_collect.specs.declared.note.Phase.TheVariants as phase
 use Rattle.tg_collect.specs.Names.{Whole, IsNamed}
@@ -10,7 +12,12 @@ use Rattle.tg_collect.specs.Stored.{Stored, stored}
 use Rattle.tg_collect.proofs.StoreLemmas.{is_store}
 use Rattle.tg_collect.proofs.VertexCalls.{after_places, fresh_name, VertexPlaced}
 use Rattle.tg_collect.proofs.OpeningLemmas.{principal_whole, principal_opened, idle_progress}
+use Rattle.tg_collect.proofs.SetLemmas.{named_place}
 use Rattle.tg_collect.proofs.machine.Machine.open_principal.Goals as goal
+
+-- The vertex takes the first free slot.
+first_free : (m n : Machine) (serial : ℕ) (kind : Kind) (text : List ℕ) (i : ℕ) → Places m serial kind text (Ok i) n → m.heap.table.free ≡ i ∷ n.heap.table.free
+first_free m n serial kind text i p = p.1 ∙ ap (λ (l : List ℕ). i ∷ l) (sym (ap (λ (x : Machine). x.heap.table.free) p.2))
 
 placed : (c : goal.In_ok-push-in-Ok) → Whole c.place_vertex.new.self × VertexPlaced (stored c.args.self.now) (stored c.place_vertex.new.self) c.args.serial Subject [] c.in-Ok.slot
     × (IsNamed c.place_vertex.new.self.heap c.in-Ok.slot c.args.serial × IsHeld c.place_vertex.new.self c.in-Ok.slot)
@@ -29,4 +36,11 @@ returns-clause-whole c =
     (let n = length-map c.place_vertex.new.self.principals.items (λ (r : Root). r.serial) in let same = ap (λ (z : Stored). length z.principals) a.1.is in let few = c.requires.few in omega (arith, n, same, few)) c.in_ok-push-in-Ok.ensures.items
 
 pub returns-clause-opened : goal.returns-clause-opened
-returns-clause-opened c = principal_opened (stored c.args.self.now) c.place_vertex.new.self c.push.new.self c.in-Ok.slot c.args.serial c.requires.phase (placed c).1 c.in_ok-push-in-Ok.ensures.items
+returns-clause-opened c =
+    let a = placed c in
+    let m = c.place_vertex.new.self in (
+      c.in-Ok.slot,
+      first_free c.args.self.now m c.args.serial Subject c.empty.result c.in-Ok.slot c.in-Ok.ensures.step,
+      principal_opened (stored c.args.self.now) m c.push.new.self c.in-Ok.slot c.args.serial c.requires.phase a.1
+          (named_place m.progress m.heap c.in-Ok.slot c.args.serial a.2.0 a.2.1) c.in_ok-push-in-Ok.ensures.items,
+    )

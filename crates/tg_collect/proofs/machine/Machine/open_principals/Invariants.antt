@@ -10,5 +10,5 @@ abbrev pub invariant-loop-serial : goal.invariant-loop-serial
 invariant-loop-serial l = record {
   whole : Whole l.self;
   so_far : (count : ℕ) → l.graph.vertices ≡ subjects count → count ≤ length (stored l.fn.self).marks
-      → SoFar (stored l.self) (stored l.fn.self).triples count l.serial (length (stored l.fn.self).marks) (stored l.fn.self).cells;
+      → SoFar (stored l.self) l.self.heap.table.free (stored l.fn.self).triples count l.serial (length (stored l.fn.self).marks) (stored l.fn.self).cells;
 }

@@ -1,4 +1,4 @@
-use Rattle.std.proofs.Common.{arith}
+use Rattle.std.proofs.Common.{arith, refl}
 use Rattle.tg_collect.proofs.MachineLemmas.{scan_split, stands_here, owned_here, kept-scan}
 use Rattle.tg_collect.proofs.StepLines.{steps_scans}
 use Rattle.tg_collect.proofs.machine.Machine.scan_cell.Goals as goal
@@ -36,3 +36,11 @@ returns-clause-line c =
     let target = c.target-target.ensures c.args.slot s.before s.edge s.after stands in
     let next = c.next-next.ensures c.args.slot s.before s.edge s.after stands in
     rw (c.shade.ensures, target, next) (steps_scans c.args.self.now c.args.slot c.args.cursor s c.requires.at)
+
+pub returns-clause-step : goal.returns-clause-step
+returns-clause-step c =
+    let s = scan_split c.args.self.now c.args.slot c.args.cursor c.requires.at c.requires.kept in
+    let stands = stands_here c.args.self.now.heap c.args.slot c.args.cursor s in
+    let target = c.target-target.ensures c.args.slot s.before s.edge s.after stands in
+    let next = c.next-next.ensures c.args.slot s.before s.edge s.after stands in
+    (s.before, s.edge, s.after, s.whole, s.here, rw (c.shade.ensures, target, next) refl)

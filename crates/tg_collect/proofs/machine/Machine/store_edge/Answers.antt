@@ -4,7 +4,7 @@ use Rattle.tg_collect.specs.Sessions.{EdgeStored}
 use Rattle.tg_collect.specs.Stored.{stored}
 use Rattle.tg_collect.specs.Views.{IsEdgeIn, serial_at}
 use Rattle.tg_collect.proofs.CallLemmas.{placed_name}
-use Rattle.tg_collect.proofs.StoreLemmas.{place_named}
+use Rattle.tg_collect.proofs.SetLemmas.{place_named}
 use Rattle.tg_collect.proofs.EdgeCalls.{after_adds, not_edge}
 use Rattle.tg_collect.proofs.NameLines.{one_name}
 use Rattle.tg_collect.proofs.machine.Machine.store_edge.Goals as goal
