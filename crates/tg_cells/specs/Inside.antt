@@ -1,6 +1,7 @@
 -- the lists that linked cells represent: one chain from each owner's head, and one row of free cells
 use Rattle.std.specs.Prelude.{◌≡◌, ℕ, ◌<◌, ◌≤◌, List, length, map}
 use Rattle.std.proofs.Common.{get_or}
+use Rattle.tg_rights.specs.declared.limits.TheConstants.{MAX_CELLS, MAX_SLOTS}
 use Rattle.tg_rights.specs.Membership.{Distinct}
 use Rattle.tg_cells.specs.declared.cells.Cell.{Cell}
 use Rattle.tg_cells.specs.declared.cells.Cells.TheInside.{Inside}
@@ -33,5 +34,5 @@ view_of s = record {
 
 pub record IsInside (s : Inside) : Type 0 where
   pub shown : Shows s (view_of s)
-  pub most : length s.cells.items ≤ 1048576
-  pub most_owners : length s.heads.items ≤ 65536
+  pub most : length s.cells.items ≤ MAX_CELLS
+  pub most_owners : length s.heads.items ≤ MAX_SLOTS

@@ -1,5 +1,6 @@
 //! The cells: arrays of numbers, and a list through them for each owner.
 ghost use Rattle.std.specs.Prelude.{◌≡◌, ℕ, ◌+◌, ◌<◌, ◌≤◌, List, [], ◌∷◌, ◌++◌, length, MatchOption, MatchBool, IfOk, Some, None, cond, ltb, set, false};
+ghost use Rattle.tg_rights.specs.declared.limits.TheConstants.{MAX_CELLS, MAX_SLOTS};
 ghost use Rattle.tg_rights.specs.Letters.{is_none};
 ghost use Rattle.tg_cells.specs.Lists.{CellLists, Edge, owned, first_cell, Stands, IsLinked, IsLinkedBy, HasNone, IsFresh, Found, IsCells};
 ghost use Rattle.tg_cells.specs.Chain.{edge_of, with_previous, with_next};
@@ -96,9 +97,9 @@ impl Cells {
     /// an allocation failed.
     pub fn new(alloc: Global, owners: u32, count: u32) -> Result<Cells, AllocError>
         requires low_owners { 1 ≤ owners }
-        requires high_owners { owners ≤ 65536 }
+        requires high_owners { owners ≤ MAX_SLOTS }
         requires low { 1 ≤ count }
-        requires high { count ≤ 1048576 }
+        requires high { count ≤ MAX_CELLS }
         ensures { IfOk result (λ c. (length c.lists ≡ owners) × (c.free ≡ count) × (c.size ≡ count) × ((i : ℕ) → owned c.lists i ≡ [])) }
     {
         let heads = vec![in alloc; count; owners as usize]?;
@@ -124,8 +125,8 @@ impl Cells {
     /// No-op; its postcondition exposes the invariant.
     pub fn soundness(&self)
         ensures sound { IsCells self.now }
-        ensures size { self.now.size ≤ 1048576 }
-        ensures owners { length self.now.lists ≤ 65536 }
+        ensures size { self.now.size ≤ MAX_CELLS }
+        ensures owners { length self.now.lists ≤ MAX_SLOTS }
     {
         let _ = &self.cells;
     }

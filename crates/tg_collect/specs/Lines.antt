@@ -1,5 +1,6 @@
 -- the lines of the collector's table, over the heap and the progress
 use Rattle.std.specs.Prelude.{◌≡◌, ℕ, ◌+◌, ◌<◌, ◌≤◌, List, [], ◌∷◌, ◌++◌, length, Option, Some, None, Bool, true, false, get_or}
+use Rattle.tg_rights.specs.declared.limits.TheConstants.{MAX_PRINCIPALS}
 use Rattle.tg_slots.specs.Table.{Table, Free, Has}
 use Rattle.tg_slots.specs.declared.colour.Colour.TheVariants.{White, Black}
 use Rattle.tg_heap.specs.Graph.{HeapGraph, edges, mark_at, shaded, painted}
@@ -23,7 +24,7 @@ pub record IsFirstWhite (pending : List (Option Root)) (h : HeapGraph) (seat : �
 
 -- one step: heap and progress before and after, the slots freed, and whether the cycle ended
 pub data Line (principals : List Root) (pending : List (Option Root)) (h : HeapGraph) : Progress → HeapGraph → Progress → ℕ → Bool → Type 0 where
-  starts : length principals ≤ 64 → Line principals pending h Idle (record h { table = all_shaded principals h.table }) (Marking None) 0 false
+  starts : length principals ≤ MAX_PRINCIPALS → Line principals pending h Idle (record h { table = all_shaded principals h.table }) (Marking None) 0 false
   scans : (slot cursor : ℕ) (before : List Edge) (e : Edge) (after : List Edge) → edges h slot ≡ before ++ e ∷ after → e.cell ≡ cursor
       → Line principals pending h (Marking (Some (record { slot = slot; cursor = Some cursor }))) (record h { table = shaded h.table e.target }) (Marking (Some (record { slot = slot; cursor = first_cell after }))) 0 false
   blackens : (slot : ℕ) → Line principals pending h (Marking (Some (record { slot = slot; cursor = None }))) (record h { table = painted h.table slot Black }) (Marking None) 0 false

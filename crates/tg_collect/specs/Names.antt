@@ -1,5 +1,6 @@
 -- what names say: each serial is in one slot, and edges and roots name the serial of their slot
 use Rattle.std.specs.Prelude.{◌≡◌, ◌≢◌, ◌≤◌, ℕ, length, Some, ◌⊎◌}
+use Rattle.tg_rights.specs.declared.limits.TheConstants.{MAX_PRINCIPALS, SEATS}
 use Rattle.tg_rights.specs.Membership.{Contains}
 use Rattle.tg_slots.specs.Table.{slot}
 use Rattle.tg_slots.specs.declared.slots.Occupant.{Occupant}
@@ -24,7 +25,7 @@ pub record Names (h : HeapGraph) (p : Progress) (RootOf : ℕ → ℕ → Type 0
 
 -- the invariant of the store
 pub record Whole (m : Machine) : Type 0 where
-  pub seats : length m.pending.items ≡ 64
-  pub few : length m.principals.items ≤ 64
+  pub seats : length m.pending.items ≡ SEATS
+  pub few : length m.principals.items ≤ MAX_PRINCIPALS
   pub kept : Invariant m
   pub names : Names m.heap m.progress (IsRootOf m)

@@ -2,6 +2,7 @@
 use Rattle.std.specs.Prelude.{◌≡◌, ℕ, ◌+◌, ◌<◌, ◌≤◌, List, [], ◌∷◌, ◌++◌, length, Some, None, ◌⊎◌, get_or, set, true}
 use Rattle.std.specs.FinMap as finmap
 use Rattle.std.specs.FinSet as finset
+use Rattle.tg_rights.specs.declared.limits.TheConstants.{SEATS}
 use Rattle.tg_rights.specs.Letters.{Letters}
 use Rattle.tg_rights.specs.declared.kind.Kind.TheVariants.{Subject}
 use Rattle.tg_slots.specs.Table.{Has, fresh, indices}
@@ -25,7 +26,7 @@ pub record Blank (m : Machine) (slots cells : ℕ) : Type 0 where
   pub lists : (i : ℕ) → edges m.heap i ≡ []
   pub progress : m.progress ≡ Idle
   pub principals : m.principals.items ≡ []
-  pub seats : length m.pending.items ≡ 64
+  pub seats : length m.pending.items ≡ SEATS
   pub idle : (k : ℕ) → get_or m.pending.items k None ≡ None
 
 -- one more principal, white, in a slot that was free

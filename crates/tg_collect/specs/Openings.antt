@@ -1,5 +1,6 @@
 -- the store that a graph opens
 use Rattle.std.specs.Prelude.{◌≡◌, ℕ, zero, suc, ◌+◌, ◌<◌, ◌≤◌, List, [], ◌∷◌, ◌++◌, length, Some, None, ◌⊎◌, get_or}
+use Rattle.tg_rights.specs.declared.limits.TheConstants.{MAX_CELLS, MAX_PRINCIPALS, MAX_SLOTS}
 use Rattle.tg_slots.specs.Table.{Free, Has}
 use Rattle.tg_slots.specs.declared.colour.Colour.TheVariants.{White}
 use Rattle.tg_graph.specs.Protection.{Protection}
@@ -19,7 +20,7 @@ first_serials (suc count) = first_serials count ++ suc count ∷ []
 -- a graph that a store can open: at most 64 subjects with the serials from 1 on in a row, which fit with their edges
 pub record IsOpening (G : Protection) (all_slots all_cells : ℕ) : Type 0 where
   pub count : ℕ
-  pub few : count ≤ 64
+  pub few : count ≤ MAX_PRINCIPALS
   pub vertices : G.vertices ≡ subjects count
   pub slots : count ≤ all_slots
   pub cells : edge_count G ≤ all_cells
@@ -49,9 +50,9 @@ pub record Opened (v : Stored) (G : Protection) (all_slots all_cells : ℕ) : Ty
 -- a graph that a store of so many slots and cells can open, and these in their range
 pub record Fitted (G : Protection) (all_slots all_cells : ℕ) : Type 0 where
   pub low_slots : 1 ≤ all_slots
-  pub high_slots : all_slots ≤ 65536
+  pub high_slots : all_slots ≤ MAX_SLOTS
   pub low_cells : 1 ≤ all_cells
-  pub high_cells : all_cells ≤ 1048576
+  pub high_cells : all_cells ≤ MAX_CELLS
   pub opening : IsOpening G all_slots all_cells
 
 -- a configuration without a fault opens a graph that a store can open, with the configuration's slots and cells

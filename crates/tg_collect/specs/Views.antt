@@ -4,6 +4,7 @@ use Rattle.std.specs.Option.{unwrap_or}
 use Rattle.std.specs.FinMap as finmap
 use Rattle.std.specs.FinSet as finset
 use Rattle.std.specs.Ordering.{nat_cmp}
+use Rattle.tg_rights.specs.declared.limits.TheConstants.{MAX_PRINCIPALS, SEATS}
 use Rattle.tg_rights.specs.Letters.{Right}
 use Rattle.tg_rights.specs.Membership.{Contains}
 use Rattle.tg_slots.specs.Table as table
@@ -67,8 +68,8 @@ pub record IsStore (v : Stored) : Type 0 where
   pub marked_black : (i x : ℕ) → place v i ≡ Some x → mark_in v i ≡ Has Black → InSet v.black x
   pub black_marked : (i x : ℕ) → place v i ≡ Some x → InSet v.black x → mark_in v i ≡ Has Black
   pub free_marks : v.free_slots ≡ sum_by free_one v.marks
-  pub seats : length v.pending ≡ 64
-  pub few : length v.principals ≤ 64
+  pub seats : length v.pending ≡ SEATS
+  pub few : length v.principals ≤ MAX_PRINCIPALS
   pub slots : (next : ℕ) → v.free_slots + vertex_count (held v next) + finset.len v.parked ≡ length v.marks
   pub few_edges : (next : ℕ) → v.free_cells + edge_count (held v next) ≤ v.cells
   pub all_cells : ((x : ℕ) → InSet v.parked x → ⊥) → (next : ℕ) → v.free_cells + edge_count (held v next) ≡ v.cells
@@ -97,7 +98,7 @@ Unparks v w (suc n) = (n ≡ 0) × (x : ℕ) × InSet v.parked x × (w.parked �
 
 -- how many marks a step may change, by the phase before it
 abbrev pub most_marks : Phase → ℕ
-most_marks Idle = 64
+most_marks Idle = MAX_PRINCIPALS
 most_marks Mark = 1
 most_marks Sweep = 1
 

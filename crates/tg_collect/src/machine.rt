@@ -1,6 +1,7 @@
 //! The heap with its roots and the collector's progress: one private method for each line of the step table, and the session steps.
 ghost use Rattle.std.specs.Prelude.{◌≡◌, ◌≢◌, ℕ, ◌<◌, ◌≤◌, List, [], ◌∷◌, ◌++◌, length, MatchOption, MatchBool, MatchResult, ◌⊎◌, ◌+◌, get_or, set, false, true, cond, None, Some};
 ghost use Rattle.std.specs.Bool.{OnFalse, OnTrue};
+ghost use Rattle.tg_rights.specs.declared.limits.TheConstants.{MAX_PRINCIPALS, MAX_SLOTS};
 ghost use Rattle.tg_rights.specs.Letters.{includes, is_none};
 ghost use Rattle.tg_slots.specs.Table.{Table, Free, Has, mark, slot, with_text};
 ghost use Rattle.tg_slots.specs.declared.slots.Occupant.{Occupant};
@@ -116,7 +117,7 @@ impl Machine {
         requires at { self.old.progress ≡ Progress.Sweeping at }
         requires free { mark_at self.old.heap at ≡ Free }
         requires inside { at < length self.old.heap.table.slots }
-        requires size { length self.old.heap.table.slots ≤ 65536 }
+        requires size { length self.old.heap.table.slots ≤ MAX_SLOTS }
         requires kept { Invariant self.old }
         ensures kept { Invariant self.new }
         ensures line { Steps self.old self.new 0 false }
@@ -130,7 +131,7 @@ impl Machine {
         requires at { self.old.progress ≡ Progress.Sweeping at }
         requires black { mark_at self.old.heap at ≡ Has Colour.Black }
         requires inside { at < length self.old.heap.table.slots }
-        requires size { length self.old.heap.table.slots ≤ 65536 }
+        requires size { length self.old.heap.table.slots ≤ MAX_SLOTS }
         requires kept { Invariant self.old }
         ensures kept { Invariant self.new }
         ensures line { Steps self.old self.new 0 false }
@@ -145,7 +146,7 @@ impl Machine {
         requires at { self.old.progress ≡ Progress.Sweeping at }
         requires white { mark_at self.old.heap at ≡ Has Colour.White }
         requires inside { at < length self.old.heap.table.slots }
-        requires size { length self.old.heap.table.slots ≤ 65536 }
+        requires size { length self.old.heap.table.slots ≤ MAX_SLOTS }
         requires kept { Invariant self.old }
         ensures kept { Invariant self.new }
         ensures line { Steps self.old self.new (cond result 1 0) false }
@@ -306,7 +307,7 @@ impl Machine {
     /// Starts a cycle: shades all principals from the last to the first.
     fn start(&mut self)
         requires at { self.old.progress ≡ Progress.Idle }
-        requires few { length self.old.principals.items ≤ 64 }
+        requires few { length self.old.principals.items ≤ MAX_PRINCIPALS }
         requires kept { Invariant self.old }
         ensures kept { Invariant self.new }
         ensures line { Steps self.old self.new 0 false }
@@ -335,7 +336,7 @@ impl Machine {
 
     /// One step of the collector.
     pub fn collect(&mut self) -> Note
-        requires few { length self.old.principals.items ≤ 64 }
+        requires few { length self.old.principals.items ≤ MAX_PRINCIPALS }
         requires kept { Invariant self.old }
         ensures kept { Invariant self.new }
         ensures line { Steps self.old self.new result.freed result.ended }

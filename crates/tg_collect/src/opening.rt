@@ -10,23 +10,21 @@ ghost use Rattle.tg_collect.specs.Openings.{IsOpening, Opens, Opened};
 ghost use Rattle.tg_collect.specs.OpeningSteps.{Blank, OpensFirst, IsFreeFrom, PrincipalsOpened, EdgeOpened, OpensEdges};
 ghost use Rattle.tg_collect.specs.declared.note.Phase.TheVariants as phase;
 ghost use Rattle.std.specs.FinSet as finset;
+ghost use Rattle.tg_rights.specs.declared.limits.TheConstants.{MAX_CELLS, MAX_PRINCIPALS, MAX_SLOTS, SEATS};
 
 use crate::machine::{Machine, Progress, Root};
 use std::alloc::{AllocError, Global};
 use tg_graph::Graph;
 use tg_heap::Heap;
-use tg_rights::{Kind, Rights, Text};
-
-/// At most this many principals, and as many seats.
-const MOST: usize = 64;
+use tg_rights::{Kind, MAX_PRINCIPALS, Rights, SEATS, Text};
 
 impl Machine {
     /// The machine of a graph: its vertices, which are the principals, and then its edges by rising pairs of their ends.
     pub fn open(alloc: Global, graph: &Graph, slots: u32, cells: u32) -> Result<Machine, AllocError>
         requires low_slots { 1 ≤ slots }
-        requires high_slots { slots ≤ 65536 }
+        requires high_slots { slots ≤ MAX_SLOTS }
         requires low_cells { 1 ≤ cells }
-        requires high_cells { cells ≤ 1048576 }
+        requires high_cells { cells ≤ MAX_CELLS }
         requires opening { IsOpening graph.now slots cells }
         ensures whole { IfOk result Whole }
         ensures opened { IfOk result (λ m. Opened (stored m) graph.now slots cells) }
@@ -41,9 +39,9 @@ impl Machine {
     /// Free slots and free cells, with no principal and no target, and room for 64 of each.
     fn blank(alloc: Global, slots: u32, cells: u32) -> Result<Machine, AllocError>
         requires low_slots { 1 ≤ slots }
-        requires high_slots { slots ≤ 65536 }
+        requires high_slots { slots ≤ MAX_SLOTS }
         requires low_cells { 1 ≤ cells }
-        requires high_cells { cells ≤ 1048576 }
+        requires high_cells { cells ≤ MAX_CELLS }
         ensures blank { IfOk result (λ m. Blank m slots cells) }
         ensures whole { IfOk result Whole }
         ensures opens { IfOk result (λ m. Opens (stored m) 0 slots cells) }
@@ -52,7 +50,7 @@ impl Machine {
     {
         let heap = Heap::new(alloc, slots, cells)?;
         heap.soundness();
-        let principals = Vec::with_capacity(alloc, MOST)?;
+        let principals = Vec::with_capacity(alloc, MAX_PRINCIPALS as usize)?;
         let pending = empty_seats(alloc)?;
         Ok(Machine {
             heap,
@@ -71,7 +69,7 @@ impl Machine {
         ensures whole { OnOk result (Whole self.new) }
         ensures opened { OnOk result (PrincipalsOpened (stored self.old) (stored self.new) graph.now) }
     {
-        for serial in 1..65u64 {
+        for serial in 1..MAX_PRINCIPALS + 1 {
             if graph.kind(serial).is_some() {
                 self.open_principal(alloc, serial)?;
             }
@@ -85,7 +83,7 @@ impl Machine {
         requires phase { (stored self.old).phase ≡ phase.Idle }
         requires unheld { IsHeldIn (stored self.old) serial → ⊥ }
         requires room { (stored self.old).free_slots ≢ 0 }
-        requires few { length (stored self.old).principals < 64 }
+        requires few { length (stored self.old).principals < MAX_PRINCIPALS }
         ensures whole { OnOk result (Whole self.new) }
         ensures opened { OnOk result (OpensFirst self.old self.new serial) }
     {
@@ -169,11 +167,11 @@ impl Machine {
 
 /// 64 seats without a target.
 fn empty_seats(alloc: Global) -> Result<Vec<Option<Root>>, AllocError>
-    ensures length { IfOk result (λ seats. length seats.items ≡ 64) }
+    ensures length { IfOk result (λ seats. length seats.items ≡ SEATS) }
     ensures idle { IfOk result (λ seats. (k : ℕ) → get_or seats.items k None ≡ None) }
 {
-    let mut seats = Vec::with_capacity(alloc, MOST)?;
-    while seats.len() < MOST {
+    let mut seats = Vec::with_capacity(alloc, SEATS as usize)?;
+    while seats.len() < SEATS as usize {
         seats.push(None)?;
     }
     Ok(seats)

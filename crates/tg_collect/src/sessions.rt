@@ -2,6 +2,7 @@
 ghost use Rattle.std.specs.Prelude.{◌≡◌, ◌≢◌, ℕ, ◌<◌, ◌≤◌, Option, Some, None, MatchOption, OnOk, OnErr, IfOk, IfErr, IsSome, true, false, length, map};
 ghost use Rattle.std.specs.Option.{option_map};
 ghost use Rattle.std.specs.FinMap as finmap;
+ghost use Rattle.tg_rights.specs.declared.limits.TheConstants.{SEATS};
 ghost use Rattle.tg_rights.specs.Letters.{is_none, includes, none};
 ghost use Rattle.tg_rights.specs.Membership.{Contains};
 ghost use Rattle.tg_graph.specs.Protection.{label};
@@ -99,7 +100,7 @@ impl Machine {
     /// The seat's pending target.
     pub fn pending(&self, seat: u64) -> Option<u64>
         requires whole { Whole self.now }
-        requires seat { seat < 64 }
+        requires seat { seat < SEATS }
         ensures { result ≡ pending_of (stored self.now) seat }
     {
         match self.pending[seat as usize] {
@@ -111,7 +112,7 @@ impl Machine {
     /// The shade step of a seat.
     pub fn shade_target(&mut self, seat: u64) -> Option<u64>
         requires whole { Whole self.old }
-        requires seat { seat < 64 }
+        requires seat { seat < SEATS }
         ensures whole { Whole self.new }
         ensures shaded { Shaded (stored self.old) (stored self.new) seat result }
     {
@@ -127,7 +128,7 @@ impl Machine {
         rights: Rights,
     ) -> Result<(), HeapFull>
         requires whole { Whole self.old }
-        requires seat { seat < 64 }
+        requires seat { seat < SEATS }
         requires idle { pending_of (stored self.old) seat ≡ None }
         requires source { IsSome (place (stored self.old) id) }
         requires target { IsSome (place (stored self.old) target) }
@@ -168,7 +169,7 @@ impl Machine {
         text: Text,
     ) -> Result<(), (HeapFull, Text)>
         requires whole { Whole self.old }
-        requires seat { seat < 64 }
+        requires seat { seat < SEATS }
         requires idle { pending_of (stored self.old) seat ≡ None }
         requires source { IsSome (place (stored self.old) id) }
         requires some { is_none rights ≡ false }
@@ -200,7 +201,7 @@ impl Machine {
     /// Puts the edge to a new vertex, where a cell is free.
     pub fn link_new(&mut self, seat: u64, id: u32, target: Root, rights: Rights)
         requires whole { Whole self.old }
-        requires seat { seat < 64 }
+        requires seat { seat < SEATS }
         requires idle { pending_of (stored self.old) seat ≡ None }
         requires source { IsSome (place (stored self.old) id) }
         requires target { place (stored self.old) target.slot ≡ Some target.serial }

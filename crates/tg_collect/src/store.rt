@@ -3,6 +3,7 @@ ghost use Rattle.std.specs.Prelude.{◌≡◌, ◌≢◌, ℕ, ◌<◌, ◌≤�
 ghost use Rattle.std.specs.Bool.{OnFalse};
 ghost use Rattle.std.specs.Option.{option_map};
 ghost use Rattle.std.specs.FinMap as finmap;
+ghost use Rattle.tg_rights.specs.declared.limits.TheConstants.{MAX_CELLS, MAX_SLOTS, SEATS};
 ghost use Rattle.tg_rights.specs.Letters.{is_none, includes, none};
 ghost use Rattle.tg_rights.specs.Membership.{Contains};
 ghost use Rattle.tg_graph.specs.Protection.{label};
@@ -51,9 +52,9 @@ impl Store {
     /// pairs of their ends. All memory is allocated here; the only error is that an allocation failed.
     pub fn new(alloc: Global, graph: &Graph, slots: u32, cells: u32) -> Result<Store, AllocError>
         requires low_slots { 1 ≤ slots }
-        requires high_slots { slots ≤ 65536 }
+        requires high_slots { slots ≤ MAX_SLOTS }
         requires low_cells { 1 ≤ cells }
-        requires high_cells { cells ≤ 1048576 }
+        requires high_cells { cells ≤ MAX_CELLS }
         requires opening { IsOpening graph.now slots cells }
         ensures { IfOk result (λ store. Opened store graph.now slots cells) }
     {
@@ -64,8 +65,8 @@ impl Store {
     /// No-op; its postcondition exposes the invariant.
     pub fn soundness(&self)
         ensures sound { IsStore self.now }
-        ensures slots { length self.now.marks ≤ 65536 }
-        ensures cells { self.now.cells ≤ 1048576 }
+        ensures slots { length self.now.marks ≤ MAX_SLOTS }
+        ensures cells { self.now.cells ≤ MAX_CELLS }
     {
         self.machine.heap.soundness();
     }
@@ -114,7 +115,7 @@ impl Store {
 
     /// The seat's pending target.
     pub fn pending(&self, seat: u64) -> Option<u64>
-        requires { seat < 64 }
+        requires { seat < SEATS }
         ensures { result ≡ pending_of self.now seat }
     {
         self.machine.pending(seat)
@@ -150,7 +151,7 @@ impl Store {
         target: u32,
         rights: Rights,
     ) -> Result<(), HeapFull>
-        requires seat { seat < 64 }
+        requires seat { seat < SEATS }
         requires idle { pending_of self.old seat ≡ None }
         requires source { IsSome (place self.old id) }
         requires target { IsSome (place self.old target) }
@@ -176,7 +177,7 @@ impl Store {
         rights: Rights,
         text: Text,
     ) -> Result<(), (HeapFull, Text)>
-        requires seat { seat < 64 }
+        requires seat { seat < SEATS }
         requires idle { pending_of self.old seat ≡ None }
         requires source { IsSome (place self.old id) }
         requires some { is_none rights ≡ false }
@@ -215,7 +216,7 @@ impl Store {
 
     /// Shades the seat's pending target, if it has one, and clears it; answers it.
     pub fn shade(&mut self, seat: u64) -> Option<u64>
-        requires { seat < 64 }
+        requires { seat < SEATS }
         ensures shaded { Shaded self.old self.new seat result }
         ensures acted { Acted self.old self.new None None }
     {

@@ -1,5 +1,6 @@
 //! The heap: a table of slots and cells that belong to them.
 ghost use Rattle.std.specs.Prelude.{◌≡◌, ◌≢◌, ℕ, ◌<◌, ◌≤◌, ◌+◌, List, [], ◌∷◌, length, MatchResult, MatchOption, MatchBool, IfOk, IfSome, IsTrue, ◌↔◌, set, ◌⊎◌, Option, Some, None, true, false};
+ghost use Rattle.tg_rights.specs.declared.limits.TheConstants.{MAX_CELLS, MAX_SLOTS};
 ghost use Rattle.tg_rights.specs.Letters.{is_none, includes};
 ghost use Rattle.tg_rights.specs.Membership.{Contains};
 ghost use Rattle.tg_slots.specs.Table.{Free, Has, slot, with_text, in_slot, fresh};
@@ -52,9 +53,9 @@ impl Heap {
     /// That many free slots, 1 to 65,536, and free cells, 1 to 1,048,576. The only error is that an allocation failed.
     pub fn new(alloc: Global, slots: u32, cells: u32) -> Result<Heap, AllocError>
         requires low_slots { 1 ≤ slots }
-        requires high_slots { slots ≤ 65536 }
+        requires high_slots { slots ≤ MAX_SLOTS }
         requires low_cells { 1 ≤ cells }
-        requires high_cells { cells ≤ 1048576 }
+        requires high_cells { cells ≤ MAX_CELLS }
         ensures { IfOk result (λ h. (h.table ≡ fresh slots) × (h.free_cells ≡ cells) × (h.cell_count ≡ cells) × ((i : ℕ) → edges h i ≡ [])) }
     {
         let table = Slots::new(alloc, slots)?;
@@ -68,8 +69,8 @@ impl Heap {
     /// No-op; its postcondition exposes the invariant.
     pub fn soundness(&self)
         ensures sound { IsHeap self.now }
-        ensures size { length self.now.table.slots ≤ 65536 }
-        ensures cells { self.now.cell_count ≤ 1048576 }
+        ensures size { length self.now.table.slots ≤ MAX_SLOTS }
+        ensures cells { self.now.cell_count ≤ MAX_CELLS }
     {
         self.slots.soundness();
         self.cells.soundness();

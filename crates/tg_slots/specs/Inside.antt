@@ -1,5 +1,6 @@
 -- the table that linked slots represent
 use Rattle.std.specs.Prelude.{◌≡◌, ◌≤◌, ℕ, length, List, Option, map}
+use Rattle.tg_rights.specs.declared.limits.TheConstants.{MAX_SLOTS}
 use Rattle.tg_slots.specs.declared.slots.Entry.{Entry}
 use Rattle.tg_slots.specs.declared.slots.Slots.TheInside.{Inside}
 use Rattle.tg_slots.specs.declared.slots.Occupant.{Occupant}
@@ -25,4 +26,4 @@ pub record IsInside (s : Inside) : Type 0 where
   pub free_ends : Chain (length s.entries.items) (links s.entries.items) s.free (table s).free
   pub grey_ends : Chain (length s.entries.items) (links s.entries.items) s.grey (table s).grey
   pub count : s.free_count ≡ length (table s).free
-  pub size : length s.entries.items ≤ 65536
+  pub size : length s.entries.items ≤ MAX_SLOTS

@@ -1,6 +1,7 @@
 //! The table of slots, with the two lists through its link fields.
 ghost use Rattle.std.specs.Prelude.{◌≡◌, ◌≢◌, ◌<◌, ◌≤◌, [], ◌∷◌, length, MatchResult, MatchOption, IsTrue, ◌↔◌, set, ◌⊎◌, IfSome, IfOk, None, Some};
 ghost use Rattle.tg_rights.specs.Membership.{Contains};
+ghost use Rattle.tg_rights.specs.declared.limits.TheConstants.{MAX_SLOTS};
 ghost use Rattle.tg_slots.specs.Table.{Table, Free, Has, slot, mark, coloured, recoloured, with_text, in_slot, IsSound, fresh};
 
 use crate::Colour;
@@ -61,7 +62,7 @@ impl Slots {
     /// That many slots, 1 to 65,536, all free, in the order of their indices. The only error is that an allocation failed.
     pub fn new(alloc: Global, count: u32) -> Result<Slots, AllocError>
         requires low { 1 ≤ count }
-        requires high { count ≤ 65536 }
+        requires high { count ≤ MAX_SLOTS }
         ensures { IfOk result (λ t. t ≡ fresh count) }
     {
         let mut entries = Vec::with_capacity(alloc, count as usize)?;
@@ -82,7 +83,7 @@ impl Slots {
     /// No-op; its postcondition exposes the invariant.
     pub fn soundness(&self)
         ensures sound { IsSound self.now }
-        ensures size { length self.now.slots ≤ 65536 }
+        ensures size { length self.now.slots ≤ MAX_SLOTS }
     {
         let _ = &self.entries;
     }
