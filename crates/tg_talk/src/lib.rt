@@ -1,6 +1,7 @@
 //! Lines over a reader and a writer: one is taken, one is written.
 #![tactic(auto)]
 
+mod failing;
 mod fault;
 mod line_buffer;
 mod newline;
@@ -10,6 +11,7 @@ mod tests;
 mod watched;
 mod write_line;
 
+pub use failing::{FailingReader, FailingWriter};
 pub use fault::TalkFault;
 pub use line_buffer::{Found, LineBuffer, MOST_LINES};
 pub use refusal::too_many_line;

@@ -1,53 +1,6 @@
 //! Lines over a reader that gives one byte a read and a writer that takes one byte a write, which fail at a given call.
-ghost use Rattle.std.specs.Prelude.{Some};
-
-use crate::{Found, LineBuffer, Watched, send_line, too_many_line};
+use crate::{FailingReader, FailingWriter, Found, LineBuffer, Watched, send_line, too_many_line};
 use std::alloc::AllocError;
-use std::io;
-use std::io::{Read, Write};
-
-/// Gives one byte a read, and fails at the read behind `reads` others.
-#[derive(Drop)]
-struct FailingReader<'a> {
-    bytes: &'a [u8],
-    reads: usize,
-}
-
-impl Read for FailingReader<'_> {
-    ghost remaining = { λ r. Some r.bytes.now };
-
-    fn read(&mut self, buf: &mut [u8]) -> io::Result<usize> {
-        if self.reads == 0 {
-            return Err(io::Error::from(io::ErrorKind::BrokenPipe));
-        }
-        self.reads -= 1;
-        let most = buf.len().min(1);
-        self.bytes.read(&mut buf[..most])
-    }
-}
-
-/// Takes one byte a write, and none at the write behind `writes` others.
-#[derive(Drop)]
-struct FailingWriter {
-    bytes: Vec<u8>,
-    writes: usize,
-}
-
-impl Write for FailingWriter {
-    ghost contents = { λ w. Some w.bytes.items };
-
-    fn write(&mut self, buf: &[u8]) -> io::Result<usize> {
-        if self.writes == 0 || buf.is_empty() {
-            return Ok(0);
-        }
-        self.writes -= 1;
-        self.bytes.write(&buf[..1])
-    }
-
-    fn flush(&mut self) -> io::Result<()> {
-        Ok(())
-    }
-}
 
 #[test]
 fn a_line_is_taken_byte_by_byte(rt: HostRuntime) -> Result<(), AllocError> {
