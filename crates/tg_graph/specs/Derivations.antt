@@ -1,4 +1,4 @@
--- Derivations: what the rules can bring about, step by step.
+-- derivations: what the rules can bring about, step by step
 use Rattle.std.specs.Prelude.{◌≡◌, ◌≤◌, List, [], ◌∷◌, true, IsTrue}
 use Rattle.tg_rights.specs.Letters.{includes}
 use Rattle.tg_graph.specs.declared.derivation.Step.{Step}

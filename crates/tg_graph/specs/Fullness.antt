@@ -1,4 +1,4 @@
--- How much may be stored, and when a history alone permits that an allowed command is refused as full.
+-- how much may be stored, and when a history alone permits that an allowed command is refused as full
 use Rattle.std.specs.Prelude.{◌≡◌, ◌<◌, ◌≤◌, ℕ, cond, true, length, sum_by}
 use Rattle.std.specs.FinMap as map
 use Rattle.tg_rights.specs.Letters.{Letters, is_none}

@@ -1,4 +1,4 @@
--- Laws of the rules, and the definitions of openings and edge lists in other words.
+-- laws of the rules, and the definitions of openings and edge lists in other words
 use Rattle.std.specs.Prelude.{◌≡◌, ◌≤◌, ℕ, ◌+◌, Bool, ◌==◌, true, false, List, [], ◌∷◌, ◌++◌, length, IsTrue, Some, None, ◌↔◌}
 use Rattle.std.specs.Ordering.{nat_cmp}
 use Rattle.std.specs.Cmp.Lexicographic.{pointwise}

@@ -1,4 +1,4 @@
--- The rules: what each command needs, when it is allowed, why it is denied, what it changes and what it answers.
+-- the rules: what each command needs, when it is allowed, why it is denied, what it changes and what it answers
 use Rattle.std.specs.Prelude.{◌≡◌, ◌<◌, ◌≤◌, ℕ, ◌+◌, Bool, true, false, cond, not, ◌&&◌, ◌==◌, List, [], ◌∷◌, ◌++◌, Option, Some, None, IsTrue, IsFalse}
 use Rattle.std.specs.Option.{option_map_or}
 use Rattle.std.specs.FinMap as map

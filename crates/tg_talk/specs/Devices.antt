@@ -1,4 +1,4 @@
--- Readers and writers that are watched, and what a writer holds after some bytes were sent.
+-- readers and writers that are watched, and what a writer holds after some bytes were sent
 use Rattle.std.specs.Io.KnownBytes.{Appends}
 use Rattle.std.specs.Prelude.{◌≡◌, ℕ, List, [], ◌++◌, length, Option, Bool, true, false, ◌&&◌, ◌==◌, nat_lt, Result, Ok, Err}
 use Rattle.tg_talk.specs.declared.watched.Watched.{Watched}

@@ -1,4 +1,4 @@
--- What is at the front of a buffer of bytes that were read, before the bytes that are left to read.
+-- what is at the front of a buffer of bytes that were read, before the bytes that are left to read
 use Rattle.std.specs.Prelude.{◌≡◌, ℕ, ◌+◌, ◌<◌, ◌≤◌, List, [], length, take, Option, Bool, false, ◌||◌, nat_lt}
 use Rattle.std.specs.Io.KnownBytes.{IsAtEnd}
 use Rattle.tg_wire.specs.declared.line.TheConstants.{LONGEST_LINE}

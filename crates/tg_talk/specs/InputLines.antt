@@ -1,4 +1,4 @@
--- The lines of a text.
+-- the lines of a text
 use Rattle.std.specs.Prelude.{◌≡◌, ℕ, ◌+◌, ◌<◌, List, [], ◌∷◌, ◌++◌, length, take, drop, Bool, false, ◌==◌, if◌then◌else◌}
 use Rattle.std.specs.List.{list_any, onto_first}
 

@@ -1,4 +1,4 @@
--- The lines of refusals that no line's value gives.
+-- the lines of refusals that no line's value gives
 use Rattle.std.specs.Prelude.{ℕ, List, codes}
 use Rattle.tg_wire.specs.Faults.{line_text, error_data}
 

@@ -1,4 +1,4 @@
--- An actor cannot tell by a command which of two graphs it meets.
+-- an actor cannot tell by a command which of two graphs it meets
 use Rattle.std.specs.Prelude.{◌≡◌, ℕ, false, [], ◌∷◌, ◌++◌}
 use Rattle.tg_rights.specs.declared.command.Command.{Command}
 use Rattle.tg_rights.specs.declared.outcome.Outcome.{Outcome}

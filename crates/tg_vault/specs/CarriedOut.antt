@@ -1,4 +1,4 @@
--- What a command does to a store that decides it by what it holds.
+-- what a command does to a store that decides it by what it holds
 use Rattle.std.specs.Prelude.{◌≡◌, ◌≢◌, ◌<◌, ◌≤◌, ℕ, ◌+◌, true, cond, [], Option, Some, None}
 use Rattle.tg_rights.specs.Letters.{Letters, joined, without}
 use Rattle.tg_rights.specs.declared.kind.Kind.{Kind}

@@ -1,4 +1,4 @@
--- What the layers above see of a vault.
+-- what the layers above see of a vault
 use Rattle.std.specs.Prelude.{◌≡◌, ◌<◌, ◌≤◌, ℕ, ◌-◌, true, List, [], length, Option, Some, None, All, refl, replicate}
 use Rattle.std.specs.Coded.{Coded, code_by, coded×, coded_ℕ, coded_list, coded_option}
 use Rattle.std.specs.FinSet as set

@@ -1,4 +1,4 @@
--- Cycles of the collector in a run.
+-- cycles of the collector in a run
 use Rattle.std.specs.Prelude.{◌≡◌, ◌≤◌, ◌⊎◌, ℕ, ◌+◌, true, false, cond, List, [], ◌∷◌, ◌++◌, length, map, take, drop, sum_by, All}
 use Rattle.tg_graph.specs.Paths.{Live}
 use Rattle.tg_collect.specs.declared.note.Phase.{Phase}

@@ -1,4 +1,4 @@
--- Which commands are full, exactly.
+-- which commands are full, exactly
 use Rattle.std.specs.Prelude.{◌≡◌, ◌↔◌, [], ◌∷◌, ◌++◌}
 use Rattle.tg_rights.specs.declared.outcome.Which.{Which}
 use Rattle.tg_rights.specs.declared.outcome.Outcome.TheVariants as outcome

@@ -1,4 +1,4 @@
--- What is stored fits the graph of the history.
+-- what is stored fits the graph of the history
 use Rattle.std.specs.Prelude.{◌≡◌, ◌↔◌, ◌≤◌, ℕ, ◌+◌, length, Some, ◌⊎◌}
 use Rattle.std.specs.FinSet as set
 use Rattle.tg_rights.specs.declared.limits.TheConstants.{MAX_CELLS, MAX_SLOTS}

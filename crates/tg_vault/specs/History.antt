@@ -1,4 +1,4 @@
--- Histories: the entries of commands that the rules permit, one after another, from the opening graph on.
+-- histories: the entries of commands that the rules permit, one after another, from the opening graph on
 use Rattle.std.specs.Prelude.{◌≡◌, ℕ, List, [], ◌∷◌, All}
 use Rattle.tg_graph.specs.Fullness.{Limits, Permitted}
 use Rattle.tg_graph.specs.Protection.{Protection, IsSubject}

@@ -1,4 +1,4 @@
--- What a command is to do in a store that decides it.
+-- what a command is to do in a store that decides it
 use Rattle.std.specs.Prelude.{◌≡◌, ◌↔◌, ℕ, Bool, true, Some, IsSome}
 use Rattle.tg_rights.specs.declared.command.Command.{Command}
 use Rattle.tg_rights.specs.declared.command.Command.TheVariants as command

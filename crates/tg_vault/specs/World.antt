@@ -1,4 +1,4 @@
--- Worlds, and what each event may answer in one.
+-- worlds, and what each event may answer in one
 use Rattle.std.specs.Prelude.{◌≡◌, ◌↔◌, ◌≤◌, ℕ, ◌+◌, Bool, true, cond, not, nat_lt, ◌==◌, List, [], ◌∷◌, ◌++◌, length, get_or, slice_set, Option, Some, None, is_some}
 use Rattle.std.specs.Option.{option_map}
 use Rattle.std.specs.List.{position}
