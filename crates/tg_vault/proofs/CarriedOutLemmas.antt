@@ -26,7 +26,8 @@ use Rattle.tg_collect.specs.Sessions.{EdgeStored, RightsRemoved, TextReplaced}
 use Rattle.tg_collect.specs.StoreRuns.{Acted}
 use Rattle.tg_vault.specs.Plans.{Fulfils}
 use Rattle.tg_vault.specs.CarriedOut.{CarriedOut, Joined, Made, NoRoom, IsUsedUp}
-use Rattle.tg_vault.proofs.EdgeLemmas.{label_next, edge_in, in_edge, joined_some, label_cut}
+use Rattle.tg_collect.proofs.PathLemmas.{edge_in, in_edge}
+use Rattle.tg_vault.proofs.EdgeLemmas.{label_next, joined_some, label_cut}
 use Rattle.tg_vault.proofs.PlaceLemmas.{serial_is}
 
 -- a step that changes nothing

@@ -18,7 +18,7 @@ use Rattle.tg_vault.specs.History.{IsPrincipal}
 use Rattle.tg_vault.specs.World.{with_used}
 use Rattle.tg_vault.specs.Contents.{Contents, graph_now, moment}
 use Rattle.tg_vault.specs.Fits.{Ties}
-use Rattle.tg_vault.proofs.EdgeLemmas.{edge_in}
+use Rattle.tg_collect.proofs.PathLemmas.{edge_in}
 use Rattle.tg_vault.proofs.DecidedLemmas.{of_graph}
 
 -- a part whose vertices and triples are the same
