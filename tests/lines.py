@@ -143,7 +143,7 @@ def refusals():
 
 def readings():
     """What is read although it looks odd."""
-    yield after_hello("of-equal-keys-the-last-stands", (b'{"op":"look","at":-1,"at":1}', SEEN), (b'{"op":"look","at":1,"at":-1}', BAD), (b'{"op":"steal","op":"look","at":1}', SEEN))
+    yield after_hello("of-equal-keys-the-last-wins", (b'{"op":"look","at":-1,"at":1}', SEEN), (b'{"op":"look","at":1,"at":-1}', BAD), (b'{"op":"steal","op":"look","at":1}', SEEN))
     yield after_hello("white-space-round-the-object", (b" \t" + LOOK + b" \r", SEEN), (b'{ "op" : "look" , "at" : 1 }', SEEN))
     yield after_hello("escaped-keys-and-words", (b'{"\\u006fp":"\\u006cook","at":1}', SEEN))
     yield after_hello("seat-0-where-it-is-absent", (b'{"op":"look","at":1,"seat":0}', SEEN), (LOOK, SEEN))
@@ -266,7 +266,7 @@ def configurations():
     yield opening("configuration-next-given", object_of([two, ("next", "7")]), (HELLO, WELCOME), (create, b'{"ok":"created","vertex":7}'))
     yield opening("configuration-no-serial-left", object_of([two, ("next", "18446744073709551615")]), (HELLO, WELCOME), (create, b'{"full":"serials"}'))
     yield opening("configuration-greatest-limits", object_of([two, ("slots", "65536"), ("cells", "1048576")]), (HELLO, WELCOME))
-    yield opening("configuration-of-equal-keys-the-last-stands", b'{"principals":1,"principals":["alice"]}', (HELLO, WELCOME))
+    yield opening("configuration-of-equal-keys-the-last-wins", b'{"principals":1,"principals":["alice"]}', (HELLO, WELCOME))
     yield opening("configuration-name-of-32-letters", object_of([("principals", '["%s"]' % ("z" * 32))]))
     names = ["a" * (n % 26 + 1) + "b" * (n // 26) for n in range(64)]
     last = b'{"name":"%s","op":"hello"}' % names[63].encode()
