@@ -10,5 +10,3 @@ pub mod Laws
 pub mod Views
 pub mod Codes
 pub mod Opening
-pub use Rattle.tg_rights.specs.Letters
-pub use Rattle.tg_rights.specs.Command
