@@ -234,7 +234,7 @@ owner_previous cs n k m w = elim (cases_eq m n) [
   | inr o ↦ ap (λ (c : Cell). c.owner) (at_other cs n m _ o)
 ]
 
--- A number that stands once is apart from those before it and after it, and these are apart from one another.
+-- A number that occurs once is apart from those before it and after it, and these are apart from one another.
 pub record Apart (a : List ℕ) (n : ℕ) (b : List ℕ) : Type 0 where
   pub before : (m : ℕ) → Contains a m → m ≢ n
   pub after : (m : ℕ) → Contains b m → m ≢ n

@@ -1,4 +1,4 @@
--- The lists that linked cells show, and where a linked cell stands.
+-- The lists that linked cells show, and where a linked cell is.
 use Rattle.std.proofs.Common.{◌≡◌, ◌≢◌, ℕ, ◌<◌, ◌≤◌, List, [], ◌∷◌, ◌++◌, length, Some, None, inl, inr, sym, ◌∙◌, subst, ap, refl, map, get_or, arith, cond, true, false, ltb, append_assoc, append-nil}
 use Rattle.std.proofs.lemmas.Bool.{lt-ltb, le-ltb}
 use Rattle.std.proofs.lemmas.List.{ext_get_or, get_or-map, get_or_default}

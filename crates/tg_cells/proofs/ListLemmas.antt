@@ -73,7 +73,7 @@ has_no_cell : (es : List Edge) (n : ℕ) → ((e : Edge) → Contains es e → e
 has_no_cell [] n h m = m
 has_no_cell (e ∷ es) n h m = elim m [ inl is ↦ h e (inl refl) (sym is) | inr rest ↦ has_no_cell es n (λ x y. h x (inr y)) rest ]
 
--- A free cell stands in front.
+-- A free cell comes in front.
 pub sound-link : (v : CellLists) (i : ℕ) (e : Edge) → IsCells v → i < length v.lists → IsFresh v.lists e.cell → HasNone (owned v.lists i) e.serial → is_none e.rights ≡ false → 1 ≤ v.free
     → IsCells (record v { lists = set v.lists i (e ∷ owned v.lists i); free = v.free - 1 })
 sound-link v i e k w fresh none some more = sound-replaced v i (e ∷ owned v.lists i) (v.free - 1) k (record {

@@ -37,7 +37,7 @@ acted_same v w is = subst (λ (z : Stored). Acted v z None None) (sym is) (recor
   left = omega arith;
 })
 
--- Who stands in a list after a place was set.
+-- Who is in a list after a place was set.
 pub set_only : {X : Type 0} (xs : List X) (k : ℕ) (v z : X) → Contains (set xs k v) z → Contains xs z ⊎ (v ≡ z)
 set_only [] k v z h = absurd h
 set_only (x ∷ xs) zero v z (inl e) = inr (sym e)

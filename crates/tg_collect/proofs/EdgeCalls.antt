@@ -78,7 +78,7 @@ shown_changed m id l n q u S us far triples targets =
       left = (stored (changed m id l n q u)).left;
     }
 
--- The cursor stands in its list.
+-- The cursor is in its list.
 cursor_at : (m : Machine) → Invariant m → (s : Scan) → m.progress ≡ Marking (Some s) → s.cursor ≡ first_cell (remaining s.cursor (edges m.heap s.slot))
 cursor_at m kept s e = let old : PhaseHolds (Marking (Some s)) m = subst (λ (p : Progress). PhaseHolds p m) e kept.phase in old.scanned.at
 

@@ -301,7 +301,7 @@ gives_new es e = record {
   mine = λ s h. record { edge = e; owned = inl refl; to = refl; right = h };
 }
 
--- The serial of the middle edge stands nowhere else.
+-- The serial of the middle edge occurs nowhere else.
 serial_apart : (p r : List Edge) (x : Edge) (z : ℕ) (s : Right) → Distinct (serials (p ++ x ∷ r)) → Says p z s ⊎ Says r z s → z ≢ x.serial
 serial_apart [] r x z s d (inl k) e = absurd k.owned
 serial_apart [] r x z s d (inr k) e = d.0 (subst (λ (y : ℕ). Contains (serials r) y) (k.to ∙ e) (mapped r k.edge k.owned)) where

@@ -114,7 +114,7 @@ reached-black m at none kept none_white i r =
     (λ j w. subst (λ (g : List ℕ). Contains g j) none w) none_white (λ j x. (kept.roots_held j x).0)
     (λ j e f o. (kept.closed j e (held_marking m None j at f) o).0) i r
 
--- The cell at the cursor stands in the list of the slot under scan.
+-- The cell at the cursor is in the list of the slot under scan.
 pub scan_split : (m : Machine) (slot cursor : ℕ) → m.progress ≡ Marking (Some (record { slot = slot; cursor = Some cursor })) → Invariant m → Split (edges m.heap slot) cursor
 scan_split m slot cursor at kept =
     let old : PhaseHolds (Marking (Some (record { slot = slot; cursor = Some cursor }))) m = subst (λ (p : Progress). PhaseHolds p m) at kept.phase in
@@ -268,7 +268,7 @@ held_within m i h = elim (mark_at m.heap i) as (λ k. mark_at m.heap i ≡ k →
   | Has c ↦ λ e. occupied_within m.heap.table.slots i c e
 ] refl
 
--- An element stands at some index, and what stands at an index is an element.
+-- An element is at some index, and what is at an index is an element.
 pub contains_index : {X : Type 0} (xs : List X) (x d : X) → Contains xs x → (k : ℕ) × (k < length xs) × (get_or xs k d ≡ x)
 contains_index [] x d h = absurd h
 contains_index (y ∷ xs) x d (inl e) = (0, omega arith, sym e)
@@ -375,7 +375,7 @@ pub kept-shade : (m : Machine) (i : ℕ) → IsRoot m i → Invariant m → Inva
 kept-shade m i r kept = of_sound (record m { heap = record m.heap { table = shaded m.heap.table i } })
     (sound-shade m.heap m.progress (IsRoot m) (IsRoot m) (IsPending m) (IsPending m) i (root_within m i kept r) (kept.roots_held i r) (to_sound m kept) (λ j x. x) (λ j u. inl u))
 
--- What stands in the list after a seat was cleared, and what stood there before.
+-- What is in the list after a seat was cleared, and what was there before.
 pub cleared_before : (xs : List (Option Root)) (k : ℕ) (r : Root) → Contains (set xs k None) (Some r) → Contains xs (Some r)
 cleared_before [] k r h = absurd h
 cleared_before (x ∷ xs) zero r (inl e) = absurd (cc)

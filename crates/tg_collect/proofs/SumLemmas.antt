@@ -50,7 +50,7 @@ ones (x ∷ xs) = (let a = sum_by-cons (λ (y : _). 1) x xs in let b = ones xs i
 pub same_length : {X : Type 0} (xs ys : List X) → Distinct xs → Distinct ys → ((x : X) → Contains xs x → Contains ys x) → ((x : X) → Contains ys x → Contains xs x) → length xs ≡ length ys
 same_length xs ys d e to from = sym (ones xs) ∙ same_sum (λ x. 1) xs ys d e to from ∙ ones ys
 
--- The keys of a map stand once.
+-- The keys of a map occur once.
 both : (a b : Bool) → T (a && b) → T a × T b
 both true b t = (tt, t)
 both false b t = absurd t

@@ -128,11 +128,11 @@ module _ (v : Contents) (j : Ties v) (store : IsStore v.store) where
     replied_so c (outcome.Denied rule cause) a = refl
     replied_so c (outcome.Full w) a = refl
 
--- what a graph allows it does not deny
 -- a command has one outcome by the rules
 pub judged_once : (G : Protection) (x : ℕ) (c : Command) (o p : Outcome) → Judged G x c o → Judged G x c p → p ≡ o
 judged_once G x c o p a d = verdict-Judged G x c p d ∙ sym (verdict-Judged G x c o a)
 
+-- what a graph allows it does not deny
 pub not_both : (G : Protection) (x : ℕ) (c : Command) (o : Outcome) → Judged G x c outcome.Allowed → Judged G x c o → o ≡ outcome.Allowed
 not_both G x c o a d = judged_once G x c outcome.Allowed o a d
 

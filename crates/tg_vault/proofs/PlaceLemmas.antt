@@ -1,4 +1,4 @@
--- The slots in which vertices stand.
+-- The slots in which vertices are.
 use Rattle.std.proofs.Common.{◌≡◌, ℕ, ap, Some}
 use Rattle.std.specs.Option.{unwrap_or}
 use Rattle.tg_collect.specs.Stored.{Stored}

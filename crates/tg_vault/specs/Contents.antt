@@ -20,7 +20,7 @@ use Rattle.tg_vault.specs.History.{Legal, IsPrincipal, graph_of}
 use Rattle.tg_vault.specs.World.{Moment, Step, Run, at_seat}
 
 -- the opening graph, the principals' names, the numbers of slots and cells, who sits on each seat, what is stored, and
--- the history. The graph of the history stands in definitions alone
+-- the history. The graph of the history is in definitions alone
 pub record Contents : Type 0 where
   pub opening : Protection
   pub names : List (List ℕ)

@@ -74,7 +74,7 @@ module _ (w : World) (seat : ℕ) where
   abbrev pub ask_refusal : Option AskFault
   ask_refusal = cond no_seat (Some ask_fault.NoSeat) (cond in_use (cond has_target (Some ask_fault.Busy) None) (Some ask_fault.NoActor))
 
-  -- want of memory comes after the seat's faults
+  -- out of memory comes after the seat's faults
   abbrev pub IsAskFault : AskFault → Type 0
   IsAskFault ask_fault.NoSeat = ask_refusal ≡ Some ask_fault.NoSeat
   IsAskFault ask_fault.NoActor = ask_refusal ≡ Some ask_fault.NoActor

@@ -89,7 +89,7 @@ fn tell(store: &Store, alloc: Global, at: u32) -> Result<Reply, AllocError>
     Ok(Reply::Text(text))
 }
 
-/// A copy of the text stands in place of the old one.
+/// A copy of the text takes the place of the old one.
 fn replace(store: &mut Store, alloc: Global, at: u32, text: &Text) -> Result<Reply, AllocError>
     requires { IsSome (place store.old at) }
     ensures done { IfOk result (λ answer. answer ≡ reply.Done) }

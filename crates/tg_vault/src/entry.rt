@@ -1,4 +1,4 @@
-//! What stands in the history.
+//! The entries of the history.
 use tg_rights::{Command, Outcome};
 
 /// A command that was decided.

@@ -46,7 +46,7 @@ pub enum Plan<'command> {
     },
 }
 
-/// The slot of `to`, where `from`, which stands in the slot `id`, has the rights over it.
+/// The slot of `to`, where `from`, which is in the slot `id`, has the rights over it.
 fn met(store: &Store, id: u32, from: u64, to: u64, rights: Rights) -> Result<u32, Cause>
     requires at { place store.now id ≡ Some from }
     requires some { is_none rights ≡ false }
@@ -144,7 +144,7 @@ fn is_document(store: &Store, plan: &Plan<'_>) -> bool
     }
 }
 
-/// The plan for a command of the actor, which stands in the slot `id`, or the first cause for which the rules deny it.
+/// The plan for a command of the actor, which is in the slot `id`, or the first cause for which the rules deny it.
 /// The order of the causes is that of `Cause`.
 pub fn decide<'command>(
     store: &Store,

@@ -33,7 +33,7 @@ use tg_rights::{Command, Outcome, Reply, SEATS, Word};
 
 /// The whole state of the server: the opening graph with its principals' names, the seats, the store with its collector
 /// and the pending target of each seat, and the history of commands. Each call is one atomic step. Contracts see its
-/// `Contents`; the graph of the history stands in them alone, and what is stored is what of it is still in use.
+/// `Contents`; the graph of the history is in them alone, and what is stored is what of it is still in use.
 ///
 /// The history is kept whole, and is legal: each entry's outcome is one that the take-grant rules (Lipton and Snyder
 /// 1977; Bishop) permit in the graph that the entries before it leave.

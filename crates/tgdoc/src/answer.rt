@@ -78,8 +78,7 @@ struct Told {
     is_error: bool,
 }
 
-/// The line of the answer, or that of the want of memory that stands in its place; where there was no room for an
-/// answer, too.
+/// The line of the answer, or `out of memory` in its place; also where there was no room for an answer.
 fn tell(alloc: Global, answer: Option<Answer>) -> Told
     ensures { TellsAnswer answer (text_of result.text) result.is_error }
 {
@@ -101,7 +100,7 @@ fn tell(alloc: Global, answer: Option<Answer>) -> Told
     }
 }
 
-/// The line of what a cycle did, or that of the want of memory that stands in its place.
+/// The line of what a cycle did, or `out of memory` in its place.
 fn tell_swept(alloc: Global, swept: Swept) -> Told
     ensures { TellsSwept swept (text_of result.text) result.is_error }
 {
