@@ -6,6 +6,7 @@ mod laws;
 mod machine;
 mod note;
 mod opening;
+mod reader;
 mod sessions;
 mod store;
 #[cfg(test)]

@@ -3,19 +3,21 @@ use Rattle.std.proofs.Common.{◌≡◌, ℕ, ◌+◌, ◌<◌, ◌≤◌, true,
 use Rattle.std.specs.Ordering.{nat_cmp}
 use Rattle.std.specs.FinSet as set
 use Rattle.tg_rights.specs.declared.command.Command.{Command}
-use Rattle.tg_rights.specs.declared.command.Command.TheVariants as command
+use Rattle.tg_graph.specs.Terms as effect
+use Rattle.tg_graph.specs.Terms.{Does, terms}
 use Rattle.tg_rights.specs.declared.outcome.Which.TheVariants as which
 use Rattle.tg_rights.specs.declared.outcome.Outcome.{Outcome}
 use Rattle.tg_rights.specs.declared.outcome.Outcome.TheVariants as outcome
 use Rattle.tg_rights.specs.declared.outcome.Reply.{Reply}
 use Rattle.tg_rights.specs.declared.outcome.Reply.TheVariants as reply
 use Rattle.tg_graph.specs.Protection.{Protection, IsGraph, vertex}
-use Rattle.tg_graph.specs.Paths.{Agree}
+use Rattle.tg_graph.specs.Paths.{Agree, Reaches}
 use Rattle.tg_graph.specs.Agreement.{SameReply, IsRepliedAlike, KeepsViewers}
-use Rattle.tg_graph.specs.Rules.{Judged, Allowed, PlainlyDecided, Applies, after, next_graph, reply_of, allowed_reply, is_create, last_serial}
-use Rattle.tg_graph.proofs.OutcomesAgreeLemmas.{Judged-agrees}
+use Rattle.tg_graph.specs.Rules.{Judged, PlainlyDecided, Applies, answered, done, next_graph, reply_of, is_create, is_new, last_serial}
+use Rattle.tg_graph.proofs.OutcomesAgreeLemmas.{Judged-agrees, itself, reaches_on}
+use Rattle.tg_graph.proofs.ProtectionLemmas.{Entitled, entitled}
 use Rattle.tg_graph.proofs.ExactlyOneOutcomeLemmas.{verdict-Judged}
-use Rattle.tg_graph.proofs.RepliesAgreeLemmas.{same_reply}
+use Rattle.tg_graph.proofs.RepliesAgreeLemmas.{answered_alike}
 use Rattle.tg_graph.proofs.VertexLemmas.{with_text-next}
 use Rattle.tg_graph.proofs.PartsStayLemmas.{kept}
 
@@ -33,46 +35,35 @@ module _ (G H : Protection) (x : ℕ) (in_G : IsGraph G) (in_H : IsGraph H) (own
     itself (reply.Denied rule why) = refl
     itself (reply.Full w) = tt
 
-  replied : (c : Command) → Allowed G x c → SameReply (allowed_reply G c) (allowed_reply H c)
-  replied (command.Take α over from) a = refl
-  replied (command.Grant α over to) a = refl
-  replied (command.Create k α) a = tt
-  replied (command.Remove α over) a = refl
-  replied (command.Read over) a = same_reply G H x own (command.Read over) in_G in_H a refl
-  replied (command.Write over text) a = refl
-  replied (command.Look at) a = same_reply G H x own (command.Look at) in_G in_H a refl
+  replied : (e : Does) → Entitled G (Reaches G x) (reaches_on G x) x (itself G H x own) e → SameReply (answered G e) (answered H e)
+  replied (effect.Joins from α to) h = refl
+  replied (effect.Makes k α) h = tt
+  replied (effect.Drops α over) h = refl
+  replied (effect.Rewrites over text) h = refl
+  replied (effect.Tells over) h = answered_alike G H x own (effect.Tells over) in_G in_H h refl
+  replied (effect.Lists at) h = answered_alike G H x own (effect.Lists at) in_G in_H h refl
 
   -- what is allowed in one graph and full in the other is a create
-  full_or_new : (c : Command) (w : _) → is_create c ≡ true → SameReply (allowed_reply G c) (reply.Full w)
-  full_or_new (command.Take α over from) w e = absurd (cc e)
-  full_or_new (command.Grant α over to) w e = absurd (cc e)
-  full_or_new (command.Create k α) w e = tt
-  full_or_new (command.Remove α over) w e = absurd (cc e)
-  full_or_new (command.Read over) w e = absurd (cc e)
-  full_or_new (command.Write over text) w e = absurd (cc e)
-  full_or_new (command.Look at) w e = absurd (cc e)
+  full_or_new : (K : Protection) (e : Does) (w : _) → is_new e ≡ true → SameReply (answered K e) (reply.Full w) × SameReply (reply.Full w) (answered K e)
+  full_or_new K (effect.Joins from α to) w e = absurd (cc e)
+  full_or_new K (effect.Makes k α) w e = (tt, tt)
+  full_or_new K (effect.Drops α over) w e = absurd (cc e)
+  full_or_new K (effect.Rewrites over text) w e = absurd (cc e)
+  full_or_new K (effect.Tells over) w e = absurd (cc e)
+  full_or_new K (effect.Lists at) w e = absurd (cc e)
 
-  new_or_full : (c : Command) (w : _) → is_create c ≡ true → SameReply (reply.Full w) (allowed_reply H c)
-  new_or_full (command.Take α over from) w e = absurd (cc e)
-  new_or_full (command.Grant α over to) w e = absurd (cc e)
-  new_or_full (command.Create k α) w e = tt
-  new_or_full (command.Remove α over) w e = absurd (cc e)
-  new_or_full (command.Read over) w e = absurd (cc e)
-  new_or_full (command.Write over text) w e = absurd (cc e)
-  new_or_full (command.Look at) w e = absurd (cc e)
-
-  told_alike : (c : Command) (o p : Outcome) → PlainlyDecided G x c o → PlainlyDecided H x c p → SameReply (reply_of G c o) (reply_of H c p)
-  told_alike c outcome.Allowed outcome.Allowed d e = replied c d.0
+  told_alike : (c : Command) (o p : Outcome) → PlainlyDecided G x c o → PlainlyDecided H x c p → SameReply (reply_of G x c o) (reply_of H x c p)
+  told_alike c outcome.Allowed outcome.Allowed d e = replied (terms x c).does (entitled G (Reaches G x) (reaches_on G x) x (itself G H x own) c d.0)
   told_alike c outcome.Allowed (outcome.Denied rule why) d e = absurd (cc (one c outcome.Allowed (outcome.Denied rule why) d.0 e))
-  told_alike c outcome.Allowed (outcome.Full which.Serials) d e = full_or_new c which.Serials e.1
+  told_alike c outcome.Allowed (outcome.Full which.Serials) d e = (full_or_new G (terms x c).does which.Serials e.1).0
   told_alike c outcome.Allowed (outcome.Full which.Slots) d e = absurd e
   told_alike c outcome.Allowed (outcome.Full which.Cells) d e = absurd e
   told_alike c (outcome.Denied rule why) outcome.Allowed d e = absurd (cc (one c (outcome.Denied rule why) outcome.Allowed d e.0))
-  told_alike c (outcome.Denied rule why) (outcome.Denied rule' why') d e = ap (reply_of H c) (one c (outcome.Denied rule why) (outcome.Denied rule' why') d e)
+  told_alike c (outcome.Denied rule why) (outcome.Denied rule' why') d e = ap (reply_of H x c) (one c (outcome.Denied rule why) (outcome.Denied rule' why') d e)
   told_alike c (outcome.Denied rule why) (outcome.Full which.Serials) d e = absurd (cc (one c (outcome.Denied rule why) outcome.Allowed d e.0))
   told_alike c (outcome.Denied rule why) (outcome.Full which.Slots) d e = absurd e
   told_alike c (outcome.Denied rule why) (outcome.Full which.Cells) d e = absurd e
-  told_alike c (outcome.Full which.Serials) outcome.Allowed d e = new_or_full c which.Serials d.1
+  told_alike c (outcome.Full which.Serials) outcome.Allowed d e = (full_or_new H (terms x c).does which.Serials d.1).1
   told_alike c (outcome.Full which.Serials) (outcome.Denied rule why) d e = absurd (cc (one c outcome.Allowed (outcome.Denied rule why) d.0 e))
   told_alike c (outcome.Full which.Serials) (outcome.Full which.Serials) d e = tt
   told_alike c (outcome.Full which.Serials) (outcome.Full which.Slots) d e = absurd e
@@ -83,7 +74,7 @@ module _ (G H : Protection) (x : ℕ) (in_G : IsGraph G) (in_H : IsGraph H) (own
 -- a subject's command has the same reply in each graph that agrees for it, the new serial and fullness aside
 pub replied_alike : (G K : Protection) (x : ℕ) (c : Command) (r : Reply) → IsGraph G → Applies G x c r K → IsRepliedAlike G x c r
 replied_alike G K x c r in_G (o, d, is_r, is_K) = λ H L q in_H own. λ (p, e, is_q, is_L).
-    subst (λ (a : Reply). SameReply a q) (sym is_r) (subst (SameReply (reply_of G c o)) (sym is_q) (told_alike G H x in_G in_H own c o p d e))
+    subst (λ (a : Reply). SameReply a q) (sym is_r) (subst (SameReply (reply_of G x c o)) (sym is_q) (told_alike G H x in_G in_H own c o p d e))
 
 module _ (G H : Protection) (viewers : set.FinSet nat_cmp) (x : ℕ) (in_G : IsGraph G) (in_H : IsGraph H) (next : G.next ≡ H.next) (known : set.contains viewers x ≡ true)
     (agree : (v : ℕ) → set.contains viewers v ≡ true → Agree G H v) where
@@ -91,43 +82,41 @@ module _ (G H : Protection) (viewers : set.FinSet nat_cmp) (x : ℕ) (in_G : IsG
   own = agree x known
 
   abbrev AreAlike : Command → Outcome → Outcome → Type 0
-  AreAlike c o p = (reply_of G c o ≡ reply_of H c p) × ((next_graph G x c o).next ≡ (next_graph H x c p).next) × ((v : ℕ) → set.contains viewers v ≡ true → Agree (next_graph G x c o) (next_graph H x c p) v)
+  AreAlike c o p = (reply_of G x c o ≡ reply_of H x c p) × ((next_graph G x c o).next ≡ (next_graph H x c p).next) × ((v : ℕ) → set.contains viewers v ≡ true → Agree (next_graph G x c o) (next_graph H x c p) v)
 
   only : (c : Command) (o p : Outcome) → Judged G x c o → Judged H x c p → o ≡ p
   only = one G H x in_G in_H own
 
-  answered : (c : Command) → Allowed G x c → allowed_reply G c ≡ allowed_reply H c
-  answered (command.Take α over from) a = refl
-  answered (command.Grant α over to) a = refl
-  answered (command.Create k α) a = ap (λ n. reply.Created n) next
-  answered (command.Remove α over) a = refl
-  answered (command.Read over) a = same_reply G H x own (command.Read over) in_G in_H a refl
-  answered (command.Write over text) a = refl
-  answered (command.Look at) a = same_reply G H x own (command.Look at) in_G in_H a refl
+  told_same : (e : Does) → Entitled G (Reaches G x) (reaches_on G x) x (itself G H x own) e → answered G e ≡ answered H e
+  told_same (effect.Joins from α to) h = refl
+  told_same (effect.Makes k α) h = ap (λ n. reply.Created n) next
+  told_same (effect.Drops α over) h = refl
+  told_same (effect.Rewrites over text) h = refl
+  told_same (effect.Tells over) h = answered_alike G H x own (effect.Tells over) in_G in_H h refl
+  told_same (effect.Lists at) h = answered_alike G H x own (effect.Lists at) in_G in_H h refl
 
-  after_next : (c : Command) → (after G x c).next ≡ (after H x c).next
-  after_next (command.Take α over from) = next
-  after_next (command.Grant α over to) = next
-  after_next (command.Create k α) = ap (λ n. n + 1) next
-  after_next (command.Remove α over) = next
-  after_next (command.Read over) = next
-  after_next (command.Write over text) = with_text-next G over text (vertex G over) ∙ next ∙ sym (with_text-next H over text (vertex H over))
-  after_next (command.Look at) = next
+  after_next : (e : Does) → (done G x e).next ≡ (done H x e).next
+  after_next (effect.Joins from α to) = next
+  after_next (effect.Makes k α) = ap (λ n. n + 1) next
+  after_next (effect.Drops α over) = next
+  after_next (effect.Rewrites over text) = with_text-next G over text (vertex G over) ∙ next ∙ sym (with_text-next H over text (vertex H over))
+  after_next (effect.Tells over) = next
+  after_next (effect.Lists at) = next
 
-  room : (c : Command) → (is_create c ≡ true → G.next ≤ last_serial) → is_create c ≡ true → last_serial < H.next → ⊥
+  room : (c : Command) → (is_create x c ≡ true → G.next ≤ last_serial) → is_create x c ≡ true → last_serial < H.next → ⊥
   room c fits e past = let low : G.next ≤ last_serial = fits e in omega (arith, low, past, next)
 
-  room_too : (c : Command) → (is_create c ≡ true → H.next ≤ last_serial) → is_create c ≡ true → last_serial < G.next → ⊥
+  room_too : (c : Command) → (is_create x c ≡ true → H.next ≤ last_serial) → is_create x c ≡ true → last_serial < G.next → ⊥
   room_too c fits e past = let low : H.next ≤ last_serial = fits e in omega (arith, low, past, next)
 
   alike : (c : Command) (o p : Outcome) → PlainlyDecided G x c o → PlainlyDecided H x c p → AreAlike c o p
-  alike c outcome.Allowed outcome.Allowed d e = (answered c d.0, after_next c, kept G H viewers agree x known in_G c in_H next d.0)
+  alike c outcome.Allowed outcome.Allowed d e = (told_same (terms x c).does (entitled G (Reaches G x) (reaches_on G x) x (itself G H x own) c d.0), after_next (terms x c).does, kept G H viewers agree x known in_G c in_H next d.0)
   alike c outcome.Allowed (outcome.Denied rule why) d e = absurd (cc (only c outcome.Allowed (outcome.Denied rule why) d.0 e))
   alike c outcome.Allowed (outcome.Full which.Serials) d e = absurd (room c d.1 e.1 e.2)
   alike c outcome.Allowed (outcome.Full which.Slots) d e = absurd e
   alike c outcome.Allowed (outcome.Full which.Cells) d e = absurd e
   alike c (outcome.Denied rule why) outcome.Allowed d e = absurd (cc (only c (outcome.Denied rule why) outcome.Allowed d e.0))
-  alike c (outcome.Denied rule why) (outcome.Denied rule' why') d e = (ap (reply_of H c) (only c (outcome.Denied rule why) (outcome.Denied rule' why') d e), next, agree)
+  alike c (outcome.Denied rule why) (outcome.Denied rule' why') d e = (ap (reply_of H x c) (only c (outcome.Denied rule why) (outcome.Denied rule' why') d e), next, agree)
   alike c (outcome.Denied rule why) (outcome.Full which.Serials) d e = absurd (cc (only c (outcome.Denied rule why) outcome.Allowed d e.0))
   alike c (outcome.Denied rule why) (outcome.Full which.Slots) d e = absurd e
   alike c (outcome.Denied rule why) (outcome.Full which.Cells) d e = absurd e

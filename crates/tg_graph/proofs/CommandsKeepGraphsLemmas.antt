@@ -1,39 +1,43 @@
 -- What an allowed command leaves: a graph, and each subject a subject.
-use Rattle.std.proofs.Common.{◌≡◌, ◌≢◌, ℕ, zero, suc, ◌<◌, ◌≤◌, [], Bool, true, false, cond, not, refl, sym, ap, subst, ◌∙◌, Some, None, ◌==◌, arith}
+use Rattle.std.proofs.Common.{◌≡◌, ◌≢◌, ℕ, zero, suc, ◌<◌, ◌≤◌, [], Bool, true, false, cond, refl, sym, ap, ◌∙◌, Some, None, ◌==◌, arith}
 use Rattle.std.specs.Option.{option_map}
 use Rattle.std.specs.Cmp.{nat_cmp_total, unsigned_tied}
 use Rattle.std.specs.FinMap as map
 use Rattle.std.proofs.lemmas.Bool.{eqb-true, eq-eqb, leb-true, and_parts, not-false}
 use Rattle.tg_rights.specs.declared.kind.Kind.TheVariants as kind
 use Rattle.tg_rights.specs.declared.command.Command.{Command}
-use Rattle.tg_rights.specs.declared.command.Command.TheVariants as command
+use Rattle.std.specs.Prelude.{Option}
+use Rattle.tg_graph.specs.Terms as effect
+use Rattle.tg_graph.specs.Terms.{Does, terms}
 use Rattle.tg_rights.specs.declared.limits.TheConstants.{MAX_PRINCIPALS}
 use Rattle.tg_graph.specs.declared.config.Config.{Config}
 use Rattle.tg_graph.specs.declared.config.OpenFault.TheVariants as fault
 use Rattle.tg_graph.specs.declared.vertex.Vertex.{Vertex}
 use Rattle.tg_graph.specs.Opening.{first_fault, is_principal, principal_count, opening, subjects, faults}
-use Rattle.tg_graph.specs.Protection.{Protection, IsGraph, IsSubject, vertex, kind_of}
-use Rattle.tg_graph.specs.Rules.{Allowed, after}
+use Rattle.tg_graph.specs.Protection.{Protection, IsGraph, IsSubject, IsVertex, vertex, kind_of}
+use Rattle.tg_graph.specs.Rules.{Allowed, after, done, with_text}
 use Rattle.tg_graph.proofs.LabelLemmas.{union-IsGraph, difference-IsGraph}
-use Rattle.tg_graph.proofs.VertexLemmas.{IsVertex-from_kind, with_text-document, new-IsGraph, replace-IsGraph}
+use Rattle.tg_graph.proofs.VertexLemmas.{IsVertex-from_kind, with_text-IsGraph, new-IsGraph}
 use Rattle.tg_graph.proofs.OpeningLemmas.{none_at}
-use Rattle.tg_graph.proofs.ProtectionLemmas.{take_to, grant_from, grant_to}
+use Rattle.tg_graph.proofs.ProtectionLemmas.{Entitled, edge_to, entitled}
 
-apart : (x y : ℕ) → not (x == y) ≡ true → x ≢ y
-apart x y e is = absurd (cc (sym (ap not (eq-eqb x y is)) ∙ e))
+module _ (G : Protection) (x : ℕ) (g : IsGraph G) where
+  abbrev pub Granted : IsVertex G x → Does → Type 0
+  Granted x_in = Entitled G (IsVertex G) (λ v z k e. edge_to G g v z e) x x_in
+
+  pub granted : (x_in : IsVertex G x) (c : Command) → Allowed G x c → Granted x_in (terms x c).does
+  granted x_in c a = entitled G (IsVertex G) (λ v z k e. edge_to G g v z e) x x_in c a
+
+  done_stays : (x_in : IsVertex G x) (e : Does) → Granted x_in e → IsGraph (done G x e)
+  done_stays x_in (effect.Joins from α to) h = union-IsGraph G from to α g h.0 h.1 h.2
+  done_stays x_in (effect.Makes k α) h = new-IsGraph G x α (record { kind = k; text = [] }) g x_in
+  done_stays x_in (effect.Drops α over) h = difference-IsGraph G x over α g
+  done_stays x_in (effect.Rewrites over text) h = with_text-IsGraph G over text g
+  done_stays x_in (effect.Tells over) h = g
+  done_stays x_in (effect.Lists at) h = g
 
 pub graph_stays : (G : Protection) (x : ℕ) (c : Command) → IsGraph G → IsSubject G x → Allowed G x c → IsGraph (after G x c)
-graph_stays G x (command.Take α over from) g s a =
-    union-IsGraph G x over α g (IsVertex-from_kind G x kind.Subject s) (take_to G x α over from g a) (apart x over (and_parts _ _ (and_parts _ _ a.distinct).0).0)
-graph_stays G x (command.Grant α over to) g s a =
-    union-IsGraph G to over α g (grant_from G x α over to g a) (grant_to G x α over to g a) (λ is. apart over to (and_parts _ _ a.distinct).1 (sym is))
-graph_stays G x (command.Create k α) g s a = new-IsGraph G x α (record { kind = k; text = [] }) g (IsVertex-from_kind G x kind.Subject s)
-graph_stays G x (command.Remove α over) g s a = difference-IsGraph G x over α g
-graph_stays G x (command.Read over) g s a = g
-graph_stays G x (command.Write over text) g s a =
-    subst IsGraph (sym (with_text-document G over text a.document))
-    (replace-IsGraph G over (record { kind = kind.Document; text = text }) g (IsVertex-from_kind G over kind.Document a.document))
-graph_stays G x (command.Look at) g s a = g
+graph_stays G x c g s a = let x_in = IsVertex-from_kind G x kind.Subject s in done_stays G x g x_in (terms x c).does (granted G x g x_in c a)
 
 -- another vertex is as it was
 other_kind : (G : Protection) (v w : ℕ) (e : Vertex) → (w ≡ v → ⊥) → IsSubject G w → option_map (λ e. e.kind) (map.get (map.insert G.vertices v e) w) ≡ Some kind.Subject
@@ -42,16 +46,24 @@ other_kind G v w e apart s = ap (option_map (λ e. e.kind)) (map.get-insert nat_
   differ true e = absurd (apart (eqb-true w v e))
   differ false e = refl
 
-pub subject_stays : (G : Protection) (x : ℕ) (c : Command) → IsGraph G → Allowed G x c → (v : ℕ) → IsSubject G v → IsSubject (after G x c) v
-subject_stays G x (command.Take α over from) g a v s = s
-subject_stays G x (command.Grant α over to) g a v s = s
-subject_stays G x (command.Create k α) g a v s =
+subject_left : (G : Protection) (x : ℕ) → IsGraph G → (e : Does) (v : ℕ) → IsSubject G v → IsSubject (done G x e) v
+subject_left G x g (effect.Joins from α to) v s = s
+subject_left G x g (effect.Makes k α) v s =
     other_kind G G.next v (record { kind = k; text = [] }) (λ is. let l : v < G.next = g.below_next v (IsVertex-from_kind G v kind.Subject s) in absurd (omega arith)) s
-subject_stays G x (command.Remove α over) g a v s = s
-subject_stays G x (command.Read over) g a v s = s
-subject_stays G x (command.Write over text) g a v s =
-    subst (λ (K : Protection). IsSubject K v) (sym (with_text-document G over text a.document)) (other_kind G over v (record { kind = kind.Document; text = text }) (λ is. let both : Some kind.Subject ≡ Some kind.Document = sym s ∙ ap (kind_of G) is ∙ a.document in cc both) s)
-subject_stays G x (command.Look at) g a v s = s
+subject_left G x g (effect.Drops α over) v s = s
+subject_left G x g (effect.Rewrites over text) v s = told (vertex G over) refl where
+  told : (o : Option Vertex) → vertex G over ≡ o → IsSubject (with_text G over text o) v
+  told None is = s
+  told (Some e) is = by (v == over) refl where
+    by : (b : Bool) → (v == over) ≡ b → IsSubject (with_text G over text (Some e)) v
+    by true same = ap (option_map (λ e. e.kind)) (map.get-insert nat_cmp_total G.vertices over (record e { text = text }) v ∙ ap (λ b. cond b (Some (record e { text = text })) (vertex G v)) (unsigned_tied v over ∙ same))
+        ∙ ap (option_map (λ e. e.kind)) (sym is) ∙ ap (kind_of G) (sym (eqb-true v over same)) ∙ s
+    by false other = other_kind G over v (record e { text = text }) (λ is. absurd (cc (other, eq-eqb v over is))) s
+subject_left G x g (effect.Tells over) v s = s
+subject_left G x g (effect.Lists at) v s = s
+
+pub subject_stays : (G : Protection) (x : ℕ) (c : Command) → IsGraph G → (v : ℕ) → IsSubject G v → IsSubject (after G x c) v
+subject_stays G x c g v s = subject_left G x g (terms x c).does v s
 
 subjects_kind : (count v : ℕ) → 1 ≤ v → v ≤ count → option_map (λ (e : Vertex). e.kind) (map.get (subjects count) v) ≡ Some kind.Subject
 subjects_kind zero v low high = absurd (omega arith)

@@ -1,5 +1,6 @@
 -- Lemma files that other crates may use, each named after the definition or law that it serves.
 pub mod CommandsKeepGraphsLemmas
+pub mod DecidingLemmas
 pub mod EdgesAreCountedLemmas
 pub mod ExactlyOneOutcomeLemmas
 pub mod FullnessLemmas
@@ -13,6 +14,7 @@ pub mod RepliesAgreeLemmas
 pub mod TriplesLemmas
 pub mod VertexLemmas
 -- Lemma files of this crate's own proofs.
+mod AllowedIsMetLemmas
 mod AnswersAgreeLemmas
 mod EdgesAreListedLemmas
 mod EdgesOfLemmas

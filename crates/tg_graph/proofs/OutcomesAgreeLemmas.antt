@@ -1,89 +1,106 @@
 -- A subject cannot tell apart two graphs that agree for it: the rules decide its commands alike.
-use Rattle.std.proofs.Common.{◌≡◌, ℕ, ◌∷◌, [], List, Bool, true, false, cond, refl, sym, ap, subst, ◌∙◌, Some, None, ◌==◌}
+use Rattle.std.proofs.Common.{◌≡◌, ℕ, ◌∷◌, [], ◌++◌, List, Bool, true, false, cond, refl, sym, ap, subst, ◌∙◌, Some, None, inl, inr}
 use Rattle.std.specs.Prelude.{Option}
 use Rattle.std.specs.Option.{option_map}
-use Rattle.tg_rights.specs.Letters.{Letters, without, includes, take_alone, read_alone, write_alone}
-use Rattle.tg_rights.specs.Command.{rule_of}
+use Rattle.tg_rights.specs.Letters.{Letters, without, includes}
 use Rattle.tg_rights.specs.declared.kind.Kind.TheVariants as kind
 use Rattle.tg_rights.specs.declared.command.Command.{Command}
-use Rattle.tg_rights.specs.declared.command.Command.TheVariants as command
+use Rattle.tg_rights.specs.declared.outcome.Cause.{Cause}
 use Rattle.tg_rights.specs.declared.outcome.Cause.TheVariants as cause
 use Rattle.tg_rights.specs.declared.outcome.Outcome.{Outcome}
-use Rattle.tg_rights.specs.declared.outcome.Outcome.TheVariants as outcome
-use Rattle.tg_graph.specs.Protection.{Protection, IsVertex, IsEdge, label}
-use Rattle.tg_graph.specs.Rules.{Need, need, needs, names_rights, is_distinct, document_of, is_met, first_unmet, AllMet, Judged}
-use Rattle.tg_graph.specs.Paths.{Agree}
-use Rattle.tg_graph.proofs.ExactlyOneOutcomeLemmas.{decide, verdict, is_document, is_document_kind, Judged-verdict, verdict-Judged}
+use Rattle.tg_graph.specs.declared.rules.Need.{Need}
+use Rattle.tg_graph.specs.Protection.{Protection, IsEdge, label}
+use Rattle.tg_graph.specs.Terms.{Terms, terms}
+use Rattle.tg_graph.specs.Rules.{Check, Judged, checks, first_failure, is_document, is_met, lack, misfit, missing, unless}
+use Rattle.tg_graph.specs.Deciding.{AskSome, Follows, IsSound, LeadTo, DocumentNear}
+use Rattle.tg_graph.specs.Paths.{Agree, Leads, Reaches}
+use Rattle.tg_graph.proofs.ExactlyOneOutcomeLemmas.{outcome_by, verdict, Judged-verdict, verdict-Judged}
+use Rattle.tg_graph.proofs.DecidingLemmas.{sound}
 use Rattle.tg_graph.proofs.VertexLemmas.{IsVertex-from_kind}
-use Rattle.tg_graph.proofs.ProtectionLemmas.{includes_some}
+use Rattle.tg_graph.proofs.ProtectionLemmas.{includes_some, led}
 
-module _ (G H : Protection) where
-  -- each need is read alike, as far as the earlier ones are met
-  abbrev ReadAlike : List Need → Type 0
-  ReadAlike [] = Unit {0}
-  ReadAlike (n ∷ ns) = (label G n.from n.to ≡ label H n.from n.to) × (is_met G n ≡ true → ReadAlike ns)
+pub leads_on : (G : Protection) (later : List ℕ) (x y z : ℕ) → Leads G x later y → IsEdge G y z → Leads G x (later ++ z ∷ []) z
+leads_on G [] x y z e step = (subst (λ v. IsEdge G v z) (sym e) step, refl)
+leads_on G (v ∷ vs) x y z p step = (p.0, leads_on G vs v y z p.1 step)
 
-  abbrev DocumentAlike : Option ℕ → Type 0
-  DocumentAlike None = Unit {0}
-  DocumentAlike (Some y) = is_document G y ≡ is_document H y
+pub reaches_on : (G : Protection) (x y z : ℕ) → Reaches G x y → IsEdge G y z → Reaches G x z
+reaches_on G x y z r e = (r.0 ++ z ∷ [], (r.1.0, leads_on G r.0 x y z r.1.1 e))
 
-  same_document : (c : Command) (d : Option ℕ) → DocumentAlike d → decide G c true true None d ≡ decide H c true true None d
-  same_document c None same = refl
-  same_document c (Some y) same = ap (λ b. cond b outcome.Allowed (outcome.Denied (rule_of c) (cause.NotDocument y))) same
+-- each check is alike, as far as the earlier ones pass
+abbrev pub ChecksAlike : List Check → List Check → Type 0
+ChecksAlike [] [] = Unit {0}
+ChecksAlike (m ∷ ms) (n ∷ ns) = (m ≡ n) × (m ≡ None → ChecksAlike ms ns)
+ChecksAlike [] (n ∷ ns) = ⊥
+ChecksAlike (m ∷ ms) [] = ⊥
 
-  same_needs : (c : Command) (d : Option ℕ) (ns : List Need) → ReadAlike ns → (AllMet G ns → DocumentAlike d) →
-      decide G c true true (first_unmet G ns) d ≡ decide H c true true (first_unmet H ns) d
-  same_needs c d [] alike same = same_document c d (same tt)
-  same_needs c d (n ∷ ns) alike same =
-      elim (is_met G n) as (λ b. is_met G n ≡ b →
-      decide G c true true (cond b (first_unmet G ns) (Some n)) d ≡ decide H c true true (cond (is_met H n) (first_unmet H ns) (Some n)) d) [
-        | true ↦ λ met.
-            same_needs c d ns (alike.1 met) (λ all. same (met, all))
-            ∙ ap (λ b. decide H c true true (cond b (first_unmet H ns) (Some n)) d) (sym (sym (ap (λ (l : Letters). includes l n.rights) alike.0) ∙ met))
-        | false ↦ λ unmet.
-            ap (λ (l : Letters). outcome.Denied (rule_of c) (cause.Missing n.from n.to (without n.rights l))) alike.0
-            ∙ ap (λ b. decide H c true true (cond b (first_unmet H ns) (Some n)) d) (sym (sym (ap (λ (l : Letters). includes l n.rights) alike.0) ∙ unmet))
-      ] refl
+pub same_failure : (ms ns : List Check) → ChecksAlike ms ns → first_failure ms ≡ first_failure ns
+same_failure [] [] alike = refl
+same_failure (m ∷ ms) (n ∷ ns) alike = ap (λ k. first_failure (k ∷ ms)) alike.0 ∙ later n (λ e. same_failure ms ns (alike.1 (alike.0 ∙ e))) where
+  later : (k : Check) → (k ≡ None → first_failure ms ≡ first_failure ns) → first_failure (k ∷ ms) ≡ first_failure (k ∷ ns)
+  later None same = same refl
+  later (Some why) same = refl
+same_failure [] (n ∷ ns) alike = absurd alike
+same_failure (m ∷ ms) [] alike = absurd alike
 
-  same_decision : (c : Command) (named distinct : Bool) (d : Option ℕ) (ns : List Need) → ReadAlike ns → (AllMet G ns → DocumentAlike d) →
-      decide G c named distinct (first_unmet G ns) d ≡ decide H c named distinct (first_unmet H ns) d
-  same_decision c false distinct d ns alike same = refl
-  same_decision c true false d ns alike same = refl
-  same_decision c true true d ns alike same = same_needs c d ns alike same
+tested : (b : Bool) (why : Cause) → unless b why ≡ None → b ≡ true
+tested true why e = refl
+tested false why e = absurd (cc e)
 
-  module _ (x : ℕ) (agree : Agree G H x) where
-    here : IsVertex G x
-    here = IsVertex-from_kind G x kind.Subject agree.subject
+module _ (G H : Protection) (x : ℕ) (agree : Agree G H x) where
+  pub itself : Reaches G x x
+  itself = ([], (IsVertex-from_kind G x kind.Subject agree.subject, refl))
 
-    own : (y : ℕ) → label G x y ≡ label H x y
-    own y = agree.labels [] x y (here, refl)
+  pub read_alike : (y z : ℕ) → Reaches G x y → label G y z ≡ label H y z
+  read_alike y z r = agree.labels r.0 y z r.1
 
-    next : (z y : ℕ) → IsEdge G x z → label G z y ≡ label H z y
-    next z y e = agree.labels (z ∷ []) z y (here, (e, refl))
+  -- what a need says of a label
+  judged_need : Need → Letters → Check → Check
+  judged_need n l later = cond (includes l n.rights) later (Some (cause.Missing n.from n.to (without n.rights l)))
 
-    seen : (z : ℕ) → IsEdge G x z → is_document G z ≡ is_document H z
-    seen z e = ap (λ v. is_document_kind (option_map (λ e. e.kind) v)) (agree.vertices (z ∷ []) z (here, (e, refl)))
+  same_need : (n : Need) (later later' : Check) → Reaches G x n.from → (is_met G n ≡ true → later ≡ later') → cond (is_met G n) later (Some (lack G n)) ≡ cond (is_met H n) later' (Some (lack H n))
+  unfolding judged_need
+  same_need n later later' from same =
+      elim (is_met G n) as (λ b. is_met G n ≡ b → cond b later (Some (lack G n)) ≡ cond b later' (Some (lack G n))) [ true ↦ λ e. same e | false ↦ λ e. refl ] refl
+      ∙ ap (λ l. judged_need n l later') (read_alike n.from n.to from)
 
-    alike : (c : Command) → ReadAlike (needs x c)
-    alike (command.Take α over from) = (own from, λ met. (next from over (includes_some (label G x from) take_alone met refl), λ _. tt))
-    alike (command.Grant α over to) = (own to, λ _. (own over, λ _. tt))
-    alike (command.Create k α) = tt
-    alike (command.Remove α over) = (own over, λ _. tt)
-    alike (command.Read over) = (own over, λ _. tt)
-    alike (command.Write over text) = (own over, λ _. tt)
-    alike (command.Look at) = elim (at == x) as (λ b. ReadAlike (cond b [] (need x at take_alone ∷ []))) [ true ↦ tt | false ↦ (own at, λ _. tt) ]
+  same_missing : (ns : List Need) → Follows x ns → AskSome ns → missing G ns ≡ missing H ns
+  same_missing [] follows some = refl
+  same_missing (n ∷ []) follows some = same_need n None None (subst (Reaches G x) (sym follows) itself) (λ _. refl)
+  same_missing (n ∷ m ∷ []) follows some =
+      let first : Reaches G x n.from = subst (Reaches G x) (sym follows.0) itself in
+      same_need n (missing G (m ∷ [])) (missing H (m ∷ [])) first (λ met.
+      same_need m None None
+      (elim follows.1 [
+        | inl at ↦ subst (Reaches G x) (sym at) itself
+        | inr at ↦ subst (Reaches G x) (sym at) (reaches_on G x n.from n.to first (includes_some (label G n.from n.to) n.rights met some.0))
+      ])
+      (λ _. refl))
+  same_missing (n ∷ m ∷ o ∷ ns) follows some = absurd follows
 
-    document : (c : Command) → AllMet G (needs x c) → DocumentAlike (document_of c)
-    document (command.Take α over from) all = tt
-    document (command.Grant α over to) all = tt
-    document (command.Create k α) all = tt
-    document (command.Remove α over) all = tt
-    document (command.Read over) all = seen over (includes_some (label G x over) read_alone all.0 refl)
-    document (command.Write over text) all = seen over (includes_some (label G x over) write_alone all.0 refl)
-    document (command.Look at) all = tt
+  same_misfit : (asked : Option ℕ) (ns : List Need) → DocumentNear ns asked → ((v : ℕ) → LeadTo ns v → Reaches G x v) → misfit G asked ≡ misfit H asked
+  same_misfit None ns near reached = refl
+  same_misfit (Some y) ns near reached =
+      let path = reached y near in
+      ap (λ v. unless (is_document (option_map (λ e. e.kind) v)) (cause.NotDocument y)) (agree.vertices path.0 y path.1)
 
-    pub same_verdict : (c : Command) → verdict G x c ≡ verdict H x c
-    same_verdict c = same_decision c (names_rights c) (is_distinct x c) (document_of c) (needs x c) (alike c) (document c)
+  same_checks : (t : Terms) → IsSound x t → ChecksAlike (checks G t) (checks H t)
+  same_checks t s = (
+    refl,
+    λ named. let some = s.some (tested _ _ named) in (
+      refl,
+      λ apart. (
+        same_missing t.needs s.follows some,
+        λ met. (
+          same_misfit t.document t.needs s.document (led G (Reaches G x) (reaches_on G x) x itself t.needs s.follows some met),
+          λ fit.
+              tt,
+        ),
+      ),
+    ),
+  )
+
+  pub same_verdict : (c : Command) → verdict G x c ≡ verdict H x c
+  same_verdict c = ap (outcome_by c) (same_failure (checks G (terms x c)) (checks H (terms x c)) (same_checks (terms x c) (sound x c)))
 
 -- what the rules decide in one graph, they decide in each that agrees with it for the actor
 pub Judged-agrees : (G H : Protection) (x : ℕ) (c : Command) (o : Outcome) → Agree G H x → Judged G x c o → Judged H x c o

@@ -6,20 +6,22 @@ use Rattle.std.specs.Ordering.{nat_cmp, eq_by_cmp}
 use Rattle.std.specs.Cmp.{nat_cmp_total, unsigned_tied}
 use Rattle.std.specs.FinMap as map
 use Rattle.std.specs.FinSet as set
-use Rattle.std.proofs.lemmas.Bool.{eqb-true, eq-eqb, and_parts, or_cases, not-true, or_left, or_right}
-use Rattle.tg_rights.specs.Letters.{Letters, Right, read, write, take, grant, none, rights_where, joined, without, is_none, write_alone, take_alone, grant_alone}
+use Rattle.std.proofs.lemmas.Bool.{eqb-true, eq-eqb, and_parts, or_cases, or_left, or_right}
+use Rattle.tg_rights.specs.Letters.{Letters, Right, read, write, take, grant, none, rights_where, joined, without, is_none}
 use Rattle.tg_rights.specs.declared.kind.Kind.{Kind}
 use Rattle.tg_rights.specs.declared.kind.Kind.TheVariants as kind
 use Rattle.tg_rights.specs.declared.command.Command.{Command}
-use Rattle.tg_rights.specs.declared.command.Command.TheVariants as command
+use Rattle.tg_graph.specs.Terms as effect
+use Rattle.tg_graph.specs.Terms.{Does, terms}
 use Rattle.tg_graph.specs.declared.vertex.Vertex.{Vertex}
 use Rattle.tg_graph.specs.Triples.{edge}
 use Rattle.tg_graph.specs.Protection.{Protection, IsGraph, IsVertex, IsSubject, IsDocument, IsEdge, vertex, label}
-use Rattle.tg_graph.specs.Rules.{Allowed, after, with_text}
+use Rattle.tg_graph.specs.Rules.{Allowed, after, done, with_text}
 use Rattle.tg_graph.specs.Paths.{Agree, IsPart, Leads, Reaches}
 use Rattle.tg_graph.proofs.LabelLemmas.{Relabels, union-Relabels, difference-Relabels}
 use Rattle.tg_graph.proofs.VertexLemmas.{IsVertex-from_kind, IsVertex-insert, with_text-document}
-use Rattle.tg_graph.proofs.ProtectionLemmas.{includes_some}
+use Rattle.tg_graph.proofs.ProtectionLemmas.{Entitled, entitled}
+use Rattle.tg_graph.proofs.OutcomesAgreeLemmas.{leads_on}
 use Rattle.tg_graph.proofs.CommandsKeepGraphsLemmas.{subject_stays}
 
 -- the labels of a relabelled set
@@ -58,10 +60,6 @@ module _ (G H : Protection) (Known : ℕ → Type 0) (alike : Alike G H Known) w
     vertices = λ later y p. alike.vertices y (along later q y k p.1).1;
     labels = λ later y z p. alike.labels y z (along later q y k p.1).1;
   }
-
-pub leads_on : (G : Protection) (later : List ℕ) (x y z : ℕ) → Leads G x later y → IsEdge G y z → Leads G x (later ++ z ∷ []) z
-leads_on G [] x y z e step = (subst (λ v. IsEdge G v z) (sym e) step, refl)
-leads_on G (v ∷ vs) x y z p step = (p.0, leads_on G vs v y z p.1 step)
 
 some_joined : (b : Bool) (l m k : Letters) → is_none (cond b l m) ≡ false → (b ≡ true) ⊎ (is_none m ≡ false)
 some_joined true l m k e = inl refl
@@ -178,50 +176,45 @@ module _ (G H : Protection) (Known : ℕ → Type 0) (alike : Alike G H Known) (
     created : Alike (grown G) (grown H) grown_known
     created = record { labels = grown_labels; vertices = grown_vertices; step = grown_step }
 
-  -- who is known once the command is carried out: a new vertex too
-  abbrev pub known_after : Command → ℕ → Type 0
-  known_after (command.Take α over from) v = Known v
-  known_after (command.Grant α over to) v = Known v
-  known_after (command.Create k α) v = Known v ⊎ (v ≡ G.next)
-  known_after (command.Remove α over) v = Known v
-  known_after (command.Read over) v = Known v
-  known_after (command.Write over text) v = Known v
-  known_after (command.Look at) v = Known v
+  -- who is known afterwards: a new vertex too
+  abbrev pub known_after : Does → ℕ → Type 0
+  known_after (effect.Joins from α to) v = Known v
+  known_after (effect.Makes k α) v = Known v ⊎ (v ≡ G.next)
+  known_after (effect.Drops α over) v = Known v
+  known_after (effect.Rewrites over text) v = Known v
+  known_after (effect.Tells over) v = Known v
+  known_after (effect.Lists at) v = Known v
 
-  new_too : (k : Kind) (α : Letters) → IsGraph H → G.next ≡ H.next → Alike (after G x (command.Create k α)) (after H x (command.Create k α)) (known_after (command.Create k α))
+  new_too : (k : Kind) (α : Letters) → IsGraph H → G.next ≡ H.next → Alike (done G x (effect.Makes k α)) (done H x (effect.Makes k α)) (known_after (effect.Makes k α))
   unfolding grown
   new_too k α in_H next =
       let e : Vertex = record { kind = k; text = [] } in
-      subst (λ (m : ℕ). Alike (after G x (command.Create k α)) (record { vertices = map.insert H.vertices m e; next = m + 1; triples = set.union H.triples (edge x α m) }) (known_after (command.Create k α))) next
+      subst (λ (m : ℕ). Alike (done G x (effect.Makes k α)) (record { vertices = map.insert H.vertices m e; next = m + 1; triples = set.union H.triples (edge x α m) }) (known_after (effect.Makes k α))) next
       (created G.next α e refl (sym next) in_H)
 
-  pub alike_after : (c : Command) → IsGraph H → G.next ≡ H.next → Allowed G x c → Alike (after G x c) (after H x c) (known_after c)
-  alike_after (command.Take α over from) in_H next a =
-      joined_too G H Known alike x over α x_known
-      (alike.step from over (alike.step x from x_known (includes_some (label G x from) take_alone a.met.0 refl)) (includes_some (label G from over) α a.met.1.0 (not-true _ a.rights_named)))
-  alike_after (command.Grant α over to) in_H next a =
-      joined_too G H Known alike to over α (alike.step x to x_known (includes_some (label G x to) grant_alone a.met.0 refl))
-      (alike.step x over x_known (includes_some (label G x over) α a.met.1.0 (not-true _ a.rights_named)))
-  alike_after (command.Create k α) in_H next a = new_too k α in_H next
-  alike_after (command.Remove α over) in_H next a = less_too G H Known alike x over α x_known
-  alike_after (command.Read over) in_H next a = alike
-  alike_after (command.Write over text) in_H next a =
-      let known_over = alike.step x over x_known (includes_some (label G x over) write_alone a.met.0 refl) in
-      let document_too : IsDocument H over = ap (option_map (λ e. e.kind)) (sym (alike.vertices over known_over)) ∙ a.document in
+  done_alike : (e : Does) → IsGraph H → G.next ≡ H.next → Entitled G Known alike.step x x_known e → Alike (done G x e) (done H x e) (known_after e)
+  done_alike (effect.Joins from α to) in_H next h = joined_too G H Known alike from to α h.0 h.1
+  done_alike (effect.Makes k α) in_H next h = new_too k α in_H next
+  done_alike (effect.Drops α over) in_H next h = less_too G H Known alike x over α x_known
+  done_alike (effect.Rewrites over text) in_H next h =
+      let document_too : IsDocument H over = ap (option_map (λ e. e.kind)) (sym (alike.vertices over h.0)) ∙ h.1 in
       let told : Vertex = record { kind = kind.Document; text = text } in
-      subst (λ (K : Protection). Alike K (after H x (command.Write over text)) Known) (sym (with_text-document G over text a.document))
+      subst (λ (K : Protection). Alike K (done H x (effect.Rewrites over text)) Known) (sym (with_text-document G over text h.1))
       (subst (λ (L : Protection). Alike (record G { vertices = map.insert G.vertices over told }) L Known) (sym (with_text-document H over text document_too))
       (text_too G H Known alike over told))
-  alike_after (command.Look at) in_H next a = alike
+  done_alike (effect.Tells over) in_H next h = alike
+  done_alike (effect.Lists at) in_H next h = alike
 
-  pub still_known : (c : Command) (v : ℕ) → Known v → known_after c v
-  still_known (command.Take α over from) v k = k
-  still_known (command.Grant α over to) v k = k
-  still_known (command.Create k α) v h = inl h
-  still_known (command.Remove α over) v k = k
-  still_known (command.Read over) v k = k
-  still_known (command.Write over text) v k = k
-  still_known (command.Look at) v k = k
+  pub alike_after : (c : Command) → IsGraph H → G.next ≡ H.next → Allowed G x c → Alike (after G x c) (after H x c) (known_after (terms x c).does)
+  alike_after c in_H next a = done_alike (terms x c).does in_H next (entitled G Known alike.step x x_known c a)
+
+  pub still_known : (e : Does) (v : ℕ) → Known v → known_after e v
+  still_known (effect.Joins from α to) v k = k
+  still_known (effect.Makes k α) v h = inl h
+  still_known (effect.Drops α over) v k = k
+  still_known (effect.Rewrites over text) v k = k
+  still_known (effect.Tells over) v k = k
+  still_known (effect.Lists at) v k = k
 
 -- what the viewers reach
 module _ (G H : Protection) (viewers : set.FinSet nat_cmp) (agree : (v : ℕ) → set.contains viewers v ≡ true → Agree G H v) where
@@ -243,8 +236,8 @@ module _ (G H : Protection) (viewers : set.FinSet nat_cmp) (agree : (v : ℕ) �
   kept x x_in in_G c in_H next a v v_in =
       let x_there = IsVertex-from_kind G x kind.Subject (agree x x_in).subject in
       let after_both = alike_after G H Reached reached_alike x (viewer x x_in) x_there in_G c in_H next a in
-      agree_around (after G x c) (after H x c) (known_after G H Reached reached_alike x (viewer x x_in) x_there in_G c) after_both v
-      (still_known G H Reached reached_alike x (viewer x x_in) x_there in_G c v (viewer v v_in)) (subject_stays G x c in_G a v (agree v v_in).subject)
+      agree_around (after G x c) (after H x c) (known_after G H Reached reached_alike x (viewer x x_in) x_there in_G (terms x c).does) after_both v
+      (still_known G H Reached reached_alike x (viewer x x_in) x_there in_G (terms x c).does v (viewer v v_in)) (subject_stays G x c in_G v (agree v v_in).subject)
 
 -- a part of a graph
 module _ (G H : Protection) (part : IsPart G H) where
@@ -263,33 +256,33 @@ module _ (G H : Protection) (part : IsPart G H) where
 
   -- the part and the whole stay so when the same command is carried out in both
   pub part_stays : (x : ℕ) (c : Command) → IsGraph G → IsGraph H → G.next ≡ H.next → IsVertex H x → IsVertex G x → Allowed G x c → IsPart (after G x c) (after H x c)
-  part_stays x c in_G in_H next x_there x_in a = part_of (after G x c) (after H x c) (known_after G H (IsVertex H) part_alike x x_there x_in in_G c) (alike_after G H (IsVertex H) part_alike x x_there x_in in_G c in_H next a) (into c) (out c) where
-    told_vertex : (y : ℕ) (text : List ℕ) (o : Option Vertex) → vertex H y ≡ o → (v : ℕ) → IsVertex (with_text H y text o) v → IsVertex H v
-    told_vertex y text None is v h = h
-    told_vertex y text (Some e) is v h = elim (or_cases _ _ (sym (IsVertex-insert H.vertices y (record e { text = text }) v) ∙ h)) [
-      | inl same ↦ ap (λ q. map.contains_key H.vertices q) (eqb-true v y same) ∙ ap is_some is
-      | inr old ↦ old
-    ]
+  part_stays x c in_G in_H next x_there x_in a =
+      part_of (after G x c) (after H x c) (known_after G H (IsVertex H) part_alike x x_there x_in in_G (terms x c).does) (alike_after G H (IsVertex H) part_alike x x_there x_in in_G c in_H next a)
+      (into (terms x c).does) (out (terms x c).does) where
+        told_vertex : (y : ℕ) (text : List ℕ) (o : Option Vertex) → vertex H y ≡ o → (v : ℕ) → IsVertex (with_text H y text o) v → IsVertex H v
+        told_vertex y text None is v h = h
+        told_vertex y text (Some e) is v h = elim (or_cases _ _ (sym (IsVertex-insert H.vertices y (record e { text = text }) v) ∙ h)) [
+          | inl same ↦ ap (λ q. map.contains_key H.vertices q) (eqb-true v y same) ∙ ap is_some is
+          | inr old ↦ old
+        ]
 
-    vertex_told : (y : ℕ) (text : List ℕ) (o : Option Vertex) (v : ℕ) → IsVertex H v → IsVertex (with_text H y text o) v
-    vertex_told y text None v h = h
-    vertex_told y text (Some e) v h = IsVertex-insert H.vertices y (record e { text = text }) v ∙ or_right _ _ h
+        vertex_told : (y : ℕ) (text : List ℕ) (o : Option Vertex) (v : ℕ) → IsVertex H v → IsVertex (with_text H y text o) v
+        vertex_told y text None v h = h
+        vertex_told y text (Some e) v h = IsVertex-insert H.vertices y (record e { text = text }) v ∙ or_right _ _ h
 
-    into : (c : Command) (v : ℕ) → IsVertex (after H x c) v → known_after G H (IsVertex H) part_alike x x_there x_in in_G c v
-    into (command.Take α over from) v h = h
-    into (command.Grant α over to) v h = h
-    into (command.Create k α) v h = elim (or_cases _ _ (sym (IsVertex-insert H.vertices H.next (record { kind = k; text = [] }) v) ∙ h)) [ inl is ↦ inr (eqb-true v H.next is ∙ sym next) | inr old ↦ inl old ]
-    into (command.Remove α over) v h = h
-    into (command.Read over) v h = h
-    into (command.Write over text) v h = told_vertex over text (vertex H over) refl v h
-    into (command.Look at) v h = h
+        into : (e : Does) (v : ℕ) → IsVertex (done H x e) v → known_after G H (IsVertex H) part_alike x x_there x_in in_G e v
+        into (effect.Joins from α to) v h = h
+        into (effect.Makes k α) v h = elim (or_cases _ _ (sym (IsVertex-insert H.vertices H.next (record { kind = k; text = [] }) v) ∙ h)) [ inl is ↦ inr (eqb-true v H.next is ∙ sym next) | inr old ↦ inl old ]
+        into (effect.Drops α over) v h = h
+        into (effect.Rewrites over text) v h = told_vertex over text (vertex H over) refl v h
+        into (effect.Tells over) v h = h
+        into (effect.Lists at) v h = h
 
-    out : (c : Command) (v : ℕ) → known_after G H (IsVertex H) part_alike x x_there x_in in_G c v → IsVertex (after H x c) v
-    out (command.Take α over from) v h = h
-    out (command.Grant α over to) v h = h
-    out (command.Create k α) v (inl h) = IsVertex-insert H.vertices H.next (record { kind = k; text = [] }) v ∙ or_right _ _ h
-    out (command.Create k α) v (inr is) = IsVertex-insert H.vertices H.next (record { kind = k; text = [] }) v ∙ or_left _ _ (eq-eqb v H.next (is ∙ next))
-    out (command.Remove α over) v h = h
-    out (command.Read over) v h = h
-    out (command.Write over text) v h = vertex_told over text (vertex H over) v h
-    out (command.Look at) v h = h
+        out : (e : Does) (v : ℕ) → known_after G H (IsVertex H) part_alike x x_there x_in in_G e v → IsVertex (done H x e) v
+        out (effect.Joins from α to) v h = h
+        out (effect.Makes k α) v (inl h) = IsVertex-insert H.vertices H.next (record { kind = k; text = [] }) v ∙ or_right _ _ h
+        out (effect.Makes k α) v (inr is) = IsVertex-insert H.vertices H.next (record { kind = k; text = [] }) v ∙ or_left _ _ (eq-eqb v H.next (is ∙ next))
+        out (effect.Drops α over) v h = h
+        out (effect.Rewrites over text) v h = vertex_told over text (vertex H over) v h
+        out (effect.Tells over) v h = h
+        out (effect.Lists at) v h = h

@@ -1,12 +1,22 @@
--- The ends of an edge are vertices.
-use Rattle.std.proofs.Common.{◌≡◌, ℕ, Bool, true, false, not, refl, ◌&&◌, ◌||◌, arith}
-use Rattle.std.proofs.lemmas.Bool.{not-true}
+-- What an allowed command may take for granted: the ends of its edges are vertices, and its needs lead on from the actor.
+use Rattle.std.proofs.Common.{◌≡◌, ◌≢◌, ℕ, ◌∷◌, [], List, Bool, true, false, cond, not, refl, sym, ap, subst, ◌∙◌, ◌&&◌, ◌||◌, inl, inr, Some, None, arith}
+use Rattle.std.proofs.lemmas.Bool.{not-true, eq-eqb}
+use Rattle.std.specs.Prelude.{Option}
 use Rattle.std.specs.FinSet as set
-use Rattle.tg_rights.specs.Letters.{Letters, Right, read, write, take, grant, grant_alone, has, is_none, includes}
-use Rattle.tg_rights.specs.declared.command.Command.TheVariants as command
+use Rattle.tg_rights.specs.Letters.{Letters, Right, read, write, take, grant, has, is_none, includes}
+use Rattle.tg_rights.specs.declared.kind.Kind.{Kind}
+use Rattle.tg_rights.specs.declared.kind.Kind.TheVariants as kind
+use Rattle.tg_rights.specs.declared.command.Command.{Command}
+use Rattle.tg_rights.specs.declared.outcome.Cause.{Cause}
+use Rattle.tg_rights.specs.declared.outcome.Cause.TheVariants as cause
+use Rattle.tg_graph.specs.declared.rules.Need.{Need}
+use Rattle.tg_graph.specs.Terms as effect
+use Rattle.tg_graph.specs.Protection.{Protection, IsGraph, IsVertex, IsDocument, IsEdge, label, kind_of}
+use Rattle.tg_graph.specs.Terms.{Does, Terms, terms, need}
+use Rattle.tg_graph.specs.Rules.{Check, AllPass, Allowed, checks, first_failure, is_document, is_met, lack, misfit, missing, names_rights, unless}
+use Rattle.tg_graph.specs.Deciding.{AskSome, Covers, Follows, IsNear, IsSound, LeadTo, DocumentNear}
+use Rattle.tg_graph.proofs.DecidingLemmas.{sound}
 use Rattle.tg_rights.proofs.LettersLemmas.{some_right}
-use Rattle.tg_graph.specs.Protection.{Protection, IsGraph, IsVertex, IsEdge, label}
-use Rattle.tg_graph.specs.Rules.{Allowed}
 
 -- a label that has every right of a set that is not empty is not empty
 pub includes_some : (a b : Letters) → includes a b ≡ true → is_none b ≡ false → is_none a ≡ false
@@ -29,14 +39,93 @@ module _ (G : Protection) (g : IsGraph G) (x y : ℕ) where
   pub edge_to : IsEdge G x y → IsVertex G y
   edge_to e = let r = some_right (label G x y) e in g.to_vertex (record { from = x; right = r.0; to = y }) (member r.0 r.1)
 
-  pub needed_edge : (rights : Letters) → includes (label G x y) rights ≡ true → is_none rights ≡ false → IsEdge G x y
-  needed_edge rights e some = includes_some (label G x y) rights e some
+unless_passes : (b : Bool) (why : Cause) → unless b why ≡ None → b ≡ true
+unless_passes true why e = refl
+unless_passes false why e = absurd (cc e)
 
-pub take_to : (G : Protection) (x : ℕ) (rights : Letters) (over from : ℕ) → IsGraph G → Allowed G x (command.Take rights over from) → IsVertex G over
-take_to G x rights over from g a = edge_to G g from over (needed_edge G g from over rights a.met.1.0 (not-true _ a.rights_named))
+all_pass : (ms : List Check) → first_failure ms ≡ None → AllPass ms
+all_pass [] e = tt
+all_pass (None ∷ ms) e = (refl, all_pass ms e)
+all_pass (Some why ∷ ms) e = absurd (cc e)
 
-pub grant_from : (G : Protection) (x : ℕ) (rights : Letters) (over to : ℕ) → IsGraph G → Allowed G x (command.Grant rights over to) → IsVertex G to
-grant_from G x rights over to g a = edge_to G g x to (includes_some (label G x to) grant_alone a.met.0 refl)
+-- what an allowed command has passed, check by check
+pub record Passes (G : Protection) (t : Terms) : Type 0 where
+  pub named : names_rights t.names ≡ true
+  pub apart : t.apart ≡ true
+  pub met : missing G t.needs ≡ None
+  pub fit : misfit G t.document ≡ None
 
-pub grant_to : (G : Protection) (x : ℕ) (rights : Letters) (over to : ℕ) → IsGraph G → Allowed G x (command.Grant rights over to) → IsVertex G over
-grant_to G x rights over to g a = edge_to G g x over (needed_edge G g x over rights a.met.1.0 (not-true _ a.rights_named))
+pub passes : (G : Protection) (x : ℕ) (c : Command) → Allowed G x c → Passes G (terms x c)
+passes G x c e =
+    let p = all_pass (checks G (terms x c)) e in
+    record {
+      named = unless_passes (names_rights (terms x c).names) cause.Empty p.0;
+      apart = unless_passes (terms x c).apart cause.NotDistinct p.1.0;
+      met = p.1.1.0;
+      fit = p.1.1.1.0;
+    }
+
+pub need_met : (G : Protection) (n : Need) (ns : List Need) → missing G (n ∷ ns) ≡ None → (is_met G n ≡ true) × (missing G ns ≡ None)
+need_met G n ns e =
+    elim (is_met G n) as (λ b. cond b (missing G ns) (Some (lack G n)) ≡ None → (b ≡ true) × (missing G ns ≡ None)) [ true ↦ λ e. (refl, e) | false ↦ λ e. absurd (cc e) ] e
+
+document_kind : (k : Option Kind) → is_document k ≡ true → k ≡ Some kind.Document
+document_kind None e = absurd (cc e)
+document_kind (Some kind.Subject) e = absurd (cc e)
+document_kind (Some kind.Document) e = refl
+
+pub document_there : (G : Protection) (v : ℕ) → misfit G (Some v) ≡ None → IsDocument G v
+document_there G v e = document_kind (kind_of G v) (unless_passes (is_document (kind_of G v)) (cause.NotDocument v) e)
+
+-- Known vertices, from which edges lead to known ones; x is one
+module _ (G : Protection) (Known : ℕ → Type 0) (step : (v z : ℕ) → Known v → IsEdge G v z → Known z) (x : ℕ) (x_known : Known x) where
+  goes : (n : Need) → Known n.from → is_none n.rights ≡ false → is_met G n ≡ true → Known n.to
+  goes n k some met = step n.from n.to k (includes_some (label G n.from n.to) n.rights met some)
+
+  pub led : (ns : List Need) → Follows x ns → AskSome ns → missing G ns ≡ None → (v : ℕ) → LeadTo ns v → Known v
+  led [] follows some met v h = absurd h
+  led (n ∷ []) follows some met v (inl is) = subst Known (sym is) (goes n (subst Known (sym follows) x_known) some.0 (need_met G n [] met).0)
+  led (n ∷ []) follows some met v (inr h) = absurd h
+  led (n ∷ m ∷ []) follows some met v (inl is) = subst Known (sym is) (goes n (subst Known (sym follows.0) x_known) some.0 (need_met G n (m ∷ []) met).0)
+  led (n ∷ m ∷ []) follows some met v (inr (inl is)) =
+      let both = need_met G n (m ∷ []) met in
+      let near : Known n.to = goes n (subst Known (sym follows.0) x_known) some.0 both.0 in
+      let from : Known m.from = elim follows.1 [ inl at ↦ subst Known (sym at) x_known | inr at ↦ subst Known (sym at) near ] in
+      subst Known (sym is) (goes m from some.1.0 (need_met G m [] both.1).0)
+  led (n ∷ m ∷ []) follows some met v (inr (inr h)) = absurd h
+  led (n ∷ m ∷ o ∷ ns) follows some met v h = absurd follows
+
+  -- what each effect of an allowed command may take for granted
+  abbrev pub Entitled : Does → Type 0
+  Entitled (effect.Joins from α to) = Known from × Known to × (from ≢ to) × (is_none α ≡ false)
+  Entitled (effect.Makes k α) = is_none α ≡ false
+  Entitled (effect.Drops α over) = (includes (label G x over) α ≡ true) × (is_none α ≡ false)
+  Entitled (effect.Rewrites over text) = Known over × IsDocument G over
+  Entitled (effect.Tells over) = Known over
+  Entitled (effect.Lists at) = Known at
+
+  entitled_by : (t : Terms) → IsSound x t → Passes G t → (e : Does) → Covers x t e → Entitled e
+  entitled_by t s p e covers = by e covers where
+    at : (v : ℕ) → LeadTo t.needs v → Known v
+    at = led t.needs s.follows (s.some p.named) p.met
+
+    near : (v : ℕ) → IsNear x t.needs v → Known v
+    near v (inl is) = subst Known (sym is) x_known
+    near v (inr h) = at v h
+
+    some : (α : Letters) → t.names ≡ Some α → is_none α ≡ false
+    some α is = not-true _ (sym (ap names_rights is) ∙ p.named)
+
+    by : (e : Does) → Covers x t e → Entitled e
+    by (effect.Joins from α to) c = (near from c.0, at to c.1, λ is. absurd (cc (c.3 p.apart, eq-eqb from to is)), some α c.2)
+    by (effect.Makes k α) c = some α c
+    by (effect.Drops α over) c = ((need_met G (need x α over) [] (ap (missing G) (sym c.1) ∙ p.met)).0, some α c.0)
+    by (effect.Rewrites over text) c = (
+      at over (subst (DocumentNear t.needs) c s.document),
+      document_there G over (ap (misfit G) (sym c) ∙ p.fit),
+    )
+    by (effect.Tells over) c = at over c
+    by (effect.Lists at) c = near at c
+
+  pub entitled : (c : Command) → Allowed G x c → Entitled (terms x c).does
+  entitled c a = entitled_by (terms x c) (sound x c) (passes G x c a) (terms x c).does (sound x c).covers

@@ -12,7 +12,7 @@ use Rattle.tg_graph.specs.Rules.{edges_of}
 use Rattle.tg_graph.specs.Searching.{has_seen, Starts, Adds, IsSearching, unseen, work_left}
 use Rattle.tg_graph.proofs.ProtectionLemmas.{edge_to}
 use Rattle.tg_graph.proofs.EdgesAreListedLemmas.{vertex_listed, edge_listed, listed_edge}
-use Rattle.tg_graph.proofs.PartsStayLemmas.{leads_on}
+use Rattle.tg_graph.proofs.OutcomesAgreeLemmas.{leads_on}
 
 counts : (a b : Bool) → (a ≡ true → b ≡ true) → cond b 0 1 ≤ cond a 0 1
 counts true b h = let e = h refl in rw e (omega arith)

@@ -10,7 +10,7 @@ use Rattle.tg_graph.specs.Rules.{Allowed, after, is_create, last_serial}
 pub record CarriesOut (G : Protection) (step : Step) (H : Protection) : Type 0 where
   pub subject : IsSubject G step.actor
   pub allowed : Allowed G step.actor step.command
-  pub room : is_create step.command ≡ true → G.next ≤ last_serial
+  pub room : is_create step.actor step.command ≡ true → G.next ≤ last_serial
   pub result : H ≡ after G step.actor step.command
 
 -- the steps, one after another, turn G into H

@@ -3,12 +3,13 @@ use Rattle.std.specs.Prelude.{◌≡◌, ◌<◌, ◌≤◌, ℕ, cond, true, le
 use Rattle.std.specs.FinMap as map
 use Rattle.tg_rights.specs.Letters.{Letters, is_none}
 use Rattle.tg_rights.specs.declared.command.Command.{Command}
-use Rattle.tg_rights.specs.declared.command.Command.TheVariants as command
 use Rattle.tg_rights.specs.declared.outcome.Which.{Which}
 use Rattle.tg_rights.specs.declared.outcome.Which.TheVariants as which
 use Rattle.tg_rights.specs.declared.outcome.Outcome.{Outcome}
 use Rattle.tg_rights.specs.declared.outcome.Outcome.TheVariants as outcome
+use Rattle.tg_graph.specs.Terms as effect
 use Rattle.tg_graph.specs.Protection.{Protection, IsEdge}
+use Rattle.tg_graph.specs.Terms.{Does, terms}
 use Rattle.tg_graph.specs.Rules.{Allowed, Denied, edges_of, is_create, last_serial}
 
 -- the numbers of slots, one for each vertex that is stored, and of cells, one for each edge
@@ -26,25 +27,27 @@ edge_count G = sum_by (λ x. length (edges_of G x)) (map.keys G.vertices)
 abbrev pub edges_at : Letters → ℕ
 edges_at l = cond (is_none l) 0 1
 
--- an allowed command of x makes an edge where there was none
+-- what an allowed command does makes an edge where there was none
+abbrev pub NewEdge : Protection → Does → Type 0
+NewEdge G (effect.Joins from α to) = IsEdge G from to → ⊥
+NewEdge G (effect.Makes k α) = G.next ≤ last_serial
+NewEdge G (effect.Drops α over) = ⊥
+NewEdge G (effect.Rewrites over text) = ⊥
+NewEdge G (effect.Tells over) = ⊥
+NewEdge G (effect.Lists at) = ⊥
+
 abbrev pub MakesEdge : Protection → ℕ → Command → Type 0
-MakesEdge G x (command.Take α over from) = IsEdge G x over → ⊥
-MakesEdge G x (command.Grant α over to) = IsEdge G to over → ⊥
-MakesEdge G x (command.Create k α) = G.next ≤ last_serial
-MakesEdge G x (command.Remove α over) = ⊥
-MakesEdge G x (command.Read over) = ⊥
-MakesEdge G x (command.Write over text) = ⊥
-MakesEdge G x (command.Look at) = ⊥
+MakesEdge G x c = NewEdge G (terms x c).does
 
 -- the command of x may be refused as full. The graph doesn't show which slots and cells wait to be swept, so for
 -- these it says only that there are enough vertices or edges to use them all up
 abbrev pub MayBeFull : Limits → Protection → ℕ → Command → Which → Type 0
-MayBeFull limits G x c which.Serials = (is_create c ≡ true) × (last_serial < G.next)
-MayBeFull limits G x c which.Slots = (is_create c ≡ true) × (G.next ≤ last_serial) × (limits.slots ≤ vertex_count G)
+MayBeFull limits G x c which.Serials = (is_create x c ≡ true) × (last_serial < G.next)
+MayBeFull limits G x c which.Slots = (is_create x c ≡ true) × (G.next ≤ last_serial) × (limits.slots ≤ vertex_count G)
 MayBeFull limits G x c which.Cells = MakesEdge G x c × (limits.cells ≤ edge_count G)
 
 -- the outcomes that an entry of a history may have
 abbrev pub Permitted : Limits → Protection → ℕ → Command → Outcome → Type 0
-Permitted limits G x c outcome.Allowed = Allowed G x c × (is_create c ≡ true → G.next ≤ last_serial)
+Permitted limits G x c outcome.Allowed = Allowed G x c × (is_create x c ≡ true → G.next ≤ last_serial)
 Permitted limits G x c (outcome.Denied rule cause) = Denied G x c rule cause
 Permitted limits G x c (outcome.Full which) = Allowed G x c × MayBeFull limits G x c which

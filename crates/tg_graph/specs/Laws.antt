@@ -1,11 +1,11 @@
 -- laws of the rules, and the definitions of openings and edge lists in other words
-use Rattle.std.specs.Prelude.{◌≡◌, ◌≤◌, ℕ, ◌+◌, Bool, ◌==◌, true, false, List, [], ◌∷◌, ◌++◌, length, IsTrue, Some, None, ◌↔◌}
+use Rattle.std.specs.Prelude.{◌≡◌, ◌≤◌, ℕ, ◌+◌, Bool, ◌==◌, true, false, List, [], ◌∷◌, ◌++◌, length, IsTrue, Option, Some, None, ◌↔◌}
 use Rattle.std.specs.Ordering.{nat_cmp}
 use Rattle.std.specs.Cmp.Lexicographic.{pointwise}
 use Rattle.std.specs.FinMap.Entries.{is_sorted}
 use Rattle.std.specs.FinMap as map
 use Rattle.std.specs.FinSet as set
-use Rattle.tg_rights.specs.Letters.{Letters, has, joined as joined_rights, without, is_none}
+use Rattle.tg_rights.specs.Letters.{Letters, has, joined as joined_rights, without, includes, is_none}
 use Rattle.tg_rights.specs.Membership.{Contains}
 use Rattle.tg_rights.specs.declared.kind.Kind.TheVariants as kind
 use Rattle.tg_rights.specs.declared.limits.TheConstants.{MAX_CELLS, MAX_PRINCIPALS, MAX_SLOTS}
@@ -15,17 +15,47 @@ use Rattle.tg_rights.specs.declared.outcome.Reply.{Reply}
 use Rattle.tg_graph.specs.declared.config.Config.{Config}
 use Rattle.tg_graph.specs.declared.vertex.Vertex.{Vertex}
 use Rattle.tg_graph.specs.Triples.{Triple, edge}
-use Rattle.tg_graph.specs.Protection.{Protection, IsGraph, IsSubject, IsVertex, IsEdge, vertex, label}
+use Rattle.tg_graph.specs.Protection.{IsDocument, IsEdge, IsGraph, IsSubject, IsVertex, Protection, label, vertex}
 use Rattle.tg_graph.specs.Opening.{Edge, first_fault, has_twice, is_principal, principal_count, opening, same_pair}
 use Rattle.tg_graph.specs.Fullness.{vertex_count, edge_count, edges_at}
 use Rattle.tg_graph.specs.Paths.{Agree, IsPart}
 use Rattle.tg_graph.specs.Agreement.{IsRepliedAlike, KeepsViewers}
-use Rattle.tg_graph.specs.Rules.{Judged, Allowed, Applies, after, allowed_reply, edges_of, is_create}
+use Rattle.tg_graph.specs.Rules.{Check, AllPass, Judged, Allowed, Applies, after, allowed_reply, checks, denial, edges_of, is_create, names_rights}
+use Rattle.tg_graph.specs.Terms.{Terms, terms}
+use Rattle.tg_graph.specs.declared.rules.Need.{Need}
+use Rattle.tg_rights.specs.declared.outcome.Cause.{Cause}
 
 -- each command is either allowed or denied for one cause
 abbrev pub ExactlyOneOutcome : Type 0
 ExactlyOneOutcome =
     (G : Protection) (x : ℕ) (c : Command) → (o : Outcome) × Judged G x c o × ((p : Outcome) → Judged G x c p → p ≡ o)
+
+-- every need is met
+abbrev pub AllMet : Protection → List Need → Type 0
+AllMet G [] = Unit {0}
+AllMet G (n ∷ ns) = IsTrue (includes (label G n.from n.to) n.rights) × AllMet G ns
+
+abbrev pub IsDocumentWhereAsked : Protection → Option ℕ → Type 0
+IsDocumentWhereAsked G None = Unit {0}
+IsDocumentWhereAsked G (Some v) = IsDocument G v
+
+-- what a rule asks is there
+pub record Meets (G : Protection) (t : Terms) : Type 0 where
+  pub named : IsTrue (names_rights t.names)
+  pub apart : IsTrue t.apart
+  pub met : AllMet G t.needs
+  pub document : IsDocumentWhereAsked G t.document
+
+-- a command is allowed exactly where all that its rule asks is there
+abbrev pub AllowedIsMet : Type 0
+AllowedIsMet = (G : Protection) (x : ℕ) (c : Command) → Allowed G x c ↔ Meets G (terms x c)
+
+-- a denial names a check that fails, and all before it pass
+abbrev pub DenialsAreFirst : Type 0
+DenialsAreFirst =
+    (G : Protection) (x : ℕ) (c : Command) (why : Cause) →
+    (denial G x c ≡ Some why)
+    ↔ ((before : List Check) × (later : List Check) × (checks G (terms x c) ≡ before ++ Some why ∷ later) × AllPass before)
 
 -- what the rules decide in one graph, they decide in each that agrees with it for the actor
 abbrev pub OutcomesAgree : Type 0
@@ -34,7 +64,7 @@ OutcomesAgree = (G H : Protection) (x : ℕ) (c : Command) (o : Outcome) → Agr
 -- an allowed command that makes no vertex is answered alike in graphs that agree for the actor
 abbrev pub RepliesAgree : Type 0
 RepliesAgree =
-    (G H : Protection) (x : ℕ) (c : Command) → IsGraph G → IsGraph H → Agree G H x → Allowed G x c → is_create c ≡ false → allowed_reply G c ≡ allowed_reply H c
+    (G H : Protection) (x : ℕ) (c : Command) → IsGraph G → IsGraph H → Agree G H x → Allowed G x c → is_create x c ≡ false → allowed_reply G x c ≡ allowed_reply H x c
 
 -- a subject's command, carried out or refused, has the same reply in each graph that agrees for it, but for a new
 -- vertex's serial and for fullness; and graphs that agree for some subjects go on agreeing for them

@@ -1,6 +1,8 @@
 pub mod Triples
 pub mod Protection
+pub mod Terms
 pub mod Rules
+pub mod Deciding
 pub mod Fullness
 pub mod Paths
 pub mod Agreement

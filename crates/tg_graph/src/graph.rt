@@ -1,18 +1,18 @@
 //! The plain graph, which is never collected.
-ghost use Rattle.std.specs.Prelude.{◌≡◌, ◌≢◌, ◌≤◌, ◌+◌, ◌<◌, ◌↔◌, true, [], ◌∷◌, None, IsTrue, MatchBool, OnOk, OnErr, IfOk, IfErr};
-ghost use Rattle.std.specs.Option.{option_map};
+ghost use Rattle.std.specs.Prelude.{◌≡◌, ◌≢◌, ◌≤◌, ◌+◌, ◌<◌, ◌↔◌, true, [], ◌∷◌, None, IsTrue, MatchBool, OnOk, OnErr, IfOk, IfErr, MatchOption, ⊤};
 ghost use Rattle.std.specs.FinMap as map;
 ghost use Rattle.std.specs.FinSet as set;
 ghost use Rattle.tg_graph.specs.Agreement.{IsRepliedAlike, KeepsViewers};
 ghost use Rattle.tg_graph.specs.Paths.{Agree, Reaches};
 ghost use Rattle.tg_graph.specs.Protection.{Protection, IsGraph, IsSubject, IsVertex, kind_of, label, vertex};
-ghost use Rattle.tg_graph.specs.Rules.{Judged, Applies, text_of, with_text, Allowed, takes_memory, after, allowed_reply, edges_of, need, needs, unmet_cause, first_unmet, last_serial, is_create};
+ghost use Rattle.tg_graph.specs.Rules.{Judged, Applies, text_of, with_text, Allowed, takes_memory, after, allowed_reply, edges_of, last_serial, is_create};
 ghost use Rattle.tg_graph.specs.Searching.{IsSearching, work_left};
 ghost use Rattle.tg_graph.specs.Opening.{first_fault, opening, subjects, IsRefusal};
 ghost use Rattle.tg_graph.specs.Triples.{edge};
+ghost use Rattle.tg_rights.specs.Letters.{none};
 
 use crate::config::{Config, OpenFault, first_fault};
-use crate::rules::{document_of, is_create, is_distinct, names_rights};
+use crate::rules::{Effect, Reader, Spot, decide, effect_of, into_text, is_create};
 use crate::search::Search;
 use crate::vertex::Vertex;
 use std::alloc::{AllocError, Global};
@@ -145,67 +145,17 @@ impl Graph {
         self.decide(actor, command)
     }
 
-    /// The first cause for which the rules deny a command of the actor, if there is one.
+    /// How the rules alone decide a command of a vertex.
     fn decide(&self, actor: u64, command: &Command) -> Outcome
         ensures { Judged self.now actor command.now result }
     {
-        let rule = command.rule();
-        if !names_rights(command) {
-            return Outcome::Denied(rule, Cause::Empty);
-        }
-        if !is_distinct(actor, command) {
-            return Outcome::Denied(rule, Cause::NotDistinct);
-        }
-        if let Some(cause) = self.first_missing(actor, command) {
-            return Outcome::Denied(rule, cause);
-        }
-        match document_of(command) {
-            Some(vertex) if self.kind(vertex) != Some(Kind::Document) => {
-                Outcome::Denied(rule, Cause::NotDocument { vertex })
-            }
-            _ => Outcome::Allowed,
-        }
-    }
-
-    /// The first rights that the actor's command needs and lacks.
-    fn first_missing(&self, actor: u64, command: &Command) -> Option<Cause>
-        ensures { result ≡ option_map (unmet_cause self.now) (first_unmet self.now (needs actor command.now)) }
-    {
-        match command {
-            Command::Take { rights, over, from } => match self.missing(
-                actor,
-                *from,
-                Rights::take(),
-            ) {
-                None => self.missing(*from, *over, *rights),
-                cause => cause,
-            },
-            Command::Grant { rights, over, to } => match self.missing(actor, *to, Rights::grant()) {
-                None => self.missing(actor, *over, *rights),
-                cause => cause,
-            },
-            Command::Create { .. } => None,
-            Command::Remove { rights, over } => self.missing(actor, *over, *rights),
-            Command::Read { over } => self.missing(actor, *over, Rights::read()),
-            Command::Write { over, .. } => self.missing(actor, *over, Rights::write()),
-            Command::Look { at } if *at == actor => None,
-            Command::Look { at } => self.missing(actor, *at, Rights::take()),
-        }
-    }
-
-    /// What `from` lacks over `to` of the rights.
-    fn missing(&self, from: u64, to: u64, rights: Rights) -> Option<Cause>
-        ensures { result ≡ option_map (unmet_cause self.now) (first_unmet self.now (need from to rights ∷ [])) }
-    {
-        let label = self.rights(from, to);
-        if label.contains(rights) {
-            None
-        } else {
-            Some(Cause::Missing {
-                from,
-                to,
-                rights: rights.minus(label),
-            })
+        let spot = Spot {
+            serial: actor,
+            place: (),
+        };
+        match decide(self, spot, command) {
+            Ok(_) => Outcome::Allowed,
+            Err(cause) => Outcome::Denied(command.rule(), cause),
         }
     }
 
@@ -222,7 +172,7 @@ impl Graph {
         ensures ok { IfOk result (λ reply. Applies self.old actor command reply self.new) }
         ensures err { OnErr result (self.new ≡ self.old) }
         ensures needed { OnErr result (Allowed self.old actor command) }
-        ensures memory { OnErr result (takes_memory command ≡ true) }
+        ensures memory { OnErr result (takes_memory actor command ≡ true) }
         ensures graph { IsGraph self.new }
         ensures alike { IfOk result (λ reply. IsRepliedAlike self.old actor command reply) }
         ensures viewers { IfOk result (λ reply. KeepsViewers self.old actor command reply self.new) }
@@ -239,10 +189,10 @@ impl Graph {
         ensures ok { IfOk result (λ reply. Applies self.old actor command reply self.new) }
         ensures err { OnErr result (self.new ≡ self.old) }
         ensures needed { OnErr result (Allowed self.old actor command) }
-        ensures memory { OnErr result (takes_memory command ≡ true) }
+        ensures memory { OnErr result (takes_memory actor command ≡ true) }
     {
         match self.decide(actor, &command) {
-            Outcome::Allowed if is_create(&command) && self.next > LAST_SERIAL => {
+            Outcome::Allowed if is_create(actor, &command) && self.next > LAST_SERIAL => {
                 Ok(Reply::Full(Which::Serials))
             }
             Outcome::Allowed => self.carry_out(actor, command),
@@ -255,39 +205,36 @@ impl Graph {
     fn carry_out(&mut self, actor: u64, command: Command) -> Result<Reply, AllocError>
         requires subject { IsSubject self.old actor }
         requires allowed { Allowed self.old actor command }
-        requires room { is_create command ≡ true → self.old.next ≤ last_serial }
-        ensures reply { IfOk result (λ reply. reply ≡ allowed_reply self.old command) }
+        requires room { is_create actor command ≡ true → self.old.next ≤ last_serial }
+        ensures reply { IfOk result (λ reply. reply ≡ allowed_reply self.old actor command) }
         ensures ok { OnOk result (self.new ≡ after self.old actor command) }
         ensures err { OnErr result (self.new ≡ self.old) }
-        ensures memory { OnErr result (takes_memory command ≡ true) }
+        ensures memory { OnErr result (takes_memory actor command ≡ true) }
     {
         let _ = &self.vertices;
-        match command {
-            Command::Take { rights, over, .. } => {
-                self.add_rights(actor, over, rights)?;
+        match effect_of(actor, &command) {
+            Effect::Joins { from, rights, to } => {
+                self.add_rights(from, to, rights)?;
                 Ok(Reply::Done)
             }
-            Command::Grant { rights, over, to } => {
-                self.add_rights(to, over, rights)?;
-                Ok(Reply::Done)
-            }
-            Command::Create { kind, rights } => {
+            Effect::Makes { kind, rights } => {
                 let serial = self.add_vertex(actor, kind, rights)?;
                 Ok(Reply::Created(serial))
             }
-            Command::Remove { rights, over } => {
+            Effect::Drops { rights, over } => {
                 self.drop_rights(actor, over, rights);
                 Ok(Reply::Done)
             }
-            Command::Read { over } => {
-                let text = self.text(over)?;
-                Ok(Reply::Text(text))
-            }
-            Command::Write { over, text } => {
+            Effect::Rewrites { over } => {
+                let text = into_text(command, self.alloc);
                 self.set_text(over, text);
                 Ok(Reply::Done)
             }
-            Command::Look { at } => {
+            Effect::Tells { over } => {
+                let text = self.text(over)?;
+                Ok(Reply::Text(text))
+            }
+            Effect::Lists { at } => {
                 let edges = self.edges(at)?;
                 Ok(Reply::Edges(edges))
             }
@@ -430,5 +377,32 @@ impl Graph {
         };
         copied.soundness();
         Ok(copied)
+    }
+}
+
+impl Reader for Graph {
+    ghost use Rattle.std.specs.Prelude.{⊤};
+
+    type Place = ();
+
+    ghost graph = { λ G. G };
+
+    ghost is_at = { λ _ _. ⊤ };
+
+    fn edge(&self, from: Spot<()>, to: u64) -> Option<((), Rights)>
+        ensures { MatchOption result (label self.now from.serial to ≡ none) (λ e. ⊤ × (e.1 ≡ label self.now from.serial to)) }
+    {
+        let label = self.rights(from.serial, to);
+        if label.is_empty() {
+            None
+        } else {
+            Some(((), label))
+        }
+    }
+
+    fn kind_at(&self, at: Spot<()>) -> Option<Kind>
+        ensures { result ≡ kind_of self.now at.serial }
+    {
+        self.kind(at.serial)
     }
 }

@@ -1,7 +1,7 @@
 //! The take-grant rules over a plain graph that is never collected: the model of every other crate.
 #![tactic(auto)]
 
-ghost use Rattle.tg_graph.specs.Laws.{AnswersAgree, CommandsKeepGraphs, EdgesAreCounted, EdgesAreListed, ExactlyOneOutcome, OpeningsAreAsListed, OpeningsAreSound, OpeningsFit, OutcomesAgree, PartsAgree, PartsStay, RepliesAgree, TwiceIsTwoPlaces};
+ghost use Rattle.tg_graph.specs.Laws.{AllowedIsMet, AnswersAgree, DenialsAreFirst, CommandsKeepGraphs, EdgesAreCounted, EdgesAreListed, ExactlyOneOutcome, OpeningsAreAsListed, OpeningsAreSound, OpeningsFit, OutcomesAgree, PartsAgree, PartsStay, RepliesAgree, TwiceIsTwoPlaces};
 
 mod config;
 mod derivation;
@@ -15,7 +15,7 @@ mod vertex;
 pub use config::{Config, OpenFault};
 pub use derivation::{Goal, Step, Verdict};
 pub use graph::{Graph, LAST_SERIAL};
-pub use rules::{document_of, is_distinct, names_rights};
+pub use rules::{Effect, Found, Need, Reader, Spot, decide, effect_of, into_text, is_create};
 pub use vertex::Vertex;
 
 // Laws: each function is a theorem, its contract, and costs nothing when it is called.
@@ -23,6 +23,16 @@ pub use vertex::Vertex;
 /// Each command of each vertex has exactly one outcome by the rules: it is allowed, or denied for one first cause.
 pub fn exactly_one_outcome()
     ensures { ExactlyOneOutcome }
+{}
+
+/// A command is allowed exactly where all that its rule asks is there.
+pub fn allowed_is_met()
+    ensures { AllowedIsMet }
+{}
+
+/// A denial names the first check that fails.
+pub fn denials_are_first()
+    ensures { DenialsAreFirst }
 {}
 
 /// The rules decide alike in graphs that the actor can't tell apart.

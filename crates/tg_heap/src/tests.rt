@@ -9,6 +9,145 @@ use std::process::Abort;
 use tg_rights::{Kind, Rights, Text};
 use tg_slots::Colour;
 
+/// One call of a script with its answer, or what must be seen after the calls before it. Rights are given by their letters.
+#[derive(Clone, Copy)]
+enum Act {
+    /// A white document of this serial comes into this slot.
+    Put(u64, u32),
+    /// A vertex finds no free slot.
+    NoSlot,
+    /// An edge between two slots gains rights, and what is full.
+    Add(u32, u32, &'static str, Option<HeapFull>),
+    /// The edge from a slot to a serial loses rights, and whether it is gone.
+    Lose(u32, u64, &'static str, bool),
+    Shade(u32),
+    /// The first of the grey list is this slot, and is made black.
+    Scan(u32),
+    /// No slot is grey and waits.
+    NoneWaits,
+    /// A black slot is made white.
+    Whiten(u32),
+    White(u32),
+    /// A white slot is freed with all its cells.
+    Clear(u32),
+    /// The free slots and the free cells.
+    Free(u32, u32),
+    /// A slot's edges, newest first: target, serial and label.
+    Edges(u32, &'static [(u32, u64, &'static str)]),
+    /// A slot has no edge to a serial.
+    NoEdge(u32, u64),
+}
+
+use Act::{
+    Add, Clear, Edges, Free, Lose, NoEdge, NoSlot, NoneWaits, Put, Scan, Shade, White, Whiten,
+};
+
+struct Script {
+    slots: u32,
+    cells: u32,
+    acts: &'static [Act],
+}
+
+const SCRIPTS: &[Script] = &[
+    // labels are joined
+    Script {
+        slots: 3,
+        cells: 4,
+        acts: &[
+            Put(10, 0),
+            Put(20, 1),
+            Put(30, 2),
+            Add(0, 1, "r", None),
+            Add(0, 2, "g", None),
+            Add(0, 1, "w", None),
+            Edges(0, &[(2, 30, "g"), (1, 20, "rw")]),
+            Edges(1, &[]),
+            Free(0, 2),
+        ],
+    },
+    // an edge that keeps no right is gone
+    Script {
+        slots: 2,
+        cells: 3,
+        acts: &[
+            Put(10, 0),
+            Put(20, 1),
+            Add(0, 0, "t", None),
+            Add(0, 1, "rw", None),
+            Lose(0, 20, "r", false),
+            Edges(0, &[(1, 20, "w"), (0, 10, "t")]),
+            Lose(0, 20, "w", true),
+            Edges(0, &[(0, 10, "t")]),
+            NoEdge(0, 20),
+            Free(0, 2),
+        ],
+    },
+    // shading takes white slots alone
+    Script {
+        slots: 4,
+        cells: 1,
+        acts: &[
+            Put(10, 0),
+            Put(10, 1),
+            Put(10, 2),
+            Shade(2),
+            Shade(0),
+            Shade(2),
+            Shade(3),
+            Scan(0),
+            Shade(0),
+            Scan(2),
+            NoneWaits,
+            Whiten(0),
+            White(0),
+            Whiten(2),
+            White(2),
+            White(1),
+        ],
+    },
+    // a heap is filled and emptied
+    Script {
+        slots: 3,
+        cells: 4,
+        acts: &[
+            Put(10, 0),
+            Put(20, 1),
+            Put(30, 2),
+            NoSlot,
+            Add(0, 1, "r", None),
+            Add(0, 2, "r", None),
+            Add(1, 0, "r", None),
+            Add(2, 0, "r", None),
+            Free(0, 0),
+            Add(2, 1, "r", Some(HeapFull::Cells)),
+            Add(0, 1, "w", None),
+            Clear(1),
+            Free(1, 1),
+            Clear(0),
+            Free(2, 3),
+            Clear(2),
+            Free(3, 4),
+            Put(50, 2),
+            Put(50, 0),
+            Put(50, 1),
+        ],
+    },
+];
+
+/// The rights of the letters.
+fn rights(letters: &str) -> Rights {
+    let mut all = Rights::empty();
+    for letter in letters.as_bytes() {
+        all = all.union(match *letter {
+            b'r' => Rights::read(),
+            b'w' => Rights::write(),
+            b't' => Rights::take(),
+            _ => Rights::grant(),
+        });
+    }
+    all
+}
+
 // The slot has a vertex; the condition of a call is then known.
 fn is_taken(rt: &impl Abort, heap: &Heap, id: u32)
     ensures { mark_at heap.now id ≢ Free }
@@ -93,94 +232,79 @@ fn clear(rt: &impl Abort, heap: &mut Heap, id: u32) {
     heap.free_slot(id);
 }
 
-// The slot's edges: target, serial and label of each, as the cells stand.
-fn list(
-    rt: &impl Abort,
-    alloc: Global,
-    heap: &Heap,
-    id: u32,
-) -> Result<Vec<(u32, u64, Rights)>, AllocError> {
-    assert!(rt; id < heap.len());
-    let mut found = Vec::new(alloc);
-    let mut cursor = heap.first(id);
-    while let Some(cell) = cursor {
-        found.push((
-            heap.target(cell),
-            heap.target_serial(cell),
-            heap.label(cell),
-        ))?;
-        cursor = heap.next(cell);
+/// A vertex finds no free slot, and its text comes back.
+fn finds_no_slot(rt: &impl Abort, alloc: Global, heap: &mut Heap) {
+    match heap.add_vertex(40, Kind::Document, Colour::White, Text::empty(alloc)) {
+        Ok(_) => panic!(rt; "a slot too many"),
+        Err((full, text)) => assert!(rt; full == HeapFull::Slots && text.get().is_empty()),
     }
-    Ok(found)
 }
 
-#[test]
-fn labels_are_joined(rt: HostRuntime) -> Result<(), AllocError> {
-    let mut heap = Heap::new(rt.alloc(), 3, 4)?;
-    for (serial, id) in [(10, 0), (20, 1), (30, 2)] {
-        assert_eq!(rt; put(&rt, rt.alloc(), &mut heap, serial), id);
-    }
-    assert!(rt; add(&rt, &mut heap, 0, 1, Rights::read()).is_ok());
-    assert!(rt; add(&rt, &mut heap, 0, 2, Rights::grant()).is_ok());
-    assert!(rt; add(&rt, &mut heap, 0, 1, Rights::write()).is_ok());
-    let both = Rights::read().union(Rights::write());
-    let edges = list(&rt, rt.alloc(), &heap, 0)?;
-    assert!(rt; edges.as_slice() == [(2, 30, Rights::grant()), (1, 20, both)].as_slice());
-    assert_eq!(rt; heap.free_cells(), 2);
-    let none = list(&rt, rt.alloc(), &heap, 1)?;
-    assert!(rt; none.is_empty());
-    Ok(())
-}
-
-#[test]
-fn an_edge_that_keeps_no_right_is_gone(rt: HostRuntime) -> Result<(), AllocError> {
-    let mut heap = Heap::new(rt.alloc(), 2, 3)?;
-    for (serial, id) in [(10, 0), (20, 1)] {
-        assert_eq!(rt; put(&rt, rt.alloc(), &mut heap, serial), id);
-    }
-    let both = Rights::read().union(Rights::write());
-    assert!(rt; add(&rt, &mut heap, 0, 0, Rights::take()).is_ok());
-    assert!(rt; add(&rt, &mut heap, 0, 1, both).is_ok());
-    assert_eq!(rt;
-        drop_from(&rt, &mut heap, 0, 20, Rights::read()),
-        Dropped::Kept
-    );
-    let edges = list(&rt, rt.alloc(), &heap, 0)?;
-    assert!(rt; edges.as_slice() == [(1, 20, Rights::write()), (0, 10, Rights::take())].as_slice());
-    match drop_from(&rt, &mut heap, 0, 20, Rights::write()) {
-        Dropped::Kept => panic!(rt; "an edge without rights"),
+/// The edge loses the rights, and is gone or not; where it is, the edge after it is told.
+fn loses(rt: &impl Abort, heap: &mut Heap, id: u32, serial: u64, rights: Rights, gone: bool) {
+    match drop_from(rt, heap, id, serial, rights) {
+        Dropped::Kept => assert!(rt; !gone),
         Dropped::Gone { next, .. } => {
-            assert!(rt; 0 < heap.len());
-            assert_eq!(rt; next, heap.first(0));
-            assert!(rt; next.is_some());
+            assert!(rt; gone);
+            assert!(rt; id < heap.len());
+            assert!(rt; next == heap.first(id));
         }
     }
-    assert_eq!(rt; heap.free_cells(), 2);
-    assert!(rt; 0 < heap.len());
-    assert!(rt; heap.edge(0, 20).is_none());
-    assert!(rt; heap.edge(0, 10) == Some((0, Rights::take())));
-    Ok(())
+}
+
+/// The slot's edges are these, newest first.
+fn has_edges(rt: &impl Abort, heap: &Heap, id: u32, wanted: &[(u32, u64, &str)]) {
+    assert!(rt; id < heap.len());
+    let mut cursor = heap.first(id);
+    for want in wanted {
+        let Some(cell) = cursor else {
+            panic!(rt; "an edge too few");
+        };
+        assert!(rt; heap.target(cell) == want.0 && heap.target_serial(cell) == want.1);
+        assert!(rt; heap.label(cell) == rights(want.2));
+        cursor = heap.next(cell);
+    }
+    assert!(rt; cursor.is_none());
+}
+
+/// Carries out one line of a script.
+fn play(rt: &impl Abort, alloc: Global, heap: &mut Heap, act: Act) {
+    match act {
+        Put(serial, slot) => assert!(rt; put(rt, alloc, heap, serial) == slot),
+        NoSlot => finds_no_slot(rt, alloc, heap),
+        Add(id, target, letters, full) => {
+            let added = add(rt, heap, id, target, rights(letters));
+            assert!(rt; added.err() == full);
+        }
+        Lose(id, serial, letters, gone) => loses(rt, heap, id, serial, rights(letters), gone),
+        Shade(id) => shade(rt, heap, id),
+        Scan(id) => assert!(rt; scan(rt, heap) == id),
+        NoneWaits => assert!(rt; heap.pop_grey().is_none()),
+        Whiten(id) => {
+            is_black(rt, heap, id);
+            heap.whiten(id);
+        }
+        White(id) => is_white(rt, heap, id),
+        Clear(id) => clear(rt, heap, id),
+        Free(slots, cells) => {
+            assert!(rt; heap.free_slots() == slots && heap.free_cells() == cells);
+        }
+        Edges(id, wanted) => has_edges(rt, heap, id, wanted),
+        NoEdge(id, serial) => {
+            assert!(rt; id < heap.len());
+            assert!(rt; heap.edge(id, serial).is_none());
+        }
+    }
 }
 
 #[test]
-fn shading_takes_white_slots_alone(rt: HostRuntime) -> Result<(), AllocError> {
-    let mut heap = Heap::new(rt.alloc(), 4, 1)?;
-    for id in [0, 1, 2] {
-        assert_eq!(rt; put(&rt, rt.alloc(), &mut heap, 10), id);
+fn each_script_runs_as_worked_out(rt: HostRuntime) -> Result<(), AllocError> {
+    for script in SCRIPTS {
+        let mut heap = Heap::new(rt.alloc(), script.slots, script.cells)?;
+        for act in script.acts {
+            play(&rt, rt.alloc(), &mut heap, *act);
+        }
     }
-    for id in [2, 0, 2, 3] {
-        shade(&rt, &mut heap, id);
-    }
-    assert_eq!(rt; scan(&rt, &mut heap), 0);
-    shade(&rt, &mut heap, 0);
-    assert_eq!(rt; scan(&rt, &mut heap), 2);
-    assert_eq!(rt; heap.pop_grey(), None);
-    for id in [0, 2] {
-        is_black(&rt, &heap, id);
-        heap.whiten(id);
-        is_white(&rt, &heap, id);
-    }
-    is_white(&rt, &heap, 1);
     Ok(())
 }
 
@@ -204,36 +328,6 @@ fn a_vertex_is_read_as_it_was_put_in(rt: HostRuntime) -> Result<(), AllocError> 
     assert_eq!(rt; heap.text(0).map(|text| text.get()), Some("hi"));
     let old = heap.set_text(0, Text::empty(rt.alloc()));
     assert_eq!(rt; old.get(), "hi");
-    Ok(())
-}
-
-#[test]
-fn a_heap_is_filled_and_emptied(rt: HostRuntime) -> Result<(), AllocError> {
-    let mut heap = Heap::new(rt.alloc(), 3, 4)?;
-    for (serial, id) in [(10, 0), (20, 1), (30, 2)] {
-        assert_eq!(rt; put(&rt, rt.alloc(), &mut heap, serial), id);
-    }
-    match heap.add_vertex(40, Kind::Document, Colour::White, Text::empty(rt.alloc())) {
-        Ok(_) => panic!(rt; "a fourth slot of three"),
-        Err((full, text)) => assert_eq!(rt; (full, text.get()), (HeapFull::Slots, "")),
-    }
-    for (id, target) in [(0, 1), (0, 2), (1, 0), (2, 0)] {
-        assert_eq!(rt; add(&rt, &mut heap, id, target, Rights::read()), Ok(()));
-    }
-    assert_eq!(rt; (heap.free_slots(), heap.free_cells()), (0, 0));
-    assert_eq!(rt;
-        add(&rt, &mut heap, 2, 1, Rights::read()),
-        Err(HeapFull::Cells)
-    );
-    assert_eq!(rt; add(&rt, &mut heap, 0, 1, Rights::write()), Ok(()));
-    for (id, cells) in [(1, 1), (0, 3), (2, 4)] {
-        clear(&rt, &mut heap, id);
-        assert_eq!(rt; heap.free_cells(), cells);
-    }
-    assert_eq!(rt; heap.free_slots(), 3);
-    for id in [2, 0, 1] {
-        assert_eq!(rt; put(&rt, rt.alloc(), &mut heap, 50), id);
-    }
     Ok(())
 }
 

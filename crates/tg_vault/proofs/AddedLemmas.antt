@@ -61,7 +61,7 @@ graph_append G (e ∷ xs) ys = graph_append (next_graph G e.actor e.command e.ou
 replies_append : (G : Protection) (n : ℕ) (xs ys : List Entry) → replies_from G n (xs ++ ys) ≡ replies_from G n xs ++ replies_from (graph_of G xs) (n + length xs) ys
 replies_append G n [] ys = ap (λ k. replies_from G k ys) (let e : n ≡ n + 0 = omega arith in e)
 replies_append G n (e ∷ xs) ys =
-    ap (λ all. (n, reply_of G e.command e.outcome) ∷ all) (replies_append (next_graph G e.actor e.command e.outcome) (n + 1) xs ys
+    ap (λ all. (n, reply_of G e.actor e.command e.outcome) ∷ all) (replies_append (next_graph G e.actor e.command e.outcome) (n + 1) xs ys
     ∙ ap (λ k. replies_from (next_graph G e.actor e.command e.outcome) (n + 1) xs ++ replies_from (graph_of (next_graph G e.actor e.command e.outcome) xs) k ys)
     (let e : n + 1 + length xs ≡ n + suc (length xs) = omega arith in e))
 

@@ -1,20 +1,21 @@
 -- What is held is a part of the graph of the history: what the rules decide in one, they decide in the other.
-use Rattle.std.proofs.Common.{◌≡◌, ℕ, ◌+◌, ◌-◌, ◌<◌, ◌≤◌, true, refl, sym, ap, subst, ◌∙◌, ◌⊎◌, inl, inr, arith}
+use Rattle.std.proofs.Common.{◌≡◌, ℕ, ◌+◌, ◌-◌, ◌<◌, ◌≤◌, Bool, true, false, refl, sym, ap, subst, ◌∙◌, ◌⊎◌, inl, inr, arith}
 use Rattle.std.specs.Prelude.{◌↔◌}
 use Rattle.std.specs.Option.{is_some}
-use Rattle.tg_rights.specs.Letters.{is_none, grant_alone}
+use Rattle.tg_rights.specs.Letters.{is_none}
 use Rattle.tg_rights.specs.declared.command.Command.{Command}
-use Rattle.tg_rights.specs.declared.command.Command.TheVariants as command
 use Rattle.tg_rights.specs.declared.outcome.Which.{Which}
 use Rattle.tg_rights.specs.declared.outcome.Which.TheVariants as which
 use Rattle.tg_rights.specs.declared.outcome.Outcome.{Outcome}
 use Rattle.tg_rights.specs.declared.outcome.Outcome.TheVariants as outcome
 use Rattle.tg_graph.specs.Protection.{Protection, IsGraph, IsVertex, IsSubject, label}
 use Rattle.tg_graph.specs.Paths.{Agree}
-use Rattle.tg_graph.specs.Fullness.{Limits, MakesEdge, Permitted, vertex_count, edge_count}
-use Rattle.tg_graph.specs.Rules.{Allowed, Judged, allowed_reply, reply_of, is_create, last_serial}
+use Rattle.tg_graph.specs.Fullness.{Limits, NewEdge, Permitted, vertex_count, edge_count}
+use Rattle.tg_graph.specs.Terms as effect
+use Rattle.tg_graph.specs.Terms.{Does, terms}
+use Rattle.tg_graph.specs.Rules.{Allowed, Judged, answered, reply_of, is_create, is_new, last_serial}
 use Rattle.tg_graph.proofs.OutcomesAgreeLemmas.{Judged-agrees}
-use Rattle.tg_graph.proofs.ProtectionLemmas.{includes_some, edge_to}
+use Rattle.tg_graph.proofs.ProtectionLemmas.{Entitled, edge_to, entitled}
 use Rattle.tg_graph.proofs.PartsStayLemmas.{part_agrees}
 use Rattle.tg_graph.proofs.ExactlyOneOutcomeLemmas.{verdict-Judged}
 use Rattle.tg_graph.proofs.RepliesAgreeLemmas.{same_reply}
@@ -76,54 +77,56 @@ module _ (v : Contents) (j : Ties v) (store : IsStore v.store) where
     pub judged_so : (c : Command) (o : Outcome) → Judged H x c o → Judged G x c o
     judged_so c o = Judged-agrees H G x c o actor_agrees
 
+    -- what an allowed command takes for granted of what is held
+    pub entitled_held : (c : Command) → Allowed H x c → Entitled H (IsVertex H) (λ v z k e. edge_to H held_is v z e) x actor_held (terms x c).does
+    entitled_held c a = entitled H (IsVertex H) (λ v z k e. edge_to H held_is v z e) x actor_held c a
+
     -- the same edges are made in both
-    pub makes_so : (c : Command) → Allowed H x c → MakesEdge H x c → MakesEdge G x c
-    makes_so (command.Take α over from) a new = λ e. new (ap is_none (sym (j.part.labels x over actor_held)) ∙ e)
-    makes_so (command.Grant α over to) a new =
-        let to_held : IsVertex H to = edge_to H held_is x to (includes_some (label H x to) grant_alone a.met.0 refl) in
-        λ e. new (ap is_none (sym (j.part.labels to over to_held)) ∙ e)
-    makes_so (command.Create k α) a new = new
-    makes_so (command.Remove α over) a new = new
-    makes_so (command.Read over) a new = new
-    makes_so (command.Write over text) a new = new
-    makes_so (command.Look at) a new = new
+    new_edge_so : (d : Does) → Entitled H (IsVertex H) (λ v z k e. edge_to H held_is v z e) x actor_held d → NewEdge H d → NewEdge G d
+    new_edge_so (effect.Joins from α to) h new = λ e. new (ap is_none (sym (j.part.labels from to h.0)) ∙ e)
+    new_edge_so (effect.Makes k α) h new = new
+    new_edge_so (effect.Drops α over) h new = new
+    new_edge_so (effect.Rewrites over text) h new = new
+    new_edge_so (effect.Tells over) h new = new
+    new_edge_so (effect.Lists at) h new = new
 
-    pub makes_back : (c : Command) → Allowed H x c → MakesEdge G x c → MakesEdge H x c
-    makes_back (command.Take α over from) a new = λ e. new (ap is_none (j.part.labels x over actor_held) ∙ e)
-    makes_back (command.Grant α over to) a new =
-        let to_held : IsVertex H to = edge_to H held_is x to (includes_some (label H x to) grant_alone a.met.0 refl) in
-        λ e. new (ap is_none (j.part.labels to over to_held) ∙ e)
-    makes_back (command.Create k α) a new = new
-    makes_back (command.Remove α over) a new = new
-    makes_back (command.Read over) a new = new
-    makes_back (command.Write over text) a new = new
-    makes_back (command.Look at) a new = new
+    new_edge_back : (d : Does) → Entitled H (IsVertex H) (λ v z k e. edge_to H held_is v z e) x actor_held d → NewEdge G d → NewEdge H d
+    new_edge_back (effect.Joins from α to) h new = λ e. new (ap is_none (j.part.labels from to h.0) ∙ e)
+    new_edge_back (effect.Makes k α) h new = new
+    new_edge_back (effect.Drops α over) h new = new
+    new_edge_back (effect.Rewrites over text) h new = new
+    new_edge_back (effect.Tells over) h new = new
+    new_edge_back (effect.Lists at) h new = new
 
-    pub used_up_so : (c : Command) (f g : ℕ) (w : Which) → Allowed H x c → IsUsedUp H f g x c w → IsUsedUp G f g x c w
+    pub used_up_so : (c : Command) (f g : ℕ) (w : Which) → Allowed H x c → IsUsedUp H f g (terms x c).does w → IsUsedUp G f g (terms x c).does w
     used_up_so c f g which.Serials a u = u
     used_up_so c f g which.Slots a u = u
-    used_up_so c f g which.Cells a u = (makes_so c a u.0, u.1, u.2)
+    used_up_so c f g which.Cells a u = (new_edge_so (terms x c).does (entitled_held c a) u.0, u.1, u.2)
 
-    pub used_up_back : (c : Command) (f g : ℕ) (w : Which) → Allowed H x c → IsUsedUp G f g x c w → IsUsedUp H f g x c w
+    pub used_up_back : (c : Command) (f g : ℕ) (w : Which) → Allowed H x c → IsUsedUp G f g (terms x c).does w → IsUsedUp H f g (terms x c).does w
     used_up_back c f g which.Serials a u = u
     used_up_back c f g which.Slots a u = u
-    used_up_back c f g which.Cells a u = (makes_back c a u.0, u.1, u.2)
+    used_up_back c f g which.Cells a u = (new_edge_back (terms x c).does (entitled_held c a) u.0, u.1, u.2)
 
     pub decided_so : (c : Command) (f g : ℕ) (o : Outcome) → Decided H f g x c o → Decided G f g x c o
     decided_so c f g outcome.Allowed d = (judged_so c outcome.Allowed d.0, λ w u. d.1 w (used_up_back c f g w d.0 u))
     decided_so c f g (outcome.Denied rule cause) d = judged_so c (outcome.Denied rule cause) d
     decided_so c f g (outcome.Full w) d = (judged_so c outcome.Allowed d.0, used_up_so c f g w d.0 d.1)
 
-    pub replied_so : (c : Command) (o : Outcome) → Judged H x c outcome.Allowed ⊎ ((o ≡ outcome.Allowed) → ⊥) → reply_of H c o ≡ reply_of G c o
-    replied_so c outcome.Allowed (inl a) = by c a where
-      by : (c : Command) → Allowed H x c → allowed_reply H c ≡ allowed_reply G c
-      by (command.Take α over from) a = refl
-      by (command.Grant α over to) a = refl
-      by (command.Create k α) a = refl
-      by (command.Remove α over) a = refl
-      by (command.Read over) a = same_reply H G x actor_agrees (command.Read over) held_is graph_is a refl
-      by (command.Write over text) a = refl
-      by (command.Look at) a = same_reply H G x actor_agrees (command.Look at) held_is graph_is a refl
+    pub replied_so : (c : Command) (o : Outcome) → Judged H x c outcome.Allowed ⊎ ((o ≡ outcome.Allowed) → ⊥) → reply_of H x c o ≡ reply_of G x c o
+    replied_so c outcome.Allowed (inl a) = by (is_create x c) refl where
+      -- the new serial is that of the graph; what else is told, the actor can tell in both
+      made : (d : Does) → is_new d ≡ true → answered H d ≡ answered G d
+      made (effect.Joins from α to) new = absurd (cc new)
+      made (effect.Makes k α) new = refl
+      made (effect.Drops α over) new = absurd (cc new)
+      made (effect.Rewrites over text) new = absurd (cc new)
+      made (effect.Tells over) new = absurd (cc new)
+      made (effect.Lists at) new = absurd (cc new)
+
+      by : (b : Bool) → is_create x c ≡ b → answered H (terms x c).does ≡ answered G (terms x c).does
+      by true new = made (terms x c).does new
+      by false old = same_reply H G x actor_agrees c held_is graph_is a old
     replied_so c outcome.Allowed (inr not) = absurd (not refl)
     replied_so c (outcome.Denied rule cause) a = refl
     replied_so c (outcome.Full w) a = refl
@@ -148,49 +151,48 @@ decided_permitted limits G f g x c (outcome.Full which.Cells) slots cells d = (d
 -- full for slots, exactly by the count
 pub exact_slots : (limits : Limits) (w : World) (f g x : ℕ) (c : Command) (o : Outcome) → w.used ≡ limits.slots - f → f ≤ limits.slots → Decided w.graph f g x c o → ExactSlots limits w x c o
 exact_slots limits w f g x c o used few d = (to o d, back o d) where
-  to : (o : Outcome) → Decided w.graph f g x c o → o ≡ outcome.Full which.Slots → (is_create c ≡ true) × Allowed w.graph x c × (w.graph.next ≤ last_serial) × (w.used ≡ limits.slots)
+  to : (o : Outcome) → Decided w.graph f g x c o → o ≡ outcome.Full which.Slots → (is_create x c ≡ true) × Allowed w.graph x c × (w.graph.next ≤ last_serial) × (w.used ≡ limits.slots)
   to outcome.Allowed d is = absurd (cc is)
   to (outcome.Denied rule cause) d is = absurd (cc is)
   to (outcome.Full which.Serials) d is = absurd (cc is)
   to (outcome.Full which.Slots) d is = (d.1.0, d.0, d.1.1, (let none = d.1.2 in omega arith))
   to (outcome.Full which.Cells) d is = absurd (cc is)
 
-  back : (o : Outcome) → Decided w.graph f g x c o → (is_create c ≡ true) × Allowed w.graph x c × (w.graph.next ≤ last_serial) × (w.used ≡ limits.slots) → o ≡ outcome.Full which.Slots
+  back : (o : Outcome) → Decided w.graph f g x c o → (is_create x c ≡ true) × Allowed w.graph x c × (w.graph.next ≤ last_serial) × (w.used ≡ limits.slots) → o ≡ outcome.Full which.Slots
   back outcome.Allowed d h = absurd (d.1 which.Slots (h.0, h.2, (let full = h.3 in omega arith)))
   back (outcome.Denied rule cause) d h = absurd (cc (not_both w.graph x c (outcome.Denied rule cause) h.1 d))
   back (outcome.Full which.Serials) d h = let above = d.1.1 in let below = h.2 in absurd (omega arith)
   back (outcome.Full which.Slots) d h = refl
   back (outcome.Full which.Cells) d h = absurd (d.1.1 h.0 (let full = h.3 in omega arith))
 
-no_serial : (G : Protection) (f g x : ℕ) (c : Command) → IsUsedUp G f g x c which.Serials → IsUsedUp G f g x c which.Cells → ⊥
-no_serial G f g x (command.Create k α) a b = let above = a.1 in let below = b.0 in absurd (omega arith)
-no_serial G f g x (command.Take α over from) a b = cc a.0
-no_serial G f g x (command.Grant α over to) a b = cc a.0
-no_serial G f g x (command.Remove α over) a b = cc a.0
-no_serial G f g x (command.Read over) a b = cc a.0
-no_serial G f g x (command.Write over text) a b = cc a.0
-no_serial G f g x (command.Look at) a b = cc a.0
+no_serial : (G : Protection) (f g : ℕ) (d : Does) → IsUsedUp G f g d which.Serials → IsUsedUp G f g d which.Cells → ⊥
+no_serial G f g (effect.Makes k α) a b = let above = a.1 in let below = b.0 in absurd (omega arith)
+no_serial G f g (effect.Joins from α to) a b = cc a.0
+no_serial G f g (effect.Drops α over) a b = cc a.0
+no_serial G f g (effect.Rewrites over text) a b = cc a.0
+no_serial G f g (effect.Tells over) a b = cc a.0
+no_serial G f g (effect.Lists at) a b = cc a.0
 
 -- full exactly where something is used up
-pub exact_full : (G : Protection) (f g x : ℕ) (c : Command) (o : Outcome) (w : Which) → Decided G f g x c o → (o ≡ outcome.Full w) ↔ (Allowed G x c × IsUsedUp G f g x c w)
+pub exact_full : (G : Protection) (f g x : ℕ) (c : Command) (o : Outcome) (w : Which) → Decided G f g x c o → (o ≡ outcome.Full w) ↔ (Allowed G x c × IsUsedUp G f g (terms x c).does w)
 exact_full G f g x c o w d = (to o d, back o d) where
-  to : (o : Outcome) → Decided G f g x c o → o ≡ outcome.Full w → Allowed G x c × IsUsedUp G f g x c w
+  to : (o : Outcome) → Decided G f g x c o → o ≡ outcome.Full w → Allowed G x c × IsUsedUp G f g (terms x c).does w
   to outcome.Allowed d is = absurd (cc is)
   to (outcome.Denied rule cause) d is = absurd (cc is)
-  to (outcome.Full u) d is = let same : u ≡ w = cc is in (d.0, subst (IsUsedUp G f g x c) same d.1)
+  to (outcome.Full u) d is = let same : u ≡ w = cc is in (d.0, subst (IsUsedUp G f g (terms x c).does) same d.1)
 
-  one : (u w : Which) → IsUsedUp G f g x c u → IsUsedUp G f g x c w → u ≡ w
+  one : (u w : Which) → IsUsedUp G f g (terms x c).does u → IsUsedUp G f g (terms x c).does w → u ≡ w
   one which.Serials which.Serials a b = refl
   one which.Serials which.Slots a b = let above = a.1 in let below = b.1 in absurd (omega arith)
-  one which.Serials which.Cells a b = absurd (no_serial G f g x c a b)
+  one which.Serials which.Cells a b = absurd (no_serial G f g (terms x c).does a b)
   one which.Slots which.Serials a b = let above = b.1 in let below = a.1 in absurd (omega arith)
   one which.Slots which.Slots a b = refl
   one which.Slots which.Cells a b = absurd (b.1 a.0 a.2)
-  one which.Cells which.Serials a b = absurd (no_serial G f g x c b a)
+  one which.Cells which.Serials a b = absurd (no_serial G f g (terms x c).does b a)
   one which.Cells which.Slots a b = absurd (a.1 b.0 b.2)
   one which.Cells which.Cells a b = refl
 
-  back : (o : Outcome) → Decided G f g x c o → Allowed G x c × IsUsedUp G f g x c w → o ≡ outcome.Full w
+  back : (o : Outcome) → Decided G f g x c o → Allowed G x c × IsUsedUp G f g (terms x c).does w → o ≡ outcome.Full w
   back outcome.Allowed d h = absurd (d.1 w h.1)
   back (outcome.Denied rule cause) d h = absurd (cc (not_both G x c (outcome.Denied rule cause) h.0 d))
   back (outcome.Full u) d h = ap (λ u. outcome.Full u) (one u w d.1 h.1)

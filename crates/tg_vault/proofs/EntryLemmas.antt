@@ -1,21 +1,21 @@
 -- A vault with one entry more.
-use Rattle.std.proofs.Common.{◌≡◌, ℕ, ◌+◌, ◌-◌, ◌<◌, ◌≤◌, List, [], ◌∷◌, ◌++◌, refl, sym, ap, subst, ◌∙◌, ◌⊎◌, inl, inr, Some, arith}
+use Rattle.std.proofs.Common.{◌≡◌, ℕ, ◌+◌, ◌-◌, ◌<◌, ◌≤◌, List, [], ◌∷◌, ◌++◌, refl, sym, ap, subst, ◌∙◌, ◌⊎◌, inl, inr, Some, None, Bool, true, false, cond, arith}
 use Rattle.std.specs.Prelude.{◌↔◌}
 use Rattle.std.proofs.lemmas.List.Elements.{All-append, All-cons, All-nil}
-use Rattle.std.proofs.lemmas.Bool.{not-true}
-use Rattle.tg_rights.specs.Letters.{joined, without, take_alone, grant_alone}
+use Rattle.tg_rights.specs.Letters.{joined, without}
 use Rattle.tg_rights.specs.Membership.{Contains}
 use Rattle.tg_rights.specs.declared.command.Command.{Command}
-use Rattle.tg_rights.specs.declared.command.Command.TheVariants as command
 use Rattle.tg_rights.specs.declared.outcome.Outcome.{Outcome}
 use Rattle.tg_rights.specs.declared.outcome.Outcome.TheVariants as outcome
 use Rattle.tg_rights.specs.declared.outcome.Reply.{Reply}
 use Rattle.tg_graph.specs.Protection.{Protection, IsGraph, IsVertex, IsEdge, label}
-use Rattle.tg_graph.specs.Paths.{Agree, IsPart, Live}
+use Rattle.tg_graph.specs.Terms as effect
+use Rattle.tg_graph.specs.Terms.{Does, terms}
+use Rattle.tg_graph.specs.Paths.{Agree, IsPart, Live, Reaches}
 use Rattle.tg_graph.specs.Fullness.{Permitted, edges_at, vertex_count, edge_count}
-use Rattle.tg_graph.specs.Rules.{Allowed, Judged, next_graph, reply_of, after}
-use Rattle.tg_graph.proofs.OutcomesAgreeLemmas.{Judged-agrees}
-use Rattle.tg_graph.proofs.ProtectionLemmas.{edge_to, includes_some}
+use Rattle.tg_graph.specs.Rules.{Allowed, Judged, is_create, next_graph, reply_of, after}
+use Rattle.tg_graph.proofs.OutcomesAgreeLemmas.{Judged-agrees, reaches_on}
+use Rattle.tg_graph.proofs.ProtectionLemmas.{Entitled, edge_to, entitled}
 use Rattle.tg_graph.proofs.PartsStayLemmas.{part_stays}
 use Rattle.tg_graph.proofs.RepliesAgreeLemmas.{same_reply}
 use Rattle.tg_graph.proofs.VertexLemmas.{IsVertex-from_kind}
@@ -23,16 +23,16 @@ use Rattle.tg_vault.specs.declared.entry.Entry.{Entry}
 use Rattle.tg_collect.specs.Stored.{Stored, held}
 use Rattle.tg_collect.specs.Views.{IsStore, IsRootIn, InSet}
 use Rattle.tg_vault.specs.History.{IsPrincipal}
-use Rattle.tg_vault.specs.World.{at_seat, target_of, with_target, slots_taken, entered, Enters}
+use Rattle.tg_vault.specs.World.{at_seat, new_target, target_of, with_target, slots_taken, entered, Enters}
 use Rattle.tg_vault.specs.Contents.{Contents, IsVault, graph_now, held_now, moment}
 use Rattle.tg_vault.specs.Fits.{Ties, IsTied}
 use Rattle.tg_vault.specs.StoreSteps.{SessionStep}
 use Rattle.tg_vault.specs.Exact.{IsExact}
 use Rattle.tg_vault.specs.Agreement.{SameForAgreeing, JudgedAlike, IsOfGraph}
 use Rattle.tg_vault.specs.Told.{told}
-use Rattle.tg_vault.specs.CarriedOut.{CarriedOut, Decided, CellsMoved, new_serial}
+use Rattle.tg_vault.specs.CarriedOut.{CarriedOut, Decided, CellsMoved, EdgeMoves, new_serial}
 use Rattle.tg_vault.proofs.HistoryLemmas.{graph_of_more, along_more, told_outcome}
-use Rattle.tg_vault.proofs.DecidedLemmas.{graph_is, held_is, actor_held, actor_subject, root_is, decided_so, replied_so, decided_permitted, exact_slots, exact_full}
+use Rattle.tg_vault.proofs.DecidedLemmas.{graph_is, held_is, actor_held, actor_subject, root_is, entitled_held, decided_so, replied_so, decided_permitted, exact_slots, exact_full}
 use Rattle.tg_vault.proofs.CountLemmas.{next_same, target_same, vertex_stays, vertices_counted, edges_counted}
 
 judged_alike : (G K : Protection) (f g x : ℕ) (c : Command) (o : Outcome) → Agree G K x → Decided G f g x c o → JudgedAlike K x c o
@@ -40,7 +40,7 @@ judged_alike G K f g x c outcome.Allowed agree d = Judged-agrees G K x c outcome
 judged_alike G K f g x c (outcome.Denied rule cause) agree d = Judged-agrees G K x c (outcome.Denied rule cause) agree d
 judged_alike G K f g x c (outcome.Full w) agree d = Judged-agrees G K x c outcome.Allowed agree d.0
 
-alike : (G K : Protection) (f g x : ℕ) (c : Command) (o : Outcome) → IsGraph G → IsGraph K → Agree G K x → Decided G f g x c o → IsOfGraph c o → reply_of G c o ≡ reply_of K c o
+alike : (G K : Protection) (f g x : ℕ) (c : Command) (o : Outcome) → IsGraph G → IsGraph K → Agree G K x → Decided G f g x c o → IsOfGraph x c o → reply_of G x c o ≡ reply_of K x c o
 alike G K f g x c outcome.Allowed in_G in_K agree d other = same_reply G K x agree c in_G in_K d.0 other
 alike G K f g x c (outcome.Denied rule cause) in_G in_K agree d other = refl
 alike G K f g x c (outcome.Full w) in_G in_K agree d other = absurd other
@@ -56,51 +56,46 @@ judged_or G f g x c (outcome.Denied rule cause) d = inr (λ is. cc is)
 judged_or G f g x c (outcome.Full w) d = inr (λ is. cc is)
 
 -- a target is reached from the actor, or new
-target_live : (H : Protection) (root : ℕ → Type 0) (x : ℕ) (c : Command) (o : Outcome) → root x → IsVertex H x → (o ≡ outcome.Allowed → Allowed H x c) → (y : ℕ) → target_of H c o ≡ Some y → Live H root y ⊎ (H.next ≤ y)
-target_live H root x (command.Take α over from) outcome.Allowed is_root x_in a y is =
-    let same : over ≡ y = cc is in
-    let first : IsEdge H x from = includes_some (label H x from) take_alone (a refl).met.0 refl in
-    let next : IsEdge H from over = includes_some (label H from over) α (a refl).met.1.0 (not-true _ (a refl).rights_named) in
-    inl (x, is_root, (from ∷ over ∷ [], (x_in, (first, (next, same)))))
-target_live H root x (command.Grant α over to) outcome.Allowed is_root x_in a y is =
-    let same : over ≡ y = cc is in
-    let here : IsEdge H x over = includes_some (label H x over) α (a refl).met.1.0 (not-true _ (a refl).rights_named) in
-    inl (x, is_root, (over ∷ [], (x_in, (here, same))))
-target_live H root x (command.Create k α) outcome.Allowed is_root x_in a y is = let same : H.next ≡ y = cc is in inr (omega arith)
-target_live H root x (command.Remove α over) outcome.Allowed is_root x_in a y is = absurd (cc is)
-target_live H root x (command.Read over) outcome.Allowed is_root x_in a y is = absurd (cc is)
-target_live H root x (command.Write over text) outcome.Allowed is_root x_in a y is = absurd (cc is)
-target_live H root x (command.Look at) outcome.Allowed is_root x_in a y is = absurd (cc is)
-target_live H root x c (outcome.Denied rule cause) is_root x_in a y is = absurd (cc is)
-target_live H root x c (outcome.Full w) is_root x_in a y is = absurd (cc is)
+module _ (H : Protection) (root : ℕ → Type 0) (x : ℕ) (is_root : root x) (x_in : IsVertex H x) where
+  here : Reaches H x x
+  here = ([], (x_in, refl))
 
-new_is_next : (next : ℕ) (c : Command) (o : Outcome) (y : ℕ) → new_serial next c o ≡ Some y → next ≤ y
-new_is_next next (command.Take α over from) outcome.Allowed y is = absurd (cc is)
-new_is_next next (command.Grant α over to) outcome.Allowed y is = absurd (cc is)
-new_is_next next (command.Create k α) outcome.Allowed y is = let same : next ≡ y = cc is in omega arith
-new_is_next next (command.Remove α over) outcome.Allowed y is = absurd (cc is)
-new_is_next next (command.Read over) outcome.Allowed y is = absurd (cc is)
-new_is_next next (command.Write over text) outcome.Allowed y is = absurd (cc is)
-new_is_next next (command.Look at) outcome.Allowed y is = absurd (cc is)
-new_is_next next c (outcome.Denied rule cause) y is = absurd (cc is)
-new_is_next next c (outcome.Full w) y is = absurd (cc is)
+  done_target : (d : Does) → Entitled H (Reaches H x) (reaches_on H x) x here d → (y : ℕ) → new_target H d ≡ Some y → Live H root y ⊎ (H.next ≤ y)
+  done_target (effect.Joins from α to) h y is = let same : to ≡ y = cc is in inl (x, is_root, subst (Reaches H x) same h.1)
+  done_target (effect.Makes k α) h y is = let same : H.next ≡ y = cc is in inr (omega arith)
+  done_target (effect.Drops α over) h y is = absurd (cc is)
+  done_target (effect.Rewrites over text) h y is = absurd (cc is)
+  done_target (effect.Tells over) h y is = absurd (cc is)
+  done_target (effect.Lists at) h y is = absurd (cc is)
+
+  target_live : (c : Command) (o : Outcome) → (o ≡ outcome.Allowed → Allowed H x c) → (y : ℕ) → target_of H x c o ≡ Some y → Live H root y ⊎ (H.next ≤ y)
+  target_live c outcome.Allowed a y is = done_target (terms x c).does (entitled H (Reaches H x) (reaches_on H x) x here c (a refl)) y is
+  target_live c (outcome.Denied rule cause) a y is = absurd (cc is)
+  target_live c (outcome.Full w) a y is = absurd (cc is)
+
+new_is_next : (next x : ℕ) (c : Command) (o : Outcome) (y : ℕ) → new_serial next x c o ≡ Some y → next ≤ y
+new_is_next next x c outcome.Allowed y is = by (is_create x c) is where
+  by : (b : Bool) → cond b (Some next) None ≡ Some y → next ≤ y
+  by true is = let same : next ≡ y = cc is in omega arith
+  by false is = absurd (cc is)
+new_is_next next x c (outcome.Denied rule cause) y is = absurd (cc is)
+new_is_next next x c (outcome.Full w) y is = absurd (cc is)
 
 -- the labels that change are the same in both
-moved_so : (v : Contents) → Ties v → IsStore v.store → (x : ℕ) → IsVertex (held_now v) x → (c : Command) (o : Outcome) (before after : ℕ) → (o ≡ outcome.Allowed → Allowed (held_now v) x c) →
-    CellsMoved (held_now v) before after x c o → CellsMoved (graph_now v) before after x c o
-moved_so v j store x x_in (command.Take α over from) outcome.Allowed before after a moved =
-    subst (λ l. after + edges_at (joined l α) ≡ before + edges_at l) (sym (j.part.labels x over x_in)) moved
-moved_so v j store x x_in (command.Grant α over to) outcome.Allowed before after a moved =
-    let to_in : IsVertex (held_now v) to = edge_to (held_now v) (held_is v j store) x to (includes_some (label (held_now v) x to) grant_alone (a refl).met.0 refl) in
-    subst (λ l. after + edges_at (joined l α) ≡ before + edges_at l) (sym (j.part.labels to over to_in)) moved
-moved_so v j store x x_in (command.Create k α) outcome.Allowed before after a moved = moved
-moved_so v j store x x_in (command.Remove α over) outcome.Allowed before after a moved =
-    subst (λ l. after + edges_at (without l α) ≡ before + edges_at l) (sym (j.part.labels x over x_in)) moved
-moved_so v j store x x_in (command.Read over) outcome.Allowed before after a moved = moved
-moved_so v j store x x_in (command.Write over text) outcome.Allowed before after a moved = moved
-moved_so v j store x x_in (command.Look at) outcome.Allowed before after a moved = moved
-moved_so v j store x x_in c (outcome.Denied rule cause) before after a moved = moved
-moved_so v j store x x_in c (outcome.Full w) before after a moved = moved
+module _ (v : Contents) (j : Ties v) (store : IsStore v.store) (x : ℕ) (principal : IsPrincipal v.opening x) (before after : ℕ) where
+  done_moves : (d : Does) → Entitled (held_now v) (IsVertex (held_now v)) (λ w z k e. edge_to (held_now v) (held_is v j store) w z e) x (actor_held v j store x principal) d →
+      EdgeMoves (held_now v) before after x d → EdgeMoves (graph_now v) before after x d
+  done_moves (effect.Joins from α to) h moved = subst (λ l. after + edges_at (joined l α) ≡ before + edges_at l) (sym (j.part.labels from to h.0)) moved
+  done_moves (effect.Makes k α) h moved = moved
+  done_moves (effect.Drops α over) h moved = subst (λ l. after + edges_at (without l α) ≡ before + edges_at l) (sym (j.part.labels x over (actor_held v j store x principal))) moved
+  done_moves (effect.Rewrites over text) h moved = moved
+  done_moves (effect.Tells over) h moved = moved
+  done_moves (effect.Lists at) h moved = moved
+
+  moved_so : (c : Command) (o : Outcome) → (o ≡ outcome.Allowed → Allowed (held_now v) x c) → CellsMoved (held_now v) before after x c o → CellsMoved (graph_now v) before after x c o
+  moved_so c outcome.Allowed a moved = done_moves (terms x c).does (entitled_held v j store x principal c (a refl)) moved
+  moved_so c (outcome.Denied rule cause) a moved = moved
+  moved_so c (outcome.Full w) a moved = moved
 
 -- what is free is at most all
 pub free_few : (v : Contents) → Ties v → IsStore v.store → v.store.free_slots ≤ v.limits.slots
@@ -159,7 +154,7 @@ module _ (v : Contents) (seat x : ℕ) (c : Command) (answer : Reply) (t : Store
   permitted : Permitted v.limits G x c o
   permitted = decided_permitted v.limits G v.store.free_slots v.store.free_cells x c o j.many_slots j.many_cells decided
 
-  replied : answer ≡ reply_of G c o
+  replied : answer ≡ reply_of G x c o
   replied = s.carried.replied ∙ replied_so v j s.store x principal c o (judged_or H v.store.free_slots v.store.free_cells x c o s.carried.decided)
 
   graph_left : graph_now left ≡ next_graph G x c o
@@ -168,8 +163,8 @@ module _ (v : Contents) (seat x : ℕ) (c : Command) (answer : Reply) (t : Store
   pub after_is : after ≡ (graph_now left).next
   after_is = ap (λ (K : Protection). K.next) s.carried.graph ∙ next_same H G x c o refl ∙ sym (ap (λ (K : Protection). K.next) graph_left)
 
-  target_is : target_of H c o ≡ target_of G c o
-  target_is = target_same H G c o refl
+  target_is : target_of H x c o ≡ target_of G x c o
+  target_is = target_same H G x c o refl
 
   pub moment_left : moment left ≡ entered (moment v) e
   moment_left = λ i. record {
@@ -181,7 +176,7 @@ module _ (v : Contents) (seat x : ℕ) (c : Command) (answer : Reply) (t : Store
     };
     history = v.history ++ e ∷ [];
   } where
-    used : v.limits.slots - t.free_slots ≡ v.limits.slots - v.store.free_slots + slots_taken c o
+    used : v.limits.slots - t.free_slots ≡ v.limits.slots - v.store.free_slots + slots_taken x c o
     used = let few = free_few v j s.counted in let moved = s.carried.slots in omega arith
 
   pub serving_enters : Enters v.limits (moment v) seat x c answer (moment left)
@@ -206,11 +201,11 @@ module _ (v : Contents) (seat x : ℕ) (c : Command) (answer : Reply) (t : Store
 
   pub serving_acts : SessionStep v left
   serving_acts = record {
-    came = new_serial (graph_now v).next c o;
-    target = target_of H c o;
+    came = new_serial (graph_now v).next x c o;
+    target = target_of H x c o;
     acted = s.carried.acted;
-    next = λ y is. new_is_next (graph_now v).next c o y is;
-    live = λ y is. target_live H (IsRootIn v.store) x c o (root_is v j s.store x principal) x_in allowed_held y is;
+    next = λ y is. new_is_next (graph_now v).next x c o y is;
+    live = λ y is. target_live H (IsRootIn v.store) x (root_is v j s.store x principal) x_in c o allowed_held y is;
   }
 
   still_vault : IsVault left
@@ -254,7 +249,7 @@ module _ (v : Contents) (seat x : ℕ) (c : Command) (answer : Reply) (t : Store
       many_cells =
           let many = j.many_cells in
           let same = ap edge_count graph_left in
-          let counted = edges_counted G in_G x x_in_G c o v.store.free_cells t.free_cells allowed (moved_so v j s.store x x_in c o v.store.free_cells t.free_cells allowed_held s.carried.cells) in
+          let counted = edges_counted G in_G x x_in_G c o v.store.free_cells t.free_cells allowed (moved_so v j s.store x principal v.store.free_cells t.free_cells c o allowed_held s.carried.cells) in
           omega arith;
     };
     serial = after_is;
@@ -285,7 +280,7 @@ module _ (v : Contents) (next seat x : ℕ) (c : Command) (answer : Reply) (t : 
   pushed_is : left v seat x c answer t after serving ≡ record v { store = t; history = history }
   pushed_is =
       let s = serving in
-      let told_is : told answer ≡ s.carried.outcome = ap told s.carried.replied ∙ told_outcome (held_now v) c s.carried.outcome in
+      let told_is : told answer ≡ s.carried.outcome = ap told s.carried.replied ∙ told_outcome (held_now v) x c s.carried.outcome in
       λ i. record v { store = t; history = sym (p.history_is ∙ ap (λ d. v.history ++ record { seat = seat; actor = x; command = c; outcome = d } ∷ []) (p.decision_is ∙ told_is)) i }
 
   pub pushed_joined : IsTied (record v { store = t; history = history }) after

@@ -3,11 +3,12 @@ use Rattle.std.proofs.Common.{◌≡◌, ℕ, List, [], ◌∷◌, ◌++◌, ref
 use Rattle.std.specs.Prelude.{All}
 use Rattle.std.proofs.lemmas.List.Elements.{All-head, All-tail}
 use Rattle.tg_rights.specs.declared.command.Command.{Command}
-use Rattle.tg_rights.specs.declared.command.Command.TheVariants as command
 use Rattle.tg_rights.specs.declared.outcome.Outcome.{Outcome}
 use Rattle.tg_rights.specs.declared.outcome.Outcome.TheVariants as outcome
 use Rattle.tg_graph.specs.Protection.{Protection, IsGraph, IsSubject}
-use Rattle.tg_graph.specs.Rules.{next_graph, reply_of}
+use Rattle.tg_graph.specs.Terms as effect
+use Rattle.tg_graph.specs.Terms.{Does, terms}
+use Rattle.tg_graph.specs.Rules.{answered, next_graph, reply_of}
 use Rattle.tg_graph.proofs.CommandsKeepGraphsLemmas.{graph_stays, subject_stays}
 use Rattle.tg_vault.specs.declared.entry.Entry.{Entry}
 use Rattle.tg_graph.specs.Fullness.{Limits, Permitted}
@@ -27,21 +28,23 @@ pub along_ends : (limits : Limits) (G : Protection) (es : List Entry) (H : Prote
 along_ends limits G [] H same = same
 along_ends limits G (x ∷ es) H along = along_ends limits along.0 es H along.2 ∙ ap (λ F. graph_of F es) along.1.1
 
-pub told_outcome : (G : Protection) (c : Command) (o : Outcome) → told (reply_of G c o) ≡ o
-told_outcome G (command.Take α over from) outcome.Allowed = refl
-told_outcome G (command.Grant α over to) outcome.Allowed = refl
-told_outcome G (command.Create k α) outcome.Allowed = refl
-told_outcome G (command.Remove α over) outcome.Allowed = refl
-told_outcome G (command.Read over) outcome.Allowed = refl
-told_outcome G (command.Write over text) outcome.Allowed = refl
-told_outcome G (command.Look at) outcome.Allowed = refl
-told_outcome G c (outcome.Denied rule cause) = refl
-told_outcome G c (outcome.Full which) = refl
+told_answered : (G : Protection) (d : Does) → told (answered G d) ≡ outcome.Allowed
+told_answered G (effect.Joins from α to) = refl
+told_answered G (effect.Makes k α) = refl
+told_answered G (effect.Drops α over) = refl
+told_answered G (effect.Rewrites over text) = refl
+told_answered G (effect.Tells over) = refl
+told_answered G (effect.Lists at) = refl
+
+pub told_outcome : (G : Protection) (x : ℕ) (c : Command) (o : Outcome) → told (reply_of G x c o) ≡ o
+told_outcome G x c outcome.Allowed = told_answered G (terms x c).does
+told_outcome G x c (outcome.Denied rule cause) = refl
+told_outcome G x c (outcome.Full which) = refl
 
 -- what an entry leaves is a graph, and each subject a subject
 turn_keeps : (limits : Limits) (G : Protection) (x : ℕ) (c : Command) (o : Outcome) → IsGraph G → IsSubject G x → Permitted limits G x c o →
     IsGraph (next_graph G x c o) × ((v : ℕ) → IsSubject G v → IsSubject (next_graph G x c o) v)
-turn_keeps limits G x c outcome.Allowed graph subject permitted = (graph_stays G x c graph subject permitted.0, subject_stays G x c graph permitted.0)
+turn_keeps limits G x c outcome.Allowed graph subject permitted = (graph_stays G x c graph subject permitted.0, subject_stays G x c graph)
 turn_keeps limits G x c (outcome.Denied rule cause) graph subject permitted = (graph, λ v s. s)
 turn_keeps limits G x c (outcome.Full which) graph subject permitted = (graph, λ v s. s)
 

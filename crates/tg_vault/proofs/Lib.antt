@@ -1,6 +1,6 @@
 pub mod PlaceLemmas
-pub mod PlanLemmas
 pub mod EdgeLemmas
+pub mod FoundLemmas
 pub mod CarriedOutLemmas
 pub mod HistoryLemmas
 pub mod DecidedLemmas

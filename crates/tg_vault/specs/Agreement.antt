@@ -17,15 +17,15 @@ JudgedAlike H x c (outcome.Denied rule cause) = Judged H x c (outcome.Denied rul
 JudgedAlike H x c (outcome.Full which) = Judged H x c outcome.Allowed
 
 -- the reply is not Full, and names no new serial
-abbrev pub IsOfGraph : Command → Outcome → Type 0
-IsOfGraph c outcome.Allowed = is_create c ≡ false
-IsOfGraph c (outcome.Denied rule cause) = Unit {0}
-IsOfGraph c (outcome.Full which) = ⊥
+abbrev pub IsOfGraph : ℕ → Command → Outcome → Type 0
+IsOfGraph x c outcome.Allowed = is_create x c ≡ false
+IsOfGraph x c (outcome.Denied rule cause) = Unit {0}
+IsOfGraph x c (outcome.Full which) = ⊥
 
 -- the outcome and the reply, Full and the new serial aside, are those of each graph that the actor cannot tell from the graph of the history
 pub record SameForAgreeing (old new : Contents) (answer : Reply) : Type 0 where
   pub entry : Entry
   pub added : new.history ≡ old.history ++ entry ∷ []
   pub outcome : (H : Protection) → Agree (graph_now old) H entry.actor → JudgedAlike H entry.actor entry.command entry.outcome
-  pub reply : (H : Protection) → IsGraph H → Agree (graph_now old) H entry.actor → IsOfGraph entry.command entry.outcome →
-      answer ≡ reply_of H entry.command entry.outcome
+  pub reply : (H : Protection) → IsGraph H → Agree (graph_now old) H entry.actor → IsOfGraph entry.actor entry.command entry.outcome →
+      answer ≡ reply_of H entry.actor entry.command entry.outcome

@@ -3,52 +3,55 @@ use Rattle.std.specs.Prelude.{◌≡◌, ◌≢◌, ◌<◌, ◌≤◌, ℕ, ◌
 use Rattle.tg_rights.specs.Letters.{Letters, joined, without}
 use Rattle.tg_rights.specs.declared.kind.Kind.{Kind}
 use Rattle.tg_rights.specs.declared.command.Command.{Command}
-use Rattle.tg_rights.specs.declared.command.Command.TheVariants as command
 use Rattle.tg_rights.specs.declared.outcome.Which.{Which}
 use Rattle.tg_rights.specs.declared.outcome.Which.TheVariants as which
 use Rattle.tg_rights.specs.declared.outcome.Outcome.{Outcome}
 use Rattle.tg_rights.specs.declared.outcome.Outcome.TheVariants as outcome
 use Rattle.tg_rights.specs.declared.outcome.Reply.{Reply}
 use Rattle.tg_rights.specs.declared.outcome.Reply.TheVariants as reply
+use Rattle.tg_graph.specs.Terms as effect
+use Rattle.tg_graph.specs.Terms.{Does, terms}
 use Rattle.tg_graph.specs.Protection.{Protection, label}
-use Rattle.tg_graph.specs.Rules.{Allowed, Denied, is_create, last_serial, next_graph, reply_of}
-use Rattle.tg_graph.specs.Fullness.{MakesEdge, edges_at}
+use Rattle.tg_graph.specs.Rules.{Allowed, Denied, is_new, last_serial, next_graph, reply_of}
+use Rattle.tg_graph.specs.Fullness.{NewEdge, edges_at}
 use Rattle.tg_collect.specs.Stored.{Stored, held}
 use Rattle.tg_collect.specs.Views.{IsEdgeIn}
 use Rattle.tg_collect.specs.Sessions.{EdgeStored, VertexStored}
 use Rattle.tg_collect.specs.StoreRuns.{Acted}
 use Rattle.tg_vault.specs.World.{target_of, with_target, slots_taken}
 
--- the first of serials, slots and cells that an allowed command of x needs and that is used up
-abbrev pub IsUsedUp : Protection → (free_slots free_cells : ℕ) → ℕ → Command → Which → Type 0
-IsUsedUp G free_slots free_cells x c which.Serials = (is_create c ≡ true) × (last_serial < G.next)
-IsUsedUp G free_slots free_cells x c which.Slots = (is_create c ≡ true) × (G.next ≤ last_serial) × (free_slots ≡ 0)
-IsUsedUp G free_slots free_cells x c which.Cells = MakesEdge G x c × (is_create c ≡ true → free_slots ≢ 0) × (free_cells ≡ 0)
+-- the first of serials, slots and cells that an effect needs and that is used up
+abbrev pub IsUsedUp : Protection → (free_slots free_cells : ℕ) → Does → Which → Type 0
+IsUsedUp G free_slots free_cells d which.Serials = (is_new d ≡ true) × (last_serial < G.next)
+IsUsedUp G free_slots free_cells d which.Slots = (is_new d ≡ true) × (G.next ≤ last_serial) × (free_slots ≡ 0)
+IsUsedUp G free_slots free_cells d which.Cells = NewEdge G d × (is_new d ≡ true → free_slots ≢ 0) × (free_cells ≡ 0)
 
 -- how a command of x is decided: denied where the rules deny it, else full where something is used up, else allowed
 abbrev pub Decided : Protection → (free_slots free_cells : ℕ) → ℕ → Command → Outcome → Type 0
-Decided G free_slots free_cells x c outcome.Allowed = Allowed G x c × ((w : Which) → IsUsedUp G free_slots free_cells x c w → ⊥)
+Decided G free_slots free_cells x c outcome.Allowed = Allowed G x c × ((w : Which) → IsUsedUp G free_slots free_cells (terms x c).does w → ⊥)
 Decided G free_slots free_cells x c (outcome.Denied rule cause) = Denied G x c rule cause
-Decided G free_slots free_cells x c (outcome.Full w) = Allowed G x c × IsUsedUp G free_slots free_cells x c w
+Decided G free_slots free_cells x c (outcome.Full w) = Allowed G x c × IsUsedUp G free_slots free_cells (terms x c).does w
 
--- the serial that comes in
-abbrev pub new_serial : ℕ → Command → Outcome → Option ℕ
-new_serial next c outcome.Allowed = cond (is_create c) (Some next) None
-new_serial next c (outcome.Denied rule cause) = None
-new_serial next c (outcome.Full w) = None
+-- the serial that comes in with an effect, and with a command of x
+abbrev pub serial_of : ℕ → Does → Option ℕ
+serial_of next d = cond (is_new d) (Some next) None
 
--- free cells move by the edge that an allowed command of x makes or takes away
-abbrev pub EdgeMoves : Protection → (before after : ℕ) → ℕ → Command → Type 0
-EdgeMoves G before after x (command.Take α over from) = after + edges_at (joined (label G x over) α) ≡ before + edges_at (label G x over)
-EdgeMoves G before after x (command.Grant α over to) = after + edges_at (joined (label G to over) α) ≡ before + edges_at (label G to over)
-EdgeMoves G before after x (command.Create k α) = before ≡ after + 1
-EdgeMoves G before after x (command.Remove α over) = after + edges_at (without (label G x over) α) ≡ before + edges_at (label G x over)
-EdgeMoves G before after x (command.Read over) = after ≡ before
-EdgeMoves G before after x (command.Write over text) = after ≡ before
-EdgeMoves G before after x (command.Look at) = after ≡ before
+abbrev pub new_serial : ℕ → ℕ → Command → Outcome → Option ℕ
+new_serial next x c outcome.Allowed = serial_of next (terms x c).does
+new_serial next x c (outcome.Denied rule cause) = None
+new_serial next x c (outcome.Full w) = None
+
+-- free cells move by the edge that an effect of x makes or takes away
+abbrev pub EdgeMoves : Protection → (before after : ℕ) → ℕ → Does → Type 0
+EdgeMoves G before after x (effect.Joins from α to) = after + edges_at (joined (label G from to) α) ≡ before + edges_at (label G from to)
+EdgeMoves G before after x (effect.Makes k α) = before ≡ after + 1
+EdgeMoves G before after x (effect.Drops α over) = after + edges_at (without (label G x over) α) ≡ before + edges_at (label G x over)
+EdgeMoves G before after x (effect.Rewrites over text) = after ≡ before
+EdgeMoves G before after x (effect.Tells over) = after ≡ before
+EdgeMoves G before after x (effect.Lists at) = after ≡ before
 
 abbrev pub CellsMoved : Protection → (before after : ℕ) → ℕ → Command → Outcome → Type 0
-CellsMoved G before after x c outcome.Allowed = EdgeMoves G before after x c
+CellsMoved G before after x c outcome.Allowed = EdgeMoves G before after x (terms x c).does
 CellsMoved G before after x c (outcome.Denied rule cause) = after ≡ before
 CellsMoved G before after x c (outcome.Full w) = after ≡ before
 
@@ -56,11 +59,11 @@ CellsMoved G before after x c (outcome.Full w) = after ≡ before
 pub record CarriedOut (s t : Stored) (next after seat x : ℕ) (c : Command) (answer : Reply) : Type 0 where
   pub outcome : Outcome
   pub decided : Decided (held s next) s.free_slots s.free_cells x c outcome
-  pub replied : answer ≡ reply_of (held s next) c outcome
+  pub replied : answer ≡ reply_of (held s next) x c outcome
   pub graph : held t after ≡ next_graph (held s next) x c outcome
-  pub pending : t.pending ≡ with_target s.pending seat (target_of (held s next) c outcome)
-  pub acted : Acted s t (new_serial next c outcome) (target_of (held s next) c outcome)
-  pub slots : s.free_slots ≡ t.free_slots + slots_taken c outcome
+  pub pending : t.pending ≡ with_target s.pending seat (target_of (held s next) x c outcome)
+  pub acted : Acted s t (new_serial next x c outcome) (target_of (held s next) x c outcome)
+  pub slots : s.free_slots ≡ t.free_slots + slots_taken x c outcome
   pub cells : CellsMoved (held s next) s.free_cells t.free_cells x c outcome
 
 -- an edge from x to y gained rights, or no cell was free for it

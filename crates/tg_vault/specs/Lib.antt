@@ -1,5 +1,4 @@
 pub mod History
-pub mod Plans
 pub mod World
 pub mod CarriedOut
 pub mod Contents

@@ -5,12 +5,13 @@ use Rattle.std.specs.List.{position}
 use Rattle.std.specs.Cmp.Lexicographic.{pointwise}
 use Rattle.tg_rights.specs.declared.limits.TheConstants.{SEATS}
 use Rattle.tg_rights.specs.declared.command.Command.{Command}
-use Rattle.tg_rights.specs.declared.command.Command.TheVariants as command
 use Rattle.tg_rights.specs.declared.outcome.Outcome.{Outcome}
 use Rattle.tg_rights.specs.declared.outcome.Outcome.TheVariants as outcome
 use Rattle.tg_rights.specs.declared.outcome.Which.TheVariants as which
 use Rattle.tg_rights.specs.declared.outcome.Reply.{Reply}
 use Rattle.tg_graph.specs.Protection.{Protection}
+use Rattle.tg_graph.specs.Terms as effect
+use Rattle.tg_graph.specs.Terms.{Does, terms}
 use Rattle.tg_graph.specs.Rules.{Allowed, is_create, last_serial, next_graph, reply_of}
 use Rattle.tg_vault.specs.declared.entry.Entry.{Entry}
 use Rattle.tg_vault.specs.declared.event.SeatFault.{SeatFault}
@@ -81,38 +82,38 @@ module _ (w : World) (seat : ℕ) where
   IsAskFault ask_fault.Busy = ask_refusal ≡ Some ask_fault.Busy
   IsAskFault ask_fault.OutOfMemory = ask_refusal ≡ None
 
--- the pending target that a command leaves, also where the edge was there
-abbrev pub allowed_target : Protection → Command → Option ℕ
-allowed_target G (command.Take α over from) = Some over
-allowed_target G (command.Grant α over to) = Some over
-allowed_target G (command.Create k α) = Some G.next
-allowed_target G (command.Remove α over) = None
-allowed_target G (command.Read over) = None
-allowed_target G (command.Write over text) = None
-allowed_target G (command.Look at) = None
+-- the pending target that an effect leaves, also where the edge was there
+abbrev pub new_target : Protection → Does → Option ℕ
+new_target G (effect.Joins from α to) = Some to
+new_target G (effect.Makes k α) = Some G.next
+new_target G (effect.Drops α over) = None
+new_target G (effect.Rewrites over text) = None
+new_target G (effect.Tells over) = None
+new_target G (effect.Lists at) = None
 
-abbrev pub target_of : Protection → Command → Outcome → Option ℕ
-target_of G c outcome.Allowed = allowed_target G c
-target_of G c (outcome.Denied rule cause) = None
-target_of G c (outcome.Full which) = None
+-- the pending target that a command of x leaves
+abbrev pub target_of : Protection → ℕ → Command → Outcome → Option ℕ
+target_of G x c outcome.Allowed = new_target G (terms x c).does
+target_of G x c (outcome.Denied rule cause) = None
+target_of G x c (outcome.Full which) = None
 
 abbrev pub with_target : List (Option ℕ) → ℕ → Option ℕ → List (Option ℕ)
 with_target pending seat None = pending
 with_target pending seat (Some target) = slice_set pending seat (Some target)
 
 -- an allowed create takes a slot
-abbrev pub slots_taken : Command → Outcome → ℕ
-slots_taken c outcome.Allowed = cond (is_create c) 1 0
-slots_taken c (outcome.Denied rule cause) = 0
-slots_taken c (outcome.Full which) = 0
+abbrev pub slots_taken : ℕ → Command → Outcome → ℕ
+slots_taken x c outcome.Allowed = cond (is_create x c) 1 0
+slots_taken x c (outcome.Denied rule cause) = 0
+slots_taken x c (outcome.Full which) = 0
 
 -- the world, and the entries, after an entry
 abbrev pub entered : Moment → Entry → Moment
 entered m e = record {
   world = record m.world {
     graph = next_graph m.world.graph e.actor e.command e.outcome;
-    pending = with_target m.world.pending e.seat (target_of m.world.graph e.command e.outcome);
-    used = m.world.used + slots_taken e.command e.outcome;
+    pending = with_target m.world.pending e.seat (target_of m.world.graph e.actor e.command e.outcome);
+    used = m.world.used + slots_taken e.actor e.command e.outcome;
   };
   history = m.history ++ e ∷ [];
 }
@@ -129,14 +130,14 @@ with_used m used = record m { world = record m.world { used = used } }
 -- full for slots exactly where the rules allow a create, a serial is left for it and each slot is in use
 abbrev pub ExactSlots : Limits → World → ℕ → Command → Outcome → Type 0
 ExactSlots limits w x c o =
-    (o ≡ outcome.Full which.Slots) ↔ ((is_create c ≡ true) × Allowed w.graph x c × (w.graph.next ≤ last_serial) × (w.used ≡ limits.slots))
+    (o ≡ outcome.Full which.Slots) ↔ ((is_create x c ≡ true) × Allowed w.graph x c × (w.graph.next ≤ last_serial) × (w.used ≡ limits.slots))
 
 -- the command of the actor at the seat is entered with this outcome
 pub record Enters (limits : Limits) (m : Moment) (seat actor : ℕ) (c : Command) (reply : Reply) (n : Moment) : Type 0 where
   pub outcome : Outcome
   pub permitted : Permitted limits m.world.graph actor c outcome
   pub exact : ExactSlots limits m.world actor c outcome
-  pub replied : reply ≡ reply_of m.world.graph c outcome
+  pub replied : reply ≡ reply_of m.world.graph actor c outcome
   pub left : n ≡ entered m (record { seat = seat; actor = actor; command = c; outcome = outcome })
 
 -- the event may be answered so, and lead from one moment to the next

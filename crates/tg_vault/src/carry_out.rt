@@ -6,16 +6,16 @@ ghost use Rattle.tg_rights.specs.declared.limits.TheConstants.{SEATS};
 ghost use Rattle.tg_rights.specs.declared.outcome.Reply.TheVariants as reply;
 ghost use Rattle.tg_graph.specs.Protection.{label};
 ghost use Rattle.tg_graph.specs.Rules.{edges_of, text_of};
+ghost use Rattle.tg_graph.specs.Terms.{text_in};
 ghost use Rattle.tg_collect.specs.Stored.{held};
 ghost use Rattle.tg_collect.specs.Views.{InSet, IsEdgeIn, IsHeldIn, place, serial_at};
 ghost use Rattle.tg_collect.specs.Sessions.{pending_of, RightsRemoved, TextReplaced};
 ghost use Rattle.tg_collect.specs.StoreRuns.{Acted};
 ghost use Rattle.tg_vault.specs.CarriedOut.{Joined, Made, CarriedOut};
 
-use crate::plan::{Plan, decide};
 use std::alloc::{AllocError, Global};
 use tg_collect::Store;
-use tg_graph::LAST_SERIAL;
+use tg_graph::{Effect, LAST_SERIAL, Spot, decide, effect_of, into_text};
 use tg_heap::HeapFull;
 use tg_rights::{Command, EdgeList, Kind, Reply, Rights, Text, Which};
 
@@ -89,16 +89,21 @@ fn tell(store: &Store, alloc: Global, at: u32) -> Result<Reply, AllocError>
     Ok(Reply::Text(text))
 }
 
-/// A copy of the text takes the place of the old one.
-fn replace(store: &mut Store, alloc: Global, at: u32, text: &Text) -> Result<Reply, AllocError>
+/// A copy of the text that the command brings takes the place of the old one.
+fn replace(
+    store: &mut Store,
+    alloc: Global,
+    at: u32,
+    command: &Command,
+) -> Result<Reply, AllocError>
     requires { IsSome (place store.old at) }
     ensures done { IfOk result (λ answer. answer ≡ reply.Done) }
-    ensures replaced { OnOk result ((old : List ℕ) × TextReplaced store.old store.new (serial_at store.old at) text.now old) }
+    ensures replaced { OnOk result ((old : List ℕ) × TextReplaced store.old store.new (serial_at store.old at) (text_in command.now) old) }
     ensures acted { OnOk result (Acted store.old store.new None None) }
     ensures unchanged { OnErr result (store.new ≡ store.old) }
 {
-    let copy = text.copy(alloc)?;
-    store.set_text(at, copy);
+    let text = into_text(command.copy(alloc)?, alloc);
+    store.set_text(at, text);
     Ok(Reply::Done)
 }
 
@@ -133,20 +138,24 @@ pub fn answer(
     let Some(id) = store.principal(actor) else {
         unreachable!();
     };
-    let plan = match decide(store, id, actor, command) {
-        Ok(plan) => plan,
+    let spot = Spot {
+        serial: actor,
+        place: id,
+    };
+    let found = match decide(store, spot, command) {
+        Ok(found) => found,
         Err(cause) => return Ok(Reply::Denied(command.rule(), cause)),
     };
-    match plan {
-        Plan::Join {
-            owner,
-            target,
-            rights,
-        } => Ok(join(store, seat, owner, target, rights)),
-        Plan::Make { kind, rights } => Ok(make(store, next, alloc, seat, id, kind, rights)),
-        Plan::Drop { over, rights } => Ok(remove(store, id, over, rights)),
-        Plan::Tell { at } => tell(store, alloc, at),
-        Plan::Replace { at, text } => replace(store, alloc, at, text),
-        Plan::List { of } => list(store, alloc, of),
+    match effect_of(actor, command) {
+        Effect::Joins { from, rights, to } => {
+            let source = found.spot(from).place;
+            let target = found.spot(to).place;
+            Ok(join(store, seat, source, target, rights))
+        }
+        Effect::Makes { kind, rights } => Ok(make(store, next, alloc, seat, id, kind, rights)),
+        Effect::Drops { rights, over } => Ok(remove(store, id, over, rights)),
+        Effect::Rewrites { over } => replace(store, alloc, found.spot(over).place, command),
+        Effect::Tells { over } => tell(store, alloc, found.spot(over).place),
+        Effect::Lists { at } => list(store, alloc, found.spot(at).place),
     }
 }

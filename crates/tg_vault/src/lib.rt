@@ -5,7 +5,6 @@ mod carry_out;
 mod entry;
 mod event;
 mod laws;
-mod plan;
 #[cfg(test)]
 mod tests;
 mod vault;

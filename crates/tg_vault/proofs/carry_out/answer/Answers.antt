@@ -1,79 +1,94 @@
-use Rattle.std.proofs.Common.{◌≡◌, true, subst, sym, rules}
+use Rattle.std.proofs.Common.{◌≡◌, ℕ, List, OnOk, ap, subst, sym, ◌∙◌, Some}
 use Rattle.std.proofs.lemmas.Result.{IfOk-weaker}
-use Rattle.tg_rights.specs.Letters.{includes}
-use Rattle.tg_graph.specs.Protection.{label}
 use Rattle.tg_rights.specs.declared.outcome.Reply.TheVariants as reply
+use Rattle.tg_graph.specs.Terms as effect
+use Rattle.tg_graph.specs.Terms.{text_in}
+use Rattle.tg_graph.specs.Rules.{edges_of, text_of}
 use Rattle.tg_collect.specs.Stored.{held}
-use Rattle.tg_collect.specs.Views.{IsEdgeIn}
-use Rattle.tg_collect.specs.Sessions.{RightsRemoved}
-use Rattle.tg_vault.specs.declared.plan.Plan.TheVariants as plan
-use Rattle.tg_vault.specs.Plans.{Fulfils}
-use Rattle.tg_vault.specs.CarriedOut.{CarriedOut, Made}
+use Rattle.tg_collect.specs.Views.{IsEdgeIn, place, serial_at}
+use Rattle.tg_collect.specs.Sessions.{RightsRemoved, TextReplaced}
+use Rattle.tg_collect.proofs.PathLemmas.{edge_in}
+use Rattle.tg_vault.specs.CarriedOut.{CarriedOut, Joined, Made}
+use Rattle.tg_vault.proofs.CarriedOutLemmas.{carried_by, denial_next, denied_carried, drop_done, join_done, list_done, make_done, placed, rewrite_carried, serial_found, tell_done}
+use Rattle.tg_vault.proofs.FoundLemmas.{dropped_edge, joined_apart, joined_named}
 use Rattle.tg_vault.proofs.PlaceLemmas.{serial_is}
-use Rattle.tg_vault.proofs.CarriedOutLemmas.{denied_carried, drop_edge, join_carried, make_carried, remove_carried, replaced_carried, tell_carried, list_carried}
 use Rattle.tg_vault.proofs.carry_out.answer.Goals as goal
 
 pub returns-in-Err-clause-carried : goal.returns-in-Err-clause-carried
 returns-in-Err-clause-carried c =
     subst (λ rule. CarriedOut c.args.store.now c.args.store.now c.args.next.now c.args.next.now c.args.seat c.args.actor c.args.command.now (reply.Denied rule c.in-Err.cause)) (sym c.rule.ensures)
-    (denied_carried c.args.store.now c.args.next.now c.args.seat c.args.actor c.args.command.now c.in-Err.cause (c.in-Err.ensures.denied c.args.next.now))
+    (denied_carried c.args.store.now c.args.next.now c.args.seat c.args.actor c.args.command.now c.in-Err.cause
+    (denial_next c.args.store.now c.args.next.now 0 c.args.actor c.args.command.now ∙ c.in-Err.ensures.denied))
 
 pub join-requires-clause-distinct : goal.join-requires-clause-distinct
-join-requires-clause-distinct c = let allowed = c.in-Ok.ensures.allowed c.args.next.now in search rules
-
-pub join-requires-clause-some : goal.join-requires-clause-some
-join-requires-clause-some c = let allowed = c.in-Ok.ensures.allowed c.args.next.now in search rules
-
-pub make-requires-clause-some : goal.make-requires-clause-some
-make-requires-clause-some c = let allowed = c.in-Ok.ensures.allowed c.args.next.now in search rules
+join-requires-clause-distinct c same =
+    let from = placed c.args.store.now c.in-Ok.found c.spot-source.result c.in-Joins.from c.in-Ok.ensures.places c.spot-source.ensures.is c.spot-source.ensures.serial in
+    let to = placed c.args.store.now c.in-Ok.found c.spot-target.result c.in-Joins.to c.in-Ok.ensures.places c.spot-target.ensures.is c.spot-target.ensures.serial in
+    joined_apart (held c.args.store.now 0) c.args.actor c.args.command.now c.in-Ok.ensures.allowed c.in-Joins.from c.in-Joins.to c.in-Joins.rights c.in-Joins.ensures
+    (cc (from, to, ap (place c.args.store.now) same))
 
 pub remove-requires-clause-edge : goal.remove-requires-clause-edge
 remove-requires-clause-edge c =
-    subst (λ x. IsEdgeIn c.args.store.now x c.in-Drop.over) (sym (serial_is c.args.store.now c.in-Some.id c.args.actor c.in-Some.ensures.1))
-    (drop_edge c.args.store.now c.args.next.now c.args.actor c.in-Drop.over c.in-Drop.rights c.args.command.now (c.in-Ok.ensures.allowed c.args.next.now) (search rules)).0
+    subst (λ x. IsEdgeIn c.args.store.now x c.in-Drops.over) (sym (serial_is c.args.store.now c.in-Some.id c.args.actor c.in-Some.ensures.1))
+    (edge_in c.args.store.now 0 c.args.actor c.in-Drops.over
+    (dropped_edge (held c.args.store.now 0) c.args.actor c.args.command.now c.in-Ok.ensures.allowed c.in-Drops.over c.in-Drops.rights c.in-Drops.ensures))
 
-pub remove-requires-clause-has : goal.remove-requires-clause-has
-remove-requires-clause-has c =
-    subst (λ x. includes (label (held c.args.store.now 0) x c.in-Drop.over) c.in-Drop.rights ≡ true) (sym (serial_is c.args.store.now c.in-Some.id c.args.actor c.in-Some.ensures.1))
-    (drop_edge c.args.store.now c.args.next.now c.args.actor c.in-Drop.over c.in-Drop.rights c.args.command.now (c.in-Ok.ensures.allowed c.args.next.now) (search rules)).1
+pub returns-in-Joins-clause-carried : goal.returns-in-Joins-clause-carried
+returns-in-Joins-clause-carried c =
+    let allowed = denial_next c.args.store.now c.args.next.now 0 c.args.actor c.args.command.now ∙ c.in-Ok.ensures.allowed in
+    let from = serial_found c.args.store.now c.in-Ok.found c.spot-source.result c.in-Joins.from c.in-Ok.ensures.places c.spot-source.ensures.is c.spot-source.ensures.serial in
+    let to = serial_found c.args.store.now c.in-Ok.found c.spot-target.result c.in-Joins.to c.in-Ok.ensures.places c.spot-target.ensures.is c.spot-target.ensures.serial in
+    carried_by c.args.store.now c.join.new.store c.args.next.now c.args.seat c.args.next.now c.args.actor c.args.command.now (effect.Joins c.in-Joins.from c.in-Joins.rights c.in-Joins.to) c.join.result
+    c.in-Joins.ensures allowed
+    (join_done c.args.store.now c.join.new.store c.args.next.now c.args.seat c.args.actor c.in-Joins.from c.in-Joins.to c.in-Joins.rights c.join.result
+    (joined_named (held c.args.store.now c.args.next.now) c.args.actor c.args.command.now allowed c.in-Joins.from c.in-Joins.to c.in-Joins.rights c.in-Joins.ensures)
+    (subst (λ y. Joined c.args.store.now c.join.new.store c.args.seat c.in-Joins.from y c.in-Joins.rights c.join.result) to
+    (subst (λ x. Joined c.args.store.now c.join.new.store c.args.seat x (serial_at c.args.store.now c.spot-target.result.place) c.in-Joins.rights c.join.result) from c.join.ensures)))
 
-pub returns-in-Join-clause-carried : goal.returns-in-Join-clause-carried
-returns-in-Join-clause-carried c =
-    join_carried c.args.store.now c.join.new.store c.args.next.now c.args.seat c.args.actor c.in-Join.owner c.in-Join.target c.in-Join.rights c.args.command.now c.join.result
-    (c.in-Ok.ensures.allowed c.args.next.now) (search rules) c.join.ensures
+pub returns-in-Makes-clause-carried : goal.returns-in-Makes-clause-carried
+returns-in-Makes-clause-carried c =
+    let allowed = denial_next c.args.store.now c.args.next.now 0 c.args.actor c.args.command.now ∙ c.in-Ok.ensures.allowed in
+    carried_by c.args.store.now c.make.new.store c.args.next.now c.args.seat c.make.new.next c.args.actor c.args.command.now (effect.Makes c.in-Makes.kind c.in-Makes.rights) c.make.result
+    c.in-Makes.ensures allowed
+    (make_done c.args.store.now c.make.new.store c.args.next.now c.args.seat c.args.actor c.make.new.next c.in-Makes.kind c.in-Makes.rights c.make.result
+    (subst (λ x. Made c.args.store.now c.make.new.store c.args.next.now c.make.new.next c.args.seat x c.in-Makes.kind c.in-Makes.rights c.make.result)
+    (serial_is c.args.store.now c.in-Some.id c.args.actor c.in-Some.ensures.1) c.make.ensures))
 
-pub returns-in-Make-clause-carried : goal.returns-in-Make-clause-carried
-returns-in-Make-clause-carried c =
-    make_carried c.args.store.now c.make.new.store c.args.next.now c.args.seat c.args.actor c.make.new.next c.in-Make.kind c.in-Make.rights c.args.command.now c.make.result
-    (c.in-Ok.ensures.allowed c.args.next.now) (search rules)
-    (subst (λ x. Made c.args.store.now c.make.new.store c.args.next.now c.make.new.next c.args.seat x c.in-Make.kind c.in-Make.rights c.make.result)
-    (serial_is c.args.store.now c.in-Some.id c.args.actor c.in-Some.ensures.1) c.make.ensures)
-
-pub returns-in-Drop-clause-carried : goal.returns-in-Drop-clause-carried
-returns-in-Drop-clause-carried c =
+pub returns-in-Drops-clause-carried : goal.returns-in-Drops-clause-carried
+returns-in-Drops-clause-carried c =
+    let allowed = denial_next c.args.store.now c.args.next.now 0 c.args.actor c.args.command.now ∙ c.in-Ok.ensures.allowed in
     subst (λ answer. CarriedOut c.args.store.now c.remove.new.store c.args.next.now c.args.next.now c.args.seat c.args.actor c.args.command.now answer) (sym c.remove.ensures.done)
-    (remove_carried c.args.store.now c.remove.new.store c.args.next.now c.args.seat c.args.actor c.in-Drop.over c.in-Drop.rights c.args.command.now (c.in-Ok.ensures.allowed c.args.next.now)
-    (search rules)
-    (subst (λ x. RightsRemoved c.args.store.now c.remove.new.store x c.in-Drop.over c.in-Drop.rights) (serial_is c.args.store.now c.in-Some.id c.args.actor c.in-Some.ensures.1)
+    (carried_by c.args.store.now c.remove.new.store c.args.next.now c.args.seat c.args.next.now c.args.actor c.args.command.now (effect.Drops c.in-Drops.rights c.in-Drops.over) reply.Done
+    c.in-Drops.ensures allowed
+    (drop_done c.args.store.now c.remove.new.store c.args.next.now c.args.seat c.args.actor c.in-Drops.over c.in-Drops.rights
+    (dropped_edge (held c.args.store.now c.args.next.now) c.args.actor c.args.command.now allowed c.in-Drops.over c.in-Drops.rights c.in-Drops.ensures)
+    (subst (λ x. RightsRemoved c.args.store.now c.remove.new.store x c.in-Drops.over c.in-Drops.rights) (serial_is c.args.store.now c.in-Some.id c.args.actor c.in-Some.ensures.1)
     c.remove.ensures.removed)
-    c.remove.ensures.acted)
+    c.remove.ensures.acted))
 
-pub returns-in-Tell-clause-carried : goal.returns-in-Tell-clause-carried
-returns-in-Tell-clause-carried c =
-    let serves : Fulfils c.args.store.now c.args.actor c.args.command.now (plan.Tell c.in-Tell.at) = search rules in
+pub returns-in-Rewrites-clause-carried : goal.returns-in-Rewrites-clause-carried
+returns-in-Rewrites-clause-carried c =
+    let allowed = denial_next c.args.store.now c.args.next.now 0 c.args.actor c.args.command.now ∙ c.in-Ok.ensures.allowed in
+    let over = serial_found c.args.store.now c.in-Ok.found c.spot.result c.in-Rewrites.over c.in-Ok.ensures.places c.spot.ensures.is c.spot.ensures.serial in
+    rewrite_carried c.args.store.now c.replace.new.store c.args.next.now c.args.seat c.args.actor c.in-Rewrites.over (text_in c.args.command.now) c.args.command.now c.replace.result
+    c.in-Rewrites.ensures allowed c.replace.ensures.done
+    (subst (λ v. OnOk c.replace.result ((old : List ℕ) × TextReplaced c.args.store.now c.replace.new.store v (text_in c.args.command.now) old)) over c.replace.ensures.replaced)
+    c.replace.ensures.acted
+
+pub returns-in-Tells-clause-carried : goal.returns-in-Tells-clause-carried
+returns-in-Tells-clause-carried c =
+    let allowed = denial_next c.args.store.now c.args.next.now 0 c.args.actor c.args.command.now ∙ c.in-Ok.ensures.allowed in
+    let over = serial_found c.args.store.now c.in-Ok.found c.spot-in-Tells.result c.in-Tells.over c.in-Ok.ensures.places c.spot-in-Tells.ensures.is c.spot-in-Tells.ensures.serial in
     IfOk-weaker c.tell.result _ _
-    (λ answer is. tell_carried c.args.store.now c.args.next.now c.args.seat c.args.actor c.in-Tell.at c.args.command.now answer (c.in-Ok.ensures.allowed c.args.next.now) serves (is c.args.next.now))
+    (λ answer is. carried_by c.args.store.now c.args.store.now c.args.next.now c.args.seat c.args.next.now c.args.actor c.args.command.now (effect.Tells c.in-Tells.over) answer c.in-Tells.ensures allowed
+    (tell_done c.args.store.now c.args.next.now c.args.seat c.args.actor c.in-Tells.over answer (is c.args.next.now ∙ ap (λ v. reply.Text (text_of (held c.args.store.now c.args.next.now) v)) over)))
     c.tell.ensures
 
-pub returns-in-Replace-clause-carried : goal.returns-in-Replace-clause-carried
-returns-in-Replace-clause-carried c =
-    let serves : Fulfils c.args.store.now c.args.actor c.args.command.now (plan.Replace c.in-Replace.at c.in-Replace.text) = search rules in
-    replaced_carried c.args.store.now c.replace.new.store c.args.next.now c.args.seat c.args.actor c.in-Replace.at c.in-Replace.text c.args.command.now c.replace.result
-    (c.in-Ok.ensures.allowed c.args.next.now) serves c.replace.ensures.done c.replace.ensures.replaced c.replace.ensures.acted
-
-pub returns-in-List-clause-carried : goal.returns-in-List-clause-carried
-returns-in-List-clause-carried c =
-    let serves : Fulfils c.args.store.now c.args.actor c.args.command.now (plan.List c.in-List.of) = search rules in
+pub returns-in-Lists-clause-carried : goal.returns-in-Lists-clause-carried
+returns-in-Lists-clause-carried c =
+    let allowed = denial_next c.args.store.now c.args.next.now 0 c.args.actor c.args.command.now ∙ c.in-Ok.ensures.allowed in
+    let at = serial_found c.args.store.now c.in-Ok.found c.spot-in-Lists.result c.in-Lists.at c.in-Ok.ensures.places c.spot-in-Lists.ensures.is c.spot-in-Lists.ensures.serial in
     IfOk-weaker c.list.result _ _
-    (λ answer is. list_carried c.args.store.now c.args.next.now c.args.seat c.args.actor c.in-List.of c.args.command.now answer (c.in-Ok.ensures.allowed c.args.next.now) serves (is c.args.next.now))
+    (λ answer is. carried_by c.args.store.now c.args.store.now c.args.next.now c.args.seat c.args.next.now c.args.actor c.args.command.now (effect.Lists c.in-Lists.at) answer c.in-Lists.ensures allowed
+    (list_done c.args.store.now c.args.next.now c.args.seat c.args.actor c.in-Lists.at answer (is c.args.next.now ∙ ap (λ v. reply.Edges (edges_of (held c.args.store.now c.args.next.now) v)) at)))
     c.list.ensures

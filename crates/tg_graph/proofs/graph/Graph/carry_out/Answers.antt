@@ -1,19 +1,20 @@
-use Rattle.std.proofs.Common.{subst}
-use Rattle.tg_graph.specs.Protection.{IsGraph}
-use Rattle.tg_graph.specs.Rules.{Allowed}
-use Rattle.tg_graph.proofs.ProtectionLemmas.{take_to, grant_from, grant_to}
+use Rattle.std.proofs.Common.{◌≢◌, sym, subst}
+use Rattle.tg_rights.specs.declared.kind.Kind.TheVariants as kind
+use Rattle.tg_graph.specs.Protection.{IsGraph, IsVertex}
+use Rattle.tg_graph.proofs.VertexLemmas.{IsVertex-from_kind}
+use Rattle.tg_graph.proofs.CommandsKeepGraphsLemmas.{Granted, granted}
 use Rattle.tg_graph.proofs.graph.Graph.carry_out.Goals as goal
 
+-- what the joining of an edge may take for granted
+joins : (c : goal.After-add_rights-arg-1) → IsVertex c.args.self.now c.in-Joins.from × IsVertex c.args.self.now c.in-Joins.to × (c.in-Joins.from ≢ c.in-Joins.to)
+joins c =
+    let g : IsGraph c.args.self.now = subst IsGraph c.self.view_is c.self.invariant in
+    let x_in = IsVertex-from_kind c.args.self.now c.args.actor kind.Subject c.requires.subject in
+    let h = subst (Granted c.args.self.now c.args.actor g x_in) (sym c.in-Joins.ensures) (granted c.args.self.now c.args.actor g x_in c.args.command c.requires.allowed) in
+    (h.0, h.1, h.2)
+
+pub add_rights-requires-clause-from_vertex : goal.add_rights-requires-clause-from_vertex
+add_rights-requires-clause-from_vertex c = (joins c).0
+
 pub add_rights-requires-clause-to_vertex : goal.add_rights-requires-clause-to_vertex
-add_rights-requires-clause-to_vertex c =
-    take_to c.args.self.now c.args.actor _ _ _ (subst IsGraph c.self.view_is c.self.invariant) (subst (Allowed c.args.self.now c.args.actor) c.in-Take.is c.requires.allowed)
-
-pub add_rights-requires-in-Grant-clause-from_vertex :
-    goal.add_rights-requires-in-Grant-clause-from_vertex
-add_rights-requires-in-Grant-clause-from_vertex c =
-    grant_from c.args.self.now c.args.actor _ _ _ (subst IsGraph c.self.view_is c.self.invariant) (subst (Allowed c.args.self.now c.args.actor) c.in-Grant.is c.requires.allowed)
-
-pub add_rights-requires-in-Grant-clause-to_vertex :
-    goal.add_rights-requires-in-Grant-clause-to_vertex
-add_rights-requires-in-Grant-clause-to_vertex c =
-    grant_to c.args.self.now c.args.actor _ _ _ (subst IsGraph c.self.view_is c.self.invariant) (subst (Allowed c.args.self.now c.args.actor) c.in-Grant.is c.requires.allowed)
+add_rights-requires-clause-to_vertex c = (joins c).1

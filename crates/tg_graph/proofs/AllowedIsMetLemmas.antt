@@ -1,0 +1,58 @@
+-- What it says that no check fails, and that one is the first to fail.
+use Rattle.std.proofs.Common.{◌≡◌, ℕ, ◌∷◌, [], ◌++◌, List, cond, refl, ap, ◌∙◌, Some, None}
+use Rattle.std.specs.Prelude.{Option}
+use Rattle.tg_rights.specs.declared.command.Command.{Command}
+use Rattle.tg_rights.specs.declared.outcome.Cause.{Cause}
+use Rattle.tg_rights.specs.declared.outcome.Cause.TheVariants as cause
+use Rattle.tg_graph.specs.declared.rules.Need.{Need}
+use Rattle.tg_graph.specs.Protection.{Protection}
+use Rattle.tg_graph.specs.Terms.{terms}
+use Rattle.tg_graph.specs.Rules.{AllPass, Allowed, Check, first_failure, is_document, lack, misfit, missing, unless}
+use Rattle.tg_graph.specs.Laws.{AllMet, IsDocumentWhereAsked, Meets}
+use Rattle.tg_graph.proofs.ProtectionLemmas.{need_met, passes, document_there}
+
+all_met : (G : Protection) (ns : List Need) → missing G ns ≡ None → AllMet G ns
+all_met G [] e = tt
+all_met G (n ∷ ns) e = let both = need_met G n ns e in (both.0, all_met G ns both.1)
+
+none_missing : (G : Protection) (ns : List Need) → AllMet G ns → missing G ns ≡ None
+none_missing G [] all = refl
+none_missing G (n ∷ ns) all = ap (λ b. cond b (missing G ns) (Some (lack G n))) all.0 ∙ none_missing G ns all.1
+
+document_asked : (G : Protection) (asked : Option ℕ) → misfit G asked ≡ None → IsDocumentWhereAsked G asked
+document_asked G None e = tt
+document_asked G (Some v) e = document_there G v e
+
+no_misfit : (G : Protection) (asked : Option ℕ) → IsDocumentWhereAsked G asked → misfit G asked ≡ None
+no_misfit G None h = refl
+no_misfit G (Some v) h = ap (λ k. unless (is_document k) (cause.NotDocument v)) h
+
+pub meets : (G : Protection) (x : ℕ) (c : Command) → Allowed G x c → Meets G (terms x c)
+meets G x c a =
+    let p = passes G x c a in
+    record { named = p.named; apart = p.apart; met = all_met G (terms x c).needs p.met; document = document_asked G (terms x c).document p.fit }
+
+pub allowed : (G : Protection) (x : ℕ) (c : Command) → Meets G (terms x c) → Allowed G x c
+allowed G x c m =
+    λ i. first_failure (
+    unless (m.named i) cause.Empty
+    ∷ unless (m.apart i) cause.NotDistinct
+    ∷ none_missing G (terms x c).needs m.met i
+    ∷ no_misfit G (terms x c).document m.document i
+    ∷ []
+    )
+
+abbrev IsFirst : Cause → List Check → Type 0
+IsFirst why ms = (before : List Check) × (later : List Check) × (ms ≡ before ++ Some why ∷ later) × AllPass before
+
+pub first_of : (why : Cause) (ms : List Check) → first_failure ms ≡ Some why → IsFirst why ms
+first_of why [] e = absurd (cc e)
+first_of why (None ∷ ms) e = let h = first_of why ms e in (None ∷ h.0, h.1, ap (λ l. None ∷ l) h.2, (refl, h.3))
+first_of why (Some other ∷ ms) e = ([], ms, ap (λ m. m ∷ ms) e, tt)
+
+passed : (why : Cause) (before later : List Check) → AllPass before → first_failure (before ++ Some why ∷ later) ≡ Some why
+passed why [] later all = refl
+passed why (m ∷ before) later all = ap (λ k. first_failure (k ∷ (before ++ Some why ∷ later))) all.0 ∙ passed why before later all.1
+
+pub is_first : (why : Cause) (ms before later : List Check) → ms ≡ before ++ Some why ∷ later → AllPass before → first_failure ms ≡ Some why
+is_first why ms before later is all = ap first_failure is ∙ passed why before later all

@@ -1,0 +1,44 @@
+-- The terms of each command hang together.
+use Rattle.std.proofs.Common.{◌≡◌, ℕ, ◌∷◌, [], Bool, true, false, cond, ◌==◌, refl, sym, inl, inr}
+use Rattle.std.proofs.lemmas.Bool.{not-true, and_parts, eqb-true, eq-eqb}
+use Rattle.tg_rights.specs.Letters.{take_alone}
+use Rattle.tg_rights.specs.declared.command.Command.{Command}
+use Rattle.tg_rights.specs.declared.command.Command.TheVariants as command
+use Rattle.tg_graph.specs.Terms.{terms, need}
+use Rattle.tg_graph.specs.Deciding.{Follows, AskSome, IsNear, IsSound}
+
+flip : (x y : ℕ) → (x == y) ≡ false → (y == x) ≡ false
+flip x y e = either _ refl where
+  either : (b : Bool) → (y == x) ≡ b → b ≡ false
+  either true is = absurd (cc (e, eq-eqb x y (sym (eqb-true y x is))))
+  either false is = refl
+
+look_sound : (x at : ℕ) → IsSound x (terms x (command.Look at))
+look_sound x at = record { follows = follows; some = λ _. some; document = tt; covers = near } where
+  follows : Follows x (cond (at == x) [] (need x take_alone at ∷ []))
+  follows = elim (at == x) as (λ b. Follows x (cond b [] (need x take_alone at ∷ []))) [ true ↦ tt | false ↦ refl ]
+
+  some : AskSome (cond (at == x) [] (need x take_alone at ∷ []))
+  some = elim (at == x) as (λ b. AskSome (cond b [] (need x take_alone at ∷ []))) [ true ↦ tt | false ↦ (refl, tt) ]
+
+  near : IsNear x (cond (at == x) [] (need x take_alone at ∷ [])) at
+  near = elim (at == x) as (λ b. (at == x) ≡ b → IsNear x (cond b [] (need x take_alone at ∷ [])) at) [ true ↦ λ e. inl (eqb-true at x e) | false ↦ λ e. inr (inl refl) ] refl
+
+pub sound : (x : ℕ) (c : Command) → IsSound x (terms x c)
+sound x (command.Take α over from) = record {
+  follows = (refl, inr refl);
+  some = λ e. (refl, (not-true _ e, tt));
+  document = tt;
+  covers = (inl refl, inr (inl refl), refl, λ e. not-true _ (and_parts _ _ (and_parts _ _ e).0).0);
+}
+sound x (command.Grant α over to) = record {
+  follows = (refl, inl refl);
+  some = λ e. (refl, (not-true _ e, tt));
+  document = tt;
+  covers = (inr (inl refl), inr (inl refl), refl, λ e. flip over to (not-true _ (and_parts _ _ e).1));
+}
+sound x (command.Create k α) = record { follows = tt; some = λ _. tt; document = tt; covers = refl }
+sound x (command.Remove α over) = record { follows = refl; some = λ e. (not-true _ e, tt); document = tt; covers = (refl, refl) }
+sound x (command.Read over) = record { follows = refl; some = λ _. (refl, tt); document = inl refl; covers = inl refl }
+sound x (command.Write over text) = record { follows = refl; some = λ _. (refl, tt); document = inl refl; covers = refl }
+sound x (command.Look at) = look_sound x at

@@ -1,0 +1,89 @@
+-- how code decides a command: by the terms that it reads off the command, and what it comes by on the way
+use Rattle.std.specs.Prelude.{◌≡◌, ℕ, true, false, List, [], ◌∷◌, Option, Some, None, ◌⊎◌, ◌==◌}
+use Rattle.tg_rights.specs.Letters.{is_none}
+use Rattle.tg_graph.specs.declared.rules.Need.{Need}
+use Rattle.tg_graph.specs.declared.rules.Effect.{Effect}
+use Rattle.tg_graph.specs.declared.rules.Effect.TheVariants as code
+use Rattle.tg_graph.specs.Terms as effect
+use Rattle.tg_graph.specs.declared.rules.Terms.{Terms as Read}
+use Rattle.tg_graph.specs.declared.rules.Spot.{Spot}
+use Rattle.tg_graph.specs.declared.rules.Found.{Found}
+use Rattle.tg_graph.specs.Terms.{Does, Terms, need}
+use Rattle.tg_graph.specs.Rules.{names_rights}
+
+abbrev pub listed : Option Need → Option Need → List Need
+listed None then = []
+listed (Some n) None = n ∷ []
+listed (Some n) (Some m) = n ∷ m ∷ []
+
+-- the effect that the code reads off a command, with the text that the command brings
+abbrev pub shown : Effect → List ℕ → Does
+shown (code.Joins from α to) text = effect.Joins from α to
+shown (code.Makes k α) text = effect.Makes k α
+shown (code.Drops α over) text = effect.Drops α over
+shown (code.Rewrites over) text = effect.Rewrites over text
+shown (code.Tells over) text = effect.Tells over
+shown (code.Lists at) text = effect.Lists at
+
+-- what was read off a command are its terms
+pub record Shows (r : Read) (text : List ℕ) (t : Terms) : Type 0 where
+  pub names : r.asked.names ≡ t.names
+  pub apart : r.asked.apart ≡ t.apart
+  pub needs : listed r.asked.first r.asked.then ≡ t.needs
+  pub document : r.asked.document ≡ t.document
+  pub does : shown r.does text ≡ t.does
+
+-- at most two needs; the first starts at x, and the second there or where the first leads
+abbrev pub Follows : ℕ → List Need → Type 0
+Follows x [] = Unit {0}
+Follows x (n ∷ []) = n.from ≡ x
+Follows x (n ∷ m ∷ []) = (n.from ≡ x) × ((m.from ≡ x) ⊎ (m.from ≡ n.to))
+Follows x (n ∷ m ∷ o ∷ ns) = ⊥
+
+abbrev pub AskSome : List Need → Type 0
+AskSome [] = Unit {0}
+AskSome (n ∷ ns) = (is_none n.rights ≡ false) × AskSome ns
+
+-- the needs lead to the vertex
+abbrev pub LeadTo : List Need → ℕ → Type 0
+LeadTo [] v = ⊥
+LeadTo (n ∷ ns) v = (v ≡ n.to) ⊎ LeadTo ns v
+
+module _ {P : Type 0} where
+  -- something holds of each spot
+  pub record Each (Is : Spot P → Type 0) (f : Found P) : Type 0 where
+    pub actor : Is f.actor
+    pub first : (s : Spot P) → f.first ≡ Some s → Is s
+    pub then : (s : Spot P) → f.then ≡ Some s → Is s
+
+  abbrev pub IsSpotOf : Option (Spot P) → ℕ → Type 0
+  IsSpotOf None v = ⊥
+  IsSpotOf (Some s) v = s.serial ≡ v
+
+  -- the vertex was found
+  abbrev pub IsFound : Found P → ℕ → Type 0
+  IsFound f v = (f.actor.serial ≡ v) ⊎ IsSpotOf f.first v ⊎ IsSpotOf f.then v
+
+-- a vertex that a command of x may work on: x, or one that the needs lead to
+abbrev pub IsNear : ℕ → List Need → ℕ → Type 0
+IsNear x ns v = (v ≡ x) ⊎ LeadTo ns v
+
+abbrev pub DocumentNear : List Need → Option ℕ → Type 0
+DocumentNear ns None = Unit {0}
+DocumentNear ns (Some v) = LeadTo ns v
+
+-- the terms ask all that the effect takes for granted
+abbrev pub Covers : ℕ → Terms → Does → Type 0
+Covers x t (effect.Joins from α to) = IsNear x t.needs from × LeadTo t.needs to × (t.names ≡ Some α) × (t.apart ≡ true → (from == to) ≡ false)
+Covers x t (effect.Makes k α) = t.names ≡ Some α
+Covers x t (effect.Drops α over) = (t.names ≡ Some α) × (t.needs ≡ need x α over ∷ [])
+Covers x t (effect.Rewrites over text) = t.document ≡ Some over
+Covers x t (effect.Tells over) = LeadTo t.needs over
+Covers x t (effect.Lists at) = IsNear x t.needs at
+
+-- the terms of a command of x hang together
+pub record IsSound (x : ℕ) (t : Terms) : Type 0 where
+  pub follows : Follows x t.needs
+  pub some : names_rights t.names ≡ true → AskSome t.needs
+  pub document : DocumentNear t.needs t.document
+  pub covers : Covers x t t.does

@@ -1,0 +1,80 @@
+-- the terms of each command: what its rule asks before it is allowed, and what the command then does
+use Rattle.std.specs.Prelude.{ℕ, Bool, true, cond, not, ◌&&◌, ◌==◌, List, [], ◌∷◌, Option, Some, None}
+use Rattle.tg_rights.specs.Letters.{Letters, read_alone, write_alone, take_alone, grant_alone}
+use Rattle.tg_rights.specs.declared.kind.Kind.{Kind}
+use Rattle.tg_rights.specs.declared.command.Command.{Command}
+use Rattle.tg_rights.specs.declared.command.Command.TheVariants as command
+use Rattle.tg_graph.specs.declared.rules.Need.{Need}
+
+-- what an allowed command of x does
+pub data Does : Type 0 where
+  -- the edge from one vertex to another gains rights
+  Joins : ℕ → Letters → ℕ → Does
+  -- a vertex of a kind comes in, over which x has rights
+  Makes : Kind → Letters → Does
+  -- the edge from x to a vertex loses rights
+  Drops : Letters → ℕ → Does
+  -- a vertex gets a text
+  Rewrites : ℕ → List ℕ → Does
+  -- the text of a vertex is told
+  Tells : ℕ → Does
+  -- the edges of a vertex are told
+  Lists : ℕ → Does
+
+pub record Terms : Type 0 where
+  -- the rights that it names, of which there have to be some
+  pub names : Option Letters
+  -- whether the vertices that have to be distinct are
+  pub apart : Bool
+  -- the rights that it needs, in order
+  pub needs : List Need
+  -- the vertex that has to be a document
+  pub document : Option ℕ
+  pub does : Does
+
+-- from has to have these rights over to
+abbrev pub need : ℕ → Letters → ℕ → Need
+need from rights to = record { from = from; rights = rights; to = to }
+
+abbrev pub all_apart : ℕ → ℕ → ℕ → Bool
+all_apart x y z = not (x == y) && not (x == z) && not (y == z)
+
+-- the terms of a command for which nothing is asked
+abbrev pub free : Does → Terms
+free e = record { names = None; apart = true; needs = []; document = None; does = e }
+
+-- the terms of a command of x: one equation for each command
+abbrev pub terms : ℕ → Command → Terms
+terms x (command.Take α over from) = record (free (Joins x α over)) {
+  names = Some α;
+  apart = all_apart x over from;
+  needs = need x take_alone from ∷ need from α over ∷ [];
+}
+terms x (command.Grant α over to) = record (free (Joins to α over)) {
+  names = Some α;
+  apart = all_apart x over to;
+  needs = need x grant_alone to ∷ need x α over ∷ [];
+}
+terms x (command.Create k α) = record (free (Makes k α)) { names = Some α }
+terms x (command.Remove α over) = record (free (Drops α over)) { names = Some α; apart = not (x == over); needs = need x α over ∷ [] }
+terms x (command.Read over) = record (free (Tells over)) {
+  apart = not (x == over);
+  needs = need x read_alone over ∷ [];
+  document = Some over;
+}
+terms x (command.Write over text) = record (free (Rewrites over text)) {
+  apart = not (x == over);
+  needs = need x write_alone over ∷ [];
+  document = Some over;
+}
+terms x (command.Look at) = record (free (Lists at)) { needs = cond (at == x) [] (need x take_alone at ∷ []) }
+
+-- the text that a command brings
+abbrev pub text_in : Command → List ℕ
+text_in (command.Take α over from) = []
+text_in (command.Grant α over to) = []
+text_in (command.Create k α) = []
+text_in (command.Remove α over) = []
+text_in (command.Read over) = []
+text_in (command.Write over text) = text
+text_in (command.Look at) = []
