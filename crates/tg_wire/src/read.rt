@@ -3,7 +3,7 @@
 ghost use Rattle.tg_wire.specs.declared.line.TheConstants.{LONGEST_LINE};
 ghost use Rattle.std.specs.Prelude.{◌≡◌, ◌≤◌, Err, length, option_map, map, codes, ◌∷◌, []};
 ghost use Rattle.serde_json.specs.View.{view};
-ghost use Rattle.tg_wire.specs.Ops.{command_in, line_in};
+ghost use Rattle.tg_wire.specs.Ops.{command_form, op_form};
 ghost use Rattle.tg_wire.specs.Lines.{line_of, step_of, op_in, rule_in};
 ghost use Rattle.tg_wire.specs.Reading.{Answers, AnswersField, or_else};
 ghost use Rattle.tg_wire.specs.declared.fault.WireFault.TheVariants.{NoOp, OutOfMemory};
@@ -12,7 +12,7 @@ use crate::fault::WireFault;
 use crate::field;
 use crate::line::Line;
 use crate::object::{has_required, knows_all, object};
-use crate::op::{Op, command_fields, rule_named};
+use crate::op::{Op, of_command, rule_named};
 use serde_json::Value;
 use std::alloc::Global;
 use tg_graph::Step;
@@ -28,9 +28,9 @@ pub fn read_line(alloc: Global, bytes: &[u8]) -> Result<Line, WireFault>
 {
     let value = object(alloc, bytes)?;
     let op = op(&value)?;
-    has_required(op.required(), &value)?;
+    has_required(op.fields(), &value)?;
     let line = line(alloc, op, &value)?;
-    knows_all(&["op", "seat"], op.required(), &value)?;
+    knows_all(&["op", "seat"], op.fields(), &value)?;
     Ok(line)
 }
 
@@ -43,10 +43,10 @@ pub fn read_step(alloc: Global, bytes: &[u8]) -> Result<Step, WireFault>
     let value = object(alloc, bytes)?;
     let rule = rule(&value)?;
     has_required(&["actor"], &value)?;
-    has_required(command_fields(rule), &value)?;
+    has_required(of_command(rule).fields, &value)?;
     let actor = field::number(&value, "actor").ok_or(WireFault::BadField)?;
     let command = command(alloc, rule, &value)?;
-    knows_all(&["op", "actor"], command_fields(rule), &value)?;
+    knows_all(&["op", "actor"], of_command(rule).fields, &value)?;
     Ok(Step { actor, command })
 }
 
@@ -65,7 +65,7 @@ fn rule(value: &Value) -> Result<Rule, WireFault>
 }
 
 fn line(alloc: Global, op: Op, value: &Value) -> Result<Line, WireFault>
-    ensures { AnswersField result (line_in op (view value.now)) }
+    ensures { AnswersField result ((op_form op).value (view value.now)) }
 {
     let seat = field::seat(value).ok_or(WireFault::BadField)?;
     match op {
@@ -85,7 +85,7 @@ fn line(alloc: Global, op: Op, value: &Value) -> Result<Line, WireFault>
 }
 
 fn command(alloc: Global, rule: Rule, value: &Value) -> Result<Command, WireFault>
-    ensures { AnswersField result (command_in rule (view value.now)) }
+    ensures { AnswersField result ((command_form rule).value (view value.now)) }
 {
     match rule {
         Rule::Take => {

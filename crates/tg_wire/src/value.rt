@@ -3,30 +3,17 @@
 ghost use Rattle.std.specs.Prelude.{◌≡◌, ◌++◌, [], IfOk, OnOk, string_bytes, if◌then◌else◌};
 ghost use Rattle.serde_json.specs.Data.{array};
 ghost use Rattle.serde_json.specs.View.{view};
-ghost use Rattle.tg_wire.specs.Replies.{rule_text as text_of_rule, which_text as text_of_which, rights_text as text_of_rights, edges_data, denied_data, reply_data};
+ghost use Rattle.tg_wire.specs.Replies.{which_text as text_of_which, rights_text as text_of_rights, edges_data, denied_data, reply_data};
 ghost use Rattle.tg_wire.specs.Answers.{phase_text as text_of_phase, noted_data, answer_data, swept_data, denied_step_data, verdict_data};
 ghost use Rattle.tg_wire.specs.Faults.{seat_fault_text as text_of_seat_fault, ask_fault_text as text_of_ask_fault};
 
+use crate::op::of_command;
 use serde_json::{Value, json};
 use std::alloc::{AllocError, Global};
 use tg_collect::{Note, Phase};
 use tg_graph::Verdict;
 use tg_rights::{Cause, Reply, Rights, Rule, Which};
 use tg_vault::{Answer, AskFault, SeatFault, Swept};
-
-fn rule_text(rule: Rule) -> &'static str
-    ensures { result.now ≡ text_of_rule rule }
-{
-    match rule {
-        Rule::Take => "take",
-        Rule::Grant => "grant",
-        Rule::Create => "create",
-        Rule::Remove => "remove",
-        Rule::Read => "read",
-        Rule::Write => "write",
-        Rule::Look => "look",
-    }
-}
 
 fn which_text(which: Which) -> &'static str
     ensures { result.now ≡ text_of_which which }
@@ -106,7 +93,7 @@ fn edges_value(alloc: Global, edges: &[(u64, Rights)]) -> Result<Value, AllocErr
 fn denied_value(alloc: Global, rule: Rule, cause: Cause) -> Result<Value, AllocError>
     ensures { IfOk result (λ value. view value ≡ denied_data rule cause) }
 {
-    let denied = rule_text(rule);
+    let denied = of_command(rule).word;
     match cause {
         Cause::Empty => json!(in alloc; {"cause": "empty", "denied": denied}),
         Cause::NotDistinct => json!(in alloc; {"cause": "not distinct", "denied": denied}),
@@ -172,7 +159,7 @@ fn denied_step_value(
 ) -> Result<Value, AllocError>
     ensures { IfOk result (λ value. view value ≡ denied_step_data step rule cause) }
 {
-    let denied = rule_text(rule);
+    let denied = of_command(rule).word;
     let verdict = "step denied";
     match cause {
         Cause::Empty => {
