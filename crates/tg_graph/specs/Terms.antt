@@ -71,10 +71,5 @@ terms x (command.Look at) = record (free (Lists at)) { needs = cond (at == x) []
 
 -- the text that a command brings
 abbrev pub text_in : Command → List ℕ
-text_in (command.Take α over from) = []
-text_in (command.Grant α over to) = []
-text_in (command.Create k α) = []
-text_in (command.Remove α over) = []
-text_in (command.Read over) = []
 text_in (command.Write over text) = text
-text_in (command.Look at) = []
+text_in _ = []
