@@ -1,21 +1,43 @@
 -- What it says that no check fails, and that one is the first to fail.
-use Rattle.std.proofs.Common.{◌≡◌, ℕ, ◌∷◌, [], ◌++◌, List, cond, refl, ap, ◌∙◌, Some, None}
+use Rattle.std.proofs.Common.{◌≡◌, ℕ, ◌∷◌, [], ◌++◌, List, Bool, true, false, cond, refl, ap, ◌∙◌, Some, None}
 use Rattle.std.specs.Prelude.{Option}
+use Rattle.tg_rights.specs.declared.kind.Kind.{Kind}
+use Rattle.tg_rights.specs.declared.kind.Kind.TheVariants as kind
 use Rattle.tg_rights.specs.declared.command.Command.{Command}
 use Rattle.tg_rights.specs.declared.outcome.Cause.{Cause}
 use Rattle.tg_rights.specs.declared.outcome.Cause.TheVariants as cause
 use Rattle.tg_graph.specs.declared.rules.Need.{Need}
-use Rattle.tg_graph.specs.Protection.{Protection}
+use Rattle.tg_graph.specs.Protection.{Protection, IsDocument, kind_of}
 use Rattle.tg_graph.specs.Terms.{terms}
-use Rattle.tg_graph.specs.Rules.{AllPass, Allowed, Check, first_failure, is_document, lack, misfit, missing, unless}
+use Rattle.tg_graph.specs.Rules.{AllPass, Allowed, Check, checks, first_failure, is_document, is_met, lack, misfit, missing, unless}
 use Rattle.tg_graph.specs.Laws.{AllMet, IsDocumentWhereAsked, Meets}
-use Rattle.tg_graph.proofs.ProtectionLemmas.{need_met, passes, document_there}
+
+pub unless_passes : (b : Bool) (why : Cause) → unless b why ≡ None → b ≡ true
+unless_passes true why e = refl
+unless_passes false why e = absurd (cc e)
+
+all_pass : (ms : List Check) → first_failure ms ≡ None → AllPass ms
+all_pass [] e = tt
+all_pass (None ∷ ms) e = (refl, all_pass ms e)
+all_pass (Some why ∷ ms) e = absurd (cc e)
+
+pub need_met : (G : Protection) (n : Need) (ns : List Need) → missing G (n ∷ ns) ≡ None → (is_met G n ≡ true) × (missing G ns ≡ None)
+need_met G n ns e =
+    elim (is_met G n) as (λ b. cond b (missing G ns) (Some (lack G n)) ≡ None → (b ≡ true) × (missing G ns ≡ None)) [ true ↦ λ e. (refl, e) | false ↦ λ e. absurd (cc e) ] e
+
+document_kind : (k : Option Kind) → is_document k ≡ true → k ≡ Some kind.Document
+document_kind None e = absurd (cc e)
+document_kind (Some kind.Subject) e = absurd (cc e)
+document_kind (Some kind.Document) e = refl
+
+document_there : (G : Protection) (v : ℕ) → misfit G (Some v) ≡ None → IsDocument G v
+document_there G v e = document_kind (kind_of G v) (unless_passes (is_document (kind_of G v)) (cause.NotDocument v) e)
 
 all_met : (G : Protection) (ns : List Need) → missing G ns ≡ None → AllMet G ns
 all_met G [] e = tt
 all_met G (n ∷ ns) e = let both = need_met G n ns e in (both.0, all_met G ns both.1)
 
-none_missing : (G : Protection) (ns : List Need) → AllMet G ns → missing G ns ≡ None
+pub none_missing : (G : Protection) (ns : List Need) → AllMet G ns → missing G ns ≡ None
 none_missing G [] all = refl
 none_missing G (n ∷ ns) all = ap (λ b. cond b (missing G ns) (Some (lack G n))) all.0 ∙ none_missing G ns all.1
 
@@ -29,8 +51,13 @@ no_misfit G (Some v) h = ap (λ k. unless (is_document k) (cause.NotDocument v))
 
 pub meets : (G : Protection) (x : ℕ) (c : Command) → Allowed G x c → Meets G (terms x c)
 meets G x c a =
-    let p = passes G x c a in
-    record { named = p.named; apart = p.apart; met = all_met G (terms x c).needs p.met; document = document_asked G (terms x c).document p.fit }
+    let p = all_pass (checks G (terms x c)) a in
+    record {
+      named = unless_passes _ cause.Empty p.0;
+      apart = unless_passes _ cause.NotDistinct p.1.0;
+      met = all_met G (terms x c).needs p.1.1.0;
+      document = document_asked G (terms x c).document p.1.1.1.0;
+    }
 
 pub allowed : (G : Protection) (x : ℕ) (c : Command) → Meets G (terms x c) → Allowed G x c
 allowed G x c m =

@@ -15,6 +15,7 @@ use Rattle.tg_graph.specs.Rules.{Check, Judged, checks, first_failure, is_docume
 use Rattle.tg_graph.specs.Deciding.{AskSome, Follows, IsSound, LeadTo, DocumentNear}
 use Rattle.tg_graph.specs.Paths.{Agree, Leads, Reaches}
 use Rattle.tg_graph.proofs.ExactlyOneOutcomeLemmas.{outcome_by, verdict, Judged-verdict, verdict-Judged}
+use Rattle.tg_graph.proofs.AllowedIsMetLemmas.{unless_passes}
 use Rattle.tg_graph.proofs.DecidingLemmas.{sound}
 use Rattle.tg_graph.proofs.VertexLemmas.{IsVertex-from_kind}
 use Rattle.tg_graph.proofs.ProtectionLemmas.{includes_some, led}
@@ -41,10 +42,6 @@ same_failure (m ∷ ms) (n ∷ ns) alike = ap (λ k. first_failure (k ∷ ms)) a
   later (Some why) same = refl
 same_failure [] (n ∷ ns) alike = absurd alike
 same_failure (m ∷ ms) [] alike = absurd alike
-
-tested : (b : Bool) (why : Cause) → unless b why ≡ None → b ≡ true
-tested true why e = refl
-tested false why e = absurd (cc e)
 
 module _ (G H : Protection) (x : ℕ) (agree : Agree G H x) where
   pub itself : Reaches G x x
@@ -86,7 +83,7 @@ module _ (G H : Protection) (x : ℕ) (agree : Agree G H x) where
   same_checks : (t : Terms) → IsSound x t → ChecksAlike (checks G t) (checks H t)
   same_checks t s = (
     refl,
-    λ named. let some = s.some (tested _ _ named) in (
+    λ named. let some = s.some (unless_passes _ _ named) in (
       refl,
       λ apart. (
         same_missing t.needs s.follows some,

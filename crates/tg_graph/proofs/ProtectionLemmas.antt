@@ -15,6 +15,8 @@ use Rattle.tg_graph.specs.Protection.{Protection, IsGraph, IsVertex, IsDocument,
 use Rattle.tg_graph.specs.Terms.{Does, Terms, terms, need}
 use Rattle.tg_graph.specs.Rules.{Check, AllPass, Allowed, checks, first_failure, is_document, is_met, lack, misfit, missing, names_rights, unless}
 use Rattle.tg_graph.specs.Deciding.{AskSome, Covers, Follows, IsNear, IsSound, LeadTo, DocumentNear}
+use Rattle.tg_graph.specs.Laws.{AllMet, IsDocumentWhereAsked, Meets}
+use Rattle.tg_graph.proofs.AllowedIsMetLemmas.{meets, need_met, none_missing}
 use Rattle.tg_graph.proofs.DecidingLemmas.{sound}
 use Rattle.tg_rights.proofs.LettersLemmas.{some_right}
 
@@ -38,44 +40,6 @@ module _ (G : Protection) (g : IsGraph G) (x y : ℕ) where
 
   pub edge_to : IsEdge G x y → IsVertex G y
   edge_to e = let r = some_right (label G x y) e in g.to_vertex (record { from = x; right = r.0; to = y }) (member r.0 r.1)
-
-unless_passes : (b : Bool) (why : Cause) → unless b why ≡ None → b ≡ true
-unless_passes true why e = refl
-unless_passes false why e = absurd (cc e)
-
-all_pass : (ms : List Check) → first_failure ms ≡ None → AllPass ms
-all_pass [] e = tt
-all_pass (None ∷ ms) e = (refl, all_pass ms e)
-all_pass (Some why ∷ ms) e = absurd (cc e)
-
--- what an allowed command has passed, check by check
-pub record Passes (G : Protection) (t : Terms) : Type 0 where
-  pub named : names_rights t.names ≡ true
-  pub apart : t.apart ≡ true
-  pub met : missing G t.needs ≡ None
-  pub fit : misfit G t.document ≡ None
-
-pub passes : (G : Protection) (x : ℕ) (c : Command) → Allowed G x c → Passes G (terms x c)
-passes G x c e =
-    let p = all_pass (checks G (terms x c)) e in
-    record {
-      named = unless_passes (names_rights (terms x c).names) cause.Empty p.0;
-      apart = unless_passes (terms x c).apart cause.NotDistinct p.1.0;
-      met = p.1.1.0;
-      fit = p.1.1.1.0;
-    }
-
-pub need_met : (G : Protection) (n : Need) (ns : List Need) → missing G (n ∷ ns) ≡ None → (is_met G n ≡ true) × (missing G ns ≡ None)
-need_met G n ns e =
-    elim (is_met G n) as (λ b. cond b (missing G ns) (Some (lack G n)) ≡ None → (b ≡ true) × (missing G ns ≡ None)) [ true ↦ λ e. (refl, e) | false ↦ λ e. absurd (cc e) ] e
-
-document_kind : (k : Option Kind) → is_document k ≡ true → k ≡ Some kind.Document
-document_kind None e = absurd (cc e)
-document_kind (Some kind.Subject) e = absurd (cc e)
-document_kind (Some kind.Document) e = refl
-
-pub document_there : (G : Protection) (v : ℕ) → misfit G (Some v) ≡ None → IsDocument G v
-document_there G v e = document_kind (kind_of G v) (unless_passes (is_document (kind_of G v)) (cause.NotDocument v) e)
 
 -- Known vertices, from which edges lead to known ones; x is one
 module _ (G : Protection) (Known : ℕ → Type 0) (step : (v z : ℕ) → Known v → IsEdge G v z → Known z) (x : ℕ) (x_known : Known x) where
@@ -104,10 +68,10 @@ module _ (G : Protection) (Known : ℕ → Type 0) (step : (v z : ℕ) → Known
   Entitled (effect.Tells over) = Known over
   Entitled (effect.Lists at) = Known at
 
-  entitled_by : (t : Terms) → IsSound x t → Passes G t → (e : Does) → Covers x t e → Entitled e
+  entitled_by : (t : Terms) → IsSound x t → Meets G t → (e : Does) → Covers x t e → Entitled e
   entitled_by t s p e covers = by e covers where
     at : (v : ℕ) → LeadTo t.needs v → Known v
-    at = led t.needs s.follows (s.some p.named) p.met
+    at = led t.needs s.follows (s.some p.named) (none_missing G t.needs p.met)
 
     near : (v : ℕ) → IsNear x t.needs v → Known v
     near v (inl is) = subst Known (sym is) x_known
@@ -119,13 +83,13 @@ module _ (G : Protection) (Known : ℕ → Type 0) (step : (v z : ℕ) → Known
     by : (e : Does) → Covers x t e → Entitled e
     by (effect.Joins from α to) c = (near from c.0, at to c.1, λ is. absurd (cc (c.3 p.apart, eq-eqb from to is)), some α c.2)
     by (effect.Makes k α) c = some α c
-    by (effect.Drops α over) c = ((need_met G (need x α over) [] (ap (missing G) (sym c.1) ∙ p.met)).0, some α c.0)
+    by (effect.Drops α over) c = ((subst (AllMet G) c.1 p.met).0, some α c.0)
     by (effect.Rewrites over text) c = (
       at over (subst (DocumentNear t.needs) c s.document),
-      document_there G over (ap (misfit G) (sym c) ∙ p.fit),
+      subst (IsDocumentWhereAsked G) c p.document,
     )
     by (effect.Tells over) c = at over c
     by (effect.Lists at) c = near at c
 
   pub entitled : (c : Command) → Allowed G x c → Entitled (terms x c).does
-  entitled c a = entitled_by (terms x c) (sound x c) (passes G x c a) (terms x c).does (sound x c).covers
+  entitled c a = entitled_by (terms x c) (sound x c) (meets G x c a) (terms x c).does (sound x c).covers
