@@ -1,14 +1,14 @@
 //! Replies, answers, cycles and verdicts as JSON values.
 
 ghost use Rattle.std.specs.Prelude.{◌≡◌, ◌++◌, [], IfOk, OnOk, string_bytes, if◌then◌else◌};
-ghost use Rattle.serde_json.specs.Data.{array};
-ghost use Rattle.serde_json.specs.View.{view};
-ghost use Rattle.tg_wire.specs.Replies.{which_text as text_of_which, rights_text as text_of_rights, edges_data, denied_data, reply_data};
+ghost use Rattle.serde_json.specs.Data.{array, put as put_at, string, number as number_data, unsigned};
+ghost use Rattle.serde_json.specs.View.{members_view, view};
+ghost use Rattle.tg_wire.specs.Replies.{which_text as text_of_which, rights_text as text_of_rights, cause_fields, edges_data, denied_data, reply_data, with_fields};
 ghost use Rattle.tg_wire.specs.Answers.{phase_text as text_of_phase, noted_data, answer_data, swept_data, denied_step_data, verdict_data};
 ghost use Rattle.tg_wire.specs.Faults.{seat_fault_text as text_of_seat_fault, ask_fault_text as text_of_ask_fault};
 
 use crate::op::of_command;
-use serde_json::{Value, json};
+use serde_json::{Map, Value, json, put};
 use std::alloc::{AllocError, Global};
 use tg_collect::{Note, Phase};
 use tg_graph::Verdict;
@@ -90,21 +90,72 @@ fn edges_value(alloc: Global, edges: &[(u64, Rights)]) -> Result<Value, AllocErr
     Ok(Value::Array(items))
 }
 
+fn put_text(
+    members: &mut Map<String, Value>,
+    alloc: Global,
+    key: &str,
+    text: &str,
+) -> Result<(), AllocError>
+    ensures { OnOk result (members_view members.new.entries ≡ put_at key.now (string text.now) (members_view members.old.entries)) }
+{
+    let value = json!(in alloc; text)?;
+    put(members, alloc, key, value)
+}
+
+fn put_number(
+    members: &mut Map<String, Value>,
+    alloc: Global,
+    key: &str,
+    number: u64,
+) -> Result<(), AllocError>
+    ensures { OnOk result (members_view members.new.entries ≡ put_at key.now (number_data (unsigned number)) (members_view members.old.entries)) }
+{
+    let value = json!(in alloc; number)?;
+    put(members, alloc, key, value)
+}
+
+fn put_rights(
+    members: &mut Map<String, Value>,
+    alloc: Global,
+    key: &str,
+    rights: Rights,
+) -> Result<(), AllocError>
+    ensures { OnOk result (members_view members.new.entries ≡ put_at key.now (string (text_of_rights rights)) (members_view members.old.entries)) }
+{
+    let text = rights_text(alloc, rights)?;
+    put_text(members, alloc, key, text.as_str())
+}
+
+/// The fields that tell a cause: one arm for each.
+fn put_cause(
+    members: &mut Map<String, Value>,
+    alloc: Global,
+    cause: Cause,
+) -> Result<(), AllocError>
+    ensures { OnOk result (members_view members.new.entries ≡ with_fields (cause_fields cause) (members_view members.old.entries)) }
+{
+    match cause {
+        Cause::Empty => put_text(members, alloc, "cause", "empty"),
+        Cause::NotDistinct => put_text(members, alloc, "cause", "not distinct"),
+        Cause::Missing { from, to, rights } => {
+            put_number(members, alloc, "from", from)?;
+            put_rights(members, alloc, "missing", rights)?;
+            put_number(members, alloc, "to", to)
+        }
+        Cause::NotDocument { vertex } => {
+            put_text(members, alloc, "cause", "not document")?;
+            put_number(members, alloc, "vertex", vertex)
+        }
+    }
+}
+
 fn denied_value(alloc: Global, rule: Rule, cause: Cause) -> Result<Value, AllocError>
     ensures { IfOk result (λ value. view value ≡ denied_data rule cause) }
 {
-    let denied = of_command(rule).word;
-    match cause {
-        Cause::Empty => json!(in alloc; {"cause": "empty", "denied": denied}),
-        Cause::NotDistinct => json!(in alloc; {"cause": "not distinct", "denied": denied}),
-        Cause::Missing { from, to, rights } => {
-            let missing = rights_text(alloc, rights)?;
-            json!(in alloc; {"denied": denied, "from": from, "missing": missing, "to": to})
-        }
-        Cause::NotDocument { vertex } => {
-            json!(in alloc; {"cause": "not document", "denied": denied, "vertex": vertex})
-        }
-    }
+    let mut members = Map::new(alloc);
+    put_text(&mut members, alloc, "denied", of_command(rule).word)?;
+    put_cause(&mut members, alloc, cause)?;
+    Ok(Value::Object(members))
 }
 
 pub(crate) fn reply_value(alloc: Global, reply: &Reply) -> Result<Value, AllocError>
@@ -159,23 +210,12 @@ fn denied_step_value(
 ) -> Result<Value, AllocError>
     ensures { IfOk result (λ value. view value ≡ denied_step_data step rule cause) }
 {
-    let denied = of_command(rule).word;
-    let verdict = "step denied";
-    match cause {
-        Cause::Empty => {
-            json!(in alloc; {"cause": "empty", "denied": denied, "step": step, "verdict": verdict})
-        }
-        Cause::NotDistinct => {
-            json!(in alloc; {"cause": "not distinct", "denied": denied, "step": step, "verdict": verdict})
-        }
-        Cause::Missing { from, to, rights } => {
-            let missing = rights_text(alloc, rights)?;
-            json!(in alloc; {"denied": denied, "from": from, "missing": missing, "step": step, "to": to, "verdict": verdict})
-        }
-        Cause::NotDocument { vertex } => {
-            json!(in alloc; {"cause": "not document", "denied": denied, "step": step, "verdict": verdict, "vertex": vertex})
-        }
-    }
+    let mut members = Map::new(alloc);
+    put_text(&mut members, alloc, "denied", of_command(rule).word)?;
+    put_number(&mut members, alloc, "step", step)?;
+    put_text(&mut members, alloc, "verdict", "step denied")?;
+    put_cause(&mut members, alloc, cause)?;
+    Ok(Value::Object(members))
 }
 
 pub(crate) fn verdict_value(alloc: Global, verdict: &Verdict) -> Result<Value, AllocError>
