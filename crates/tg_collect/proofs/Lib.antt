@@ -1,31 +1,33 @@
-pub mod MachineLemmas
-pub mod RunLemmas
-pub mod EdgeSteps
-pub mod SessionLemmas
-pub mod VertexSteps
-pub mod StepLines
-pub mod GatherLemmas
-pub mod PlaceLemmas
-pub mod SetLemmas
-pub mod LeftLemmas
-pub mod LineLemmas
-pub mod NameLines
-pub mod ColourLines
-pub mod PathLemmas
-pub mod ConnectLemmas
-pub mod CollectLemmas
-pub mod StoreLemmas
-pub mod NameSteps
-pub mod EdgeShown
-pub mod LeftSteps
+-- Lemma files that other crates may use, each named after the definition or law that it serves.
 pub mod ActedLemmas
-pub mod EdgeCalls
-pub mod VertexCalls
-pub mod ShadeCalls
-pub mod CallLemmas
-pub mod SumLemmas
-pub mod CountLemmas
-pub mod OpeningLemmas
-pub mod ListedLemmas
 pub mod FitLemmas
-pub mod UnnamedLemmas
+pub mod PathLemmas
+-- Lemma files of this crate's own proofs.
+mod CallLemmas
+mod CollectLemmas
+mod ColourLines
+mod ConnectLemmas
+mod CountLemmas
+mod EdgeCalls
+mod EdgeShown
+mod EdgeSteps
+mod GatherLemmas
+mod LeftLemmas
+mod LeftSteps
+mod LineLemmas
+mod ListedLemmas
+mod MachineLemmas
+mod NameLines
+mod NameSteps
+mod OpeningLemmas
+mod PlaceLemmas
+mod RunLemmas
+mod SessionLemmas
+mod SetLemmas
+mod ShadeCalls
+mod StepLines
+mod StoreLemmas
+mod SumLemmas
+mod UnnamedLemmas
+mod VertexCalls
+mod VertexSteps
