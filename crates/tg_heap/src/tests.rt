@@ -252,23 +252,45 @@ fn loses(rt: &impl Abort, heap: &mut Heap, id: u32, serial: u64, rights: Rights,
     }
 }
 
-/// The slot's edges are these, newest first.
-fn has_edges(rt: &impl Abort, heap: &Heap, id: u32, wanted: &[(u32, u64, &str)]) {
+/// The slot's edges, newest first: target, serial and label of each.
+fn list(
+    rt: &impl Abort,
+    alloc: Global,
+    heap: &Heap,
+    id: u32,
+) -> Result<Vec<(u32, u64, Rights)>, AllocError> {
     assert!(rt; id < heap.len());
+    let mut found = Vec::new(alloc);
     let mut cursor = heap.first(id);
-    for want in wanted {
-        let Some(cell) = cursor else {
-            panic!(rt; "an edge too few");
-        };
-        assert!(rt; heap.target(cell) == want.0 && heap.target_serial(cell) == want.1);
-        assert!(rt; heap.label(cell) == rights(want.2));
+    while let Some(cell) = cursor {
+        found.push((
+            heap.target(cell),
+            heap.target_serial(cell),
+            heap.label(cell),
+        ))?;
         cursor = heap.next(cell);
     }
-    assert!(rt; cursor.is_none());
+    Ok(found)
+}
+
+/// The slot's edges are these, newest first.
+fn has_edges(
+    rt: &impl Abort,
+    alloc: Global,
+    heap: &Heap,
+    id: u32,
+    wanted: &[(u32, u64, &str)],
+) -> Result<(), AllocError> {
+    let found = list(rt, alloc, heap, id)?;
+    assert!(rt; found.len() == wanted.len());
+    for (edge, want) in found.iter().zip(wanted) {
+        assert!(rt; edge.0 == want.0 && edge.1 == want.1 && edge.2 == rights(want.2));
+    }
+    Ok(())
 }
 
 /// Carries out one line of a script.
-fn play(rt: &impl Abort, alloc: Global, heap: &mut Heap, act: Act) {
+fn play(rt: &impl Abort, alloc: Global, heap: &mut Heap, act: Act) -> Result<(), AllocError> {
     match act {
         Put(serial, slot) => assert!(rt; put(rt, alloc, heap, serial) == slot),
         NoSlot => finds_no_slot(rt, alloc, heap),
@@ -289,12 +311,13 @@ fn play(rt: &impl Abort, alloc: Global, heap: &mut Heap, act: Act) {
         Free(slots, cells) => {
             assert!(rt; heap.free_slots() == slots && heap.free_cells() == cells);
         }
-        Edges(id, wanted) => has_edges(rt, heap, id, wanted),
+        Edges(id, wanted) => has_edges(rt, alloc, heap, id, wanted)?,
         NoEdge(id, serial) => {
             assert!(rt; id < heap.len());
             assert!(rt; heap.edge(id, serial).is_none());
         }
     }
+    Ok(())
 }
 
 #[test]
@@ -302,7 +325,7 @@ fn each_script_runs_as_worked_out(rt: HostRuntime) -> Result<(), AllocError> {
     for script in SCRIPTS {
         let mut heap = Heap::new(rt.alloc(), script.slots, script.cells)?;
         for act in script.acts {
-            play(&rt, rt.alloc(), &mut heap, *act);
+            play(&rt, rt.alloc(), &mut heap, *act)?;
         }
     }
     Ok(())
