@@ -5,6 +5,7 @@ use Rattle.tg_graph.specs.declared.rules.Need.{Need}
 use Rattle.tg_graph.specs.declared.rules.Effect.{Effect}
 use Rattle.tg_graph.specs.declared.rules.Effect.TheVariants as code
 use Rattle.tg_graph.specs.Terms as effect
+use Rattle.tg_graph.specs.declared.rules.Asked.{Asked}
 use Rattle.tg_graph.specs.declared.rules.Terms.{Terms as Read}
 use Rattle.tg_graph.specs.declared.rules.Spot.{Spot}
 use Rattle.tg_graph.specs.declared.rules.Found.{Found}
@@ -87,3 +88,13 @@ pub record IsSound (x : ℕ) (t : Terms) : Type 0 where
   pub some : names_rights t.names ≡ true → AskSome t.needs
   pub document : DocumentNear t.needs t.document
   pub covers : Covers x t t.does
+
+-- what was read off a command of x is what its terms ask, and hangs together
+pub record Asks (x : ℕ) (a : Asked) (t : Terms) : Type 0 where
+  pub names : a.names ≡ t.names
+  pub apart : a.apart ≡ t.apart
+  pub needs : listed a.first a.then ≡ t.needs
+  pub document : a.document ≡ t.document
+  pub follows : Follows x (listed a.first a.then)
+  pub some : names_rights a.names ≡ true → AskSome (listed a.first a.then)
+  pub near : (v : ℕ) → a.document ≡ Some v → LeadTo (listed a.first a.then) v
