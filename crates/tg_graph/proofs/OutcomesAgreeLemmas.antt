@@ -1,11 +1,10 @@
 -- A subject cannot tell apart two graphs that agree for it: the rules decide its commands alike.
-use Rattle.std.proofs.Common.{◌≡◌, ℕ, ◌∷◌, [], ◌++◌, List, Bool, true, false, cond, refl, sym, ap, subst, ◌∙◌, Some, None, inl, inr}
+use Rattle.std.proofs.Common.{◌≡◌, ℕ, ◌∷◌, [], ◌++◌, List, true, false, cond, refl, sym, ap, subst, ◌∙◌, Some, None, inl, inr}
 use Rattle.std.specs.Prelude.{Option}
 use Rattle.std.specs.Option.{option_map}
 use Rattle.tg_rights.specs.Letters.{Letters, without, includes}
 use Rattle.tg_rights.specs.declared.kind.Kind.TheVariants as kind
 use Rattle.tg_rights.specs.declared.command.Command.{Command}
-use Rattle.tg_rights.specs.declared.outcome.Cause.{Cause}
 use Rattle.tg_rights.specs.declared.outcome.Cause.TheVariants as cause
 use Rattle.tg_rights.specs.declared.outcome.Outcome.{Outcome}
 use Rattle.tg_graph.specs.declared.rules.Need.{Need}

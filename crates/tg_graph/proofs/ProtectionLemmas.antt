@@ -1,19 +1,14 @@
 -- What an allowed command may take for granted: the ends of its edges are vertices, and its needs lead on from the actor.
-use Rattle.std.proofs.Common.{◌≡◌, ◌≢◌, ℕ, ◌∷◌, [], List, Bool, true, false, cond, not, refl, sym, ap, subst, ◌∙◌, ◌&&◌, ◌||◌, inl, inr, Some, None, arith}
+use Rattle.std.proofs.Common.{◌≡◌, ◌≢◌, ℕ, ◌∷◌, [], List, Bool, true, false, not, sym, ap, subst, ◌∙◌, ◌&&◌, ◌||◌, inl, inr, Some, None, arith}
 use Rattle.std.proofs.lemmas.Bool.{not-true, eq-eqb}
-use Rattle.std.specs.Prelude.{Option}
 use Rattle.std.specs.FinSet as set
 use Rattle.tg_rights.specs.Letters.{Letters, Right, read, write, take, grant, has, is_none, includes}
-use Rattle.tg_rights.specs.declared.kind.Kind.{Kind}
-use Rattle.tg_rights.specs.declared.kind.Kind.TheVariants as kind
 use Rattle.tg_rights.specs.declared.command.Command.{Command}
-use Rattle.tg_rights.specs.declared.outcome.Cause.{Cause}
-use Rattle.tg_rights.specs.declared.outcome.Cause.TheVariants as cause
 use Rattle.tg_graph.specs.declared.rules.Need.{Need}
 use Rattle.tg_graph.specs.Terms as effect
-use Rattle.tg_graph.specs.Protection.{Protection, IsGraph, IsVertex, IsDocument, IsEdge, label, kind_of}
-use Rattle.tg_graph.specs.Terms.{Does, Terms, terms, need}
-use Rattle.tg_graph.specs.Rules.{Check, AllPass, Allowed, checks, first_failure, is_document, is_met, lack, misfit, missing, names_rights, unless}
+use Rattle.tg_graph.specs.Protection.{Protection, IsGraph, IsVertex, IsDocument, IsEdge, label}
+use Rattle.tg_graph.specs.Terms.{Does, Terms, terms}
+use Rattle.tg_graph.specs.Rules.{Allowed, is_met, missing, names_rights}
 use Rattle.tg_graph.specs.Deciding.{AskSome, Covers, Follows, IsNear, IsSound, LeadTo, DocumentNear}
 use Rattle.tg_graph.specs.Laws.{AllMet, IsDocumentWhereAsked, Meets}
 use Rattle.tg_graph.proofs.AllowedIsMetLemmas.{meets, need_met, none_missing}
