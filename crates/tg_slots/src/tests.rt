@@ -58,22 +58,124 @@ fn scan(rt: &impl Abort, slots: &mut Slots) -> u32 {
     }
 }
 
+/// One call of a script with its answer, or what must be seen after the calls before it.
+#[derive(Clone, Copy)]
+enum Act {
+    /// A white document comes into this slot.
+    Take(u32),
+    /// A white slot is given back.
+    Give(u32),
+    Shade(u32),
+    /// The first of the grey list is this slot, and is made black.
+    Scan(u32),
+    /// No slot waits in the grey list.
+    NoneWaits,
+    /// A black slot is made white.
+    Whiten(u32),
+    /// So many slots are free.
+    Free(u32),
+}
+
+use Act::{Free, Give, NoneWaits, Scan, Shade, Take, Whiten};
+
+struct Script {
+    slots: u32,
+    acts: &'static [Act],
+}
+
+const SCRIPTS: &[Script] = &[
+    // the slot given back last is taken first
+    Script {
+        slots: 4,
+        acts: &[
+            Free(4),
+            Take(0),
+            Take(1),
+            Take(2),
+            Take(3),
+            Free(0),
+            Give(1),
+            Give(3),
+            Give(0),
+            Free(3),
+            Take(0),
+            Take(3),
+            Take(1),
+            Free(0),
+        ],
+    },
+    // the slot shaded last is scanned first
+    Script {
+        slots: 4,
+        acts: &[
+            Take(0),
+            Take(1),
+            Take(2),
+            Take(3),
+            Shade(2),
+            Shade(0),
+            Shade(3),
+            Scan(3),
+            Scan(0),
+            Shade(1),
+            Scan(1),
+            Scan(2),
+            NoneWaits,
+            Whiten(0),
+            Whiten(1),
+            Whiten(2),
+            Whiten(3),
+        ],
+    },
+    // slots go from the free list into use, to the grey list and back, while both lists are in use
+    Script {
+        slots: 5,
+        acts: &[
+            Take(0),
+            Take(1),
+            Take(2),
+            Take(3),
+            Shade(1),
+            Give(2),
+            Shade(3),
+            Give(0),
+            Scan(3),
+            Scan(1),
+            NoneWaits,
+            Take(0),
+            Take(2),
+            Take(4),
+            Free(0),
+        ],
+    },
+];
+
+/// Carries out one line of a script.
+fn play(rt: &impl Abort, alloc: Global, slots: &mut Slots, act: Act) {
+    match act {
+        Take(id) => assert!(rt; take(rt, alloc, slots, 10) == id),
+        Give(id) => give(rt, slots, id),
+        Shade(id) => shade(rt, slots, id),
+        Scan(id) => assert!(rt; scan(rt, slots) == id),
+        NoneWaits => assert!(rt; slots.pop_grey().is_none()),
+        Whiten(id) => {
+            is_black(rt, slots, id);
+            slots.whiten(id);
+            is_white(rt, slots, id);
+        }
+        Free(count) => assert!(rt; slots.free() == count),
+    }
+}
+
 #[test]
-fn the_slot_given_back_last_is_taken_first(rt: HostRuntime) -> Result<(), AllocError> {
-    let mut slots = Slots::new(rt.alloc(), 4)?;
-    assert_eq!(rt; (slots.len(), slots.free()), (4, 4));
-    for id in [0, 1, 2, 3] {
-        assert_eq!(rt; take(&rt, rt.alloc(), &mut slots, 10), id);
+fn each_script_runs_as_worked_out(rt: HostRuntime) -> Result<(), AllocError> {
+    for script in SCRIPTS {
+        let mut slots = Slots::new(rt.alloc(), script.slots)?;
+        assert!(rt; slots.len() == script.slots);
+        for act in script.acts {
+            play(&rt, rt.alloc(), &mut slots, *act);
+        }
     }
-    assert_eq!(rt; slots.free(), 0);
-    for id in [1, 3, 0] {
-        give(&rt, &mut slots, id);
-    }
-    assert_eq!(rt; slots.free(), 3);
-    for id in [0, 3, 1] {
-        assert_eq!(rt; take(&rt, rt.alloc(), &mut slots, 11), id);
-    }
-    assert_eq!(rt; slots.free(), 0);
     Ok(())
 }
 
@@ -90,53 +192,6 @@ fn a_full_table_hands_the_text_back(rt: HostRuntime) -> Result<(), AllocError> {
     }
     give(&rt, &mut slots, 0);
     assert_eq!(rt; take(&rt, rt.alloc(), &mut slots, 3), 0);
-    Ok(())
-}
-
-#[test]
-fn the_slot_shaded_last_is_scanned_first(rt: HostRuntime) -> Result<(), AllocError> {
-    let mut slots = Slots::new(rt.alloc(), 4)?;
-    for id in [0, 1, 2, 3] {
-        assert_eq!(rt; take(&rt, rt.alloc(), &mut slots, 10), id);
-    }
-    for id in [2, 0, 3] {
-        shade(&rt, &mut slots, id);
-    }
-    for id in [3, 0] {
-        assert_eq!(rt; scan(&rt, &mut slots), id);
-    }
-    shade(&rt, &mut slots, 1);
-    for id in [1, 2] {
-        assert_eq!(rt; scan(&rt, &mut slots), id);
-    }
-    assert_eq!(rt; slots.pop_grey(), None);
-    for id in [0, 1, 2, 3] {
-        is_black(&rt, &slots, id);
-        slots.whiten(id);
-        is_white(&rt, &slots, id);
-    }
-    Ok(())
-}
-
-// Slots go from the free list into use, to the grey list and back, while both lists are in use.
-#[test]
-fn both_lists_share_the_links(rt: HostRuntime) -> Result<(), AllocError> {
-    let mut slots = Slots::new(rt.alloc(), 5)?;
-    for id in [0, 1, 2, 3] {
-        assert_eq!(rt; take(&rt, rt.alloc(), &mut slots, 10), id);
-    }
-    shade(&rt, &mut slots, 1);
-    give(&rt, &mut slots, 2);
-    shade(&rt, &mut slots, 3);
-    give(&rt, &mut slots, 0);
-    for id in [3, 1] {
-        assert_eq!(rt; scan(&rt, &mut slots), id);
-    }
-    assert_eq!(rt; slots.pop_grey(), None);
-    for id in [0, 2, 4] {
-        assert_eq!(rt; take(&rt, rt.alloc(), &mut slots, 11), id);
-    }
-    assert_eq!(rt; slots.free(), 0);
     Ok(())
 }
 
