@@ -247,8 +247,13 @@ fn configuration(
     })
 }
 
-/// The verdict on the derivation.
-fn checked(rt: &impl Abort, alloc: Global, derivation: &Derivation) -> Result<Verdict, AllocError> {
+/// Whether the verdict says so.
+fn is_verdict(found: Verdict, finding: Finding) -> bool {
+    found == verdict(finding)
+}
+
+/// Whether the derivation has the verdict that was worked out.
+fn is_found(rt: &impl Abort, alloc: Global, derivation: &Derivation) -> Result<bool, AllocError> {
     let config = configuration(
         alloc,
         derivation.names,
@@ -270,14 +275,14 @@ fn checked(rt: &impl Abort, alloc: Global, derivation: &Derivation) -> Result<Ve
         to: derivation.goal.2,
         rights: rights_of(derivation.goal.1),
     };
-    check(alloc, graph, &steps, goal)
+    let found = check(alloc, graph, &steps, goal)?;
+    Ok(is_verdict(found, derivation.finding))
 }
 
 #[test]
 fn each_derivation_has_the_verdict_worked_out(rt: HostRuntime) -> Result<(), AllocError> {
     for derivation in DERIVATIONS {
-        let found = checked(&rt, rt.alloc(), derivation)?;
-        assert!(rt; found == verdict(derivation.finding));
+        assert!(rt; is_found(&rt, rt.alloc(), derivation)?);
     }
     Ok(())
 }
