@@ -42,7 +42,7 @@ told_outcome G x c (outcome.Denied rule cause) = refl
 told_outcome G x c (outcome.Full which) = refl
 
 -- what an entry leaves is a graph, and each subject a subject
-turn_keeps : (limits : Limits) (G : Protection) (x : ℕ) (c : Command) (o : Outcome) → IsGraph G → IsSubject G x → Permitted limits G x c o →
+pub turn_keeps : (limits : Limits) (G : Protection) (x : ℕ) (c : Command) (o : Outcome) → IsGraph G → IsSubject G x → Permitted limits G x c o →
     IsGraph (next_graph G x c o) × ((v : ℕ) → IsSubject G v → IsSubject (next_graph G x c o) v)
 turn_keeps limits G x c outcome.Allowed graph subject permitted = (graph_stays G x c graph subject permitted.0, subject_stays G x c graph)
 turn_keeps limits G x c (outcome.Denied rule cause) graph subject permitted = (graph, λ v s. s)

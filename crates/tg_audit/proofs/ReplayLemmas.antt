@@ -1,0 +1,99 @@
+-- A history, replayed entry by entry.
+use Rattle.std.proofs.Common.{◌≡◌, ℕ, suc, ◌+◌, List, [], ◌∷◌, ◌++◌, drop, refl, sym, ap, ◌∙◌, subst, arith, slice_get, Some, None, append_assoc}
+use Rattle.std.specs.Prelude.{All}
+use Rattle.std.proofs.lemmas.Option.{none-some, same_Some}
+use Rattle.std.proofs.lemmas.List.Elements.{All-head, All-tail}
+use Rattle.tg_rights.specs.declared.command.Command.{Command}
+use Rattle.tg_rights.specs.declared.outcome.Outcome.{Outcome}
+use Rattle.tg_rights.specs.declared.outcome.Outcome.TheVariants as outcome
+use Rattle.tg_rights.specs.declared.outcome.Which.TheVariants as which
+use Rattle.tg_rights.specs.declared.outcome.Reply.{Reply}
+use Rattle.tg_graph.specs.Fullness.{Limits, Permitted}
+use Rattle.tg_graph.specs.Protection.{IsGraph, IsSubject, Protection}
+use Rattle.tg_graph.specs.Rules.{Applies, PlainlyDecided, next_graph, reply_of}
+use Rattle.tg_vault.specs.declared.entry.Entry.{Entry}
+use Rattle.tg_vault.specs.History.{EntryRun, Legal}
+use Rattle.tg_vault.proofs.HistoryLemmas.{turn_keeps}
+use Rattle.tg_audit.specs.Replies.{beyond, replies_of}
+use Rattle.tg_audit.proofs.FollowingLemmas.{drop_some}
+
+-- what the plain graph decides, where it can, is what a history permits
+decided_as_permitted : (limits : Limits) (G : Protection) (x : ℕ) (c : Command) (o p : Outcome) → Permitted limits G x c o → beyond o ≡ None → PlainlyDecided G x c p → p ≡ o
+decided_as_permitted limits G x c outcome.Allowed outcome.Allowed permitted plain decided = refl
+decided_as_permitted limits G x c outcome.Allowed (outcome.Denied rule why) permitted plain decided = absurd (none-some why (sym permitted.0 ∙ decided.1))
+decided_as_permitted limits G x c outcome.Allowed (outcome.Full which.Serials) permitted plain decided = absurd (let room = permitted.1 decided.1 in omega arith)
+decided_as_permitted limits G x c outcome.Allowed (outcome.Full which.Slots) permitted plain decided = absurd decided
+decided_as_permitted limits G x c outcome.Allowed (outcome.Full which.Cells) permitted plain decided = absurd decided
+decided_as_permitted limits G x c (outcome.Denied rule why) outcome.Allowed permitted plain decided = absurd (none-some why (sym decided.0 ∙ permitted.1))
+decided_as_permitted limits G x c (outcome.Denied rule why) (outcome.Denied other cause) permitted plain decided = λ i. outcome.Denied ((decided.0 ∙ sym permitted.0) i) (same_Some cause why (sym decided.1 ∙ permitted.1) i)
+decided_as_permitted limits G x c (outcome.Denied rule why) (outcome.Full which.Serials) permitted plain decided = absurd (none-some why (sym decided.0 ∙ permitted.1))
+decided_as_permitted limits G x c (outcome.Denied rule why) (outcome.Full which.Slots) permitted plain decided = absurd decided
+decided_as_permitted limits G x c (outcome.Denied rule why) (outcome.Full which.Cells) permitted plain decided = absurd decided
+decided_as_permitted limits G x c (outcome.Full which.Slots) p permitted plain decided = absurd (none-some which.Slots (sym plain))
+decided_as_permitted limits G x c (outcome.Full which.Cells) p permitted plain decided = absurd (none-some which.Cells (sym plain))
+decided_as_permitted limits G x c (outcome.Full which.Serials) outcome.Allowed permitted plain decided = absurd (let room = decided.1 permitted.1.0 in let none = permitted.1.1 in omega arith)
+decided_as_permitted limits G x c (outcome.Full which.Serials) (outcome.Denied rule why) permitted plain decided = absurd (none-some why (sym permitted.0 ∙ decided.1))
+decided_as_permitted limits G x c (outcome.Full which.Serials) (outcome.Full which.Serials) permitted plain decided = refl
+decided_as_permitted limits G x c (outcome.Full which.Serials) (outcome.Full which.Slots) permitted plain decided = absurd decided
+decided_as_permitted limits G x c (outcome.Full which.Serials) (outcome.Full which.Cells) permitted plain decided = absurd decided
+
+-- so its reply and the graph that it leaves are those of the outcome
+pub reply_permitted : (limits : Limits) (G H : Protection) (x : ℕ) (c d : Command) (o : Outcome) (answer : Reply) → Permitted limits G x c o → beyond o ≡ None → d ≡ c → Applies G x d answer H → answer ≡ reply_of G x c o
+reply_permitted limits G H x c d o answer permitted plain same applies =
+    let here : Applies G x c answer H = (let A : Command → Type 0 = λ e. Applies G x e answer H in subst A same applies) in
+    here.2 ∙ ap (reply_of G x c) (decided_as_permitted limits G x c o here.0 permitted plain here.1)
+
+pub graph_permitted : (limits : Limits) (G H : Protection) (x : ℕ) (c d : Command) (o : Outcome) (answer : Reply) → Permitted limits G x c o → beyond o ≡ None → d ≡ c → Applies G x d answer H → H ≡ next_graph G x c o
+graph_permitted limits G H x c d o answer permitted plain same applies =
+    let here : Applies G x c answer H = (let A : Command → Type 0 = λ e. Applies G x e answer H in subst A same applies) in
+    here.3 ∙ ap (next_graph G x c) (decided_as_permitted limits G x c o here.0 permitted plain here.1)
+
+-- one entry more is replayed
+pub replayed_more : (first G H : Protection) (es : List Entry) (n : ℕ) (e : Entry) (replies more : List Reply) (r : Reply) →
+    replies_of first es ≡ replies ++ replies_of G (drop n es) → slice_get es n ≡ Some e → r ≡ reply_of G e.actor e.command e.outcome → H ≡ next_graph G e.actor e.command e.outcome → more ≡ replies ++ r ∷ [] →
+    replies_of first es ≡ more ++ replies_of H (drop (n + 1) es)
+replayed_more first G H es n e replies more r so_far at reply graph grown =
+    let next : n + 1 ≡ suc n = omega arith in
+    let here : replies_of G (drop n es) ≡ r ∷ replies_of H (drop (suc n) es) = rw (drop_some es n e at, reply, graph) refl in
+    rw (so_far, here, grown, next) (sym (append_assoc replies (r ∷ []) (replies_of H (drop (suc n) es))))
+
+-- what is left of a legal history, from a graph on: each entry's outcome is permitted, and its actor is a subject
+pub record IsLeft (limits : Limits) (first G : Protection) (es : List Entry) : Type 0 where
+  pub ends : Protection
+  pub run : EntryRun limits G es ends
+  pub graph : IsGraph G
+  pub subjects : (v : ℕ) → IsSubject first v → IsSubject G v
+  pub actors : All (λ e. IsSubject first e.actor) es
+
+pub left_at_start : (limits : Limits) (first G : Protection) (es : List Entry) (ends : Protection) → G ≡ first → IsGraph G → Legal limits first es ends → IsLeft limits first G es
+left_at_start limits first G es ends same graph legal =
+    let R : Protection → Type 0 = λ F. EntryRun limits F es ends in
+    record { ends = ends; run = subst R (sym same) legal.graphs; graph = graph; subjects = λ v s. (let S : Protection → Type 0 = λ F. IsSubject F v in subst S (sym same) s); actors = legal.actors }
+
+pub left_subject : (limits : Limits) (first G : Protection) (es : List Entry) (n : ℕ) (e : Entry) → IsLeft limits first G (drop n es) → slice_get es n ≡ Some e → IsSubject G e.actor
+left_subject limits first G es n e left at =
+    let actors : All (λ (x : Entry). IsSubject first x.actor) (e ∷ drop (suc n) es) = subst (All (λ (x : Entry). IsSubject first x.actor)) (drop_some es n e at) left.actors in
+    left.subjects e.actor (All-head (λ (x : Entry). IsSubject first x.actor) e (drop (suc n) es) actors)
+
+pub left_permitted : (limits : Limits) (first G : Protection) (es : List Entry) (n : ℕ) (e : Entry) → IsLeft limits first G (drop n es) → slice_get es n ≡ Some e → Permitted limits G e.actor e.command e.outcome
+left_permitted limits first G es n e left at =
+    let run : EntryRun limits G (e ∷ drop (suc n) es) left.ends = (let R : List Entry → Type 0 = λ xs. EntryRun limits G xs left.ends in subst R (drop_some es n e at) left.run) in
+    run.1.0
+
+pub left_more : (limits : Limits) (first G H : Protection) (es : List Entry) (n : ℕ) (e : Entry) → IsLeft limits first G (drop n es) → slice_get es n ≡ Some e → H ≡ next_graph G e.actor e.command e.outcome → IsLeft limits first H (drop (n + 1) es)
+left_more limits first G H es n e left at graph =
+    let next : n + 1 ≡ suc n = omega arith in
+    let rest = drop (suc n) es in
+    let run : EntryRun limits G (e ∷ rest) left.ends = (let R : List Entry → Type 0 = λ xs. EntryRun limits G xs left.ends in subst R (drop_some es n e at) left.run) in
+    let actors : All (λ (x : Entry). IsSubject first x.actor) (e ∷ rest) = subst (All (λ (x : Entry). IsSubject first x.actor)) (drop_some es n e at) left.actors in
+    let actor : IsSubject G e.actor = left.subjects e.actor (All-head (λ (x : Entry). IsSubject first x.actor) e rest actors) in
+    let kept = turn_keeps limits G e.actor e.command e.outcome left.graph actor run.1.0 in
+    let same : run.0 ≡ H = run.1.1 ∙ sym graph in
+    let L : ℕ → Type 0 = λ k. IsLeft limits first H (drop k es) in
+    subst L (sym next) (record {
+      ends = left.ends;
+      run = (let R : Protection → Type 0 = λ F. EntryRun limits F rest left.ends in subst R same run.2);
+      graph = subst IsGraph (sym graph) kept.0;
+      subjects = λ v s. (let S : Protection → Type 0 = λ F. IsSubject F v in subst S (sym graph) (kept.1 v (left.subjects v s)));
+      actors = All-tail (λ (x : Entry). IsSubject first x.actor) e rest actors;
+    })

@@ -1,0 +1,62 @@
+-- how far the logs of a seat have been followed beside the history
+use Rattle.std.specs.Prelude.{◌≡◌, ◌≢◌, ◌<◌, ◌≤◌, ℕ, List, [], ◌∷◌, ◌++◌, Option, Some, None, length, drop, nat_eq, slice_get, if◌then◌else◌}
+use Rattle.tg_rights.specs.declared.limits.TheConstants.{SEATS}
+use Rattle.tg_rights.specs.declared.outcome.Reply.{Reply}
+use Rattle.tg_vault.specs.declared.entry.Entry.{Entry}
+use Rattle.tg_vault.specs.Contents.{Contents}
+use Rattle.tg_audit.specs.declared.logs.Exchange.{Exchange}
+use Rattle.tg_audit.specs.declared.logs.SeatLog.{SeatLog}
+use Rattle.tg_audit.specs.declared.following.Position.{Position}
+use Rattle.tg_audit.specs.declared.following.Progress.{Progress}
+use Rattle.tg_audit.specs.declared.following.Progress.TheVariants as progress
+use Rattle.tg_audit.specs.Settling.{DifferAt, exchanges_of, joined}
+
+-- an entry with its reply
+abbrev pub told : Entry → Reply → Exchange
+told e r = record { actor = e.actor; command = e.command; reply = r }
+
+-- the entries of a seat with the replies that stand beside them
+abbrev pub picked : ℕ → List Entry → List Reply → List Exchange
+picked seat [] rs = []
+picked seat (e ∷ es) [] = []
+picked seat (e ∷ es) (r ∷ rs) = (if nat_eq e.seat seat then told e r ∷ picked seat es rs else picked seat es rs)
+
+-- those from an entry on
+abbrev pub picked_from : ℕ → List Entry → List Reply → ℕ → List Exchange
+picked_from seat es rs number = picked seat (drop number es) (drop number rs)
+
+-- the logs of a seat, without so many exchanges of the first one
+abbrev pub joined_from : ℕ → ℕ → List SeatLog → List Exchange
+joined_from seat at [] = []
+joined_from seat at (log ∷ logs) = (if nat_eq log.seat seat then drop at log.exchanges.items ++ joined seat logs else joined seat logs)
+
+-- what is left of the logs of a seat
+abbrev pub left_of : ℕ → List SeatLog → Position → List Exchange
+left_of seat logs p = joined_from seat p.at (drop p.log logs)
+
+-- what was followed is common to all entries of the seat and all its logs; this is left of either
+pub record Beside (seat : ℕ) (logs : List SeatLog) (entries rest : List Exchange) (position : Position) (index : ℕ) : Type 0 where
+  pub common : List Exchange
+  pub entered : entries ≡ common ++ rest
+  pub logged : joined seat logs ≡ common ++ left_of seat logs position
+  pub count : length common ≡ index
+
+-- the entries and the logs of a seat have been followed up to the rest of the entries, or to where they differ
+abbrev pub Follows : ℕ → List SeatLog → List Exchange → List Exchange → Progress → Type 0
+Follows seat logs entries rest (progress.Beside position index) = Beside seat logs entries rest position index
+Follows seat logs entries rest (progress.Apart index) = DifferAt entries (joined seat logs) index
+
+-- the table has the progress of each seat at the end of the history
+abbrev pub FollowsAll : Contents → List SeatLog → List Progress → Type 0
+FollowsAll v logs table =
+    (seat : ℕ) → seat < SEATS → (p : Progress) → slice_get table seat ≡ Some p → Follows seat logs (exchanges_of seat v.opening v.history) [] p
+
+-- how many exchanges were followed
+abbrev pub followed : Progress → ℕ
+followed (progress.Beside position index) = index
+followed (progress.Apart index) = index
+
+-- the least seat, of those that no entry has, whose logs are not empty; none where there is none
+abbrev pub IsLeastAbove : List SeatLog → Option ℕ → Type 0
+IsLeastAbove logs None = (k : ℕ) → SEATS ≤ k → joined k logs ≡ []
+IsLeastAbove logs (Some seat) = (SEATS ≤ seat) × (joined seat logs ≢ []) × ((k : ℕ) → SEATS ≤ k → k < seat → joined k logs ≡ [])

@@ -1,0 +1,31 @@
+//! The auditor: derivations over the plain graph, and whether what callers were told is what the history says.
+#![tactic(auto)]
+
+ghost use Rattle.tg_audit.specs.Laws.{ExactlyOnePlace, ExactlyOneVerdict};
+
+mod comparing;
+mod derivations;
+mod following;
+mod logs;
+mod replaying;
+mod settling;
+#[cfg(test)]
+mod tests;
+
+pub use derivations::check;
+pub use logs::{Exchange, SeatLog, Settled};
+pub use replaying::replay;
+pub use settling::settle;
+
+// Laws: each function is a theorem, its contract, and costs nothing when it is called.
+
+/// For each graph, steps and goal there is exactly one verdict.
+pub fn exactly_one_verdict()
+    ensures { ExactlyOneVerdict }
+{}
+
+/// For each vault and logs there is exactly one place at which the logs first differ from the history, or none: so
+/// `settle` has exactly one answer but for `NoMemory`.
+pub fn exactly_one_place()
+    ensures { ExactlyOnePlace }
+{}

@@ -1,0 +1,44 @@
+//! What callers were told, and whether it is what the history says.
+use tg_rights::{Command, Reply};
+use tg_vault::Vault;
+
+/// What a caller asked, and what it was told.
+#[derive(Debug, Drop)]
+pub struct Exchange {
+    /// The serial of the principal for whom it was asked.
+    pub actor: u64,
+    /// What was asked.
+    pub command: Command,
+    /// What was told.
+    pub reply: Reply,
+}
+
+/// The exchanges of one session at a seat, in order.
+#[derive(Debug, Drop)]
+pub struct SeatLog {
+    /// The seat. Any number may stand here: one above 63 is no seat, so an exchange of its log is in no history.
+    pub seat: u64,
+    /// The exchanges.
+    pub exchanges: Vec<Exchange>,
+}
+
+/// Whether the logs of all callers are what the history says. Each answer hands back the vault, and all but the first
+/// the logs.
+#[derive(Drop)]
+pub enum Settled {
+    /// For each seat, its entries with their replies are its logs, joined in the order given.
+    Agreed(Vault),
+    /// The least seat, and in it the least index, at which its entries and its joined logs differ; where one is longer,
+    /// the length of the shorter one.
+    Differs {
+        vault: Vault,
+        logs: Vec<SeatLog>,
+        seat: u64,
+        index: u64,
+    },
+    /// There was no memory for the replies; the call may be made again.
+    NoMemory {
+        vault: Vault,
+        logs: Vec<SeatLog>,
+    },
+}

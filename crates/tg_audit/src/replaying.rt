@@ -1,0 +1,63 @@
+//! The replies of a history, by the plain graph alone.
+ghost use Rattle.std.specs.Prelude.{◌≡◌, IfOk, OnOk};
+ghost use Rattle.tg_graph.specs.Fullness.{Limits, Permitted};
+ghost use Rattle.tg_graph.specs.Protection.{IsSubject};
+ghost use Rattle.tg_graph.specs.Rules.{next_graph, reply_of};
+ghost use Rattle.tg_audit.specs.Replies.{beyond, replies_of};
+
+use std::alloc::{AllocError, Global};
+use tg_graph::Graph;
+use tg_rights::{Outcome, Reply, Which};
+use tg_vault::{Entry, Vault};
+
+/// What is used up in an outcome that no plain graph gives.
+fn beyond(outcome: Outcome) -> Option<Which>
+    ensures { result ≡ beyond outcome }
+{
+    match outcome {
+        Outcome::Full(which) => match which {
+            Which::Serials => None,
+            Which::Slots => Some(Which::Slots),
+            Which::Cells => Some(Which::Cells),
+        },
+        Outcome::Allowed => None,
+        Outcome::Denied(..) => None,
+    }
+}
+
+/// Carries out the entry's command where the graph allows it, and answers it. What no plain graph has too few of is
+/// taken from the entry.
+fn reply_to(alloc: Global, graph: &mut Graph, entry: &Entry) -> Result<Reply, AllocError>
+    requires subject { IsSubject graph.old entry.now.actor }
+    requires permitted { (limits : Limits) × Permitted limits graph.old entry.now.actor entry.now.command entry.now.outcome }
+    ensures reply { IfOk result (λ r. r ≡ reply_of graph.old entry.now.actor entry.now.command entry.now.outcome) }
+    ensures graph { OnOk result (graph.new ≡ next_graph graph.old entry.now.actor entry.now.command entry.now.outcome) }
+{
+    match beyond(entry.outcome) {
+        Some(which) => Ok(Reply::Full(which)),
+        None => {
+            let command = entry.command.copy(alloc)?;
+            graph.apply(entry.actor, command)
+        }
+    }
+}
+
+/// The replies of all entries, each by the plain graph that the entries before it leave, from a copy of the opening
+/// graph on: a witness of the vault that shares nothing with its store. A plain graph is full for serials alone, so an entry
+/// that was full for slots or cells is answered so and changes nothing. `AllocError` where there is no memory for the graph
+/// or the replies.
+pub fn replay(alloc: Global, vault: &Vault) -> Result<Vec<Reply>, AllocError>
+    ensures { IfOk result (λ replies. replies.items ≡ replies_of vault.now.opening vault.now.history) }
+{
+    vault.soundness();
+    let mut graph = vault.opening().copy()?;
+    let mut replies = Vec::new(alloc);
+    for number in 0..vault.count() {
+        let Some(entry) = vault.entry(number) else {
+            unreachable!()
+        };
+        let reply = reply_to(alloc, &mut graph, entry)?;
+        replies.push(reply)?;
+    }
+    Ok(replies)
+}

@@ -1,0 +1,495 @@
+//! What no clause says: that calls which take memory succeed, and what cases that were worked by hand come to.
+use crate::{Exchange, SeatLog, Settled, check, replay, settle};
+use std::alloc::{AllocError, Global};
+use std::process::Abort;
+use tg_graph::{Config, Goal, Graph, Step, Verdict};
+use tg_rights::{Cause, Command, Kind, Reply, Rights, Rule, Which, Word};
+use tg_vault::Vault;
+
+/// What a step or an entry asks. Rights are given by their letters: r, w, t and g.
+#[derive(Clone, Copy)]
+enum Ask {
+    /// These rights over the first, from the second.
+    Take(&'static str, u64, u64),
+    /// These rights over the first, to the second.
+    Grant(&'static str, u64, u64),
+    Document(&'static str),
+    Subject(&'static str),
+    Remove(&'static str, u64),
+}
+
+/// What a derivation is found to be.
+#[derive(Clone, Copy)]
+enum Finding {
+    Shared,
+    NoSubject(u64),
+    NotDistinct(u64, Rule),
+    /// The step is denied, since the label of the first vertex to the second lacks these rights.
+    Lacks(u64, Rule, u64, u64, &'static str),
+    Full(u64),
+    /// The goal lacks these.
+    Missing(&'static str),
+}
+
+/// Steps from the graph of some principals with these edges on, and a goal: rights of the first vertex over the other.
+struct Derivation {
+    names: &'static [&'static str],
+    edges: &'static [(u64, &'static str, u64)],
+    next: u64,
+    steps: &'static [(u64, Ask)],
+    goal: (u64, &'static str, u64),
+    finding: Finding,
+}
+
+const THREE: &[&str] = &["alice", "bob", "carol"];
+
+const TO_BOB: &[(u64, &str, u64)] = &[(1, "t", 2), (2, "r", 3)];
+
+const DERIVATIONS: &[Derivation] = &[
+    // a take reaches the goal
+    Derivation {
+        names: THREE,
+        edges: TO_BOB,
+        next: 4,
+        steps: &[(1, Ask::Take("r", 3, 2))],
+        goal: (1, "r", 3),
+        finding: Finding::Shared,
+    },
+    // without it the goal's right lacks
+    Derivation {
+        names: THREE,
+        edges: TO_BOB,
+        next: 4,
+        steps: &[],
+        goal: (1, "r", 3),
+        finding: Finding::Missing("r"),
+    },
+    // only what lacks of the goal's rights is named
+    Derivation {
+        names: THREE,
+        edges: TO_BOB,
+        next: 4,
+        steps: &[(1, Ask::Take("r", 3, 2))],
+        goal: (1, "rw", 3),
+        finding: Finding::Missing("w"),
+    },
+    // two vertices of the step are one
+    Derivation {
+        names: THREE,
+        edges: TO_BOB,
+        next: 4,
+        steps: &[(1, Ask::Take("r", 3, 3))],
+        goal: (1, "r", 3),
+        finding: Finding::NotDistinct(0, Rule::Take),
+    },
+    // the actor is no vertex
+    Derivation {
+        names: THREE,
+        edges: TO_BOB,
+        next: 4,
+        steps: &[(9, Ask::Take("r", 3, 2))],
+        goal: (1, "r", 3),
+        finding: Finding::NoSubject(0),
+    },
+    // no serial is left
+    Derivation {
+        names: &["alice"],
+        edges: &[],
+        next: 18_446_744_073_709_551_615,
+        steps: &[(1, Ask::Document("r"))],
+        goal: (1, "", 1),
+        finding: Finding::Full(0),
+    },
+    // a goal without rights is met by every graph
+    Derivation {
+        names: &["alice"],
+        edges: &[],
+        next: 18_446_744_073_709_551_615,
+        steps: &[],
+        goal: (1, "", 1),
+        finding: Finding::Shared,
+    },
+    // a subject that a step has made acts in a later one, and only then
+    Derivation {
+        names: THREE,
+        edges: TO_BOB,
+        next: 4,
+        steps: &[
+            (1, Ask::Subject("g")),
+            (1, Ask::Take("r", 3, 2)),
+            (1, Ask::Grant("r", 3, 4)),
+            (4, Ask::Remove("r", 3)),
+        ],
+        goal: (4, "r", 3),
+        finding: Finding::Missing("r"),
+    },
+    // a document can't act
+    Derivation {
+        names: THREE,
+        edges: TO_BOB,
+        next: 4,
+        steps: &[(1, Ask::Document("r")), (4, Ask::Document("r"))],
+        goal: (1, "", 1),
+        finding: Finding::NoSubject(1),
+    },
+    // the first step that fails is named, also where the goal is met before it
+    Derivation {
+        names: THREE,
+        edges: TO_BOB,
+        next: 4,
+        steps: &[
+            (1, Ask::Take("r", 3, 2)),
+            (1, Ask::Take("w", 3, 2)),
+            (9, Ask::Document("r")),
+        ],
+        goal: (1, "r", 3),
+        finding: Finding::Lacks(1, Rule::Take, 2, 3, "w"),
+    },
+];
+
+/// The right of a letter.
+fn right_of(letter: u8) -> Rights {
+    match letter {
+        b'r' => Rights::read(),
+        b'w' => Rights::write(),
+        b't' => Rights::take(),
+        b'g' => Rights::grant(),
+        _ => Rights::empty(),
+    }
+}
+
+/// The rights of the letters.
+fn rights_of(letters: &str) -> Rights {
+    let mut rights = Rights::empty();
+    for letter in letters.as_bytes() {
+        rights = rights.union(right_of(*letter));
+    }
+    rights
+}
+
+/// The command that is asked.
+fn command(ask: Ask) -> Command {
+    match ask {
+        Ask::Take(rights, over, from) => Command::Take {
+            rights: rights_of(rights),
+            over,
+            from,
+        },
+        Ask::Grant(rights, over, to) => Command::Grant {
+            rights: rights_of(rights),
+            over,
+            to,
+        },
+        Ask::Document(rights) => Command::Create {
+            kind: Kind::Document,
+            rights: rights_of(rights),
+        },
+        Ask::Subject(rights) => Command::Create {
+            kind: Kind::Subject,
+            rights: rights_of(rights),
+        },
+        Ask::Remove(rights, over) => Command::Remove {
+            rights: rights_of(rights),
+            over,
+        },
+    }
+}
+
+/// The verdict that says so.
+fn verdict(finding: Finding) -> Verdict {
+    match finding {
+        Finding::Shared => Verdict::Shared,
+        Finding::NoSubject(index) => Verdict::ActorNotSubject { index },
+        Finding::NotDistinct(index, rule) => Verdict::StepDenied {
+            index,
+            rule,
+            cause: Cause::NotDistinct,
+        },
+        Finding::Lacks(index, rule, from, to, rights) => Verdict::StepDenied {
+            index,
+            rule,
+            cause: Cause::Missing {
+                from,
+                to,
+                rights: rights_of(rights),
+            },
+        },
+        Finding::Full(index) => Verdict::StepFull { index },
+        Finding::Missing(rights) => Verdict::GoalMissing {
+            rights: rights_of(rights),
+        },
+    }
+}
+
+/// The configuration of some principals with these edges.
+fn configuration(
+    alloc: Global,
+    names: &[&str],
+    listed: &[(u64, &str, u64)],
+    next: u64,
+    slots: u64,
+    cells: u64,
+) -> Result<Config, AllocError> {
+    let mut principals = Vec::new(alloc);
+    for name in names {
+        principals.push(Word::new(String::from_str(alloc, name)?))?;
+    }
+    let mut edges = Vec::new(alloc);
+    for (from, letters, to) in listed {
+        edges.push((*from, rights_of(letters), *to))?;
+    }
+    Ok(Config {
+        principals,
+        edges,
+        next,
+        slots,
+        cells,
+    })
+}
+
+/// Whether the verdict says so.
+fn is_verdict(found: Verdict, finding: Finding) -> bool {
+    found == verdict(finding)
+}
+
+/// Whether the derivation has the verdict that was worked out.
+fn is_found(rt: &impl Abort, alloc: Global, derivation: &Derivation) -> Result<bool, AllocError> {
+    let config = configuration(
+        alloc,
+        derivation.names,
+        derivation.edges,
+        derivation.next,
+        8,
+        8,
+    )?;
+    let graph = Graph::build(alloc, &config).ok().expect(rt, "refused");
+    let mut steps = Vec::new(alloc);
+    for (actor, ask) in derivation.steps {
+        steps.push(Step {
+            actor: *actor,
+            command: command(*ask),
+        })?;
+    }
+    let goal = Goal {
+        from: derivation.goal.0,
+        to: derivation.goal.2,
+        rights: rights_of(derivation.goal.1),
+    };
+    let found = check(alloc, graph, &steps, goal)?;
+    Ok(is_verdict(found, derivation.finding))
+}
+
+#[test]
+fn each_derivation_has_the_verdict_worked_out(rt: HostRuntime) -> Result<(), AllocError> {
+    for derivation in DERIVATIONS {
+        assert!(rt; is_found(&rt, rt.alloc(), derivation)?);
+    }
+    Ok(())
+}
+
+/// What is answered.
+#[derive(Clone, Copy)]
+enum Told {
+    Done,
+    Created(u64),
+    Full(Which),
+}
+
+/// What alice asks at seat 0, and what she is told: in a vault of three slots a document is made and dropped, another one
+/// is refused, and after two cycles it is made.
+const ENTRIES: &[(Ask, Told)] = &[
+    (Ask::Document("r"), Told::Created(3)),
+    (Ask::Remove("r", 3), Told::Done),
+    (Ask::Document("r"), Told::Full(Which::Slots)),
+    (Ask::Document("r"), Told::Created(4)),
+];
+
+/// The same with another serial at the end.
+const INVENTED: &[(Ask, Told)] = &[
+    (Ask::Document("r"), Told::Created(3)),
+    (Ask::Remove("r", 3), Told::Done),
+    (Ask::Document("r"), Told::Full(Which::Slots)),
+    (Ask::Document("r"), Told::Created(5)),
+];
+
+const FIRST_TWO: &[(Ask, Told)] = &[
+    (Ask::Document("r"), Told::Created(3)),
+    (Ask::Remove("r", 3), Told::Done),
+];
+
+const LAST_TWO: &[(Ask, Told)] = &[
+    (Ask::Document("r"), Told::Full(Which::Slots)),
+    (Ask::Document("r"), Told::Created(4)),
+];
+
+const ONE: &[(Ask, Told)] = &[(Ask::Document("r"), Told::Created(4))];
+
+/// Exchanges of a principal at a seat.
+type Log = (u64, u64, &'static [(Ask, Told)]);
+
+/// Logs, and the seat and the index at which they first differ from the history, where they do.
+struct Settlement {
+    logs: &'static [Log],
+    place: Option<(u64, u64)>,
+}
+
+const SETTLEMENTS: &[Settlement] = &[
+    Settlement {
+        logs: &[(0, 1, ENTRIES)],
+        place: None,
+    },
+    Settlement {
+        logs: &[(0, 1, INVENTED)],
+        place: Some((0, 3)),
+    },
+    Settlement {
+        logs: &[],
+        place: Some((0, 0)),
+    },
+    // another principal
+    Settlement {
+        logs: &[(0, 2, ENTRIES)],
+        place: Some((0, 0)),
+    },
+    // the logs of a seat are joined in the order given
+    Settlement {
+        logs: &[(0, 1, FIRST_TWO), (1, 2, &[]), (0, 1, LAST_TWO)],
+        place: None,
+    },
+    Settlement {
+        logs: &[(0, 1, LAST_TWO), (0, 1, FIRST_TWO)],
+        place: Some((0, 0)),
+    },
+    // one is longer
+    Settlement {
+        logs: &[(0, 1, FIRST_TWO)],
+        place: Some((0, 2)),
+    },
+    Settlement {
+        logs: &[(0, 1, ENTRIES), (0, 1, ONE)],
+        place: Some((0, 4)),
+    },
+    // the least seat is named, whatever the order of the logs
+    Settlement {
+        logs: &[(2, 1, ONE), (1, 1, ONE), (0, 1, ENTRIES)],
+        place: Some((1, 0)),
+    },
+    // no entry is of a seat above 63
+    Settlement {
+        logs: &[(64, 1, &[]), (0, 1, ENTRIES)],
+        place: None,
+    },
+    Settlement {
+        logs: &[(65, 1, ONE), (0, 1, ENTRIES), (64, 1, ONE)],
+        place: Some((64, 0)),
+    },
+];
+
+/// The reply that tells so.
+fn reply(told: Told) -> Reply {
+    match told {
+        Told::Done => Reply::Done,
+        Told::Created(serial) => Reply::Created(serial),
+        Told::Full(which) => Reply::Full(which),
+    }
+}
+
+/// Whether the reply tells so.
+fn tells(found: &Reply, told: Told) -> bool {
+    match found {
+        Reply::Done => matches!(told, Told::Done),
+        Reply::Created(serial) => matches!(told, Told::Created(wanted) if wanted == *serial),
+        Reply::Full(which) => matches!(told, Told::Full(wanted) if wanted == *which),
+        Reply::Text(_) | Reply::Edges(_) | Reply::Denied(..) => false,
+    }
+}
+
+/// Alice asks at seat 0.
+fn asks(rt: &impl Abort, vault: &mut Vault, asked: (Ask, Told)) {
+    match vault.command(0, command(asked.0)) {
+        Ok(entered) => assert!(rt; tells(&entered.1, asked.1)),
+        Err(_) => panic!(rt; "not entered"),
+    }
+}
+
+/// The vault of those entries.
+fn opened(rt: &impl Abort, alloc: Global) -> Result<Vault, AllocError> {
+    let config = configuration(alloc, &["alice", "bob"], &[], 3, 3, 4)?;
+    let mut vault = Vault::new(alloc, config).ok().expect(rt, "refused");
+    assert!(rt; vault.hello(0, "alice").is_ok());
+    assert!(rt; vault.hello(1, "bob").is_ok());
+    asks(rt, &mut vault, ENTRIES[0]);
+    assert!(rt; vault.shade(0).is_ok());
+    asks(rt, &mut vault, ENTRIES[1]);
+    asks(rt, &mut vault, ENTRIES[2]);
+    vault.cycle();
+    vault.cycle();
+    asks(rt, &mut vault, ENTRIES[3]);
+    Ok(vault)
+}
+
+#[test]
+fn a_history_is_replayed(rt: HostRuntime) -> Result<(), AllocError> {
+    let vault = opened(&rt, rt.alloc())?;
+    let replies = replay(rt.alloc(), &vault)?;
+    assert_eq!(rt; replies.len(), ENTRIES.len());
+    for (found, asked) in replies.iter().zip(ENTRIES.iter()) {
+        assert!(rt; tells(found, asked.1));
+    }
+    Ok(())
+}
+
+/// The log of these exchanges.
+fn log_of(alloc: Global, log: Log) -> Result<SeatLog, AllocError> {
+    let mut exchanges = Vec::new(alloc);
+    for (ask, told) in log.2 {
+        exchanges.push(Exchange {
+            actor: log.1,
+            command: command(*ask),
+            reply: reply(*told),
+        })?;
+    }
+    Ok(SeatLog {
+        seat: log.0,
+        exchanges,
+    })
+}
+
+/// Settles the logs, and hands the vault back.
+fn settles(
+    rt: &impl Abort,
+    alloc: Global,
+    vault: Vault,
+    settlement: &Settlement,
+) -> Result<Vault, AllocError> {
+    let mut logs = Vec::new(alloc);
+    for log in settlement.logs {
+        logs.push(log_of(alloc, *log)?)?;
+    }
+    match settle(alloc, vault, logs) {
+        Settled::Agreed(vault) => {
+            assert!(rt; settlement.place.is_none());
+            Ok(vault)
+        }
+        Settled::Differs {
+            vault,
+            logs,
+            seat,
+            index,
+        } => {
+            assert!(rt; settlement.place == Some((seat, index)));
+            assert_eq!(rt; logs.len(), settlement.logs.len());
+            Ok(vault)
+        }
+        Settled::NoMemory { .. } => Err(AllocError),
+    }
+}
+
+#[test]
+fn logs_are_settled_as_worked_out(rt: HostRuntime) -> Result<(), AllocError> {
+    let mut vault = opened(&rt, rt.alloc())?;
+    for settlement in SETTLEMENTS {
+        vault = settles(&rt, rt.alloc(), vault, settlement)?;
+    }
+    Ok(())
+}
