@@ -1,6 +1,6 @@
 -- Lemma files of this crate's own proofs.
 mod AboveLemmas
-mod ComparingLemmas
+mod CountingLemmas
 mod FollowingLemmas
 mod TableLemmas
 mod VerdictLemmas

@@ -1,5 +1,5 @@
 -- laws: verdicts and places are determined
-use Rattle.std.specs.Prelude.{◌≡◌, ℕ, List, Option}
+use Rattle.std.specs.Prelude.{◌≡◌, ℕ, List, Option, None, length, sum_by}
 use Rattle.tg_graph.specs.declared.derivation.Goal.{Goal}
 use Rattle.tg_graph.specs.declared.derivation.Step.{Step}
 use Rattle.tg_graph.specs.declared.derivation.Verdict.{Verdict}
@@ -18,3 +18,7 @@ ExactlyOneVerdict =
 abbrev pub ExactlyOnePlace : Type 0
 ExactlyOnePlace =
     (v : Contents) (logs : List SeatLog) → (p : Option (ℕ × ℕ)) × IsPlace v logs p × ((q : Option (ℕ × ℕ)) → IsPlace v logs q → q ≡ p)
+
+-- where each seat agrees, the history has as many entries as the logs have exchanges
+abbrev pub AgreedCounts : Type 0
+AgreedCounts = (v : Contents) (logs : List SeatLog) → IsPlace v logs None → length v.history ≡ sum_by (λ l. length l.exchanges.items) logs

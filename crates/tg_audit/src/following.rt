@@ -1,5 +1,5 @@
 //! The logs of all seats, followed beside the history.
-ghost use Rattle.std.specs.Prelude.{◌≡◌, ◌<◌, ◌+◌, ◌≤◌, ◌^◌, [], ◌∷◌, ◌++◌, List, Some, IfSome, IfNone, length, slice_get};
+ghost use Rattle.std.specs.Prelude.{◌≡◌, ◌↔◌, IsTrue, ◌<◌, ◌+◌, ◌≤◌, ◌^◌, [], ◌∷◌, ◌++◌, List, Some, IfSome, IfNone, length, slice_get};
 ghost use Rattle.tg_rights.specs.declared.limits.TheConstants.{SEATS};
 ghost use Rattle.tg_audit.specs.declared.logs.Exchange.{Exchange};
 ghost use Rattle.tg_audit.specs.declared.logs.SeatLog.{SeatLog};
@@ -7,7 +7,6 @@ ghost use Rattle.tg_audit.specs.Following.{Follows, FollowsAll, IsLeastAbove, fo
 ghost use Rattle.tg_audit.specs.Settling.{DifferAt, IsPlace, joined};
 ghost use Rattle.tg_audit.specs.Replies.{replies_of};
 
-use crate::comparing::is_told;
 use crate::logs::{Exchange, SeatLog};
 use tg_rights::{Reply, SEATS};
 use tg_vault::{Entry, Vault};
@@ -48,6 +47,13 @@ fn next(logs: &[SeatLog], seat: u64, from: Position) -> Option<(&Exchange, Posit
         at = 0;
     }
     None
+}
+
+/// Whether the exchange is that of the entry, with this reply.
+fn is_told(entry: &Entry, reply: &Reply, exchange: &Exchange) -> bool
+    ensures { IsTrue result ↔ told entry.now reply.now ≡ exchange.now }
+{
+    entry.actor == exchange.actor && entry.command == exchange.command && *reply == exchange.reply
 }
 
 /// The progress behind the next entry of the seat.

@@ -1,9 +1,8 @@
 //! The auditor: derivations over the plain graph, and whether what callers were told is what the history says.
 #![tactic(auto)]
 
-ghost use Rattle.tg_audit.specs.Laws.{ExactlyOnePlace, ExactlyOneVerdict};
+ghost use Rattle.tg_audit.specs.Laws.{AgreedCounts, ExactlyOnePlace, ExactlyOneVerdict};
 
-mod comparing;
 mod derivations;
 mod following;
 mod logs;
@@ -28,4 +27,9 @@ pub fn exactly_one_verdict()
 /// `settle` has exactly one answer but for `NoMemory`.
 pub fn exactly_one_place()
     ensures { ExactlyOnePlace }
+{}
+
+/// Where the logs agree with the history for each seat, they have as many exchanges as it has entries.
+pub fn agreed_counts()
+    ensures { AgreedCounts }
 {}
