@@ -53,7 +53,13 @@ fn next(logs: &[SeatLog], seat: u64, from: Position) -> Option<(&Exchange, Posit
 fn is_told(entry: &Entry, reply: &Reply, exchange: &Exchange) -> bool
     ensures { IsTrue result ↔ told entry.now reply.now ≡ exchange.now }
 {
-    entry.actor == exchange.actor && entry.command == exchange.command && *reply == exchange.reply
+    if entry.actor != exchange.actor {
+        return false;
+    }
+    if entry.command != exchange.command {
+        return false;
+    }
+    *reply == exchange.reply
 }
 
 /// The progress behind the next entry of the seat.

@@ -1,2 +1,3 @@
 pub mod KnownBytesLemmas
 pub mod InputLinesLemmas
+pub mod TakingLemmas

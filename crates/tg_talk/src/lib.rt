@@ -3,6 +3,7 @@
 
 mod failing;
 mod fault;
+mod input_lines;
 mod line_buffer;
 mod newline;
 mod refusal;
@@ -13,6 +14,7 @@ mod write_line;
 
 pub use failing::{FailingReader, FailingWriter};
 pub use fault::TalkFault;
+pub use input_lines::{InputLines, Next};
 pub use line_buffer::{Found, LineBuffer, MOST_LINES};
 pub use refusal::too_many_line;
 pub use watched::Watched;

@@ -1,0 +1,12 @@
+use Rattle.std.proofs.Common.{◌≡◌, ◌∙◌, ap, sym}
+use Rattle.std.proofs.lemmas.Bool.{not-false}
+use Rattle.tg_rights.proofs.EqualityLemmas.{commands_decided, replies_decided}
+use Rattle.tg_audit.proofs.following.is_told.Goals as goal
+
+pub returns : goal.returns
+returns c =
+    let command : c.args.entry.now.command ≡ c.args.exchange.now.command = (commands_decided _ _).0 (not-false _ (sym c.ne.ensures ∙ c.if-ne.false)) in
+    let replies = replies_decided c.args.reply.now c.args.exchange.now.reply in (
+      λ e. (λ i. record { actor = c.if-entry-exchange.false i; command = command i; reply = replies.0 (sym c.eq.ensures ∙ e) i }),
+      λ same. c.eq.ensures ∙ replies.1 (ap (λ x. x.reply) same),
+    )
