@@ -90,6 +90,7 @@ impl InputLines {
         requires reads { has_failed reader.old ≡ false }
         ensures count { self.new.taken ≡ self.old.taken + count_of result }
         ensures few { result ≡ Next.Line → self.new.taken ≤ MOST_LINES }
+        ensures over { result ≡ Next.TooMany → self.old.taken ≡ MOST_LINES }
         ensures short { length self.new.line ≤ LONGEST_LINE }
         ensures empty { result ≡ Next.End → self.new.line ≡ [] }
         ensures failed { (has_failed reader.new ≡ true) ↔ (result ≡ Next.Failed) }

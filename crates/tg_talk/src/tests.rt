@@ -1,5 +1,8 @@
 //! Lines over a reader that gives one byte a read and a writer that takes one byte a write, which fail at a given call.
-use crate::{FailingReader, FailingWriter, Found, LineBuffer, Watched, send_line, too_many_line};
+use crate::{
+    FailingReader, FailingWriter, Found, InputLines, LineBuffer, Next, Watched, send_line,
+    too_many_line,
+};
 use std::alloc::AllocError;
 
 #[test]
@@ -57,4 +60,20 @@ fn a_write_that_takes_nothing_is_remembered(rt: HostRuntime) {
     });
     send_line(&mut writer, b"four\n");
     assert!(rt; writer.failed());
+}
+
+#[test]
+fn lines_are_taken_and_counted(rt: HostRuntime) -> Result<(), AllocError> {
+    let mut input = InputLines::new(rt.alloc())?;
+    let mut reader = Watched::new(FailingReader {
+        bytes: b"hi\nyou",
+        reads: 7,
+    });
+    assert!(rt; input.next(&mut reader) == Next::Line);
+    assert!(rt; input.line() == b"hi".as_slice());
+    assert!(rt; !reader.failed());
+    assert!(rt; input.next(&mut reader) == Next::Line);
+    assert!(rt; input.line() == b"you".as_slice());
+    assert!(rt; input.taken() == 2);
+    Ok(())
 }

@@ -4,14 +4,14 @@ ghost use Rattle.std.specs.Prelude.{◌≡◌, ◌≢◌, ◌↔◌, ◌≤◌, 
 ghost use Rattle.std.specs.Io.KnownBytes.{Keeps, prepend_known};
 ghost use Rattle.tg_talk.specs.Devices.{Sends, device_of, has_failed};
 ghost use Rattle.tg_talk.specs.declared.fault.TalkFault.TheVariants.{OutOfMemory, Reading, Writing};
-ghost use Rattle.tgdoc.specs.Runs.{LinesRan, RefusesOpening};
-ghost use Rattle.tgdoc.specs.Turns.{EndsOnce, Opens, RestAnswered};
+ghost use Rattle.tgdoc.specs.Runs.{EndsOnce, LinesRan, RefusesOpening};
+ghost use Rattle.tgdoc.specs.Turns.{Opens, RestAnswered};
 
-use crate::finished::Finished;
+use crate::finished::{Finished, finish};
 use crate::run_state::{RunState, Turn};
 use std::alloc::Global;
 use std::io::{Read, Write};
-use tg_talk::{Found, LineBuffer, TalkFault, Watched, send_line};
+use tg_talk::{InputLines, Next, TalkFault, Watched, send_line};
 use tg_vault::{Vault, courses_have_the_headline, courses_join};
 use tg_wire::{WireFault, error_line, open_fault_line, read_config};
 
@@ -36,40 +36,31 @@ pub fn run_lines<R: Read, W: Write>(
         (LinesRan result (W.contents (device_of writer.old)) (W.contents (device_of writer.new)) (has_failed writer.new)) }
 {
     courses_have_the_headline();
-    let Ok(mut buffer) = LineBuffer::new(alloc) else {
+    let Ok(mut input) = InputLines::new(alloc) else {
         return Finished {
             lines: 0,
             errors: 0,
             fault: Some(TalkFault::OutOfMemory),
         };
     };
-    match buffer.find(reader) {
-        Found::Failed => Finished {
+    match input.next(reader) {
+        Next::Failed => Finished {
             lines: 0,
             errors: 0,
             fault: Some(TalkFault::Reading),
         },
-        Found::End => refuse(writer, 0, error_line(WireFault::NotJson), None),
-        Found::TooLong => refuse(
+        Next::End => finish(writer, 0, 1, error_line(WireFault::NotJson), None),
+        Next::TooLong => finish(
             writer,
+            1,
             1,
             error_line(WireFault::TooLong),
             Some(TalkFault::TooLong),
         ),
-        Found::Line(n) => match open(alloc, &buffer.bytes()[..n]) {
-            Err(text) => refuse(writer, 1, text, None),
-            Ok(vault) => {
-                buffer.consume(n + 1);
-                answer_lines(alloc, vault, buffer, reader, writer)
-            }
-        },
-        Found::Last => match open(alloc, buffer.bytes()) {
-            Err(text) => refuse(writer, 1, text, None),
-            Ok(vault) => {
-                let n = buffer.bytes().len();
-                buffer.consume(n);
-                answer_lines(alloc, vault, buffer, reader, writer)
-            }
+        Next::TooMany => unreachable!(),
+        Next::Line => match open(alloc, input.line()) {
+            Err(text) => finish(writer, 1, 1, text, None),
+            Ok(vault) => answer_lines(alloc, vault, input, reader, writer),
         },
     }
 }
@@ -91,60 +82,33 @@ fn open(alloc: Global, bytes: &[u8]) -> Result<Vault, &'static [u8]>
     }
 }
 
-/// Answers the first line by a refusal, which ends the run.
-fn refuse<W: Write>(
-    writer: &mut Watched<W>,
-    lines: u64,
-    text: &[u8],
-    fault: Option<TalkFault>,
-) -> Finished
-    requires { has_failed writer.old ≡ false }
-    ensures counts { (result.lines ≡ lines) × (result.errors ≡ 1) }
-    ensures fault { EndsOnce fault (has_failed writer.new) result.fault }
-    ensures sent { Sends (W.contents (device_of writer.old)) (W.contents (device_of writer.new)) (has_failed writer.new) text.now }
-{
-    send_line(writer, text);
-    Finished {
-        lines,
-        errors: 1,
-        fault: if writer.failed() {
-            Some(TalkFault::Writing)
-        } else {
-            fault
-        },
-    }
-}
-
 /// Answers the lines behind the configuration.
 fn answer_lines<R: Read, W: Write>(
     alloc: Global,
     vault: Vault,
-    buffer: LineBuffer,
+    input: InputLines,
     reader: &mut Watched<R>,
     writer: &mut Watched<W>,
 ) -> Finished
+    requires one { input.taken ≡ 1 }
     requires reads { has_failed reader.old ≡ false }
     requires writes { has_failed writer.old ≡ false }
     ensures reading { (has_failed reader.new ≡ true) ↔ (result.fault ≡ Some Reading) }
     ensures writing { (has_failed writer.new ≡ true) ↔ (result.fault ≡ Some Writing) }
     ensures memory { result.fault ≢ Some OutOfMemory }
     ensures few { result.lines ≤ 1000001 }
-    ensures answered { IfSome (prepend_known buffer (R.remaining (device_of reader.old)))
+    ensures answered { IfSome (prepend_known input.left (R.remaining (device_of reader.old)))
         (RestAnswered vault result (W.contents (device_of writer.old)) (W.contents (device_of writer.new)) (has_failed writer.new)) }
 {
     courses_join();
-    let mut state = RunState {
-        buffer,
-        lines: 1,
-        errors: 0,
-    };
+    let mut state = RunState { input, errors: 0 };
     let mut vault = vault;
     loop {
         match state.turn(alloc, vault, reader, writer) {
             Turn::GoOn(after) => vault = after,
             Turn::Ended(fault) => {
                 return Finished {
-                    lines: state.lines,
+                    lines: state.input.taken(),
                     errors: state.errors,
                     fault,
                 };

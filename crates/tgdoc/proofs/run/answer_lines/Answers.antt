@@ -1,6 +1,6 @@
 use Rattle.std.proofs.Common.{refl, arith}
 use Rattle.tgdoc.specs.Turns.{RestAnswered}
-use Rattle.tgdoc.proofs.TurnLemmas.{weaker}
+use Rattle.tg_talk.proofs.TakingLemmas.{weaker}
 use Rattle.tgdoc.proofs.RestLemmas.{SoFar, so_far-start, so_far-goes_on, so_far-ends}
 use Rattle.tgdoc.proofs.run.answer_lines.Goals as goal
 
@@ -10,7 +10,7 @@ loop-after-init g c = record {
   errors = omega arith;
   reads = c.requires.reads;
   writes = c.requires.writes;
-  so_far = so_far-start _ _ _;
+  so_far = rw c.requires.one (so_far-start _ _ _);
 }
 
 pub loop-after-preserved : goal.loop-after-preserved
@@ -25,4 +25,4 @@ loop-after-preserved g c = record {
 
 pub returns-in-Ended-clause-answered : goal.returns-in-Ended-clause-answered
 returns-in-Ended-clause-answered g c =
-    weaker _ (SoFar _ _ _ _ _ _ _) (RestAnswered _ _ _ _ _) c.loop-after.invariant.so_far (λ xs so. so_far-ends c.courses_join.ensures _ _ _ _ _ _ _ _ _ _ _ _ xs _ so c.in-Ended.ensures.turned)
+    rw c.taken.ensures (weaker _ (SoFar _ _ _ _ _ _ _) (RestAnswered _ _ _ _ _) c.loop-after.invariant.so_far (λ xs so. so_far-ends c.courses_join.ensures _ _ _ _ _ _ _ _ _ _ _ _ xs _ so c.in-Ended.ensures.turned))

@@ -1,18 +1,19 @@
 use Rattle.std.proofs.Common.{◌≡◌, ◌≤◌, ◌-◌, false, IfSome}
 use Rattle.std.specs.Io.KnownBytes.{prepend_known}
 use Rattle.tg_talk.specs.Devices.{device_of, has_failed}
+use Rattle.tg_talk.specs.declared.line_buffer.TheConstants.{MOST_LINES}
 use Rattle.tgdoc.proofs.RestLemmas.{SoFar}
 use Rattle.tgdoc.proofs.run.answer_lines.Given as goal
 
 abbrev pub invariant-loop-after : goal.invariant-loop-after
 invariant-loop-after g l = record {
-  few : l.state.lines ≤ 1000000;
-  errors : l.state.errors ≤ l.state.lines;
+  few : l.state.input.taken ≤ MOST_LINES;
+  errors : l.state.errors ≤ l.state.input.taken;
   reads : has_failed l.reader ≡ false;
   writes : has_failed l.writer ≡ false;
-  so_far : IfSome (prepend_known l.fn.buffer (g.R.Read.remaining (device_of l.fn.reader)))
-      (SoFar l.fn.vault l.vault l.state.lines l.state.errors (prepend_known l.state.buffer (g.R.Read.remaining (device_of l.reader))) (g.W.Write.contents (device_of l.fn.writer)) (g.W.Write.contents (device_of l.writer)));
+  so_far : IfSome (prepend_known l.fn.input.left (g.R.Read.remaining (device_of l.fn.reader)))
+      (SoFar l.fn.vault l.vault l.state.input.taken l.state.errors (prepend_known l.state.input.left (g.R.Read.remaining (device_of l.reader))) (g.W.Write.contents (device_of l.fn.writer)) (g.W.Write.contents (device_of l.writer)));
 }
 
 abbrev pub decreases-loop-after : goal.decreases-loop-after
-decreases-loop-after g l = 1000000 - l.state.lines
+decreases-loop-after g l = MOST_LINES - l.state.input.taken

@@ -20,9 +20,9 @@ pub returns-in-TooLong-clause-failed : goal.returns-in-TooLong-clause-failed
 returns-in-TooLong-clause-failed g c =
     let same : c.args.self.now.taken ≡ c.self.inside.taken = sym (ap (λ (v : Input). v.taken) c.self.view_is) in
     let few : c.self.inside.taken ≤ MOST_LINES = subst (λ n. n ≤ MOST_LINES) same c.requires.few in (
-  λ failed. absurd (not_failed (c.in-TooLong.is) (c.find.ensures.failed.0 failed)),
-  λ same. absurd (long_is_no_failure c.counted-next.result c.self.inside.taken few c.counted-next.ensures.within c.counted-next.ensures.over same),
-)
+      λ failed. absurd (not_failed (c.in-TooLong.is) (c.find.ensures.failed.0 failed)),
+      λ same. absurd (long_is_no_failure c.counted-next.result c.self.inside.taken few c.counted-next.ensures.within c.counted-next.ensures.over same),
+    )
 
 pub returns-in-TooLong-clause-takes : goal.returns-in-TooLong-clause-takes
 returns-in-TooLong-clause-takes g c =

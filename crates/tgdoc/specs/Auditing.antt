@@ -1,0 +1,74 @@
+-- the parts of an audit
+use Rattle.std.specs.Prelude.{◌≡◌, ℕ, ◌+◌, List, [], length, Bool, true, false, Option, Some, None, ◌⊎◌}
+use Rattle.std.specs.Io.KnownBytes.{prepend_known}
+use Rattle.tg_graph.specs.declared.derivation.Goal.{Goal}
+use Rattle.tg_graph.specs.declared.derivation.Step.{Step}
+use Rattle.tg_graph.specs.declared.derivation.Verdict.{Verdict}
+use Rattle.tg_graph.specs.Protection.{Protection}
+use Rattle.tg_audit.specs.Verdicts.{IsVerdict}
+use Rattle.tg_wire.specs.Answers.{verdict_line}
+use Rattle.tg_wire.specs.Faults.{fault_line}
+use Rattle.tg_wire.specs.declared.fault.WireFault.TheVariants as wire
+use Rattle.tg_talk.specs.InputLines.{lines_of}
+use Rattle.tg_talk.specs.Refusals.{too_many_line}
+use Rattle.tg_talk.specs.Taking.{Input, TakesLine}
+use Rattle.tg_talk.specs.declared.fault.TalkFault.TheVariants as talk
+use Rattle.tgdoc.specs.declared.audit.Ending.{Ending}
+use Rattle.tgdoc.specs.declared.audit.Ending.TheVariants as ending
+use Rattle.tgdoc.specs.Audits.{AuditRead, End, EndsAt, EndsEarly, EndsInSteps, IsRead, StepsRead, verdict_errors}
+
+-- the bytes that are to come: those that were read and not taken, and those that the reader has left
+abbrev pub unread : Input → Option (List ℕ) → Option (List ℕ)
+unread input rest = prepend_known input.left rest
+
+-- an ending after so many lines
+abbrev pub end_after : Ending → ℕ → End
+end_after ending.Failed n = record { lines = n; text = []; fault = Some talk.Reading }
+end_after ending.TooLong n = record { lines = n; text = fault_line wire.TooLong; fault = Some talk.TooLong }
+end_after ending.TooMany n = record { lines = n; text = too_many_line; fault = Some talk.TooMany }
+end_after (ending.Refused text) n = record { lines = n; text = text.now; fault = None }
+
+-- the next line is taken, or nothing is left
+abbrev pub Advances : Bool → List ℕ → Option (List ℕ) → List ℕ → Type 0
+Advances true line left xs = TakesLine line xs left
+Advances false line left xs = xs ≡ []
+
+-- no line is refused for what it says
+abbrev pub NoRefusal : List ℕ → List ℕ → Type 0
+NoRefusal line text = ⊥
+
+-- the audit ends at the next line of the bytes xs
+abbrev pub EndsBytes : (List ℕ → List ℕ → Type 0) → Bool → ℕ → End → List ℕ → Type 0
+EndsBytes Refuses is_wanted n e xs = EndsAt Refuses is_wanted n (lines_of xs) e
+
+-- the audit ends at the first of the lines of the bytes xs that is no step
+abbrev pub EndsStepBytes : ℕ → End → List ℕ → Type 0
+EndsStepBytes n e xs = EndsInSteps n (lines_of xs) e
+
+-- the audit ends without a verdict on the bytes xs
+abbrev pub EndsEarlyBytes : End → List ℕ → Type 0
+EndsEarlyBytes e xs = EndsEarly (lines_of xs) e
+
+-- the next line of the bytes xs was taken, and says this
+pub record TakesRead (Says : List ℕ → Type 0) (n : ℕ) (left : Option (List ℕ)) (xs : List ℕ) : Type 0 where
+  pub line : List ℕ
+  pub takes : TakesLine line xs left
+  pub read : IsRead n line Says
+
+-- the lines of the bytes xs are steps
+pub record TakesSteps (steps : List Step) (n m : ℕ) (xs : List ℕ) : Type 0 where
+  pub read : StepsRead n (lines_of xs) steps
+  pub count : m ≡ n + length (lines_of xs)
+
+-- the lines of the bytes xs were read, and this is the verdict
+pub record Judges (v : Verdict) (m : ℕ) (xs : List ℕ) : Type 0 where
+  pub graph : Protection
+  pub goal : Goal
+  pub steps : List Step
+  pub read : AuditRead (lines_of xs) graph goal steps
+  pub is : IsVerdict graph steps goal v
+  pub count : m ≡ length (lines_of xs)
+
+-- the text is the verdict's line, or that of `out of memory`, and counts so many errors
+abbrev pub TellsVerdict : Verdict → ℕ → List ℕ → Type 0
+TellsVerdict v errors text = ((errors ≡ verdict_errors v) × (text ≡ verdict_line v)) ⊎ ((errors ≡ 1) × (text ≡ fault_line wire.OutOfMemory))

@@ -1,0 +1,267 @@
+//! An audit over lines.
+
+ghost use Rattle.std.specs.Prelude.{◌≡◌, ◌↔◌, ◌≤◌, ◌+◌, ℕ, List, length, false, true, IfOk, IfErr, IfSome, Some, None, Err};
+ghost use Rattle.std.specs.Io.KnownBytes.{Keeps};
+ghost use Rattle.tg_wire.specs.Lines.{goal_of};
+ghost use Rattle.tg_wire.specs.declared.line.TheConstants.{LONGEST_LINE};
+ghost use Rattle.tg_talk.specs.Devices.{Sends, device_of, has_failed};
+ghost use Rattle.tg_talk.specs.declared.fault.TalkFault.TheVariants.{OutOfMemory, Reading, Writing};
+ghost use Rattle.tg_talk.specs.declared.line_buffer.TheConstants.{MOST_LINES};
+ghost use Rattle.tgdoc.specs.Runs.{EndsOnce, RefusesOpening};
+ghost use Rattle.tgdoc.specs.Audits.{BytesAudited, Misreads, OpensGraph, SaysGoal, end_errors, verdict_errors};
+ghost use Rattle.tgdoc.specs.Turns.{one_if};
+ghost use Rattle.tgdoc.specs.Auditing.{Advances, EndsBytes, EndsEarlyBytes, EndsStepBytes, Judges, NoRefusal, TakesRead, TakesSteps, TellsVerdict, end_after, unread};
+
+use crate::finished::{Finished, finish};
+use std::alloc::Global;
+use std::io::{Read, Write};
+use tg_audit::check;
+use tg_graph::{Goal, Graph, Step, Verdict};
+use tg_talk::{InputLines, Next, TalkFault, Watched, too_many_line};
+use tg_wire::{
+    WireFault, error_line, open_fault_line, read_config, read_goal, read_step, write_verdict,
+};
+
+/// Why there is no verdict.
+#[derive(Clone, Copy)]
+enum Ending {
+    /// The reader failed.
+    Failed,
+    /// A line is too long.
+    TooLong,
+    /// A line comes after the millionth.
+    TooMany,
+    /// A line is refused, or there is no memory: the line that is answered.
+    Refused(&'static [u8]),
+}
+
+/// Reads a configuration line, a goal line and step lines, and answers the verdict on the steps, which are carried out
+/// one after another from the graph of the configuration. Every line is read before a verdict is answered. A line that is
+/// refused ends the audit with its `error` line, and so do the end of the input where a configuration or a goal is wanted,
+/// which is read as an empty line and not counted, a line of more than 16,384 bytes, and the line after the millionth.
+/// Each verdict but `shared` counts as an error. Where there is no memory for the steps or for the verdict's line,
+/// `out of memory` is answered in its place; where there is none for the buffer of 32,768 bytes, no line is read.
+pub fn audit_lines<R: Read, W: Write>(
+    alloc: Global,
+    reader: &mut Watched<R>,
+    writer: &mut Watched<W>,
+) -> Finished
+    requires reads { has_failed reader.old ≡ false }
+    requires writes { has_failed writer.old ≡ false }
+    ensures reading { (has_failed reader.new ≡ true) ↔ (result.fault ≡ Some Reading) }
+    ensures writing { (has_failed writer.new ≡ true) ↔ (result.fault ≡ Some Writing) }
+    ensures few { result.lines ≤ 1000001 }
+    ensures unread { result.fault ≡ Some OutOfMemory
+        → (result.lines ≡ 0) × Keeps (R.remaining (device_of reader.old)) (R.remaining (device_of reader.new)) }
+    ensures audited { IfSome (R.remaining (device_of reader.old))
+        (BytesAudited result (W.contents (device_of writer.old)) (W.contents (device_of writer.new)) (has_failed writer.new)) }
+{
+    let Ok(mut input) = InputLines::new(alloc) else {
+        return Finished {
+            lines: 0,
+            errors: 0,
+            fault: Some(TalkFault::OutOfMemory),
+        };
+    };
+    match judge(alloc, &mut input, reader) {
+        Ok(verdict) => answer(alloc, writer, input.taken(), verdict),
+        Err(ending) => end(writer, input.taken(), ending),
+    }
+}
+
+/// Ends the audit without a verdict, after so many lines.
+fn end<W: Write>(writer: &mut Watched<W>, lines: u64, ending: Ending) -> Finished
+    requires { has_failed writer.old ≡ false }
+    ensures lines { result.lines ≡ lines }
+    ensures errors { result.errors ≡ end_errors (end_after ending lines).fault }
+    ensures fault { EndsOnce (end_after ending lines).fault (has_failed writer.new) result.fault }
+    ensures sent { Sends (W.contents (device_of writer.old)) (W.contents (device_of writer.new)) (has_failed writer.new) (end_after ending lines).text }
+{
+    match ending {
+        Ending::Failed => Finished {
+            lines,
+            errors: 0,
+            fault: Some(TalkFault::Reading),
+        },
+        Ending::TooLong => finish(
+            writer,
+            lines,
+            1,
+            error_line(WireFault::TooLong),
+            Some(TalkFault::TooLong),
+        ),
+        Ending::TooMany => finish(writer, lines, 1, too_many_line(), Some(TalkFault::TooMany)),
+        Ending::Refused(text) => finish(writer, lines, 1, text, None),
+    }
+}
+
+/// Answers the verdict, after so many lines.
+fn answer<W: Write>(
+    alloc: Global,
+    writer: &mut Watched<W>,
+    lines: u64,
+    verdict: Verdict,
+) -> Finished
+    requires { has_failed writer.old ≡ false }
+    ensures lines { result.lines ≡ lines }
+    ensures fault { EndsOnce None (has_failed writer.new) result.fault }
+    ensures answered { (text : List ℕ) × TellsVerdict verdict result.errors text
+        × Sends (W.contents (device_of writer.old)) (W.contents (device_of writer.new)) (has_failed writer.new) text }
+{
+    match write_verdict(alloc, &verdict) {
+        Ok(line) => finish(writer, lines, count(verdict), &line, None),
+        Err(_) => finish(writer, lines, 1, error_line(WireFault::OutOfMemory), None),
+    }
+}
+
+/// How many errors the verdict counts as.
+fn count(verdict: Verdict) -> u64
+    ensures { result ≡ verdict_errors verdict }
+{
+    if verdict == Verdict::Shared { 0 } else { 1 }
+}
+
+/// The verdict on the lines of the input.
+fn judge<R: Read>(
+    alloc: Global,
+    input: &mut InputLines,
+    reader: &mut Watched<R>,
+) -> Result<Verdict, Ending>
+    requires none { input.old.taken ≡ 0 }
+    requires reads { has_failed reader.old ≡ false }
+    ensures failed { (has_failed reader.new ≡ true) ↔ (result ≡ Err Ending.Failed) }
+    ensures most { input.new.taken ≤ MOST_LINES + 1 }
+    ensures ok { IfOk result (λ verdict. IfSome (unread input.old (R.remaining (device_of reader.old))) (Judges verdict input.new.taken)) }
+    ensures err { IfErr result (λ ending. IfSome (unread input.old (R.remaining (device_of reader.old))) (EndsEarlyBytes (end_after ending input.new.taken))) }
+{
+    let graph = take_graph(alloc, input, reader)?;
+    let goal = take_goal(alloc, input, reader)?;
+    let steps = take_steps(alloc, input, reader)?;
+    match check(alloc, graph, &steps, goal) {
+        Ok(verdict) => Ok(verdict),
+        Err(_) => Err(Ending::Refused(error_line(WireFault::OutOfMemory))),
+    }
+}
+
+/// Takes the configuration line, and opens its graph.
+fn take_graph<R: Read>(
+    alloc: Global,
+    input: &mut InputLines,
+    reader: &mut Watched<R>,
+) -> Result<Graph, Ending>
+    requires few { input.old.taken ≤ MOST_LINES }
+    requires reads { has_failed reader.old ≡ false }
+    ensures failed { (has_failed reader.new ≡ true) ↔ (result ≡ Err Ending.Failed) }
+    ensures most { input.new.taken ≤ MOST_LINES + 1 }
+    ensures few { IfOk result (λ _. (input.new.taken ≡ input.old.taken + 1) × (input.new.taken ≤ MOST_LINES)) }
+    ensures ok { IfOk result (λ graph. IfSome (unread input.old (R.remaining (device_of reader.old))) (TakesRead (OpensGraph graph) input.old.taken (unread input.new (R.remaining (device_of reader.new))))) }
+    ensures err { IfErr result (λ ending. IfSome (unread input.old (R.remaining (device_of reader.old))) (EndsBytes RefusesOpening true input.old.taken (end_after ending input.new.taken))) }
+{
+    take_wanted(input, reader)?;
+    match open_graph(alloc, input.line()) {
+        Ok(graph) => Ok(graph),
+        Err(text) => Err(Ending::Refused(text)),
+    }
+}
+
+/// Takes the goal line.
+fn take_goal<R: Read>(
+    alloc: Global,
+    input: &mut InputLines,
+    reader: &mut Watched<R>,
+) -> Result<Goal, Ending>
+    requires few { input.old.taken ≤ MOST_LINES }
+    requires reads { has_failed reader.old ≡ false }
+    ensures failed { (has_failed reader.new ≡ true) ↔ (result ≡ Err Ending.Failed) }
+    ensures most { input.new.taken ≤ MOST_LINES + 1 }
+    ensures few { IfOk result (λ _. (input.new.taken ≡ input.old.taken + 1) × (input.new.taken ≤ MOST_LINES)) }
+    ensures ok { IfOk result (λ goal. IfSome (unread input.old (R.remaining (device_of reader.old))) (TakesRead (SaysGoal goal) input.old.taken (unread input.new (R.remaining (device_of reader.new))))) }
+    ensures err { IfErr result (λ ending. IfSome (unread input.old (R.remaining (device_of reader.old))) (EndsBytes (Misreads goal_of) true input.old.taken (end_after ending input.new.taken))) }
+{
+    take_wanted(input, reader)?;
+    match read_goal(alloc, input.line()) {
+        Ok(goal) => Ok(goal),
+        Err(fault) => Err(Ending::Refused(error_line(fault))),
+    }
+}
+
+/// Takes all lines that are left, as steps.
+fn take_steps<R: Read>(
+    alloc: Global,
+    input: &mut InputLines,
+    reader: &mut Watched<R>,
+) -> Result<Vec<Step>, Ending>
+    requires few { input.old.taken ≤ MOST_LINES }
+    requires reads { has_failed reader.old ≡ false }
+    ensures failed { (has_failed reader.new ≡ true) ↔ (result ≡ Err Ending.Failed) }
+    ensures most { input.new.taken ≤ MOST_LINES + 1 }
+    ensures ok { IfOk result (λ steps. IfSome (unread input.old (R.remaining (device_of reader.old))) (TakesSteps steps.items input.old.taken input.new.taken)) }
+    ensures err { IfErr result (λ ending. IfSome (unread input.old (R.remaining (device_of reader.old))) (EndsStepBytes input.old.taken (end_after ending input.new.taken))) }
+{
+    let mut steps = Vec::new(alloc);
+    loop {
+        if !take(input, reader)? {
+            return Ok(steps);
+        }
+        match read_step(alloc, input.line()) {
+            Err(fault) => return Err(Ending::Refused(error_line(fault))),
+            Ok(step) => {
+                if steps.push(step).is_err() {
+                    return Err(Ending::Refused(error_line(WireFault::OutOfMemory)));
+                }
+            }
+        }
+    }
+}
+
+/// The graph that a configuration line opens, or the line of its refusal.
+fn open_graph(alloc: Global, bytes: &[u8]) -> Result<Graph, &'static [u8]>
+    ensures ok { IfOk result (λ graph. OpensGraph graph bytes.now) }
+    ensures err { IfErr result (λ text. RefusesOpening bytes.now text.now) }
+{
+    match read_config(alloc, bytes) {
+        Err(fault) => Err(error_line(fault)),
+        Ok(config) => match Graph::build(alloc, &config) {
+            Err(fault) => Err(open_fault_line(fault)),
+            Ok(graph) => Ok(graph),
+        },
+    }
+}
+
+/// Takes the next line. No line at all is read as an empty one, which is no JSON.
+fn take_wanted<R: Read>(input: &mut InputLines, reader: &mut Watched<R>) -> Result<(), Ending>
+    requires few { input.old.taken ≤ MOST_LINES }
+    requires reads { has_failed reader.old ≡ false }
+    ensures failed { (has_failed reader.new ≡ true) ↔ (result ≡ Err Ending.Failed) }
+    ensures most { input.new.taken ≤ MOST_LINES + 1 }
+    ensures few { IfOk result (λ _. (input.new.taken ≡ input.old.taken + 1) × (input.new.taken ≤ MOST_LINES)) }
+    ensures short { length input.new.line ≤ LONGEST_LINE }
+    ensures ok { IfOk result (λ _. IfSome (unread input.old (R.remaining (device_of reader.old))) (Advances true input.new.line (unread input.new (R.remaining (device_of reader.new))))) }
+    ensures err { IfErr result (λ ending. IfSome (unread input.old (R.remaining (device_of reader.old))) (EndsBytes NoRefusal true input.old.taken (end_after ending input.new.taken))) }
+{
+    if take(input, reader)? {
+        Ok(())
+    } else {
+        Err(Ending::Refused(error_line(WireFault::NotJson)))
+    }
+}
+
+/// Takes the next line; false where nothing is left.
+fn take<R: Read>(input: &mut InputLines, reader: &mut Watched<R>) -> Result<bool, Ending>
+    requires few { input.old.taken ≤ MOST_LINES }
+    requires reads { has_failed reader.old ≡ false }
+    ensures failed { (has_failed reader.new ≡ true) ↔ (result ≡ Err Ending.Failed) }
+    ensures most { input.new.taken ≤ MOST_LINES + 1 }
+    ensures few { IfOk result (λ more. (input.new.taken ≡ input.old.taken + one_if more) × (input.new.taken ≤ MOST_LINES)) }
+    ensures short { length input.new.line ≤ LONGEST_LINE }
+    ensures ok { IfOk result (λ more. IfSome (unread input.old (R.remaining (device_of reader.old))) (Advances more input.new.line (unread input.new (R.remaining (device_of reader.new))))) }
+    ensures err { IfErr result (λ ending. IfSome (unread input.old (R.remaining (device_of reader.old))) (EndsBytes NoRefusal false input.old.taken (end_after ending input.new.taken))) }
+{
+    match input.next(reader) {
+        Next::Line => Ok(true),
+        Next::End => Ok(false),
+        Next::TooLong => Err(Ending::TooLong),
+        Next::TooMany => Err(Ending::TooMany),
+        Next::Failed => Err(Ending::Failed),
+    }
+}
