@@ -1,14 +1,11 @@
 -- An audit: what each line that is taken comes to.
-use Rattle.std.proofs.Common.{◌≡◌, ℕ, ◌+◌, ◌<◌, ◌≤◌, List, [], ◌∷◌, ◌++◌, length, Bool, true, false, Option, None, Some, IfSome, Ok, Err, inl, inr, refl, sym, ap, ◌∙◌, subst, arith, append_assoc, append-nil}
-use Rattle.std.specs.Io.KnownBytes.{prepend_known}
-use Rattle.tg_graph.specs.declared.config.Config.{Config}
+use Rattle.std.proofs.Common.{◌≡◌, ℕ, suc, ◌+◌, ◌<◌, ◌≤◌, List, [], ◌∷◌, ◌++◌, length, Bool, true, false, Option, None, Some, IfSome, Result, Ok, Err, IfErr, IsErrAnd, true≢false, inl, inr, refl, sym, ap, ◌∙◌, subst, arith, append_assoc, append-nil}
 use Rattle.tg_graph.specs.declared.derivation.Goal.{Goal}
 use Rattle.tg_graph.specs.declared.derivation.Step.{Step}
 use Rattle.tg_graph.specs.declared.derivation.Verdict.{Verdict}
-use Rattle.tg_graph.specs.Opening.{first_fault, opening}
 use Rattle.tg_graph.specs.Protection.{Protection}
 use Rattle.tg_audit.specs.Verdicts.{IsVerdict}
-use Rattle.tg_wire.specs.Lines.{step_of}
+use Rattle.tg_wire.specs.Lines.{goal_of, step_of}
 use Rattle.tg_wire.specs.Reading as reading
 use Rattle.tg_wire.specs.Faults.{fault_line}
 use Rattle.tg_wire.specs.declared.fault.WireFault.{WireFault}
@@ -17,14 +14,16 @@ use Rattle.tg_wire.specs.declared.line.TheConstants.{LONGEST_LINE}
 use Rattle.tg_talk.specs.Devices.{Sends}
 use Rattle.tg_talk.specs.InputLines.{lines_of}
 use Rattle.tg_talk.specs.Refusals.{too_many_line}
-use Rattle.tg_talk.specs.Taking.{HasLine, Input, TakesLine}
-use Rattle.tg_talk.specs.declared.fault.TalkFault.{TalkFault}
+use Rattle.tg_talk.specs.Taking.{HasLine, TakesLine}
 use Rattle.tg_talk.specs.declared.fault.TalkFault.TheVariants as talk
 use Rattle.tg_talk.specs.declared.line_buffer.TheConstants.{MOST_LINES}
+use Rattle.tg_talk.proofs.TakingLemmas.{weaker}
 use Rattle.tgdoc.specs.Runs.{EndsOnce, RefusesOpening}
-use Rattle.tgdoc.specs.Audits.{AuditRead, BytesAudited, End, EndsAt, EndsEarly, EndsInSteps, IsRead, LinesAudited, Misreads, OpensGraph, SaysGoal, SaysStep, StepsRead, at_configuration, at_goal, end_errors, ended, here, in_steps, judged, later, misread, no_line, none, not_read, refused, step, stopped, too_long, too_many, unjudged, verdict_errors}
-use Rattle.tgdoc.specs.Auditing.{EndsBytes, EndsEarlyBytes, EndsStepBytes, Judges, NoRefusal, TakesRead, TakesSteps, end_after, unread}
+use Rattle.tgdoc.specs.Audits.{AuditRead, BytesAudited, End, EndsAt, EndsInSteps, IsRead, Misreads, OpensGraph, SaysGoal, SaysStep, StepsRead, at_configuration, at_goal, end_errors, ended, here, in_steps, judged, later, misread, no_line, none, not_read, refused, step, stopped, too_long, too_many, unjudged, verdict_errors}
+use Rattle.tgdoc.specs.Auditing.{Advances, EndsBytes, EndsEarlyBytes, EndsStepBytes, Judges, NoRefusal, TakesRead, TakesSteps, TellsVerdict, end_after}
+use Rattle.tgdoc.specs.Turns.{one_if}
 use Rattle.tgdoc.specs.declared.audit.Ending.{Ending}
+use Rattle.tgdoc.specs.declared.audit.Ending.TheVariants as ending
 use Rattle.tgdoc.specs.declared.finished.Finished.{Finished}
 
 -- ---- known bytes
@@ -33,8 +32,22 @@ use Rattle.tgdoc.specs.declared.finished.Finished.{Finished}
 pub then_left : (o left : Option (List ℕ)) (P Q R : List ℕ → Type 0) → IfSome o P → IfSome left Q → ((xs : List ℕ) → P xs → (rest : List ℕ) × (left ≡ Some rest) × (Q rest → R xs)) → IfSome o R
 then_left None left P Q R h k f = tt
 then_left (Some xs) left P Q R h k f =
-    let (rest, (is, go)) = f xs h in
+    let (rest, is, go) = f xs h in
     go (subst (λ o. IfSome o Q) is k)
+
+-- what answers Ok has not failed
+pub unfailed : {T E : Type 0} (b : Bool) (x : T) (e : E) → (b ≡ true → Ok x ≡ Err e) → b ≡ false
+unfailed true x e h = let same = h refl in absurd (cc)
+unfailed false x e h = refl
+
+-- an error that is passed up
+pub passed : {T E : Type 0} (r : Result T E) (e : E) (P : E → Type 0) → IsErrAnd r (λ y. y ≡ e) → P e → IfErr r P
+passed (Ok x) e P is h = tt
+passed (Err y) e P is h = subst P (sym is) h
+
+pub err_maps : {T E : Type 0} (r : Result T E) (P Q : E → Type 0) → IfErr r P → ((e : E) → P e → Q e) → IfErr r Q
+err_maps (Ok x) P Q h f = tt
+err_maps (Err e) P Q h f = f e h
 
 -- ---- the line that ends an audit
 
@@ -96,7 +109,7 @@ pub steps_none : (n : ℕ) (o : Option (List ℕ)) → IfSome o (StepsSoFar n n 
 steps_none n None = tt
 steps_none n (Some xs) = record { rest = xs; is = refl; count = refl; goes_on = λ more read. read; ends = λ e end. end }
 
-step_counts : (n m a b c : ℕ) → m ≡ n + 1 → b ≡ a + 1 → n + b ≡ c → m + a ≡ c
+step_counts : (n m a b c : ℕ) → m ≡ n + 1 → b ≡ suc a → n + b ≡ c → m + a ≡ c
 step_counts n m a b c = omega arith
 
 pub steps_more : (start n m : ℕ) (steps : List Step) (s : Step) (line : List ℕ) (left now : Option (List ℕ)) (xs : List ℕ) → m ≡ n + 1 → m ≤ MOST_LINES → length line ≤ LONGEST_LINE → SaysStep s line
@@ -111,12 +124,207 @@ steps_more start n m steps s line left now xs count most short says so takes =
       ends = λ e end. so.ends e (rw takes.taken (later read (rw count at end)));
     }
 
-pub steps_all : (start n : ℕ) (steps : List Step) (left : Option (List ℕ)) (xs : List ℕ) (m : ℕ) → m ≡ n → (so : StepsSoFar start n steps left xs) → so.rest ≡ [] → TakesSteps steps start m xs
+pub steps_all : (start n : ℕ) (steps : List Step) (left : Option (List ℕ)) (xs : List ℕ) (m : ℕ) → m ≡ n + 0 → (so : StepsSoFar start n steps left xs) → so.rest ≡ [] → TakesSteps steps start m xs
 unfolding lines_of
 steps_all start n steps left xs m same so over = record {
   read = rw (append-nil steps) at (so.goes_on [] (rw over none));
-  count = same ∙ (let all : n + length (lines_of so.rest) ≡ n = rw over (omega arith) in sym all) ∙ so.count;
+  count = (let zero : m ≡ n = omega arith in zero) ∙ (let all : n + length (lines_of so.rest) ≡ n = rw over (omega arith) in sym all) ∙ so.count;
 }
 
 pub steps_end : (start n : ℕ) (steps : List Step) (left : Option (List ℕ)) (xs : List ℕ) (e : End) → (so : StepsSoFar start n steps left xs) → EndsAt (Misreads step_of) false n (lines_of so.rest) e → EndsInSteps start (lines_of xs) e
 steps_end start n steps left xs e so end = so.ends e (here end)
+
+-- ---- what a step of the loop comes to
+
+abbrev SoFars : ℕ → ℕ → List Step → Option (List ℕ) → Option (List ℕ) → Type 0
+SoFars start n steps o left = IfSome o (StepsSoFar start n steps left)
+
+pub loop_stops : (start n : ℕ) (steps : List Step) (o left : Option (List ℕ)) (e : End) → SoFars start n steps o left → IfSome left (EndsBytes NoRefusal false n e) → IfSome o (EndsStepBytes start e)
+loop_stops start n steps o left e so end =
+    then_left o left (StepsSoFar start n steps left) (EndsBytes NoRefusal false n e) (EndsStepBytes start e) so end
+    (λ xs so. (so.rest, so.is, λ here. steps_end start n steps left xs e so (ends_any (Misreads step_of) false false n e (lines_of so.rest) (λ is. is) here)))
+
+pub loop_is_over : (start n m : ℕ) (steps : List Step) (o left now : Option (List ℕ)) (line : List ℕ) (more : Bool) → more ≡ false → m ≡ n + one_if more → SoFars start n steps o left → IfSome left (Advances more line now)
+    → IfSome o (TakesSteps steps start m)
+loop_is_over start n m steps o left now line true is count so over = absurd (true≢false is)
+loop_is_over start n m steps o left now line false is count so over =
+    then_left o left (StepsSoFar start n steps left) (Advances false line now) (TakesSteps steps start m) so over (λ xs so. (so.rest, so.is, λ over. steps_all start n steps left xs m count so over))
+
+pub loop_refuses : (start n m : ℕ) (steps : List Step) (o left now : Option (List ℕ)) (line text : List ℕ) (more : Bool) → more ≡ true → m ≡ n + one_if more → m ≤ MOST_LINES → length line ≤ LONGEST_LINE
+    → SoFars start n steps o left → IfSome left (Advances more line now) → Misreads step_of line text → IfSome o (EndsStepBytes start (record { lines = m; text = text; fault = None }))
+loop_refuses start n m steps o left now line text false some count most short so takes refuses = absurd (true≢false (sym some))
+loop_refuses start n m steps o left now line text true some count most short so takes refuses =
+    then_left o left (StepsSoFar start n steps left) (Advances true line now) (EndsStepBytes start (record { lines = m; text = text; fault = None })) so takes
+    (λ xs so. (so.rest, so.is, λ took. steps_end start n steps left xs _ so (ends_refused (Misreads step_of) false n m so.rest line text now count most short took refuses)))
+
+pub loop_goes_on : (start n m : ℕ) (steps : List Step) (o left now : Option (List ℕ)) (line : List ℕ) (s : Step) (more : Bool) → more ≡ true → m ≡ n + one_if more → m ≤ MOST_LINES → length line ≤ LONGEST_LINE
+    → SoFars start n steps o left → IfSome left (Advances more line now) → SaysStep s line → SoFars start m (steps ++ s ∷ []) o now
+loop_goes_on start n m steps o left now line s false some count most short so takes says = absurd (true≢false (sym some))
+loop_goes_on start n m steps o left now line s true some count most short so takes says =
+    then_left o left (StepsSoFar start n steps left) (Advances true line now) (StepsSoFar start m (steps ++ s ∷ []) now) so takes
+    (λ xs so. (so.rest, so.is, λ took. steps_more start n m steps s line left now xs count most short says so took))
+
+-- ---- a configuration and a goal
+
+abbrev Bytes : Type 0
+Bytes = Option (List ℕ)
+
+pub ends_bytes : (Refuses : List ℕ → List ℕ → Type 0) (v w : Bool) (n : ℕ) (e : End) (o : Bytes) → (v ≡ true → w ≡ true) → IfSome o (EndsBytes NoRefusal v n e) → IfSome o (EndsBytes Refuses w n e)
+ends_bytes Refuses v w n e o more h = weaker o (EndsBytes NoRefusal v n e) (EndsBytes Refuses w n e) h (λ xs end. ends_any Refuses v w n e (lines_of xs) more end)
+
+pub wanted_is_there : (o left : Bytes) (line : List ℕ) (more : Bool) → more ≡ true → IfSome o (Advances more line left) → IfSome o (Advances true line left)
+wanted_is_there o left line false is h = absurd (true≢false (sym is))
+wanted_is_there o left line true is h = h
+
+pub wanted_is_counted : (n m : ℕ) (more : Bool) → more ≡ true → m ≡ n + one_if more → m ≡ n + 1
+wanted_is_counted n m false is h = absurd (true≢false (sym is))
+wanted_is_counted n m true is h = h
+
+pub wanted_is_missing : (o left : Bytes) (line text : List ℕ) (n m : ℕ) (more : Bool) → more ≡ false → m ≡ n + one_if more → text ≡ fault_line wire.NotJson → IfSome o (Advances more line left)
+    → IfSome o (EndsBytes NoRefusal true n (record { lines = m; text = text; fault = None }))
+wanted_is_missing o left line text n m true is count same h = absurd (true≢false is)
+wanted_is_missing o left line text n m false is count same h =
+    weaker o (Advances false line left) (EndsBytes NoRefusal true n (record { lines = m; text = text; fault = None })) h (λ xs over. ends_missing NoRefusal n m xs text (omega arith) over same)
+
+pub wanted_is_read : (Says : List ℕ → Type 0) (n m : ℕ) (line : List ℕ) (o left : Bytes) → m ≡ n + 1 → m ≤ MOST_LINES → length line ≤ LONGEST_LINE → IfSome o (Advances true line left) → Says line → IfSome o (TakesRead Says n left)
+wanted_is_read Says n m line o left count most short h says = weaker o (Advances true line left) (TakesRead Says n left) h (λ xs takes. takes_read Says n m line left xs count most short takes says)
+
+pub wanted_is_refused : (Refuses : List ℕ → List ℕ → Type 0) (n m : ℕ) (line text : List ℕ) (o left : Bytes) → m ≡ n + 1 → m ≤ MOST_LINES → length line ≤ LONGEST_LINE → IfSome o (Advances true line left) → Refuses line text
+    → IfSome o (EndsBytes Refuses true n (record { lines = m; text = text; fault = None }))
+wanted_is_refused Refuses n m line text o left count most short h refuses =
+    weaker o (Advances true line left) (EndsBytes Refuses true n (record { lines = m; text = text; fault = None })) h (λ xs takes. ends_refused Refuses true n m xs line text left count most short takes refuses)
+
+-- an ending by the refusal of a line, after so many
+refusal_after : (e : Ending) (n : ℕ) → (end_after e n).fault ≡ None → record { lines = n; text = (end_after e n).text; fault = None } ≡ end_after e n
+refusal_after ending.Failed n is = absurd (cc)
+refusal_after ending.TooLong n is = absurd (cc)
+refusal_after ending.TooMany n is = absurd (cc)
+refusal_after (ending.Refused f) n is = refl
+refusal_after (ending.Unsound f) n is = refl
+
+pub opening_is_refused : (n m : ℕ) (line : List ℕ) (e : Ending) (o left : Bytes) → m ≡ n + 1 → m ≤ MOST_LINES → length line ≤ LONGEST_LINE → IfSome o (Advances true line left)
+    → ((k : ℕ) → ((end_after e k).fault ≡ None) × RefusesOpening line (end_after e k).text) → IfSome o (EndsBytes RefusesOpening true n (end_after e m))
+opening_is_refused n m line e o left count most short h refuses =
+    subst (λ end. IfSome o (EndsBytes RefusesOpening true n end)) (refusal_after e m (refuses m).0)
+    (wanted_is_refused RefusesOpening n m line (end_after e m).text o left count most short h (refuses m).1)
+
+-- ---- all lines
+
+pub ends_first : (o : Bytes) (n : ℕ) (e : End) → n ≡ 0 → IfSome o (EndsBytes RefusesOpening true n e) → IfSome o (EndsEarlyBytes e)
+ends_first o n e first h = weaker o (EndsBytes RefusesOpening true n e) (EndsEarlyBytes e) h (λ xs end. at_configuration (rw first at end))
+
+pub ends_second : (o left : Bytes) (n m : ℕ) (G : Protection) (e : End) → n ≡ 0 → m ≡ n + 1 → IfSome o (TakesRead (OpensGraph G) n left) → IfSome left (EndsBytes (Misreads goal_of) true m e) → IfSome o (EndsEarlyBytes e)
+ends_second o left n m G e first count h k =
+    let one : m ≡ 1 = omega arith in
+    then_left o left (TakesRead (OpensGraph G) n left) (EndsBytes (Misreads goal_of) true m e) (EndsEarlyBytes e) h k
+    (λ xs t. (t.takes.rest, t.takes.unread, λ end. rw t.takes.taken (at_goal G (rw first at t.read) (rw one at end))))
+
+-- a configuration line, a goal line, and others of which this holds
+record AuditThen (P : List (List ℕ) → Type 0) (G : Protection) (goal : Goal) (xs : List ℕ) : Type 0 where
+  pub first : List ℕ
+  pub second : List ℕ
+  pub others : List (List ℕ)
+  pub are : lines_of xs ≡ first ∷ second ∷ others
+  pub opens : IsRead 0 first (OpensGraph G)
+  pub aims : IsRead 1 second (SaysGoal goal)
+  pub holds : P others
+
+record GoalThen (P : List (List ℕ) → Type 0) (goal : Goal) (xs : List ℕ) : Type 0 where
+  pub line : List ℕ
+  pub others : List (List ℕ)
+  pub are : lines_of xs ≡ line ∷ others
+  pub aims : IsRead 1 line (SaysGoal goal)
+  pub holds : P others
+
+abbrev OverLines : (List (List ℕ) → Type 0) → List ℕ → Type 0
+OverLines P xs = P (lines_of xs)
+
+goal_then : (P : List (List ℕ) → Type 0) (o left : Bytes) (m : ℕ) (goal : Goal) → m ≡ 1 → IfSome o (TakesRead (SaysGoal goal) m left) → IfSome left (OverLines P) → IfSome o (GoalThen P goal)
+goal_then P o left m goal one h k =
+    then_left o left (TakesRead (SaysGoal goal) m left) (OverLines P) (GoalThen P goal) h k
+    (λ xs t. (t.takes.rest, t.takes.unread, λ p. record { line = t.line; others = lines_of t.takes.rest; are = t.takes.taken; aims = rw one at t.read; holds = p }))
+
+audit_then : (P : List (List ℕ) → Type 0) (o left last : Bytes) (n m : ℕ) (G : Protection) (goal : Goal) → n ≡ 0 → m ≡ n + 1 → IfSome o (TakesRead (OpensGraph G) n left) → IfSome left (TakesRead (SaysGoal goal) m last)
+    → IfSome last (OverLines P) → IfSome o (AuditThen P G goal)
+audit_then P o left last n m G goal first count h k j =
+    then_left o left (TakesRead (OpensGraph G) n left) (GoalThen P goal) (AuditThen P G goal) h (goal_then P left last m goal (omega arith) k j)
+    (λ xs t. (t.takes.rest, t.takes.unread, λ g. record { first = t.line; second = g.line; others = g.others; are = t.takes.taken ∙ ap (λ ls. t.line ∷ ls) g.are; opens = rw first at t.read; aims = g.aims; holds = g.holds }))
+
+pub ends_third : (o left last : Bytes) (n m k : ℕ) (G : Protection) (goal : Goal) (e : End) → n ≡ 0 → m ≡ n + 1 → k ≡ m + 1 → IfSome o (TakesRead (OpensGraph G) n left) → IfSome left (TakesRead (SaysGoal goal) m last)
+    → IfSome last (EndsStepBytes k e) → IfSome o (EndsEarlyBytes e)
+ends_third o left last n m k G goal e first one two h j i =
+    let three : k ≡ 2 = omega arith in
+    weaker o (AuditThen (λ ls. EndsInSteps 2 ls e) G goal) (EndsEarlyBytes e)
+    (audit_then (λ ls. EndsInSteps 2 ls e) o left last n m G goal first one h j (weaker last (EndsStepBytes k e) (OverLines (λ ls. EndsInSteps 2 ls e)) i (λ xs end. rw three at end)))
+    (λ xs a. rw a.are (in_steps G goal a.opens a.aims a.holds))
+
+-- the other lines are these steps, and so many lines were taken in all
+abbrev AreSteps : List Step → ℕ → List (List ℕ) → Type 0
+AreSteps steps m ls = StepsRead 2 ls steps × (m ≡ 2 + length ls)
+
+all_read : (o left last : Bytes) (n m k all : ℕ) (G : Protection) (goal : Goal) (steps : List Step) → n ≡ 0 → m ≡ n + 1 → k ≡ m + 1 → IfSome o (TakesRead (OpensGraph G) n left) → IfSome left (TakesRead (SaysGoal goal) m last)
+    → IfSome last (TakesSteps steps k all) → IfSome o (AuditThen (AreSteps steps all) G goal)
+all_read o left last n m k all G goal steps first one two h j i =
+    let three : k ≡ 2 = omega arith in
+    audit_then (AreSteps steps all) o left last n m G goal first one h j
+    (weaker last (TakesSteps steps k all) (OverLines (AreSteps steps all)) i (λ xs t. (rw three at t.read, t.count ∙ ap (λ a. a + length (lines_of xs)) three)))
+
+lines_read : (G : Protection) (goal : Goal) (steps : List Step) (all : ℕ) (xs : List ℕ) → AuditThen (AreSteps steps all) G goal xs → AuditRead (lines_of xs) G goal steps × (all ≡ length (lines_of xs))
+lines_read G goal steps all xs a = (
+  record { first = a.first; second = a.second; others = a.others; are = a.are; opens = a.opens; aims = a.aims; rest = a.holds.0 },
+  (let size : length (lines_of xs) ≡ suc (suc (length a.others)) = ap length a.are in omega (arith, a.holds.1)),
+)
+
+pub is_unjudged : (o left last : Bytes) (n m k all : ℕ) (G : Protection) (goal : Goal) (steps : List Step) (text : List ℕ) → n ≡ 0 → m ≡ n + 1 → k ≡ m + 1 → text ≡ fault_line wire.OutOfMemory → IfSome o (TakesRead (OpensGraph G) n left)
+    → IfSome left (TakesRead (SaysGoal goal) m last) → IfSome last (TakesSteps steps k all) → IfSome o (EndsEarlyBytes (record { lines = all; text = text; fault = None }))
+is_unjudged o left last n m k all G goal steps text first one two same h j i =
+    weaker o (AuditThen (AreSteps steps all) G goal) (EndsEarlyBytes (record { lines = all; text = text; fault = None })) (all_read o left last n m k all G goal steps first one two h j i)
+    (λ xs a. (let (read, size) = lines_read G goal steps all xs a in rw (same, size) (unjudged G goal steps read)))
+
+pub is_judged : (o left last : Bytes) (n m k all : ℕ) (G : Protection) (goal : Goal) (steps : List Step) (v : Verdict) → n ≡ 0 → m ≡ n + 1 → k ≡ m + 1 → IfSome o (TakesRead (OpensGraph G) n left)
+    → IfSome left (TakesRead (SaysGoal goal) m last) → IfSome last (TakesSteps steps k all) → IsVerdict G steps goal v → IfSome o (Judges v all)
+is_judged o left last n m k all G goal steps v first one two h j i is =
+    weaker o (AuditThen (AreSteps steps all) G goal) (Judges v all) (all_read o left last n m k all G goal steps first one two h j i)
+    (λ xs a. (let (read, size) = lines_read G goal steps all xs a in record { graph = G; goal = goal; steps = steps; read = read; is = is; count = size }))
+
+-- ---- the answer
+
+lines_after : (e : Ending) (n : ℕ) → (end_after e n).lines ≡ n
+lines_after ending.Failed n = refl
+lines_after ending.TooLong n = refl
+lines_after ending.TooMany n = refl
+lines_after (ending.Refused f) n = refl
+lines_after (ending.Unsound f) n = refl
+
+pub audited_early : (finished : Finished) (old new : Option (List ℕ)) (failed : Bool) (e : Ending) (n : ℕ) (xs : List ℕ) → finished.lines ≡ n → finished.errors ≡ end_errors (end_after e n).fault → EndsOnce (end_after e n).fault failed finished.fault
+    → Sends old new failed (end_after e n).text → EndsEarlyBytes (end_after e n) xs → BytesAudited finished old new failed xs
+audited_early finished old new failed e n xs lines errors fault sent ends = record {
+  whole = record { lines = (end_after e n).lines; errors = end_errors (end_after e n).fault; fault = (end_after e n).fault };
+  text = (end_after e n).text;
+  audited = ended (end_after e n) ends;
+  lines = lines ∙ sym (lines_after e n);
+  errors = errors;
+  fault = fault;
+  sent = sent;
+}
+
+pub audited_whole : (finished : Finished) (old new : Option (List ℕ)) (failed : Bool) (v : Verdict) (n : ℕ) (text xs : List ℕ) → finished.lines ≡ n → EndsOnce None failed finished.fault → TellsVerdict v finished.errors text
+    → Sends old new failed text → Judges v n xs → BytesAudited finished old new failed xs
+audited_whole finished old new failed v n text xs lines fault (inl (errors, same)) sent j = record {
+  whole = record { lines = length (lines_of xs); errors = verdict_errors v; fault = None };
+  text = text;
+  audited = rw same (judged j.graph j.goal j.steps v j.read j.is);
+  lines = lines ∙ j.count;
+  errors = errors;
+  fault = fault;
+  sent = sent;
+}
+audited_whole finished old new failed v n text xs lines fault (inr (errors, same)) sent j = record {
+  whole = record { lines = length (lines_of xs); errors = 1; fault = None };
+  text = text;
+  audited = rw same (ended (record { lines = length (lines_of xs); text = fault_line wire.OutOfMemory; fault = None }) (unjudged j.graph j.goal j.steps j.read));
+  lines = lines ∙ j.count;
+  errors = errors;
+  fault = fault;
+  sent = sent;
+}

@@ -7,7 +7,7 @@ use Rattle.tg_graph.specs.declared.derivation.Verdict.{Verdict}
 use Rattle.tg_graph.specs.Protection.{Protection}
 use Rattle.tg_audit.specs.Verdicts.{IsVerdict}
 use Rattle.tg_wire.specs.Answers.{verdict_line}
-use Rattle.tg_wire.specs.Faults.{fault_line}
+use Rattle.tg_wire.specs.Faults.{fault_line, open_fault_line}
 use Rattle.tg_wire.specs.declared.fault.WireFault.TheVariants as wire
 use Rattle.tg_talk.specs.InputLines.{lines_of}
 use Rattle.tg_talk.specs.Refusals.{too_many_line}
@@ -26,7 +26,8 @@ abbrev pub end_after : Ending → ℕ → End
 end_after ending.Failed n = record { lines = n; text = []; fault = Some talk.Reading }
 end_after ending.TooLong n = record { lines = n; text = fault_line wire.TooLong; fault = Some talk.TooLong }
 end_after ending.TooMany n = record { lines = n; text = too_many_line; fault = Some talk.TooMany }
-end_after (ending.Refused text) n = record { lines = n; text = text.now; fault = None }
+end_after (ending.Refused f) n = record { lines = n; text = fault_line f; fault = None }
+end_after (ending.Unsound f) n = record { lines = n; text = open_fault_line f; fault = None }
 
 -- the next line is taken, or nothing is left
 abbrev pub Advances : Bool → List ℕ → Option (List ℕ) → List ℕ → Type 0

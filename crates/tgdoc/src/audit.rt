@@ -1,6 +1,6 @@
 //! An audit over lines.
 
-ghost use Rattle.std.specs.Prelude.{◌≡◌, ◌↔◌, ◌≤◌, ◌+◌, ℕ, List, length, false, true, IfOk, IfErr, IfSome, Some, None, Err};
+ghost use Rattle.std.specs.Prelude.{◌≡◌, ◌≢◌, ◌↔◌, ◌≤◌, ◌+◌, ℕ, List, length, false, true, IfOk, IfErr, IfSome, Some, None, Err};
 ghost use Rattle.std.specs.Io.KnownBytes.{Keeps};
 ghost use Rattle.tg_wire.specs.Lines.{goal_of};
 ghost use Rattle.tg_wire.specs.declared.line.TheConstants.{LONGEST_LINE};
@@ -16,7 +16,7 @@ use crate::finished::{Finished, finish};
 use std::alloc::Global;
 use std::io::{Read, Write};
 use tg_audit::check;
-use tg_graph::{Goal, Graph, Step, Verdict};
+use tg_graph::{Goal, Graph, OpenFault, Step, Verdict};
 use tg_talk::{InputLines, Next, TalkFault, Watched, too_many_line};
 use tg_wire::{
     WireFault, error_line, open_fault_line, read_config, read_goal, read_step, write_verdict,
@@ -31,8 +31,10 @@ enum Ending {
     TooLong,
     /// A line comes after the millionth.
     TooMany,
-    /// A line is refused, or there is no memory: the line that is answered.
-    Refused(&'static [u8]),
+    /// A line is refused, or there is no memory.
+    Refused(WireFault),
+    /// The configuration is refused.
+    Unsound(OpenFault),
 }
 
 /// Reads a configuration line, a goal line and step lines, and answers the verdict on the steps, which are carried out
@@ -73,6 +75,9 @@ pub fn audit_lines<R: Read, W: Write>(
 fn end<W: Write>(writer: &mut Watched<W>, lines: u64, ending: Ending) -> Finished
     requires { has_failed writer.old ≡ false }
     ensures lines { result.lines ≡ lines }
+    ensures reading { (ending ≡ Ending.Failed) ↔ (result.fault ≡ Some Reading) }
+    ensures writing { (has_failed writer.new ≡ true) ↔ (result.fault ≡ Some Writing) }
+    ensures memory { result.fault ≢ Some OutOfMemory }
     ensures errors { result.errors ≡ end_errors (end_after ending lines).fault }
     ensures fault { EndsOnce (end_after ending lines).fault (has_failed writer.new) result.fault }
     ensures sent { Sends (W.contents (device_of writer.old)) (W.contents (device_of writer.new)) (has_failed writer.new) (end_after ending lines).text }
@@ -91,7 +96,8 @@ fn end<W: Write>(writer: &mut Watched<W>, lines: u64, ending: Ending) -> Finishe
             Some(TalkFault::TooLong),
         ),
         Ending::TooMany => finish(writer, lines, 1, too_many_line(), Some(TalkFault::TooMany)),
-        Ending::Refused(text) => finish(writer, lines, 1, text, None),
+        Ending::Refused(fault) => finish(writer, lines, 1, error_line(fault), None),
+        Ending::Unsound(fault) => finish(writer, lines, 1, open_fault_line(fault), None),
     }
 }
 
@@ -105,6 +111,9 @@ fn answer<W: Write>(
     requires { has_failed writer.old ≡ false }
     ensures lines { result.lines ≡ lines }
     ensures fault { EndsOnce None (has_failed writer.new) result.fault }
+    ensures reading { result.fault ≢ Some Reading }
+    ensures writing { (has_failed writer.new ≡ true) ↔ (result.fault ≡ Some Writing) }
+    ensures memory { result.fault ≢ Some OutOfMemory }
     ensures answered { (text : List ℕ) × TellsVerdict verdict result.errors text
         × Sends (W.contents (device_of writer.old)) (W.contents (device_of writer.new)) (has_failed writer.new) text }
 {
@@ -139,7 +148,7 @@ fn judge<R: Read>(
     let steps = take_steps(alloc, input, reader)?;
     match check(alloc, graph, &steps, goal) {
         Ok(verdict) => Ok(verdict),
-        Err(_) => Err(Ending::Refused(error_line(WireFault::OutOfMemory))),
+        Err(_) => Err(Ending::Refused(WireFault::OutOfMemory)),
     }
 }
 
@@ -158,10 +167,7 @@ fn take_graph<R: Read>(
     ensures err { IfErr result (λ ending. IfSome (unread input.old (R.remaining (device_of reader.old))) (EndsBytes RefusesOpening true input.old.taken (end_after ending input.new.taken))) }
 {
     take_wanted(input, reader)?;
-    match open_graph(alloc, input.line()) {
-        Ok(graph) => Ok(graph),
-        Err(text) => Err(Ending::Refused(text)),
-    }
+    open_graph(alloc, input.line())
 }
 
 /// Takes the goal line.
@@ -181,7 +187,7 @@ fn take_goal<R: Read>(
     take_wanted(input, reader)?;
     match read_goal(alloc, input.line()) {
         Ok(goal) => Ok(goal),
-        Err(fault) => Err(Ending::Refused(error_line(fault))),
+        Err(fault) => Err(Ending::Refused(fault)),
     }
 }
 
@@ -200,29 +206,31 @@ fn take_steps<R: Read>(
 {
     let mut steps = Vec::new(alloc);
     loop {
-        if !take(input, reader)? {
+        let more = take(input, reader)?;
+        if !more {
             return Ok(steps);
         }
         match read_step(alloc, input.line()) {
-            Err(fault) => return Err(Ending::Refused(error_line(fault))),
+            Err(fault) => return Err(Ending::Refused(fault)),
             Ok(step) => {
-                if steps.push(step).is_err() {
-                    return Err(Ending::Refused(error_line(WireFault::OutOfMemory)));
-                }
+                let Ok(()) = steps.push(step) else {
+                    return Err(Ending::Refused(WireFault::OutOfMemory));
+                };
             }
         }
     }
 }
 
-/// The graph that a configuration line opens, or the line of its refusal.
-fn open_graph(alloc: Global, bytes: &[u8]) -> Result<Graph, &'static [u8]>
+/// The graph that a configuration line opens.
+fn open_graph(alloc: Global, bytes: &[u8]) -> Result<Graph, Ending>
     ensures ok { IfOk result (λ graph. OpensGraph graph bytes.now) }
-    ensures err { IfErr result (λ text. RefusesOpening bytes.now text.now) }
+    ensures err { IfErr result (λ ending. (n : ℕ) → ((end_after ending n).fault ≡ None) × RefusesOpening bytes.now (end_after ending n).text) }
+    ensures failed { result ≢ Err Ending.Failed }
 {
     match read_config(alloc, bytes) {
-        Err(fault) => Err(error_line(fault)),
+        Err(fault) => Err(Ending::Refused(fault)),
         Ok(config) => match Graph::build(alloc, &config) {
-            Err(fault) => Err(open_fault_line(fault)),
+            Err(fault) => Err(Ending::Unsound(fault)),
             Ok(graph) => Ok(graph),
         },
     }
@@ -239,10 +247,11 @@ fn take_wanted<R: Read>(input: &mut InputLines, reader: &mut Watched<R>) -> Resu
     ensures ok { IfOk result (λ _. IfSome (unread input.old (R.remaining (device_of reader.old))) (Advances true input.new.line (unread input.new (R.remaining (device_of reader.new))))) }
     ensures err { IfErr result (λ ending. IfSome (unread input.old (R.remaining (device_of reader.old))) (EndsBytes NoRefusal true input.old.taken (end_after ending input.new.taken))) }
 {
-    if take(input, reader)? {
+    let more = take(input, reader)?;
+    if more {
         Ok(())
     } else {
-        Err(Ending::Refused(error_line(WireFault::NotJson)))
+        Err(Ending::Refused(WireFault::NotJson))
     }
 }
 

@@ -1,48 +1,32 @@
-use Rattle.std.proofs.Common.{rules, ◌≡◌, ◌↔◌, ◌≤◌, ◌+◌, ℕ, List, length, false, true, IfOk, IfErr, IfSome, Some, None, Err, ◌-◌, ◌*◌, ◌<◌, ◌/◌, ◌%◌, Bool, nat_eq, nat_lt, [], ◌∷◌, ◌++◌, slice_index_or, slice_set, bit_and, bit_or, Fits, w8, w32, w64, Bor, MutBor}
-use Rattle.std.specs.Io.KnownBytes.{Keeps}
-use Rattle.tg_wire.specs.Lines.{goal_of}
-use Rattle.tg_wire.specs.declared.line.TheConstants.{LONGEST_LINE}
-use Rattle.tg_talk.specs.Devices.{Sends, device_of, has_failed}
-use Rattle.tg_talk.specs.declared.fault.TalkFault.TheVariants.{OutOfMemory, Reading, Writing}
-use Rattle.tg_talk.specs.declared.line_buffer.TheConstants.{MOST_LINES}
-use Rattle.tgdoc.specs.Runs.{EndsOnce, RefusesOpening}
-use Rattle.tgdoc.specs.Audits.{BytesAudited, Misreads, OpensGraph, SaysGoal, end_errors, verdict_errors}
-use Rattle.tgdoc.specs.Turns.{one_if}
-use Rattle.tgdoc.specs.Auditing.{Advances, EndsBytes, EndsEarlyBytes, EndsStepBytes, Judges, NoRefusal, TakesRead, TakesSteps, TellsVerdict, end_after, unread}
+use Rattle.std.proofs.Common.{Err, refl, subst}
+use Rattle.tg_wire.specs.Lines.{step_of}
+use Rattle.tg_wire.specs.Reading as reading
+use Rattle.tgdoc.specs.Audits.{SaysStep, not_read}
+use Rattle.tgdoc.proofs.AuditLemmas.{loop_goes_on, loop_is_over, loop_refuses, loop_stops, misreads, passed, steps_none, unfailed}
 use Rattle.tgdoc.proofs.audit.take_steps.Goals as goal
 
--- src/audit.rt:202:5
 pub loop-steps-init : goal.loop-steps-init
-loop-steps-init g c = ?
+loop-steps-init g c = record { few = c.requires.few; reads = c.requires.reads; so_far = rw c.new-steps.ensures.items (steps_none _ _) }
 
--- src/audit.rt:203:13
-pub take-requires-clause-few : goal.take-requires-clause-few
-take-requires-clause-few g c = ?
+pub returns-in_err-more-clause-err : goal.returns-in_err-more-clause-err
+returns-in_err-more-clause-err g c = passed _ c.in_err-more.field-0.0 _ c.from_residual.ensures.1 (loop_stops _ _ _ _ _ _ c.loop-steps.invariant.so_far c.in_err-more.ensures.err)
 
--- src/audit.rt:203:13
-pub take-requires-clause-reads : goal.take-requires-clause-reads
-take-requires-clause-reads g c = ?
+pub returns-then-not-more-clause-ok : goal.returns-then-not-more-clause-ok
+returns-then-not-more-clause-ok g c = loop_is_over _ _ _ _ _ _ _ _ _ c.if-not-more.true c.in_ok-more.ensures.few.0 c.loop-steps.invariant.so_far c.in_ok-more.ensures.ok
 
--- src/audit.rt:203:13
-pub returns-in_err-take-clause-err : goal.returns-in_err-take-clause-err
-returns-in_err-take-clause-err g c = ?
-
--- src/audit.rt:204:13
-pub returns-then-not-branch-clause-ok : goal.returns-then-not-branch-clause-ok
-returns-then-not-branch-clause-ok g c = ?
-
--- src/audit.rt:207:27
 pub returns-in-Err-clause-err : goal.returns-in-Err-clause-err
-returns-in-Err-clause-err g c = ?
+returns-in-Err-clause-err g c =
+    loop_refuses _ _ _ _ _ _ _ _ _ _ c.if-not-more.false c.in_ok-more.ensures.few.0 c.in_ok-more.ensures.few.1 c.in_ok-more.ensures.short c.loop-steps.invariant.so_far c.in_ok-more.ensures.ok
+    (misreads step_of _ c.in-Err.fault (subst (λ line. reading.Answers (Err c.in-Err.fault) (step_of line)) c.line.ensures c.in-Err.ensures.answered))
 
--- src/audit.rt:210:21
-pub returns-then-is_err-clause-err : goal.returns-then-is_err-clause-err
-returns-then-is_err-clause-err g c = ?
-
--- src/audit.rt:202:5
-pub loop-steps-smaller : goal.loop-steps-smaller
-loop-steps-smaller g c = ?
-
--- src/audit.rt:202:5
 pub loop-steps-preserved : goal.loop-steps-preserved
-loop-steps-preserved g c = ?
+loop-steps-preserved g c = record {
+  few = c.in_ok-more.ensures.few.1;
+  reads = unfailed _ _ _ c.in_ok-more.ensures.failed.0;
+  so_far = rw c.in-Ok-push.ensures.items (loop_goes_on _ _ _ _ _ _ _ _ c.in-Ok.step _ c.if-not-more.false c.in_ok-more.ensures.few.0 c.in_ok-more.ensures.few.1 c.in_ok-more.ensures.short c.loop-steps.invariant.so_far c.in_ok-more.ensures.ok
+      (subst (SaysStep c.in-Ok.step) c.line.ensures c.in-Ok.ensures.answered));
+}
+
+pub returns-in_default-clause-err : goal.returns-in_default-clause-err
+returns-in_default-clause-err g c =
+    loop_refuses _ _ _ _ _ _ _ _ _ _ c.if-not-more.false c.in_ok-more.ensures.few.0 c.in_ok-more.ensures.few.1 c.in_ok-more.ensures.short c.loop-steps.invariant.so_far c.in_ok-more.ensures.ok (not_read refl)

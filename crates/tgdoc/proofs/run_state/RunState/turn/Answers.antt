@@ -1,4 +1,4 @@
-use Rattle.std.proofs.Common.{◌≡◌, ◌+◌, [], None, arith}
+use Rattle.std.proofs.Common.{[], None, arith}
 use Rattle.tg_talk.proofs.TakingLemmas.{always, weaker}
 use Rattle.tg_talk.specs.Taking.{Takes}
 use Rattle.tg_talk.specs.declared.input_lines.Next.TheVariants as next
