@@ -1,5 +1,6 @@
 #!/usr/bin/env python3
-"""What `tgdoc run` takes: lines a second and peak memory on generated input, one owner's edges, cycles of the collector.
+"""What `tgdoc run` takes: lines a second and peak memory on generated input, one owner's edges, cycles of the collector; and what
+`tgdoc audit` takes on a long derivation.
 
 `bench/lines.py PROGRAM` takes another program than crates/tgdoc/out/tgdoc. Each run ends within a minute.
 """
@@ -14,6 +15,7 @@ from pathlib import Path
 ROOT = Path(__file__).resolve().parent.parent
 OUT = ROOT / "bench" / "out"
 LINES = 900_000
+STEPS = 100_000
 VERTICES = 1_000
 RUNS = 3
 
@@ -88,6 +90,24 @@ def owner(edges, commands):
         yield '{"op":"write","over":%d,"text":"turn %d"}' % (over, turn)
 
 
+def derivation():
+    """Alice makes documents, reads and writes them, and grants bob to read them; bob reads them and gives the right up. The goal is met."""
+    yield '{"edges":[[1,"tg",2],[2,"tg",1]],"principals":["alice","bob"]}'
+    yield '{"from":1,"rights":"rwg","to":%d}' % VERTICES
+    for _ in range(VERTICES - 2):
+        yield '{"actor":1,"kind":"document","op":"create","rights":"rwg"}'
+    for step in range(STEPS - (VERTICES - 2)):
+        over = 3 + step // 6 * 7 % (VERTICES - 2)
+        yield [
+            '{"actor":1,"op":"read","over":%d}' % over,
+            '{"actor":1,"op":"write","over":%d,"text":"step %d"}' % (over, step),
+            '{"actor":1,"op":"grant","over":%d,"rights":"r","to":2}' % over,
+            '{"actor":2,"op":"read","over":%d}' % over,
+            '{"actor":1,"at":2,"op":"look"}',
+            '{"actor":2,"op":"remove","over":%d,"rights":"r"}' % over,
+        ][step % 6]
+
+
 def written(name, rows):
     """The file of these lines."""
     OUT.mkdir(exist_ok=True)
@@ -99,15 +119,15 @@ def written(name, rows):
     return place
 
 
-def measure(program, name, rows, runs=RUNS):
-    """Runs the program on the lines, and prints how long it took and how much memory it had at most."""
+def measure(program, name, rows, runs=RUNS, word="run"):
+    """Runs the program, or another of its commands, on the lines, and prints how long it took and how much memory it had at most."""
     place = written(name, rows)
     with open(place, "rb") as file:
         count = sum(1 for _ in file)
     for _ in range(runs):
         with open(place, "rb") as given, open(os.devnull, "wb") as answers:
             start = time.perf_counter()
-            child = subprocess.Popen([str(program), "run"], stdin=given, stdout=answers)
+            child = subprocess.Popen([str(program), word], stdin=given, stdout=answers)
             _, status, used = os.wait4(child.pid, 0)
             taken = time.perf_counter() - start
         child.returncode = os.waitstatus_to_exitcode(status)
@@ -159,6 +179,7 @@ def main():
     measure(program, "collected", collected())
     for edges in (100, 1_000, 10_000):
         measure(program, "owner-%d" % edges, owner(edges, 100_000), runs=1)
+    measure(program, "derivation", derivation(), word="audit")
     for slots in (1_000, 4_096, 16_384, 65_536):
         cycles(program, slots)
     return 0

@@ -342,7 +342,135 @@ def collector():
     yield opening("full-of-cells", b'{"cells":1,"edges":[[1,"t",2]],"principals":["alice","bob"],"slots":3}', (HELLO, WELCOME), (create, b'{"full":"cells"}'))
 
 
+# The worked derivation: alice takes from bob, and then has what the goal asks for.
+THREE = b'{"edges":[[1,"t",2],[2,"r",3]],"principals":["alice","bob","carol"]}'
+GOAL = b'{"from":1,"rights":"r","to":3}'
+STEP = b'{"actor":1,"from":2,"op":"take","over":3,"rights":"r"}'
+SHARED = b'{"verdict":"shared"}'
+COMMANDS = ["take", "grant", "create", "remove", "read", "write", "look"]
+
+
+def audited(name, answer, *rows):
+    """An audit of these lines and its answer. The status is 0 for the verdict `shared` alone."""
+    return "audit-" + name, ["audit"], joined(*rows), joined(answer), int(answer != SHARED)
+
+
+def stopped(index, verdict):
+    """The verdict that this step cannot be carried out."""
+    return b'{"step":%d,"verdict":"%s"}' % (index, verdict)
+
+
+def step_of(op, actor="1", **fields):
+    """The line of a step."""
+    return object_of([("actor", actor), ("op", '"%s"' % op), *fields.items()])
+
+
+def step_line(op, but=(), extra=()):
+    """The line of a step with good fields, without some and with others."""
+    fields = [("actor", "1"), ("op", '"%s"' % op)] + [(name, GOOD[name]) for name in REQUIRED[op]]
+    return object_of([field for field in fields if field[0] not in but] + list(extra))
+
+
+def audit_refusals():
+    """Each line of an audit that is refused ends it with an error and no verdict."""
+    denied = step_of("read", over="9")
+    refused = [("not-json", b"{", NOT_JSON), ("empty", b"", NOT_JSON), ("list", b"[]", NOT_OBJECT)]
+    yield "audit-without-lines", ["audit"], b"", joined(NOT_JSON), 1
+    yield audited("without-a-goal", NOT_JSON, THREE)
+    yield audited("configuration-refused-before-the-goal", b'{"error":"config","fault":2}', b'{"principals":["alice","alice"]}', b"[]")
+    yield audited("configuration-alone-refused", b'{"error":"config","fault":1}', b'{"principals":[]}')
+    yield audited("goal-before-the-configuration", MISSING, GOAL, THREE, STEP)
+    yield audited("goal-refused-before-a-step", BAD, THREE, b'{"from":-1,"rights":"r","to":3}', b"[]")
+    yield audited("step-refused-after-a-denied-one", MISSING, THREE, GOAL, STEP, denied, b'{"actor":1,"op":"read"}', STEP)
+    yield audited("first-of-two-refused-steps", UNKNOWN_OP, THREE, GOAL, b"{}", b"[]")
+    for name, line, answer in refused:
+        yield audited("configuration-" + name, answer, line, GOAL)
+        yield audited("goal-" + name, answer, THREE, line, STEP)
+        yield audited("step-" + name, answer, THREE, GOAL, STEP, line)
+    for field in ["from", "to", "rights"]:
+        good = [("from", "1"), ("rights", '"r"'), ("to", "3")]
+        others = [pair for pair in good if pair[0] != field]
+        yield audited("goal-missing-" + field, MISSING, THREE, object_of(others), STEP)
+        for value in BAD_VALUES[field]:
+            yield audited("goal-bad-%s-%s" % (field, value), BAD, THREE, object_of(others + [(field, value)]), STEP)
+    for field in ["op", "seat", "actor", "over"]:
+        line = object_of([("from", "1"), ("rights", '"r"'), ("to", "3"), (field, "1")])
+        yield audited("goal-with-" + field, UNKNOWN_FIELD, THREE, line, STEP)
+    for op in ["hello", "bye", "shade", "collect", "cycle"]:
+        yield audited("%s-is-no-step" % op, UNKNOWN_OP, THREE, GOAL, line_of(op), STEP)
+    yield audited("unknown-op-before-a-missing-actor", UNKNOWN_OP, THREE, GOAL, b'{"op":"steal","seat":1}')
+    for op in COMMANDS:
+        for field in ["actor", *REQUIRED[op]]:
+            yield audited("missing-%s-of-%s" % (field, op), MISSING, THREE, GOAL, step_line(op, but=[field]))
+            bad = step_line(op, but=[field], extra=[(field, "null")])
+            yield audited("bad-%s-of-%s" % (field, op), BAD, THREE, GOAL, bad)
+        for field in ["seat", "x"]:
+            yield audited("%s-in-%s" % (field, op), UNKNOWN_FIELD, THREE, GOAL, step_line(op, extra=[(field, "0")]))
+    for value in BAD_NUMBERS:
+        yield audited("bad-actor-" + value, BAD, THREE, GOAL, step_line("look", but=["actor"], extra=[("actor", value)]))
+    yield audited("missing-before-bad-and-unknown", MISSING, THREE, GOAL, b'{"actor":-1,"op":"read","seat":0}')
+    yield audited("bad-before-unknown", BAD, THREE, GOAL, b'{"actor":-1,"op":"read","over":3,"seat":0}')
+    for name, rows in [("configuration", []), ("goal", [THREE]), ("step", [THREE, GOAL, STEP, denied])]:
+        yield audited("%s-of-16385-bytes" % name, TOO_LONG, *rows, b" " * 16385, STEP)
+    yield audited("step-of-16384-bytes", SHARED, THREE, GOAL, STEP + b" " * (16384 - len(STEP)))
+    yield "audit-last-line-without-a-line-feed", ["audit"], joined(THREE, GOAL) + STEP, joined(SHARED), 0
+    yield "audit-cut-in-a-step", ["audit"], joined(THREE, GOAL, STEP) + STEP[:20], joined(NOT_JSON), 1
+    # The configuration and the goal count, so that the line after the millionth is the 999,999th behind them.
+    most = joined(THREE, GOAL) + joined(b'{"actor":1,"at":1,"op":"look"}') * 999998
+    yield "audit-of-a-line-after-the-millionth", ["audit"], most + joined(STEP), joined(TOO_MANY), 1
+
+
+def verdicts():
+    """Each verdict, the steps counted from 0."""
+    two = b'{"edges":[[1,"tg",2]],"principals":["alice","bob"]}'
+    alone = b'{"principals":["alice"]}'
+    create = step_of("create", kind='"document"', rights='"rwg"')
+    each = [
+        create,
+        step_of("write", over="3", text='"hi"'),
+        step_of("read", over="3"),
+        step_of("grant", rights='"rw"', over="3", to="2"),
+        step_of("look", at="2"),
+        step_of("remove", rights='"rw"', over="3"),
+        # Alice has g over document 3, which she made, and bob r and w; she takes w.
+        step_of("take", rights='"w"', over="3", **{"from": "2"}),
+    ]
+    yield audited("of-each-command", SHARED, two, b'{"from":1,"rights":"gw","to":3}', *each)
+    yield audited("goal-lacks-one-of-four", b'{"missing":"rt","verdict":"goal missing"}', two, b'{"from":1,"rights":"gtwr","to":3}', *each)
+    yield audited("goal-over-what-a-step-gave-up", b'{"missing":"rw","verdict":"goal missing"}', two, b'{"from":1,"rights":"rw","to":3}', *each[:6])
+    yield audited("goal-between-no-vertices", b'{"missing":"wt","verdict":"goal missing"}', two, b'{"from":9,"rights":"tw","to":8}')
+    yield audited("goal-of-a-vertex-over-itself", b'{"missing":"r","verdict":"goal missing"}', two, b'{"from":1,"rights":"r","to":1}')
+    yield audited("of-no-steps", SHARED, two, b'{"from":1,"rights":"g","to":2}')
+    yield audited("empty-goal-after-a-denied-step", b'{"denied":"read","from":1,"missing":"r","step":0,"to":3,"verdict":"step denied"}', two, b'{"from":1,"rights":"","to":2}', each[2])
+    # A subject that alice creates acts after that, and what it creates can be taken from it.
+    subject = step_of("create", kind='"subject"', rights='"t"')
+    document = step_of("create", actor="2", kind='"document"', rights='"r"')
+    take = step_of("take", rights='"r"', over="3", **{"from": "2"})
+    over_3 = b'{"from":1,"rights":"r","to":3}'
+    yield audited("of-a-created-subject", SHARED, alone, over_3, subject, document, take)
+    yield audited("actor-that-is-created-later", stopped(0, b"actor not subject"), alone, over_3, document, subject, take)
+    yield audited("actor-that-is-a-document", stopped(2, b"actor not subject"), alone, over_3, subject, document, step_of("look", actor="3", at="3"))
+    yield audited("actor-before-the-rules", stopped(0, b"actor not subject"), alone, over_3, step_of("create", actor="9", kind='"document"', rights='""'))
+    yield audited("next-given", SHARED, b'{"next":7,"principals":["alice"]}', b'{"from":1,"rights":"r","to":7}', create)
+    # No slots and no cells are asked in a derivation, and no target is pending.
+    few = b'{"cells":1,"principals":["alice"],"slots":1}'
+    yield audited("asks-no-slots-and-cells", SHARED, few, b'{"from":1,"rights":"w","to":3}', create, create)
+    last = b'{"next":18446744073709551614,"principals":["alice"]}'
+    over_last = b'{"from":1,"rights":"","to":1}'
+    yield audited("of-the-last-serial", SHARED, last, over_last, create)
+    yield audited("after-the-last-serial", stopped(1, b"step full"), last, over_last, create, create)
+    none = step_of("create", kind='"document"', rights='""')
+    yield audited("denied-before-full", b'{"cause":"empty","denied":"create","step":1,"verdict":"step denied"}', last, over_last, create, none)
+    itself = step_of("write", over="1", text='""')
+    yield audited("step-not-distinct", b'{"cause":"not distinct","denied":"write","step":0,"verdict":"step denied"}', two, GOAL, itself)
+    lacks = step_of("take", rights='"rwg"', over="3", **{"from": "2"})
+    yield audited("step-lacks-two", b'{"denied":"take","from":2,"missing":"wg","step":0,"to":3,"verdict":"step denied"}', THREE, GOAL, lacks, itself)
+    person = b'{"edges":[[1,"r",2]],"principals":["alice","bob"]}'
+    read = step_of("read", over="2")
+    yield audited("step-not-document", b'{"cause":"not document","denied":"read","step":1,"verdict":"step denied","vertex":2}', person, GOAL, create, read)
+
+
 def tests():
     """All runs, each as a name, words, input, output and status."""
-    for group in (refusals, readings, texts, ends, configurations, answers, collector):
+    for group in (refusals, readings, texts, ends, configurations, answers, collector, audit_refusals, verdicts):
         yield from group()

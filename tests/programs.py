@@ -2,6 +2,7 @@
 
 import contextlib
 import os
+import select
 import shlex
 import subprocess
 import threading
@@ -13,6 +14,9 @@ ROOT = Path(__file__).resolve().parent.parent
 SECONDS = 60
 CONFIG = b'{"principals":["alice"]}\n'
 HELLO = b'{"name":"alice","op":"hello"}\n'
+WELCOME = b'{"ok":"hello","vertex":1}\n'
+DERIVATION = CONFIG + b'{"from":1,"rights":"r","to":2}\n{"actor":1,"kind":"document","op":"create","rights":"r"}\n'
+SHARED = b'{"verdict":"shared"}\n'
 
 
 @contextlib.contextmanager
@@ -60,14 +64,47 @@ def lines_in_one_write(program):
     return (answers, status) == ([answer, b'{"ok":"bye"}\n', answer], 0)
 
 
-def input_that_cannot_be_read(program):
+def input_that_cannot_be_read(word):
     """A read that fails ends the run with status 1 and no answer."""
-    folder = os.open("/", os.O_RDONLY)
-    try:
-        ran = subprocess.run([str(program), "run"], stdin=folder, capture_output=True, timeout=SECONDS)
-    finally:
-        os.close(folder)
-    return (ran.stdout, ran.returncode) == (b"", 1)
+
+    def test(program):
+        folder = os.open("/", os.O_RDONLY)
+        try:
+            ran = subprocess.run([str(program), word], stdin=folder, capture_output=True, timeout=SECONDS)
+        finally:
+            os.close(folder)
+        return (ran.stdout, ran.returncode) == (b"", 1)
+
+    return test
+
+
+def no_verdict_before_the_end(program):
+    """Steps that may still come keep the verdict back; it is there as soon as the input ends."""
+    with talk(program, "audit") as process:
+        process.stdin.write(DERIVATION)
+        process.stdin.flush()
+        early, _, _ = select.select([process.stdout], [], [], 0.2)
+        process.stdin.close()
+        rest = process.stdout.read()
+        status = process.wait(SECONDS)
+    return (early, rest, status) == ([], SHARED, 0)
+
+
+def refused_line_is_answered_at_once(program):
+    """A line that is refused ends an audit though its input goes on."""
+    with talk(program, "audit") as process:
+        process.stdin.write(CONFIG + b"{}\n")
+        process.stdin.flush()
+        rest = process.stdout.read()
+        status = process.wait(SECONDS)
+    return (rest, status) == (b'{"error":"missing field"}\n', 1)
+
+
+def verdict_that_cannot_be_written(program):
+    """A verdict that is lost is status 1, also where it is `shared`."""
+    with open("/dev/full", "wb") as full:
+        ran = subprocess.run([str(program), "audit"], input=DERIVATION, stdout=full, stderr=subprocess.PIPE, timeout=SECONDS)
+    return ran.returncode == 1
 
 
 def output_that_cannot_be_written(program):
@@ -94,39 +131,54 @@ def refused(*words):
     return test
 
 
-def accepted(*words):
-    """A command line that asks for a run: the lines are answered."""
+def accepted(given, answer, *words):
+    """A command line that asks for a mode: the lines are answered."""
 
     def test(program):
-        ran = subprocess.run([str(program), *words], input=CONFIG + HELLO, capture_output=True, timeout=SECONDS)
-        return (ran.stdout, ran.returncode) == (b'{"ok":"hello","vertex":1}\n', 0)
+        ran = subprocess.run([str(program), *words], input=given, capture_output=True, timeout=SECONDS)
+        return (ran.stdout, ran.returncode) == (answer, 0)
 
     return test
 
 
-def example_of(program, *words):
-    """The words of the one example that ends a help text; none where the text is not as wanted."""
+def example_of(program, named, *words):
+    """The words of the one example that ends a help text; none where the text is not as wanted or does not have the words that it is to name."""
     ran = subprocess.run([str(program), *words], input=b"", capture_output=True, timeout=SECONDS)
     before, mark, example = ran.stdout.decode().partition("\nExample:\n")
-    good = ran.returncode == 0 and "run" in before and ran.stderr == b"" and example.count("\n") == 1
+    good = ran.returncode == 0 and all(word in before for word in named) and ran.stderr == b"" and example.count("\n") == 1
     return shlex.split(example) if good else []
 
 
-def help_on_the_program(program):
+def help_with_a_file(begins, named, *help_words):
     """Help on standard output, status 0; its example answers the lines of a file."""
-    *words, sign, name = example_of(program, "--help")
-    given = (ROOT / name).read_bytes()
-    ran = subprocess.run([str(program), *words[1:]], input=given, capture_output=True, timeout=SECONDS)
-    return (words[0], sign, ran.returncode) == ("tgdoc", "<", 0) and ran.stdout.startswith(b'{"ok":"hello","vertex":1}\n')
+
+    def test(program):
+        *words, sign, name = example_of(program, named, *help_words)
+        given = (ROOT / name).read_bytes()
+        ran = subprocess.run([str(program), *words[1:]], input=given, capture_output=True, timeout=SECONDS)
+        return (words[0], sign, ran.returncode) == ("tgdoc", "<", 0) and ran.stdout.startswith(begins)
+
+    return test
 
 
-def help_on_the_mode(program):
+def help_on_run(program):
     """Help on standard output, status 0; its example answers the lines of another command."""
-    words = example_of(program, "run", "--help")
+    words = example_of(program, ["run"], "run", "--help")
     bar = words.index("|")
     lines = subprocess.run(words[:bar], capture_output=True, timeout=SECONDS).stdout
     ran = subprocess.run([str(program), *words[bar + 2 :]], input=lines, capture_output=True, timeout=SECONDS)
     return words[bar + 1] == "tgdoc" and (ran.stdout, ran.returncode) == (b'{"ok":"hello","vertex":1}\n', 0)
+
+
+def example(name, answer, status):
+    """The verdict on the derivation of an example."""
+
+    def test(program):
+        given = (ROOT / "examples" / name).read_bytes()
+        ran = subprocess.run([str(program), "audit"], input=given, capture_output=True, timeout=SECONDS)
+        return (ran.stdout, ran.returncode) == (answer, status)
+
+    return test
 
 
 def versioned(*words):
@@ -143,18 +195,29 @@ def tests():
     """All tests by their names."""
     yield "answers-come-at-once", answers_come_at_once
     yield "lines-in-one-write", lines_in_one_write
-    yield "input-that-cannot-be-read", input_that_cannot_be_read
+    yield "input-that-cannot-be-read", input_that_cannot_be_read("run")
+    yield "input-of-an-audit-that-cannot-be-read", input_that_cannot_be_read("audit")
+    yield "no-verdict-before-the-end", no_verdict_before_the_end
+    yield "refused-line-of-an-audit-is-answered-at-once", refused_line_is_answered_at_once
+    yield "verdict-that-cannot-be-written", verdict_that_cannot_be_written
     yield "output-that-cannot-be-written", output_that_cannot_be_written
     yield "nothing-to-write", nothing_to_write
-    yield "the-mode-alone", accepted("run")
-    yield "dashes-behind-the-mode", accepted("run", "--")
-    yield "dashes-before-the-mode", refused("--", "run")
-    yield "help", help_on_the_program
-    yield "help-on-the-mode", help_on_the_mode
+    for word, given, answer in [("run", CONFIG + HELLO, WELCOME), ("audit", DERIVATION, SHARED)]:
+        yield "%s-alone" % word, accepted(given, answer, word)
+        yield "dashes-behind-" + word, accepted(given, answer, word, "--")
+        yield "dashes-before-" + word, refused("--", word)
+        yield "version-of-" + word, refused(word, "--version")
+        yield "a-word-too-many-behind-" + word, refused(word, "now")
+        yield "an-option-that-%s-does-not-have" % word, refused(word, "--fast")
+    yield "help", help_with_a_file(WELCOME, ["run", "audit"], "--help")
+    yield "help-on-run", help_on_run
+    yield "help-on-audit", help_with_a_file(SHARED, ["audit"], "audit", "--help")
     yield "version", versioned("--version")
     yield "version-before-other-words", versioned("--version", "run", "now")
-    yield "version-of-the-mode", refused("run", "--version")
+    yield "example-derivation", example("derivation.jsonl", SHARED, 0)
+    # Without the step by which bob takes g, he may not grant to vertex 5.
+    short = b'{"denied":"grant","from":2,"missing":"g","step":3,"to":5,"verdict":"step denied"}\n'
+    yield "example-derivation-short", example("derivation-short.jsonl", short, 1)
     yield "no-word", refused()
     yield "another-word", refused("steal")
-    yield "a-word-too-many", refused("run", "now")
-    yield "an-option-that-there-is-not", refused("run", "--fast")
+    yield "two-modes", refused("run", "audit")
