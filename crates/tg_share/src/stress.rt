@@ -82,7 +82,7 @@ impl Draws {
 }
 
 /// A command, but for a write's text.
-#[derive(Clone, Copy)]
+#[derive(Drop)]
 struct Drawn {
     rule: Rule,
     rights: Rights,
@@ -91,13 +91,13 @@ struct Drawn {
 }
 
 impl Drawn {
-    fn command(self, alloc: Global) -> Result<Command, AllocError> {
+    fn command(&self, alloc: Global) -> Result<Command, AllocError> {
         let Drawn {
             rule,
             rights,
             over,
             other,
-        } = self;
+        } = *self;
         Ok(match rule {
             Rule::Take => Command::Take {
                 rights,
@@ -168,8 +168,8 @@ impl Actor {
             return self.given_up();
         }
         let over = match rule {
-            Rule::Take => newest,
-            Rule::Grant | Rule::Look => self.draws.principal(),
+            Rule::Take | Rule::Look => newest,
+            Rule::Grant => self.draws.principal(),
             Rule::Create | Rule::Remove | Rule::Read | Rule::Write => self.last(),
         };
         Drawn {
@@ -181,7 +181,12 @@ impl Actor {
     }
 
     /// What was told is kept in mind.
-    fn learn(&mut self, drawn: Drawn, reply: &Reply, newest: &AtomicU64) -> Result<(), AllocError> {
+    fn learn(
+        &mut self,
+        drawn: &Drawn,
+        reply: &Reply,
+        newest: &AtomicU64,
+    ) -> Result<(), AllocError> {
         match reply {
             Reply::Created(serial) => {
                 self.made = self.made.wrapping_add(1);
@@ -216,7 +221,7 @@ fn ask_one<L: Ledger, R: Wait + Clock>(
     let drawn = actor.draw(newest.load(Ordering::SeqCst));
     let command = drawn.command(alloc).ok()?;
     match session.submit(rt, command, &Open) {
-        Ok(reply) => actor.learn(drawn, reply, newest).ok(),
+        Ok(reply) => actor.learn(&drawn, reply, newest).ok(),
         Err(_) => None,
     }
 }
