@@ -13,6 +13,7 @@ use std::sync::atomic::{AtomicBool, AtomicU64, Ordering};
 use std::sync::ledger::{Blank, Ledger};
 use std::thread;
 use std::thread::Threads;
+use std::time::Duration;
 use tg_graph::Config;
 use tg_rights::{Cause, Command, Kind, Reply, Rights, Rule, Text, Word};
 use tg_vault::Vault;
@@ -128,6 +129,41 @@ impl Drawn {
     }
 }
 
+const TURNS: u32 = 1_000_000;
+
+/// What the threads tell one another.
+#[derive(Drop)]
+struct Board {
+    /// How many sessions were given.
+    seated: AtomicU64,
+    /// Someone's newest document.
+    newest: AtomicU64,
+    /// All sessions have ended.
+    is_over: AtomicBool,
+}
+
+impl Board {
+    fn new() -> Board {
+        Board {
+            seated: AtomicU64::new(0),
+            newest: AtomicU64::new(1),
+            is_over: AtomicBool::new(false),
+        }
+    }
+
+    /// Waits until all sessions are given, in turns that are counted; whether they are.
+    fn wait_for_all<R: Clock>(&self, rt: &R) -> bool {
+        self.seated.fetch_add(1, Ordering::SeqCst);
+        for _ in 0..TURNS {
+            if self.seated.load(Ordering::SeqCst) >= SESSIONS {
+                return true;
+            }
+            thread::sleep(rt, Duration::from_micros(10));
+        }
+        false
+    }
+}
+
 /// What a session goes by.
 #[derive(Drop)]
 struct Actor {
@@ -181,16 +217,11 @@ impl Actor {
     }
 
     /// What was told is kept in mind.
-    fn learn(
-        &mut self,
-        drawn: &Drawn,
-        reply: &Reply,
-        newest: &AtomicU64,
-    ) -> Result<(), AllocError> {
+    fn learn(&mut self, drawn: &Drawn, reply: &Reply, board: &Board) -> Result<(), AllocError> {
         match reply {
             Reply::Created(serial) => {
                 self.made = self.made.wrapping_add(1);
-                newest.store(*serial, Ordering::SeqCst);
+                board.newest.store(*serial, Ordering::SeqCst);
                 self.held.push((*serial, drawn.rights))?;
             }
             Reply::Done => {
@@ -216,12 +247,12 @@ fn ask_one<L: Ledger, R: Wait + Clock>(
     alloc: Global,
     session: &mut Session<'_, L>,
     actor: &mut Actor,
-    newest: &AtomicU64,
+    board: &Board,
 ) -> Option<()> {
-    let drawn = actor.draw(newest.load(Ordering::SeqCst));
+    let drawn = actor.draw(board.newest.load(Ordering::SeqCst));
     let command = drawn.command(alloc).ok()?;
     match session.submit(rt, command, &Open) {
-        Ok(reply) => actor.learn(&drawn, reply, newest).ok(),
+        Ok(reply) => actor.learn(&drawn, reply, board).ok(),
         Err(_) => None,
     }
 }
@@ -232,10 +263,10 @@ fn ask_all<L: Ledger, R: Wait + Clock>(
     alloc: Global,
     session: &mut Session<'_, L>,
     actor: &mut Actor,
-    newest: &AtomicU64,
+    board: &Board,
 ) -> bool {
     for _ in 0..COMMANDS {
-        if ask_one(rt, alloc, session, actor, newest).is_none() {
+        if ask_one(rt, alloc, session, actor, board).is_none() {
             return false;
         }
     }
@@ -254,12 +285,12 @@ fn name_of(seat: u64) -> &'static str {
     NAMES[(seat % PRINCIPALS) as usize]
 }
 
-/// A whole session; none where a command was not entered.
+/// A whole session, which asks once all are given; none where a command was not entered.
 fn act<L: Ledger, R: Wait + Clock>(
     rt: &R,
     alloc: Global,
     shared: &Shared<L>,
-    newest: &AtomicU64,
+    board: &Board,
     seat: u64,
     seed: u64,
 ) -> Option<Acted<L>> {
@@ -271,7 +302,7 @@ fn act<L: Ledger, R: Wait + Clock>(
     let Ok(mut session) = shared.session(rt, alloc, seat, name_of(seat)) else {
         return None;
     };
-    let entered = ask_all(rt, alloc, &mut session, &mut actor, newest);
+    let entered = board.wait_for_all(rt) && ask_all(rt, alloc, &mut session, &mut actor, board);
     let ended = session.end(rt);
     if entered {
         Some(Acted {
@@ -284,9 +315,9 @@ fn act<L: Ledger, R: Wait + Clock>(
 }
 
 /// Collects until all sessions are over.
-fn collect_until<L: Ledger, R: Wait + Clock>(rt: &R, shared: &Shared<L>, is_over: &AtomicBool) {
+fn collect_until<L: Ledger, R: Wait + Clock>(rt: &R, shared: &Shared<L>, board: &Board) {
     for _ in rt.forever() {
-        if is_over.load(Ordering::SeqCst) {
+        if board.is_over.load(Ordering::SeqCst) {
             break;
         }
         let _ = shared.collector(rt, 100, &Open);
@@ -307,17 +338,15 @@ fn act_at_once<L: Ledger + Send + Sync, R: Threads + Wait + Clock + Sync>(
     shared: &Shared<L>,
     seed: u64,
 ) -> Option<Crowd<L>> {
-    let is_over = AtomicBool::new(false);
-    let over = &is_over;
-    let last = AtomicU64::new(1);
-    let newest = &last;
+    let own = Board::new();
+    let board = &own;
     thread::scope(thread::scope_env(), rt, |scope| {
-        let collector = scope.spawn(move || collect_until(rt, shared, over));
+        let collector = scope.spawn(move || collect_until(rt, shared, board));
         let mut threads = Vec::new(alloc);
         let mut is_short = collector.is_err();
         for seat in 0..SESSIONS {
-            let own = seed.wrapping_mul(SESSIONS).wrapping_add(seat);
-            is_short = match scope.spawn(move || act(rt, alloc, shared, newest, seat, own)) {
+            let drawn_from = seed.wrapping_mul(SESSIONS).wrapping_add(seat);
+            is_short = match scope.spawn(move || act(rt, alloc, shared, board, seat, drawn_from)) {
                 Ok(thread) => threads.push(thread).is_err() || is_short,
                 Err(_) => true,
             };
@@ -333,7 +362,7 @@ fn act_at_once<L: Ledger + Send + Sync, R: Threads + Wait + Clock + Sync>(
                 None => is_short = true,
             }
         }
-        over.store(true, Ordering::SeqCst);
+        board.is_over.store(true, Ordering::SeqCst);
         if is_short {
             None
         } else {
@@ -342,7 +371,7 @@ fn act_at_once<L: Ledger + Send + Sync, R: Threads + Wait + Clock + Sync>(
     })
 }
 
-/// A vault of 8 principals, each with all rights over the next one.
+/// A vault of 8 principals, each with the rights to take from the next one and to grant to it.
 fn opened(rt: &impl Abort, alloc: Global) -> Result<Vault, AllocError>
     ensures { IfOk result (λ vault. vault.history ≡ []) }
 {
