@@ -138,6 +138,8 @@ struct Board {
     seated: AtomicU64,
     /// Someone's newest document.
     newest: AtomicU64,
+    /// How many cycles the collector has ended.
+    cycles: AtomicU64,
     /// All sessions have ended.
     is_over: AtomicBool,
 }
@@ -147,20 +149,34 @@ impl Board {
         Board {
             seated: AtomicU64::new(0),
             newest: AtomicU64::new(1),
+            cycles: AtomicU64::new(0),
             is_over: AtomicBool::new(false),
         }
     }
 
-    /// Waits until all sessions are given, in turns that are counted; whether they are.
-    fn wait_for_all<R: Clock>(&self, rt: &R) -> bool {
-        self.seated.fetch_add(1, Ordering::SeqCst);
+    /// Waits for what is to come, in turns that are counted; whether it has come.
+    fn wait<R: Clock, F: Fn(&Board) -> bool>(&self, rt: &R, has_come: F) -> bool
+        requires { F.IsAlwaysCallable has_come }
+    {
         for _ in 0..TURNS {
-            if self.seated.load(Ordering::SeqCst) >= SESSIONS {
+            if has_come(self) {
                 return true;
             }
             thread::sleep(rt, Duration::from_micros(10));
         }
         false
+    }
+
+    /// Waits until all sessions are given.
+    fn wait_for_all<R: Clock>(&self, rt: &R) -> bool {
+        self.seated.fetch_add(1, Ordering::SeqCst);
+        self.wait(rt, |board| board.seated.load(Ordering::SeqCst) >= SESSIONS)
+    }
+
+    /// Waits until the collector has ended three more cycles: what was given up is then free.
+    fn wait_for_cycles<R: Clock>(&self, rt: &R) -> bool {
+        let wanted = self.cycles.load(Ordering::SeqCst).wrapping_add(3);
+        self.wait(rt, |board| board.cycles.load(Ordering::SeqCst) >= wanted)
     }
 }
 
@@ -257,7 +273,7 @@ fn ask_one<L: Ledger, R: Wait + Clock>(
     }
 }
 
-/// Asks all commands; whether each was entered.
+/// Asks all commands, half of them after the collector was waited for; whether each was entered.
 fn ask_all<L: Ledger, R: Wait + Clock>(
     rt: &R,
     alloc: Global,
@@ -265,7 +281,10 @@ fn ask_all<L: Ledger, R: Wait + Clock>(
     actor: &mut Actor,
     board: &Board,
 ) -> bool {
-    for _ in 0..COMMANDS {
+    for number in 0..COMMANDS {
+        if number == COMMANDS / 2 && !board.wait_for_cycles(rt) {
+            return false;
+        }
         if ask_one(rt, alloc, session, actor, board).is_none() {
             return false;
         }
@@ -320,7 +339,8 @@ fn collect_until<L: Ledger, R: Wait + Clock>(rt: &R, shared: &Shared<L>, board: 
         if board.is_over.load(Ordering::SeqCst) {
             break;
         }
-        let _ = shared.collector(rt, 100, &Open);
+        let worked = shared.collector(rt, 100, &Open);
+        board.cycles.fetch_add(worked.ended, Ordering::SeqCst);
     }
 }
 
