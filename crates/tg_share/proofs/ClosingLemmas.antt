@@ -1,0 +1,53 @@
+-- A shared vault that is closed: from what was settled and counted to what is promised.
+use Rattle.std.proofs.Common.{◌≡◌, ℕ, ◌+◌, List, [], ◌∷◌, ◌++◌, append-nil, arith, Bool, true, map, length, refl, sym, ap, subst, ◌∙◌, sum_by}
+use Rattle.std.proofs.lemmas.List.Sums.{sum_by-cons}
+use Rattle.tg_vault.specs.Contents.{Contents}
+use Rattle.tg_vault.specs.Laws.{CoursesHaveTheHeadline}
+use Rattle.tg_audit.specs.declared.logs.SeatLog.{SeatLog}
+use Rattle.tg_audit.specs.declared.logs.Settled.{Settled}
+use Rattle.tg_audit.specs.declared.logs.Settled.TheVariants as settled
+use Rattle.tg_audit.specs.Laws.{AgreedCounts}
+use Rattle.tg_audit.specs.Settling.{SettledAs}
+use Rattle.tg_share.specs.declared.session.Ended.{Ended}
+use Rattle.tg_share.specs.Closing.{IsAgreed, IsSettled, exchange_count, logs_of, vault_in}
+use Rattle.tg_share.specs.Reached.{HasHeadline, IsReached}
+
+pub nothing_left : {A : Type 0} (front rest whole : List A) → length rest ≡ 0 → front ++ rest ≡ whole → front ≡ whole
+nothing_left front [] whole none is = sym (append-nil front) ∙ is
+nothing_left front (x ∷ rest) whole none is = absurd (omega arith)
+
+-- the exchanges in the logs are those of the ended sessions
+count_in_logs : {L : Type 0} (ended : List (Ended L)) → sum_by (λ l. length l.exchanges.items) (logs_of ended) ≡ exchange_count ended
+count_in_logs [] = refl
+count_in_logs (e ∷ ended) =
+    sum_by-cons (λ (l : SeatLog). length l.exchanges.items) e.log (logs_of ended)
+    ∙ ap (λ n. length e.log.exchanges.items + n) (count_in_logs ended)
+    ∙ sym (sum_by-cons (λ (one : Ended _). length one.log.exchanges.items) e ended)
+
+handed_back : (v : Contents) (logs : List SeatLog) (s : Settled) → SettledAs v logs s → vault_in s ≡ v
+handed_back v logs (settled.Agreed w) is = is.0
+handed_back v logs (settled.Differs w back seat index) is = is.0
+handed_back v logs (settled.NoMemory w back) is = is.0
+
+-- by the law of the auditor
+counted_where_agreed : (v : Contents) (logs : List SeatLog) (s : Settled) → AgreedCounts → SettledAs v logs s → IsAgreed s → length v.history ≡ sum_by (λ l. length l.exchanges.items) logs
+counted_where_agreed v logs (settled.Agreed w) law is agreed = law v logs is.1
+counted_where_agreed v logs (settled.Differs w back seat index) law is agreed = absurd agreed
+counted_where_agreed v logs (settled.NoMemory w back) law is agreed = absurd agreed
+
+has_headline : CoursesHaveTheHeadline → (v : Contents) → IsReached v → HasHeadline v
+has_headline law v reached =
+    let both = law reached.opened reached.events reached.answers v reached.coherent reached.course in
+    record { opened = reached.opened; events = reached.events; answers = reached.answers; empty = reached.empty; headline = both.0; bounded = both.1 }
+
+pub closes : {L : Type 0} (ended : List (Ended L)) (logs : List SeatLog) (v : Contents) (s : Settled) (all : Bool) → CoursesHaveTheHeadline → AgreedCounts →
+    logs ≡ logs_of ended → IsReached v → SettledAs v logs s → (all ≡ true → length v.history ≡ exchange_count ended) → IsSettled ended s all
+closes ended logs v s all headlines counts same reached is counted =
+    let back : vault_in s ≡ v = handed_back v logs s is in
+    let entries : length (vault_in s).history ≡ length v.history = ap (λ (w : Contents). length w.history) back in
+    record {
+      settled = subst (λ w. SettledAs w (logs_of ended) s) (sym back) (subst (λ ls. SettledAs v ls s) same is);
+      agreed = λ agreed. entries ∙ counted_where_agreed v logs s counts is agreed ∙ ap (λ (ls : List SeatLog). sum_by (λ l. length l.exchanges.items) ls) same ∙ count_in_logs ended;
+      counted = λ whole. entries ∙ counted whole;
+      headline = subst HasHeadline (sym back) (has_headline headlines v reached);
+    }

@@ -1,0 +1,3 @@
+-- Lemma files of this crate's own proofs.
+mod ReachedLemmas
+mod ClosingLemmas

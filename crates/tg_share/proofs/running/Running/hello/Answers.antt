@@ -1,0 +1,12 @@
+use Rattle.std.proofs.Common.{rules, MatchResult}
+use Rattle.tg_vault.specs.declared.event.Event.TheVariants as event
+use Rattle.tg_vault.specs.declared.event.Answer.TheVariants as answer
+use Rattle.tg_vault.specs.Course.{VaultStep}
+use Rattle.tg_share.proofs.ReachedLemmas.{reached_by}
+use Rattle.tg_share.proofs.running.Running.hello.Goals as goal
+
+pub invariant_of-self : goal.invariant_of-self
+invariant_of-self c =
+    let step : MatchResult c.hello-answer.result (λ x. VaultStep c.self.inside.vault (event.Hello c.args.seat c.args.name.now) (answer.Hello x) c.hello-answer.new.self) (λ fault. VaultStep c.self.inside.vault (event.Hello c.args.seat c.args.name.now) (answer.Seat fault) c.hello-answer.new.self) =
+    search rules in
+    reached_by c.hello-answer.result (λ x. answer.Hello x) (λ fault. answer.Seat fault) c.self.inside.vault c.hello-answer.new.self (event.Hello c.args.seat c.args.name.now) c.self.invariant step

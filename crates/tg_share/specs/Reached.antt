@@ -1,0 +1,31 @@
+-- vaults to which nothing but events has happened
+use Rattle.std.specs.Prelude.{◌≡◌, ℕ, List, [], length, Some, slice_get}
+use Rattle.std.specs.Option.{option_map}
+use Rattle.tg_vault.specs.declared.event.Event.{Event}
+use Rattle.tg_vault.specs.declared.event.Answer.{Answer}
+use Rattle.tg_vault.specs.Contents.{Contents}
+use Rattle.tg_vault.specs.Course.{Course, IsCoherent}
+use Rattle.tg_vault.specs.Cycles.{IsBounded}
+use Rattle.tg_vault.specs.Headline.{Headline}
+
+-- some events, one after another, have led here from a vault without entries
+pub record IsReached (v : Contents) : Type 0 where
+  pub opened : Contents
+  pub events : List Event
+  pub answers : List Answer
+  pub empty : opened.history ≡ []
+  pub coherent : IsCoherent opened
+  pub course : Course opened events answers v
+
+-- the headline of these events, and the bound on the steps of a cycle
+pub record HasHeadline (v : Contents) : Type 0 where
+  pub opened : Contents
+  pub events : List Event
+  pub answers : List Answer
+  pub empty : opened.history ≡ []
+  pub headline : Headline opened events answers v
+  pub bounded : IsBounded opened answers
+
+-- the entry that was added is this actor's
+abbrev pub IsEnteredFor : Contents → Contents → ℕ → Type 0
+IsEnteredFor old new actor = option_map (λ e. e.actor) (slice_get new.history (length old.history)) ≡ Some actor

@@ -1,0 +1,67 @@
+//! The end of a shared vault: what its sessions were told, against its history.
+ghost use Rattle.std.specs.Prelude.{◌≡◌};
+ghost use Rattle.tg_share.specs.declared.locked.TheConstants.{PARTS};
+ghost use Rattle.tg_share.specs.Closing.{IsClosed};
+
+use crate::locked::Locked;
+use crate::session::{Ended, Shared};
+use std::sync::ledger::Ledger;
+use tg_audit::{Settled, agreed_counts, settle};
+use tg_vault::courses_have_the_headline;
+
+/// What `close` answers.
+#[derive(Drop)]
+pub enum Closed<L: Ledger> {
+    /// The logs were settled with the history. `counted` says that as many ended sessions came as were given: the history
+    /// then has as many entries as the logs have exchanges, whatever `settled` is.
+    Done {
+        settled: Settled,
+        counted: bool,
+    },
+    /// There was no room for the list of logs; the call may be made again.
+    NoRoom {
+        shared: Shared<L>,
+        ended: Vec<Ended<L>>,
+    },
+}
+
+impl<L: Ledger> Shared<L> {
+    /// Takes the vault out of the lock, and settles its history with the logs of the ended sessions.
+    pub fn close(self, ended: Vec<Ended<L>>) -> Closed<L>
+        requires { L.parts ≡ PARTS }
+        ensures { IsClosed ended.items result }
+    {
+        let Ok(mut logs) = Vec::with_capacity(self.alloc, ended.len()) else {
+            return Closed::NoRoom {
+                shared: self,
+                ended,
+            };
+        };
+        let Shared { locked, alloc } = self;
+        let Locked {
+            vault,
+            mut entries,
+            mut rest,
+            given,
+        } = locked.into_inner();
+        let counted = ended.len() as u64 == given;
+        for one in ended {
+            let Ended {
+                log,
+                actor: _,
+                share,
+            } = one;
+            rest.merge(share);
+            let Ok(()) = logs.push(log) else {
+                unreachable!()
+            };
+        }
+        entries.audit(&mut rest);
+        courses_have_the_headline();
+        agreed_counts();
+        Closed::Done {
+            settled: settle(alloc, vault.into_vault(), logs),
+            counted,
+        }
+    }
+}

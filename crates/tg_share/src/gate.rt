@@ -1,0 +1,17 @@
+//! What happens between two holds of the lock.
+use std::rt::Clock;
+use std::sync::Wait;
+
+/// Where a call pauses.
+#[derive(Clone, Copy, PartialEq, Eq, Debug)]
+pub enum Place {
+    /// A command has been entered; its target, if it has one, is not yet shaded.
+    AfterStore,
+    /// The collector has made a step, and will make another.
+    BetweenSteps,
+}
+
+/// What is done at a pause. The lock is free, and any other call may take it.
+pub trait Gate {
+    fn pause<R: Wait + Clock>(&self, rt: &R, place: Place);
+}

@@ -1,0 +1,17 @@
+//! Threads over one vault: each call takes the one lock for one event of the vault, or for none.
+#![tactic(auto)]
+
+mod closing;
+mod gate;
+mod locked;
+mod running;
+mod session;
+#[cfg(test)]
+mod stress;
+#[cfg(test)]
+mod tests;
+
+pub use closing::Closed;
+pub use gate::{Gate, Place};
+pub use locked::PARTS;
+pub use session::{Ended, Session, Shared, Worked};

@@ -1,0 +1,123 @@
+//! What lies under the lock. Each method that changes the vault is one hold of the lock: one event, or none.
+ghost use Rattle.std.specs.Prelude.{◌≡◌, ◌+◌, ◌<◌, ◌≤◌, [], length, Err, IfOk, OnOk, OnErr, MatchResult};
+ghost use Rattle.tg_vault.specs.declared.event.SeatFault.TheVariants as seat_fault;
+ghost use Rattle.tg_vault.specs.declared.event.Event.TheVariants as event;
+ghost use Rattle.tg_vault.specs.declared.event.Answer.TheVariants as answer;
+ghost use Rattle.tg_vault.specs.Course.{VaultStep};
+ghost use Rattle.tg_share.specs.declared.locked.TheConstants.{PARTS};
+ghost use Rattle.tg_share.specs.Reached.{IsEnteredFor};
+
+use crate::running::Running;
+use std::sync::ledger::{Book, Ledger, Share};
+use tg_collect::Note;
+use tg_rights::{Command, Reply};
+use tg_vault::{AskFault, SeatFault, Vault};
+
+/// The parts that the ledger of entries is cut into: one for each session, and one that stays with the vault.
+pub const PARTS: u64 = 4_294_967_295;
+
+/// A vault, and the ledger that counts its entries: the book has their number, the sessions' shares add up to it.
+#[derive(Drop)]
+pub struct Locked<L: Ledger> {
+    pub vault: Running,
+    pub entries: Book<L>,
+    /// The parts that no session has; no entry is counted here.
+    pub rest: Share<L>,
+    /// How many sessions were given a part.
+    pub given: u64,
+    ghost counted: { entries.total ≡ length vault.history },
+    ghost uncounted: { rest.amount ≡ 0 },
+    ghost parts: { rest.parts + given ≡ PARTS },
+    ghost one_left: { given < PARTS },
+}
+
+impl<L: Ledger> Locked<L> {
+    pub fn new(vault: Vault, entries: Book<L>, rest: Share<L>) -> Locked<L>
+        requires empty { vault.history ≡ [] }
+        requires total { entries.total ≡ 0 }
+        requires parts { rest.parts ≡ PARTS }
+        requires amount { rest.amount ≡ 0 }
+    {
+        Locked {
+            vault: Running::new(vault),
+            entries,
+            rest,
+            given: 0,
+        }
+    }
+
+    /// The event hello; no event where only the last part is left. A session that it seats gets a part with nothing
+    /// counted.
+    pub fn hello(&mut self, seat: u64, name: &str) -> Result<(u64, Share<L>), SeatFault>
+        ensures event { self.old.given + 1 < PARTS → MatchResult result (λ r. VaultStep self.old.vault (event.Hello seat name.now) (answer.Hello r.0) self.new.vault) (λ fault. VaultStep self.old.vault (event.Hello seat name.now) (answer.Seat fault) self.new.vault) }
+        ensures none { PARTS ≤ self.old.given + 1 → (result ≡ Err seat_fault.NoSeat) × (self.new.vault ≡ self.old.vault) }
+        ensures share { IfOk result (λ r. (r.1.parts ≡ 1) × (r.1.amount ≡ 0)) }
+        ensures given { OnOk result (self.new.given ≡ self.old.given + 1) }
+        ensures kept { OnErr result (self.new.given ≡ self.old.given) }
+    {
+        if self.given + 1 >= PARTS {
+            return Err(SeatFault::NoSeat);
+        }
+        let Locked {
+            vault,
+            entries: _,
+            rest,
+            given,
+        } = self;
+        let actor = vault.hello(seat, name)?;
+        let share = rest.split_off(1, 0);
+        *given += 1;
+        Ok((actor, share))
+    }
+
+    /// The event ask. Where it enters the command, book and share grow by one, and the answer has the entry's actor beside
+    /// the reply.
+    pub fn ask(
+        &mut self,
+        seat: u64,
+        command: Command,
+        share: &mut Share<L>,
+    ) -> Result<(u64, Reply), AskFault>
+        requires { 0 < share.old.parts }
+        ensures event { MatchResult result (λ r. VaultStep self.old.vault (event.Ask seat command) (answer.Asked (length self.old.vault.history) r.1) self.new.vault) (λ fault. VaultStep self.old.vault (event.Ask seat command) (answer.Ask fault) self.new.vault) }
+        ensures actor { IfOk result (λ r. IsEnteredFor self.old.vault self.new.vault r.0) }
+        ensures counted { OnOk result (share.new.amount ≡ share.old.amount + 1) }
+        ensures uncounted { OnErr result (share.new.amount ≡ share.old.amount) }
+        ensures parts { share.new.parts ≡ share.old.parts }
+        ensures given { self.new.given ≡ self.old.given }
+    {
+        let Locked {
+            vault,
+            entries,
+            rest: _,
+            given: _,
+        } = self;
+        let answer = vault.ask(seat, command)?;
+        entries.add(share, 1);
+        Ok(answer)
+    }
+
+    /// The event shade.
+    pub fn shade(&mut self, seat: u64) -> Result<Option<u64>, SeatFault>
+        ensures event { MatchResult result (λ target. VaultStep self.old.vault (event.Shade seat) (answer.Shaded target) self.new.vault) (λ fault. VaultStep self.old.vault (event.Shade seat) (answer.Seat fault) self.new.vault) }
+        ensures given { self.new.given ≡ self.old.given }
+    {
+        self.vault.shade(seat)
+    }
+
+    /// The event collect.
+    pub fn collect(&mut self) -> Note
+        ensures event { VaultStep self.old.vault event.Collect (answer.Noted result) self.new.vault }
+        ensures given { self.new.given ≡ self.old.given }
+    {
+        self.vault.collect()
+    }
+
+    /// The event bye.
+    pub fn bye(&mut self, seat: u64) -> Result<(), SeatFault>
+        ensures event { MatchResult result (λ _. VaultStep self.old.vault (event.Bye seat) answer.Bye self.new.vault) (λ fault. VaultStep self.old.vault (event.Bye seat) (answer.Seat fault) self.new.vault) }
+        ensures given { self.new.given ≡ self.old.given }
+    {
+        self.vault.bye(seat)
+    }
+}

@@ -1,0 +1,222 @@
+//! What threads call: sessions on seats, and the collector's steps.
+ghost use Rattle.std.specs.Prelude.{◌≡◌, ◌⊎◌, ◌+◌, ◌-◌, ◌<◌, ◌≤◌, [], length, slice_get, Some, Err, IfOk, IfErr, OnOk, OnErr};
+ghost use Rattle.tg_vault.specs.declared.event.AskFault.TheVariants as ask_fault;
+ghost use Rattle.tg_vault.specs.declared.event.SeatFault.TheVariants as seat_fault;
+ghost use Rattle.tg_audit.specs.declared.logs.Exchange.{Exchange};
+ghost use Rattle.tg_share.specs.declared.locked.TheConstants.{PARTS};
+ghost use Rattle.tg_share.specs.Sessions.{Grows};
+
+use crate::gate::{Gate, Place};
+use crate::locked::Locked;
+use std::alloc::Global;
+use std::marker::Model;
+use std::rt::Clock;
+use std::sync::ledger::{Blank, Ledger, Share};
+use std::sync::{Mutex, Wait};
+use tg_audit::{Exchange, SeatLog};
+use tg_rights::{Command, Reply};
+use tg_vault::{AskFault, SeatFault, Vault};
+
+/// One vault for many threads, under one lock. The lock is held for one event at a time, and for nothing else: what a
+/// session copies and keeps, it copies and keeps with the lock free.
+#[derive(Drop)]
+pub struct Shared<L: Ledger> {
+    pub(crate) locked: Mutex<Locked<L>>,
+    pub(crate) alloc: Global,
+}
+
+/// What the collector's steps did.
+#[derive(Clone, Copy, PartialEq, Eq, Debug)]
+pub struct Worked {
+    /// The slots that were freed.
+    pub freed: u64,
+    /// The cycles that ended.
+    pub ended: u64,
+}
+
+/// A principal on a seat, with a log of what it asked and was told, and a share of the ledger that counts the log. It has
+/// to be ended: it can't be dropped.
+pub struct Session<'a, L: Ledger> {
+    shared: &'a Shared<L>,
+    alloc: Global,
+    seat: u64,
+    actor: u64,
+    log: Vec<Exchange>,
+    share: Share<L>,
+}
+
+impl<'a, L: Ledger> Model for Session<'a, L> {
+    ghost use Rattle.std.specs.Prelude.{◌≡◌, ◌<◌, length};
+    ghost use Rattle.tg_rights.specs.declared.limits.TheConstants.{SEATS};
+    ghost use Rattle.tg_share.specs.Sessions.{Sitting};
+
+    ghost Value = { Sitting };
+
+    ghost view = { λ s. record { seat = s.seat; actor = s.actor; log = s.log.items; counted = s.share.amount } };
+
+    ghost invariant = { λ s. (s.seat < SEATS) × (s.share.parts ≡ 1) × (s.share.amount ≡ length s.log.items) };
+}
+
+/// What is left of a session: its log, its principal and its share, which counts the log.
+#[derive(Drop)]
+pub struct Ended<L: Ledger> {
+    pub log: SeatLog,
+    pub actor: u64,
+    pub(crate) share: Share<L>,
+    ghost one_part: { share.parts ≡ 1 },
+    ghost counted: { share.amount ≡ length log.exchanges.items },
+}
+
+impl<L: Ledger> Shared<L> {
+    /// Puts a vault without entries under a lock, with the blank as the ledger of its entries. Takes no memory.
+    pub fn new(alloc: Global, blank: Blank, vault: Vault) -> Shared<L>
+        requires name { blank.name ≡ L.name }
+        requires parts { blank.parts ≡ L.parts }
+        requires all { blank.parts ≡ PARTS }
+        requires empty { vault.history ≡ [] }
+    {
+        let (entries, rest) = blank.open::<L>();
+        Shared {
+            locked: Mutex::new(Locked::new(vault, entries, rest)),
+            alloc,
+        }
+    }
+
+    /// Seats the principal of this name by the event hello. The session begins with an empty log, for which it keeps the
+    /// allocator; the call takes no memory. `NoSeat` too, and no event, where `PARTS - 1` sessions were given.
+    pub fn session<R: Wait>(
+        &self,
+        rt: &R,
+        alloc: Global,
+        seat: u64,
+        name: &str,
+    ) -> Result<Session<'_, L>, SeatFault>
+        ensures ok { IfOk result (λ s. (s.seat ≡ seat) × (s.log ≡ []) × (s.counted ≡ 0)) }
+        ensures err { IfErr result (λ fault. (fault ≡ seat_fault.NoSeat) ⊎ ((fault ≡ seat_fault.Bound) ⊎ (fault ≡ seat_fault.NoPrincipal))) }
+    {
+        let (actor, share) = self.locked.lock(rt).hello(seat, name)?;
+        Ok(Session {
+            shared: self,
+            alloc,
+            seat,
+            actor,
+            log: Vec::new(alloc),
+            share,
+        })
+    }
+
+    /// Makes so many steps of the collector, each the event collect under a hold of its own, with a pause after each but
+    /// the last. Takes no memory.
+    pub fn collector<R: Wait + Clock, G: Gate>(&self, rt: &R, steps: u64, gate: &G) -> Worked
+        ensures freed { result.freed ≤ steps }
+        ensures ended { result.ended ≤ steps }
+    {
+        let mut worked = Worked { freed: 0, ended: 0 };
+        for step in 0..steps {
+            if step > 0 {
+                gate.pause(rt, Place::BetweenSteps);
+            }
+            let note = self.locked.lock(rt).collect();
+            worked.freed += note.freed;
+            if note.ended {
+                worked.ended += 1;
+            }
+        }
+        worked
+    }
+}
+
+impl<'a, L: Ledger> Session<'a, L> {
+    /// Asks the command, and enters the exchange in the log.
+    fn carry_out<R: Wait + Clock, G: Gate>(
+        &mut self,
+        rt: &R,
+        command: Command,
+        gate: &G,
+    ) -> Result<(), AskFault>
+        ensures ok { OnOk result (Grows self.old self.new command) }
+        ensures err { OnErr result (self.new ≡ self.old) }
+        ensures no_seat { result ≡ Err ask_fault.NoSeat → ⊥ }
+    {
+        let Ok(()) = self.log.try_reserve(1) else {
+            return Err(AskFault::OutOfMemory);
+        };
+        let Ok(asked) = command.copy(self.alloc) else {
+            return Err(AskFault::OutOfMemory);
+        };
+        let (_, reply) = self
+            .shared
+            .locked
+            .lock(rt)
+            .ask(self.seat, asked, &mut self.share)?;
+        gate.pause(rt, Place::AfterStore);
+        let _ = self.shared.locked.lock(rt).shade(self.seat);
+        let Ok(()) = self.log.push(Exchange {
+            actor: self.actor,
+            command,
+            reply,
+        })
+        else {
+            unreachable!()
+        };
+        Ok(())
+    }
+
+    fn last_reply(&self) -> &Reply
+        requires { 0 < length self.now.log }
+        ensures { (x : Exchange) → slice_get self.now.log (length self.now.log - 1) ≡ Some x → result.now ≡ x.reply }
+    {
+        &self.log[self.log.len() - 1].reply
+    }
+
+    /// Empties the seat by the event bye, and hands out the log, the principal and the share. Takes no memory.
+    pub fn end<R: Wait>(self, rt: &R) -> Ended<L>
+        ensures seat { result.log.seat ≡ self.entry.seat }
+        ensures log { result.log.exchanges.items ≡ self.entry.log }
+        ensures actor { result.actor ≡ self.entry.actor }
+    {
+        let Session {
+            shared,
+            alloc: _,
+            seat,
+            actor,
+            log,
+            share,
+        } = self;
+        let _ = shared.locked.lock(rt).bye(seat);
+        Ended {
+            log: SeatLog {
+                seat,
+                exchanges: log,
+            },
+            actor,
+            share,
+        }
+    }
+}
+
+impl<'a, L: Ledger> Session<'a, L> {
+    ghost use Rattle.std.specs.Prelude.{◌≡◌, Err};
+    ghost use Rattle.std.specs.Borrow.{sem};
+    ghost use Rattle.std.specs.Io.BufRead.{Rests};
+    ghost use mir.Syntax.{named};
+    ghost use Rattle.tg_vault.specs.declared.event.AskFault.TheVariants as ask_fault;
+    ghost use Rattle.tg_share.specs.contracts.session.Session.{the_row};
+    ghost use Rattle.tg_share.specs.Sessions.{HasAsked};
+
+    /// Asks the command by the event ask, pauses, and shades what it left as the seat's target by the event shade. The
+    /// reply is that of the last exchange of the log. After a fault the log is as before, nothing is entered and the command
+    /// is dropped; where room in the log or a copy of the command is refused, there is no event.
+    pub fn submit<R: Wait + Clock, G: Gate>(
+        &mut self,
+        rt: &R,
+        command: Command,
+        gate: &G,
+    ) -> Result<&Reply, AskFault>
+        ensures* asked { sem 𝓛 (Rests (the_row (record { mir = named 0; lft = [] }) L.row L.Ledger) self.entry (HasAsked self.old command result)) }
+        ensures no_seat { result ≡ Err ask_fault.NoSeat → ⊥ }
+    {
+        self.carry_out(rt, command, gate)?;
+        Ok(self.last_reply())
+    }
+}
