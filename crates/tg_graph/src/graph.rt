@@ -315,13 +315,13 @@ impl Graph {
         }
     }
 
-    /// The vertex's edges by rising serial.
+    /// The vertex's edges by rising serial. It goes over the vertex's own labels, and not over all vertices.
     fn edges(&self, of: u64) -> Result<EdgeList, AllocError>
         ensures { IfOk result (λ edges. edges ≡ edges_of self.now of) }
     {
         let mut edges = Vec::new(self.alloc);
-        for &serial in self.vertices.keys() {
-            let label = self.rights(of, serial);
+        for (&(_, serial), &label) in self.labels.range((of, 0)..(of, self.next)) {
+            // No label here is empty, but the type's invariant does not say so.
             if !label.is_empty() {
                 edges.push((serial, label))?;
             }
