@@ -127,6 +127,13 @@ impl<L: Ledger> Shared<L> {
 }
 
 impl<'a, L: Ledger> Session<'a, L> {
+    /// The serial of the principal.
+    pub fn actor(&self) -> u64
+        ensures { result ≡ self.now.actor }
+    {
+        self.actor
+    }
+
     /// Asks the command, and enters the exchange in the log.
     fn carry_out<R: Wait + Clock, G: Gate>(
         &mut self,

@@ -1,3 +1,6 @@
 pub mod KnownBytesLemmas
 pub mod InputLinesLemmas
 pub mod TakingLemmas
+pub mod SendsLemmas
+pub mod ToldLemmas
+pub mod TalkLemmas

@@ -20,6 +20,9 @@ pub always : (o : Option (List ℕ)) (Q : List ℕ → Type 0) → ((xs : List �
 always None Q f = tt
 always (Some xs) Q f = f xs
 
+pub told_at : (o : Option (List ℕ)) (xs : List ℕ) (P : List ℕ → Type 0) → o ≡ Some xs → IfSome o P → P xs
+told_at o xs P e h = subst (λ k. IfSome k P) e h
+
 -- the bytes that were to come are those of the buffer, and those that are left
 abbrev pub SplitsAt : List ℕ → Option (List ℕ) → List ℕ → Type 0
 SplitsAt buffer rest xs = (r : List ℕ) × (rest ≡ Some r) × (xs ≡ buffer ++ r)

@@ -5,3 +5,7 @@ use Rattle.tg_wire.specs.Faults.{line_text, error_data}
 -- the line that is answered to the line after the millionth
 unfoldable pub too_many_line : List ℕ
 too_many_line = line_text (error_data (codes "too many lines"))
+
+-- the line that is answered in a talk to a line of the shade or the collector
+unfoldable pub not_for_a_session_line : List ℕ
+not_for_a_session_line = line_text (error_data (codes "not for a session"))

@@ -1,4 +1,4 @@
-//! Lines over a reader and a writer: one is taken, one is written.
+//! Lines over a reader and a writer: one is taken, one is written; and talks, a client's lines over one session.
 #![tactic(auto)]
 
 mod failing;
@@ -7,6 +7,10 @@ mod input_lines;
 mod line_buffer;
 mod newline;
 mod refusal;
+#[cfg(test)]
+mod talk_tests;
+mod talking;
+mod telling;
 #[cfg(test)]
 mod tests;
 mod watched;
@@ -17,5 +21,6 @@ pub use fault::TalkFault;
 pub use input_lines::{InputLines, Next};
 pub use line_buffer::{Found, LineBuffer, MOST_LINES};
 pub use refusal::too_many_line;
+pub use talking::{Talked, talk};
 pub use watched::Watched;
 pub use write_line::send_line;

@@ -1,7 +1,7 @@
 //! The lines of refusals that no line's value gives.
 
 ghost use Rattle.std.specs.Prelude.{◌≡◌};
-ghost use Rattle.tg_talk.specs.Refusals.{too_many_line as line_of_too_many};
+ghost use Rattle.tg_talk.specs.Refusals.{not_for_a_session_line as line_of_no_session, too_many_line as line_of_too_many};
 
 /// The line that is answered to the line after the millionth. It takes no memory.
 #[tactic(auto, unfolding(crate::specs::Refusals::too_many_line, serde_json::proofs::OnLiterals::serde_json_on_literals))]
@@ -9,4 +9,12 @@ pub fn too_many_line() -> &'static [u8]
     ensures { result.now ≡ line_of_too_many }
 {
     b"{\"error\":\"too many lines\"}\n"
+}
+
+/// The line that is answered in a talk to a line that asks for the shade or for the collector. It takes no memory.
+#[tactic(auto, unfolding(crate::specs::Refusals::not_for_a_session_line, serde_json::proofs::OnLiterals::serde_json_on_literals))]
+pub(crate) fn not_for_a_session_line() -> &'static [u8]
+    ensures { result.now ≡ line_of_no_session }
+{
+    b"{\"error\":\"not for a session\"}\n"
 }

@@ -21,7 +21,8 @@ use Rattle.tg_talk.specs.Refusals.{too_many_line}
 use Rattle.tg_talk.specs.declared.fault.TalkFault.{TalkFault}
 use Rattle.tg_talk.specs.declared.fault.TalkFault.TheVariants as talk
 use Rattle.tg_talk.specs.declared.line_buffer.TheConstants.{MOST_LINES}
-use Rattle.tgdoc.specs.Runs.{EndsOnce, RefusesOpening}
+use Rattle.tg_talk.specs.Endings.{EndsOnce}
+use Rattle.tgdoc.specs.Runs.{RefusesOpening}
 use Rattle.tgdoc.specs.declared.finished.Finished.{Finished}
 
 -- how an audit ends without a verdict: the lines taken, the text that is answered, and the fault

@@ -4,7 +4,8 @@ ghost use Rattle.std.specs.Prelude.{◌≡◌, ◌≢◌, ◌↔◌, ◌≤◌, 
 ghost use Rattle.std.specs.Io.KnownBytes.{Keeps, prepend_known};
 ghost use Rattle.tg_talk.specs.Devices.{Sends, device_of, has_failed};
 ghost use Rattle.tg_talk.specs.declared.fault.TalkFault.TheVariants.{OutOfMemory, Reading, Writing};
-ghost use Rattle.tgdoc.specs.Runs.{EndsOnce, LinesRan, RefusesOpening};
+ghost use Rattle.tg_talk.specs.Endings.{EndsOnce};
+ghost use Rattle.tgdoc.specs.Runs.{LinesRan, RefusesOpening};
 ghost use Rattle.tgdoc.specs.Turns.{Opens, RestAnswered};
 
 use crate::finished::{Finished, finish};

@@ -5,7 +5,7 @@ use Rattle.tgdoc.specs.Audits.{BytesAudited, no_buffer}
 use Rattle.tgdoc.specs.Auditing.{EndsEarlyBytes, Judges, end_after}
 use Rattle.tgdoc.proofs.AuditLemmas.{audited_early, audited_whole}
 use Rattle.tgdoc.proofs.OpeningLemmas.{at_start}
-use Rattle.tgdoc.proofs.TurnLemmas.{sends_none}
+use Rattle.tg_talk.proofs.SendsLemmas.{sends_none}
 use Rattle.tgdoc.proofs.audit.audit_lines.Goals as goal
 
 pub returns-in_default-clause-audited : goal.returns-in_default-clause-audited

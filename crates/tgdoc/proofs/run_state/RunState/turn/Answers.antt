@@ -3,7 +3,8 @@ use Rattle.tg_talk.proofs.TakingLemmas.{always, weaker}
 use Rattle.tg_talk.specs.Taking.{Takes}
 use Rattle.tg_talk.specs.declared.input_lines.Next.TheVariants as next
 use Rattle.tgdoc.specs.Turns.{Turned}
-use Rattle.tgdoc.proofs.TurnLemmas.{sends_none, turns_line, turns_long, turns_too_many, turns_ended, turns_stopped}
+use Rattle.tg_talk.proofs.SendsLemmas.{sends_none}
+use Rattle.tgdoc.proofs.TurnLemmas.{turns_line, turns_long, turns_too_many, turns_ended, turns_stopped}
 use Rattle.tgdoc.proofs.run_state.RunState.turn.Goals as goal
 
 pub returns-in-Failed-clause-turned : goal.returns-in-Failed-clause-turned

@@ -1,0 +1,28 @@
+-- What a writer holds after texts were sent.
+use Rattle.std.proofs.Common.{◌≡◌, ℕ, List, [], ◌++◌, Option, None, Some, Bool, false, refl, sym, ap, ◌∙◌, subst, append-nil}
+use Rattle.std.specs.Io.KnownBytes.{Appends}
+use Rattle.tg_talk.specs.Devices.{Sends, SendsLast}
+use Rattle.tg_talk.proofs.KnownBytesLemmas.{Appends-more}
+
+pub sends_none : (a : Option (List ℕ)) (failed : Bool) → Sends a a failed []
+sends_none None failed = record { done = []; rest = []; split = refl; appended = tt; whole = λ _. refl }
+sends_none (Some o) failed = record { done = []; rest = []; split = refl; appended = sym (append-nil o); whole = λ _. refl }
+
+pub sends_nothing : (a : Option (List ℕ)) (failed : Bool) → SendsLast a a failed [] []
+sends_nothing None failed = record { done = []; rest = []; split = refl; appended = tt; whole = λ _. refl }
+sends_nothing (Some o) failed = record { done = []; rest = []; split = refl; appended = sym (append-nil o); whole = λ _. refl }
+
+-- a text that was sent, as the last one
+pub sends_last : (old new : Option (List ℕ)) (failed : Bool) (text : List ℕ) → Sends old new failed text → SendsLast old new failed [] text
+sends_last old new failed text sent = record { done = sent.done; rest = sent.rest; split = sent.split; appended = sent.appended; whole = sent.whole }
+
+-- a text that was sent behind others, as the last one
+pub sends_behind : (old now new : Option (List ℕ)) (failed : Bool) (before text : List ℕ) → Appends old now before → Sends now new failed text → SendsLast old new failed before text
+sends_behind old now new failed before text written sent =
+    record { done = sent.done; rest = sent.rest; split = sent.split; appended = Appends-more old now new before sent.done written sent.appended; whole = sent.whole }
+
+-- where the writer did not fail, all of the text is written
+pub sent_whole : (old new : Option (List ℕ)) (failed : Bool) (text : List ℕ) → failed ≡ false → Sends old new failed text → Appends old new text
+sent_whole old new failed text ok sent =
+    let all : text ≡ sent.done = sent.split ∙ ap (λ r. sent.done ++ r) (sent.whole ok) ∙ append-nil sent.done in
+    subst (Appends old new) (sym all) sent.appended

@@ -1,0 +1,180 @@
+//! Talks over memory: what is answered, what the logs come to, and a reader and a writer that fail at each of their calls.
+ghost use Rattle.std.specs.Prelude.{◌≡◌, [], IfOk, IfSome, false};
+ghost use Rattle.tg_share.specs.declared.locked.TheConstants.{PARTS};
+ghost use Rattle.tg_talk.specs.Devices.{has_failed};
+
+use crate::{FailingReader, FailingWriter, TalkFault, Talked, Watched, talk};
+use std::alloc::{AllocError, Global};
+use std::io::{Read, Write};
+use std::marker::Brand;
+use std::process::Abort;
+use std::rt::Clock;
+use std::sync::Wait;
+use std::sync::ledger::{Blank, Ledger};
+use tg_audit::Settled;
+use tg_share::{Closed, Gate, PARTS, Place, Shared};
+use tg_vault::Vault;
+use tg_wire::read_config;
+
+/// A gate that lets everyone pass.
+#[derive(Drop)]
+struct Open;
+
+impl Gate for Open {
+    fn pause<R: Wait + Clock>(&self, _rt: &R, _place: Place) {}
+}
+
+const CONFIG: &[u8] =
+    b"{\"cells\":8,\"edges\":[[1,\"t\",2]],\"principals\":[\"alice\",\"bob\"],\"slots\":8}";
+
+const LINES: &[u8] =
+    b"{\"op\":\"read\",\"over\":3}\n{\"name\":\"alice\",\"op\":\"hello\"}\n{\"kind\":\"document\",\"op\":\"create\",\"rights\":\"rw\"}\n{\"op\":\"read\",\"over\":3}\n{\"op\":\"shade\"}\n{\"op\":\"bye\"}\n";
+
+const ANSWERS: &[u8] =
+    b"{\"error\":\"no actor\"}\n{\"ok\":\"hello\",\"vertex\":1}\n{\"ok\":\"created\",\"vertex\":3}\n{\"ok\":\"text\",\"text\":\"\"}\n{\"error\":\"not for a session\"}\n{\"ok\":\"bye\"}\n";
+
+/// The vault of the configuration.
+fn opened(alloc: Global) -> Option<Vault>
+    ensures { IfSome result (λ vault. vault.history ≡ []) }
+{
+    let config = read_config(alloc, CONFIG).ok()?;
+    Vault::new(alloc, config).ok()
+}
+
+/// What a talk over these devices comes to.
+#[derive(Clone, Copy, Debug, PartialEq, Eq)]
+struct Came {
+    lines: u64,
+    fault: Option<TalkFault>,
+    /// How many entries there are, where logs and history agree and each session is counted.
+    entries: Option<u64>,
+}
+
+/// How many entries there are, where the logs agree with the history, and each session is counted.
+fn entries_of<L: Ledger>(closed: Closed<L>) -> Option<u64> {
+    match closed {
+        Closed::Done { settled, counted } => match settled {
+            Settled::Agreed(vault) => { if counted { Some(vault.count()) } else { None } }
+            Settled::Differs { .. } => None,
+            Settled::NoMemory { .. } => None,
+        },
+        Closed::NoRoom { .. } => None,
+    }
+}
+
+/// A talk on seat 0 over a vault of its own, and the settle of its log.
+fn talk_alone<L: Ledger, D: Read, W: Write, R: Wait + Clock>(
+    rt: &R,
+    alloc: Global,
+    reader: &mut Watched<D>,
+    writer: &mut Watched<W>,
+    blank: Blank,
+    vault: Vault,
+) -> Came
+    requires name { blank.name ≡ L.name }
+    requires parts { blank.parts ≡ L.parts }
+    requires all { blank.parts ≡ PARTS }
+    requires empty { vault.history ≡ [] }
+    requires reads { has_failed reader.old ≡ false }
+    requires writes { has_failed writer.old ≡ false }
+{
+    let shared = Shared::<L>::new(alloc, blank, vault);
+    let Talked {
+        lines,
+        fault,
+        ended,
+    } = talk(rt, alloc, reader, writer, &shared, 0, &Open);
+    let mut all = Vec::new(alloc);
+    if let Some(one) = ended {
+        let _ = all.push(one);
+    }
+    Came {
+        lines,
+        fault,
+        entries: entries_of(shared.close(all)),
+    }
+}
+
+#[test]
+fn talk_over_memory(rt: HostRuntime) -> Result<(), AllocError> {
+    let mut reader = Watched::new(LINES);
+    let mut out = Vec::new(rt.alloc());
+    let mut writer = Watched::new(&mut out);
+    let vault = opened(rt.alloc()).expect(&rt, "refused");
+    let came = talk_alone::<Brand, _, _, _>(
+        &rt,
+        rt.alloc(),
+        &mut reader,
+        &mut writer,
+        Blank::new(PARTS),
+        vault,
+    );
+    assert!(rt; out.as_slice() == ANSWERS);
+    assert_eq!(rt;
+        came,
+        Came {
+            lines: 6,
+            fault: None,
+            entries: Some(2)
+        }
+    );
+    Ok(())
+}
+
+/// A talk over the lines, with a reader and a writer of single bytes, the former for so many reads and the latter for so
+/// many writes.
+fn talk_by_bytes<R: Abort + Wait + Clock>(
+    rt: &R,
+    alloc: Global,
+    reads: usize,
+    writes: usize,
+) -> Came {
+    let mut reader = Watched::new(FailingReader {
+        bytes: LINES,
+        reads,
+    });
+    let mut writer = Watched::new(FailingWriter {
+        bytes: Vec::new(alloc),
+        writes,
+    });
+    let vault = opened(alloc).expect(rt, "refused");
+    talk_alone::<Brand, _, _, _>(
+        rt,
+        alloc,
+        &mut reader,
+        &mut writer,
+        Blank::new(PARTS),
+        vault,
+    )
+}
+
+#[test]
+fn each_read_of_a_talk_fails_in_turn(rt: HostRuntime) {
+    for reads in 0..LINES.len() {
+        let came = talk_by_bytes(&rt, rt.alloc(), reads, 1000);
+        assert_eq!(rt; came.fault, Some(TalkFault::Reading));
+        assert!(rt; came.entries.is_some());
+    }
+}
+
+#[test]
+fn each_write_of_a_talk_fails_in_turn(rt: HostRuntime) {
+    for writes in 0..ANSWERS.len() {
+        let came = talk_by_bytes(&rt, rt.alloc(), 1000, writes);
+        assert_eq!(rt; came.fault, Some(TalkFault::Writing));
+        assert!(rt; came.entries.is_some());
+    }
+}
+
+#[test]
+fn a_talk_over_single_bytes_is_whole(rt: HostRuntime) {
+    let came = talk_by_bytes(&rt, rt.alloc(), 1000, 1000);
+    assert_eq!(rt;
+        came,
+        Came {
+            lines: 6,
+            fault: None,
+            entries: Some(2)
+        }
+    );
+}

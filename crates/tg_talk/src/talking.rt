@@ -1,0 +1,234 @@
+//! A talk: a client's lines, answered over one session.
+
+ghost use Rattle.std.specs.Prelude.{◌≡◌, ◌≢◌, ◌↔◌, ◌≤◌, ◌+◌, true, false, IfSome, Some, None};
+ghost use Rattle.std.specs.Io.KnownBytes.{prepend_known};
+ghost use Rattle.tg_talk.specs.Devices.{Sends, device_of, has_failed};
+ghost use Rattle.tg_talk.specs.Endings.{EndsOnce};
+ghost use Rattle.tg_talk.specs.Talks.{HasTalked};
+ghost use Rattle.tg_talk.specs.Talking.{Answered, Leaves, Turned, fault_in, goes_on, sitting_in, text_of};
+ghost use Rattle.tg_talk.specs.declared.fault.TalkFault.TheVariants.{Reading, Writing};
+ghost use Rattle.tg_talk.specs.declared.line_buffer.TheConstants.{MOST_LINES};
+
+use crate::fault::TalkFault;
+use crate::input_lines::{InputLines, Next};
+use crate::refusal::{not_for_a_session_line, too_many_line};
+use crate::telling::{Greeted, Said, Text, hear_session, hear_stranger};
+use crate::watched::Watched;
+use crate::write_line::send_line;
+use std::alloc::Global;
+use std::io::{Read, Write};
+use std::rt::Clock;
+use std::sync::Wait;
+use std::sync::ledger::Ledger;
+use tg_share::{Ended, Gate, Session, Shared};
+use tg_wire::{WireFault, error_line};
+
+/// What a talk came to.
+#[derive(Drop)]
+pub struct Talked<L: Ledger> {
+    /// Input lines taken, a last one that is too long or one too many among them.
+    pub lines: u64,
+    /// Why the talk ended before its lines did or before a bye, if it did.
+    pub fault: Option<TalkFault>,
+    /// What is left of the session; none where no hello succeeded.
+    pub ended: Option<Ended<L>>,
+}
+
+/// What a turn comes to: who sits, and whether the talk goes on.
+pub(crate) enum Turn<'s, L: Ledger> {
+    GoOn(Option<Session<'s, L>>),
+    Ended(Option<Session<'s, L>>, Option<TalkFault>),
+}
+
+/// Answers each line as soon as it is read. Until a hello has succeeded, each other line that can be read is answered
+/// `no actor`; then a hello is answered `bound`, and a line that asks for the shade or for the collector `not for a
+/// session`. The seat is this one, whatever seat a line names. The talk ends at a bye, which is answered, at the end of
+/// the input, at a line of more than 16,384 bytes, at the line after the millionth, and where the reader or the writer
+/// fails. Where there is no memory to read a line or for its answer's line, `out of memory` is answered in its place; but
+/// where there is none for the line of a reply, nothing is, and the talk ends. Where there is none for the buffer of
+/// 32,768 bytes, no line is read. A session that a hello began is ended here, whatever ends the talk.
+pub fn talk<L: Ledger, D: Read, W: Write, R: Wait + Clock, G: Gate>(
+    rt: &R,
+    alloc: Global,
+    reader: &mut Watched<D>,
+    writer: &mut Watched<W>,
+    shared: &Shared<L>,
+    seat: u64,
+    gate: &G,
+) -> Talked<L>
+    requires reads { has_failed reader.old ≡ false }
+    requires writes { has_failed writer.old ≡ false }
+    ensures reading { (has_failed reader.new ≡ true) ↔ (result.fault ≡ Some Reading) }
+    ensures writing { (has_failed writer.new ≡ true) ↔ (result.fault ≡ Some Writing) }
+    ensures few { result.lines ≤ 1000001 }
+    ensures seat { IfSome result.ended (λ e. e.log.seat ≡ seat) }
+    ensures talked { IfSome (D.remaining (device_of reader.old))
+        (HasTalked result.lines result.fault result.ended (W.contents (device_of writer.old)) (W.contents (device_of writer.new)) (has_failed writer.new)) }
+{
+    let Ok(mut input) = InputLines::new(alloc) else {
+        return Talked {
+            lines: 0,
+            fault: Some(TalkFault::OutOfMemory),
+            ended: None,
+        };
+    };
+    let mut sitting = None;
+    loop {
+        match take_turn(
+            rt, alloc, &mut input, reader, writer, shared, seat, gate, sitting,
+        ) {
+            Turn::GoOn(then) => sitting = then,
+            Turn::Ended(then, fault) => {
+                return Talked {
+                    lines: input.taken(),
+                    fault,
+                    ended: leave(rt, then),
+                };
+            }
+        }
+    }
+}
+
+/// Ends the session of whoever sits.
+fn leave<'s, L: Ledger, R: Wait>(rt: &R, sitting: Option<Session<'s, L>>) -> Option<Ended<L>>
+    ensures { Leaves sitting.entry result }
+{
+    match sitting {
+        Some(session) => Some(session.end(rt)),
+        None => None,
+    }
+}
+
+/// Takes one line, and answers it.
+fn take_turn<'s, L: Ledger, D: Read, W: Write, R: Wait + Clock, G: Gate>(
+    rt: &R,
+    alloc: Global,
+    input: &mut InputLines,
+    reader: &mut Watched<D>,
+    writer: &mut Watched<W>,
+    shared: &'s Shared<L>,
+    seat: u64,
+    gate: &G,
+    sitting: Option<Session<'s, L>>,
+) -> Turn<'s, L>
+    requires few { input.old.taken ≤ MOST_LINES }
+    requires reads { has_failed reader.old ≡ false }
+    requires writes { has_failed writer.old ≡ false }
+    requires seat { IfSome sitting (λ s. s.seat ≡ seat) }
+    ensures few { goes_on result ≡ true → (input.new.taken ≡ input.old.taken + 1) × (input.new.taken ≤ MOST_LINES) }
+    ensures most { input.new.taken ≤ input.old.taken + 1 }
+    ensures reads { goes_on result ≡ true → has_failed reader.new ≡ false }
+    ensures writes { goes_on result ≡ true → has_failed writer.new ≡ false }
+    ensures reading { (has_failed reader.new ≡ true) ↔ (fault_in result ≡ Some Reading) }
+    ensures writing { (has_failed writer.new ≡ true) ↔ (fault_in result ≡ Some Writing) }
+    ensures seat { IfSome (sitting_in result) (λ s. s.seat ≡ seat) }
+    ensures turned { IfSome (prepend_known input.old.left (D.remaining (device_of reader.old)))
+        (Turned result sitting.entry input.old.taken input.new.taken (prepend_known input.new.left (D.remaining (device_of reader.new)))
+        (W.contents (device_of writer.old)) (W.contents (device_of writer.new)) (has_failed writer.new)) }
+{
+    match input.next(reader) {
+        Next::Failed => Turn::Ended(sitting, Some(TalkFault::Reading)),
+        Next::End => Turn::Ended(sitting, None),
+        Next::TooLong => {
+            let fault = end(
+                writer,
+                error_line(WireFault::TooLong),
+                Some(TalkFault::TooLong),
+            );
+            Turn::Ended(sitting, fault)
+        }
+        Next::TooMany => {
+            let fault = end(writer, too_many_line(), Some(TalkFault::TooMany));
+            Turn::Ended(sitting, fault)
+        }
+        Next::Line => match sitting {
+            None => answer_stranger(rt, alloc, writer, shared, seat, input.line()),
+            Some(session) => answer_session(rt, alloc, writer, gate, session, input.line()),
+        },
+    }
+}
+
+/// Answers a line of one who has not said hello with success.
+fn answer_stranger<'s, L: Ledger, W: Write, R: Wait>(
+    rt: &R,
+    alloc: Global,
+    writer: &mut Watched<W>,
+    shared: &'s Shared<L>,
+    seat: u64,
+    bytes: &[u8],
+) -> Turn<'s, L>
+    requires writes { has_failed writer.old ≡ false }
+    ensures writes { goes_on result ≡ true → has_failed writer.new ≡ false }
+    ensures reading { fault_in result ≢ Some Reading }
+    ensures writing { (has_failed writer.new ≡ true) ↔ (fault_in result ≡ Some Writing) }
+    ensures seat { IfSome (sitting_in result) (λ s. s.seat ≡ seat) }
+    ensures answered { Answered result None bytes.now (W.contents (device_of writer.old)) (W.contents (device_of writer.new)) (has_failed writer.new) }
+{
+    let Greeted { session, text } = hear_stranger(rt, alloc, shared, seat, bytes);
+    match send(writer, text, None) {
+        None => Turn::GoOn(session),
+        Some(fault) => Turn::Ended(session, Some(fault)),
+    }
+}
+
+/// Answers a line of a session.
+fn answer_session<'s, L: Ledger, W: Write, R: Wait + Clock, G: Gate>(
+    rt: &R,
+    alloc: Global,
+    writer: &mut Watched<W>,
+    gate: &G,
+    session: Session<'s, L>,
+    bytes: &[u8],
+) -> Turn<'s, L>
+    requires writes { has_failed writer.old ≡ false }
+    ensures writes { goes_on result ≡ true → has_failed writer.new ≡ false }
+    ensures reading { fault_in result ≢ Some Reading }
+    ensures writing { (has_failed writer.new ≡ true) ↔ (fault_in result ≡ Some Writing) }
+    ensures seat { IfSome (sitting_in result) (λ s. s.seat ≡ session.entry.seat) }
+    ensures answered { Answered result (Some session.entry) bytes.now (W.contents (device_of writer.old)) (W.contents (device_of writer.new)) (has_failed writer.new) }
+{
+    let mut session = session;
+    match hear_session(rt, alloc, &mut session, gate, bytes) {
+        Said::Answer(text) => match send(writer, text, None) {
+            None => Turn::GoOn(Some(session)),
+            Some(fault) => Turn::Ended(Some(session), Some(fault)),
+        },
+        Said::Bye(text) => Turn::Ended(Some(session), send(writer, text, None)),
+        Said::Nothing => Turn::Ended(Some(session), Some(TalkFault::OutOfMemory)),
+    }
+}
+
+/// Writes the line of a text; the fault where the writer does not fail.
+fn send<W: Write>(
+    writer: &mut Watched<W>,
+    text: Text,
+    fault: Option<TalkFault>,
+) -> Option<TalkFault>
+    requires writes { has_failed writer.old ≡ false }
+    ensures fault { EndsOnce fault (has_failed writer.new) result }
+    ensures sent { Sends (W.contents (device_of writer.old)) (W.contents (device_of writer.new)) (has_failed writer.new) (text_of text) }
+{
+    match text {
+        Text::Line(line) => end(writer, &line, fault),
+        Text::Refusal(refused) => end(writer, error_line(refused), fault),
+        Text::NotForASession => end(writer, not_for_a_session_line(), fault),
+    }
+}
+
+/// Writes a line; the fault where the writer does not fail.
+fn end<W: Write>(
+    writer: &mut Watched<W>,
+    line: &[u8],
+    fault: Option<TalkFault>,
+) -> Option<TalkFault>
+    requires writes { has_failed writer.old ≡ false }
+    ensures fault { EndsOnce fault (has_failed writer.new) result }
+    ensures sent { Sends (W.contents (device_of writer.old)) (W.contents (device_of writer.new)) (has_failed writer.new) (line.now) }
+{
+    send_line(writer, line);
+    if writer.failed() {
+        Some(TalkFault::Writing)
+    } else {
+        fault
+    }
+}

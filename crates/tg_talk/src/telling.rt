@@ -1,0 +1,167 @@
+//! What a talk answers to one line, before it is written.
+
+ghost use Rattle.std.specs.Prelude.{◌≡◌, Some, None, IfSome, IfNone, [], false};
+ghost use Rattle.tg_vault.specs.declared.event.Event.TheVariants as event;
+ghost use Rattle.tg_wire.specs.declared.line.Line.TheVariants as line;
+ghost use Rattle.tg_talk.specs.Talks.{LineTold, is_hello};
+ghost use Rattle.tg_talk.specs.Talking.{Asks, Hears, IsHello, Seats, Tells, actor_of, text_of};
+
+use std::alloc::Global;
+use std::rt::Clock;
+use std::sync::Wait;
+use std::sync::ledger::Ledger;
+use tg_rights::{Command, Word};
+use tg_share::{Gate, Session, Shared};
+use tg_vault::{Answer, AskFault, Event, SeatFault};
+use tg_wire::{Line, WireFault, read_line, write_answer, write_reply};
+
+/// The line of an answer, or the refusal whose line it is.
+#[derive(Drop)]
+pub(crate) enum Text {
+    Line(Vec<u8>),
+    Refusal(WireFault),
+    NotForASession,
+}
+
+/// What is to be said to a line of a session.
+#[derive(Drop)]
+pub(crate) enum Said {
+    /// This, and the talk goes on.
+    Answer(Text),
+    /// This, and the talk is over.
+    Bye(Text),
+    /// Nothing, since there is no memory for the line of a reply; the talk is over.
+    Nothing,
+}
+
+/// What is to be said to one who has not said hello with success before, and the session if that is done now.
+pub(crate) struct Greeted<'s, L: Ledger> {
+    pub session: Option<Session<'s, L>>,
+    pub text: Text,
+}
+
+/// The line of an answer, or `out of memory` in its place.
+fn text_of_answer(alloc: Global, answer: &Answer) -> Text
+    ensures { Tells answer.now (text_of result) }
+{
+    match write_answer(alloc, answer) {
+        Ok(line) => Text::Line(line),
+        Err(_) => Text::Refusal(WireFault::OutOfMemory),
+    }
+}
+
+/// The name of a hello.
+fn hello_in(line: Line) -> Option<Word>
+    ensures hello { IfSome result (IsHello line) }
+    ensures other { IfNone result (is_hello line ≡ false) }
+{
+    match line {
+        Line::Cycle => None,
+        Line::Act(event) => match event {
+            Event::Hello { seat: _, name } => Some(name),
+            Event::Bye { seat: _ } => None,
+            Event::Ask {
+                seat: _,
+                command: _,
+            } => None,
+            Event::Shade { seat: _ } => None,
+            Event::Collect => None,
+        },
+    }
+}
+
+/// Seats a principal by its name.
+fn greet<'s, L: Ledger, R: Wait>(
+    rt: &R,
+    alloc: Global,
+    shared: &'s Shared<L>,
+    seat: u64,
+    name: &Word,
+) -> Greeted<'s, L>
+    ensures { Seats result.session (text_of result.text) seat }
+{
+    match shared.session(rt, alloc, seat, name.get()) {
+        Ok(session) => {
+            let text = text_of_answer(alloc, &Answer::Hello(session.actor()));
+            Greeted {
+                session: Some(session),
+                text,
+            }
+        }
+        Err(fault) => Greeted {
+            session: None,
+            text: text_of_answer(alloc, &Answer::Seat(fault)),
+        },
+    }
+}
+
+/// Reads a line of one who has not said hello with success.
+pub(crate) fn hear_stranger<'s, L: Ledger, R: Wait>(
+    rt: &R,
+    alloc: Global,
+    shared: &'s Shared<L>,
+    seat: u64,
+    bytes: &[u8],
+) -> Greeted<'s, L>
+    ensures told { LineTold None bytes.now (actor_of result.session) [] (text_of result.text) }
+    ensures seat { IfSome result.session (λ s. (s.seat ≡ seat) × (s.log ≡ [])) }
+{
+    match read_line(alloc, bytes) {
+        Err(fault) => Greeted {
+            session: None,
+            text: Text::Refusal(fault),
+        },
+        Ok(line) => match hello_in(line) {
+            Some(name) => greet(rt, alloc, shared, seat, &name),
+            None => Greeted {
+                session: None,
+                text: text_of_answer(alloc, &Answer::Ask(AskFault::NoActor)),
+            },
+        },
+    }
+}
+
+/// Reads a line of a session, and asks its command.
+pub(crate) fn hear_session<'s, L: Ledger, R: Wait + Clock, G: Gate>(
+    rt: &R,
+    alloc: Global,
+    session: &mut Session<'s, L>,
+    gate: &G,
+    bytes: &[u8],
+) -> Said
+    ensures heard { Hears session.old bytes.now result session.new }
+    ensures seat { session.new.seat ≡ session.old.seat }
+{
+    match read_line(alloc, bytes) {
+        Err(fault) => Said::Answer(Text::Refusal(fault)),
+        Ok(Line::Cycle) => Said::Answer(Text::NotForASession),
+        Ok(Line::Act(event)) => match event {
+            Event::Hello { seat: _, name: _ } => {
+                Said::Answer(text_of_answer(alloc, &Answer::Seat(SeatFault::Bound)))
+            }
+            Event::Bye { seat: _ } => Said::Bye(text_of_answer(alloc, &Answer::Bye)),
+            Event::Ask { seat: _, command } => ask(rt, alloc, session, gate, command),
+            Event::Shade { seat: _ } => Said::Answer(Text::NotForASession),
+            Event::Collect => Said::Answer(Text::NotForASession),
+        },
+    }
+}
+
+/// Asks the command, and gives the line of the reply.
+fn ask<'s, L: Ledger, R: Wait + Clock, G: Gate>(
+    rt: &R,
+    alloc: Global,
+    session: &mut Session<'s, L>,
+    gate: &G,
+    command: Command,
+) -> Said
+    ensures { Asks session.old command result session.new }
+{
+    match session.submit(rt, command, gate) {
+        Ok(reply) => match write_reply(alloc, reply) {
+            Ok(line) => Said::Answer(Text::Line(line)),
+            Err(_) => Said::Nothing,
+        },
+        Err(fault) => Said::Answer(text_of_answer(alloc, &Answer::Ask(fault))),
+    }
+}
