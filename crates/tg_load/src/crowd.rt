@@ -117,14 +117,17 @@ pub struct Crowd<L: Ledger> {
 }
 
 impl<L: Ledger> Crowd<L> {
-    fn new(alloc: Global) -> Crowd<L> {
-        Crowd {
-            ended: Vec::new(alloc),
+    /// Nothing yet, with room for what the sessions and the keeper's leave: an ended session that is let go is one whose log
+    /// the settle misses.
+    fn new(alloc: Global, load: Load) -> Option<Crowd<L>> {
+        let sessions = usize::try_from(load.sessions).ok()?;
+        Some(Crowd {
+            ended: Vec::with_capacity(alloc, sessions.saturating_add(1)).ok()?,
             made: 0,
             longest: 0,
             micros: 0,
             is_whole: true,
-        }
+        })
     }
 
     /// What one more session leaves, if it was given.
@@ -147,7 +150,7 @@ impl<L: Ledger> Crowd<L> {
     }
 }
 
-/// All sessions, each in a thread of its own, beside the collector.
+/// All sessions, each in a thread of its own, beside the collector. None where there is no room for what they leave.
 pub fn act_at_once<L: Ledger + Send + Sync, R: Threads + Wait + Clock + Sync>(
     rt: &R,
     alloc: Global,
@@ -155,10 +158,11 @@ pub fn act_at_once<L: Ledger + Send + Sync, R: Threads + Wait + Clock + Sync>(
     board: &Board,
     load: Load,
     seed: u64,
-) -> Crowd<L> {
-    thread::scope(thread::scope_env(), rt, |scope| {
+) -> Option<Crowd<L>> {
+    let room = Crowd::new(alloc, load)?;
+    Some(thread::scope(thread::scope_env(), rt, move |scope| {
+        let mut crowd = room;
         let start = now(rt);
-        let mut crowd = Crowd::new(alloc);
         if load.has_collector {
             crowd.is_whole = scope
                 .spawn(move || collect_until(rt, shared, board))
@@ -167,16 +171,18 @@ pub fn act_at_once<L: Ledger + Send + Sync, R: Threads + Wait + Clock + Sync>(
         let mut threads = Vec::new(alloc);
         for seat in 0..load.sessions {
             let drawn_from = seed.wrapping_mul(64).wrapping_add(seat);
-            let is_kept = match scope.spawn(move || act(
-                rt, alloc, shared, board, load, seat, drawn_from,
-            )) {
-                Ok(thread) => threads.push(thread).is_ok(),
-                Err(_) => {
-                    board.arrive();
-                    false
-                }
-            };
-            crowd.is_whole = is_kept && crowd.is_whole;
+            let has_room = threads.try_reserve(1).is_ok();
+            let is_kept = has_room
+                && match scope.spawn(move || act(
+                    rt, alloc, shared, board, load, seat, drawn_from,
+                )) {
+                    Ok(thread) => threads.push(thread).is_ok(),
+                    Err(_) => false,
+                };
+            if !is_kept {
+                board.arrive();
+                crowd.is_whole = false;
+            }
         }
         for thread in threads {
             crowd.add(thread.join(rt));
@@ -184,5 +190,5 @@ pub fn act_at_once<L: Ledger + Send + Sync, R: Threads + Wait + Clock + Sync>(
         crowd.micros = micros_since(rt, start);
         board.is_over.store(true, Ordering::SeqCst);
         crowd
-    })
+    }))
 }

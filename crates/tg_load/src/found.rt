@@ -24,8 +24,8 @@ pub enum Found {
     Short,
     /// All is well, but no slot was used again.
     NotReused,
-    /// There was no memory for the vault.
-    NotOpened,
+    /// There was no memory for the vault, or for what its sessions leave.
+    NoMemory,
 }
 
 impl Found {
@@ -64,7 +64,7 @@ impl Display for Found {
                 "{{\"error\":\"a thread, a session or a command was refused\"}}"
             ),
             Found::NotReused => write!(f, "{{\"error\":\"no freed slot was used again\"}}"),
-            Found::NotOpened => write!(f, "{{\"error\":\"out of memory\"}}"),
+            Found::NoMemory => write!(f, "{{\"error\":\"out of memory\"}}"),
         }
     }
 }

@@ -85,7 +85,7 @@ fn found_of(load: Load, close: Close, is_whole: bool, made: u64) -> Found {
     }
 }
 
-/// What came of a run over a vault, and what was measured.
+/// What came of a run over a vault, and what was measured. None where there is no room for what the sessions leave.
 fn run_one<L: Ledger + Send + Sync, R: Threads + Wait + Clock + Sync>(
     rt: &R,
     alloc: Global,
@@ -93,7 +93,7 @@ fn run_one<L: Ledger + Send + Sync, R: Threads + Wait + Clock + Sync>(
     blank: Blank,
     vault: Vault,
     seed: u64,
-) -> (Found, Figures)
+) -> Option<(Found, Figures)>
     requires name { blank.name ≡ L.name }
     requires parts { blank.parts ≡ L.parts }
     requires all { blank.parts ≡ PARTS }
@@ -102,7 +102,7 @@ fn run_one<L: Ledger + Send + Sync, R: Threads + Wait + Clock + Sync>(
     let shared = Shared::<L>::new(alloc, blank, vault);
     let board = Board::new();
     let kept = hold(rt, alloc, &shared, load);
-    let mut crowd = act_at_once(rt, alloc, &shared, &board, load, seed);
+    let mut crowd = act_at_once(rt, alloc, &shared, &board, load, seed)?;
     crowd.add(kept);
     let Crowd {
         ended,
@@ -124,7 +124,7 @@ fn run_one<L: Ledger + Send + Sync, R: Threads + Wait + Clock + Sync>(
         freed: board.freed.load(Ordering::SeqCst),
         cycles: board.cycles.load(Ordering::SeqCst),
     };
-    (found_of(load, close, is_whole, made), figures)
+    Some((found_of(load, close, is_whole, made), figures))
 }
 
 /// Makes a run, and prints what came of it. Whether that is as it should be; an error where it can't be printed.
@@ -135,10 +135,14 @@ pub fn run_next<R: Threads + Wait + Clock + Print + Eprint + Sync>(
     seed: u64,
 ) -> io::Result<bool> {
     let Some(vault) = opened(alloc, load.slots) else {
-        println!(rt; "{}", Found::NotOpened)?;
+        println!(rt; "{}", Found::NoMemory)?;
         return Ok(false);
     };
-    let (found, figures) = run_one::<Brand, _>(rt, alloc, load, Blank::new(PARTS), vault, seed);
+    let ran = run_one::<Brand, _>(rt, alloc, load, Blank::new(PARTS), vault, seed);
+    let Some((found, figures)) = ran else {
+        println!(rt; "{}", Found::NoMemory)?;
+        return Ok(false);
+    };
     println!(rt; "{found}")?;
     if load.has_figures {
         eprintln!(rt; "{figures}")?;
