@@ -1,5 +1,5 @@
 # Two commands do everything: `make demo` runs the main job on an example, `make test` proves and tests all.
-.PHONY: all demo test bench check
+.PHONY: all load demo test soak bench check
 
 # The proved program, crates/tgdoc/out/tgdoc: every crate is proved first, which takes some minutes.
 all:
@@ -16,9 +16,18 @@ test:
 	rt ci
 	tests/run
 
-# Lines per second and peak memory on generated input; no test, and no part of one.
-bench: all
+# The proved program of many sessions at once, crates/tg_load/out/tg_load.
+load:
+	cd crates/tg_load && rt run -- --sessions 1 --commands 1 > /dev/null
+
+# 63 sessions at once, a million commands in all, and the settle of their logs; no part of the gate, which runs fewer.
+soak: load
+	crates/tg_load/out/tg_load --sessions 63 --commands 15874 --reuse --figures
+
+# Lines per second and peak memory on generated input, and what sessions on threads take; no test, and no part of one.
+bench: all load
 	bench/lines.py
+	bench/threads.py
 
 # Proves each crate over what earlier runs left: the command while you write.
 check:

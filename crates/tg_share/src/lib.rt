@@ -7,8 +7,6 @@ mod locked;
 mod running;
 mod session;
 #[cfg(test)]
-mod stress;
-#[cfg(test)]
 mod tests;
 
 pub use closing::Closed;

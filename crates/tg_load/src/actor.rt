@@ -1,0 +1,132 @@
+//! A session that draws what it asks, and keeps in mind what it was told.
+
+use crate::board::{Board, Open};
+use crate::draws::{Drawn, Draws};
+use crate::figures::{micros_since, now};
+use crate::load::Load;
+use std::alloc::{AllocError, Global};
+use std::rt::Clock;
+use std::sync::Wait;
+use std::sync::atomic::Ordering;
+use std::sync::ledger::Ledger;
+use tg_rights::{Cause, Reply, Rights, Rule};
+use tg_share::Session;
+
+/// What a session goes by.
+#[derive(Drop)]
+pub struct Actor {
+    pub draws: Draws,
+    /// Rights over documents, which it made or took and will give up.
+    pub held: Vec<(u64, Rights)>,
+    /// How many documents it made.
+    pub made: u64,
+    /// The longest time that one command took, in microseconds.
+    pub longest: u64,
+}
+
+impl Actor {
+    /// The document whose rights came last.
+    fn last(&self) -> u64 {
+        match self.held.last() {
+            Some(found) => found.0,
+            None => 1,
+        }
+    }
+
+    /// Rights that are given up: the last that came.
+    fn given_up(&mut self) -> Drawn {
+        let (over, rights) = match self.held.pop() {
+            Some(found) => found,
+            None => (self.last(), self.draws.rights()),
+        };
+        Drawn {
+            rule: Rule::Remove,
+            rights,
+            over,
+            other: 0,
+        }
+    }
+
+    /// The next command, where someone's newest document is known.
+    fn draw(&mut self, newest: u64) -> Drawn {
+        let rule = self.draws.rule();
+        if rule == Rule::Remove || self.held.len() > 2 {
+            return self.given_up();
+        }
+        let over = match rule {
+            Rule::Take | Rule::Look => newest,
+            Rule::Grant => self.draws.principal(),
+            Rule::Create | Rule::Remove | Rule::Read | Rule::Write => self.last(),
+        };
+        Drawn {
+            rule,
+            rights: self.draws.rights(),
+            over,
+            other: self.draws.principal(),
+        }
+    }
+
+    /// What was told is kept in mind.
+    fn learn(&mut self, drawn: &Drawn, reply: &Reply, board: &Board) -> Result<(), AllocError> {
+        match reply {
+            Reply::Created(serial) => {
+                self.made = self.made.wrapping_add(1);
+                board.newest.store(*serial, Ordering::SeqCst);
+                self.held.push((*serial, drawn.rights))?;
+            }
+            Reply::Done => {
+                if drawn.rule == Rule::Take {
+                    self.held.push((drawn.over, drawn.rights))?;
+                }
+            }
+            Reply::Denied(Rule::Remove, Cause::Missing { rights, .. }) => {
+                let left = drawn.rights.minus(*rights);
+                if !left.is_empty() {
+                    self.held.push((drawn.over, left))?;
+                }
+            }
+            _ => {}
+        }
+        Ok(())
+    }
+}
+
+/// Asks the next command.
+fn ask_one<L: Ledger, R: Wait + Clock>(
+    rt: &R,
+    alloc: Global,
+    session: &mut Session<'_, L>,
+    actor: &mut Actor,
+    board: &Board,
+) -> Option<()> {
+    let drawn = actor.draw(board.newest.load(Ordering::SeqCst));
+    let command = drawn.command(alloc).ok()?;
+    let start = now(rt);
+    let told = session.submit(rt, command, &Open);
+    actor.longest = actor.longest.max(micros_since(rt, start));
+    match told {
+        Ok(reply) => actor.learn(&drawn, reply, board).ok(),
+        Err(_) => None,
+    }
+}
+
+/// Asks all commands, half of them after the collector was waited for if that is wanted; whether each was entered.
+pub fn ask_all<L: Ledger, R: Wait + Clock>(
+    rt: &R,
+    alloc: Global,
+    load: Load,
+    session: &mut Session<'_, L>,
+    actor: &mut Actor,
+    board: &Board,
+) -> bool {
+    for number in 0..load.commands {
+        let is_half_way = number == load.commands / 2;
+        if load.wants_reuse && is_half_way && !board.wait_for_cycles(rt) {
+            return false;
+        }
+        if ask_one(rt, alloc, session, actor, board).is_none() {
+            return false;
+        }
+    }
+    true
+}

@@ -1,0 +1,99 @@
+//! Commands drawn from a seed.
+ghost use Rattle.std.specs.Prelude.{◌<◌};
+
+use crate::opening::PRINCIPALS;
+use std::alloc::{AllocError, Global};
+use tg_rights::{Command, Kind, Rights, Rule, Text};
+
+/// Numbers drawn by SplitMix64 from a seed.
+#[derive(Drop)]
+pub struct Draws {
+    pub state: u64,
+}
+
+impl Draws {
+    pub fn next(&mut self) -> u64 {
+        self.state = self.state.wrapping_add(0x9E37_79B9_7F4A_7C15);
+        let mut word = self.state;
+        word = (word ^ (word >> 30)).wrapping_mul(0xBF58_476D_1CE4_E5B9);
+        word = (word ^ (word >> 27)).wrapping_mul(0x94D0_49BB_1331_11EB);
+        word ^ (word >> 31)
+    }
+
+    pub fn below(&mut self, bound: u64) -> u64
+        requires { 0 < bound }
+        ensures { result < bound }
+    {
+        self.next() % bound
+    }
+
+    pub fn rights(&mut self) -> Rights {
+        match Rights::from_bits(self.below(16) as u8) {
+            Some(rights) => rights,
+            None => Rights::empty(),
+        }
+    }
+
+    pub fn principal(&mut self) -> u64 {
+        1 + self.below(PRINCIPALS)
+    }
+
+    pub fn rule(&mut self) -> Rule {
+        match self.below(7) {
+            0 => Rule::Take,
+            1 => Rule::Grant,
+            2 => Rule::Create,
+            3 => Rule::Remove,
+            4 => Rule::Read,
+            5 => Rule::Write,
+            _ => Rule::Look,
+        }
+    }
+}
+
+/// A command, but for a write's text.
+#[derive(Drop)]
+pub struct Drawn {
+    pub rule: Rule,
+    pub rights: Rights,
+    pub over: u64,
+    pub other: u64,
+}
+
+impl Drawn {
+    pub fn command(&self, alloc: Global) -> Result<Command, AllocError> {
+        let Drawn {
+            rule,
+            rights,
+            over,
+            other,
+        } = *self;
+        Ok(match rule {
+            Rule::Take => Command::Take {
+                rights,
+                over,
+                from: other,
+            },
+            Rule::Grant => Command::Grant {
+                rights,
+                over,
+                to: other,
+            },
+            Rule::Create => Command::Create {
+                kind: Kind::Document,
+                rights,
+            },
+            Rule::Remove => Command::Remove { rights, over },
+            Rule::Read => Command::Read { over },
+            Rule::Write => {
+                let content = String::from_str(alloc, "written")?;
+                let text = match Text::new(content) {
+                    Ok(text) => text,
+                    Err(_) => Text::empty(alloc),
+                };
+                Command::Write { over, text }
+            }
+            Rule::Look => Command::Look { at: over },
+        })
+    }
+}

@@ -1,0 +1,151 @@
+//! One run: sessions and collector at once, and then the settle.
+ghost use Rattle.std.specs.Prelude.{◌≡◌, []};
+ghost use Rattle.tg_share.specs.declared.locked.TheConstants.{PARTS};
+
+use crate::board::Board;
+use crate::crowd::{Crowd, act_at_once, hold};
+use crate::figures::{Figures, micros_since, now};
+use crate::found::{Found, Verdict};
+use crate::load::Load;
+use crate::opening::opened;
+use std::alloc::Global;
+use std::io;
+use std::marker::Brand;
+use std::rt::Clock;
+use std::sync::Wait;
+use std::sync::atomic::Ordering;
+use std::sync::ledger::{Blank, Ledger};
+use std::thread::Threads;
+use tg_audit::Settled;
+use tg_share::{Closed, Ended, PARTS, Shared};
+use tg_vault::Vault;
+
+/// What closing comes to.
+#[derive(Clone, Copy)]
+struct Close {
+    verdict: Verdict,
+    counted: bool,
+    /// The entries of the history.
+    entries: u64,
+}
+
+fn verdict_of(settled: &Settled) -> Verdict {
+    match settled {
+        Settled::Agreed(_) => Verdict::Agreed,
+        Settled::Differs { seat, index, .. } => Verdict::Differs {
+            seat: *seat,
+            index: *index,
+        },
+        Settled::NoMemory { .. } => Verdict::NoMemory,
+    }
+}
+
+/// The number of entries of the history.
+fn entries_of(settled: &Settled) -> u64 {
+    match settled {
+        Settled::Agreed(vault) => vault.count(),
+        Settled::Differs { vault, .. } => vault.count(),
+        Settled::NoMemory { vault, .. } => vault.count(),
+    }
+}
+
+fn close_of<L: Ledger>(closed: &Closed<L>) -> Close {
+    match closed {
+        Closed::Done { settled, counted } => Close {
+            verdict: verdict_of(settled),
+            counted: *counted,
+            entries: entries_of(settled),
+        },
+        Closed::NoRoom { .. } => Close {
+            verdict: Verdict::NoRoom,
+            counted: false,
+            entries: 0,
+        },
+    }
+}
+
+/// What came of the run, where the sessions made so many documents.
+fn found_of(load: Load, close: Close, is_whole: bool, made: u64) -> Found {
+    let Close {
+        verdict,
+        counted,
+        entries,
+    } = close;
+    if verdict != Verdict::Agreed || !counted {
+        return Found::Settled { verdict, counted };
+    }
+    let asked = load.sessions.saturating_mul(load.commands);
+    if !is_whole || entries != asked.saturating_add(load.held) {
+        return Found::Short;
+    }
+    if load.wants_reuse && made <= load.slots {
+        Found::NotReused
+    } else {
+        Found::Settled { verdict, counted }
+    }
+}
+
+/// What came of a run over a vault, and what was measured. None where there is no room for what the sessions leave.
+fn run_one<L: Ledger + Send + Sync, R: Threads + Wait + Clock + Sync>(
+    rt: &R,
+    alloc: Global,
+    load: Load,
+    blank: Blank,
+    vault: Vault,
+    seed: u64,
+) -> Option<(Found, Figures)>
+    requires name { blank.name ≡ L.name }
+    requires parts { blank.parts ≡ L.parts }
+    requires all { blank.parts ≡ PARTS }
+    requires empty { vault.history ≡ [] }
+{
+    let shared = Shared::<L>::new(alloc, blank, vault);
+    let board = Board::new();
+    let kept = hold(rt, alloc, &shared, load);
+    let mut crowd = act_at_once(rt, alloc, &shared, &board, load, seed)?;
+    crowd.add(kept);
+    let Crowd {
+        ended,
+        made,
+        longest,
+        micros,
+        is_whole,
+    } = crowd;
+    let start = now(rt);
+    let closed = shared.close(ended);
+    let settling = micros_since(rt, start);
+    let close = close_of(&closed);
+    let figures = Figures {
+        acting: micros,
+        submits: load.sessions.saturating_mul(load.commands),
+        longest,
+        entries: close.entries,
+        settling,
+        freed: board.freed.load(Ordering::SeqCst),
+        cycles: board.cycles.load(Ordering::SeqCst),
+    };
+    Some((found_of(load, close, is_whole, made), figures))
+}
+
+/// Makes a run, and prints what came of it. Whether that is as it should be; an error where it can't be printed.
+pub fn run_next<R: Threads + Wait + Clock + Print + Eprint + Sync>(
+    rt: &R,
+    alloc: Global,
+    load: Load,
+    seed: u64,
+) -> io::Result<bool> {
+    let Some(vault) = opened(alloc, load.slots) else {
+        println!(rt; "{}", Found::NoMemory)?;
+        return Ok(false);
+    };
+    let ran = run_one::<Brand, _>(rt, alloc, load, Blank::new(PARTS), vault, seed);
+    let Some((found, figures)) = ran else {
+        println!(rt; "{}", Found::NoMemory)?;
+        return Ok(false);
+    };
+    println!(rt; "{found}")?;
+    if load.has_figures {
+        eprintln!(rt; "{figures}")?;
+    }
+    Ok(found.is_well())
+}
