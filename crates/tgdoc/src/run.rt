@@ -67,7 +67,7 @@ pub fn run_lines<R: Read, W: Write>(
 }
 
 /// The vault that a configuration line opens, or the line of its refusal.
-fn open(alloc: Global, bytes: &[u8]) -> Result<Vault, &'static [u8]>
+pub(crate) fn open(alloc: Global, bytes: &[u8]) -> Result<Vault, &'static [u8]>
     ensures ok { IfOk result (Opens bytes.now) }
     ensures err { IfErr result (λ text. RefusesOpening bytes.now text.now) }
 {

@@ -1,0 +1,7 @@
+use Rattle.std.proofs.Common.{◌≡◌}
+use Rattle.std.specs.Net.Text.{socket_text}
+use Rattle.tgdoc.specs.Serving.{Announces}
+use Rattle.tgdoc.proofs.serve.announce.Goals as goal
+
+pub returns-in-Ok-write-clause-announced : goal.returns-in-Ok-write-clause-announced
+returns-in-Ok-write-clause-announced g c unfailed = record { address = socket_text c.in-Ok.address; appended = c.in-Ok-write.ensures.bytes }

@@ -1,0 +1,273 @@
+//! A vault served to several clients at once, over connections.
+ghost use Rattle.std.specs.Prelude.{◌≡◌, ◌↔◌, [], false, true};
+ghost use Rattle.tg_share.specs.declared.locked.TheConstants.{PARTS};
+ghost use Rattle.tg_talk.specs.Devices.{Sends, device_of, has_failed};
+ghost use Rattle.tgdoc.specs.Serving.{Announces, IsServed, agreed_line};
+
+use std::alloc::Global;
+use std::io::Write;
+use std::marker::Brand;
+use std::net::TcpListener;
+use std::rt::Clock;
+use std::sync::atomic::{AtomicBool, Ordering};
+use std::sync::ledger::{Blank, Ledger};
+use std::sync::{Mutex, Wait};
+use std::thread;
+use std::thread::Threads;
+use std::time::Duration;
+use tg_audit::Settled;
+use tg_share::{Closed, Ended, Gate, PARTS, Place, Shared};
+use tg_talk::{Watched, send_line, talk};
+use tg_vault::Vault;
+
+/// What serving came to.
+#[derive(Clone, Copy, Debug, PartialEq, Eq)]
+pub struct Served {
+    /// The logs agree with the history, and every line of the server's own was written.
+    pub settled: bool,
+}
+
+/// What settling found.
+#[derive(Clone, Copy, Debug, PartialEq, Eq)]
+enum Found {
+    Agreed,
+    Differs { seat: u64, index: u64 },
+    /// A growth or a thread was refused.
+    NoMemory,
+}
+
+/// Collector steps between two rests, and between two looks at whether all is over.
+const STEPS: u64 = 1_000;
+
+/// How long the collector rests, in microseconds, while its cycles free slots.
+const SHORT_REST: u64 = 100;
+
+/// How long it rests after a cycle that freed nothing.
+const LONG_REST: u64 = 1_000;
+
+/// A gate that lets everyone pass.
+#[derive(Drop)]
+struct Open;
+
+impl Gate for Open {
+    fn pause<R: Wait + Clock>(&self, _rt: &R, _place: Place) {}
+}
+
+/// Serves so many connections, each in a talk of a worker on the worker's own seat, beside a collector, and settles the logs
+/// at the end. It writes the address before the first connection, and what settling found as the last line: `agreed`;
+/// `differs`, with the least seat whose log differs and the least index in it; or `no memory`, where a growth or a thread
+/// was refused. A connection that can't be accepted counts as one. Where the address can't be written, clients are served all
+/// the same, nothing more is written, and nothing is settled. `workers` is from 1 to 63.
+pub fn serve_on<R: Threads + Wait + Clock + Sync, W: Write>(
+    rt: &R,
+    alloc: Global,
+    listener: &TcpListener,
+    writer: &mut Watched<W>,
+    vault: Vault,
+    workers: u64,
+    connections: u64,
+) -> Served
+    requires empty { vault.history ≡ [] }
+    requires writes { has_failed writer.old ≡ false }
+    ensures { result.settled ≡ true → IsServed (W.contents (device_of writer.old)) (W.contents (device_of writer.new)) (has_failed writer.new) }
+{
+    let is_announced = announce(writer, listener);
+    let found = serve_by::<Brand, R>(
+        rt,
+        alloc,
+        Blank::new(PARTS),
+        listener,
+        vault,
+        workers,
+        connections,
+    );
+    if is_announced {
+        tell(writer, found)
+    } else {
+        Served { settled: false }
+    }
+}
+
+/// Writes the address that is listened on; whether that was done.
+fn announce<W: Write>(writer: &mut Watched<W>, listener: &TcpListener) -> bool
+    ensures unfailed { result ≡ true → has_failed writer.new ≡ false }
+    ensures announced { result ≡ true → Announces (W.contents (device_of writer.old)) (W.contents (device_of writer.new)) }
+{
+    let Ok(address) = listener.local_addr() else {
+        return false;
+    };
+    match write!(writer, "{{\"listening\":\"{address}\"}}\n") {
+        Ok(()) => !writer.failed(),
+        Err(_) => false,
+    }
+}
+
+/// Writes what settling found.
+fn tell<W: Write>(writer: &mut Watched<W>, found: Found) -> Served
+    requires { has_failed writer.old ≡ false }
+    ensures settled { (result.settled ≡ true) ↔ ((found ≡ Found.Agreed) × (has_failed writer.new ≡ false)) }
+    ensures agreed { found ≡ Found.Agreed → Sends (W.contents (device_of writer.old)) (W.contents (device_of writer.new)) (has_failed writer.new) agreed_line }
+{
+    match found {
+        Found::Agreed => {
+            send_line(writer, b"{\"settled\":\"agreed\"}\n");
+            return Served {
+                settled: !writer.failed(),
+            };
+        }
+        Found::Differs { seat, index } => {
+            let _ = write!(
+                writer,
+                "{{\"index\":{index},\"seat\":{seat},\"settled\":\"differs\"}}\n"
+            );
+        }
+        Found::NoMemory => send_line(writer, b"{\"settled\":\"no memory\"}\n"),
+    }
+    Served { settled: false }
+}
+
+/// Serves all connections, and settles.
+fn serve_by<L: Ledger + Send + Sync, R: Threads + Wait + Clock + Sync>(
+    rt: &R,
+    alloc: Global,
+    blank: Blank,
+    listener: &TcpListener,
+    vault: Vault,
+    workers: u64,
+    connections: u64,
+) -> Found
+    requires name { blank.name ≡ L.name }
+    requires parts { blank.parts ≡ L.parts }
+    requires all { blank.parts ≡ PARTS }
+    requires empty { vault.history ≡ [] }
+{
+    let shared = Shared::<L>::new(alloc, blank, vault);
+    let left = Mutex::new(connections);
+    match serve_in_threads(rt, alloc, listener, &shared, &left, workers) {
+        Some(ended) => found_in(shared.close(ended)),
+        None => Found::NoMemory,
+    }
+}
+
+/// What closing found.
+fn found_in<L: Ledger>(closed: Closed<L>) -> Found {
+    match closed {
+        Closed::Done {
+            settled,
+            counted: _,
+        } => match settled {
+            Settled::Agreed(_) => Found::Agreed,
+            Settled::Differs { seat, index, .. } => Found::Differs { seat, index },
+            Settled::NoMemory { .. } => Found::NoMemory,
+        },
+        Closed::NoRoom { .. } => Found::NoMemory,
+    }
+}
+
+/// The workers and the collector, each in a thread of its own. What all connections left; none where a thread or a growth
+/// was refused.
+fn serve_in_threads<L: Ledger + Send + Sync, R: Threads + Wait + Clock + Sync>(
+    rt: &R,
+    alloc: Global,
+    listener: &TcpListener,
+    shared: &Shared<L>,
+    left: &Mutex<u64>,
+    workers: u64,
+) -> Option<Vec<Ended<L>>> {
+    let is_over = AtomicBool::new(false);
+    let over = &is_over;
+    thread::scope(thread::scope_env(), rt, |scope| {
+        let mut shifts = Vec::new(alloc);
+        let mut is_short = scope
+            .spawn(move || collect_until(rt, shared, over))
+            .is_err();
+        for seat in 0..workers {
+            if is_short {
+                break;
+            }
+            is_short = match scope.spawn(move || work(rt, alloc, listener, shared, left, seat)) {
+                Ok(shift) => shifts.push(shift).is_err(),
+                Err(_) => true,
+            };
+        }
+        if is_short {
+            *left.lock(rt) = 0;
+        }
+        let mut all = Vec::new(alloc);
+        for shift in shifts {
+            match shift.join(rt) {
+                Some(mut ended) => is_short = is_short || all.append(&mut ended).is_err(),
+                None => is_short = true,
+            }
+        }
+        over.store(true, Ordering::SeqCst);
+        if is_short { None } else { Some(all) }
+    })
+}
+
+/// Collects until all is over. It rests between its steps, for longer where the last cycle freed nothing.
+fn collect_until<L: Ledger, R: Wait + Clock>(rt: &R, shared: &Shared<L>, is_over: &AtomicBool) {
+    let mut has_freed = false;
+    let mut rest = SHORT_REST;
+    for _ in rt.forever() {
+        if is_over.load(Ordering::SeqCst) {
+            break;
+        }
+        let worked = shared.collector(rt, STEPS, &Open);
+        has_freed = has_freed || worked.freed > 0;
+        if worked.ended > 0 {
+            rest = if has_freed { SHORT_REST } else { LONG_REST };
+            has_freed = false;
+        }
+        thread::sleep(rt, Duration::from_micros(rest));
+    }
+}
+
+/// Serves connections one after the other, until none is left. What they left; none where a growth was refused.
+fn work<L: Ledger, R: Wait + Clock>(
+    rt: &R,
+    alloc: Global,
+    listener: &TcpListener,
+    shared: &Shared<L>,
+    left: &Mutex<u64>,
+    seat: u64,
+) -> Option<Vec<Ended<L>>> {
+    let mut all = Vec::new(alloc);
+    for _ in rt.forever() {
+        if !take_one(rt, left) {
+            break;
+        }
+        if let Some(ended) = serve_one(rt, alloc, listener, shared, seat) {
+            if all.push(ended).is_err() {
+                *left.lock(rt) = 0;
+                return None;
+            }
+        }
+    }
+    Some(all)
+}
+
+/// Whether a connection was left; it is this worker's now.
+fn take_one<R: Wait>(rt: &R, left: &Mutex<u64>) -> bool {
+    let mut left = left.lock(rt);
+    if *left == 0 {
+        return false;
+    }
+    *left -= 1;
+    true
+}
+
+/// One connection, in a talk on the seat; what it leaves.
+fn serve_one<L: Ledger, R: Wait + Clock>(
+    rt: &R,
+    alloc: Global,
+    listener: &TcpListener,
+    shared: &Shared<L>,
+    seat: u64,
+) -> Option<Ended<L>> {
+    let (stream, _) = listener.accept().ok()?;
+    let _ = stream.set_nodelay(true);
+    let mut reader = Watched::new(&stream);
+    let mut writer = Watched::new(&stream);
+    talk(rt, alloc, &mut reader, &mut writer, shared, seat, &Open).ended
+}

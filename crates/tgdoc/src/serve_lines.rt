@@ -1,0 +1,86 @@
+//! The configuration line of a server, and the address that it listens on.
+ghost use Rattle.std.specs.Prelude.{◌≡◌, [], IfOk, false, true};
+ghost use Rattle.tg_talk.specs.Devices.{Sends, device_of, has_failed};
+ghost use Rattle.tgdoc.specs.Serving.{IsServed};
+
+use crate::run::open;
+use crate::serve::{Served, serve_on};
+use std::alloc::Global;
+use std::io::{Read, Write};
+use std::net::{Net, SocketAddr, TcpListener, TcpStream};
+use std::rt::Clock;
+use std::sync::Wait;
+use std::thread::Threads;
+use tg_talk::{InputLines, Next, Watched, send_line};
+use tg_vault::Vault;
+use tg_wire::{WireFault, error_line};
+
+const LISTEN: &[u8] = b"{\"error\":\"listen\"}\n";
+
+/// Reads the configuration line, listens on the address, and serves the vault. A configuration that is refused is answered
+/// as `run_lines` answers it, and no address is listened on; no line at all is read as an empty one. Then an address that is
+/// not of the loopback, or that can't be listened on, is answered `listen`. After a refusal nothing is settled.
+pub fn serve_lines<
+    N: Threads + Wait + Clock + Net<Listener = TcpListener, Stream = TcpStream> + Sync,
+    R: Read,
+    W: Write,
+>(
+    rt: &N,
+    alloc: Global,
+    reader: &mut Watched<R>,
+    writer: &mut Watched<W>,
+    listen: &str,
+    workers: u64,
+    connections: u64,
+) -> Served
+    requires reads { has_failed reader.old ≡ false }
+    requires writes { has_failed writer.old ≡ false }
+    ensures { result.settled ≡ true → IsServed (W.contents (device_of writer.old)) (W.contents (device_of writer.new)) (has_failed writer.new) }
+{
+    match read_vault(alloc, reader) {
+        Err(text) => refuse(writer, text),
+        Ok(vault) => match listener_on(rt, listen) {
+            None => refuse(writer, LISTEN),
+            Some(listener) => serve_on(rt, alloc, &listener, writer, vault, workers, connections),
+        },
+    }
+}
+
+/// Writes the line of a refusal.
+fn refuse<W: Write>(writer: &mut Watched<W>, text: &[u8]) -> Served
+    requires { has_failed writer.old ≡ false }
+    ensures unsettled { result.settled ≡ false }
+    ensures sent { Sends (W.contents (device_of writer.old)) (W.contents (device_of writer.new)) (has_failed writer.new) text.now }
+{
+    send_line(writer, text);
+    Served { settled: false }
+}
+
+/// The vault of the configuration line, or the line of its refusal, which is empty where the line can't be read.
+fn read_vault<R: Read>(alloc: Global, reader: &mut Watched<R>) -> Result<Vault, &'static [u8]>
+    requires reads { has_failed reader.old ≡ false }
+    ensures { IfOk result (λ vault. vault.history ≡ []) }
+{
+    let Ok(mut input) = InputLines::new(alloc) else {
+        return Err(error_line(WireFault::OutOfMemory));
+    };
+    match input.next(reader) {
+        Next::Line => open(alloc, input.line()),
+        Next::End => Err(error_line(WireFault::NotJson)),
+        Next::TooLong => Err(error_line(WireFault::TooLong)),
+        Next::TooMany => unreachable!(),
+        Next::Failed => Err(b""),
+    }
+}
+
+/// A listener on the address, if it is one of the loopback and can be listened on.
+fn listener_on<N: Net<Listener = TcpListener, Stream = TcpStream>>(
+    rt: &N,
+    listen: &str,
+) -> Option<TcpListener> {
+    let address = listen.parse::<SocketAddr>().ok()?;
+    if !address.ip().is_loopback() {
+        return None;
+    }
+    TcpListener::bind(rt, address).ok()
+}

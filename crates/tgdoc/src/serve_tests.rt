@@ -1,0 +1,122 @@
+//! A server and a client over the loopback, and addresses that are not listened on.
+
+use crate::{Served, serve_lines, serve_on};
+use std::alloc::{AllocError, Global};
+use std::io::{Read, Write};
+use std::net::{Net, SocketAddr, TcpListener, TcpStream};
+use std::rt::Clock;
+use std::sync::Wait;
+use std::thread::Threads;
+use std::{io, thread};
+use tg_talk::Watched;
+use tg_vault::Vault;
+use tg_wire::read_config;
+
+const CONFIG: &[u8] =
+    b"{\"cells\":8,\"edges\":[[1,\"t\",2]],\"principals\":[\"alice\",\"bob\"],\"slots\":8}";
+
+const LINES: &[u8] =
+    b"{\"op\":\"read\",\"over\":3}\n{\"name\":\"alice\",\"op\":\"hello\"}\n{\"kind\":\"document\",\"op\":\"create\",\"rights\":\"rw\"}\n{\"op\":\"read\",\"over\":3}\n{\"op\":\"shade\"}\n{\"op\":\"bye\"}\n";
+
+const ANSWERS: &[u8] =
+    b"{\"error\":\"no actor\"}\n{\"ok\":\"hello\",\"vertex\":1}\n{\"ok\":\"created\",\"vertex\":3}\n{\"ok\":\"text\",\"text\":\"\"}\n{\"error\":\"not for a session\"}\n{\"ok\":\"bye\"}\n";
+
+const LISTEN: &[u8] = b"{\"error\":\"listen\"}\n";
+
+/// Serves one connection by two workers; what came of it, and what was written.
+fn serve_one_client<R: Threads + Wait + Clock + Sync>(
+    rt: &R,
+    alloc: Global,
+    listener: &TcpListener,
+) -> Option<(Served, Vec<u8>)> {
+    let config = read_config(alloc, CONFIG).ok()?;
+    let vault = Vault::new(alloc, config).ok()?;
+    let mut out = Vec::new(alloc);
+    let mut writer = Watched::new(&mut out);
+    let served = serve_on(rt, alloc, listener, &mut writer, vault, 2, 1);
+    Some((served, out))
+}
+
+/// Sends the lines, and reads answers until the server ends the connection.
+fn ask<N: Net<Listener = TcpListener, Stream = TcpStream>>(
+    rt: &N,
+    alloc: Global,
+    address: SocketAddr,
+) -> io::Result<Vec<u8>> {
+    let mut stream = TcpStream::connect(rt, address)?;
+    stream.write_all(LINES)?;
+    let mut answers = Vec::new(alloc);
+    stream.read_to_end(&mut answers)?;
+    Ok(answers)
+}
+
+/// A server and a client at once: what the server came to, and what the client was answered.
+fn serve_and_ask<
+    N: Threads + Wait + Clock + Net<Listener = TcpListener, Stream = TcpStream> + Sync,
+>(
+    rt: &N,
+    alloc: Global,
+    listener: &TcpListener,
+    address: SocketAddr,
+) -> (Option<(Served, Vec<u8>)>, io::Result<Vec<u8>>) {
+    thread::join(
+        rt,
+        || serve_one_client(rt, alloc, listener),
+        || ask(rt, alloc, address),
+    )
+}
+
+#[test]
+fn one_client_over_the_loopback(rt: HostRuntime) -> io::Result<()> {
+    let listener = TcpListener::bind(&rt, "127.0.0.1:0")?;
+    let address = listener.local_addr()?;
+    let (served, answers) = serve_and_ask(&rt, rt.alloc(), &listener, address);
+    let (served, out) = served.expect(&rt, "refused");
+    assert!(rt; answers?.as_slice() == ANSWERS);
+    assert!(rt; served.settled);
+    let wanted = format!(in rt.alloc();
+        "{{\"listening\":\"{address}\"}}\n{{\"settled\":\"agreed\"}}\n"
+    )?;
+    assert!(rt; out.as_slice() == wanted.as_bytes());
+    Ok(())
+}
+
+/// What a server on the address writes, and what it comes to.
+fn serve_at<N: Threads + Wait + Clock + Net<Listener = TcpListener, Stream = TcpStream> + Sync>(
+    rt: &N,
+    alloc: Global,
+    given: &[u8],
+    address: &str,
+) -> (Served, Vec<u8>) {
+    let mut reader = Watched::new(given);
+    let mut out = Vec::new(alloc);
+    let mut writer = Watched::new(&mut out);
+    let served = serve_lines(rt, alloc, &mut reader, &mut writer, address, 1, 1);
+    (served, out)
+}
+
+#[test]
+fn an_address_in_use(rt: HostRuntime) -> io::Result<()> {
+    let listener = TcpListener::bind(&rt, "127.0.0.1:0")?;
+    let address = listener.local_addr()?.to_string(rt.alloc())?;
+    let (served, out) = serve_at(&rt, rt.alloc(), CONFIG, address.as_str());
+    assert!(rt; !served.settled);
+    assert!(rt; out.as_slice() == LISTEN);
+    Ok(())
+}
+
+#[test]
+fn an_address_of_no_loopback(rt: HostRuntime) {
+    for address in ["0.0.0.0:0", "[::]:0", "nonsense"] {
+        let (served, out) = serve_at(&rt, rt.alloc(), CONFIG, address);
+        assert!(rt; !served.settled);
+        assert!(rt; out.as_slice() == LISTEN);
+    }
+}
+
+#[test]
+fn a_refused_configuration(rt: HostRuntime) {
+    let (served, out) = serve_at(&rt, rt.alloc(), b"[]", "127.0.0.1:0");
+    assert!(rt; !served.settled);
+    assert!(rt; out.as_slice() == b"{\"error\":\"not an object\"}\n");
+}
