@@ -1,6 +1,6 @@
 //! A session that draws what it asks, and keeps in mind what it was told.
 
-use crate::board::{Board, Open};
+use crate::board::Board;
 use crate::draws::{Drawn, Draws};
 use crate::figures::{micros_since, now};
 use crate::load::Load;
@@ -10,7 +10,7 @@ use std::sync::Wait;
 use std::sync::atomic::Ordering;
 use std::sync::ledger::Ledger;
 use tg_rights::{Cause, Reply, Rights, Rule};
-use tg_share::Session;
+use tg_share::{Open, Session};
 
 /// What a session goes by.
 #[derive(Drop)]

@@ -1,19 +1,9 @@
 //! What the threads of a run tell one another.
 
 use std::rt::Clock;
-use std::sync::Wait;
 use std::sync::atomic::{AtomicBool, AtomicU64, Ordering};
 use std::thread;
 use std::time::Duration;
-use tg_share::{Gate, Place};
-
-/// A gate that lets everyone pass.
-#[derive(Drop)]
-pub struct Open;
-
-impl Gate for Open {
-    fn pause<R: Wait + Clock>(&self, _rt: &R, _place: Place) {}
-}
 
 const TURNS: u32 = 1_000_000;
 

@@ -1,7 +1,7 @@
 //! All sessions at once, each in a thread of its own, beside the collector.
 
 use crate::actor::{Actor, ask_all};
-use crate::board::{Board, Open};
+use crate::board::Board;
 use crate::draws::Draws;
 use crate::figures::{micros_since, now};
 use crate::load::Load;
@@ -14,7 +14,7 @@ use std::sync::ledger::Ledger;
 use std::thread;
 use std::thread::Threads;
 use tg_rights::{Command, Kind, Rights};
-use tg_share::{Ended, Shared};
+use tg_share::{Ended, Open, Shared};
 
 /// The last seat, which the keeper sits on.
 const KEEPERS_SEAT: u64 = 63;

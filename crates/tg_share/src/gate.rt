@@ -15,3 +15,11 @@ pub enum Place {
 pub trait Gate {
     fn pause<R: Wait + Clock>(&self, rt: &R, place: Place);
 }
+
+/// A gate that lets everyone pass.
+#[derive(Clone, Copy, PartialEq, Eq, Debug)]
+pub struct Open;
+
+impl Gate for Open {
+    fn pause<R: Wait + Clock>(&self, _rt: &R, _place: Place) {}
+}

@@ -10,6 +10,6 @@ mod session;
 mod tests;
 
 pub use closing::Closed;
-pub use gate::{Gate, Place};
+pub use gate::{Gate, Open, Place};
 pub use locked::PARTS;
 pub use session::{Ended, Session, Shared, Worked};

@@ -4,7 +4,7 @@
 ghost use Rattle.std.specs.Prelude.{◌≡◌, [], IfOk};
 ghost use Rattle.tg_share.specs.declared.locked.TheConstants.{PARTS};
 
-use crate::{Closed, Ended, Gate, PARTS, Place, Session, Shared, Worked};
+use crate::{Closed, Ended, Gate, Open, PARTS, Place, Session, Shared, Worked};
 use std::alloc::{AllocError, Global};
 use std::marker::Brand;
 use std::process::Abort;
@@ -149,14 +149,6 @@ fn opened(
         cells,
     };
     Ok(Vault::new(alloc, config).ok().expect(rt, "refused"))
-}
-
-/// A gate that lets everyone pass.
-#[derive(Drop)]
-pub struct Open;
-
-impl Gate for Open {
-    fn pause<R: Wait + Clock>(&self, _rt: &R, _place: Place) {}
 }
 
 const TURNS: u32 = 1_000_000;

@@ -12,17 +12,9 @@ use std::rt::Clock;
 use std::sync::Wait;
 use std::sync::ledger::{Blank, Ledger};
 use tg_audit::Settled;
-use tg_share::{Closed, Gate, PARTS, Place, Shared};
+use tg_share::{Closed, Open, PARTS, Shared};
 use tg_vault::Vault;
 use tg_wire::read_config;
-
-/// A gate that lets everyone pass.
-#[derive(Drop)]
-struct Open;
-
-impl Gate for Open {
-    fn pause<R: Wait + Clock>(&self, _rt: &R, _place: Place) {}
-}
 
 const CONFIG: &[u8] =
     b"{\"cells\":8,\"edges\":[[1,\"t\",2]],\"principals\":[\"alice\",\"bob\"],\"slots\":8}";

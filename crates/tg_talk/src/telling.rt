@@ -1,8 +1,6 @@
 //! What a talk answers to one line, before it is written.
 
 ghost use Rattle.std.specs.Prelude.{◌≡◌, Some, None, IfSome, IfNone, [], false};
-ghost use Rattle.tg_vault.specs.declared.event.Event.TheVariants as event;
-ghost use Rattle.tg_wire.specs.declared.line.Line.TheVariants as line;
 ghost use Rattle.tg_talk.specs.Talks.{LineTold, is_hello};
 ghost use Rattle.tg_talk.specs.Talking.{Asks, Hears, IsHello, Seats, Tells, actor_of, text_of};
 
