@@ -16,7 +16,7 @@ use std::thread;
 use std::thread::Threads;
 use std::time::Duration;
 use tg_audit::Settled;
-use tg_share::{Closed, Ended, Gate, PARTS, Place, Shared};
+use tg_share::{Closed, Ended, Open, PARTS, Shared};
 use tg_talk::{Watched, send_line, talk};
 use tg_vault::Vault;
 
@@ -44,14 +44,6 @@ const SHORT_REST: u64 = 100;
 
 /// How long it rests after a cycle that freed nothing.
 const LONG_REST: u64 = 1_000;
-
-/// A gate that lets everyone pass.
-#[derive(Drop)]
-struct Open;
-
-impl Gate for Open {
-    fn pause<R: Wait + Clock>(&self, _rt: &R, _place: Place) {}
-}
 
 /// Serves so many connections, each in a talk of a worker on the worker's own seat, beside a collector, and settles the logs
 /// at the end. It writes the address before the first connection, and what settling found as the last line: `agreed`;

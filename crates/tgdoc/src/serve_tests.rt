@@ -21,6 +21,8 @@ const LINES: &[u8] =
 const ANSWERS: &[u8] =
     b"{\"error\":\"no actor\"}\n{\"ok\":\"hello\",\"vertex\":1}\n{\"ok\":\"created\",\"vertex\":3}\n{\"ok\":\"text\",\"text\":\"\"}\n{\"error\":\"not for a session\"}\n{\"ok\":\"bye\"}\n";
 
+const NOT_AN_OBJECT: &[u8] = b"{\"error\":\"not an object\"}\n";
+
 const LISTEN: &[u8] = b"{\"error\":\"listen\"}\n";
 
 /// Serves one connection by two workers; what came of it, and what was written.
@@ -118,5 +120,5 @@ fn an_address_of_no_loopback(rt: HostRuntime) {
 fn a_refused_configuration(rt: HostRuntime) {
     let (served, out) = serve_at(&rt, rt.alloc(), b"[]", "127.0.0.1:0");
     assert!(rt; !served.settled);
-    assert!(rt; out.as_slice() == b"{\"error\":\"not an object\"}\n");
+    assert!(rt; out.as_slice() == NOT_AN_OBJECT);
 }
