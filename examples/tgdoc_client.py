@@ -1,0 +1,184 @@
+"""A client of `tgdoc serve`, for programs: one method a command, answers as values, refusals as exceptions.
+
+    with Client(*address_of(line)) as alice:
+        alice.hello("alice")
+        document = alice.create("document", "rw")
+        alice.write(document, "hi")
+
+`line` is the first line that the server writes. The lines that are sent and answered are those of docs/PROTOCOL.md. A client is for
+one thread at a time; it needs Python's standard library alone.
+"""
+
+import json
+import select
+import socket
+import time
+
+
+class Refused(Exception):
+    """The server refused a line. `answer` is its answer as it was read."""
+
+    def __init__(self, answer, text):
+        super().__init__(text)
+        self.answer = answer
+
+
+class Denied(Refused):
+    """The take-grant rules deny the command; `rule` is its name, and `cause` what is wrong: `empty`, `not distinct`, `missing` or
+    `not document`.
+
+    Where rights are missing, the label from `source` to `target` lacks the letters `missing`. Where a vertex is no document, it is
+    `vertex`. What the cause does not have is None.
+    """
+
+    def __init__(self, answer):
+        self.rule = answer["denied"]
+        self.cause = answer.get("cause", "missing")
+        self.missing = answer.get("missing")
+        self.source = answer.get("from")
+        self.target = answer.get("to")
+        self.vertex = answer.get("vertex")
+        text = "%s denied: %s" % (self.rule, self.cause)
+        if self.missing is not None:
+            text = "%s denied: %d has no %s over %d" % (self.rule, self.source, self.missing, self.target)
+        elif self.vertex is not None:
+            text = "%s denied: %d is no document" % (self.rule, self.vertex)
+        super().__init__(answer, text)
+
+
+class Full(Refused):
+    """The rules allow the command, and there is no room for it: no more `what`, which is `slots`, `cells` or `serials`.
+
+    Slots and cells come back as the collector frees what was dropped, so the command may be asked again.
+    """
+
+    def __init__(self, answer):
+        self.what = answer["full"]
+        super().__init__(answer, "no %s left" % self.what)
+
+
+class Fault(Refused):
+    """The line was refused before any rule was asked; `error` says why, as in `no actor`.
+
+    Nothing was changed, except that `out of memory` may also be the answer to a command that was carried out.
+    """
+
+    def __init__(self, answer):
+        self.error = answer["error"]
+        super().__init__(answer, self.error)
+
+
+REFUSALS = {"denied": Denied, "full": Full, "error": Fault}
+
+
+def address_of(line):
+    """The host and the port in the first line of a server."""
+    host, _, port = json.loads(line)["listening"].rpartition(":")
+    return host.strip("[]"), int(port)
+
+
+class Client:
+    """One connection to a server, and one session on it from `hello` to `bye`, or to the end of the connection.
+
+    `seconds` is how long a connection, the sending of a line and the wait for an answer may take: then they raise TimeoutError. A
+    connection that the server ends raises ConnectionError, once the answers that came before are received.
+    """
+
+    def __init__(self, host, port, seconds=10.0):
+        self.seconds = seconds
+        self.socket = socket.create_connection((host, port), seconds)
+        self.socket.setsockopt(socket.IPPROTO_TCP, socket.TCP_NODELAY, 1)
+        self.socket.setblocking(False)
+        self.arrived = bytearray()
+        self.is_ended = False
+
+    def __enter__(self):
+        return self
+
+    def __exit__(self, *_):
+        self.close()
+
+    def close(self):
+        """Ends the connection, and with it the session."""
+        self.socket.close()
+
+    def send(self, **fields):
+        """Sends a line of these fields, and does not wait for its answer.
+
+        Any number of lines may be sent before the first answer is received: answers that come meanwhile are kept.
+        """
+        line = json.dumps(fields, ensure_ascii=False, separators=(",", ":")).encode() + b"\n"
+        limit = time.monotonic() + self.seconds
+        while line:
+            if self._wait(select.POLLOUT, limit):
+                line = line[self.socket.send(line) :]
+
+    def receive(self):
+        """The next answer, in the order of the lines that were sent; raises the refusal that it is."""
+        limit = time.monotonic() + self.seconds
+        found = self.arrived.find(b"\n")
+        while found < 0:
+            if self.is_ended:
+                raise ConnectionError("the server ended the connection")
+            self._wait(0, limit)
+            found = self.arrived.find(b"\n")
+        answer = json.loads(self.arrived[:found])
+        del self.arrived[: found + 1]
+        for key, refusal in REFUSALS.items():
+            if key in answer:
+                raise refusal(answer)
+        return answer
+
+    def _wait(self, events, limit):
+        """Waits up to the limit for the events or for answers, which are kept; whether it was more than answers that came."""
+        poll = select.poll()
+        poll.register(self.socket, events if self.is_ended else events | select.POLLIN)
+        found = poll.poll(max(0.0, limit - time.monotonic()) * 1000)
+        if not found:
+            raise TimeoutError("the server was silent for %g seconds" % self.seconds)
+        if not self.is_ended and found[0][1] & ~select.POLLOUT:
+            piece = self.socket.recv(65536)
+            self.arrived += piece
+            self.is_ended = not piece
+        return bool(found[0][1] & ~select.POLLIN)
+
+    def ask(self, **fields):
+        """Sends a line, and receives its answer. No answer of an earlier line may be outstanding."""
+        self.send(**fields)
+        return self.receive()
+
+    def hello(self, name):
+        """Begins the session of the principal of this name; its serial. There is no password: the server believes the name."""
+        return self.ask(op="hello", name=name)["vertex"]
+
+    def bye(self):
+        """Ends the session; the server then ends the connection."""
+        self.ask(op="bye")
+
+    def take(self, rights, over, source):
+        """Takes rights over `over` that `source` has."""
+        self.ask(op="take", rights=rights, over=over, **{"from": source})
+
+    def grant(self, rights, over, to):
+        """Gives `to` rights over `over`."""
+        self.ask(op="grant", rights=rights, over=over, to=to)
+
+    def create(self, kind, rights):
+        """Makes a vertex, a `subject` or a `document`, over which the principal has these rights; its serial."""
+        return self.ask(op="create", kind=kind, rights=rights)["vertex"]
+
+    def remove(self, rights, over):
+        """Gives up the principal's own rights over `over`."""
+        self.ask(op="remove", rights=rights, over=over)
+
+    def read(self, over):
+        """The text of a document."""
+        return self.ask(op="read", over=over)["text"]
+
+    def write(self, over, text):
+        """Makes this the text of a document."""
+        self.ask(op="write", over=over, text=text)
+
+    def look(self, at):
+        """The edges of a vertex: the rights by the serial that they are over, the least serial first."""
+        return dict(self.ask(op="look", at=at)["edges"])

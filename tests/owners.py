@@ -1,0 +1,134 @@
+"""A model of one principal and of all that it makes, which nobody else reaches: it says what each command is answered.
+
+Its methods are those of examples/tgdoc_client.py, by the rules of take and grant; nothing is collected. Commands are a method's name and
+its arguments.
+"""
+
+LETTERS = "rwtg"
+WORDS = ["", "noon", 'a "quoted" word', "back\\slash", "two\nlines", "\u00e9t\u00e9", "\u6587\u66f8", "\U0001f4c4"]
+MOST_HELD = 8
+
+
+def lacking(wanted, had):
+    """The rights that are wanted and not had, in the order in which they are written."""
+    return "".join(letter for letter in LETTERS if letter in wanted and letter not in had)
+
+
+class Owner:
+    """The vertices of one principal, their edges and texts."""
+
+    def __init__(self, serial):
+        self.serial = serial
+        self.kinds = {serial: "subject"}
+        self.edges = {serial: {}}
+        self.texts = {}
+
+    def label(self, source, target):
+        return self.edges.get(source, {}).get(target, "")
+
+    def relabel(self, source, target, letters):
+        """Makes this the label; no rights are no edge."""
+        self.edges[source][target] = "".join(letter for letter in LETTERS if letter in letters)
+        if not letters:
+            del self.edges[source][target]
+
+    def denial(self, rule, needs, ends):
+        """The denial of a command that needs rights over targets, in this order, and has these ends; None where it is allowed."""
+        if len(set(ends)) < len(ends):
+            return {"cause": "not distinct", "denied": rule}
+        for source, rights, target in needs:
+            missing = lacking(rights, self.label(source, target))
+            if missing:
+                return {"denied": rule, "from": source, "missing": missing, "to": target}
+        return None
+
+    def rewriting(self, rule, rights, needs, ends):
+        """The denial of a command that changes edges: no rights at all come first."""
+        return self.denial(rule, needs, ends) if rights else {"cause": "empty", "denied": rule}
+
+    def take(self, rights, over, source):
+        needs = [(self.serial, "t", source), (source, rights, over)]
+        denial = self.rewriting("take", rights, needs, [self.serial, over, source])
+        if denial is None:
+            self.relabel(self.serial, over, self.label(self.serial, over) + rights)
+        return denial
+
+    def grant(self, rights, over, to):
+        needs = [(self.serial, "g", to), (self.serial, rights, over)]
+        denial = self.rewriting("grant", rights, needs, [self.serial, over, to])
+        if denial is None:
+            self.relabel(to, over, self.label(to, over) + rights)
+        return denial
+
+    def create(self, _kind, rights):
+        """The denial alone: the serial of the new vertex is the server's to choose, and `created` is told it."""
+        return self.rewriting("create", rights, [], [])
+
+    def created(self, serial, kind, rights):
+        self.kinds[serial] = kind
+        self.edges[serial] = {}
+        self.relabel(self.serial, serial, rights)
+
+    def remove(self, rights, over):
+        denial = self.rewriting("remove", rights, [(self.serial, rights, over)], [self.serial, over])
+        if denial is None:
+            self.relabel(self.serial, over, lacking(self.label(self.serial, over), rights))
+        return denial
+
+    def opening(self, rule, right, over):
+        """The denial of a command on a document's text."""
+        denial = self.denial(rule, [(self.serial, right, over)], [self.serial, over])
+        if denial is None and self.kinds[over] != "document":
+            denial = {"cause": "not document", "denied": rule, "vertex": over}
+        return denial
+
+    def read(self, over):
+        return self.opening("read", "r", over) or self.texts.get(over, "")
+
+    def write(self, over, text):
+        denial = self.opening("write", "w", over)
+        if denial is None:
+            self.texts[over] = text
+        return denial
+
+    def look(self, at):
+        denial = None if at == self.serial else self.denial("look", [(self.serial, "t", at)], [])
+        return denial or dict(sorted(self.edges[at].items()))
+
+    def held(self):
+        """The vertices that the principal has rights over."""
+        return list(self.edges[self.serial])
+
+    def reached(self):
+        """All vertices that the principal reaches over edges, itself among them."""
+        found = [self.serial]
+        for vertex in found:
+            found += [target for target in self.edges[vertex] if target not in found]
+        return found
+
+
+def rights_from(source):
+    """Some rights in any order, seldom none."""
+    return "".join(source.sample(LETTERS, source.choice([0, 1, 1, 1, 2, 2, 3, 4, 4])))
+
+
+def command(source, owner):
+    """A random command; where much is held, all rights over a vertex are given up."""
+    held = owner.held()
+    if len(owner.reached()) > MOST_HELD:
+        over = source.choice(held)
+        return "remove", (owner.label(owner.serial, over), over)
+    # Mostly what is held; now and then the principal itself, a vertex that was dropped, or one that never was or is another's.
+    serials = held * 5 + list(owner.kinds) + [source.randint(1, 5000)]
+    over, other, rights = source.choice(serials), source.choice(serials), rights_from(source)
+    name = source.choice(["create", "create", "create", "take", "grant", "grant", "remove", "read", "read", "write", "write", "look"])
+    arguments = {
+        "create": (source.choice(["document", "document", "subject"]), rights),
+        "take": (rights, over, other),
+        "grant": (rights, over, other),
+        "remove": (rights, over),
+        "read": (over,),
+        "write": (over, "%s %d" % (source.choice(WORDS), source.randrange(1000))),
+        "look": (source.choice([owner.serial, over]),),
+    }
+    return name, arguments[name]
