@@ -209,7 +209,7 @@ def tests():
         yield "version-of-" + word, refused(word, "--version")
         yield "a-word-too-many-behind-" + word, refused(word, "now")
         yield "an-option-that-%s-does-not-have" % word, refused(word, "--fast")
-    yield "help", help_with_a_file(WELCOME, ["run", "audit"], "--help")
+    yield "help", help_with_a_file(WELCOME, ["run", "audit", "serve"], "--help")
     yield "help-on-run", help_on_run
     yield "help-on-audit", help_with_a_file(SHARED, ["audit"], "audit", "--help")
     yield "version", versioned("--version")
