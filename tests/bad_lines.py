@@ -31,13 +31,16 @@ PROBES = [b'{"op":"hello","name":"alice"}', b'{"op":"shade"}', b'{"op":"look","a
 
 NUMBERS = """0 1 2 3 4 63 64 65 65536 65537 1048576 1048577 -1 -0 -3 -18446744073709551616 4294967296 9223372036854775807 9223372036854775808
 18446744073709551614 18446744073709551615 18446744073709551616 99999999999999999999 100000000000000000000 1.0 3.5 -0.0 1e0 3E0 1e+0 1e-0 0e0 0.3e1
-0e400 1e-400 1e308 -1e308 1e-999999999999999999999""".split() + ["9" * 19, "9" * 21, "9" * 308, "0." + "0" * 5000 + "1"]
-NO_NUMBERS = """1e400 -1e400 1e309 1E999999999999999999999 01 00 +1 .5 1. 1e 1e+ 0x10 1_0 - -- NaN Infinity -Infinity nan ١ ３""".split()
-NO_NUMBERS += ["9" * 309, "1" + "0" * 5000, "-" + "9" * 400]
+0e400 1e-400 1e308 -1e308 1.7976931348623158e308 1e-999999999999999999999 18446744073709551616.0 -18446744073709551616e0""".split()
+# The greatest whole number that is nearer to a float than to what is beyond the range is among them; the next one is not JSON.
+LIMIT = 2**1024 - 2**970
+NUMBERS += ["9" * 19, "9" * 21, "9" * 308, "-" + "9" * 308, "%d" % (LIMIT - 1), "0." + "0" * 5000 + "1"]
+NO_NUMBERS = """1e400 -1e400 1e309 1.7976931348623159e308 1E999999999999999999999 01 00 +1 .5 1. 1e 1e+ 0x10 1_0 - -- NaN Infinity -Infinity nan ١ ３""".split()
+NO_NUMBERS += ["%d" % LIMIT, "-%d" % LIMIT, "9" * 309, "1" + "0" * 5000, "-" + "9" * 400]
 OTHER_VALUES = """null true false [] {} [1] [[]] [null] {"a":1} [{}] [[1,"tg",2]] ["alice"] [1.5] {"a":{"a":1}} "" "a" "1" "null" """.split()
 NO_VALUES = """True None nul 'a' a undefined [1,] [,1] {"a"} {"a":} {a:1} {1:1} {"a":1,} [1 "a""".split()
 LETTERS_OF_RIGHTS = ["rr", "rwtgr", "R", "x", "r w", " r", "r\\n", "\\u0072", "\\u0072r", "ŕ", "rwtg", "gtwr", "", "g", "tw", "\\u0000"]
-WORDS = ["Subject", "document ", "object", "documen", "alice\\u0000", "Alice", "bob", "carol", "hell\\u006f", "look", "LOOK", "cycle", "shade", "bye"]
+WORDS = ["Subject", "document ", "object", "documen", "DOCUMENT", "\\u0064ocument", "alice\\u0000", "Alice", "bob", "carol", "hell\\u006f", "look", "LOOK", "bye"]
 ESCAPES = ["\\u0061", "\\u00E9", "\\u00e9", "\\uD83D\\uDE00", "\\ud83d\\ude00", "\\ud83d", "\\ude00", "\\ude00\\ud83d", "\\ud83d\\u0061", "\\ud83d\\ud83d\\ude00"]
 ESCAPES += ["\\uD800\\uDC00", "\\uDBFF\\uDFFF", "\\udbff", "\\udfffx", "\\ud83d \\ude00", "\\uffff", "\\u0000", "\\u001F", "\\/", "\\\\", '\\"', "\\b\\f\\n\\r\\t"]
 ESCAPES += ["\\x61", "\\u61", "\\u006", "\\u00g1", "\\U0061", "\\u{61}", "\\a", "\\'", "\\0", "\\", "\\u", "\\u+061", "\\u 061"]
@@ -60,6 +63,20 @@ GOOD = {
     "seat": ["0", "0", "1", "2"],
 }
 SERIALS = ["1", "2", "3", "4", "99"]
+
+# Values at and beyond what a field may have; where a field is not named, those of numbers.
+SIXTY_FOUR = ",".join('"%s"' % ("a" * (number % 26 + 1) + "b" * (number // 26)) for number in range(64))
+AT_A_LIMIT = {
+    "rights": ['"%s"' % word for word in LETTERS_OF_RIGHTS],
+    **dict.fromkeys(["kind", "op", "name"], ['"%s"' % word for word in ["", *WORDS]]),
+    "slots": ["0", "1", "2", "3", "65536", "65537"],
+    "cells": ["0", "1", "2", "1048576", "1048577"],
+    "next": ["0", "1", "2", "3", "18446744073709551614", "18446744073709551615"],
+    "principals": ["[]", "[%s]" % SIXTY_FOUR, '[%s,"z"]' % SIXTY_FOUR, '["%s"]' % ("z" * 32), '["%s"]' % ("z" * 33), '["alice","alice"]', '["alice",null]']
+    + ['["%s","bob"]' % word for word in ["", "Alice", "al ice", "alice1", "ali\\u0063e", "bo\\u0062", "é", "alice\\n"]],
+    "edges": ["[%s]" % pair for pair in """[1,"t",3] [0,"t",1] [3,"t",1] [1,"t",1] [1,"",2] [1,"t",2],[1,"r",2] [2,"t",1],[1,"t",2] [1,"tt",2] [1,"t",2,3]
+        [1,"t"] [1.0,"t",2] [1,"t",2e0] [-1,"t",2] 1,"t",2 [1,"t",2],null ["1","t","2"] [1,null,2] [1,["t"],2] [2,"x",2]""".split()],
+}
 
 
 def text_of_bytes(source):
@@ -129,7 +146,9 @@ def replaced(source, fields, at):
 
 
 def at_a_limit(source, fields, at):
-    fields[at] = (fields[at][0], source.choice(NUMBERS if source.random() < 0.8 else NO_NUMBERS))
+    name = fields[at][0]
+    near = [text_of_bytes(source)] if name == "text" else AT_A_LIMIT.get(name, NUMBERS if source.random() < 0.8 else NO_NUMBERS)
+    fields[at] = (name, source.choice(near))
 
 
 def wrapped(source, fields, at):
@@ -137,11 +156,15 @@ def wrapped(source, fields, at):
     fields[at] = (name, source.choice(["[%s]", '{"a":%s}', '"%s"', "[%s,1]", " %s ", "-%s", "%s.0", "%se0"]) % given)
 
 
+def moved_inside(source, fields, at):
+    fields[at] = (source.choice(KEYS), '{"%s":%s}' % fields[at])
+
+
 def added(source, fields, at):
     fields.insert(at, (source.choice(KEYS), value(source)))
 
 
-IN_FIELDS = [renamed, doubled, escaped_key, escaped_value, removed, replaced, replaced, at_a_limit, wrapped, added]
+IN_FIELDS = [renamed, doubled, escaped_key, escaped_value, removed, replaced, at_a_limit, at_a_limit, at_a_limit, wrapped, moved_inside, added]
 
 
 def cut(source, line):
@@ -185,8 +208,8 @@ def turned(source, line):
 
 
 def lengthened(source, line):
-    """White space up to the longest line; one byte more ends a run, and is tried at its end."""
-    size = source.choice([LONGEST_LINE - 1, LONGEST_LINE])
+    """White space up to the longest line, or a byte more, which ends a run."""
+    size = source.choice([LONGEST_LINE - 1] * 4 + [LONGEST_LINE] * 4 + [LONGEST_LINE + 1])
     return line + b" " * (size - len(line)) if source.random() < 0.5 else b"\t" * (size - len(line)) + line
 
 
@@ -194,11 +217,13 @@ IN_BYTES = [cut, spoilt, spoilt, spoilt, marked, trailed, spaced, enclosed, halv
 
 
 def fields_of(source, form):
-    """Good fields of a form, each with its value as JSON, in any order."""
+    """The fields of a form, each with its value as JSON, in any order. The values are good, but for some of a configuration, whose faults are many."""
     names = {"config": ["principals"], "goal": ["from", "to", "rights"]}.get(form) or EVENTS[form]
     others = ["edges", "slots", "cells", "next"] if form == "config" else ["seat"] if form in EVENTS else []
-    names = [*names, *[name for name in others if source.random() < 0.4]]
-    fields = [(name, source.choice(GOOD.get(name, SERIALS))) for name in names] + ([("op", '"%s"' % form)] if form in EVENTS else [])
+    names = [*names, *[name for name in others if source.random() < 0.5]]
+    values = [AT_A_LIMIT if form == "config" and source.random() < 0.25 else GOOD for _ in names]
+    fields = [(name, source.choice(given.get(name, SERIALS))) for name, given in zip(names, values)]
+    fields += [("op", '"%s"' % form)] if form in EVENTS else []
     source.shuffle(fields)
     return fields
 
@@ -242,7 +267,7 @@ def lines_of_a_run(source):
             return [*lines, *PROBES], count
         if source.random() < 0.1:
             lines += PROBES
-    return [*lines, source.choice(PROBES) + b" " * LONGEST_LINE, *PROBES] if source.random() < 0.3 else lines, count
+    return [*lines, source.choice(PROBES).ljust(LONGEST_LINE + 1), *PROBES] if source.random() < 0.3 else lines, count
 
 
 def problem_of(run, line, answer):
@@ -318,7 +343,7 @@ def audit_is_right(program, source, where):
 
 
 def lines_are_right(program, seed, count):
-    """Whether so many lines of a seed are answered as they should be; every fiftieth is a configuration, every hundredth an audit."""
+    """Whether so many lines of a seed are answered as they should be; every twentieth is a configuration, every hundredth an audit."""
     made, number = 0, 0
     while made < count:
         number += 1
@@ -326,7 +351,7 @@ def lines_are_right(program, seed, count):
         lines, of_this = lines_of_a_run(source)
         made += of_this
         good = is_right(program, source, where, CONFIG, lines)
-        for _ in range(of_this // 50):
+        for _ in range(of_this // 20):
             good = is_right(program, source, where, with_faults(source, fields_of(source, "config")), [*BEGIN, *PROBES]) and good
         for _ in range(of_this // 100):
             good = audit_is_right(program, source, where) and good

@@ -21,6 +21,7 @@ DERIVATIONS = 200
 LINES = 80
 NAMES = ["alice", "bob", "carol", "dave"]
 OPS = ["take"] * 4 + ["grant"] * 4 + ["create"] * 4 + ["remove"] * 5 + ["read", "write", "look"]
+KINDS = ["serials", "slots", "cells", "denied", "error", "ok", "shaded", "mark", "sweep", "idle"]
 OTHERS = ["shade", "shade", "cycle", "cycle", "hello", "hello", "bye"]
 
 
@@ -141,32 +142,43 @@ def row_of(source, event):
     return json.dumps(dict(fields)).encode()
 
 
-def runs_wrong(program, seed, index, seen):
-    """Whether a run has a wrong answer, or does not end well; then it is printed."""
-    source = random.Random("%s/%d" % (seed, index))
-    config = line_of(opening(source))
-    told = [config.decode()]
-    run, wrong, errors = Run(read_config(config)), None, 0
+def talked(program, source, config, told, seen):
+    """What is wrong with the answers of a run, or with its end; nothing where all is right. What is said goes to the list."""
+    run, errors = Run(read_config(config)), 0
     with talk(program, "run") as process:
         process.stdin.write(config + b"\n")
         for event in plan(source, run):
             row = row_of(source, event)
+            told.append(row)
             process.stdin.write(row + b"\n")
             process.stdin.flush()
             answer = process.stdout.readline()
-            told += [row.decode(), answer.decode("utf-8", "backslashreplace").rstrip("\n")]
-            kind = next((name for name in ("full", "denied", "error", "ok") if b'"%s":"' % name.encode() in answer), "note")
-            seen[kind] = seen.get(kind, 0) + 1
-            errors += kind == "error"
+            told.append(answer[:-1])
             wrong = run.problem(read_event(row), answer[:-1])
             if wrong:
-                break
+                return wrong
+            kind = next((kind for kind in KINDS if b'"%s"' % kind.encode() in answer), "steps")
+            seen[kind] = seen.get(kind, 0) + 1
+            errors += kind == "error"
         process.stdin.close()
-        if not wrong and (process.stdout.read(), process.wait(SECONDS)) != (b"", int(errors > 0)):
-            wrong = "wanted no further answer, and status %d" % (errors > 0)
+        ended = process.stdout.read(), process.wait(SECONDS)
+    return None if ended == (b"", int(errors > 0)) else "wanted no further answer, and status %d" % (errors > 0)
+
+
+def run_is_right(program, seed, index, seen):
+    """Whether a run has the answers that it should have; if not, it is printed."""
+    source = random.Random("%s/%d" % (seed, index))
+    config = line_of(opening(source))
+    told = [config]
+    try:
+        wrong = talked(program, source, config, told, seen)
+    except OSError as error:
+        wrong = str(error)
     if wrong:
-        print("  run %d of seed %s:\n    %s\n  %s" % (index, seed, "\n    ".join(told), wrong))
-    return bool(wrong)
+        print("  run %d of seed %s:" % (index, seed))
+        print("\n".join("    " + row.decode("utf-8", "backslashreplace") for row in told))
+        print("  " + wrong)
+    return not wrong
 
 
 def random_runs(count):
@@ -176,10 +188,11 @@ def random_runs(count):
         seen = {}
         for seed in seeds():
             print("  seed %s" % seed)
-            if any(runs_wrong(program, seed, index, seen) for index in range(count // len(seeds()))):
+            if not all(run_is_right(program, seed, index, seen) for index in range(count // len(seeds()))):
                 return False
         print("  %s" % ", ".join("%s %d" % pair for pair in sorted(seen.items())))
-        return set(seen) == {"full", "denied", "error", "ok", "note"}
+        # Answers of each kind were among them.
+        return set(seen) == {*KINDS, "steps"}
 
     return test
 
@@ -193,6 +206,8 @@ def is_possible(graph, step):
 def derivation(source):
     """The values of an audit's lines: a configuration, a goal and steps. Many have only steps that are possible; the rest end in one of any kind."""
     config = opening(source)
+    if source.random() < 0.2:
+        config["next"] = NONE_LEFT - source.randint(0, 4)
     graph, steps, is_good = Graph(read_config(line_of(config))), [], source.random() < 0.5
     for _ in range(source.randint(0, 40)):
         subjects = [serial for serial, kind in graph.kinds.items() if kind == "subject"]
@@ -201,7 +216,7 @@ def derivation(source):
         if is_possible(graph, step):
             graph.done(actor, step)
             steps.append(step)
-        elif not is_good and source.random() < (0.03 if actor in subjects and graph.next < NONE_LEFT else 0.4):
+        elif not is_good and source.random() < (0.08 if actor in subjects and graph.next < NONE_LEFT else 0.4):
             steps.append(step)
     start = source.choice(list(graph.kinds))
     end, label = source.choice(graph.edges(start) or [[serial(source, graph), ""]])
@@ -232,6 +247,7 @@ def derivations(count):
             if not all(derivation_is_right(program, seed, index, seen) for index in range(count // len(seeds()))):
                 return False
         print("  %s" % ", ".join("%s %d" % pair for pair in sorted(seen.items())))
+        # Verdicts of each kind were among them.
         return set(seen) == {"shared", "goal missing", "step denied", "step full", "actor not subject"}
 
     return test
