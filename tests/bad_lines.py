@@ -54,8 +54,8 @@ GOOD = {
     "rights": ['"r"', '"tg"', '"rwtg"', '"w"'],
     "kind": ['"document"', '"subject"'],
     "text": ['"hi"', '""', '"é😀"'],
-    "principals": ['["alice","bob"]', '["alice"]'],
-    "edges": ["[]", '[[1,"tg",2]]', '[[1,"r",2],[2,"w",1]]'],
+    "principals": ['["alice","bob"]', '["alice","bob","carol"]', '["alice","bob"]', '["alice"]'],
+    "edges": ['[[1,"tg",2]]', '[[1,"r",2],[2,"w",1]]', '[[2,"",1],[1,"t",2]]', "[]"],
     "slots": ["64", "8"],
     "cells": ["64", "8"],
     "next": ["9", "3"],
@@ -70,12 +70,13 @@ AT_A_LIMIT = {
     "rights": ['"%s"' % word for word in LETTERS_OF_RIGHTS],
     **dict.fromkeys(["kind", "op", "name"], ['"%s"' % word for word in ["", *WORDS]]),
     "slots": ["0", "1", "2", "3", "65536", "65537"],
-    "cells": ["0", "1", "2", "1048576", "1048577"],
+    "cells": ["0", "1", "1", "2", "1048576", "1048577"],
     "next": ["0", "1", "2", "3", "18446744073709551614", "18446744073709551615"],
     "principals": ["[]", "[%s]" % SIXTY_FOUR, '[%s,"z"]' % SIXTY_FOUR, '["%s"]' % ("z" * 32), '["%s"]' % ("z" * 33), '["alice","alice"]', '["alice",null]']
     + ['["%s","bob"]' % word for word in ["", "Alice", "al ice", "alice1", "ali\\u0063e", "bo\\u0062", "é", "alice\\n"]],
-    "edges": ["[%s]" % pair for pair in """[1,"t",3] [0,"t",1] [3,"t",1] [1,"t",1] [1,"",2] [1,"t",2],[1,"r",2] [2,"t",1],[1,"t",2] [1,"tt",2] [1,"t",2,3]
-        [1,"t"] [1.0,"t",2] [1,"t",2e0] [-1,"t",2] 1,"t",2 [1,"t",2],null ["1","t","2"] [1,null,2] [1,["t"],2] [2,"x",2]""".split()],
+    "edges": ["[%s]" % pair for pair in """[1,"t",3] [0,"t",1] [1,"t",1] [1,"",2] [1,"t",2],[1,"r",2] [2,"t",1],[1,"t",2]""".split() * 3]
+    + ["[%s]" % pair for pair in """[1,"tt",2] [1,"t",2,3] [1,"t"] [1.0,"t",2] [1,"t",2e0] [-1,"t",2] 1,"t",2 [1,"t",2],null ["1","t","2"] [1,null,2]
+        [1,["t"],2] [2,"x",2]""".split()],
 }
 
 
@@ -221,7 +222,7 @@ def fields_of(source, form):
     names = {"config": ["principals"], "goal": ["from", "to", "rights"]}.get(form) or EVENTS[form]
     others = ["edges", "slots", "cells", "next"] if form == "config" else ["seat"] if form in EVENTS else []
     names = [*names, *[name for name in others if source.random() < 0.5]]
-    values = [AT_A_LIMIT if form == "config" and source.random() < 0.25 else GOOD for _ in names]
+    values = [AT_A_LIMIT if form == "config" and source.random() < 0.3 else GOOD for _ in names]
     fields = [(name, source.choice(given.get(name, SERIALS))) for name, given in zip(names, values)]
     fields += [("op", '"%s"' % form)] if form in EVENTS else []
     source.shuffle(fields)
@@ -246,6 +247,12 @@ def with_faults(source, fields):
     if source.random() < 0.02:
         line = lengthened(source, line)
     return line.replace(b"\n", b"\r")
+
+
+def config_of(source):
+    """A configuration line, with faults in its values or in the line."""
+    fields = fields_of(source, "config")
+    return with_faults(source, fields) if source.random() < 0.5 else joined(source, fields)
 
 
 def answer_wanted(read, line):
@@ -352,7 +359,7 @@ def lines_are_right(program, seed, count):
         made += of_this
         good = is_right(program, source, where, CONFIG, lines)
         for _ in range(of_this // 20):
-            good = is_right(program, source, where, with_faults(source, fields_of(source, "config")), [*BEGIN, *PROBES]) and good
+            good = is_right(program, source, where, config_of(source), [*BEGIN, *PROBES]) and good
         for _ in range(of_this // 100):
             good = audit_is_right(program, source, where) and good
         if not good:
