@@ -20,9 +20,11 @@ test:
 load:
 	cd crates/tg_load && rt run -- --sessions 1 --commands 1 > /dev/null
 
-# 63 sessions at once, a million commands in all, and the settle of their logs; no part of the gate, which runs fewer.
-soak: load
+# 63 sessions at once, a million commands in all, and the settle of their logs; then a million bad lines and 20,000 random runs and
+# derivations. No part of the gate, which runs fewer.
+soak: all load
 	crates/tg_load/out/tg_load --sessions 63 --commands 15874 --reuse --figures
+	tests/soak
 
 # Lines per second and peak memory on generated input, and what sessions on threads take; no test, and no part of one.
 bench: all load

@@ -1,0 +1,185 @@
+"""What docs/PROTOCOL.md says of lines, as a program of its own: what a line is read as, or `Refused` with its answer.
+
+It shares nothing with the program under test.
+"""
+
+import json
+import math
+import re
+
+LETTERS = "rwtg"
+LONGEST_LINE = 16384
+LONGEST_TEXT = 4096
+MOST_LEVELS = 127
+COMMANDS = {
+    "take": ["rights", "over", "from"],
+    "grant": ["rights", "over", "to"],
+    "create": ["kind", "rights"],
+    "remove": ["rights", "over"],
+    "read": ["over"],
+    "write": ["over", "text"],
+    "look": ["at"],
+}
+EVENTS = {"hello": ["name"], "bye": [], **COMMANDS, "shade": [], "collect": [], "cycle": []}
+
+TEXT = re.compile(r'"(?:[^"\\]|\\.)*"', re.DOTALL)
+BRACKET = re.compile(r"[\[\]{}]")
+HALF_A_PAIR = re.compile("[\ud800-\udfff]")
+
+
+class Refused(Exception):
+    """A line that is refused, with its answer."""
+
+    def __init__(self, error, **more):
+        super().__init__(error)
+        self.answer = {"error": error, **more}
+
+
+def line_of(answer):
+    """The line of an answer, without its line feed."""
+    return json.dumps(answer, ensure_ascii=False, separators=(",", ":"), sort_keys=True).encode()
+
+
+def number(text):
+    """A whole number from 0 to 2^64-1 without a sign as an int, every other number as a float."""
+    if text.isdigit() and len(text) <= 20 and int(text) < 2**64:
+        return int(text)
+    if math.isinf(float(text)):
+        raise Refused("not json")
+    return float(text)
+
+
+def no_constant(_):
+    """NaN and the infinities, which Python would read."""
+    raise Refused("not json")
+
+
+def is_broken(value):
+    """Whether a text has half a surrogate pair, which Python would read; the members of objects were asked before."""
+    if isinstance(value, list):
+        return any(map(is_broken, value))
+    return isinstance(value, str) and bool(HALF_A_PAIR.search(value))
+
+
+def members(pairs):
+    """An object; of equal keys the last stands."""
+    if any(is_broken(part) for pair in pairs for part in pair):
+        raise Refused("not json")
+    return dict(pairs)
+
+
+def levels(text):
+    """How deeply lists and objects are nested."""
+    depth = most = 0
+    for bracket in BRACKET.findall(TEXT.sub("", text)):
+        depth += 1 if bracket in "[{" else -1
+        most = max(most, depth)
+    return most
+
+
+DECODER = json.JSONDecoder(parse_int=number, parse_float=number, parse_constant=no_constant, object_pairs_hook=members)
+
+
+def read_object(line):
+    """The object that a line is."""
+    if len(line) > LONGEST_LINE:
+        raise Refused("line too long")
+    try:
+        text = line.decode()
+        deep = text.count("[") + text.count("{") > MOST_LEVELS and levels(text) > MOST_LEVELS
+        value = None if deep else DECODER.decode(text)
+    except ValueError:
+        raise Refused("not json") from None
+    if deep or is_broken(value):
+        raise Refused("not json")
+    if not isinstance(value, dict):
+        raise Refused("not an object")
+    return value
+
+
+def is_number(value):
+    return type(value) is int
+
+
+def is_rights(value):
+    return isinstance(value, str) and len(value) == len(set(value)) and set(value) <= set(LETTERS)
+
+
+def is_edge(value):
+    return isinstance(value, list) and len(value) == 3 and is_number(value[0]) and is_rights(value[1]) and is_number(value[2])
+
+
+GOOD = {
+    **dict.fromkeys(["seat", "over", "from", "to", "at", "actor", "next", "slots", "cells"], is_number),
+    "op": lambda value: True,
+    "rights": is_rights,
+    "kind": lambda value: value in ("subject", "document"),
+    "text": lambda value: isinstance(value, str) and len(value.encode()) <= LONGEST_TEXT,
+    "name": lambda value: isinstance(value, str),
+    "principals": lambda value: isinstance(value, list) and all(isinstance(name, str) for name in value),
+    "edges": lambda value: isinstance(value, list) and all(map(is_edge, value)),
+}
+
+
+def with_fields(value, required, optional=()):
+    """An object whose fields are these, with values that they may have."""
+    if any(name not in value for name in required):
+        raise Refused("missing field")
+    if any(name in value and not GOOD[name](value[name]) for name in [*required, *optional]):
+        raise Refused("bad field")
+    if any(name not in required and name not in optional for name in value):
+        raise Refused("unknown field")
+    return value
+
+
+def op_of(value, ops):
+    """The op of a line, one of these."""
+    op = value.get("op")
+    if not isinstance(op, str) or op not in ops:
+        raise Refused("unknown op")
+    return op
+
+
+def read_event(line):
+    """An event line of a run, with its seat."""
+    value = read_object(line)
+    return {"seat": 0, **with_fields(value, ["op", *EVENTS[op_of(value, EVENTS)]], ["seat"])}
+
+
+def read_step(line):
+    """A step line of an audit."""
+    value = read_object(line)
+    return with_fields(value, ["op", "actor", *COMMANDS[op_of(value, COMMANDS)]])
+
+
+def read_goal(line):
+    """The goal line of an audit."""
+    return with_fields(read_object(line), ["from", "to", "rights"])
+
+
+def config_fault(names, edges, after, slots, cells):
+    """The first fault of a configuration, 0 where it has none."""
+    pairs = [(edge[0], edge[2]) for edge in edges]
+    faults = [
+        not 1 <= len(names) <= 64,
+        len(set(names)) < len(names) or not all(re.fullmatch("[a-z]{1,32}", name) for name in names),
+        not all(1 <= end <= len(names) for pair in pairs for end in pair),
+        any(start == end for start, end in pairs),
+        any(edge[1] == "" for edge in edges),
+        len(set(pairs)) < len(pairs),
+        after <= len(names),
+        slots < len(names),
+        cells < len(edges),
+        not (1 <= slots <= 65536 and 1 <= cells <= 1048576),
+    ]
+    return next((fault for fault, is_there in enumerate(faults, 1) if is_there), 0)
+
+
+def read_config(line):
+    """The configuration line, with all its fields."""
+    value = with_fields(read_object(line), ["principals"], ["edges", "next", "slots", "cells"])
+    config = {"edges": [], "next": len(value["principals"]) + 1, "slots": 1024, "cells": 16384, **value}
+    fault = config_fault(*[config[name] for name in ("principals", "edges", "next", "slots", "cells")])
+    if fault:
+        raise Refused("config", fault=fault)
+    return config
