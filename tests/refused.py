@@ -5,6 +5,8 @@ program, with all its memory, answers to the lines without it, or with it. All o
 program's path, answers whether it passed, and prints how many calls went wrong.
 """
 
+import os
+import subprocess
 from collections import Counter
 
 import faults
@@ -13,6 +15,9 @@ from faults import Fault, ran
 
 NO_MEMORY = b'{"error":"out of memory"}'
 NOT_JSON = scripts.NOT_JSON
+
+# Lines that are answered.
+FIRST_LINES = {"run": [scripts.DERIVED, scripts.hello(b"alice")], "audit": scripts.AUDITS[0].lines}
 
 # Few bytes for each read, so that there are many.
 FEW = 16
@@ -223,15 +228,42 @@ def cut_inputs(word, given, wanted):
     return test
 
 
+def closed(word, device):
+    """A run whose input or output is closed ends with status 1, and nothing is written."""
+
+    def test(program):
+        words = ["sh", "-c", 'exec "$0" %s %s' % (word, device), str(program)]
+        found = subprocess.run(words, input=joined(FIRST_LINES[word]), stdout=subprocess.PIPE, stderr=subprocess.DEVNULL, timeout=faults.SECONDS)
+        return (found.stdout, found.returncode) == (b"", 1)
+
+    return test
+
+
+def unread(word):
+    """A run whose output nobody reads any more ends with status 1, by no signal."""
+
+    def test(program):
+        reading, writing = os.pipe()
+        os.close(reading)
+        try:
+            given = joined(FIRST_LINES[word])
+            found = subprocess.run([str(program), word], input=given, stdout=writing, stderr=subprocess.DEVNULL, timeout=faults.SECONDS)
+        finally:
+            os.close(writing)
+        return found.returncode == 1
+
+    return test
+
+
 def tests_of_devices():
     """Reads and writes of `run` and `audit` that go wrong, and inputs that are cut."""
     script, audit, short = scripts.PLAIN, scripts.AUDITS[0], scripts.SHORT
     inputs = {"run": joined([script.opening, *script.lines()]), "audit": joined(audit.lines)}
     ends = {"run": lambda given: end_of_run(script, given), "audit": lambda given: end_of_audit(audit, given)}
-    unread = {"run": lambda given: (joined(answers_to(script, end_of_unread(given))) if b"\n" in given else b"", 1), "audit": lambda given: (b"", 1)}
+    cut_off = {"run": lambda given: (joined(answers_to(script, end_of_unread(given))) if b"\n" in given else b"", 1), "audit": lambda given: (b"", 1)}
     answers = {"run": script.answers(), "audit": [audit.answer]}
     for word, given in inputs.items():
-        yield "reads-of-%s-that-fail" % word, reads_gone_wrong(word, given, faults.FAILS, unread[word])
+        yield "reads-of-%s-that-fail" % word, reads_gone_wrong(word, given, faults.FAILS, cut_off[word])
         yield "reads-of-%s-that-find-the-end" % word, reads_gone_wrong(word, given, 0, ends[word])
         yield "reads-of-%s-that-move-one-byte" % word, reads_gone_wrong(word, given, 1, ends[word])
         for name, moves in [("fail", faults.FAILS), ("take-no-byte", 0), ("take-one-byte", 1)]:
@@ -240,6 +272,10 @@ def tests_of_devices():
     yield "writes-of-one-byte-that-fail", writes_gone_wrong("run", given, faults.FAILS, short.answers(), most=1)
     yield "cut-inputs-of-run", cut_inputs("run", given, lambda given: end_of_run(short, given))
     yield "cut-inputs-of-audit", cut_inputs("audit", inputs["audit"], ends["audit"])
+    for word in FIRST_LINES:
+        yield "closed-input-of-" + word, closed(word, "<&-")
+        yield "closed-output-of-" + word, closed(word, ">&-")
+        yield "output-that-nobody-reads-of-" + word, unread(word)
 
 
 def tests():
