@@ -13,6 +13,7 @@ from faults import Fault, ran
 
 ROOT = Path(__file__).resolve().parent.parent
 OK = b"\ntest result: ok\n"
+AGAIN = "no memory, and then the answer"
 
 
 def programs():
@@ -23,37 +24,36 @@ def programs():
 def names_of(program):
     """The tests of a program that are about refused growths."""
     listed = subprocess.run([str(program), "--list"], capture_output=True, timeout=faults.SECONDS, check=True).stdout.decode()
-    names = [row.partition(":")[0] if "::" not in row else row.rpartition(": ")[0] for row in listed.splitlines()]
+    names = [row.removesuffix(": test") for row in listed.splitlines()]
     return [name for name in names if name.rpartition("::")[2].startswith("refused_")]
 
 
 def kind_of(found):
     """What a test at a refused allocation came to; None where it may not."""
-    ends = {(OK, 0): "went on", (b"no memory\n" + OK, 0): "no memory, and then the answer"}
+    ends = {(OK, 0): "went on", (b"no memory\n" + OK, 0): AGAIN}
     if found.status == 101 and found.output == b"":
         return "not prepared"
     return ends.get(found[:2])
 
 
-def growth_refused(program, name):
+def growth_refused(name):
     """Whichever allocation of the test is refused, the call leaves what it should, and one of them is its own."""
 
-    def test(_):
+    def test(program):
         attempt = faults.runs(program, [name], b"")
         counts, good = Counter(), attempt(Fault())[:2] == (OK, 0)
         for number, found in faults.each(attempt, Fault("memory")):
             kind = kind_of(found)
-            counts[kind] += 1
+            counts[kind or "WRONG"] += 1
             if kind is None:
                 print("  at call %d: status %d, %r" % (number, found.status, found.output[:200]))
-        print("  allocations refused: %s" % dict(counts))
-        return good and not counts[None] and counts["no memory, and then the answer"] > 0
+        print("  allocations refused: %s" % ", ".join("%d %s" % (number, kind) for kind, number in sorted(counts.items())))
+        return good and not counts["WRONG"] and counts[AGAIN] > 0
 
     return test
 
 
-def tests():
-    """All tests by their names."""
-    for program in programs():
-        for name in names_of(program):
-            yield "%s-of-%s" % (name.rpartition("::")[2].replace("_", "-"), program.parent.parent.name), growth_refused(program, name)
+def tests(program):
+    """All tests of a program by their names."""
+    for name in names_of(program):
+        yield name.rpartition("::")[2].replace("_", "-"), growth_refused(name)
