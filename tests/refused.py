@@ -172,10 +172,10 @@ def end_of_unread(given):
     return given[: given.rfind(b"\n") + 1]
 
 
-def compare(what, attempt, fault, wanted):
+def compare(what, attempt, fault, wanted, to_the_end=False):
     """How many of the calls went wrong, each with the output and status that are wanted; -1 where one had others."""
     count, wrong = 0, Wrong()
-    for number, found in faults.each(attempt, fault):
+    for number, found in faults.each(attempt, fault, to_the_end):
         count += 1
         if found[:2] != wanted(number):
             wrong.add(number, found)
@@ -184,14 +184,14 @@ def compare(what, attempt, fault, wanted):
 
 
 def reads_gone_wrong(word, given, moves, wanted):
-    """Each read of few bytes fails, or finds the end, or moves one byte; `wanted` has the output and status from the bytes that were read."""
+    """Each read of few bytes fails, or moves one byte, or it and all behind it find the end; `wanted` has the output and status from the bytes read."""
 
     def test(program):
         def wanted_at(number):
             return wanted(given if moves == 1 else given[: FEW * (number - 1)])
 
         attempt = faults.runs(program, [word], given)
-        return compare("reads", attempt, Fault("read", moves=moves, most=FEW), wanted_at) > len(given) // FEW
+        return compare("reads", attempt, Fault("read", moves=moves, most=FEW), wanted_at, moves == 0) > len(given) // FEW
 
     return test
 
