@@ -35,7 +35,7 @@ def status_of(answers):
 
 def print_counts(what, counts):
     """What was seen, and how often."""
-    print("  %s: %d (%s)" % (what, sum(counts.values()), ", ".join("%d %s" % (number, seen or "WRONG") for seen, number in sorted(counts.items(), key=str))))
+    print("  %s: %d (%s)" % (what, sum(counts.values()), ", ".join("%d %s" % pair[::-1] for pair in sorted(counts.items()))))
 
 
 class References:
@@ -112,12 +112,12 @@ def memory_refused(script, to_the_end):
         counts, wrong = Counter(), Wrong()
         for number, found in faults.each(attempt, Fault("memory"), to_the_end):
             kind = kind_of_run(references, script, found)
-            counts[kind] += 1
+            counts[kind or "WRONG"] += 1
             if kind is None:
                 wrong.add(number, found)
         print_counts("allocations refused", counts)
         whole = (joined(script.answers()), status_of(script.answers()))
-        return attempt(Fault())[:2] == whole and wrong.count == 0 and counts["not sent"] > 0
+        return attempt(Fault())[:2] == whole and wrong.count == 0 and any("not sent" in kind for kind in counts)
 
     return test
 
@@ -133,7 +133,7 @@ def memory_of_one_answer_refused(word, cases):
             ends[joined([answer]), status] = "answered all the same"
             for number, found in faults.each(faults.runs(program, [word], given), Fault("memory")):
                 kind = ends.get(found[:2])
-                counts[kind] += 1
+                counts[kind or "WRONG"] += 1
                 if kind is None:
                     wrong.add(number, found)
             good = good and ran(program, [word], given, Fault())[:2] == (joined([answer]), status)
@@ -149,6 +149,20 @@ def answers_to(script, given):
     known = [(script.opening, None), *script.pairs]
     answers = [answer if row == line else NOT_JSON for row, (line, answer) in zip(rows, known)]
     return [answer for answer in answers or [NOT_JSON] if answer is not None]
+
+
+def memory_of_texts_refused(program):
+    """Each allocation is refused where a text is asked for, or a command line is refused: it is the same text, or none and status 2."""
+    counts, wrong = Counter(), Wrong()
+    for words in (["--help"], ["run", "--help"], ["--version"], [], ["steal"]):
+        attempt = faults.runs(program, words, b"")
+        ends = {attempt(Fault())[:2]: "the same text", (b"", 2): "command line refused"}
+        for number, found in faults.each(attempt, Fault("memory")):
+            counts[ends.get(found[:2], "WRONG")] += 1
+            if found[:2] not in ends:
+                wrong.add(number, found)
+    print_counts("allocations refused", counts)
+    return wrong.count == 0 and counts["command line refused"] > 0
 
 
 def end_of_run(script, given):
@@ -286,4 +300,5 @@ def tests():
     openings = [([line], b'{"error":"config","fault":%d}' % fault) for line, fault in scripts.REFUSED_OPENINGS]
     yield "memory-refused-at-refused-openings", memory_of_one_answer_refused("run", openings)
     yield "memory-of-audits-refused", memory_of_one_answer_refused("audit", scripts.AUDITS)
+    yield "memory-of-texts-refused", memory_of_texts_refused
     yield from tests_of_devices()

@@ -16,11 +16,12 @@ from typing import NamedTuple
 import faults
 import scripts
 from faults import Fault
-from refused import NO_MEMORY, References, joined, print_counts
+from refused import NO_MEMORY, NOT_JSON, References, joined, print_counts
 
 SECONDS = 30
 AGREED = b'{"settled":"agreed"}\n'
 SHORT = b'{"settled":"no memory"}\n'
+WHOLE = "agreed, no line in want"
 
 # Ports below those that the system gives to clients.
 PORTS = itertools.count(20000 + os.getpid() % 10000)
@@ -111,29 +112,36 @@ def all_answers():
     return [answer for pairs in scripts.TALKS for _, answer in pairs]
 
 
-def kind_of(references, found):
-    """What a server at fault came to; None where it may not."""
-    listening = b'{"listening":"127.0.0.1:%d"}\n' % found.port
+def end_of(found):
+    """How a server ended, by what it wrote; None where it may not have."""
+    whole = b'{"listening":"127.0.0.1:%d"}\n' % found.port
     ends = {
         (b"", 2): "command line refused",
         (joined([NO_MEMORY]), 1): "opening refused",
-        (b"", 1): "opening not read",
-        (listening + AGREED, 0): "agreed",
-        (listening + SHORT, 1): "not settled",
+        (joined([NOT_JSON]), 1): "no opening",
+        (whole + AGREED, 0): "agreed",
+        (whole + SHORT, 1): "not settled",
     }
     end = ends.get((found.output, found.status))
-    told = references.kind(found.answers)
+    if end is None and found.status == 1 and (whole + AGREED).startswith(found.output):
+        return "a line of its own not written" if any(found.answers) else "opening not read"
+    return end
+
+
+def kind_of(references, found):
+    """What a server at fault came to; None where it may not."""
+    end, told = end_of(found), references.kind(found.answers)
     if end is None or told is None:
         return None
-    return end if not any(found.answers) else "%s, %s" % (end, told)
+    return "%s, %s" % (end, told) if any(found.answers) else end
 
 
-def gone_wrong(kind, moves=faults.FAILS, to_the_end=False, of_all=()):
-    """Calls of a kind go wrong, each in turn; the kinds of end that have to be among those that are seen."""
+def gone_wrong(kind, moves=faults.FAILS, to_the_end=False, never=()):
+    """Calls of a kind go wrong, each in turn, and never end so."""
 
     def test(program):
         everything = lines_at(range(len(all_answers())))
-        references = References(lambda places: [answer for answer in serve(program, lines_at(places), Fault()).answers])
+        references = References(lambda places: serve(program, lines_at(places), Fault()).answers)
 
         def attempt(fault):
             return serve(program, everything, fault)
@@ -141,13 +149,13 @@ def gone_wrong(kind, moves=faults.FAILS, to_the_end=False, of_all=()):
         counts = Counter()
         for number, found in faults.each(attempt, Fault(kind, moves=moves), to_the_end):
             seen = kind_of(references, found)
-            counts[seen or "WRONG"] += 1
-            if seen is None and counts["WRONG"] < 4:
+            counts["WRONG" if seen in (None, *never) else seen] += 1
+            if seen in (None, *never) and counts["WRONG"] < 4:
                 print("  at call %d: status %d, written %r, answers %r" % (number, found.status, found.output, found.answers))
-        print_counts("calls of kind %s" % kind, counts)
+        print_counts("calls of the kind %s" % kind, counts)
         whole = attempt(Fault())
-        good = whole.answers == all_answers() and kind_of(references, whole) == "agreed, no line in want"
-        return good and counts["WRONG"] == 0 and all(counts[kind] > 0 for kind in of_all)
+        good = whole.answers == all_answers() and kind_of(references, whole) == WHOLE
+        return good and counts["WRONG"] == 0 and sum(counts.values()) > 0
 
     return test
 
@@ -157,7 +165,13 @@ def tests():
     yield "memory-of-a-server-refused-once", gone_wrong("memory")
     yield "memory-of-a-server-refused-from-then-on", gone_wrong("memory", to_the_end=True)
     yield "threads-of-a-server-refused-once", gone_wrong("thread")
-    for name, moves in [("fail", faults.FAILS), ("find-the-end", 0), ("move-one-byte", 1)]:
-        yield "reads-of-a-server-that-" + name, gone_wrong("read", moves)
-    for name, moves in [("fail", faults.FAILS), ("take-no-byte", 0), ("take-one-byte", 1)]:
-        yield "writes-of-a-server-that-" + name, gone_wrong("write", moves)
+    # A line that was not read was not carried out.
+    never = ["agreed, carried out"]
+    yield "reads-of-a-server-that-fail", gone_wrong("read", never=never)
+    yield "reads-of-a-server-that-find-the-end", gone_wrong("read", moves=0, never=never)
+    yield "writes-of-a-server-that-fail", gone_wrong("write")
+    yield "writes-of-a-server-that-take-no-byte", gone_wrong("write", moves=0)
+    # One byte is as good as many.
+    ends = ["agreed, carried out", "agreed, not sent", "agreed, not sent or carried out", "a line of its own not written, no line in want"]
+    for kind in ("read", "write"):
+        yield kind + "s-of-a-server-that-move-one-byte", gone_wrong(kind, moves=1, never=ends)
