@@ -22,6 +22,14 @@ def allocations_refused(program):
     return (whole.output, whole.status) == (AGREED, 0) and told <= found and not others
 
 
+def threads_refused(program):
+    """Whichever thread is refused, of three sessions' and the collector's, the run ends by itself and says so."""
+    attempt = faults.runs(program, ["--sessions", "3", "--commands", "10"], b"")
+    found = [(ran.output, ran.status) for _, ran in faults.each(attempt, faults.Fault("thread"))]
+    return found == [(SHORT, 1)] * 4
+
+
 def tests():
     """All tests by their names."""
     yield "allocations-refused", allocations_refused
+    yield "threads-refused", threads_refused
