@@ -4,6 +4,8 @@
 mod closing;
 mod gate;
 mod locked;
+#[cfg(test)]
+mod race_tests;
 mod running;
 mod session;
 #[cfg(test)]

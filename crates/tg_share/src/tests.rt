@@ -125,7 +125,7 @@ fn reply(alloc: Global, rule: Rule, told: Told) -> Result<Reply, AllocError> {
 }
 
 /// A vault of principals alice and bob, who are 1 and 2, with these edges.
-fn opened(
+pub fn opened(
     rt: &impl Abort,
     alloc: Global,
     slots: u64,
@@ -155,20 +155,23 @@ const TURNS: u32 = 1_000_000;
 
 /// What the threads of a case tell one another.
 #[derive(Drop)]
-struct Board {
+pub struct Board {
+    /// What comes before a session's command has been done.
+    pub is_prepared: AtomicBool,
     /// A session is held with its command entered.
-    is_held: AtomicBool,
+    pub is_held: AtomicBool,
     /// The session that is held may go on, as far as the other one is concerned.
-    is_released: AtomicBool,
+    pub is_released: AtomicBool,
     /// How many times the collector has paused.
-    pauses: AtomicU64,
+    pub pauses: AtomicU64,
     /// The turns of some wait were used up.
-    is_late: AtomicBool,
+    pub is_late: AtomicBool,
 }
 
 impl Board {
-    fn new() -> Board {
+    pub fn new() -> Board {
         Board {
+            is_prepared: AtomicBool::new(false),
             is_held: AtomicBool::new(false),
             is_released: AtomicBool::new(false),
             pauses: AtomicU64::new(0),
@@ -177,7 +180,7 @@ impl Board {
     }
 
     /// Waits for what is to come, in turns that are counted.
-    fn wait<R: Clock, F: Fn(&Board) -> bool>(&self, rt: &R, has_come: F)
+    pub fn wait<R: Clock, F: Fn(&Board) -> bool>(&self, rt: &R, has_come: F)
         requires { F.IsAlwaysCallable has_come }
     {
         for _ in 0..TURNS {
@@ -192,9 +195,9 @@ impl Board {
 
 /// Holds a session until it is released and the collector has paused so many times.
 #[derive(Drop)]
-struct Holds<'a> {
-    board: &'a Board,
-    pauses: u64,
+pub struct Holds<'a> {
+    pub board: &'a Board,
+    pub pauses: u64,
 }
 
 impl Gate for Holds<'_> {
@@ -221,7 +224,7 @@ impl Gate for Counts<'_> {
 }
 
 /// Whether the session asks so and is told so.
-fn is_told<L: Ledger, R: Wait + Clock, G: Gate>(
+pub fn is_told<L: Ledger, R: Wait + Clock, G: Gate>(
     rt: &R,
     alloc: Global,
     session: &mut Session<'_, L>,
@@ -238,7 +241,7 @@ fn is_told<L: Ledger, R: Wait + Clock, G: Gate>(
 }
 
 /// Whether the session is told so, line by line.
-fn are_told<L: Ledger, R: Wait + Clock, G: Gate>(
+pub fn are_told<L: Ledger, R: Wait + Clock, G: Gate>(
     rt: &R,
     alloc: Global,
     session: &mut Session<'_, L>,
@@ -254,7 +257,7 @@ fn are_told<L: Ledger, R: Wait + Clock, G: Gate>(
 }
 
 /// A whole session; none where a line is told otherwise.
-fn play<L: Ledger, R: Wait + Clock, G: Gate>(
+pub fn play<L: Ledger, R: Wait + Clock, G: Gate>(
     rt: &R,
     alloc: Global,
     shared: &Shared<L>,
@@ -276,7 +279,7 @@ fn play<L: Ledger, R: Wait + Clock, G: Gate>(
 }
 
 /// The list of two sessions' ends.
-fn both<L: Ledger>(
+pub fn both<L: Ledger>(
     alloc: Global,
     first: Option<Ended<L>>,
     second: Option<Ended<L>>,
