@@ -42,10 +42,10 @@ class Server:
 
 
 @contextlib.contextmanager
-def running(program, *words, config=CONFIG):
+def running(program, *words, config=CONFIG, seconds=SECONDS):
     """A program that serves a configuration. Its input stays open. It is killed in the end, or when its time is over."""
     with subprocess.Popen([str(program), "serve", *words], stdin=subprocess.PIPE, stdout=subprocess.PIPE) as process:
-        limit = threading.Timer(SECONDS, process.kill)
+        limit = threading.Timer(seconds, process.kill)
         limit.start()
         try:
             process.stdin.write(config)
@@ -57,10 +57,10 @@ def running(program, *words, config=CONFIG):
 
 
 @contextlib.contextmanager
-def served(program, workers, connections, config=CONFIG):
+def served(program, workers, connections, config=CONFIG, seconds=SECONDS):
     """A server on a free port of the loopback."""
     words = ["--listen", "127.0.0.1:0", "--workers", str(workers), "--connections", str(connections)]
-    with running(program, *words, config=config) as process:
+    with running(program, *words, config=config, seconds=seconds) as process:
         yield Server(process)
 
 

@@ -318,27 +318,32 @@ def answer_of(client, name, arguments, may_be_full):
         time.sleep(0.001)
 
 
+def one_more(source, client, owner, made):
+    """One command of a client, answered as the model of what it owns has it; a serial that it gets is put to what it made, the principals' before it."""
+    name, arguments = owners.command(source, owner)
+    wanted = getattr(owner, name)(*arguments)
+    needs_room = name in ("create", "take", "grant") and wanted is None
+    found = answer_of(client, name, arguments, needs_room)
+    if needs_room and name == "create":
+        assert isinstance(found, int) and found > max(made), "create: %s" % (found,)
+        owner.created(found, *arguments)
+        made.append(found)
+    else:
+        # Edges are compared in their order.
+        assert repr(found) == repr(wanted), "%s%s: wanted %r, found %r" % (name, arguments, wanted, found)
+
+
 def live(server, number, count):
-    """So many commands of one client, each answered as the model of what it owns has it; the serials of what it made."""
+    """So many commands of one client; the serials of what it made."""
     source = random.Random(number)
     with server.client() as client:
         owner = owners.Owner(client.hello(NAMES[number]))
         assert owner.serial == number + 1
-        made = []
+        made = [len(NAMES)]
         for _ in range(count):
-            name, arguments = owners.command(source, owner)
-            wanted = getattr(owner, name)(*arguments)
-            needs_room = name in ("create", "take", "grant") and wanted is None
-            found = answer_of(client, name, arguments, needs_room)
-            if needs_room and name == "create":
-                assert isinstance(found, int) and found > max([16, *made]), "create: %s" % (found,)
-                owner.created(found, *arguments)
-                made.append(found)
-            else:
-                # Edges are compared in their order.
-                assert repr(found) == repr(wanted), "%s%s: wanted %r, found %r" % (name, arguments, wanted, found)
+            one_more(source, client, owner, made)
         client.bye()
-    return made
+    return made[1:]
 
 
 NAMES = [letter * 2 for letter in "abcdefghijklmnop"]
