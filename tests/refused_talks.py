@@ -50,7 +50,7 @@ def connected(process, port):
     while process.poll() is None:
         try:
             return socket.create_connection(("127.0.0.1", port), timeout=SECONDS)
-        except ConnectionRefusedError:
+        except (ConnectionRefusedError, ConnectionResetError):
             time.sleep(0.002)
     return None
 
