@@ -1,6 +1,6 @@
 """Refused growths of single calls: each allocation of a test of a crate is refused in turn, and the test looks at what the call left.
 
-The tests are those of the crates whose names begin with `refused_`, in the programs crates/NAME/out/NAME_tests. Such a test makes a call; where
+The tests are those of the crates whose names begin with `growth_refused_`, in the programs crates/NAME/out/NAME_tests. Such a test makes a call; where
 memory is refused it prints `no memory`, looks at what is left, and makes the call again. A test whose preparations are refused ends with AllocError.
 """
 
@@ -25,7 +25,7 @@ def names_of(program):
     """The tests of a program that are about refused growths."""
     listed = subprocess.run([str(program), "--list"], capture_output=True, timeout=faults.SECONDS, check=True).stdout.decode()
     names = [row.removesuffix(": test") for row in listed.splitlines()]
-    return [name for name in names if name.rpartition("::")[2].startswith("refused_")]
+    return [name for name in names if name.rpartition("::")[2].startswith("growth_refused_")]
 
 
 def kind_of(found):
