@@ -1,7 +1,10 @@
 pub mod Literals
 pub mod ReadingLemmas
 pub mod TextsLemmas
-pub mod NoFloatLemmas
+pub mod LexemesLemmas
+pub mod NumbersLemmas
+pub mod FlatLemmas
+pub mod ObjectLineLemmas
 pub mod FieldsLemmas
 pub mod LineTextLemmas
 pub mod RepliesLemmas

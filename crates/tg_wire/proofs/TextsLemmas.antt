@@ -22,7 +22,7 @@ any_texts : (key : List ℕ) (names : List (Bor (List ℕ))) → list_any (bytes
 any_texts key [] = refl
 any_texts key (n ∷ ns) = ap (λ rest. bytes_eq key n.now || rest) (any_texts key ns)
 
-among_either : (a b : List (Bor (List ℕ))) (key : List ℕ) → is_among (texts a ++ texts b) key ≡ is_listed_in_either a b key
+pub among_either : (a b : List (Bor (List ℕ))) (key : List ℕ) → is_among (texts a ++ texts b) key ≡ is_listed_in_either a b key
 among_either a b key =
     list_any-append (bytes_eq key) (texts a) (texts b) ∙ ap (λ x. x || list_any (bytes_eq key) (texts b)) (any_texts key a) ∙ ap (λ y. is_listed key a || y) (any_texts key b)
 

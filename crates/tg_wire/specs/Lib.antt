@@ -3,8 +3,10 @@ pub mod Fields
 pub mod Ops
 pub mod Configs
 pub mod Reading
+pub mod Flat
 pub mod Lines
 pub mod Laws
 pub mod Faults
 pub mod Replies
+pub mod Told
 pub mod Answers

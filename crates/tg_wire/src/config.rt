@@ -4,6 +4,7 @@ ghost use Rattle.tg_wire.specs.declared.line.TheConstants.{LONGEST_LINE};
 ghost use Rattle.std.specs.Prelude.{◌≡◌, ◌≤◌, Err, length, option_map};
 ghost use Rattle.serde_json.specs.View.{view, items_view};
 ghost use Rattle.tg_wire.specs.Fields as fields;
+ghost use Rattle.tg_wire.specs.Flat.{data_of};
 ghost use Rattle.tg_wire.specs.Configs.{goal_in, opening_in, opening_of};
 ghost use Rattle.tg_wire.specs.Lines.{goal_of, config_of};
 ghost use Rattle.tg_wire.specs.Reading.{Answers, AnswersBy, AnswersField, or_else};
@@ -11,7 +12,7 @@ ghost use Rattle.tg_wire.specs.declared.fault.WireFault.TheVariants.{BadField, O
 
 use crate::fault::WireFault;
 use crate::field;
-use crate::object::{has_required, knows_all, object};
+use crate::object::{LineObject, has_required, knows_all, object};
 use serde_json::Value;
 use std::alloc::Global;
 use tg_graph::{Config, Goal};
@@ -24,13 +25,13 @@ pub fn read_config(alloc: Global, bytes: &[u8]) -> Result<Config, WireFault>
     ensures answered { AnswersBy opening_of result (config_of bytes.now) }
     ensures short { result ≡ Err OutOfMemory → length bytes.now ≤ LONGEST_LINE }
 {
-    let value = object(alloc, bytes)?;
-    has_required(&["principals"], &value)?;
-    let config = config(alloc, &value)?;
+    let object = object(alloc, bytes)?;
+    has_required(&["principals"], &object)?;
+    let config = config(alloc, &object)?;
     knows_all(
         &["edges", "next", "slots", "cells"],
         &["principals"],
-        &value,
+        &object,
     )?;
     Ok(config)
 }
@@ -41,31 +42,31 @@ pub fn read_goal(alloc: Global, bytes: &[u8]) -> Result<Goal, WireFault>
     ensures answered { Answers result (goal_of bytes.now) }
     ensures short { result ≡ Err OutOfMemory → length bytes.now ≤ LONGEST_LINE }
 {
-    let value = object(alloc, bytes)?;
-    has_required(&["from", "to", "rights"], &value)?;
-    let goal = goal(&value).ok_or(WireFault::BadField)?;
-    knows_all(&[], &["from", "to", "rights"], &value)?;
+    let object = object(alloc, bytes)?;
+    has_required(&["from", "to", "rights"], &object)?;
+    let goal = goal(&object).ok_or(WireFault::BadField)?;
+    knows_all(&[], &["from", "to", "rights"], &object)?;
     Ok(goal)
 }
 
-fn goal(value: &Value) -> Option<Goal>
-    ensures { result ≡ goal_in (view value.now) }
+fn goal(object: &LineObject<'_>) -> Option<Goal>
+    ensures { result ≡ goal_in (data_of object.now) }
 {
-    let from = field::number(value, "from")?;
-    let to = field::number(value, "to")?;
-    let rights = field::rights(value)?;
+    let from = field::number(object, "from")?;
+    let to = field::number(object, "to")?;
+    let rights = field::rights(object)?;
     Some(Goal { from, to, rights })
 }
 
-fn config(alloc: Global, value: &Value) -> Result<Config, WireFault>
-    ensures { AnswersBy opening_of result (or_else BadField (opening_in (view value.now))) }
+fn config(alloc: Global, object: &LineObject<'_>) -> Result<Config, WireFault>
+    ensures { AnswersBy opening_of result (or_else BadField (opening_in (data_of object.now))) }
 {
-    let principals = words(alloc, value, "principals")?;
-    let edges = edges(alloc, value)?;
+    let principals = words(alloc, object, "principals")?;
+    let edges = edges(alloc, object)?;
     let least = principals.len() as u64 + 1;
-    let next = field::optional_number(value, "next", least).ok_or(WireFault::BadField)?;
-    let slots = field::optional_number(value, "slots", 1_024).ok_or(WireFault::BadField)?;
-    let cells = field::optional_number(value, "cells", 16_384).ok_or(WireFault::BadField)?;
+    let next = field::optional_number(object, "next", least).ok_or(WireFault::BadField)?;
+    let slots = field::optional_number(object, "slots", 1_024).ok_or(WireFault::BadField)?;
+    let cells = field::optional_number(object, "cells", 16_384).ok_or(WireFault::BadField)?;
     Ok(Config {
         principals,
         edges,
@@ -75,13 +76,10 @@ fn config(alloc: Global, value: &Value) -> Result<Config, WireFault>
     })
 }
 
-fn words(alloc: Global, value: &Value, name: &str) -> Result<Vec<Word>, WireFault>
-    ensures { AnswersBy (λ v. v.items) result (or_else BadField (fields.texts_in name.now (view value.now))) }
+fn words(alloc: Global, object: &LineObject<'_>, name: &str) -> Result<Vec<Word>, WireFault>
+    ensures { AnswersBy (λ v. v.items) result (or_else BadField (fields.texts_in name.now (data_of object.now))) }
 {
-    let list = value
-        .get(name)
-        .and_then(Value::as_array)
-        .ok_or(WireFault::BadField)?;
+    let list = field::list(object, name).ok_or(WireFault::BadField)?;
     words_of(alloc, list)
 }
 
@@ -96,15 +94,14 @@ fn words_of(alloc: Global, list: &Vec<Value>) -> Result<Vec<Word>, WireFault>
     Ok(found)
 }
 
-fn edges(alloc: Global, value: &Value) -> Result<Vec<(u64, Rights, u64)>, WireFault>
-    ensures { AnswersBy (λ v. v.items) result (or_else BadField (fields.edges_in (view value.now))) }
+fn edges(alloc: Global, object: &LineObject<'_>) -> Result<Vec<(u64, Rights, u64)>, WireFault>
+    ensures { AnswersBy (λ v. v.items) result (or_else BadField (fields.edges_in (data_of object.now))) }
 {
-    match value.get("edges") {
-        None => Ok(Vec::new(alloc)),
-        Some(found) => {
-            let list = found.as_array().ok_or(WireFault::BadField)?;
-            edges_of(alloc, list)
-        }
+    if field::has(object, "edges") {
+        let list = field::list(object, "edges").ok_or(WireFault::BadField)?;
+        edges_of(alloc, list)
+    } else {
+        Ok(Vec::new(alloc))
     }
 }
 

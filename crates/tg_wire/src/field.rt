@@ -1,24 +1,49 @@
 //! The fields of an object: nothing where one is absent that has to be there, or where its value is bad.
 
-ghost use Rattle.std.specs.Prelude.{◌≡◌, ◌==◌, ◌+◌, option_map, length, count_by, nat_le};
+ghost use Rattle.std.specs.Prelude.{◌≡◌, ◌==◌, ◌+◌, is_some, option_map, option_and_then, length, count_by, nat_le};
 ghost use Rattle.std.specs.List.{list_all, list_any};
-ghost use Rattle.serde_json.specs.View.{view};
+ghost use Rattle.serde_json.specs.Find.{as_array, get};
+ghost use Rattle.serde_json.specs.View.{view, items_view};
 ghost use Rattle.tg_wire.specs.Fields as fields;
+ghost use Rattle.tg_wire.specs.Flat.{data_of};
 ghost use Rattle.tg_wire.specs.Reading.{AnswersField};
 
 use crate::fault::WireFault;
+use crate::object::LineObject;
 use serde_json::Value;
 use std::alloc::Global;
 use tg_rights::{Kind, MAX_TEXT, Rights, Text, Word};
 
-pub(crate) fn number(value: &Value, name: &str) -> Option<u64>
-    ensures { result ≡ fields.number_in name.now (view value.now) }
+/// The field is there, with any value.
+pub(crate) fn has(object: &LineObject<'_>, name: &str) -> bool
+    ensures { result ≡ is_some (get name.now (data_of object.now)) }
 {
-    value.get(name).and_then(Value::as_u64)
+    match object {
+        LineObject::Flat(flat) => flat.get(name).is_some(),
+        LineObject::Tree(value) => value.get(name).is_some(),
+    }
+}
+
+pub(crate) fn number(object: &LineObject<'_>, name: &str) -> Option<u64>
+    ensures { result ≡ fields.number_in name.now (data_of object.now) }
+{
+    match object {
+        LineObject::Flat(flat) => flat.number(name),
+        LineObject::Tree(value) => value.get(name).and_then(Value::as_u64),
+    }
 }
 
 /// A number that may be absent.
-pub(crate) fn optional_number(value: &Value, name: &str, default: u64) -> Option<u64>
+pub(crate) fn optional_number(object: &LineObject<'_>, name: &str, default: u64) -> Option<u64>
+    ensures { result ≡ fields.optional_number name.now default (data_of object.now) }
+{
+    match object {
+        LineObject::Flat(flat) => flat.optional_number(name, default),
+        LineObject::Tree(value) => optional_in(value, name, default),
+    }
+}
+
+fn optional_in(value: &Value, name: &str, default: u64) -> Option<u64>
     ensures { result ≡ fields.optional_number name.now default (view value.now) }
 {
     match value.get(name) {
@@ -27,16 +52,29 @@ pub(crate) fn optional_number(value: &Value, name: &str, default: u64) -> Option
     }
 }
 
-pub(crate) fn string<'v>(value: &'v Value, name: &str) -> Option<&'v str>
-    ensures { option_map (λ s. s.now) result ≡ fields.string_in name.now (view value.now) }
+pub(crate) fn string<'o>(object: &'o LineObject<'_>, name: &str) -> Option<&'o str>
+    ensures { option_map (λ s. s.now) result ≡ fields.string_in name.now (data_of object.now) }
 {
-    value.get(name).and_then(Value::as_str)
+    match object {
+        LineObject::Flat(flat) => flat.string(name),
+        LineObject::Tree(value) => value.get(name).and_then(Value::as_str),
+    }
 }
 
-pub(crate) fn rights(value: &Value) -> Option<Rights>
-    ensures { result ≡ fields.rights_in (view value.now) }
+/// A flat object has no list.
+pub(crate) fn list<'o>(object: &'o LineObject<'_>, name: &str) -> Option<&'o Vec<Value>>
+    ensures { option_map (λ v. items_view v.now.items) result ≡ option_and_then as_array (get name.now (data_of object.now)) }
 {
-    rights_value(value.get("rights")?)
+    match object {
+        LineObject::Flat(_) => None,
+        LineObject::Tree(value) => value.get(name).and_then(Value::as_array),
+    }
+}
+
+pub(crate) fn rights(object: &LineObject<'_>) -> Option<Rights>
+    ensures { result ≡ fields.rights_in (data_of object.now) }
+{
+    rights_of(string(object, "rights")?)
 }
 
 pub(crate) fn rights_value(value: &Value) -> Option<Rights>
@@ -106,10 +144,10 @@ fn has_letter(bytes: &[u8], letter: u8) -> bool
     bytes.iter().any(|c| *c == letter)
 }
 
-pub(crate) fn kind(value: &Value) -> Option<Kind>
-    ensures { result ≡ fields.kind_in (view value.now) }
+pub(crate) fn kind(object: &LineObject<'_>) -> Option<Kind>
+    ensures { result ≡ fields.kind_in (data_of object.now) }
 {
-    match string(value, "kind")? {
+    match string(object, "kind")? {
         "subject" => Some(Kind::Subject),
         "document" => Some(Kind::Document),
         _ => None,
@@ -117,24 +155,24 @@ pub(crate) fn kind(value: &Value) -> Option<Kind>
 }
 
 /// The seat, 0 where the field is absent.
-pub(crate) fn seat(value: &Value) -> Option<u64>
-    ensures { result ≡ fields.seat_in (view value.now) }
+pub(crate) fn seat(object: &LineObject<'_>) -> Option<u64>
+    ensures { result ≡ fields.seat_in (data_of object.now) }
 {
-    optional_number(value, "seat", 0)
+    optional_number(object, "seat", 0)
 }
 
-pub(crate) fn word(alloc: Global, value: &Value, name: &str) -> Result<Word, WireFault>
-    ensures { AnswersField result (fields.string_in name.now (view value.now)) }
+pub(crate) fn word(alloc: Global, object: &LineObject<'_>, name: &str) -> Result<Word, WireFault>
+    ensures { AnswersField result (fields.string_in name.now (data_of object.now)) }
 {
-    let text = string(value, name).ok_or(WireFault::BadField)?;
+    let text = string(object, name).ok_or(WireFault::BadField)?;
     Ok(Word::new(String::from_str(alloc, text)?))
 }
 
 /// The text of at most 4,096 bytes. A longer one is refused before memory is asked for.
-pub(crate) fn text(alloc: Global, value: &Value) -> Result<Text, WireFault>
-    ensures { AnswersField result (fields.text_in (view value.now)) }
+pub(crate) fn text(alloc: Global, object: &LineObject<'_>) -> Result<Text, WireFault>
+    ensures { AnswersField result (fields.text_in (data_of object.now)) }
 {
-    let text = string(value, "text").ok_or(WireFault::BadField)?;
+    let text = string(object, "text").ok_or(WireFault::BadField)?;
     if text.len() > MAX_TEXT {
         return Err(WireFault::BadField);
     }

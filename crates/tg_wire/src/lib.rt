@@ -4,15 +4,18 @@
 mod config;
 mod fault;
 mod field;
+mod flat;
 mod laws;
 mod line;
 mod object;
+mod object_line;
 mod op;
 mod read;
 mod refusal;
+mod scan;
 #[cfg(test)]
 mod tests;
-mod value;
+mod texts;
 mod write;
 
 pub use config::{read_config, read_goal};

@@ -6,27 +6,36 @@ ghost use Rattle.std.specs.List.{list_all};
 ghost use Rattle.std.specs.BTreeMap.{keys};
 ghost use Rattle.serde_json.specs.Find.{as_object, get};
 ghost use Rattle.serde_json.specs.View.{view};
-ghost use Rattle.tg_wire.specs.Reading.{json_of, object_of, has_all as has_all_of, knows_all as knows_all_of, guard, or_else, AnswersBy};
-ghost use Rattle.tg_wire.specs.Texts.{is_listed, is_listed_in_either};
+ghost use Rattle.tg_wire.specs.Flat.{data_of};
+ghost use Rattle.tg_wire.specs.Reading.{json_of, json_object, object_of, has_all as has_all_of, knows_all as knows_all_of, guard, or_else, AnswersBy};
+ghost use Rattle.tg_wire.specs.Texts.{is_listed_in_either};
 ghost use Rattle.tg_wire.specs.declared.fault.WireFault.TheVariants.{NotJson, NotObject, MissingField, UnknownField, TooLong, OutOfMemory};
 
 use crate::fault::WireFault;
+use crate::field::has;
+use crate::flat::Flat;
 use crate::line::LONGEST_LINE;
+use crate::texts::is_one_of_either;
 use serde_json::{Map, Value};
 use std::alloc::Global;
 
-/// The object of a line. Its length is asked before any memory is.
-pub(crate) fn object(alloc: Global, bytes: &[u8]) -> Result<Value, WireFault>
-    ensures answered { AnswersBy view result (object_of bytes.now) }
+/// The object of a line: the list of its members where it is flat, or its tree.
+#[derive(Drop)]
+pub(crate) enum LineObject<'a> {
+    Flat(Flat<'a>),
+    Tree(Value),
+}
+
+/// The object of a line, as its tree. Its length is asked before any memory is.
+pub(crate) fn object<'a>(alloc: Global, bytes: &[u8]) -> Result<LineObject<'a>, WireFault>
+    ensures answered { AnswersBy data_of result (object_of bytes.now) }
     ensures short { result ≡ Err OutOfMemory → length bytes.now ≤ LONGEST_LINE }
 {
     fits(bytes)?;
-    let value = json(alloc, bytes)?;
-    is_object(&value)?;
-    Ok(value)
+    tree(alloc, bytes)
 }
 
-fn fits(bytes: &[u8]) -> Result<(), WireFault>
+pub(crate) fn fits(bytes: &[u8]) -> Result<(), WireFault>
     ensures { result ≡ guard (nat_le (length bytes.now) LONGEST_LINE) TooLong }
 {
     if bytes.len() <= LONGEST_LINE {
@@ -34,6 +43,16 @@ fn fits(bytes: &[u8]) -> Result<(), WireFault>
     } else {
         Err(WireFault::TooLong)
     }
+}
+
+/// The same of a line that is not too long.
+#[inline(never)]
+pub(crate) fn tree<'a>(alloc: Global, bytes: &[u8]) -> Result<LineObject<'a>, WireFault>
+    ensures { AnswersBy data_of result (json_object bytes.now) }
+{
+    let value = json(alloc, bytes)?;
+    is_object(&value)?;
+    Ok(LineObject::Tree(value))
 }
 
 fn json(alloc: Global, bytes: &[u8]) -> Result<Value, WireFault>
@@ -62,30 +81,43 @@ fn is_object(value: &Value) -> Result<(), WireFault>
 
 /// Each of the names is a key of the object.
 #[tactic(auto, using(crate::proofs::TextsLemmas::has_all_texts))]
-pub(crate) fn has_required(names: &[&str], value: &Value) -> Result<(), WireFault>
-    ensures { result ≡ guard (has_all_of (map (λ s. s.now) names.now) (view value.now)) MissingField }
+pub(crate) fn has_required(names: &[&str], object: &LineObject<'_>) -> Result<(), WireFault>
+    ensures { result ≡ guard (has_all_of (map (λ s. s.now) names.now) (data_of object.now)) MissingField }
 {
-    if has_all(names, value) {
+    if has_all(names, object) {
         Ok(())
     } else {
         Err(WireFault::MissingField)
     }
 }
 
-fn has_all(names: &[&str], value: &Value) -> bool
-    ensures { result ≡ list_all (λ name. is_some (get name.now (view value.now))) names.now }
+fn has_all(names: &[&str], object: &LineObject<'_>) -> bool
+    ensures { result ≡ list_all (λ name. is_some (get name.now (data_of object.now))) names.now }
 {
-    names.iter().all(|name| value.get(*name).is_some())
+    names.iter().all(|name| has(object, name))
 }
 
 /// Each key of the object is one of the names.
-pub(crate) fn knows_all(others: &[&str], required: &[&str], value: &Value) -> Result<(), WireFault>
-    ensures { result ≡ guard (knows_all_of (map (λ s. s.now) others.now ++ map (λ s. s.now) required.now) (view value.now)) UnknownField }
+pub(crate) fn knows_all(
+    others: &[&str],
+    required: &[&str],
+    object: &LineObject<'_>,
+) -> Result<(), WireFault>
+    ensures { result ≡ guard (knows_all_of (map (λ s. s.now) others.now ++ map (λ s. s.now) required.now) (data_of object.now)) UnknownField }
 {
-    if all_known(others, required, value) {
+    if is_known(others, required, object) {
         Ok(())
     } else {
         Err(WireFault::UnknownField)
+    }
+}
+
+fn is_known(others: &[&str], required: &[&str], object: &LineObject<'_>) -> bool
+    ensures { result ≡ knows_all_of (map (λ s. s.now) others.now ++ map (λ s. s.now) required.now) (data_of object.now) }
+{
+    match object {
+        LineObject::Flat(flat) => flat.knows_all(others, required),
+        LineObject::Tree(value) => all_known(others, required, value),
     }
 }
 
@@ -103,17 +135,5 @@ fn are_known(others: &[&str], required: &[&str], members: &Map<String, Value>) -
 {
     members
         .keys()
-        .all(|key| is_known(others, required, key.as_str()))
-}
-
-fn is_known(others: &[&str], required: &[&str], key: &str) -> bool
-    ensures { result ≡ is_listed_in_either others.now required.now key.now }
-{
-    is_one_of(key, others) || is_one_of(key, required)
-}
-
-fn is_one_of(key: &str, names: &[&str]) -> bool
-    ensures { result ≡ is_listed key.now names.now }
-{
-    names.iter().any(|name| key == *name)
+        .all(|key| is_one_of_either(key.as_str(), others, required))
 }

@@ -2,18 +2,18 @@
 
 ghost use Rattle.tg_wire.specs.declared.line.TheConstants.{LONGEST_LINE};
 ghost use Rattle.std.specs.Prelude.{◌≡◌, ◌≤◌, Err, length, option_map, map, codes, ◌∷◌, []};
-ghost use Rattle.serde_json.specs.View.{view};
+ghost use Rattle.tg_wire.specs.Flat.{data_of};
 ghost use Rattle.tg_wire.specs.Ops.{command_form, op_form};
-ghost use Rattle.tg_wire.specs.Lines.{line_of, step_of, op_in, rule_in};
+ghost use Rattle.tg_wire.specs.Lines.{line_in, line_of, step_in, step_of, op_in, rule_in};
 ghost use Rattle.tg_wire.specs.Reading.{Answers, AnswersField, or_else};
 ghost use Rattle.tg_wire.specs.declared.fault.WireFault.TheVariants.{NoOp, OutOfMemory};
 
 use crate::fault::WireFault;
 use crate::field;
+use crate::flat::{Flat, Members, read_flat};
 use crate::line::Line;
-use crate::object::{has_required, knows_all, object};
+use crate::object::{LineObject, fits, has_required, knows_all, tree};
 use crate::op::{Op, of_command, rule_named};
-use serde_json::Value;
 use std::alloc::Global;
 use tg_graph::Step;
 use tg_rights::{Command, Rule};
@@ -26,11 +26,21 @@ pub fn read_line(alloc: Global, bytes: &[u8]) -> Result<Line, WireFault>
     ensures answered { Answers result (line_of bytes.now) }
     ensures short { result ≡ Err OutOfMemory → length bytes.now ≤ LONGEST_LINE }
 {
-    let value = object(alloc, bytes)?;
-    let op = op(&value)?;
-    has_required(op.fields(), &value)?;
-    let line = line(alloc, op, &value)?;
-    knows_all(&["op", "seat"], op.fields(), &value)?;
+    fits(bytes)?;
+    let mut members = Members::new();
+    if read_flat(bytes, &mut members).is_some() {
+        return line_of_object(alloc, &LineObject::Flat(Flat::new(members.as_slice())));
+    }
+    line_of_object(alloc, &tree(alloc, bytes)?)
+}
+
+fn line_of_object(alloc: Global, object: &LineObject<'_>) -> Result<Line, WireFault>
+    ensures { Answers result (line_in (data_of object.now)) }
+{
+    let op = op(object)?;
+    has_required(op.fields(), object)?;
+    let line = line(alloc, op, object)?;
+    knows_all(&["op", "seat"], op.fields(), object)?;
     Ok(line)
 }
 
@@ -40,37 +50,47 @@ pub fn read_step(alloc: Global, bytes: &[u8]) -> Result<Step, WireFault>
     ensures answered { Answers result (step_of bytes.now) }
     ensures short { result ≡ Err OutOfMemory → length bytes.now ≤ LONGEST_LINE }
 {
-    let value = object(alloc, bytes)?;
-    let rule = rule(&value)?;
-    has_required(&["actor"], &value)?;
-    has_required(of_command(rule).fields, &value)?;
-    let actor = field::number(&value, "actor").ok_or(WireFault::BadField)?;
-    let command = command(alloc, rule, &value)?;
-    knows_all(&["op", "actor"], of_command(rule).fields, &value)?;
+    fits(bytes)?;
+    let mut members = Members::new();
+    if read_flat(bytes, &mut members).is_some() {
+        return step_of_object(alloc, &LineObject::Flat(Flat::new(members.as_slice())));
+    }
+    step_of_object(alloc, &tree(alloc, bytes)?)
+}
+
+fn step_of_object(alloc: Global, object: &LineObject<'_>) -> Result<Step, WireFault>
+    ensures { Answers result (step_in (data_of object.now)) }
+{
+    let rule = rule(object)?;
+    has_required(&["actor"], object)?;
+    has_required(of_command(rule).fields, object)?;
+    let actor = field::number(object, "actor").ok_or(WireFault::BadField)?;
+    let command = command(alloc, rule, object)?;
+    knows_all(&["op", "actor"], of_command(rule).fields, object)?;
     Ok(Step { actor, command })
 }
 
-fn op(value: &Value) -> Result<Op, WireFault>
-    ensures { result ≡ or_else NoOp (op_in (view value.now)) }
+fn op(object: &LineObject<'_>) -> Result<Op, WireFault>
+    ensures { result ≡ or_else NoOp (op_in (data_of object.now)) }
 {
-    let word = field::string(value, "op").ok_or(WireFault::NoOp)?;
+    let word = field::string(object, "op").ok_or(WireFault::NoOp)?;
     Op::named(word).ok_or(WireFault::NoOp)
 }
 
-fn rule(value: &Value) -> Result<Rule, WireFault>
-    ensures { result ≡ or_else NoOp (rule_in (view value.now)) }
+fn rule(object: &LineObject<'_>) -> Result<Rule, WireFault>
+    ensures { result ≡ or_else NoOp (rule_in (data_of object.now)) }
 {
-    let word = field::string(value, "op").ok_or(WireFault::NoOp)?;
+    let word = field::string(object, "op").ok_or(WireFault::NoOp)?;
     rule_named(word).ok_or(WireFault::NoOp)
 }
 
-fn line(alloc: Global, op: Op, value: &Value) -> Result<Line, WireFault>
-    ensures { AnswersField result ((op_form op).value (view value.now)) }
+fn line(alloc: Global, op: Op, object: &LineObject<'_>) -> Result<Line, WireFault>
+    ensures { AnswersField result ((op_form op).value (data_of object.now)) }
 {
-    let seat = field::seat(value).ok_or(WireFault::BadField)?;
+    let seat = field::seat(object).ok_or(WireFault::BadField)?;
     match op {
         Op::Hello => {
-            let name = field::word(alloc, value, "name")?;
+            let name = field::word(alloc, object, "name")?;
             Ok(Line::Act(Event::Hello { seat, name }))
         }
         Op::Bye => Ok(Line::Act(Event::Bye { seat })),
@@ -78,49 +98,49 @@ fn line(alloc: Global, op: Op, value: &Value) -> Result<Line, WireFault>
         Op::Collect => Ok(Line::Act(Event::Collect)),
         Op::Cycle => Ok(Line::Cycle),
         Op::Ask(rule) => {
-            let command = command(alloc, rule, value)?;
+            let command = command(alloc, rule, object)?;
             Ok(Line::Act(Event::Ask { seat, command }))
         }
     }
 }
 
-fn command(alloc: Global, rule: Rule, value: &Value) -> Result<Command, WireFault>
-    ensures { AnswersField result ((command_form rule).value (view value.now)) }
+fn command(alloc: Global, rule: Rule, object: &LineObject<'_>) -> Result<Command, WireFault>
+    ensures { AnswersField result ((command_form rule).value (data_of object.now)) }
 {
     match rule {
         Rule::Take => {
-            let rights = field::rights(value).ok_or(WireFault::BadField)?;
-            let over = field::number(value, "over").ok_or(WireFault::BadField)?;
-            let from = field::number(value, "from").ok_or(WireFault::BadField)?;
+            let rights = field::rights(object).ok_or(WireFault::BadField)?;
+            let over = field::number(object, "over").ok_or(WireFault::BadField)?;
+            let from = field::number(object, "from").ok_or(WireFault::BadField)?;
             Ok(Command::Take { rights, over, from })
         }
         Rule::Grant => {
-            let rights = field::rights(value).ok_or(WireFault::BadField)?;
-            let over = field::number(value, "over").ok_or(WireFault::BadField)?;
-            let to = field::number(value, "to").ok_or(WireFault::BadField)?;
+            let rights = field::rights(object).ok_or(WireFault::BadField)?;
+            let over = field::number(object, "over").ok_or(WireFault::BadField)?;
+            let to = field::number(object, "to").ok_or(WireFault::BadField)?;
             Ok(Command::Grant { rights, over, to })
         }
         Rule::Create => {
-            let kind = field::kind(value).ok_or(WireFault::BadField)?;
-            let rights = field::rights(value).ok_or(WireFault::BadField)?;
+            let kind = field::kind(object).ok_or(WireFault::BadField)?;
+            let rights = field::rights(object).ok_or(WireFault::BadField)?;
             Ok(Command::Create { kind, rights })
         }
         Rule::Remove => {
-            let rights = field::rights(value).ok_or(WireFault::BadField)?;
-            let over = field::number(value, "over").ok_or(WireFault::BadField)?;
+            let rights = field::rights(object).ok_or(WireFault::BadField)?;
+            let over = field::number(object, "over").ok_or(WireFault::BadField)?;
             Ok(Command::Remove { rights, over })
         }
         Rule::Read => {
-            let over = field::number(value, "over").ok_or(WireFault::BadField)?;
+            let over = field::number(object, "over").ok_or(WireFault::BadField)?;
             Ok(Command::Read { over })
         }
         Rule::Write => {
-            let over = field::number(value, "over").ok_or(WireFault::BadField)?;
-            let text = field::text(alloc, value)?;
+            let over = field::number(object, "over").ok_or(WireFault::BadField)?;
+            let text = field::text(alloc, object)?;
             Ok(Command::Write { over, text })
         }
         Rule::Look => {
-            let at = field::number(value, "at").ok_or(WireFault::BadField)?;
+            let at = field::number(object, "at").ok_or(WireFault::BadField)?;
             Ok(Command::Look { at })
         }
     }

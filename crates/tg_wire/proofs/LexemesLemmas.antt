@@ -1,0 +1,260 @@
+-- What JSON's lexer gives at a place of a line.
+use Rattle.std.proofs.Common.{◌≡◌, ℕ, suc, ◌+◌, ◌-◌, ◌<◌, ◌≤◌, Bool, true, false, cond, ◌||◌, ◌==◌, List, [], ◌∷◌, ◌++◌, length, take, drop, get_or, nat_lt, Option, Some, None, option_and_then, refl, sym, ap, ◌∙◌, arith, add-zero, lt_of_not-le}
+use Rattle.std.proofs.lemmas.List.{drop_more, drop-drop, append-nil, append_assoc, get_or-drop, get_or_past, length-drop}
+use Rattle.std.proofs.lemmas.Bool.{cond-false, cond-true, true_from_ne_false, eqb-true, ne_eqb, or_parts, not-true, false≢true}
+use Rattle.std.proofs.lemmas.List.Sums.{prefix_len-le-length}
+use Rattle.std.specs.List.{prefix_len}
+use Rattle.std.specs.Char.{is_ascii_digit}
+use Rattle.json.specs.Token.{string, number, boolean, null}
+use Rattle.json.specs.Text.{content, plain, after_backslash, prepend}
+use Rattle.json.specs.Ascii.{true_text, false_text, null_text}
+use Rattle.json.specs.Word.{head, is_operator, is_space, ends_word, after_minus, after_digits, after_whole, after_fraction, after_exponent, after_number, number_before, literal, word}
+use Rattle.json.specs.Run.{is_plain}
+use Rattle.json.specs.Lex.{Lexeme, token, quote, backslash, operator, space, other, class, operator_lexeme, string_token, Mode, between, in_word, in_string, lex_byte, lex}
+
+-- ---- one byte
+
+-- a byte that is no space stands in the line
+pub within : (d : List ℕ) (i x : ℕ) → get_or d i 32 ≡ x → ¬ (x ≡ 32) → i < length d
+within d i x e no_space = lt_of_not-le (λ past. no_space (sym e ∙ get_or_past d i 32 past))
+
+at_place : (d : List ℕ) (i x : ℕ) → get_or d i 32 ≡ x → ¬ (x ≡ 32) → drop i d ≡ x ∷ drop (i + 1) d
+at_place d i x e no_space = drop_more d i 32 (within d i x e no_space) ∙ ap (λ y. y ∷ drop (i + 1) d) e
+
+pub operator_at : (d : List ℕ) (i x : ℕ) → class x ≡ operator → get_or d i 32 ≡ x → ¬ (x ≡ 32) → lex between (drop i d) ≡ operator_lexeme x ∷ lex between (drop (i + 1) d)
+unfolding lex
+operator_at d i x is e no_space =
+    let rest = drop (i + 1) d in
+    ap (lex between) (at_place d i x e no_space) ∙ ap (λ c. lex_byte between c x rest (λ next. lex next rest)) is
+
+quote_at : (d : List ℕ) (i : ℕ) → get_or d i 32 ≡ 34 → lex between (drop i d) ≡ token (string_token (content plain (drop (i + 1) d))) ∷ lex in_string (drop (i + 1) d)
+unfolding lex
+quote_at d i e = ap (lex between) (at_place d i 34 e (λ z. omega arith))
+
+closing_at : (d : List ℕ) (i : ℕ) → get_or d i 32 ≡ 34 → lex in_string (drop i d) ≡ lex between (drop (i + 1) d)
+unfolding lex
+closing_at d i e = ap (lex in_string) (at_place d i 34 e (λ z. omega arith))
+
+content_at : (d : List ℕ) (i : ℕ) → get_or d i 32 ≡ 34 → content plain (drop i d) ≡ Some []
+unfolding content
+content_at d i e = ap (content plain) (at_place d i 34 e (λ z. omega arith))
+
+-- ---- classes
+
+space_class : (x : ℕ) → is_space x ≡ true → class x ≡ space
+space_class x is =
+    let quoted : (x == 34) ≡ false = grind arith in
+    let escaped : (x == 92) ≡ false = grind arith in
+    let punctuation : is_operator x ≡ false = grind arith in
+    λ i. cond (quoted i) quote (cond (escaped i) backslash (cond (punctuation i) operator (cond (is i) space other)))
+
+digit_class : (x : ℕ) → is_ascii_digit x ≡ true → class x ≡ other
+digit_class x is =
+    let quoted : (x == 34) ≡ false = grind arith in
+    let escaped : (x == 92) ≡ false = grind arith in
+    let punctuation : is_operator x ≡ false = grind arith in
+    let blank : is_space x ≡ false = grind arith in
+    λ i. cond (quoted i) quote (cond (escaped i) backslash (cond (punctuation i) operator (cond (blank i) space other)))
+
+passes : (punctuation blank : Bool) (x : ℕ) (xs : List ℕ) (k : Mode → List Lexeme) → lex_byte in_string (cond punctuation operator (cond blank space other)) x xs k ≡ k in_string
+passes true blank x xs k = refl
+passes false true x xs k = refl
+passes false false x xs k = refl
+
+-- a plain byte is no quote, no backslash and no control byte
+plain_parts : (x : ℕ) → is_plain x ≡ true → ((x == 34) ≡ false) × ((x == 92) ≡ false) × (nat_lt x 32 ≡ false)
+plain_parts x e =
+    let none = or_parts ((x == 34) || (x == 92)) (nat_lt x 32) (not-true _ e) in
+    let tests = or_parts (x == 34) (x == 92) none.0 in
+    (tests.0, tests.1, none.1)
+
+plain_passes : (x : ℕ) (xs : List ℕ) (k : Mode → List Lexeme) → is_plain x ≡ true → lex_byte in_string (class x) x xs k ≡ k in_string
+plain_passes x xs k is =
+    let parts = plain_parts x is in
+    (λ i. lex_byte in_string (cond (parts.0 i) quote (cond (parts.1 i) backslash (cond (is_operator x) operator (cond (is_space x) space other)))) x xs k)
+    ∙ passes (is_operator x) (is_space x) x xs k
+
+-- ---- runs of bytes
+
+space_run : (b : Bool) (x n : ℕ) (xs : List ℕ) → is_space x ≡ b → lex between xs ≡ lex between (drop n xs) → lex between (x ∷ xs) ≡ lex between (drop (cond b (1 + n) 0) (x ∷ xs))
+unfolding lex
+space_run false x n xs e ih = refl
+space_run true x n xs e ih =
+    let next : suc n ≡ 1 + n = omega arith in
+    ap (λ c. lex_byte between c x xs (λ m. lex m xs)) (space_class x e) ∙ ih ∙ ap (λ k. lex between (drop k (x ∷ xs))) next
+
+lex-spaces : (xs : List ℕ) → lex between xs ≡ lex between (drop (prefix_len is_space xs) xs)
+lex-spaces [] = refl
+lex-spaces (x ∷ xs) = space_run (is_space x) x (prefix_len is_space xs) xs refl (lex-spaces xs)
+
+digit_run : (b : Bool) (x n : ℕ) (xs : List ℕ) → is_ascii_digit x ≡ b → lex in_word xs ≡ lex in_word (drop n xs) → lex in_word (x ∷ xs) ≡ lex in_word (drop (cond b (1 + n) 0) (x ∷ xs))
+unfolding lex
+digit_run false x n xs e ih = refl
+digit_run true x n xs e ih =
+    let next : suc n ≡ 1 + n = omega arith in
+    ap (λ c. lex_byte in_word c x xs (λ m. lex m xs)) (digit_class x e) ∙ ih ∙ ap (λ k. lex in_word (drop k (x ∷ xs))) next
+
+lex-digits : (xs : List ℕ) → lex in_word xs ≡ lex in_word (drop (prefix_len is_ascii_digit xs) xs)
+lex-digits [] = refl
+lex-digits (x ∷ xs) = digit_run (is_ascii_digit x) x (prefix_len is_ascii_digit xs) xs refl (lex-digits xs)
+
+plain_run : (b : Bool) (x n : ℕ) (xs : List ℕ) → is_plain x ≡ b → lex in_string xs ≡ lex in_string (drop n xs) → lex in_string (x ∷ xs) ≡ lex in_string (drop (cond b (1 + n) 0) (x ∷ xs))
+unfolding lex
+plain_run false x n xs e ih = refl
+plain_run true x n xs e ih =
+    let next : suc n ≡ 1 + n = omega arith in
+    plain_passes x xs (λ m. lex m xs) e ∙ ih ∙ ap (λ k. lex in_string (drop k (x ∷ xs))) next
+
+lex-plain : (xs : List ℕ) → lex in_string xs ≡ lex in_string (drop (prefix_len is_plain xs) xs)
+lex-plain [] = refl
+lex-plain (x ∷ xs) = plain_run (is_plain x) x (prefix_len is_plain xs) xs refl (lex-plain xs)
+
+prepend-prepend : (a b : List ℕ) (r : Option (List ℕ)) → prepend a (prepend b r) ≡ prepend (a ++ b) r
+prepend-prepend a b None = refl
+prepend-prepend a b (Some s) = ap Some (sym (append_assoc a b s))
+
+prepend-nil : (r : Option (List ℕ)) → r ≡ prepend [] r
+prepend-nil None = refl
+prepend-nil (Some s) = refl
+
+plain_content : (x : ℕ) (xs : List ℕ) → is_plain x ≡ true → content plain (x ∷ xs) ≡ prepend (x ∷ []) (content plain xs)
+unfolding content
+plain_content x xs e =
+    let parts = plain_parts x e in
+    λ i. cond (parts.0 i) (Some []) (cond (parts.1 i) (content after_backslash xs) (cond (parts.2 i) None (prepend (x ∷ []) (content plain xs))))
+
+content_run : (b : Bool) (x n : ℕ) (xs : List ℕ) → is_plain x ≡ b → content plain xs ≡ prepend (take n xs) (content plain (drop n xs))
+    → content plain (x ∷ xs) ≡ prepend (take (cond b (1 + n) 0) (x ∷ xs)) (content plain (drop (cond b (1 + n) 0) (x ∷ xs)))
+content_run false x n xs e ih = prepend-nil _
+content_run true x n xs e ih =
+    let next : suc n ≡ 1 + n = omega arith in
+    plain_content x xs e ∙ ap (prepend (x ∷ [])) ih ∙ prepend-prepend (x ∷ []) (take n xs) _
+    ∙ ap (λ k. prepend (take k (x ∷ xs)) (content plain (drop k (x ∷ xs)))) next
+
+content-plain : (xs : List ℕ) → content plain xs ≡ prepend (take (prefix_len is_plain xs) xs) (content plain (drop (prefix_len is_plain xs) xs))
+content-plain [] = prepend-nil _
+content-plain (x ∷ xs) = content_run (is_plain x) x (prefix_len is_plain xs) xs refl (content-plain xs)
+
+-- ---- spaces and texts at a place
+
+abbrev pub EndsAt : (ℕ → Bool) → List ℕ → ℕ → ℕ → Type 0
+EndsAt p d from end = end ≡ from + prefix_len p (drop from d)
+
+rest_at : (p : ℕ → Bool) (d : List ℕ) (from end : ℕ) → EndsAt p d from end → drop (prefix_len p (drop from d)) (drop from d) ≡ drop end d
+rest_at p d from end is = drop-drop (prefix_len p (drop from d)) from d ∙ ap (λ k. drop k d) (sym is)
+
+run_len : (p : ℕ → Bool) (d : List ℕ) (from end : ℕ) → EndsAt p d from end → prefix_len p (drop from d) ≡ end - from
+run_len p d from end is = omega arith
+
+pub spaces_at : (d : List ℕ) (from end : ℕ) → EndsAt is_space d from end → lex between (drop from d) ≡ lex between (drop end d)
+spaces_at d from end is = lex-spaces (drop from d) ∙ ap (lex between) (rest_at is_space d from end is)
+
+pub text_at : (d : List ℕ) (i end : ℕ) → get_or d i 32 ≡ 34 → EndsAt is_plain d (i + 1) end → get_or d end 32 ≡ 34
+    → lex between (drop i d) ≡ token (string (take (end - (i + 1)) (drop (i + 1) d))) ∷ lex between (drop (end + 1) d)
+text_at d i end opens is closes =
+    let xs = drop (i + 1) d in
+    let rest = rest_at is_plain d (i + 1) end is in
+    let text : content plain xs ≡ Some (take (end - (i + 1)) xs) =
+    content-plain xs ∙ ap (λ s. prepend (take (prefix_len is_plain xs) xs) (content plain s)) rest ∙ ap (prepend (take (prefix_len is_plain xs) xs)) (content_at d end closes)
+    ∙ ap Some (append-nil _) ∙ ap (λ k. Some (take k xs)) (run_len is_plain d (i + 1) end is) in
+    let after : lex in_string xs ≡ lex between (drop (end + 1) d) = lex-plain xs ∙ ap (lex in_string) rest ∙ closing_at d end closes in
+    quote_at d i opens ∙ ap (λ o. token (string_token o) ∷ lex in_string xs) text ∙ ap (λ ls. token (string (take (end - (i + 1)) xs)) ∷ ls) after
+
+-- ---- numbers
+
+-- a comma, a closing brace or a space
+abbrev pub ends_number : ℕ → Bool
+ends_number x = x == 44 || x == 125 || x == 32
+
+minus_none : (t : List ℕ) → is_ascii_digit (head t) ≡ true → after_minus t ≡ t
+minus_none t digit = cond-false (head t == 45) _ _ (grind arith)
+
+whole_by : (b : Bool) (t : List ℕ) (n : ℕ) → (head t == 48) ≡ b → n ≡ prefix_len is_ascii_digit t → 0 < n → (head t ≡ 48 → n ≤ 1) → cond b (Some (drop 1 t)) (after_digits t) ≡ Some (drop n t)
+whole_by true t n zero is some unpadded =
+    let one : 1 ≡ n = omega (arith, unpadded (eqb-true (head t) 48 zero)) in
+    ap (λ k. Some (drop k t)) one
+whole_by false t n zero is some unpadded =
+    cond-false (prefix_len is_ascii_digit t == 0) _ _ (ne_eqb (prefix_len is_ascii_digit t) 0 (λ none. omega arith)) ∙ ap (λ k. Some (drop k t)) (sym is)
+
+whole_is : (t : List ℕ) (n : ℕ) → n ≡ prefix_len is_ascii_digit t → 0 < n → (head t ≡ 48 → n ≤ 1) → after_whole t ≡ Some (drop n t)
+whole_is t n is some unpadded = whole_by (head t == 48) t n refl is some unpadded
+
+fraction_none : (t : List ℕ) → ends_number (head t) ≡ true → after_fraction t ≡ Some t
+fraction_none t ends = cond-false (head t == 46) _ _ (grind arith)
+
+exponent_none : (t : List ℕ) → ends_number (head t) ≡ true → after_exponent t ≡ Some t
+exponent_none t ends = cond-false ((head t == 101) || (head t == 69)) _ _ (grind arith)
+
+word_ends : (t : List ℕ) → ends_number (head t) ≡ true → ends_word t ≡ true
+word_ends t ends = grind arith
+
+after_number_is : (t : List ℕ) (n : ℕ) → n ≡ prefix_len is_ascii_digit t → 0 < n → is_ascii_digit (head t) ≡ true → (head t ≡ 48 → n ≤ 1) → ends_number (head (drop n t)) ≡ true → after_number t ≡ Some (drop n t)
+unfolding after_number
+after_number_is t n is some digit unpadded ends =
+    ap (λ s. option_and_then after_exponent (option_and_then after_fraction (after_whole s))) (minus_none t digit)
+    ∙ ap (λ o. option_and_then after_exponent (option_and_then after_fraction o)) (whole_is t n is some unpadded)
+    ∙ ap (option_and_then after_exponent) (fraction_none (drop n t) ends) ∙ exponent_none (drop n t) ends
+
+word_is : (t : List ℕ) (n : ℕ) → n ≡ prefix_len is_ascii_digit t → 0 < n → n ≤ length t → is_ascii_digit (head t) ≡ true → (head t ≡ 48 → n ≤ 1) → ends_number (head (drop n t)) ≡ true → word t ≡ number (take n t)
+unfolding word
+word_is t n is some short digit unpadded ends =
+    let true_word : (head t == 116) ≡ false = grind arith in
+    let false_word : (head t == 102) ≡ false = grind arith in
+    let null_word : (head t == 110) ≡ false = grind arith in
+    let len : length t - length (drop n t) ≡ n = omega (arith, length-drop n t) in
+    (λ i. cond (true_word i) (literal true_text (boolean true) t) (cond (false_word i) (literal false_text (boolean false) t)
+    (cond (null_word i) (literal null_text null t) (number_before t (after_number_is t n is some digit unpadded ends i)))))
+    ∙ cond-true (ends_word (drop n t)) _ _ (word_ends (drop n t) ends) ∙ ap (λ k. number (take k t)) len
+
+over : (punctuation blank : Bool) (x : ℕ) (xs : List ℕ) (k : Mode → List Lexeme) → (punctuation || blank) ≡ true
+    → lex_byte in_word (cond punctuation operator (cond blank space other)) x xs k ≡ lex_byte between (cond punctuation operator (cond blank space other)) x xs k
+over true blank x xs k e = refl
+over false true x xs k e = refl
+over false false x xs k e = absurd (false≢true e)
+
+end_by : (x : ℕ) (xs : List ℕ) (k : Mode → List Lexeme) → ends_number x ≡ true → lex_byte in_word (class x) x xs k ≡ lex_byte between (class x) x xs k
+end_by x xs k ends =
+    let quoted : (x == 34) ≡ false = grind arith in
+    let escaped : (x == 92) ≡ false = grind arith in
+    let ending : (is_operator x || is_space x) ≡ true = grind arith in
+    let is : class x ≡ cond (is_operator x) operator (cond (is_space x) space other) = λ i. cond (quoted i) quote (cond (escaped i) backslash (cond (is_operator x) operator (cond (is_space x) space other))) in
+    ap (λ c. lex_byte in_word c x xs k) is ∙ over (is_operator x) (is_space x) x xs k ending ∙ ap (λ c. lex_byte between c x xs k) (sym is)
+
+word_over : (t : List ℕ) → ends_number (head t) ≡ true → lex in_word t ≡ lex between t
+unfolding lex
+word_over [] ends = refl
+word_over (x ∷ xs) ends = end_by x xs (λ m. lex m xs) ends
+
+digit_first : (t : List ℕ) → 0 < prefix_len is_ascii_digit t → is_ascii_digit (head t) ≡ true
+digit_first [] some = absurd (omega arith)
+digit_first (x ∷ xs) some = true_from_ne_false (is_ascii_digit x) (λ no.
+    let none : prefix_len is_ascii_digit (x ∷ xs) ≡ 0 = ap (λ b. cond b (1 + prefix_len is_ascii_digit xs) 0) no in
+    omega arith)
+
+number_lexed : (t : List ℕ) (n : ℕ) → n ≡ prefix_len is_ascii_digit t → 0 < n → (head t ≡ 48 → n ≤ 1) → ends_number (head (drop n t)) ≡ true → lex between t ≡ token (number (take n t)) ∷ lex between (drop n t)
+unfolding lex
+number_lexed [] n is some unpadded ends = absurd (omega arith)
+number_lexed (x ∷ xs) n is some unpadded ends =
+    let digit = digit_first (x ∷ xs) (omega arith) in
+    let m = prefix_len is_ascii_digit xs in
+    let next : suc m ≡ n = omega (arith, ap (λ b. cond b (1 + m) 0) digit) in
+    let rest : lex in_word xs ≡ lex between (drop n (x ∷ xs)) = lex-digits xs ∙ ap (λ k. lex in_word (drop k (x ∷ xs))) next ∙ word_over (drop n (x ∷ xs)) ends in
+    let first = word_is (x ∷ xs) n is some (omega (arith, prefix_len-le-length is_ascii_digit (x ∷ xs))) digit unpadded ends in
+    ap (λ c. lex_byte between c x xs (λ k. lex k xs)) (digit_class x digit) ∙ ap (λ w. token w ∷ lex in_word xs) first ∙ ap (λ ls. token (number (take n (x ∷ xs))) ∷ ls) rest
+
+head_at : (d : List ℕ) (i : ℕ) → head (drop i d) ≡ get_or d i 32
+head_at d i = get_or-drop i d 0 32 ∙ ap (λ k. get_or d k 32) (add-zero i)
+
+pub number_at : (d : List ℕ) (i end : ℕ) → EndsAt is_ascii_digit d i end → ¬ (end ≡ i) → (get_or d i 32 ≡ 48 → end - i ≤ 1) → ends_number (get_or d end 32) ≡ true
+    → lex between (drop i d) ≡ token (number (take (end - i) (drop i d))) ∷ lex between (drop end d)
+number_at d i end is some unpadded ends =
+    let t = drop i d in
+    let n = end - i in
+    let digits : n ≡ prefix_len is_ascii_digit t = sym (run_len is_ascii_digit d i end is) in
+    let rest : drop n t ≡ drop end d = ap (λ k. drop k t) digits ∙ rest_at is_ascii_digit d i end is in
+    number_lexed t n digits (omega arith) (λ zero. unpadded (sym (head_at d i) ∙ zero)) (ap (λ s. ends_number (head s)) rest ∙ ap ends_number (head_at d end) ∙ ends)
+    ∙ ap (λ s. token (number (take n t)) ∷ lex between s) rest
+
+pub lex-nil : lex between [] ≡ []
+unfolding lex
+lex-nil = refl

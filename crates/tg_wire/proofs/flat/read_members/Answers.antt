@@ -1,0 +1,40 @@
+use Rattle.std.proofs.Common.{◌≡◌, ◌∷◌, ◌+◌, ◌++◌, [], drop, get_or, sym, ap, refl, ◌∙◌, subst, arith}
+use Rattle.json.specs.Token.{string}
+use Rattle.json.specs.Lex.{token, colon, between, lex}
+use Rattle.tg_wire.specs.Flat.{AreSpelled, member_lexemes}
+use Rattle.tg_wire.proofs.LexemesLemmas.{within, operator_at}
+use Rattle.tg_wire.proofs.FlatLemmas.{spelled_more, lexemes_more}
+use Rattle.tg_wire.proofs.flat.read_members.Goals as goal
+
+pub loop-member-preserved : goal.loop-member-preserved
+loop-member-preserved c =
+    let d = c.args.line.now in
+    let front = c.loop-member.invariant.1 in
+    let found = c.in_ok-member.ensures.found in
+    let member = c.in_ok-member.member in
+    let end = c.in_ok-member.end in
+    let is_comma : get_or d end 32 ≡ 44 = ap (λ t. get_or t end 32) (sym c.as_bytes-bytes.ensures.value) ∙ sym c.byte_at.ensures ∙ c.in-44.is in (
+      omega (arith, within d end 44 is_comma (λ z. omega arith)),
+      (
+        front.0 ++ (member.key.now, found.0) ∷ [],
+        subst (AreSpelled (front.0 ++ (member.key.now, found.0) ∷ [])) (sym c.push.ensures.items) (spelled_more front.0 _ member.key.now found.0 member front.1 refl found.1),
+        front.2 ∙ ap (member_lexemes front.0) (found.2 ∙ ap (λ ls. token (string member.key.now) ∷ colon ∷ token found.0 ∷ ls) (operator_at d end 44 refl is_comma (λ z. omega arith)))
+            ∙ lexemes_more front.0 member.key.now found.0 (lex between (drop (end + 1) d)),
+      ),
+    )
+
+pub returns-in-125-clause-found : goal.returns-in-125-clause-found
+returns-in-125-clause-found c =
+    let d = c.args.line.now in
+    let front = c.loop-member.invariant.1 in
+    let found = c.in_ok-member.ensures.found in
+    let member = c.in_ok-member.member in
+    let end = c.in_ok-member.end in
+    let is_brace : get_or d end 32 ≡ 125 = ap (λ t. get_or t end 32) (sym c.as_bytes-bytes.ensures.value) ∙ sym c.byte_at.ensures ∙ c.in-125.is in
+    record {
+      front = front.0;
+      key = member.key.now;
+      value = found.0;
+      spelled = subst (AreSpelled (front.0 ++ (member.key.now, found.0) ∷ [])) (sym c.push.ensures.items) (spelled_more front.0 _ member.key.now found.0 member front.1 refl found.1);
+      lexemes = front.2 ∙ ap (member_lexemes front.0) (found.2 ∙ ap (λ ls. token (string member.key.now) ∷ colon ∷ token found.0 ∷ ls) (operator_at d end 125 refl is_brace (λ z. omega arith)));
+    }

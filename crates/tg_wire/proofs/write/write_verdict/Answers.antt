@@ -1,0 +1,12 @@
+use Rattle.std.proofs.Common.{ap, sym, ◌∙◌}
+use Rattle.std.proofs.lemmas.Result.{IfOk-weaker}
+use Rattle.tg_wire.specs.Answers.{verdict_line}
+use Rattle.tg_wire.proofs.write.write_verdict.Goals as goal
+
+pub returns-in-ActorNotSubject : goal.returns-in-ActorNotSubject
+unfolding verdict_line
+returns-in-ActorNotSubject c = IfOk-weaker c.step_line.result _ _ (λ line h. h ∙ ap verdict_line (sym c.in-ActorNotSubject.is)) c.step_line.ensures
+
+pub returns-in-StepFull : goal.returns-in-StepFull
+unfolding verdict_line
+returns-in-StepFull c = IfOk-weaker c.step_line-in-StepFull.result _ _ (λ line h. h ∙ ap verdict_line (sym c.in-StepFull.is)) c.step_line-in-StepFull.ensures

@@ -1,0 +1,210 @@
+//! A line's object where each member is a text without escapes or a whole number, as a list of its members.
+
+ghost use Rattle.std.specs.Prelude.{◌≡◌, ◌<◌, ◌≤◌, ◌∷◌, ◌++◌, [], Some, IfSome, OnSome, map, option_map, length, drop, if◌then◌else◌};
+ghost use Rattle.std.specs.Str.{bytes_eq};
+ghost use Rattle.std.specs.List.{list_all};
+ghost use Rattle.json.specs.Token.{Token, string};
+ghost use Rattle.json.specs.Lex.{token, colon, between, lex};
+ghost use Rattle.serde_json.specs.Read.{read};
+ghost use Rattle.serde_json.specs.Find.{get};
+ghost use Rattle.tg_wire.specs.Fields as fields;
+ghost use Rattle.tg_wire.specs.Flat.{Spells, ReadsMembers, plain_data, flat_data};
+ghost use Rattle.tg_wire.specs.Reading.{json_of, knows_all as knows_all_of};
+ghost use Rattle.tg_wire.specs.Texts.{is_listed_in_either};
+
+use crate::scan::{byte_at, read_number, read_text, spaces_end};
+use crate::texts::is_one_of_either;
+use arrayvec::ArrayVec;
+
+/// A member's value.
+#[derive(Clone, Copy, Drop)]
+pub(crate) enum Plain<'a> {
+    Text(&'a str),
+    Number(u64),
+}
+
+/// A member: its key and its value.
+#[derive(Clone, Copy, Drop)]
+pub(crate) struct Member<'a> {
+    key: &'a str,
+    value: Plain<'a>,
+}
+
+impl Default for Member<'_> {
+    fn default() -> Self {
+        Member {
+            key: "",
+            value: Plain::Number(0),
+        }
+    }
+}
+
+/// Room for the members of a flat object; a valid line has at most five.
+pub(crate) type Members<'a> = ArrayVec<Member<'a>, 5>;
+
+/// A flat object: its members in the order of the line.
+#[derive(Clone, Copy, Drop)]
+pub(crate) struct Flat<'a> {
+    members: &'a [Member<'a>],
+}
+
+/// Reads the members of a line's object into room for them, where it is flat; nothing says that it is not flat where
+/// nothing is answered.
+pub(crate) fn read_flat<'a>(bytes: &'a [u8], found: &mut Members<'a>) -> Option<()>
+    requires { found.old.items ≡ [] }
+    ensures { OnSome result (json_of bytes.now ≡ Some (flat_data found.new.items)) }
+{
+    read_object(std::str::from_utf8(bytes).ok()?, found)
+}
+
+/// The same of a text.
+#[inline(always)]
+fn read_object<'a>(line: &'a str, found: &mut Members<'a>) -> Option<()>
+    requires { found.old.items ≡ [] }
+    ensures { OnSome result (read line.now ≡ Some (flat_data found.new.items)) }
+{
+    let bytes = line.as_bytes();
+    let brace = spaces_end(bytes, 0);
+    if byte_at(bytes, brace) != b'{' {
+        return None;
+    }
+    let after = read_members(line, brace + 1, found)?;
+    if spaces_end(bytes, after) < bytes.len() {
+        return None;
+    }
+    Some(())
+}
+
+/// The members behind the opening brace, and the place behind the closing one.
+#[inline(always)]
+fn read_members<'a>(line: &'a str, from: usize, found: &mut Members<'a>) -> Option<usize>
+    requires room { from ≤ length line.now }
+    requires none { found.old.items ≡ [] }
+    ensures found { IfSome result (λ after. ReadsMembers line.now from after found.new.items) }
+    ensures bound { IfSome result (λ after. after ≤ length line.now) }
+{
+    let bytes = line.as_bytes();
+    let mut at = from;
+    loop {
+        let (member, end) = read_member(line, at)?;
+        if found.is_full() {
+            return None;
+        }
+        found.push(member);
+        match byte_at(bytes, end) {
+            b',' => at = end + 1,
+            b'}' => return Some(end + 1),
+            _ => return None,
+        }
+    }
+}
+
+/// The member at a place, and the place of the comma or the brace behind it.
+#[inline(always)]
+fn read_member<'a>(line: &'a str, from: usize) -> Option<(Member<'a>, usize)>
+    requires { from ≤ length line.now }
+    ensures found { IfSome result (λ r. (t : Token) × Spells t r.0.value
+        × (lex between (drop from line.now) ≡ token (string r.0.key.now) ∷ colon ∷ token t ∷ lex between (drop r.1 line.now))) }
+    ensures bounds { IfSome result (λ r. (from < r.1) × (r.1 ≤ length line.now)) }
+{
+    let bytes = line.as_bytes();
+    let (key, after) = read_text(line, spaces_end(bytes, from))?;
+    let between = spaces_end(bytes, after);
+    if byte_at(bytes, between) != b':' {
+        return None;
+    }
+    let (value, end) = read_value(line, spaces_end(bytes, between + 1))?;
+    Some((Member { key, value }, spaces_end(bytes, end)))
+}
+
+/// The value at a place, and the place behind it.
+#[inline(always)]
+fn read_value<'a>(line: &'a str, at: usize) -> Option<(Plain<'a>, usize)>
+    requires { at ≤ length line.now }
+    ensures found { IfSome result (λ r. (t : Token) × Spells t r.0
+        × (lex between (drop at line.now) ≡ token t ∷ lex between (drop r.1 line.now))) }
+    ensures bounds { IfSome result (λ r. (at < r.1) × (r.1 ≤ length line.now)) }
+{
+    if byte_at(line.as_bytes(), at) == b'"' {
+        let (text, after) = read_text(line, at)?;
+        Some((Plain::Text(text), after))
+    } else {
+        let (number, after) = read_number(line.as_bytes(), at)?;
+        Some((Plain::Number(number), after))
+    }
+}
+
+/// The value of the member where it has that name, else what was found before it.
+#[inline(always)]
+fn later<'a>(member: &Member<'a>, name: &str, before: Option<Plain<'a>>) -> Option<Plain<'a>>
+    ensures { result ≡ (if bytes_eq member.now.key.now name.now then Some member.now.value else before.entry) }
+{
+    if member.key == name {
+        Some(member.value)
+    } else {
+        before
+    }
+}
+
+impl<'a> Flat<'a> {
+    pub(crate) fn new(members: &'a [Member<'a>]) -> Flat<'a>
+        ensures { result.members.now ≡ members.now }
+    {
+        Flat { members }
+    }
+
+    /// The last member of that name.
+    pub(crate) fn get(&self, name: &str) -> Option<Plain<'a>>
+        ensures { option_map plain_data result ≡ get name.now (flat_data self.now.members.now) }
+    {
+        let mut found = None;
+        let members = self.members;
+        for member in members {
+            found = later(member, name, found);
+        }
+        found
+    }
+
+    pub(crate) fn number(&self, name: &str) -> Option<u64>
+        ensures { result ≡ fields.number_in name.now (flat_data self.now.members.now) }
+    {
+        match self.get(name)? {
+            Plain::Number(number) => Some(number),
+            Plain::Text(_) => None,
+        }
+    }
+
+    pub(crate) fn optional_number(&self, name: &str, default: u64) -> Option<u64>
+        ensures { result ≡ fields.optional_number name.now default (flat_data self.now.members.now) }
+    {
+        match self.get(name) {
+            None => Some(default),
+            Some(Plain::Number(number)) => Some(number),
+            Some(Plain::Text(_)) => None,
+        }
+    }
+
+    pub(crate) fn string(&self, name: &str) -> Option<&'a str>
+        ensures { option_map (λ s. s.now) result ≡ fields.string_in name.now (flat_data self.now.members.now) }
+    {
+        match self.get(name)? {
+            Plain::Text(text) => Some(text),
+            Plain::Number(_) => None,
+        }
+    }
+
+    /// Each key is one of the names.
+    pub(crate) fn knows_all(&self, others: &[&str], required: &[&str]) -> bool
+        ensures { result ≡ knows_all_of (map (λ s. s.now) others.now ++ map (λ s. s.now) required.now) (flat_data self.now.members.now) }
+    {
+        self.are_known(others, required)
+    }
+
+    fn are_known(&self, others: &[&str], required: &[&str]) -> bool
+        ensures { result ≡ list_all (λ m. is_listed_in_either others.now required.now m.key.now) self.now.members.now }
+    {
+        self.members
+            .iter()
+            .all(|member| is_one_of_either(member.key, others, required))
+    }
+}

@@ -1,0 +1,116 @@
+//! The line of an object, written token by token into one buffer.
+
+ghost use Rattle.std.specs.Prelude.{◌≡◌, ◌++◌, ◌∷◌, [], IfOk, OnOk};
+ghost use Rattle.json.specs.Token.{end_object};
+ghost use Rattle.json.specs.Tree.{json_tokens, items_tokens, members_tokens};
+ghost use Rattle.serde_json.specs.Data.{array, object};
+ghost use Rattle.serde_json.specs.Written.{outline, items_outline, members_outline};
+ghost use Rattle.tg_wire.specs.Faults.{line_text};
+ghost use Rattle.tg_wire.specs.Replies.{rights_text, edge_data, edges_data};
+ghost use Rattle.tg_wire.specs.Told.{told_data, told_members};
+
+use json::Writer;
+use std::alloc::{AllocError, Global};
+use tg_rights::Rights;
+
+/// Room for most lines.
+const ROOM: usize = 128;
+
+/// What a field tells.
+#[derive(Clone, Copy, Drop)]
+pub(crate) enum Told<'a> {
+    Nothing,
+    Truth(bool),
+    Number(u64),
+    Word(&'a str),
+    Letters(Rights),
+    Edges(&'a [(u64, Rights)]),
+}
+
+/// The line of an object with these fields, in their order. It ends with a line feed.
+#[tactic(auto, using(crate::proofs::ObjectLineLemmas::printed_line))]
+pub(crate) fn object_line(alloc: Global, fields: &[(&str, Told<'_>)]) -> Result<Vec<u8>, AllocError>
+    ensures { IfOk result (λ line. line.items ≡ line_text (object (told_members fields.now))) }
+{
+    let mut out = Writer::new(Vec::with_capacity(alloc, ROOM)?);
+    out.begin_object()?;
+    put_fields(&mut out, fields)?;
+    out.end_object()?;
+    let mut bytes = out.into_inner();
+    bytes.push(b'\n')?;
+    Ok(bytes)
+}
+
+fn put_fields(out: &mut Writer, fields: &[(&str, Told<'_>)]) -> Result<(), AllocError>
+    ensures tokens { OnOk result (out.new.tokens ++ end_object ∷ [] ≡ out.old.tokens ++ members_tokens (members_outline (told_members fields.now))) }
+    ensures before { out.new.before ≡ out.old.before }
+{
+    for (key, told) in fields {
+        out.key(*key)?;
+        put(out, told)?;
+    }
+    Ok(())
+}
+
+fn put(out: &mut Writer, told: &Told<'_>) -> Result<(), AllocError>
+    ensures tokens { OnOk result (out.new.tokens ≡ out.old.tokens ++ json_tokens (outline (told_data told.now))) }
+    ensures before { out.new.before ≡ out.old.before }
+{
+    match told {
+        Told::Nothing => out.null(),
+        Told::Truth(is_true) => out.boolean(*is_true),
+        Told::Number(number) => out.u64(*number),
+        Told::Word(text) => out.string(text),
+        Told::Letters(rights) => out.string(letters(*rights)),
+        Told::Edges(edges) => put_edges(out, edges),
+    }
+}
+
+fn put_edges(out: &mut Writer, edges: &[(u64, Rights)]) -> Result<(), AllocError>
+    ensures tokens { OnOk result (out.new.tokens ≡ out.old.tokens ++ json_tokens (outline (array (edges_data edges.now)))) }
+    ensures before { out.new.before ≡ out.old.before }
+{
+    out.begin_array()?;
+    for (serial, rights) in edges {
+        put_edge(out, *serial, *rights)?;
+    }
+    out.end_array()
+}
+
+fn put_edge(out: &mut Writer, serial: u64, rights: Rights) -> Result<(), AllocError>
+    ensures tokens { OnOk result (out.new.tokens ≡ out.old.tokens ++ json_tokens (outline (edge_data (serial, rights)))) }
+    ensures before { out.new.before ≡ out.old.before }
+{
+    out.begin_array()?;
+    out.u64(serial)?;
+    out.string(letters(rights))?;
+    out.end_array()
+}
+
+/// The letters of the rights, in the order r, w, t, g.
+fn letters(rights: Rights) -> &'static str
+    ensures { result.now ≡ rights_text rights }
+{
+    let read = rights.contains(Rights::read());
+    let write = rights.contains(Rights::write());
+    let take = rights.contains(Rights::take());
+    let grant = rights.contains(Rights::grant());
+    match (read, write, take, grant) {
+        (false, false, false, false) => "",
+        (false, false, false, true) => "g",
+        (false, false, true, false) => "t",
+        (false, false, true, true) => "tg",
+        (false, true, false, false) => "w",
+        (false, true, false, true) => "wg",
+        (false, true, true, false) => "wt",
+        (false, true, true, true) => "wtg",
+        (true, false, false, false) => "r",
+        (true, false, false, true) => "rg",
+        (true, false, true, false) => "rt",
+        (true, false, true, true) => "rtg",
+        (true, true, false, false) => "rw",
+        (true, true, false, true) => "rwg",
+        (true, true, true, false) => "rwt",
+        (true, true, true, true) => "rwtg",
+    }
+}

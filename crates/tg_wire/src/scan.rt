@@ -1,0 +1,132 @@
+//! What stands at a place of a line: spaces, a text without escapes, a whole number.
+
+ghost use Rattle.std.specs.Prelude.{◌≡◌, ◌<◌, ◌≤◌, ◌+◌, ◌-◌, ◌∷◌, ◌≢◌, ◌||◌, ◌==◌, ℕ, List, Some, IfSome, length, take, drop, get_or, slice_index, false};
+ghost use Rattle.std.specs.List.{prefix_len};
+ghost use Rattle.std.specs.Char.{is_ascii_digit};
+ghost use Rattle.std.specs.Str.Parse.{AllDigits};
+ghost use Rattle.json.specs.Token.{string, number};
+ghost use Rattle.json.specs.Word.{is_space};
+ghost use Rattle.json.specs.Run.{is_plain};
+ghost use Rattle.json.specs.Lex.{token, between, lex};
+ghost use Rattle.serde_json.specs.Data.{unsigned};
+ghost use Rattle.serde_json.specs.Read.{number_of};
+
+/// The byte at a place, or a space behind the last one.
+#[inline(always)]
+pub(crate) fn byte_at(bytes: &[u8], at: usize) -> u8
+    ensures { result ≡ get_or bytes.now at 32 }
+{
+    if at < bytes.len() { bytes[at] } else { b' ' }
+}
+
+/// The first place from this one on that has no space.
+#[inline(always)]
+pub(crate) fn spaces_end(bytes: &[u8], from: usize) -> usize
+    requires { from ≤ length bytes.now }
+    ensures value { result ≡ from + prefix_len is_space (drop from bytes.now) }
+    ensures bound { result ≤ length bytes.now }
+{
+    let mut at = from;
+    while at < bytes.len() && is_space(bytes[at]) {
+        at += 1;
+    }
+    at
+}
+
+#[inline(always)]
+fn is_space(byte: u8) -> bool
+    ensures { result ≡ is_space byte }
+{
+    byte == b' ' || byte == b'\t' || byte == b'\n' || byte == b'\r'
+}
+
+/// The first quote, backslash or control byte from a place on.
+#[inline(always)]
+fn plain_end(bytes: &[u8], from: usize) -> usize
+    requires { from ≤ length bytes.now }
+    ensures value { result ≡ from + prefix_len is_plain (drop from bytes.now) }
+    ensures bound { result ≤ length bytes.now }
+{
+    let mut at = from;
+    while at < bytes.len() && bytes[at] != b'"' && bytes[at] != b'\\' && bytes[at] >= b' ' {
+        at += 1;
+    }
+    at
+}
+
+#[inline(always)]
+fn digits_end(bytes: &[u8], from: usize) -> usize
+    requires { from ≤ length bytes.now }
+    ensures value { result ≡ from + prefix_len is_ascii_digit (drop from bytes.now) }
+    ensures bound { result ≤ length bytes.now }
+{
+    let mut at = from;
+    while at < bytes.len() && bytes[at].is_ascii_digit() {
+        at += 1;
+    }
+    at
+}
+
+/// The text at a place, where one is there without escapes, and the place behind it.
+#[inline(always)]
+pub(crate) fn read_text<'a>(line: &'a str, quote: usize) -> Option<(&'a str, usize)>
+    requires { quote ≤ length line.now }
+    ensures found { IfSome result (λ r. lex between (drop quote line.now) ≡ token (string r.0.now) ∷ lex between (drop r.1 line.now)) }
+    ensures bounds { IfSome result (λ r. (quote < r.1) × (r.1 ≤ length line.now)) }
+{
+    let bytes = line.as_bytes();
+    if byte_at(bytes, quote) != b'"' {
+        return None;
+    }
+    let end = plain_end(bytes, quote + 1);
+    if byte_at(bytes, end) != b'"' {
+        return None;
+    }
+    Some((&line[quote + 1..end], end + 1))
+}
+
+/// The whole number at a place, where one is there, and the place behind it.
+#[inline(always)]
+pub(crate) fn read_number(bytes: &[u8], at: usize) -> Option<(u64, usize)>
+    requires { at ≤ length bytes.now }
+    ensures found { IfSome result (λ r. (digits : List ℕ) × (number_of digits ≡ Some (unsigned r.0))
+        × (lex between (drop at bytes.now) ≡ token (number digits) ∷ lex between (drop r.1 bytes.now))) }
+    ensures bounds { IfSome result (λ r. (at < r.1) × (r.1 ≤ length bytes.now)) }
+{
+    let end = digits_end(bytes, at);
+    if end == at || !ends_number(byte_at(bytes, end)) || is_padded(bytes[at], end - at) {
+        return None;
+    }
+    Some((whole(&bytes[at..end])?, end))
+}
+
+#[inline(always)]
+fn ends_number(byte: u8) -> bool
+    ensures { result ≡ (byte == 44 || byte == 125 || byte == 32) }
+{
+    byte == b',' || byte == b'}' || byte == b' '
+}
+
+/// A zero stands before other digits.
+#[inline(always)]
+fn is_padded(first: u8, digits: usize) -> bool
+    ensures { result ≡ false → (first ≡ 48) → (digits ≤ 1) }
+{
+    first == b'0' && digits > 1
+}
+
+/// The number that digits write, where it is below 2 ^ 64.
+#[inline(always)]
+fn whole(digits: &[u8]) -> Option<u64>
+    requires some { 0 < length digits.now }
+    requires digits { AllDigits 10 digits.now }
+    ensures { IfSome result (λ n. number_of digits.now ≡ Some (unsigned n)) }
+{
+    let mut number: u64 = 0;
+    for digit in digits {
+        number = number
+            .checked_mul(10)?
+            .checked_add(u64::from(*digit - b'0'))?;
+    }
+    Some(number)
+}
