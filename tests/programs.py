@@ -20,9 +20,9 @@ SHARED = b'{"verdict":"shared"}\n'
 
 
 @contextlib.contextmanager
-def talk(program, *words):
-    """A program that runs while it is talked to. It is killed in the end, or when its time is over: a read from it then finds no more bytes."""
-    with subprocess.Popen([str(program), *words], stdin=subprocess.PIPE, stdout=subprocess.PIPE) as process:
+def talk(program, *words, room=-1):
+    """A program that runs while it is talked to, over pipes with so many bytes of room. It is killed in the end, or when its time is over: a read from it then finds no more bytes."""
+    with subprocess.Popen([str(program), *words], stdin=subprocess.PIPE, stdout=subprocess.PIPE, pipesize=room) as process:
         limit = threading.Timer(SECONDS, process.kill)
         limit.start()
         try:
@@ -62,6 +62,18 @@ def lines_in_one_write(program):
         process.stdin.close()
         status = process.wait(SECONDS)
     return (answers, status) == ([answer, b'{"ok":"bye"}\n', answer], 0)
+
+
+def many_lines_before_any_answer_is_read(program):
+    """Ten thousand lines are sent before the first answer is read; each is answered before the program waits for more."""
+    with talk(program, "run", room=1 << 20) as process:
+        process.stdin.write(CONFIG + HELLO * 9_999 + b'{"op":"bye"}\n')
+        process.stdin.flush()
+        answers = [process.stdout.readline() for _ in range(10_000)]
+        process.stdin.close()
+        status = process.wait(SECONDS)
+    bound = b'{"error":"bound"}\n'
+    return (answers, status) == ([WELCOME] + [bound] * 9_998 + [b'{"ok":"bye"}\n'], 1)
 
 
 def input_that_cannot_be_read(word):
@@ -195,6 +207,7 @@ def tests():
     """All tests by their names."""
     yield "answers-come-at-once", answers_come_at_once
     yield "lines-in-one-write", lines_in_one_write
+    yield "many-lines-before-any-answer-is-read", many_lines_before_any_answer_is_read
     yield "input-that-cannot-be-read", input_that_cannot_be_read("run")
     yield "input-of-an-audit-that-cannot-be-read", input_that_cannot_be_read("audit")
     yield "no-verdict-before-the-end", no_verdict_before_the_end

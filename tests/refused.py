@@ -210,19 +210,47 @@ def reads_gone_wrong(word, given, moves, wanted):
     return test
 
 
-def writes_gone_wrong(word, given, moves, answers, most=0):
-    """Each write fails, or takes none or one of its bytes: what was written is there, and nothing behind it; one byte changes nothing."""
+def writes_of(given, answers_to_lines):
+    """What a run writes after each read, by reads and writes of few bytes: the answers to the lines that are whole then, and not yet answered."""
+    ends = [*range(FEW, len(given), FEW), len(given)]
+    texts = [joined(answers_to_lines(given[:end])) for end in ends]
+    pieces = [text[len(before) :] for before, text in zip([b"", *texts], texts)]
+    return [[piece[start : start + FEW] for start in range(0, len(piece), FEW)] for piece in pieces if piece]
+
+
+def writes_gone_wrong(word, given, moves, answers_to_lines, to_the_end=False):
+    """Each write fails, or takes none or one of its bytes. One byte changes nothing; else the run ends with status 1, and what is written is a prefix.
+
+    The writer tries once more, as it is dropped, what it holds: where only one write goes wrong, the rest of that piece is there too.
+    """
 
     def test(program):
-        whole, status = joined(answers), int(answers != [scripts.SHARED])
+        pieces = writes_of(given, answers_to_lines)
+        rows = [(place, row) for place, piece in enumerate(pieces) for row in piece]
+        status = int(answers_to_lines(given) != [scripts.SHARED])
 
         def wanted(number):
             if moves == 1:
-                return whole, status
-            return whole[: number - 1] if most == 1 else joined(answers[: number - 1]), 1
+                return joined(answers_to_lines(given)), status
+            if to_the_end:
+                return b"".join(row for _, row in rows[: number - 1]), 1
+            last = rows[number - 1][0]
+            return b"".join(row for place, row in rows if place <= last), 1
 
         attempt = faults.runs(program, [word], given)
-        return compare("writes", attempt, Fault("write", moves=moves, most=most), wanted) == (len(whole) if most == 1 else len(answers))
+        count = compare("writes", attempt, Fault("write", moves=moves, most=FEW), wanted, to_the_end)
+        return count >= len(rows) if moves == 1 else count == len(rows)
+
+    return test
+
+
+def answers_in_one_write(word, given, answers):
+    """Answers to lines that came together are written together: where the first write fails there is none, and no run makes a second write."""
+
+    def test(program):
+        attempt = faults.runs(program, [word], given)
+        whole = attempt(Fault())[0] == joined(answers)
+        return whole and compare("writes", attempt, Fault("write"), lambda number: (b"", 1), True) == 1
 
     return test
 
@@ -274,16 +302,19 @@ def tests_of_devices():
     script, audit, short = scripts.PLAIN, scripts.AUDITS[0], scripts.SHORT
     inputs = {"run": joined([script.opening, *script.lines()]), "audit": joined(audit.lines)}
     ends = {"run": lambda given: end_of_run(script, given), "audit": lambda given: end_of_audit(audit, given)}
-    cut_off = {"run": lambda given: (joined(answers_to(script, end_of_unread(given))) if b"\n" in given else b"", 1), "audit": lambda given: (b"", 1)}
-    answers = {"run": script.answers(), "audit": [audit.answer]}
+    told = {
+        "run": lambda given: answers_to(script, end_of_unread(given)) if b"\n" in given else [],
+        "audit": lambda given: [audit.answer] if given == inputs["audit"] else [],
+    }
+    cut_off = {"run": lambda given: (joined(told["run"](given)), 1), "audit": lambda given: (b"", 1)}
     for word, given in inputs.items():
         yield "reads-of-%s-that-fail" % word, reads_gone_wrong(word, given, faults.FAILS, cut_off[word])
         yield "reads-of-%s-that-find-the-end" % word, reads_gone_wrong(word, given, 0, ends[word])
         yield "reads-of-%s-that-move-one-byte" % word, reads_gone_wrong(word, given, 1, ends[word])
         for name, moves in [("fail", faults.FAILS), ("take-no-byte", 0), ("take-one-byte", 1)]:
-            yield "writes-of-%s-that-%s" % (word, name), writes_gone_wrong(word, given, moves, answers[word])
-    given = joined([short.opening, *short.lines()])
-    yield "writes-of-one-byte-that-fail", writes_gone_wrong("run", given, faults.FAILS, short.answers(), most=1)
+            yield "writes-of-%s-that-%s" % (word, name), writes_gone_wrong(word, given, moves, told[word])
+        yield "writes-of-%s-that-fail-from-then-on" % word, writes_gone_wrong(word, given, faults.FAILS, told[word], True)
+        yield "answers-of-%s-in-one-write" % word, answers_in_one_write(word, given, told[word](given))
     yield "cut-inputs-of-run", cut_inputs("run", given, lambda given: end_of_run(short, given))
     yield "cut-inputs-of-audit", cut_inputs("audit", inputs["audit"], ends["audit"])
     for word in FIRST_LINES:

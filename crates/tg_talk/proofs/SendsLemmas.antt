@@ -1,8 +1,8 @@
 -- What a writer holds after texts were sent.
 use Rattle.std.proofs.Common.{◌≡◌, ℕ, List, [], ◌++◌, Option, None, Some, Bool, false, refl, sym, ap, ◌∙◌, subst, append-nil}
-use Rattle.std.specs.Io.KnownBytes.{Appends}
+use Rattle.std.specs.Io.KnownBytes.{Appends, Keeps}
 use Rattle.tg_talk.specs.Devices.{Sends, SendsLast}
-use Rattle.tg_talk.proofs.KnownBytesLemmas.{Appends-more}
+use Rattle.tg_talk.proofs.KnownBytesLemmas.{Appends-more, Appends-kept, Appends-keeps, Appends-none}
 
 pub sends_none : (a : Option (List ℕ)) (failed : Bool) → Sends a a failed []
 sends_none None failed = record { done = []; rest = []; split = refl; appended = tt; whole = λ _. refl }
@@ -26,3 +26,17 @@ pub sent_whole : (old new : Option (List ℕ)) (failed : Bool) (text : List ℕ)
 sent_whole old new failed text ok sent =
     let all : text ≡ sent.done = sent.split ∙ ap (λ r. sent.done ++ r) (sent.whole ok) ∙ append-nil sent.done in
     subst (Appends old new) (sym all) sent.appended
+
+-- nothing was sent where what is there stays
+pub sends_keeps : (old new : Option (List ℕ)) (failed : Bool) → Keeps old new → Sends old new failed []
+sends_keeps old new failed kept = record { done = []; rest = []; split = refl; appended = Appends-keeps old old new [] (Appends-none old) kept; whole = λ _. refl }
+
+-- a text that was sent once what is there had been kept
+pub sends_kept : (old now new : Option (List ℕ)) (failed : Bool) (text : List ℕ) → Keeps old now → Sends now new failed text → Sends old new failed text
+sends_kept old now new failed text kept sent =
+    record { done = sent.done; rest = sent.rest; split = sent.split; appended = Appends-kept old now new sent.done kept sent.appended; whole = sent.whole }
+
+-- a text that was sent whole before what is there was kept
+pub sends_paid : (old now new : Option (List ℕ)) (failed again : Bool) (text : List ℕ) → failed ≡ false → Sends old now failed text → Keeps now new → Sends old new again text
+sends_paid old now new failed again text ok sent kept =
+    record { done = sent.done; rest = sent.rest; split = sent.split; appended = Appends-keeps old now new sent.done sent.appended kept; whole = λ _. sent.whole ok }

@@ -1,6 +1,6 @@
 -- A talk: one turn, and the lines so far.
 use Rattle.std.proofs.Common.{◌≡◌, ℕ, ◌+◌, ◌<◌, ◌≤◌, List, [], ◌++◌, length, Option, None, Some, IfSome, Bool, true, false, inl, inr, refl, ap, ◌∙◌, subst, append_assoc, append-nil}
-use Rattle.std.specs.Io.KnownBytes.{Appends, prepend_known}
+use Rattle.std.specs.Io.KnownBytes.{Appends, Keeps, prepend_known}
 use Rattle.tg_audit.specs.declared.logs.Exchange.{Exchange}
 use Rattle.tg_share.specs.Sessions.{Sitting}
 use Rattle.tg_share.specs.declared.session.Ended.{Ended}
@@ -11,7 +11,7 @@ use Rattle.tg_talk.specs.InputLines.{lines_of}
 use Rattle.tg_talk.specs.Refusals.{too_many_line as line_of_too_many}
 use Rattle.tg_talk.specs.Endings.{EndsOnce, IsFault, EndsThere}
 use Rattle.tg_talk.specs.Taking.{HasLine, TakesLine}
-use Rattle.tg_talk.specs.Talks.{LineTold, TalkText, ended, stopped, cut, bye, untold, too_many, too_long, answered, HasTalked, actor_left, log_left}
+use Rattle.tg_talk.specs.Talks.{LineTold, TalkText, ended, stopped, unpaid, cut, bye, untold, too_many, too_long, answered, HasTalked, actor_left, log_left}
 use Rattle.tg_talk.specs.Talking.{Answered, AnswersTaken, by_writer, by_bye, by_memory, Hears, Leaves, Proceeds, Turns, Turned, actor_of, log_of, text_of}
 use Rattle.tg_talk.specs.declared.fault.TalkFault.{TalkFault}
 use Rattle.tg_talk.specs.declared.fault.TalkFault.TheVariants as talk
@@ -20,7 +20,7 @@ use Rattle.tg_talk.specs.declared.telling.Said.TheVariants as said
 use Rattle.tg_talk.specs.declared.talking.Turn.{Turn}
 use Rattle.tg_talk.specs.declared.talking.Turn.TheVariants.{GoOn, Ended as Over}
 use Rattle.tg_talk.proofs.KnownBytesLemmas.{Appends-more, Appends-none}
-use Rattle.tg_talk.proofs.SendsLemmas.{sends_none, sends_behind, sent_whole}
+use Rattle.tg_talk.proofs.SendsLemmas.{sends_behind, sends_keeps, sends_kept, sent_whole}
 use Rattle.tg_talk.proofs.TakingLemmas.{told_at}
 
 -- ---- what a turn comes to
@@ -31,16 +31,16 @@ turns_line (GoOn s) sits n xs m left log text line within short count takes told
     record { line = line; rest = takes.rest; taken = takes.taken; unread = takes.unread; within = within; short = short; count = count; told = told }
 turns_line (Over s f) sits n xs m left log text line within short count takes (by_writer is told) = rw (takes.taken, is) (cut within short told count)
 turns_line (Over s f) sits n xs m left log text line within short count takes (by_bye ends told) = rw takes.taken (bye within short told ends count)
-turns_line (Over s f) sits n xs m left log text line within short count takes (by_memory is none told) = rw (takes.taken, is, none) (untold within short told count)
+turns_line (Over s f) sits n xs m left log text line within short count takes (by_memory is none told) = rw (takes.taken, none) (untold within short told is count)
 
-pub turned_line : {L : Type 0} → (res : Turn L) (old : Option Sitting) (n m : ℕ) (left was now : Option (List ℕ)) (failed : Bool) (xs bytes line : List ℕ)
-    → n < 1000000 → length line ≤ 16384 → m ≡ n + 1 → TakesLine line xs left → bytes ≡ line → Answered res old bytes was now failed → Turned res old n m left was now failed xs
-turned_line res old n m left was now failed xs bytes line within short count takes same a = record {
+pub turned_line : {L : Type 0} → (res : Turn L) (old : Option Sitting) (n m : ℕ) (left was paid now : Option (List ℕ)) (failed : Bool) (xs bytes line : List ℕ)
+    → n < 1000000 → length line ≤ 16384 → m ≡ n + 1 → TakesLine line xs left → bytes ≡ line → Keeps was paid → Answered res old bytes paid now failed → Turned res old n m left was now failed xs
+turned_line res old n m left was paid now failed xs bytes line within short count takes same kept a = record {
   log = a.log;
   text = a.text;
   grown = a.grown;
   turns = turns_line res (actor_of old) n xs m left a.log a.text line within short count takes (subst (λ b. AnswersTaken res (actor_of old) b a.log a.text) same a.taken);
-  sent = a.sent;
+  sent = sends_kept was paid now failed a.text kept a.sent;
 }
 
 pub ends_fault : (f : TalkFault) (failed : Bool) (told : Option TalkFault) → EndsOnce (Some f) failed told → IsFault f told
@@ -62,6 +62,9 @@ told_too_many sits n xs m f text line full has count same is = rw (has.split, sa
 pub told_ended : (sits : Option ℕ) (n : ℕ) (xs : List ℕ) (m : ℕ) → m ≡ n → xs ≡ [] → TalkText n sits (lines_of xs) [] sits None m [] []
 unfolding lines_of
 told_ended sits n xs m count over = rw (over, count) ended
+
+pub told_unpaid : (sits : Option ℕ) (n : ℕ) (xs : List ℕ) (m : ℕ) → m ≡ n → TalkText n sits (lines_of xs) [] sits (Some talk.Writing) m [] []
+told_unpaid sits n xs m count = rw count unpaid
 
 pub told_stopped : (sits : Option ℕ) (n : ℕ) (xs : List ℕ) (m : ℕ) → m ≡ n → TalkText n sits (lines_of xs) [] sits (Some talk.Reading) m [] []
 told_stopped sits n xs m count = rw count stopped
@@ -100,9 +103,10 @@ pub session_bye : {L : Type 0} → (s new : Sitting) (line : List ℕ) (t : Text
 session_bye s new line t was now failed f heard sent ends =
     record { log = heard.log; text = text_of t; grown = heard.grown; taken = by_bye (ends_there failed f ends) heard.says; sent = sent }
 
-pub session_untold : {L : Type 0} → (s new : Sitting) (line : List ℕ) (was : Option (List ℕ)) (failed : Bool)
-    → Hears s line said.Nothing new → Answered {L = L} (Over (Some new) (Some talk.OutOfMemory)) (Some s) line was was failed
-session_untold s new line was failed heard = record { log = heard.log; text = []; grown = heard.grown; taken = by_memory refl refl heard.says; sent = sends_none was failed }
+pub session_untold : {L : Type 0} → (s new : Sitting) (line : List ℕ) (was now : Option (List ℕ)) (failed : Bool) (f : Option TalkFault)
+    → Hears s line said.Nothing new → EndsOnce (Some talk.OutOfMemory) failed f → Keeps was now → Answered {L = L} (Over (Some new) f) (Some s) line was now failed
+session_untold s new line was now failed f heard ends kept =
+    record { log = heard.log; text = []; grown = heard.grown; taken = by_memory (ends_fault talk.OutOfMemory failed f ends) refl heard.says; sent = sends_keeps was now failed kept }
 
 -- ---- the lines so far
 

@@ -1,6 +1,9 @@
 -- readers and writers that are watched, and what a writer holds after some bytes were sent
+use Rattle.std.specs.Io.Buffered.{writer_buffer, writer_contents}
 use Rattle.std.specs.Io.KnownBytes.{Appends}
 use Rattle.std.specs.Prelude.{◌≡◌, ℕ, List, [], ◌++◌, length, Option, Bool, true, false, ◌&&◌, ◌==◌, nat_lt, Result, Ok, Err}
+use Rattle.std.specs.declared.alloc.Global.{Global}
+use Rattle.std.specs.declared.io.buffered.BufWriter.{BufWriter}
 use Rattle.tg_talk.specs.declared.watched.Watched.{Watched}
 
 -- the reader or the writer that is watched
@@ -10,6 +13,14 @@ device_of w = w.device
 -- a read or a write on it has failed
 abbrev pub has_failed : {D : Type 0} → Watched D → Bool
 has_failed w = w.failed
+
+-- the answers that a writer holds back
+abbrev pub owed : {W : Type 0} → Watched (BufWriter W Global) → List ℕ
+owed w = writer_buffer (device_of w)
+
+-- what a writer has got, and the answers that it holds back behind that
+abbrev pub promised : {W : Type 0} → (W → Option (List ℕ)) → Watched (BufWriter W Global) → Option (List ℕ)
+promised contents w = writer_contents contents (device_of w)
 
 -- a write that answers an error, or takes 0 bytes of some
 abbrev pub took_none : {E : Type 0} → Result ℕ E → List ℕ → Bool

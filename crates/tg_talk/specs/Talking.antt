@@ -22,7 +22,7 @@ use Rattle.tg_talk.specs.Refusals.{not_for_a_session_line}
 use Rattle.tg_talk.specs.Talks.{LineTold, ByeTold, Untold, TalkText}
 use Rattle.tg_talk.specs.declared.fault.TalkFault.{TalkFault}
 use Rattle.tg_talk.specs.declared.fault.TalkFault.TheVariants as talk
-use Rattle.tg_talk.specs.Endings.{EndsThere}
+use Rattle.tg_talk.specs.Endings.{EndsThere, IsFault}
 use Rattle.tg_talk.specs.declared.telling.Text.{Text}
 use Rattle.tg_talk.specs.declared.telling.Text.TheVariants as text
 use Rattle.tg_talk.specs.declared.telling.Said.{Said}
@@ -101,7 +101,7 @@ fault_in (turn.Ended s f) = f
 pub data Closes (f : Option TalkFault) (sits : Option ℕ) (line : List ℕ) (then : Option ℕ) (log : List Exchange) (text : List ℕ) : Type 0 where
   by_writer : f ≡ Some talk.Writing → LineTold sits line then log text → Closes f sits line then log text
   by_bye : EndsThere f → ByeTold sits line then log text → Closes f sits line then log text
-  by_memory : f ≡ Some talk.OutOfMemory → text ≡ [] → Untold sits line then log → Closes f sits line then log text
+  by_memory : IsFault talk.OutOfMemory f → text ≡ [] → Untold sits line then log → Closes f sits line then log text
 
 abbrev pub AnswersTaken : {L : Type 0} → Turn L → Option ℕ → List ℕ → List Exchange → List ℕ → Type 0
 AnswersTaken (turn.GoOn s) sits line log text = LineTold sits line (actor_of s) log text

@@ -90,13 +90,15 @@ pub data TalkText : ℕ → Option ℕ → List (List ℕ) → List Exchange →
   ended : {n : ℕ} {sits : Option ℕ} → TalkText n sits [] [] sits None n [] []
   -- the reader failed
   stopped : {n : ℕ} {sits : Option ℕ} {ls : List (List ℕ)} → TalkText n sits ls [] sits (Some talk.Reading) n [] []
+  -- the writer failed at answers that it held back
+  unpaid : {n : ℕ} {sits : Option ℕ} {ls : List (List ℕ)} → TalkText n sits ls [] sits (Some talk.Writing) n [] []
   -- the writer failed at the answer of this line
   cut : {n m : ℕ} {sits then : Option ℕ} {l text : List ℕ} {ls : List (List ℕ)} {log : List Exchange}
       → n < 1000000 → length l ≤ 16384 → LineTold sits l then log text → m ≡ n + 1 → TalkText n sits (l ∷ ls) log then (Some talk.Writing) m [] text
   bye : {n m : ℕ} {sits then : Option ℕ} {l text : List ℕ} {ls : List (List ℕ)} {log : List Exchange} {f : Option TalkFault}
       → n < 1000000 → length l ≤ 16384 → ByeTold sits l then log text → EndsThere f → m ≡ n + 1 → TalkText n sits (l ∷ ls) log then f m [] text
-  untold : {n m : ℕ} {sits then : Option ℕ} {l : List ℕ} {ls : List (List ℕ)} {log : List Exchange}
-      → n < 1000000 → length l ≤ 16384 → Untold sits l then log → m ≡ n + 1 → TalkText n sits (l ∷ ls) log then (Some talk.OutOfMemory) m [] []
+  untold : {n m : ℕ} {sits then : Option ℕ} {l : List ℕ} {ls : List (List ℕ)} {log : List Exchange} {f : Option TalkFault}
+      → n < 1000000 → length l ≤ 16384 → Untold sits l then log → IsFault talk.OutOfMemory f → m ≡ n + 1 → TalkText n sits (l ∷ ls) log then f m [] []
   too_many : {n m : ℕ} {sits : Option ℕ} {l : List ℕ} {ls : List (List ℕ)} {f : Option TalkFault}
       → n ≡ 1000000 → IsFault talk.TooMany f → m ≡ n + 1 → TalkText n sits (l ∷ ls) [] sits f m [] too_many_line
   too_long : {n m : ℕ} {sits : Option ℕ} {l : List ℕ} {ls : List (List ℕ)} {f : Option TalkFault}

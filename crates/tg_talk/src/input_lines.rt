@@ -4,10 +4,12 @@ ghost use Rattle.std.specs.Prelude.{◌≡◌, ◌<◌};
 ghost use Rattle.tg_talk.specs.declared.line_buffer.TheConstants.{MOST_LINES};
 
 use crate::line_buffer::{Found, LineBuffer, MOST_LINES};
+use crate::newline::newline_from;
 use crate::watched::Watched;
 use std::alloc::{AllocError, Global};
-use std::io::Read;
+use std::io::{BufWriter, Read, Write};
 use std::marker::Model;
+use tg_wire::LONGEST_LINE;
 
 /// The lines of an input: how many were taken, the last of them, and the bytes that were read and not yet taken.
 #[derive(Drop)]
@@ -46,11 +48,11 @@ impl Model for InputLines {
 }
 
 impl InputLines {
-    ghost use Rattle.std.specs.Prelude.{◌≡◌, ◌+◌, ◌<◌, ◌≤◌, ◌↔◌, length, [], IfOk, IfSome, true, false};
-    ghost use Rattle.std.specs.Io.KnownBytes.{prepend_known};
+    ghost use Rattle.std.specs.Prelude.{◌≡◌, ◌⊎◌, ◌+◌, ◌<◌, ◌≤◌, ◌↔◌, length, [], IfOk, IfSome, true, false};
+    ghost use Rattle.std.specs.Io.KnownBytes.{Keeps, prepend_known};
     ghost use Rattle.tg_talk.specs.declared.line_buffer.TheConstants.{MOST_LINES};
     ghost use Rattle.tg_wire.specs.declared.line.TheConstants.{LONGEST_LINE};
-    ghost use Rattle.tg_talk.specs.Devices.{device_of, has_failed};
+    ghost use Rattle.tg_talk.specs.Devices.{device_of, has_failed, owed, promised};
     ghost use Rattle.tg_talk.specs.Finding.{is_decided};
     ghost use Rattle.tg_talk.specs.Taking.{Takes, count_of};
 
@@ -82,6 +84,53 @@ impl InputLines {
         &self.buffer.bytes()[..self.line]
     }
 
+    /// Whether it is known without a read what comes next.
+    #[inline(always)]
+    pub fn is_at_hand(&self) -> bool
+        ensures { result ≡ is_decided self.now.left }
+    {
+        let left = &self.buffer.bytes()[self.whole..];
+        newline_from(left, 0).is_some() || left.len() > LONGEST_LINE
+    }
+
+    /// Writes what is held back where more has to be read for the next line. Whether the writer has not failed.
+    #[inline(always)]
+    pub fn is_ready<W: Write + Drop>(&self, writer: &mut Watched<BufWriter<W>>) -> bool
+        requires { has_failed writer.old ≡ false }
+        ensures kept { Keeps (promised W.contents writer.old) (promised W.contents writer.new) }
+        ensures unfailed { result ≡ true → has_failed writer.new ≡ false }
+        ensures paid { result ≡ true → is_decided self.now.left ≡ false → owed writer.new ≡ [] }
+        ensures failed { result ≡ false → has_failed writer.new ≡ true }
+    {
+        if self.is_at_hand() {
+            true
+        } else {
+            writer.pay()
+        }
+    }
+
+    /// Takes the next line, where lines are answered by this writer: it holds nothing back when more is read.
+    #[inline(always)]
+    pub fn next_paid<R: Read, W: Write + Drop>(
+        &mut self,
+        reader: &mut Watched<R>,
+        _writer: &Watched<BufWriter<W>>,
+    ) -> Next
+        requires few { self.old.taken ≤ MOST_LINES }
+        requires reads { has_failed reader.old ≡ false }
+        requires paid { is_decided self.old.left ≡ false → owed _writer.now ≡ [] }
+        ensures count { self.new.taken ≡ self.old.taken + count_of result }
+        ensures few { result ≡ Next.Line → self.new.taken ≤ MOST_LINES }
+        ensures over { result ≡ Next.TooMany → self.old.taken ≡ MOST_LINES }
+        ensures short { length self.new.line ≤ LONGEST_LINE }
+        ensures failed { (has_failed reader.new ≡ true) ↔ (result ≡ Next.Failed) }
+        ensures paid { (result ≡ Next.End) ⊎ (result ≡ Next.Failed) → owed _writer.now ≡ [] }
+        ensures takes { IfSome (prepend_known self.old.left (R.remaining (device_of reader.old)))
+            (Takes result self.old.taken self.new.line (prepend_known self.new.left (R.remaining (device_of reader.new)))) }
+    {
+        self.next(reader)
+    }
+
     /// Takes the next line. A line that is too long is counted, and so is the one after the millionth, which is known
     /// as that whatever its length. Nothing is read ahead: a whole line is found before more is asked for. Takes no memory.
     #[inline(always)]
@@ -95,6 +144,7 @@ impl InputLines {
         ensures empty { result ≡ Next.End → self.new.line ≡ [] }
         ensures failed { (has_failed reader.new ≡ true) ↔ (result ≡ Next.Failed) }
         ensures at_hand { is_decided self.old.left ≡ true → reader.new ≡ reader.old }
+        ensures none { (result ≡ Next.End) ⊎ (result ≡ Next.Failed) → is_decided self.old.left ≡ false }
         ensures takes { IfSome (prepend_known self.old.left (R.remaining (device_of reader.old)))
             (Takes result self.old.taken self.new.line (prepend_known self.new.left (R.remaining (device_of reader.new)))) }
     {

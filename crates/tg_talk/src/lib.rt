@@ -23,4 +23,4 @@ pub use line_buffer::{Found, LineBuffer, MOST_LINES};
 pub use refusal::too_many_line;
 pub use talking::{Talked, talk};
 pub use watched::Watched;
-pub use write_line::send_line;
+pub use write_line::{buffered, pay_last, send_line};

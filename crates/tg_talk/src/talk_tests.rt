@@ -1,11 +1,11 @@
 //! Talks over memory: what is answered, what the logs come to, and a reader and a writer that fail at each of their calls.
 ghost use Rattle.std.specs.Prelude.{◌≡◌, [], IfOk, IfSome, false};
 ghost use Rattle.tg_share.specs.declared.locked.TheConstants.{PARTS};
-ghost use Rattle.tg_talk.specs.Devices.{has_failed};
+ghost use Rattle.tg_talk.specs.Devices.{has_failed, owed};
 
-use crate::{FailingReader, FailingWriter, TalkFault, Talked, Watched, talk};
+use crate::{FailingReader, FailingWriter, TalkFault, Talked, Watched, buffered, talk};
 use std::alloc::{AllocError, Global};
-use std::io::{Read, Write};
+use std::io::{BufWriter, Read, Write};
 use std::marker::Brand;
 use std::process::Abort;
 use std::rt::Clock;
@@ -55,11 +55,11 @@ fn entries_of<L: Ledger>(closed: Closed<L>) -> Option<u64> {
 }
 
 /// A talk on seat 0 over a vault of its own, and the settle of its log.
-fn talk_alone<L: Ledger, D: Read, W: Write, R: Wait + Clock>(
+fn talk_alone<L: Ledger, D: Read, W: Write + Drop, R: Wait + Clock>(
     rt: &R,
     alloc: Global,
     reader: &mut Watched<D>,
-    writer: &mut Watched<W>,
+    writer: &mut Watched<BufWriter<W>>,
     blank: Blank,
     vault: Vault,
 ) -> Came
@@ -69,6 +69,7 @@ fn talk_alone<L: Ledger, D: Read, W: Write, R: Wait + Clock>(
     requires empty { vault.history ≡ [] }
     requires reads { has_failed reader.old ≡ false }
     requires writes { has_failed writer.old ≡ false }
+    requires paid { owed writer.old ≡ [] }
 {
     let shared = Shared::<L>::new(alloc, blank, vault);
     let Talked {
@@ -91,7 +92,7 @@ fn talk_alone<L: Ledger, D: Read, W: Write, R: Wait + Clock>(
 fn talk_over_memory(rt: HostRuntime) -> Result<(), AllocError> {
     let mut reader = Watched::new(LINES);
     let mut out = Vec::new(rt.alloc());
-    let mut writer = Watched::new(&mut out);
+    let mut writer = buffered(rt.alloc(), &mut out)?;
     let vault = opened(rt.alloc()).expect(&rt, "refused");
     let came = talk_alone::<Brand, _, _, _>(
         &rt,
@@ -101,6 +102,7 @@ fn talk_over_memory(rt: HostRuntime) -> Result<(), AllocError> {
         Blank::new(PARTS),
         vault,
     );
+    drop(writer);
     assert!(rt; out.as_slice() == ANSWERS);
     assert_eq!(rt;
         came,
@@ -125,10 +127,11 @@ fn talk_by_bytes<R: Abort + Wait + Clock>(
         bytes: LINES,
         reads,
     });
-    let mut writer = Watched::new(FailingWriter {
+    let failing = FailingWriter {
         bytes: Vec::new(alloc),
         writes,
-    });
+    };
+    let mut writer = buffered(alloc, failing).expect(rt, "no memory");
     let vault = opened(alloc).expect(rt, "refused");
     talk_alone::<Brand, _, _, _>(
         rt,

@@ -1,8 +1,8 @@
 //! A talk: a client's lines, answered over one session.
 
-ghost use Rattle.std.specs.Prelude.{◌≡◌, ◌≢◌, ◌↔◌, ◌≤◌, ◌+◌, true, false, IfSome, Some, None};
+ghost use Rattle.std.specs.Prelude.{◌≡◌, ◌≢◌, ◌↔◌, ◌≤◌, ◌+◌, [], true, false, IfSome, Some, None};
 ghost use Rattle.std.specs.Io.KnownBytes.{prepend_known};
-ghost use Rattle.tg_talk.specs.Devices.{Sends, device_of, has_failed};
+ghost use Rattle.tg_talk.specs.Devices.{Sends, device_of, has_failed, owed, promised};
 ghost use Rattle.tg_talk.specs.Endings.{EndsOnce};
 ghost use Rattle.tg_talk.specs.Talks.{HasTalked};
 ghost use Rattle.tg_talk.specs.Talking.{Answered, Leaves, Turned, fault_in, goes_on, sitting_in, text_of};
@@ -14,9 +14,9 @@ use crate::input_lines::{InputLines, Next};
 use crate::refusal::{not_for_a_session_line, too_many_line};
 use crate::telling::{Greeted, Said, Text, hear_session, hear_stranger};
 use crate::watched::Watched;
-use crate::write_line::send_line;
+use crate::write_line::{pay_last, send_line};
 use std::alloc::Global;
-use std::io::{Read, Write};
+use std::io::{BufWriter, Read, Write};
 use std::rt::Clock;
 use std::sync::Wait;
 use std::sync::ledger::Ledger;
@@ -40,30 +40,33 @@ pub(crate) enum Turn<'s, L: Ledger> {
     Ended(Option<Session<'s, L>>, Option<TalkFault>),
 }
 
-/// Answers each line as soon as it is read. Until a hello has succeeded, each other line that can be read is answered
+/// Answers each line. Answers to lines that came together are written together, and nothing is held back when more is read:
+/// then, and when the talk ends, the writer has all of them unless it fails. Until a hello has succeeded, each other line that can be read is answered
 /// `no actor`; then a hello is answered `bound`, and a line that asks for the shade or for the collector `not for a
 /// session`. The seat is this one, whatever seat a line names. The talk ends at a bye, which is answered, at the end of
 /// the input, at a line of more than 16,384 bytes, at the line after the millionth, and where the reader or the writer
 /// fails. Where there is no memory to read a line or for its answer's line, `out of memory` is answered in its place; but
 /// where there is none for the line of a reply, nothing is, and the talk ends. Where there is none for the buffer of
 /// 32,768 bytes, no line is read. A session that a hello began is ended here, whatever ends the talk.
-pub fn talk<L: Ledger, D: Read, W: Write, R: Wait + Clock, G: Gate>(
+pub fn talk<L: Ledger, D: Read, W: Write + Drop, R: Wait + Clock, G: Gate>(
     rt: &R,
     alloc: Global,
     reader: &mut Watched<D>,
-    writer: &mut Watched<W>,
+    writer: &mut Watched<BufWriter<W>>,
     shared: &Shared<L>,
     seat: u64,
     gate: &G,
 ) -> Talked<L>
     requires reads { has_failed reader.old ≡ false }
     requires writes { has_failed writer.old ≡ false }
+    requires paid { owed writer.old ≡ [] }
+    ensures paid { has_failed writer.new ≡ false → owed writer.new ≡ [] }
     ensures reading { (has_failed reader.new ≡ true) ↔ (result.fault ≡ Some Reading) }
     ensures writing { (has_failed writer.new ≡ true) ↔ (result.fault ≡ Some Writing) }
     ensures few { result.lines ≤ 1000001 }
     ensures seat { IfSome result.ended (λ e. e.log.seat ≡ seat) }
     ensures talked { IfSome (D.remaining (device_of reader.old))
-        (HasTalked result.lines result.fault result.ended (W.contents (device_of writer.old)) (W.contents (device_of writer.new)) (has_failed writer.new)) }
+        (HasTalked result.lines result.fault result.ended (promised W.contents writer.old) (promised W.contents writer.new) (has_failed writer.new)) }
 {
     let Ok(mut input) = InputLines::new(alloc) else {
         return Talked {
@@ -100,12 +103,12 @@ fn leave<'s, L: Ledger, R: Wait>(rt: &R, sitting: Option<Session<'s, L>>) -> Opt
 }
 
 /// Takes one line, and answers it.
-fn take_turn<'s, L: Ledger, D: Read, W: Write, R: Wait + Clock, G: Gate>(
+fn take_turn<'s, L: Ledger, D: Read, W: Write + Drop, R: Wait + Clock, G: Gate>(
     rt: &R,
     alloc: Global,
     input: &mut InputLines,
     reader: &mut Watched<D>,
-    writer: &mut Watched<W>,
+    writer: &mut Watched<BufWriter<W>>,
     shared: &'s Shared<L>,
     seat: u64,
     gate: &G,
@@ -121,12 +124,16 @@ fn take_turn<'s, L: Ledger, D: Read, W: Write, R: Wait + Clock, G: Gate>(
     ensures writes { goes_on result ≡ true → has_failed writer.new ≡ false }
     ensures reading { (has_failed reader.new ≡ true) ↔ (fault_in result ≡ Some Reading) }
     ensures writing { (has_failed writer.new ≡ true) ↔ (fault_in result ≡ Some Writing) }
+    ensures paid { goes_on result ≡ false → has_failed writer.new ≡ false → owed writer.new ≡ [] }
     ensures seat { IfSome (sitting_in result) (λ s. s.seat ≡ seat) }
     ensures turned { IfSome (prepend_known input.old.left (D.remaining (device_of reader.old)))
         (Turned result sitting.entry input.old.taken input.new.taken (prepend_known input.new.left (D.remaining (device_of reader.new)))
-        (W.contents (device_of writer.old)) (W.contents (device_of writer.new)) (has_failed writer.new)) }
+        (promised W.contents writer.old) (promised W.contents writer.new) (has_failed writer.new)) }
 {
-    match input.next(reader) {
+    if !input.is_ready(writer) {
+        return Turn::Ended(sitting, Some(TalkFault::Writing));
+    }
+    match input.next_paid(reader, writer) {
         Next::Failed => Turn::Ended(sitting, Some(TalkFault::Reading)),
         Next::End => Turn::Ended(sitting, None),
         Next::TooLong => {
@@ -149,10 +156,10 @@ fn take_turn<'s, L: Ledger, D: Read, W: Write, R: Wait + Clock, G: Gate>(
 }
 
 /// Answers a line of one who has not said hello with success.
-fn answer_stranger<'s, L: Ledger, W: Write, R: Wait>(
+fn answer_stranger<'s, L: Ledger, W: Write + Drop, R: Wait>(
     rt: &R,
     alloc: Global,
-    writer: &mut Watched<W>,
+    writer: &mut Watched<BufWriter<W>>,
     shared: &'s Shared<L>,
     seat: u64,
     bytes: &[u8],
@@ -161,21 +168,22 @@ fn answer_stranger<'s, L: Ledger, W: Write, R: Wait>(
     ensures writes { goes_on result ≡ true → has_failed writer.new ≡ false }
     ensures reading { fault_in result ≢ Some Reading }
     ensures writing { (has_failed writer.new ≡ true) ↔ (fault_in result ≡ Some Writing) }
+    ensures paid { goes_on result ≡ false → has_failed writer.new ≡ false → owed writer.new ≡ [] }
     ensures seat { IfSome (sitting_in result) (λ s. s.seat ≡ seat) }
-    ensures answered { Answered result None bytes.now (W.contents (device_of writer.old)) (W.contents (device_of writer.new)) (has_failed writer.new) }
+    ensures answered { Answered result None bytes.now (promised W.contents writer.old) (promised W.contents writer.new) (has_failed writer.new) }
 {
     let Greeted { session, text } = hear_stranger(rt, alloc, shared, seat, bytes);
-    match send(writer, text, None) {
+    match send(writer, text) {
         None => Turn::GoOn(session),
         Some(fault) => Turn::Ended(session, Some(fault)),
     }
 }
 
 /// Answers a line of a session.
-fn answer_session<'s, L: Ledger, W: Write, R: Wait + Clock, G: Gate>(
+fn answer_session<'s, L: Ledger, W: Write + Drop, R: Wait + Clock, G: Gate>(
     rt: &R,
     alloc: Global,
-    writer: &mut Watched<W>,
+    writer: &mut Watched<BufWriter<W>>,
     gate: &G,
     session: Session<'s, L>,
     bytes: &[u8],
@@ -184,51 +192,69 @@ fn answer_session<'s, L: Ledger, W: Write, R: Wait + Clock, G: Gate>(
     ensures writes { goes_on result ≡ true → has_failed writer.new ≡ false }
     ensures reading { fault_in result ≢ Some Reading }
     ensures writing { (has_failed writer.new ≡ true) ↔ (fault_in result ≡ Some Writing) }
+    ensures paid { goes_on result ≡ false → has_failed writer.new ≡ false → owed writer.new ≡ [] }
     ensures seat { IfSome (sitting_in result) (λ s. s.seat ≡ session.entry.seat) }
-    ensures answered { Answered result (Some session.entry) bytes.now (W.contents (device_of writer.old)) (W.contents (device_of writer.new)) (has_failed writer.new) }
+    ensures answered { Answered result (Some session.entry) bytes.now (promised W.contents writer.old) (promised W.contents writer.new) (has_failed writer.new) }
 {
     let mut session = session;
     match hear_session(rt, alloc, &mut session, gate, bytes) {
-        Said::Answer(text) => match send(writer, text, None) {
+        Said::Answer(text) => match send(writer, text) {
             None => Turn::GoOn(Some(session)),
             Some(fault) => Turn::Ended(Some(session), Some(fault)),
         },
-        Said::Bye(text) => Turn::Ended(Some(session), send(writer, text, None)),
-        Said::Nothing => Turn::Ended(Some(session), Some(TalkFault::OutOfMemory)),
+        Said::Bye(text) => Turn::Ended(Some(session), send_last(writer, text)),
+        Said::Nothing => Turn::Ended(
+            Some(session),
+            pay_last(writer, Some(TalkFault::OutOfMemory)),
+        ),
     }
 }
 
-/// Writes the line of a text; the fault where the writer does not fail.
-fn send<W: Write>(
-    writer: &mut Watched<W>,
-    text: Text,
-    fault: Option<TalkFault>,
-) -> Option<TalkFault>
+/// Writes the line of a text; the fault of the writer where it fails.
+fn send<W: Write + Drop>(writer: &mut Watched<BufWriter<W>>, text: Text) -> Option<TalkFault>
     requires writes { has_failed writer.old ≡ false }
-    ensures fault { EndsOnce fault (has_failed writer.new) result }
-    ensures sent { Sends (W.contents (device_of writer.old)) (W.contents (device_of writer.new)) (has_failed writer.new) (text_of text) }
+    ensures fault { EndsOnce None (has_failed writer.new) result }
+    ensures sent { Sends (promised W.contents writer.old) (promised W.contents writer.new) (has_failed writer.new) (text_of text) }
 {
     match text {
-        Text::Line(line) => end(writer, &line, fault),
-        Text::Refusal(refused) => end(writer, error_line(refused), fault),
-        Text::NotForASession => end(writer, not_for_a_session_line(), fault),
+        Text::Line(line) => send_line(writer, &line),
+        Text::Refusal(refused) => send_line(writer, error_line(refused)),
+        Text::NotForASession => send_line(writer, not_for_a_session_line()),
+    }
+    if writer.failed() {
+        Some(TalkFault::Writing)
+    } else {
+        None
     }
 }
 
-/// Writes a line; the fault where the writer does not fail.
-fn end<W: Write>(
-    writer: &mut Watched<W>,
+/// Writes the line of a text, and all that is held back; the fault of the writer where it fails.
+fn send_last<W: Write + Drop>(writer: &mut Watched<BufWriter<W>>, text: Text) -> Option<TalkFault>
+    requires writes { has_failed writer.old ≡ false }
+    ensures fault { EndsOnce None (has_failed writer.new) result }
+    ensures paid { has_failed writer.new ≡ false → owed writer.new ≡ [] }
+    ensures sent { Sends (promised W.contents writer.old) (promised W.contents writer.new) (has_failed writer.new) (text_of text) }
+{
+    match send(writer, text) {
+        None => pay_last(writer, None),
+        Some(fault) => Some(fault),
+    }
+}
+
+/// Writes a line, and all that is held back; the fault where the writer does not fail.
+fn end<W: Write + Drop>(
+    writer: &mut Watched<BufWriter<W>>,
     line: &[u8],
     fault: Option<TalkFault>,
 ) -> Option<TalkFault>
     requires writes { has_failed writer.old ≡ false }
     ensures fault { EndsOnce fault (has_failed writer.new) result }
-    ensures sent { Sends (W.contents (device_of writer.old)) (W.contents (device_of writer.new)) (has_failed writer.new) (line.now) }
+    ensures paid { has_failed writer.new ≡ false → owed writer.new ≡ [] }
+    ensures sent { Sends (promised W.contents writer.old) (promised W.contents writer.new) (has_failed writer.new) (line.now) }
 {
     send_line(writer, line);
-    if writer.failed() {
-        Some(TalkFault::Writing)
-    } else {
-        fault
+    if !writer.failed() {
+        return pay_last(writer, fault);
     }
+    Some(TalkFault::Writing)
 }

@@ -1,12 +1,12 @@
 //! A reader or a writer that remembers whether it failed.
 
-ghost use Rattle.std.specs.Prelude.{◌≡◌, ◌||◌, false, is_err};
+ghost use Rattle.std.specs.Prelude.{◌≡◌, ◌||◌, [], false, true, is_err};
 ghost use Rattle.std.specs.Io.{ReadsAtMost, WritesAtMost};
 ghost use Rattle.std.specs.Io.KnownBytes.{ReadConsumes, WriteAppends, Keeps};
-ghost use Rattle.tg_talk.specs.Devices.{device_of, has_failed, took_none};
+ghost use Rattle.tg_talk.specs.Devices.{device_of, has_failed, owed, promised, took_none};
 
 use std::io;
-use std::io::{Read, Write};
+use std::io::{BufWriter, Read, Write};
 
 /// A reader or a writer, and whether a read or a write on it has failed: whether one answered an error, or a write
 /// took 0 bytes of some. Once it has failed it stays so.
@@ -33,6 +33,24 @@ impl<D> Watched<D> {
         ensures { result ≡ has_failed self.now }
     {
         self.failed
+    }
+}
+
+impl<W: Write + Drop> Watched<BufWriter<W>> {
+    /// Writes the answers that are held back. Whether that was done; where it fails, what was not written stays held back.
+    pub fn pay(&mut self) -> bool
+        ensures paid { result ≡ true → owed self.new ≡ [] }
+        ensures kept { Keeps (promised W.contents self.old) (promised W.contents self.new) }
+        ensures unfailed { result ≡ true → has_failed self.new ≡ has_failed self.old }
+        ensures failed { result ≡ false → has_failed self.new ≡ true }
+    {
+        match Write::flush(&mut self.device) {
+            Ok(()) => true,
+            Err(_) => {
+                self.failed = true;
+                false
+            }
+        }
     }
 }
 

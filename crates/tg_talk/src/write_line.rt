@@ -1,11 +1,14 @@
 //! Writes all of some bytes.
 
-ghost use Rattle.std.specs.Prelude.{◌≡◌, ◌<◌, ◌≤◌, length, take, true, false, IsTrue};
-ghost use Rattle.std.specs.Io.KnownBytes.{Appends};
-ghost use Rattle.tg_talk.specs.Devices.{device_of, has_failed, Sends};
+ghost use Rattle.std.specs.Prelude.{◌≡◌, ◌<◌, ◌≤◌, [], length, take, true, false, IfOk, IsTrue};
+ghost use Rattle.std.specs.Io.KnownBytes.{Appends, Keeps};
+ghost use Rattle.tg_talk.specs.Devices.{device_of, has_failed, owed, promised, Sends};
+ghost use Rattle.tg_talk.specs.Endings.{EndsOnce};
 
+use crate::fault::TalkFault;
 use crate::watched::Watched;
-use std::io::Write;
+use std::alloc::{AllocError, Global};
+use std::io::{BufWriter, Write};
 
 /// Writes the bytes, in as many writes as the writer asks for. It stops where the writer fails, and a prefix of them
 /// is then written; an interrupted write counts as a failed one. Takes no memory.
@@ -35,5 +38,40 @@ fn send_some<W: Write>(writer: &mut Watched<W>, bytes: &[u8]) -> usize
     match writer.write(bytes) {
         Ok(taken) => taken,
         Err(_) => 0,
+    }
+}
+
+/// How many bytes of answers are held back at most.
+const HELD_BACK: usize = 32_768;
+
+/// A writer that holds answers back, so that many are written at once. `AllocError` where the room for them, 32,768 bytes,
+/// is refused.
+pub fn buffered<W: Write + Drop>(
+    alloc: Global,
+    device: W,
+) -> Result<Watched<BufWriter<W>>, AllocError>
+    ensures unfailed { IfOk result (λ writer. has_failed writer ≡ false) }
+    ensures paid { IfOk result (λ writer. owed writer ≡ []) }
+{
+    match BufWriter::with_capacity(alloc, HELD_BACK, device) {
+        Ok(writer) => Ok(Watched::new(writer)),
+        Err(_) => Err(AllocError),
+    }
+}
+
+/// Writes the answers that are held back. The fault, where the writer does not fail.
+pub fn pay_last<W: Write + Drop>(
+    writer: &mut Watched<BufWriter<W>>,
+    fault: Option<TalkFault>,
+) -> Option<TalkFault>
+    requires { has_failed writer.old ≡ false }
+    ensures fault { EndsOnce fault (has_failed writer.new) result }
+    ensures paid { has_failed writer.new ≡ false → owed writer.new ≡ [] }
+    ensures kept { Keeps (promised W.contents writer.old) (promised W.contents writer.new) }
+{
+    if writer.pay() {
+        fault
+    } else {
+        Some(TalkFault::Writing)
     }
 }

@@ -1,10 +1,10 @@
 //! An audit over lines.
 
-ghost use Rattle.std.specs.Prelude.{◌≡◌, ◌≢◌, ◌↔◌, ◌≤◌, ◌+◌, ℕ, List, length, false, true, IfOk, IfErr, IfSome, Some, None, Err};
+ghost use Rattle.std.specs.Prelude.{◌≡◌, ◌≢◌, ◌↔◌, ◌≤◌, ◌+◌, ℕ, List, [], length, false, true, IfOk, IfErr, IfSome, Some, None, Err};
 ghost use Rattle.std.specs.Io.KnownBytes.{Keeps};
 ghost use Rattle.tg_wire.specs.Lines.{goal_of};
 ghost use Rattle.tg_wire.specs.declared.line.TheConstants.{LONGEST_LINE};
-ghost use Rattle.tg_talk.specs.Devices.{Sends, device_of, has_failed};
+ghost use Rattle.tg_talk.specs.Devices.{Sends, device_of, has_failed, owed, promised};
 ghost use Rattle.tg_talk.specs.declared.fault.TalkFault.TheVariants.{OutOfMemory, Reading, Writing};
 ghost use Rattle.tg_talk.specs.declared.line_buffer.TheConstants.{MOST_LINES};
 ghost use Rattle.tg_talk.specs.Endings.{EndsOnce};
@@ -15,7 +15,7 @@ ghost use Rattle.tgdoc.specs.Auditing.{Advances, EndsBytes, EndsEarlyBytes, Ends
 
 use crate::finished::{Finished, finish};
 use std::alloc::Global;
-use std::io::{Read, Write};
+use std::io::{BufWriter, Read, Write};
 use tg_audit::check;
 use tg_graph::{Goal, Graph, OpenFault, Step, Verdict};
 use tg_talk::{InputLines, Next, TalkFault, Watched, too_many_line};
@@ -44,20 +44,22 @@ enum Ending {
 /// which is read as an empty line and not counted, a line of more than 16,384 bytes, and the line after the millionth.
 /// Each verdict but `shared` counts as an error. Where there is no memory for the steps or for the verdict's line,
 /// `out of memory` is answered in its place; where there is none for the buffer of 32,768 bytes, no line is read.
-pub fn audit_lines<R: Read, W: Write>(
+pub fn audit_lines<R: Read, W: Write + Drop>(
     alloc: Global,
     reader: &mut Watched<R>,
-    writer: &mut Watched<W>,
+    writer: &mut Watched<BufWriter<W>>,
 ) -> Finished
     requires reads { has_failed reader.old ≡ false }
     requires writes { has_failed writer.old ≡ false }
+    requires paid { owed writer.old ≡ [] }
+    ensures paid { has_failed writer.new ≡ false → owed writer.new ≡ [] }
     ensures reading { (has_failed reader.new ≡ true) ↔ (result.fault ≡ Some Reading) }
     ensures writing { (has_failed writer.new ≡ true) ↔ (result.fault ≡ Some Writing) }
     ensures few { result.lines ≤ 1000001 }
     ensures unread { result.fault ≡ Some OutOfMemory
         → (result.lines ≡ 0) × Keeps (R.remaining (device_of reader.old)) (R.remaining (device_of reader.new)) }
     ensures audited { IfSome (R.remaining (device_of reader.old))
-        (BytesAudited result (W.contents (device_of writer.old)) (W.contents (device_of writer.new)) (has_failed writer.new)) }
+        (BytesAudited result (promised W.contents writer.old) (promised W.contents writer.new) (has_failed writer.new)) }
 {
     let Ok(mut input) = InputLines::new(alloc) else {
         return Finished {
@@ -73,7 +75,7 @@ pub fn audit_lines<R: Read, W: Write>(
 }
 
 /// Ends the audit without a verdict, after so many lines.
-fn end<W: Write>(writer: &mut Watched<W>, lines: u64, ending: Ending) -> Finished
+fn end<W: Write + Drop>(writer: &mut Watched<BufWriter<W>>, lines: u64, ending: Ending) -> Finished
     requires { has_failed writer.old ≡ false }
     ensures lines { result.lines ≡ lines }
     ensures reading { (ending ≡ Ending.Failed) ↔ (result.fault ≡ Some Reading) }
@@ -81,7 +83,8 @@ fn end<W: Write>(writer: &mut Watched<W>, lines: u64, ending: Ending) -> Finishe
     ensures memory { result.fault ≢ Some OutOfMemory }
     ensures errors { result.errors ≡ end_errors (end_after ending lines).fault }
     ensures fault { EndsOnce (end_after ending lines).fault (has_failed writer.new) result.fault }
-    ensures sent { Sends (W.contents (device_of writer.old)) (W.contents (device_of writer.new)) (has_failed writer.new) (end_after ending lines).text }
+    ensures paid { owed writer.old ≡ [] → has_failed writer.new ≡ false → owed writer.new ≡ [] }
+    ensures sent { Sends (promised W.contents writer.old) (promised W.contents writer.new) (has_failed writer.new) (end_after ending lines).text }
 {
     match ending {
         Ending::Failed => Finished {
@@ -103,9 +106,9 @@ fn end<W: Write>(writer: &mut Watched<W>, lines: u64, ending: Ending) -> Finishe
 }
 
 /// Answers the verdict, after so many lines.
-fn answer<W: Write>(
+fn answer<W: Write + Drop>(
     alloc: Global,
-    writer: &mut Watched<W>,
+    writer: &mut Watched<BufWriter<W>>,
     lines: u64,
     verdict: Verdict,
 ) -> Finished
@@ -115,8 +118,9 @@ fn answer<W: Write>(
     ensures reading { result.fault ≢ Some Reading }
     ensures writing { (has_failed writer.new ≡ true) ↔ (result.fault ≡ Some Writing) }
     ensures memory { result.fault ≢ Some OutOfMemory }
+    ensures paid { has_failed writer.new ≡ false → owed writer.new ≡ [] }
     ensures answered { (text : List ℕ) × TellsVerdict verdict result.errors text
-        × Sends (W.contents (device_of writer.old)) (W.contents (device_of writer.new)) (has_failed writer.new) text }
+        × Sends (promised W.contents writer.old) (promised W.contents writer.new) (has_failed writer.new) text }
 {
     match write_verdict(alloc, &verdict) {
         Ok(line) => finish(writer, lines, count(verdict), &line, None),

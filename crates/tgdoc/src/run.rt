@@ -1,8 +1,8 @@
 //! A run over lines.
 
-ghost use Rattle.std.specs.Prelude.{◌≡◌, ◌≢◌, ◌↔◌, ◌≤◌, true, false, IfSome, IfOk, IfErr, Some};
+ghost use Rattle.std.specs.Prelude.{◌≡◌, ◌≢◌, ◌↔◌, ◌≤◌, [], true, false, IfSome, IfOk, IfErr, Some};
 ghost use Rattle.std.specs.Io.KnownBytes.{Keeps, prepend_known};
-ghost use Rattle.tg_talk.specs.Devices.{Sends, device_of, has_failed};
+ghost use Rattle.tg_talk.specs.Devices.{Sends, device_of, has_failed, owed, promised};
 ghost use Rattle.tg_talk.specs.declared.fault.TalkFault.TheVariants.{OutOfMemory, Reading, Writing};
 ghost use Rattle.tg_talk.specs.Endings.{EndsOnce};
 ghost use Rattle.tgdoc.specs.Runs.{LinesRan, RefusesOpening};
@@ -11,30 +11,33 @@ ghost use Rattle.tgdoc.specs.Turns.{Opens, RestAnswered};
 use crate::finished::{Finished, finish};
 use crate::run_state::{RunState, Turn};
 use std::alloc::Global;
-use std::io::{Read, Write};
+use std::io::{BufWriter, Read, Write};
 use tg_talk::{InputLines, Next, TalkFault, Watched, send_line};
 use tg_vault::{Vault, courses_have_the_headline, courses_join};
 use tg_wire::{WireFault, error_line, open_fault_line, read_config};
 
-/// Reads a configuration line and then event lines, and answers each as soon as it is read. A configuration line that is
+/// Reads a configuration line and then event lines, and answers each. Answers to lines that came together are written
+/// together, and nothing is held back when more is read, nor in the end. A configuration line that is
 /// refused ends the run; an event line that is refused does not. No line at all is read as an empty one, which is not
 /// counted. The run ends at the end of the input, at a line of more than 16,384 bytes, at the line after the millionth,
 /// and where the reader or the writer fails. Where there is no memory for an answer's line, `out of memory` is answered
 /// in its place; where there is none for the buffer of 32,768 bytes, no line is read.
-pub fn run_lines<R: Read, W: Write>(
+pub fn run_lines<R: Read, W: Write + Drop>(
     alloc: Global,
     reader: &mut Watched<R>,
-    writer: &mut Watched<W>,
+    writer: &mut Watched<BufWriter<W>>,
 ) -> Finished
     requires reads { has_failed reader.old ≡ false }
     requires writes { has_failed writer.old ≡ false }
+    requires paid { owed writer.old ≡ [] }
+    ensures paid { has_failed writer.new ≡ false → owed writer.new ≡ [] }
     ensures reading { (has_failed reader.new ≡ true) ↔ (result.fault ≡ Some Reading) }
     ensures writing { (has_failed writer.new ≡ true) ↔ (result.fault ≡ Some Writing) }
     ensures few { result.lines ≤ 1000001 }
     ensures unread { result.fault ≡ Some OutOfMemory
         → (result.lines ≡ 0) × Keeps (R.remaining (device_of reader.old)) (R.remaining (device_of reader.new)) }
     ensures ran { IfSome (R.remaining (device_of reader.old))
-        (LinesRan result (W.contents (device_of writer.old)) (W.contents (device_of writer.new)) (has_failed writer.new)) }
+        (LinesRan result (promised W.contents writer.old) (promised W.contents writer.new) (has_failed writer.new)) }
 {
     courses_have_the_headline();
     let Ok(mut input) = InputLines::new(alloc) else {
@@ -84,22 +87,23 @@ pub(crate) fn open(alloc: Global, bytes: &[u8]) -> Result<Vault, &'static [u8]>
 }
 
 /// Answers the lines behind the configuration.
-fn answer_lines<R: Read, W: Write>(
+fn answer_lines<R: Read, W: Write + Drop>(
     alloc: Global,
     vault: Vault,
     input: InputLines,
     reader: &mut Watched<R>,
-    writer: &mut Watched<W>,
+    writer: &mut Watched<BufWriter<W>>,
 ) -> Finished
     requires one { input.taken ≡ 1 }
     requires reads { has_failed reader.old ≡ false }
     requires writes { has_failed writer.old ≡ false }
+    ensures paid { has_failed writer.new ≡ false → owed writer.new ≡ [] }
     ensures reading { (has_failed reader.new ≡ true) ↔ (result.fault ≡ Some Reading) }
     ensures writing { (has_failed writer.new ≡ true) ↔ (result.fault ≡ Some Writing) }
     ensures memory { result.fault ≢ Some OutOfMemory }
     ensures few { result.lines ≤ 1000001 }
     ensures answered { IfSome (prepend_known input.left (R.remaining (device_of reader.old)))
-        (RestAnswered vault result (W.contents (device_of writer.old)) (W.contents (device_of writer.new)) (has_failed writer.new)) }
+        (RestAnswered vault result (promised W.contents writer.old) (promised W.contents writer.new) (has_failed writer.new)) }
 {
     courses_join();
     let mut state = RunState { input, errors: 0 };

@@ -1,16 +1,16 @@
 //! One line: taken, answered, written.
 
-ghost use Rattle.std.specs.Prelude.{◌≡◌, ◌≢◌, ◌↔◌, ℕ, ◌<◌, ◌≤◌, ◌+◌, List, true, false, IfSome, Some};
+ghost use Rattle.std.specs.Prelude.{◌≡◌, ◌≢◌, ◌↔◌, ℕ, ◌<◌, ◌≤◌, ◌+◌, List, [], true, false, IfSome, Some};
 ghost use Rattle.std.specs.Io.KnownBytes.{prepend_known};
 ghost use Rattle.tg_vault.specs.Contents.{Contents};
-ghost use Rattle.tg_talk.specs.Devices.{Sends, device_of, has_failed};
+ghost use Rattle.tg_talk.specs.Devices.{Sends, device_of, has_failed, owed, promised};
 ghost use Rattle.tg_talk.specs.declared.fault.TalkFault.TheVariants.{OutOfMemory, Reading, Writing};
 ghost use Rattle.tg_talk.specs.declared.line_buffer.TheConstants.{MOST_LINES};
 ghost use Rattle.tgdoc.specs.Turns.{AnswersTaken, EndsBy, Turned, goes_on, one_if, text_of};
 
 use crate::answer::{Answered, answer};
 use std::alloc::Global;
-use std::io::{Read, Write};
+use std::io::{BufWriter, Read, Write};
 use tg_talk::{InputLines, Next, TalkFault, Watched, send_line, too_many_line};
 use tg_vault::Vault;
 use tg_wire::{WireFault, error_line};
@@ -32,9 +32,9 @@ pub(crate) struct RunState {
 }
 
 /// Writes the line of an answer, or of a fault.
-fn send_text<W: Write>(writer: &mut Watched<W>, text: Result<Vec<u8>, WireFault>)
+fn send_text<W: Write + Drop>(writer: &mut Watched<BufWriter<W>>, text: Result<Vec<u8>, WireFault>)
     requires { has_failed writer.old ≡ false }
-    ensures { Sends (W.contents (device_of writer.old)) (W.contents (device_of writer.new)) (has_failed writer.new) (text_of text) }
+    ensures { Sends (promised W.contents writer.old) (promised W.contents writer.new) (has_failed writer.new) (text_of text) }
 {
     match text {
         Ok(line) => send_line(writer, &line),
@@ -52,12 +52,12 @@ fn count(is_error: bool) -> u64
 impl RunState {
     /// Takes one line, and answers it.
     #[inline(always)]
-    pub(crate) fn turn<R: Read, W: Write>(
+    pub(crate) fn turn<R: Read, W: Write + Drop>(
         &mut self,
         alloc: Global,
         vault: Vault,
         reader: &mut Watched<R>,
-        writer: &mut Watched<W>,
+        writer: &mut Watched<BufWriter<W>>,
     ) -> Turn
         requires few { self.old.input.taken ≤ MOST_LINES }
         requires errors { self.old.errors ≤ self.old.input.taken }
@@ -71,11 +71,15 @@ impl RunState {
         ensures reading { (has_failed reader.new ≡ true) ↔ (result ≡ Turn.Ended (Some Reading)) }
         ensures writing { (has_failed writer.new ≡ true) ↔ (result ≡ Turn.Ended (Some Writing)) }
         ensures memory { result ≢ Turn.Ended (Some OutOfMemory) }
+        ensures paid { goes_on result ≡ false → has_failed writer.new ≡ false → owed writer.new ≡ [] }
         ensures turned { IfSome (prepend_known self.old.input.left (R.remaining (device_of reader.old)))
             (Turned result vault self.old.input.taken self.old.errors self.new.input.taken self.new.errors (prepend_known self.new.input.left (R.remaining (device_of reader.new)))
-            (W.contents (device_of writer.old)) (W.contents (device_of writer.new)) (has_failed writer.new)) }
+            (promised W.contents writer.old) (promised W.contents writer.new) (has_failed writer.new)) }
     {
-        match self.input.next(reader) {
+        if !self.input.is_ready(writer) {
+            return Turn::Ended(Some(TalkFault::Writing));
+        }
+        match self.input.next_paid(reader, writer) {
             Next::Failed => Turn::Ended(Some(TalkFault::Reading)),
             Next::End => Turn::Ended(None),
             Next::Line => self.take(alloc, vault, writer),
@@ -86,7 +90,12 @@ impl RunState {
 
     /// Answers the line that was taken.
     #[inline(always)]
-    fn take<W: Write>(&mut self, alloc: Global, vault: Vault, writer: &mut Watched<W>) -> Turn
+    fn take<W: Write + Drop>(
+        &mut self,
+        alloc: Global,
+        vault: Vault,
+        writer: &mut Watched<BufWriter<W>>,
+    ) -> Turn
         requires few { self.old.input.taken ≤ MOST_LINES }
         requires errors { self.old.errors < self.old.input.taken }
         requires writes { has_failed writer.old ≡ false }
@@ -97,7 +106,7 @@ impl RunState {
         ensures memory { result ≢ Turn.Ended (Some OutOfMemory) }
         ensures writing { (has_failed writer.new ≡ true) ↔ (result ≡ Turn.Ended (Some Writing)) }
         ensures taken { (text : List ℕ) × AnswersTaken result vault self.old.errors self.old.input.line self.new.errors text
-            × Sends (W.contents (device_of writer.old)) (W.contents (device_of writer.new)) (has_failed writer.new) text }
+            × Sends (promised W.contents writer.old) (promised W.contents writer.new) (has_failed writer.new) text }
     {
         let Answered {
             vault,
@@ -114,7 +123,12 @@ impl RunState {
     }
 
     /// Answers the last line with the text of an `error` line.
-    fn end<W: Write>(&mut self, writer: &mut Watched<W>, text: &[u8], fault: TalkFault) -> Turn
+    fn end<W: Write + Drop>(
+        &mut self,
+        writer: &mut Watched<BufWriter<W>>,
+        text: &[u8],
+        fault: TalkFault,
+    ) -> Turn
         requires reading { fault ≢ Reading }
         requires writing { fault ≢ Writing }
         requires memory { fault ≢ OutOfMemory }
@@ -123,18 +137,19 @@ impl RunState {
         requires writes { has_failed writer.old ≡ false }
         ensures input { self.new.input ≡ self.old.input }
         ensures errors { self.new.errors ≡ self.old.errors + 1 }
-        ensures sent { Sends (W.contents (device_of writer.old)) (W.contents (device_of writer.new)) (has_failed writer.new) text.now }
+        ensures sent { Sends (promised W.contents writer.old) (promised W.contents writer.new) (has_failed writer.new) text.now }
         ensures reading { result ≢ Turn.Ended (Some Reading) }
         ensures memory { result ≢ Turn.Ended (Some OutOfMemory) }
         ensures writing { (has_failed writer.new ≡ true) ↔ (result ≡ Turn.Ended (Some Writing)) }
+        ensures paid { has_failed writer.new ≡ false → owed writer.new ≡ [] }
         ensures ended { EndsBy fault result }
     {
         self.errors += 1;
         send_line(writer, text);
-        Turn::Ended(Some(if writer.failed() {
-            TalkFault::Writing
+        if writer.failed() || !writer.pay() {
+            Turn::Ended(Some(TalkFault::Writing))
         } else {
-            fault
-        }))
+            Turn::Ended(Some(fault))
+        }
     }
 }

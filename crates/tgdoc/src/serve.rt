@@ -4,7 +4,7 @@ ghost use Rattle.tg_share.specs.declared.locked.TheConstants.{PARTS};
 ghost use Rattle.tg_talk.specs.Devices.{Sends, device_of, has_failed};
 ghost use Rattle.tgdoc.specs.Serving.{Announces, IsServed, agreed_line};
 
-use std::alloc::Global;
+use std::alloc::{AllocError, Global};
 use std::io::Write;
 use std::marker::Brand;
 use std::net::TcpListener;
@@ -17,7 +17,7 @@ use std::thread::Threads;
 use std::time::Duration;
 use tg_audit::Settled;
 use tg_share::{Closed, Ended, Open, PARTS, Shared};
-use tg_talk::{Watched, send_line, talk};
+use tg_talk::{Watched, buffered, send_line, talk};
 use tg_vault::Vault;
 
 /// What serving came to.
@@ -229,11 +229,9 @@ fn work<L: Ledger, R: Wait + Clock>(
         if !take_one(rt, left) {
             break;
         }
-        if let Some(ended) = serve_one(rt, alloc, listener, shared, seat) {
-            if all.push(ended).is_err() {
-                *left.lock(rt) = 0;
-                return None;
-            }
+        if serve_one(rt, alloc, listener, shared, seat, &mut all).is_err() {
+            *left.lock(rt) = 0;
+            return None;
         }
     }
     Some(all)
@@ -249,17 +247,23 @@ fn take_one<R: Wait>(rt: &R, left: &Mutex<u64>) -> bool {
     true
 }
 
-/// One connection, in a talk on the seat; what it leaves.
+/// One connection, in a talk on the seat, and what it leaves beside what others left.
 fn serve_one<L: Ledger, R: Wait + Clock>(
     rt: &R,
     alloc: Global,
     listener: &TcpListener,
     shared: &Shared<L>,
     seat: u64,
-) -> Option<Ended<L>> {
-    let (stream, _) = listener.accept().ok()?;
+    all: &mut Vec<Ended<L>>,
+) -> Result<(), AllocError> {
+    let Ok((stream, _)) = listener.accept() else {
+        return Ok(());
+    };
     let _ = stream.set_nodelay(true);
     let mut reader = Watched::new(&stream);
-    let mut writer = Watched::new(&stream);
-    talk(rt, alloc, &mut reader, &mut writer, shared, seat, &Open).ended
+    let mut writer = buffered(alloc, &stream)?;
+    match talk(rt, alloc, &mut reader, &mut writer, shared, seat, &Open).ended {
+        Some(ended) => Ok(all.push(ended)?),
+        None => Ok(()),
+    }
 }

@@ -1,6 +1,6 @@
 use Rattle.std.proofs.Common.{◌≡◌, ◌≤◌, ◌-◌, false, IfSome}
 use Rattle.std.specs.Io.KnownBytes.{prepend_known}
-use Rattle.tg_talk.specs.Devices.{device_of, has_failed}
+use Rattle.tg_talk.specs.Devices.{device_of, has_failed, promised}
 use Rattle.tg_talk.specs.declared.line_buffer.TheConstants.{MOST_LINES}
 use Rattle.tg_talk.proofs.TalkLemmas.{SoFar}
 use Rattle.tg_talk.proofs.talking.talk.Given as goal
@@ -12,7 +12,7 @@ invariant-loop-then g l = record {
   writes : has_failed l.writer ≡ false;
   seat : IfSome l.sitting (λ s. s.seat ≡ l.fn.seat);
   so_far : IfSome (g.D.Read.remaining (device_of l.fn.reader))
-      (SoFar l.sitting l.input.taken (prepend_known l.input.left (g.D.Read.remaining (device_of l.reader))) (g.W.Write.contents (device_of l.fn.writer)) (g.W.Write.contents (device_of l.writer)));
+      (SoFar l.sitting l.input.taken (prepend_known l.input.left (g.D.Read.remaining (device_of l.reader))) (promised g.W.Write.contents l.fn.writer) (promised g.W.Write.contents l.writer));
 }
 
 abbrev pub decreases-loop-then : goal.decreases-loop-then

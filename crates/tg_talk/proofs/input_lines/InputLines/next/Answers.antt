@@ -1,14 +1,24 @@
-use Rattle.std.proofs.Common.{◌≡◌, ◌≤◌, ◌+◌, ◌∙◌, length, ap, subst, sym}
+use Rattle.std.proofs.Common.{◌≡◌, ℕ, ◌≤◌, ◌+◌, ◌∙◌, length, ap, inl, inr, subst, sym}
 use Rattle.tg_talk.specs.declared.line_buffer.TheConstants.{MOST_LINES}
 use Rattle.tg_talk.specs.declared.line_buffer.Found.{Found}
 use Rattle.tg_talk.specs.declared.line_buffer.Found.TheVariants as found
-use Rattle.tg_talk.specs.Taking.{Input, Takes}
+use Rattle.tg_talk.specs.Taking.{Input, Takes, count_of}
 use Rattle.tg_talk.proofs.InputLinesLemmas.{lines_of-long}
 use Rattle.tg_talk.proofs.TakingLemmas.{by_drop, counted_long, end_of, front_line, last_line, long_is_no_failure, takes_line, takes_long}
 use Rattle.tg_talk.proofs.input_lines.InputLines.next.Goals as goal
 
 not_failed : {f : Found} → f ≡ found.TooLong → f ≡ found.Failed → ⊥
 not_failed long failed = cc
+
+none_is_taken : {n : ℕ} → n ≡ 1 → n ≡ 0 → ⊥
+none_is_taken one none = cc
+
+pub returns-in-TooLong-clause-none : goal.returns-in-TooLong-clause-none
+returns-in-TooLong-clause-none g c which =
+    let same : c.args.self.now.taken ≡ c.self.inside.taken = sym (ap (λ (v : Input). v.taken) c.self.view_is) in
+    let few : c.self.inside.taken ≤ MOST_LINES = subst (λ n. n ≤ MOST_LINES) same c.requires.few in
+    let one = counted_long c.counted-next.result c.self.inside.taken few c.counted-next.ensures.within c.counted-next.ensures.over in
+    elim which [ inl end ↦ absurd (none_is_taken one (ap count_of end)) | inr failed ↦ absurd (none_is_taken one (ap count_of failed)) ]
 
 pub returns-in-TooLong-clause-count : goal.returns-in-TooLong-clause-count
 returns-in-TooLong-clause-count g c =
