@@ -1,6 +1,6 @@
 //! Scripts of store calls with every note of the collector, in the steps that were worked out by hand. The helpers stop
 //! a test where a call's condition is not met.
-ghost use Rattle.std.specs.Prelude.{◌≡◌, Some};
+ghost use Rattle.std.specs.Prelude.{◌≡◌, Some, IfOk};
 ghost use Rattle.std.specs.Bool.{OnFalse};
 ghost use Rattle.tg_collect.specs.Names.{Whole};
 ghost use Rattle.tg_collect.specs.Stored.{stored};
@@ -8,10 +8,10 @@ ghost use Rattle.tg_collect.specs.Views.{InSet, IsHeldIn, place};
 
 use crate::machine::Machine;
 use crate::{Note, Phase, Store};
-use std::alloc::Global;
+use std::alloc::{AllocError, Global};
 use std::process::Abort;
 use std::test::Fail;
-use tg_graph::{Config, Graph};
+use tg_graph::{Config, Graph, OpenFault};
 use tg_heap::HeapFull;
 use tg_rights::{Kind, Rights, Text, Word};
 
@@ -29,7 +29,7 @@ pub(crate) fn has(machine: &Machine, serial: u64) -> bool
 }
 
 /// One call of a script with its answer, or what must be seen after the calls before it. Rights are given by their letters.
-enum Act {
+pub enum Act {
     /// A principal's new document: seat, principal, serial, rights, and what is full.
     Create(u64, u64, u64, &'static str, Option<HeapFull>),
     /// An edge gains rights: seat, its two ends, each with a principal that has a right over it, rights, and what is full.
@@ -58,16 +58,16 @@ use Act::{
     At, Create, Edge, FreeCells, FreeSlots, Join, Pending, Reads, Remove, Shade, Steps, Write,
 };
 
-struct Script {
-    name: &'static str,
-    principals: &'static [&'static str],
-    edges: &'static [(u64, &'static str, u64)],
-    slots: u32,
-    cells: u32,
-    acts: &'static [Act],
+pub struct Script {
+    pub name: &'static str,
+    pub principals: &'static [&'static str],
+    pub edges: &'static [(u64, &'static str, u64)],
+    pub slots: u32,
+    pub cells: u32,
+    pub acts: &'static [Act],
 }
 
-const TWO: &[&str] = &["alice", "bob"];
+pub const TWO: &[&str] = &["alice", "bob"];
 
 const SCRIPTS: &[Script] = &[
     Script {
@@ -305,7 +305,7 @@ const SCRIPTS: &[Script] = &[
     },
 ];
 
-fn rights(letters: &str) -> Rights {
+pub fn rights(letters: &str) -> Rights {
     let mut all = Rights::empty();
     for letter in letters.as_bytes() {
         all = all.union(match *letter {
@@ -318,7 +318,11 @@ fn rights(letters: &str) -> Rights {
     all
 }
 
-fn open(rt: &impl Abort, alloc: Global, script: &Script) -> Result<Store, Fail> {
+/// What a script is opened with.
+pub fn config(alloc: Global, script: &Script) -> Result<Config, Fail>
+    ensures slots { IfOk result (λ config. config.slots ≡ script.now.slots) }
+    ensures cells { IfOk result (λ config. config.cells ≡ script.now.cells) }
+{
     let mut principals = Vec::new(alloc);
     for name in script.principals {
         principals.push(Word::new(String::from_str(alloc, name)?))?;
@@ -328,14 +332,19 @@ fn open(rt: &impl Abort, alloc: Global, script: &Script) -> Result<Store, Fail> 
         edges.push((edge.0, rights(edge.1), edge.2))?;
     }
     let next = principals.len() as u64 + 1;
-    let config = Config {
+    Ok(Config {
         principals,
         edges,
         next,
         slots: u64::from(script.slots),
         cells: u64::from(script.cells),
-    };
+    })
+}
+
+pub fn open(rt: &impl Abort, alloc: Global, script: &Script) -> Result<Store, Fail> {
+    let config = config(alloc, script)?;
     match Graph::build(alloc, &config) {
+        Err(OpenFault::OutOfMemory) => Err(AllocError.into()),
         Err(fault) => panic!(rt; "refused: {fault:?}"),
         Ok(graph) => {
             crate::openings_can_be_stored();
@@ -345,7 +354,7 @@ fn open(rt: &impl Abort, alloc: Global, script: &Script) -> Result<Store, Fail> 
 }
 
 /// The slot of a principal, or of a vertex that it has an edge to.
-fn at(rt: &impl Abort, store: &Store, principal: u64, serial: u64) -> u32
+pub fn at(rt: &impl Abort, store: &Store, principal: u64, serial: u64) -> u32
     ensures { place store.now result ≡ Some serial }
 {
     match store.principal(principal) {
@@ -435,7 +444,7 @@ fn reads(text: &Text, wanted: &str) -> bool {
     text.get() == wanted
 }
 
-fn play(
+pub fn play(
     rt: &impl Abort,
     alloc: Global,
     store: &mut Store,
