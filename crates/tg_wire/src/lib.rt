@@ -5,6 +5,8 @@ mod config;
 mod fault;
 mod field;
 mod flat;
+#[cfg(test)]
+mod growth_tests;
 mod laws;
 mod line;
 mod object;
