@@ -3,6 +3,8 @@
 
 mod failing;
 mod fault;
+#[cfg(test)]
+mod growth_tests;
 mod input_lines;
 mod line_buffer;
 mod newline;

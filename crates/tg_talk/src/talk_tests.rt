@@ -19,14 +19,14 @@ use tg_wire::read_config;
 const CONFIG: &[u8] =
     b"{\"cells\":8,\"edges\":[[1,\"t\",2]],\"principals\":[\"alice\",\"bob\"],\"slots\":8}";
 
-const LINES: &[u8] =
+pub(crate) const LINES: &[u8] =
     b"{\"op\":\"read\",\"over\":3}\n{\"name\":\"alice\",\"op\":\"hello\"}\n{\"kind\":\"document\",\"op\":\"create\",\"rights\":\"rw\"}\n{\"op\":\"read\",\"over\":3}\n{\"op\":\"shade\"}\n{\"op\":\"bye\"}\n";
 
-const ANSWERS: &[u8] =
+pub(crate) const ANSWERS: &[u8] =
     b"{\"error\":\"no actor\"}\n{\"ok\":\"hello\",\"vertex\":1}\n{\"ok\":\"created\",\"vertex\":3}\n{\"ok\":\"text\",\"text\":\"\"}\n{\"error\":\"not for a session\"}\n{\"ok\":\"bye\"}\n";
 
 /// The vault of the configuration.
-fn opened(alloc: Global) -> Option<Vault>
+pub(crate) fn opened(alloc: Global) -> Option<Vault>
     ensures { IfSome result (λ vault. vault.history ≡ []) }
 {
     let config = read_config(alloc, CONFIG).ok()?;
@@ -35,11 +35,11 @@ fn opened(alloc: Global) -> Option<Vault>
 
 /// What a talk over these devices comes to.
 #[derive(Clone, Copy, Debug, PartialEq, Eq)]
-struct Came {
-    lines: u64,
-    fault: Option<TalkFault>,
+pub(crate) struct Came {
+    pub lines: u64,
+    pub fault: Option<TalkFault>,
     /// How many entries there are, where logs and history agree and each session is counted.
-    entries: Option<u64>,
+    pub entries: Option<u64>,
 }
 
 /// How many entries there are, where the logs agree with the history, and each session is counted.
@@ -55,7 +55,7 @@ fn entries_of<L: Ledger>(closed: Closed<L>) -> Option<u64> {
 }
 
 /// A talk on seat 0 over a vault of its own, and the settle of its log.
-fn talk_alone<L: Ledger, D: Read, W: Write + Drop, R: Wait + Clock>(
+pub(crate) fn talk_alone<L: Ledger, D: Read, W: Write + Drop, R: Wait + Clock>(
     rt: &R,
     alloc: Global,
     reader: &mut Watched<D>,
