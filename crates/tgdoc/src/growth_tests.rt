@@ -1,0 +1,56 @@
+//! The command line where memory is refused: the error says so, and the words that are read again ask for what they do.
+//! tests/growths.py refuses each allocation of the test in turn.
+
+use crate::{Mode, mode};
+use clap::Error;
+use clap::error::ErrorKind;
+use std::alloc::Global;
+
+/// What the words of a server ask for.
+fn asked(alloc: Global) -> Result<Mode, Error> {
+    mode(
+        alloc,
+        &[
+            "tgdoc",
+            "serve",
+            "--listen",
+            "127.0.0.1:0",
+            "--connections",
+            "1",
+        ],
+    )
+}
+
+/// Whether that is the server, with four workers and one connection.
+fn is_the_server(found: &Result<Mode, Error>) -> bool {
+    match found {
+        Ok(
+            Mode::Serve {
+                listen,
+                workers,
+                connections,
+            },
+        ) => listen.as_str() == "127.0.0.1:0" && *workers == 4 && *connections == 1,
+        Ok(_) => false,
+        Err(_) => false,
+    }
+}
+
+/// Whether the words are refused for want of memory.
+fn is_in_want(found: &Result<Mode, Error>) -> bool {
+    match found {
+        Ok(_) => false,
+        Err(error) => error.kind() == ErrorKind::OutOfMemory,
+    }
+}
+
+#[test]
+fn growth_refused_in_mode(rt: HostRuntime) {
+    let found = asked(rt.alloc());
+    if is_in_want(&found) {
+        let _ = rt.println("no memory");
+        assert!(rt; is_the_server(&asked(rt.alloc())));
+    } else {
+        assert!(rt; is_the_server(&found));
+    }
+}
