@@ -368,3 +368,32 @@ fn as_many_slots_and_cells_as_there_may_be(rt: HostRuntime) -> Result<(), AllocE
     assert_eq!(rt; (heap.free_slots(), heap.free_cells()), (65_536, 1_048_576));
     Ok(())
 }
+
+/// A document beside two principals fills three slots; the edge to it takes one cell, and gives it back.
+const FILLED: &[Act] = &[
+    Free(3, 4),
+    Put(1, 0),
+    Put(2, 1),
+    Put(3, 2),
+    Add(0, 2, "r", None),
+    Free(0, 3),
+    Lose(0, 3, "r", true),
+    NoSlot,
+    Free(0, 4),
+];
+
+/// A refused heap is made again, with all of it free: tests/growths.py refuses each allocation in turn.
+#[test]
+fn growth_refused_in_a_new_heap(rt: HostRuntime) -> Result<(), AllocError> {
+    let mut heap = match Heap::new(rt.alloc(), 3, 4) {
+        Ok(heap) => heap,
+        Err(_) => {
+            let _ = rt.println("no memory");
+            Heap::new(rt.alloc(), 3, 4)?
+        }
+    };
+    for act in FILLED {
+        play(&rt, rt.alloc(), &mut heap, *act)?;
+    }
+    Ok(())
+}

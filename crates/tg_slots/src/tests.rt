@@ -257,3 +257,21 @@ fn as_many_slots_as_there_may_be(rt: HostRuntime) -> Result<(), AllocError> {
     assert_eq!(rt; slots.free(), 65_536);
     Ok(())
 }
+
+/// A refused table is made again, with its slots all free: tests/growths.py refuses each allocation in turn.
+#[test]
+fn growth_refused_in_new_slots(rt: HostRuntime) -> Result<(), AllocError> {
+    let mut slots = match Slots::new(rt.alloc(), 3) {
+        Ok(slots) => slots,
+        Err(_) => {
+            let _ = rt.println("no memory");
+            Slots::new(rt.alloc(), 3)?
+        }
+    };
+    assert_eq!(rt; (slots.len(), slots.free()), (3, 3));
+    for id in 0..3 {
+        assert_eq!(rt; take(&rt, rt.alloc(), &mut slots, 10), id);
+    }
+    assert_eq!(rt; slots.free(), 0);
+    Ok(())
+}
