@@ -4,6 +4,8 @@
 mod carry_out;
 mod entry;
 mod event;
+#[cfg(test)]
+mod growth_tests;
 mod laws;
 #[cfg(test)]
 mod tests;

@@ -9,7 +9,7 @@ use tg_rights::{Cause, Command, Kind, Outcome, Reply, Rights, Rule, Text, Which,
 
 /// What a seat asks. Rights are given by their letters: r, w, t and g.
 #[derive(Clone, Copy)]
-enum Ask {
+pub enum Ask {
     Take(&'static str, u64, u64),
     Grant(&'static str, u64, u64),
     Document(&'static str),
@@ -21,7 +21,7 @@ enum Ask {
 
 /// What a command is answered.
 #[derive(Clone, Copy)]
-enum Want {
+pub enum Want {
     Done,
     Created(u64),
     Text(&'static str),
@@ -38,7 +38,7 @@ enum Want {
 
 /// One step of a case, with its answer.
 #[derive(Clone, Copy)]
-enum Line {
+pub enum Line {
     Hello(u64, &'static str, Result<u64, SeatFault>),
     Bye(u64, Result<(), SeatFault>),
     /// The seat has finished its target of this serial.
@@ -61,9 +61,9 @@ struct Case {
     lines: &'static [Line],
 }
 
-const ALICE: Line = Line::Hello(0, "alice", Ok(1));
+pub const ALICE: Line = Line::Hello(0, "alice", Ok(1));
 
-const BOB: Line = Line::Hello(1, "bob", Ok(2));
+pub const BOB: Line = Line::Hello(1, "bob", Ok(2));
 
 const CASES: &[Case] = &[
     // seats are refused in the order of their faults
@@ -389,7 +389,7 @@ fn right_of(letter: u8) -> Rights {
 }
 
 /// The rights of the letters.
-fn rights_of(letters: &str) -> Rights {
+pub fn rights_of(letters: &str) -> Rights {
     let mut rights = Rights::empty();
     for letter in letters.as_bytes() {
         rights = rights.union(right_of(*letter));
@@ -406,7 +406,7 @@ fn text(rt: &impl Abort, alloc: Global, content: &str) -> Result<Text, AllocErro
 }
 
 /// The command that is asked, and its rule.
-fn command(rt: &impl Abort, alloc: Global, ask: Ask) -> Result<(Command, Rule), AllocError> {
+pub fn command(rt: &impl Abort, alloc: Global, ask: Ask) -> Result<(Command, Rule), AllocError> {
     Ok(match ask {
         Ask::Take(rights, over, from) => {
             let rights = rights_of(rights);
@@ -456,7 +456,7 @@ fn is_cause(cause: Cause, want: Want) -> bool {
 }
 
 /// Whether the reply is the one that is wanted.
-fn is_reply(reply: &Reply, rule: Rule, want: Want) -> bool {
+pub fn is_reply(reply: &Reply, rule: Rule, want: Want) -> bool {
     match reply {
         Reply::Done => matches!(want, Want::Done),
         Reply::Created(serial) => matches!(want, Want::Created(wanted) if wanted == *serial),
@@ -509,7 +509,7 @@ fn collects(rt: &impl Abort, vault: &mut Vault, wanted: &str) {
 }
 
 /// The line is answered so.
-fn answers(
+pub fn answers(
     rt: &impl Abort,
     alloc: Global,
     vault: &mut Vault,
@@ -552,9 +552,17 @@ fn configuration(
 }
 
 /// A vault of 8 slots and 8 cells over these edges.
-fn opened(rt: &impl Abort, alloc: Global, edges: &[(u64, &str, u64)]) -> Result<Vault, AllocError> {
+pub fn opened(
+    rt: &impl Abort,
+    alloc: Global,
+    edges: &[(u64, &str, u64)],
+) -> Result<Vault, AllocError> {
     let config = configuration(alloc, 8, 8, 3, edges)?;
-    Ok(Vault::new(alloc, config).ok().expect(rt, "refused"))
+    match Vault::new(alloc, config) {
+        Ok(vault) => Ok(vault),
+        Err(OpenFault::OutOfMemory) => Err(AllocError),
+        Err(_) => panic!(rt; "refused"),
+    }
 }
 
 /// The case's lines are answered as it says.
@@ -680,7 +688,7 @@ fn a_longest_text_is_written_and_read(rt: HostRuntime) -> Result<(), AllocError>
 }
 
 /// The principal of this name takes the seat.
-fn hello(alloc: Global, seat: u64, name: &str) -> Result<Event, AllocError> {
+pub fn hello(alloc: Global, seat: u64, name: &str) -> Result<Event, AllocError> {
     Ok(Event::Hello {
         seat,
         name: Word::new(String::from_str(alloc, name)?),
