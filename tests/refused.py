@@ -315,7 +315,8 @@ def tests_of_devices():
             yield "writes-of-%s-that-%s" % (word, name), writes_gone_wrong(word, given, moves, told[word])
         yield "writes-of-%s-that-fail-from-then-on" % word, writes_gone_wrong(word, given, faults.FAILS, told[word], True)
         yield "answers-of-%s-in-one-write" % word, answers_in_one_write(word, given, told[word](given))
-    yield "cut-inputs-of-run", cut_inputs("run", given, lambda given: end_of_run(short, given))
+    few_lines = joined([short.opening, *short.lines()])
+    yield "cut-inputs-of-run", cut_inputs("run", few_lines, lambda given: end_of_run(short, given))
     yield "cut-inputs-of-audit", cut_inputs("audit", inputs["audit"], ends["audit"])
     for word in FIRST_LINES:
         yield "closed-input-of-" + word, closed(word, "<&-")
