@@ -3,6 +3,8 @@
 
 mod closing;
 mod gate;
+#[cfg(test)]
+mod growth_tests;
 mod locked;
 #[cfg(test)]
 mod race_tests;

@@ -16,7 +16,7 @@ use std::thread;
 use std::thread::Threads;
 use std::time::Duration;
 use tg_audit::Settled;
-use tg_graph::Config;
+use tg_graph::{Config, OpenFault};
 use tg_rights::{Cause, Command, EdgeList, Kind, Reply, Rights, Rule, Text, Word};
 use tg_vault::{SeatFault, Vault};
 
@@ -72,7 +72,7 @@ fn text(alloc: Global, content: &str) -> Result<Text, AllocError> {
 }
 
 /// The command that is asked.
-fn command(alloc: Global, ask: Ask) -> Result<Command, AllocError> {
+pub fn command(alloc: Global, ask: Ask) -> Result<Command, AllocError> {
     Ok(match ask {
         Ask::Take(letters, over, from) => Command::Take {
             rights: rights_of(letters),
@@ -111,7 +111,7 @@ fn edges(alloc: Global, listed: &[(u64, &str)]) -> Result<EdgeList, AllocError> 
 }
 
 /// The reply that tells so.
-fn reply(alloc: Global, rule: Rule, told: Told) -> Result<Reply, AllocError> {
+pub fn reply(alloc: Global, rule: Rule, told: Told) -> Result<Reply, AllocError> {
     Ok(match told {
         Told::Done => Reply::Done,
         Told::Created(serial) => Reply::Created(serial),
@@ -148,7 +148,11 @@ pub fn opened(
         slots,
         cells,
     };
-    Ok(Vault::new(alloc, config).ok().expect(rt, "refused"))
+    match Vault::new(alloc, config) {
+        Ok(vault) => Ok(vault),
+        Err(OpenFault::OutOfMemory) => Err(AllocError),
+        Err(_) => panic!(rt; "refused"),
+    }
 }
 
 const TURNS: u32 = 1_000_000;
@@ -425,7 +429,7 @@ fn is_opening(vault: &Vault) -> bool {
         && graph.rights(2, 1).is_empty()
 }
 
-const ALONE: &[(Ask, Told)] = &[
+pub const ALONE: &[(Ask, Told)] = &[
     (Ask::Document("rw"), Told::Created(3)),
     (Ask::Write(3, "hi"), Told::Done),
     (Ask::Read(3), Told::Text("hi")),
@@ -465,7 +469,7 @@ fn a_session_alone(rt: HostRuntime) -> Result<(), AllocError> {
     Ok(())
 }
 
-const CREATED: (Ask, Told) = (Ask::Document("r"), Told::Created(3));
+pub const CREATED: (Ask, Told) = (Ask::Document("r"), Told::Created(3));
 
 const REMOVED: (Ask, Told) = (Ask::Remove("r", 3), Told::Done);
 
