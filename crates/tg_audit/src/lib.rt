@@ -5,6 +5,8 @@ ghost use Rattle.tg_audit.specs.Laws.{AgreedCounts, ExactlyOnePlace, ExactlyOneV
 
 mod derivations;
 mod following;
+#[cfg(test)]
+mod growth_tests;
 mod logs;
 mod replaying;
 mod settling;

@@ -2,13 +2,13 @@
 use crate::{Exchange, SeatLog, Settled, check, replay, settle};
 use std::alloc::{AllocError, Global};
 use std::process::Abort;
-use tg_graph::{Config, Goal, Graph, Step, Verdict};
+use tg_graph::{Config, Goal, Graph, OpenFault, Step, Verdict};
 use tg_rights::{Cause, Command, Kind, Reply, Rights, Rule, Which, Word};
-use tg_vault::Vault;
+use tg_vault::{AskFault, Vault};
 
 /// What a step or an entry asks. Rights are given by their letters: r, w, t and g.
 #[derive(Clone, Copy)]
-enum Ask {
+pub enum Ask {
     /// These rights over the first, from the second.
     Take(&'static str, u64, u64),
     /// These rights over the first, to the second.
@@ -20,7 +20,7 @@ enum Ask {
 
 /// What a derivation is found to be.
 #[derive(Clone, Copy)]
-enum Finding {
+pub enum Finding {
     Shared,
     NoSubject(u64),
     NotDistinct(u64, Rule),
@@ -32,13 +32,13 @@ enum Finding {
 }
 
 /// Steps from the graph of some principals with these edges on, and a goal: rights of the first vertex over the other.
-struct Derivation {
-    names: &'static [&'static str],
-    edges: &'static [(u64, &'static str, u64)],
-    next: u64,
-    steps: &'static [(u64, Ask)],
-    goal: (u64, &'static str, u64),
-    finding: Finding,
+pub struct Derivation {
+    pub names: &'static [&'static str],
+    pub edges: &'static [(u64, &'static str, u64)],
+    pub next: u64,
+    pub steps: &'static [(u64, Ask)],
+    pub goal: (u64, &'static str, u64),
+    pub finding: Finding,
 }
 
 const THREE: &[&str] = &["alice", "bob", "carol"];
@@ -248,12 +248,16 @@ fn configuration(
 }
 
 /// Whether the verdict says so.
-fn is_verdict(found: Verdict, finding: Finding) -> bool {
+pub fn is_verdict(found: Verdict, finding: Finding) -> bool {
     found == verdict(finding)
 }
 
-/// Whether the derivation has the verdict that was worked out.
-fn is_found(rt: &impl Abort, alloc: Global, derivation: &Derivation) -> Result<bool, AllocError> {
+/// The graph that the derivation begins with.
+pub fn graph_of(
+    rt: &impl Abort,
+    alloc: Global,
+    derivation: &Derivation,
+) -> Result<Graph, AllocError> {
     let config = configuration(
         alloc,
         derivation.names,
@@ -262,7 +266,15 @@ fn is_found(rt: &impl Abort, alloc: Global, derivation: &Derivation) -> Result<b
         8,
         8,
     )?;
-    let graph = Graph::build(alloc, &config).ok().expect(rt, "refused");
+    match Graph::build(alloc, &config) {
+        Ok(graph) => Ok(graph),
+        Err(OpenFault::OutOfMemory) => Err(AllocError),
+        Err(_) => panic!(rt; "refused"),
+    }
+}
+
+/// The derivation's steps.
+pub fn steps_of(alloc: Global, derivation: &Derivation) -> Result<Vec<Step>, AllocError> {
     let mut steps = Vec::new(alloc);
     for (actor, ask) in derivation.steps {
         steps.push(Step {
@@ -270,12 +282,27 @@ fn is_found(rt: &impl Abort, alloc: Global, derivation: &Derivation) -> Result<b
             command: command(*ask),
         })?;
     }
-    let goal = Goal {
+    Ok(steps)
+}
+
+/// What the derivation is to bring about.
+pub fn goal_of(derivation: &Derivation) -> Goal {
+    Goal {
         from: derivation.goal.0,
         to: derivation.goal.2,
         rights: rights_of(derivation.goal.1),
-    };
-    let found = check(alloc, graph, &steps, goal)?;
+    }
+}
+
+/// Whether the derivation has the verdict that was worked out.
+pub fn is_found(
+    rt: &impl Abort,
+    alloc: Global,
+    derivation: &Derivation,
+) -> Result<bool, AllocError> {
+    let graph = graph_of(rt, alloc, derivation)?;
+    let steps = steps_of(alloc, derivation)?;
+    let found = check(alloc, graph, &steps, goal_of(derivation))?;
     Ok(is_verdict(found, derivation.finding))
 }
 
@@ -289,7 +316,7 @@ fn each_derivation_has_the_verdict_worked_out(rt: HostRuntime) -> Result<(), All
 
 /// What is answered.
 #[derive(Clone, Copy)]
-enum Told {
+pub enum Told {
     Done,
     Created(u64),
     Full(Which),
@@ -297,7 +324,7 @@ enum Told {
 
 /// What alice asks at seat 0, and what she is told: in a vault of three slots a document is made and dropped, another one
 /// is refused, and after two cycles it is made.
-const ENTRIES: &[(Ask, Told)] = &[
+pub const ENTRIES: &[(Ask, Told)] = &[
     (Ask::Document("r"), Told::Created(3)),
     (Ask::Remove("r", 3), Told::Done),
     (Ask::Document("r"), Told::Full(Which::Slots)),
@@ -325,15 +352,15 @@ const LAST_TWO: &[(Ask, Told)] = &[
 const ONE: &[(Ask, Told)] = &[(Ask::Document("r"), Told::Created(4))];
 
 /// Exchanges of a principal at a seat.
-type Log = (u64, u64, &'static [(Ask, Told)]);
+pub type Log = (u64, u64, &'static [(Ask, Told)]);
 
 /// Logs, and the seat and the index at which they first differ from the history, where they do.
-struct Settlement {
-    logs: &'static [Log],
-    place: Option<(u64, u64)>,
+pub struct Settlement {
+    pub logs: &'static [Log],
+    pub place: Option<(u64, u64)>,
 }
 
-const SETTLEMENTS: &[Settlement] = &[
+pub const SETTLEMENTS: &[Settlement] = &[
     Settlement {
         logs: &[(0, 1, ENTRIES)],
         place: None,
@@ -395,7 +422,7 @@ fn reply(told: Told) -> Reply {
 }
 
 /// Whether the reply tells so.
-fn tells(found: &Reply, told: Told) -> bool {
+pub fn tells(found: &Reply, told: Told) -> bool {
     match found {
         Reply::Done => matches!(told, Told::Done),
         Reply::Created(serial) => matches!(told, Told::Created(wanted) if wanted == *serial),
@@ -405,26 +432,37 @@ fn tells(found: &Reply, told: Told) -> bool {
 }
 
 /// Alice asks at seat 0.
-fn asks(rt: &impl Abort, vault: &mut Vault, asked: (Ask, Told)) {
+fn asks(rt: &impl Abort, vault: &mut Vault, asked: (Ask, Told)) -> Result<(), AllocError> {
     match vault.command(0, command(asked.0)) {
         Ok(entered) => assert!(rt; tells(&entered.1, asked.1)),
+        Err(AskFault::OutOfMemory) => return Err(AllocError),
         Err(_) => panic!(rt; "not entered"),
+    }
+    Ok(())
+}
+
+/// A vault of three slots for alice and bob.
+fn of_three_slots(rt: &impl Abort, alloc: Global) -> Result<Vault, AllocError> {
+    let config = configuration(alloc, &["alice", "bob"], &[], 3, 3, 4)?;
+    match Vault::new(alloc, config) {
+        Ok(vault) => Ok(vault),
+        Err(OpenFault::OutOfMemory) => Err(AllocError),
+        Err(_) => panic!(rt; "refused"),
     }
 }
 
 /// The vault of those entries.
-fn opened(rt: &impl Abort, alloc: Global) -> Result<Vault, AllocError> {
-    let config = configuration(alloc, &["alice", "bob"], &[], 3, 3, 4)?;
-    let mut vault = Vault::new(alloc, config).ok().expect(rt, "refused");
+pub fn opened(rt: &impl Abort, alloc: Global) -> Result<Vault, AllocError> {
+    let mut vault = of_three_slots(rt, alloc)?;
     assert!(rt; vault.hello(0, "alice").is_ok());
     assert!(rt; vault.hello(1, "bob").is_ok());
-    asks(rt, &mut vault, ENTRIES[0]);
+    asks(rt, &mut vault, ENTRIES[0])?;
     assert!(rt; vault.shade(0).is_ok());
-    asks(rt, &mut vault, ENTRIES[1]);
-    asks(rt, &mut vault, ENTRIES[2]);
+    asks(rt, &mut vault, ENTRIES[1])?;
+    asks(rt, &mut vault, ENTRIES[2])?;
     vault.cycle();
     vault.cycle();
-    asks(rt, &mut vault, ENTRIES[3]);
+    asks(rt, &mut vault, ENTRIES[3])?;
     Ok(vault)
 }
 
@@ -455,18 +493,22 @@ fn log_of(alloc: Global, log: Log) -> Result<SeatLog, AllocError> {
     })
 }
 
-/// Settles the logs, and hands the vault back.
-fn settles(
-    rt: &impl Abort,
-    alloc: Global,
-    vault: Vault,
-    settlement: &Settlement,
-) -> Result<Vault, AllocError> {
+/// The logs of the settlement.
+pub fn logs_of(alloc: Global, settlement: &Settlement) -> Result<Vec<SeatLog>, AllocError> {
     let mut logs = Vec::new(alloc);
     for log in settlement.logs {
         logs.push(log_of(alloc, *log)?)?;
     }
-    match settle(alloc, vault, logs) {
+    Ok(logs)
+}
+
+/// The vault, where it was settled as worked out.
+pub fn vault_of(
+    rt: &impl Abort,
+    settled: Settled,
+    settlement: &Settlement,
+) -> Result<Vault, AllocError> {
+    match settled {
         Settled::Agreed(vault) => {
             assert!(rt; settlement.place.is_none());
             Ok(vault)
@@ -489,7 +531,8 @@ fn settles(
 fn logs_are_settled_as_worked_out(rt: HostRuntime) -> Result<(), AllocError> {
     let mut vault = opened(&rt, rt.alloc())?;
     for settlement in SETTLEMENTS {
-        vault = settles(&rt, rt.alloc(), vault, settlement)?;
+        let logs = logs_of(rt.alloc(), settlement)?;
+        vault = vault_of(&rt, settle(rt.alloc(), vault, logs), settlement)?;
     }
     Ok(())
 }

@@ -1,0 +1,107 @@
+//! Calls that are refused their memory and made again: tests/growths.py refuses each allocation of these tests in turn.
+use crate::tests::{
+    Ask, Derivation, ENTRIES, Finding, SETTLEMENTS, Settlement, goal_of, graph_of, is_found,
+    is_verdict, logs_of, opened, steps_of, tells, vault_of,
+};
+use crate::{SeatLog, Settled, check, replay, settle};
+use std::alloc::{AllocError, Global};
+use std::io::Print;
+use std::process::Abort;
+use tg_rights::Reply;
+use tg_vault::Vault;
+
+/// Whether the derivation has the verdict that was worked out. Where memory is refused the graph is used up, and is made again.
+fn is_found_again(
+    rt: &(impl Abort + Print),
+    alloc: Global,
+    derivation: &Derivation,
+) -> Result<bool, AllocError> {
+    let graph = graph_of(rt, alloc, derivation)?;
+    let steps = steps_of(alloc, derivation)?;
+    match check(alloc, graph, &steps, goal_of(derivation)) {
+        Ok(found) => Ok(is_verdict(found, derivation.finding)),
+        Err(_) => {
+            let _ = rt.println("no memory");
+            is_found(rt, alloc, derivation)
+        }
+    }
+}
+
+/// Alice makes a document, in a graph without edges: the first edge takes memory.
+const FIRST_EDGE: &Derivation = &Derivation {
+    names: &["alice"],
+    edges: &[],
+    next: 2,
+    steps: &[(1, Ask::Document("r"))],
+    goal: (1, "r", 2),
+    finding: Finding::Shared,
+};
+
+/// A check that is refused has its verdict when it is made again.
+#[test]
+fn growth_refused_in_a_check(rt: HostRuntime) -> Result<(), AllocError> {
+    assert!(rt; is_found_again(&rt, rt.alloc(), FIRST_EDGE)?);
+    Ok(())
+}
+
+/// Whether these are the replies to the entries.
+fn are_replies(found: &[Reply]) -> bool {
+    found.len() == ENTRIES.len()
+        && found
+            .iter()
+            .zip(ENTRIES.iter())
+            .all(|(reply, entry)| tells(reply, entry.1))
+}
+
+/// A replay that is refused leaves the history.
+#[test]
+fn growth_refused_in_a_replay(rt: HostRuntime) -> Result<(), AllocError> {
+    let vault = opened(&rt, rt.alloc())?;
+    let replies = match replay(rt.alloc(), &vault) {
+        Ok(replies) => replies,
+        Err(_) => {
+            let _ = rt.println("no memory");
+            assert_eq!(rt; vault.count(), 4);
+            replay(rt.alloc(), &vault)?
+        }
+    };
+    assert!(rt; are_replies(&replies));
+    Ok(())
+}
+
+/// Whether these logs have the seats and the lengths of the settlement's.
+fn are_handed_back(logs: &[SeatLog], settlement: &Settlement) -> bool {
+    logs.len() == settlement.logs.len()
+        && logs.iter().zip(settlement.logs.iter()).all(|(log, given)| log.seat == given.0
+            && log.exchanges.len() == given.2.len())
+}
+
+/// Settles the logs, and hands the vault on. Where memory is refused vault and logs are handed back, and settled again.
+fn settles_again(
+    rt: &(impl Abort + Print),
+    alloc: Global,
+    vault: Vault,
+    settlement: &Settlement,
+) -> Result<Vault, AllocError> {
+    let logs = logs_of(alloc, settlement)?;
+    let settled = match settle(alloc, vault, logs) {
+        Settled::NoMemory { vault, logs } => {
+            let _ = rt.println("no memory");
+            assert_eq!(rt; vault.count(), 4);
+            assert!(rt; are_handed_back(&logs, settlement));
+            settle(alloc, vault, logs)
+        }
+        settled => settled,
+    };
+    vault_of(rt, settled, settlement)
+}
+
+/// A settlement that is refused leaves the vault and the logs.
+#[test]
+fn growth_refused_in_a_settlement(rt: HostRuntime) -> Result<(), AllocError> {
+    let mut vault = opened(&rt, rt.alloc())?;
+    for settlement in SETTLEMENTS {
+        vault = settles_again(&rt, rt.alloc(), vault, settlement)?;
+    }
+    Ok(())
+}
