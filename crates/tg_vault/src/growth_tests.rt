@@ -117,15 +117,42 @@ enum Told {
     Shaded(Option<u64>),
 }
 
+/// Bob creates a document.
+fn create() -> Event {
+    let kind = Kind::Document;
+    let rights = rights_of("rwg");
+    let command = Command::Create { kind, rights };
+    Event::Ask { seat: 1, command }
+}
+
+/// A create that is refused as an event leaves no entry, and is answered when it comes again.
+#[test]
+fn growth_refused_in_an_event(rt: HostRuntime) -> Result<(), AllocError> {
+    let mut vault = opened(&rt, rt.alloc(), &[])?;
+    answers(&rt, rt.alloc(), &mut vault, BOB)?;
+    let mut answer = vault.run_one(create());
+    if matches!(&answer, Answer::Ask(AskFault::OutOfMemory)) {
+        let _ = rt.println("no memory");
+        assert_eq!(rt; vault.count(), 0);
+        answer = vault.run_one(create());
+    }
+    assert!(rt; matches!(&answer, Answer::Asked(0, Reply::Created(3))));
+    assert!(rt;
+        matches!(
+            vault.run_one(Event::Shade { seat: 1 }),
+            Answer::Shaded(Some(3))
+        )
+    );
+    assert_eq!(rt; vault.count(), 1);
+    Ok(())
+}
+
 /// Alice and bob take their seats; he creates a document, shades it, and has nothing more to shade.
 fn create_and_shade(alloc: Global) -> Result<Vec<Event>, AllocError> {
     let mut events = Vec::new(alloc);
     events.push(hello(alloc, 0, "alice")?)?;
     events.push(hello(alloc, 1, "bob")?)?;
-    let kind = Kind::Document;
-    let rights = rights_of("rwg");
-    let command = Command::Create { kind, rights };
-    events.push(Event::Ask { seat: 1, command })?;
+    events.push(create())?;
     events.push(Event::Shade { seat: 1 })?;
     events.push(Event::Shade { seat: 1 })?;
     Ok(events)

@@ -1,5 +1,5 @@
 //! The vault: the seats, the store, and the history of the commands.
-ghost use Rattle.std.specs.Prelude.{◌≡◌, ◌==◌, ◌<◌, ◌≤◌, ◌+◌, length, slice_get, replicate, Some, None, IfOk, IfErr, IfSome, IfNone, OnErr, MatchResult, take};
+ghost use Rattle.std.specs.Prelude.{◌≡◌, ◌==◌, ◌<◌, ◌≤◌, ◌+◌, ◌∷◌, [], length, slice_get, replicate, Some, None, IfOk, IfErr, IfSome, IfNone, OnErr, MatchResult, take};
 ghost use Rattle.std.specs.List.{position};
 ghost use Rattle.std.specs.Cmp.Lexicographic.{pointwise};
 ghost use Rattle.tg_rights.specs.declared.limits.TheConstants.{MAX_PRINCIPALS, SEATS};
@@ -17,7 +17,7 @@ ghost use Rattle.tg_vault.specs.Told.{told};
 ghost use Rattle.tg_vault.specs.Added.{AddsAsked};
 ghost use Rattle.tg_vault.specs.Agreement.{SameForAgreeing};
 ghost use Rattle.tg_vault.specs.Exact.{IsExact};
-ghost use Rattle.tg_vault.specs.Course.{Course, IsCoherent};
+ghost use Rattle.tg_vault.specs.Course.{Course, IsCoherent, VaultStep};
 ghost use Rattle.tg_vault.specs.Cycles.{IsBounded, IsCycle};
 ghost use Rattle.tg_vault.specs.Headline.{Headline};
 
@@ -408,6 +408,36 @@ impl Vault {
                 Err(fault) => Answer::Seat(fault),
             },
             Event::Collect => Answer::Noted(self.collect()),
+        }
+    }
+
+    /// A run of one event: carries it out, and answers it; `Ask(OutOfMemory)` where a growth was refused. `run` copies the
+    /// commands that it is lent, and takes the vault by value; here both stay where they are. Of one call after another
+    /// `courses_join` makes a course, and `courses_have_the_headline` says what `run` does of it.
+    pub fn run_one(&mut self, event: Event) -> Answer
+        ensures step { VaultStep self.old event result self.new }
+        ensures headline { Headline self.old (event ∷ []) (result ∷ []) self.new }
+    {
+        self.soundness();
+        courses_have_the_headline();
+        let answer = self.act(event);
+        self.soundness();
+        answer
+    }
+
+    /// Carries out one event, whose command is not copied.
+    fn act(&mut self, event: Event) -> Answer
+        ensures step { StepOf self.old event result self.new }
+        ensures keeps { Keeps self.old self.new }
+        ensures stored { StoreStep self.old event result self.new }
+        ensures told { StoreAnswer self.old event result self.new }
+    {
+        match event {
+            Event::Ask { seat, command } => match self.command(seat, command) {
+                Ok((number, reply)) => Answer::Asked(number, reply),
+                Err(fault) => Answer::Ask(fault),
+            },
+            other => self.step(&other),
         }
     }
 

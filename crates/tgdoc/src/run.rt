@@ -109,8 +109,8 @@ fn answer_lines<R: Read, W: Write + Drop>(
     let mut state = RunState { input, errors: 0 };
     let mut vault = vault;
     loop {
-        match state.turn(alloc, vault, reader, writer) {
-            Turn::GoOn(after) => vault = after,
+        match state.turn(alloc, &mut vault, reader, writer) {
+            Turn::GoOn => {}
             Turn::Ended(fault) => {
                 return Finished {
                     lines: state.input.taken(),

@@ -8,7 +8,7 @@ ghost use Rattle.tg_talk.specs.declared.fault.TalkFault.TheVariants.{OutOfMemory
 ghost use Rattle.tg_talk.specs.declared.line_buffer.TheConstants.{MOST_LINES};
 ghost use Rattle.tgdoc.specs.Turns.{AnswersTaken, EndsBy, Turned, goes_on, one_if, text_of};
 
-use crate::answer::{Answered, answer};
+use crate::answer::answer;
 use std::alloc::Global;
 use std::io::{BufWriter, Read, Write};
 use tg_talk::{InputLines, Next, TalkFault, Watched, send_line, too_many_line};
@@ -18,8 +18,8 @@ use tg_wire::{WireFault, error_line};
 /// What a turn comes to.
 #[derive(Drop)]
 pub(crate) enum Turn {
-    /// The run goes on with this vault.
-    GoOn(Vault),
+    /// The run goes on.
+    GoOn,
     /// The run is over.
     Ended(Option<TalkFault>),
 }
@@ -55,7 +55,7 @@ impl RunState {
     pub(crate) fn turn<R: Read, W: Write + Drop>(
         &mut self,
         alloc: Global,
-        vault: Vault,
+        vault: &mut Vault,
         reader: &mut Watched<R>,
         writer: &mut Watched<BufWriter<W>>,
     ) -> Turn
@@ -73,7 +73,7 @@ impl RunState {
         ensures memory { result ≢ Turn.Ended (Some OutOfMemory) }
         ensures paid { goes_on result ≡ false → has_failed writer.new ≡ false → owed writer.new ≡ [] }
         ensures turned { IfSome (prepend_known self.old.input.left (R.remaining (device_of reader.old)))
-            (Turned result vault self.old.input.taken self.old.errors self.new.input.taken self.new.errors (prepend_known self.new.input.left (R.remaining (device_of reader.new)))
+            (Turned result vault.old vault.new self.old.input.taken self.old.errors self.new.input.taken self.new.errors (prepend_known self.new.input.left (R.remaining (device_of reader.new)))
             (promised W.contents writer.old) (promised W.contents writer.new) (has_failed writer.new)) }
     {
         if !self.input.is_ready(writer) {
@@ -93,7 +93,7 @@ impl RunState {
     fn take<W: Write + Drop>(
         &mut self,
         alloc: Global,
-        vault: Vault,
+        vault: &mut Vault,
         writer: &mut Watched<BufWriter<W>>,
     ) -> Turn
         requires few { self.old.input.taken ≤ MOST_LINES }
@@ -105,20 +105,16 @@ impl RunState {
         ensures reading { result ≢ Turn.Ended (Some Reading) }
         ensures memory { result ≢ Turn.Ended (Some OutOfMemory) }
         ensures writing { (has_failed writer.new ≡ true) ↔ (result ≡ Turn.Ended (Some Writing)) }
-        ensures taken { (text : List ℕ) × AnswersTaken result vault self.old.errors self.old.input.line self.new.errors text
+        ensures taken { (text : List ℕ) × AnswersTaken result vault.old vault.new self.old.errors self.old.input.line self.new.errors text
             × Sends (promised W.contents writer.old) (promised W.contents writer.new) (has_failed writer.new) text }
     {
-        let Answered {
-            vault,
-            text,
-            is_error,
-        } = answer(alloc, vault, self.input.line());
-        send_text(writer, text);
-        self.errors += count(is_error);
+        let told = answer(alloc, vault, self.input.line());
+        send_text(writer, told.text);
+        self.errors += count(told.is_error);
         if writer.failed() {
             Turn::Ended(Some(TalkFault::Writing))
         } else {
-            Turn::GoOn(vault)
+            Turn::GoOn
         }
     }
 
