@@ -51,7 +51,7 @@ module _ (G H : Protection) (x : ℕ) (agree : Agree G H x) where
 
   -- what a need says of a label
   judged_need : Need → Letters → Check → Check
-  judged_need n l later = cond (includes l n.rights) later (Some (cause.Missing n.from n.to (without n.rights l)))
+  judged_need n l later = cond (includes l n.rights) later (Some (cause.Missing (without n.rights l) n.from n.to))
 
   same_need : (n : Need) (later later' : Check) → Reaches G x n.from → (is_met G n ≡ true → later ≡ later') → cond (is_met G n) later (Some (lack G n)) ≡ cond (is_met H n) later' (Some (lack H n))
   unfolding judged_need

@@ -46,7 +46,7 @@ module _ (G : Protection) where
 
   -- the rights of the need that the label lacks
   abbrev pub lack : Need → Cause
-  lack n = cause.Missing n.from n.to (without n.rights (label G n.from n.to))
+  lack n = cause.Missing (without n.rights (label G n.from n.to)) n.from n.to
 
   -- the first need that is not met
   abbrev pub missing : List Need → Check
