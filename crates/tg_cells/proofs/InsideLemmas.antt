@@ -1,5 +1,5 @@
 -- The lists that linked cells show, and where a linked cell is.
-use Rattle.std.proofs.Common.{◌≡◌, ◌≢◌, ℕ, ◌<◌, ◌≤◌, List, [], ◌∷◌, ◌++◌, length, Some, None, inl, inr, sym, ◌∙◌, subst, ap, refl, map, get_or, arith, cond, true, false, ltb, append_assoc, append-nil}
+use Rattle.std.proofs.Common.{◌≡◌, ◌≢◌, ℕ, ◌<◌, ◌≤◌, List, [], ◌∷◌, ◌++◌, length, Some, None, inl, inr, sym, ◌∙◌, subst, ap, refl, map, get_or, arith, cond, true, false, ltb, append_assoc, append-nil, vec_capacity}
 use Rattle.std.proofs.lemmas.Bool.{lt-ltb, le-ltb}
 use Rattle.std.proofs.lemmas.List.{ext_get_or, get_or-map, get_or_default}
 use Rattle.tg_rights.proofs.MembershipLemmas.{contains_append}
@@ -18,7 +18,7 @@ length_map f (x ∷ xs) = let rest = length_map f xs in omega (arith, rest)
 -- What is shown is what the walks give.
 pub shows_view : (s : Inside) (v : CellLists) → Shows s v → view_of s ≡ v
 shows_view s v k =
-    let size : length s.cells.items ≡ v.size = k.size in
+    let size : s.size ≡ v.size = k.size in
     let all : map (λ (h : ℕ). walk v.size s.cells.items v.size h) s.heads.items ≡ v.lists =
     ext_get_or [] (map (λ (h : ℕ). walk v.size s.cells.items v.size h) s.heads.items) v.lists (heads ∙ k.heads) (λ i w. one i (omega (arith, w, heads))) in
     ap (λ (n : ℕ). record { lists = map (λ (h : ℕ). walk n s.cells.items n h) s.heads.items; free = s.free_count; size = n }) size
@@ -32,20 +32,20 @@ shows_view s v k =
           let same = k.heads in
           let within : i < length v.lists = omega arith in
           get_or-map (λ (h : ℕ). walk v.size s.cells.items v.size h) s.heads.items i v.size [] w
-          ∙ walk_chain v.size s.cells.items i v.size v.size (get_or s.heads.items i v.size) (owned v.lists i) k.size (k.chains i within) (owned_fits v i within k.sound)
+          ∙ walk_chain v.size s.cells.items i v.size v.size (get_or s.heads.items i v.size) (owned v.lists i) k.used (k.chains i within) (owned_fits v i within k.sound)
 
 -- The fields that a call leaves: what always holds of them, and what they show.
 pub record Leaves (s : Inside) (v : CellLists) : Type 0 where
   pub kept : IsInside s
   pub shows : view_of s ≡ v
 
-pub leaves : (s : Inside) (v : CellLists) → Shows s v → v.size ≤ 1048576 → length v.lists ≤ 65536 → Leaves s v
-leaves s v k most most_owners =
+pub leaves : (s : Inside) (v : CellLists) → Shows s v → v.size ≤ 1048576 → length v.lists ≤ 65536 → s.size ≤ vec_capacity s.cells → Leaves s v
+leaves s v k most most_owners room =
     let is : view_of s ≡ v = shows_view s v k in
     let size = k.size in
     let heads = k.heads in
     record {
-      kept = record { shown = subst (λ (u : CellLists). Shows s u) (sym is) k; most = omega arith; most_owners = omega arith };
+      kept = record { shown = subst (λ (u : CellLists). Shows s u) (sym is) k; most = omega arith; most_owners = omega arith; room = room };
       shows = is;
     }
 
@@ -95,7 +95,7 @@ read_cell s v n i p r e c is k read st =
     ap (edge_of n) same ∙ ap (λ (m : ℕ). edge_of m (cell_at s.cells.items m)) (sym st.here) ∙ at.parts.entry.edge
 
 -- The head of a chain as an option.
-pub chain_head : (end : ℕ) (cs : List Cell) (i before head : ℕ) (es : List Edge) → length cs ≡ end → Chain end cs i before head es → cond (ltb head (length cs)) (Some head) None ≡ first_cell es
+pub chain_head : (end : ℕ) (cs : List Cell) (i before head : ℕ) (es : List Edge) → length cs ≤ end → Chain end cs i before head es → cond (ltb head (length cs)) (Some head) None ≡ first_cell es
 chain_head end cs i before head [] size c = let test : ltb head (length cs) ≡ false = le-ltb head (length cs) (omega (arith, c, size)) in rw test refl
 chain_head end cs i before head (e ∷ es) size c =
     let test : ltb head (length cs) ≡ true = lt-ltb head (length cs) c.0.within in
@@ -109,19 +109,20 @@ read_next s v n i p r e c is k read st =
     let within : n < length s.cells.items = linked_within s v n i p r e is k st in
     let same : c ≡ cell_at s.cells.items n = read ∙ get_or_default s.cells.items n c _ within in
     ap (λ (x : Cell). cond (ltb x.next (length s.cells.items)) (Some x.next) None) (same ∙ ap (cell_at s.cells.items) (sym st.here))
-    ∙ chain_head v.size s.cells.items i e.cell (cell_at s.cells.items e.cell).next r shown.size at.parts.rest
+    ∙ chain_head v.size s.cells.items i e.cell (cell_at s.cells.items e.cell).next r shown.used at.parts.rest
 
 -- The search for a serial in an owner's list: those passed don't have it, and the others are the chain from here.
-pub record Searching (cs : List Cell) (lists : List (List Edge)) (i serial head : ℕ) : Type 0 where
+pub record Searching (end : ℕ) (cs : List Cell) (lists : List (List Edge)) (i serial head : ℕ) : Type 0 where
   pub passed : List Edge
   pub rest : List Edge
   pub before : ℕ
   pub is : owned lists i ≡ passed ++ rest
   pub none : HasNone passed serial
-  pub chain : Chain (length cs) cs i before head rest
-  pub fits : length rest ≤ length cs
+  pub chain : Chain end cs i before head rest
+  pub fits : length rest ≤ end
+  pub used : length cs ≤ end
 
-pub search_start : (s : Inside) (v : CellLists) (i serial h : ℕ) → view_of s ≡ v → IsInside s → i < length v.lists → h ≡ get_or s.heads.items i h → Searching s.cells.items v.lists i serial h
+pub search_start : (s : Inside) (v : CellLists) (i serial h : ℕ) → view_of s ≡ v → IsInside s → i < length v.lists → h ≡ get_or s.heads.items i h → Searching s.size s.cells.items v.lists i serial h
 search_start s v i serial h is k w read =
     let shown = (seen s v is k).shown in
     let heads = shown.heads in
@@ -137,14 +138,15 @@ search_start s v i serial h is k w read =
       none = λ e h. absurd h;
       chain = subst (λ (n : ℕ). Chain n s.cells.items i v.size h (owned v.lists i)) (sym size) (subst (λ (n : ℕ). Chain v.size s.cells.items i v.size n (owned v.lists i)) (sym same) (shown.chains i w));
       fits = omega arith;
+      used = (let used = shown.used in omega arith);
     }
 
 -- The cell at the head of what is left.
-pub search_found : (cs : List Cell) (lists : List (List Edge)) (i serial head : ℕ) (c : Cell) → Searching cs lists i serial head → head < length cs → c ≡ get_or cs head c → c.serial ≡ serial
+pub search_found : (end : ℕ) (cs : List Cell) (lists : List (List Edge)) (i serial head : ℕ) (c : Cell) → Searching end cs lists i serial head → head < length cs → c ≡ get_or cs head c → c.serial ≡ serial
     → (f : Found (owned lists i) serial) × (head ≡ f.edge.cell)
-search_found cs lists i serial head c k w read named = found k.rest k.is k.chain where
-  found : (rest : List Edge) → owned lists i ≡ k.passed ++ rest → Chain (length cs) cs i k.before head rest → (f : Found (owned lists i) serial) × (head ≡ f.edge.cell)
-  found [] is chain = absurd (omega (arith, chain))
+search_found end cs lists i serial head c k w read named = found k.rest k.is k.chain where
+  found : (rest : List Edge) → owned lists i ≡ k.passed ++ rest → Chain end cs i k.before head rest → (f : Found (owned lists i) serial) × (head ≡ f.edge.cell)
+  found [] is chain = absurd (let used = k.used in omega (arith, chain))
   found (e ∷ es) is chain =
       let same : c ≡ cell_at cs head = read ∙ get_or_default cs head c _ w in (
         record { before = k.passed; edge = e; after = es; is = is; here = sym (ap (λ (x : Edge). x.serial) chain.0.edge) ∙ ap (λ (x : Cell). x.serial) (sym same) ∙ named },
@@ -152,21 +154,21 @@ search_found cs lists i serial head c k w read named = found k.rest k.is k.chain
       )
 
 -- One cell on; the walk from there is shorter.
-pub record Passes (cs : List Cell) (lists : List (List Edge)) (i serial head next : ℕ) : Type 0 where
-  pub searching : Searching cs lists i serial next
-  pub smaller : length (walk (length cs) cs (length cs) next) < length (walk (length cs) cs (length cs) head)
+pub record Passes (end : ℕ) (cs : List Cell) (lists : List (List Edge)) (i serial head next : ℕ) : Type 0 where
+  pub searching : Searching end cs lists i serial next
+  pub smaller : length (walk end cs end next) < length (walk end cs end head)
 
-pub search_on : (cs : List Cell) (lists : List (List Edge)) (i serial head : ℕ) (c : Cell) → Searching cs lists i serial head → head < length cs → c ≡ get_or cs head c → c.serial ≢ serial
-    → Passes cs lists i serial head c.next
-search_on cs lists i serial head c k w read other = passes k.rest k.is k.chain k.fits where
-  passes : (rest : List Edge) → owned lists i ≡ k.passed ++ rest → Chain (length cs) cs i k.before head rest → length rest ≤ length cs → Passes cs lists i serial head c.next
-  passes [] is chain fits = absurd (omega (arith, chain))
+pub search_on : (end : ℕ) (cs : List Cell) (lists : List (List Edge)) (i serial head : ℕ) (c : Cell) → Searching end cs lists i serial head → head < length cs → c ≡ get_or cs head c → c.serial ≢ serial
+    → Passes end cs lists i serial head c.next
+search_on end cs lists i serial head c k w read other = passes k.rest k.is k.chain k.fits where
+  passes : (rest : List Edge) → owned lists i ≡ k.passed ++ rest → Chain end cs i k.before head rest → length rest ≤ end → Passes end cs lists i serial head c.next
+  passes [] is chain fits = absurd (let used = k.used in omega (arith, chain))
   passes (e ∷ es) is chain fits =
       let same : c ≡ cell_at cs head = read ∙ get_or_default cs head c _ w in
-      let on : Chain (length cs) cs i head c.next es = subst (λ (x : Cell). Chain (length cs) cs i head x.next es) (sym same) chain.1 in
-      let short : length es ≤ length cs = omega (arith, fits) in
-      let here = ap length (walk_chain (length cs) cs i k.before (length cs) head (e ∷ es) refl chain fits) in
-      let there = ap length (walk_chain (length cs) cs i head (length cs) c.next es refl on short) in
+      let on : Chain end cs i head c.next es = subst (λ (x : Cell). Chain end cs i head x.next es) (sym same) chain.1 in
+      let short : length es ≤ end = omega (arith, fits) in
+      let here = ap length (walk_chain end cs i k.before end head (e ∷ es) k.used chain fits) in
+      let there = ap length (walk_chain end cs i head end c.next es k.used on short) in
       record {
         searching = record {
           passed = k.passed ++ e ∷ [];
@@ -182,13 +184,14 @@ search_on cs lists i serial head c k w read other = passes k.rest k.is k.chain k
           ];
           chain = on;
           fits = short;
+          used = k.used;
         };
         smaller = omega (arith, here, there);
       }
 
-pub search_end : (cs : List Cell) (lists : List (List Edge)) (i serial head : ℕ) → Searching cs lists i serial head → length cs ≤ head → HasNone (owned lists i) serial
-search_end cs lists i serial head k past = ended k.rest k.is k.chain where
-  ended : (rest : List Edge) → owned lists i ≡ k.passed ++ rest → Chain (length cs) cs i k.before head rest → HasNone (owned lists i) serial
+pub search_end : (end : ℕ) (cs : List Cell) (lists : List (List Edge)) (i serial head : ℕ) → Searching end cs lists i serial head → length cs ≤ head → HasNone (owned lists i) serial
+search_end end cs lists i serial head k past = ended k.rest k.is k.chain where
+  ended : (rest : List Edge) → owned lists i ≡ k.passed ++ rest → Chain end cs i k.before head rest → HasNone (owned lists i) serial
   ended [] is chain = subst (λ (l : List Edge). HasNone l serial) (sym (is ∙ append-nil k.passed)) k.none
   ended (e ∷ es) is chain = absurd (let within = chain.0.within in omega arith)
 

@@ -1,6 +1,7 @@
--- The first free cell is taken for an edge, in front of its owner's list.
-use Rattle.std.proofs.Common.{◌≡◌, ◌≢◌, ℕ, ◌+◌, ◌-◌, ◌<◌, ◌≤◌, List, [], ◌∷◌, length, inl, inr, sym, ◌∙◌, subst, ap, refl, set, get_or, arith, length-set, get_or-set_same, get_or-set_other, Global, false}
-use Rattle.std.proofs.lemmas.List.{get_or_default, with_items_is}
+-- A free cell is provided, and the first one is taken for an edge, in front of its owner's list.
+use Rattle.std.proofs.Common.{◌≡◌, ◌≢◌, ℕ, ◌+◌, ◌-◌, ◌<◌, ◌≤◌, List, [], ◌∷◌, ◌++◌, length, inl, inr, sym, ◌∙◌, subst, ap, refl, set, get_or, arith, length-set, length-append, get_or-set_same, get_or-set_other, Global, true, false, ltb, vec_capacity}
+use Rattle.std.proofs.lemmas.Bool.{cases_lt, lt-ltb, le-ltb}
+use Rattle.std.proofs.lemmas.List.{get_or_default, get_or_append_left, get_or_push, with_items_is}
 use Rattle.std.specs.Vec.{with_items, with_item}
 use Rattle.std.specs.declared.vec.Vec.{Vec}
 use Rattle.tg_rights.specs.Membership.{Contains, Distinct}
@@ -9,11 +10,11 @@ use Rattle.tg_rights.proofs.MembershipLemmas.{contains_map}
 use Rattle.tg_cells.specs.declared.cells.Cell.{Cell}
 use Rattle.tg_cells.specs.declared.cells.Cells.TheInside.{Inside}
 use Rattle.tg_cells.specs.Lists.{Edge, CellLists, owned, cells, HasNone, IsFresh}
-use Rattle.tg_cells.specs.Chain.{cell_at, edge_of, with_previous, Chain, Row}
+use Rattle.tg_cells.specs.Chain.{cell_at, edge_of, with_previous, unused, IsProvided, Chain, Row}
 use Rattle.tg_cells.specs.Inside.{IsFree, Shows, view_of, IsInside}
 use Rattle.tg_cells.proofs.ListLemmas.{contains_within, sound-link}
-use Rattle.tg_cells.proofs.ChainLemmas.{at_same, at_other, Only, only_set, chain_only, chain_own, chain_front, chain_after, row_same, row_only}
-use Rattle.tg_cells.proofs.InsideLemmas.{Leaves, leaves, seen}
+use Rattle.tg_cells.proofs.ChainLemmas.{at_same, at_other, Only, only_set, chain_same, chain_only, chain_own, chain_front, chain_after, row_same, row_only}
+use Rattle.tg_cells.proofs.InsideLemmas.{Leaves, leaves, Seen, seen}
 use Rattle.tg_cells.proofs.StepLemmas.{chains_set}
 
 -- The first free cell, and the row of the others.
@@ -22,11 +23,11 @@ pub record FirstFree (end : ℕ) (cs : List Cell) (owners head count : ℕ) : Ty
   pub once : Distinct (head ∷ rest)
   pub owner : (cell_at cs head).owner ≡ owners
   pub row : Row end cs owners (cell_at cs head).next rest
-  pub counted : count ≡ length rest + 1
+  pub counted : count + length cs ≡ length rest + 1 + end
 
-pub first_free : (end : ℕ) (cs : List Cell) (owners head count : ℕ) → length cs ≡ end → head < length cs → IsFree end cs owners head count → FirstFree end cs owners head count
+pub first_free : (end : ℕ) (cs : List Cell) (owners head count : ℕ) → length cs ≤ end → head < length cs → IsFree end cs owners head count → FirstFree end cs owners head count
 first_free end cs owners head count size w k = first k.numbers k.once k.row k.counted where
-  first : (ns : List ℕ) → Distinct ns → Row end cs owners head ns → count ≡ length ns → FirstFree end cs owners head count
+  first : (ns : List ℕ) → Distinct ns → Row end cs owners head ns → count + length cs ≡ length ns + end → FirstFree end cs owners head count
   first [] once row counted = absurd (omega (arith, row))
   first (n ∷ ns) once row counted =
       let is : n ≡ head = sym row.0 in
@@ -38,15 +39,97 @@ first_free end cs owners head count size w k = first k.numbers k.once k.row k.co
         counted = omega (arith, counted);
       }
 
--- A head past the cells: none is free.
-pub none_free : (s : Inside) (v : CellLists) → view_of s ≡ v → IsInside s → length s.cells.items ≤ s.free → v.free ≡ 0
-none_free s v is k past = none shown.free.numbers shown.free.row shown.free.counted where
-  shown : Shows s v
-  shown = (seen s v is k).shown
+-- A row whose head is past the cells has none.
+row_past : (end : ℕ) (cs : List Cell) (owners head : ℕ) (ns : List ℕ) → length cs ≤ head → Row end cs owners head ns → (length ns ≡ 0) × (head ≡ end)
+row_past end cs owners head [] past row = (refl, row)
+row_past end cs owners head (n ∷ ns) past row = absurd (let first : head ≡ n = row.0 in let within : n < length cs = row.1 in omega arith)
 
-  none : (ns : List ℕ) → Row v.size s.cells.items (length v.lists) s.free ns → v.free ≡ length ns → v.free ≡ 0
-  none [] row counted = counted
-  none (n ∷ ns) row counted = absurd (let first : s.free ≡ n = row.0 in let within : n < length s.cells.items = row.1 in omega arith)
+-- A free cell was provided, if there is one: the fields show what they showed.
+pub record Provided (s : Inside) (v : CellLists) : Type 0 where
+  pub left : Leaves s v
+  pub full : length s.cells.items ≤ s.free → v.free ≡ 0
+
+pub provides : (s : Inside) (v : CellLists) (w : Vec Cell Global) (owners number : ℕ) → view_of s ≡ v → IsInside s → owners ≡ length s.heads.items → IsProvided s.cells.items w.items s.free s.size owners number → s.size ≤ vec_capacity w
+    → Provided (record s { cells = w; free = number }) v
+provides s v w owners number is inside every k room = elim (cases_lt s.free (length s.cells.items)) [
+  | inl within ↦ found within
+  | inr past ↦ elim (cases_lt (length s.cells.items) s.size) [ inl more ↦ added past more | inr all ↦ full past all ]
+] where
+  seen' : Seen s v
+  seen' = seen s v is inside
+
+  cs : List Cell
+  cs = s.cells.items
+
+  shown : Shows s v
+  shown = seen'.shown
+
+  stays : w.items ≡ cs → number ≡ s.free → Leaves (record s { cells = w; free = number }) v
+  stays e same = leaves (record s { cells = w; free = number }) v (record {
+    size = shown.size;
+    used = (let used = shown.used in let size = ap length e in omega arith);
+    heads = shown.heads;
+    chains = subst (λ (l : List Cell). (i : ℕ) → i < length v.lists → Chain v.size l i v.size (get_or s.heads.items i v.size) (owned v.lists i)) (sym e) shown.chains;
+    free = subst (λ (l : List Cell). IsFree v.size l (length v.lists) number v.free) (sym e) (subst (λ (h : ℕ). IsFree v.size cs (length v.lists) h v.free) (sym same) shown.free);
+    count = shown.count;
+    sound = shown.sound;
+  }) seen'.most seen'.most_owners room
+
+  found : s.free < length cs → Provided (record s { cells = w; free = number }) v
+  found within =
+      let test : ltb s.free (length cs) ≡ true = lt-ltb s.free (length cs) within in
+      let same : number ≡ s.free = rw test at k.first in
+      let e : w.items ≡ cs = rw test at k.made in
+      record { left = stays e same; full = λ past. absurd (let size = ap length e in omega arith) }
+
+  full : length cs ≤ s.free → s.size ≤ length cs → Provided (record s { cells = w; free = number }) v
+  full past all =
+      let test : ltb s.free (length cs) ≡ false = le-ltb s.free (length cs) past in
+      let more : ltb (length cs) s.size ≡ false = le-ltb (length cs) s.size all in
+      let last : number ≡ length cs = rw test at k.first in
+      let e : w.items ≡ cs = rw more at (rw test at k.made) in
+      let none = row_past v.size cs (length v.lists) s.free shown.free.numbers past shown.free.row in
+      let used = shown.used in
+      let size = shown.size in
+      let counted = shown.free.counted in
+      let nothing = none.0 in
+      let end = none.1 in
+      record { left = stays e (omega arith); full = λ any. omega arith }
+
+  added : length cs ≤ s.free → length cs < s.size → Provided (record s { cells = w; free = number }) v
+  added past more =
+      let test : ltb s.free (length cs) ≡ false = le-ltb s.free (length cs) past in
+      let less : ltb (length cs) s.size ≡ true = lt-ltb (length cs) s.size more in
+      let last : number ≡ length cs = rw test at k.first in
+      let e : w.items ≡ cs ++ unused owners s.size ∷ [] = rw less at (rw test at k.made) in
+      let none = row_past v.size cs (length v.lists) s.free shown.free.numbers past shown.free.row in
+      let grown = ap length e in
+      let longer = length-append cs (unused owners s.size ∷ []) in
+      let size = shown.size in
+      let used = shown.used in
+      let heads = shown.heads in
+      let counted = shown.free.counted in
+      let nothing = none.0 in
+      let old = λ (n : ℕ) (h : n < length cs). let same : cell_at w.items n ≡ cell_at cs n = ap (λ (l : List Cell). cell_at l n) e ∙ get_or_append_left cs (unused owners s.size ∷ []) _ n h in same in
+      let new : cell_at w.items number ≡ unused owners s.size = ap (λ (l : List Cell). cell_at l number) e ∙ get_or_push cs (unused owners s.size) _ number (sym last) in
+      record {
+        left = leaves (record s { cells = w; free = number }) v (record {
+          size = size;
+          used = omega arith;
+          heads = heads;
+          chains = λ i h. chain_same v.size cs w.items i v.size (get_or s.heads.items i v.size) (owned v.lists i) (omega arith)
+              (λ n there. old n (chain_own v.size cs i v.size (get_or s.heads.items i v.size) (owned v.lists i) n (shown.chains i h) there).within) (shown.chains i h);
+          free = record {
+            numbers = number ∷ [];
+            once = (λ h. h, tt);
+            row = (refl, omega arith, ap (λ (c : Cell). c.owner) new ∙ every ∙ heads, ap (λ (c : Cell). c.next) new ∙ size);
+            counted = omega arith;
+          };
+          count = shown.count;
+          sound = shown.sound;
+        }) seen'.most seen'.most_owners room;
+        full = λ any. absurd (omega arith);
+      }
 
 -- A free cell is in nobody's list.
 free_fresh : (s : Inside) (v : CellLists) (n : ℕ) → Shows s v → (cell_at s.cells.items n).owner ≡ length v.lists → IsFresh v.lists n
@@ -62,7 +145,7 @@ linked cs n c = with_previous (set cs n c) c.next n
 
 -- A free cell n is written as c, whose owner's list it is to lead.
 record Enters (end : ℕ) (cs : List Cell) (owners n i : ℕ) (c : Cell) (es : List Edge) : Type 0 where
-  size : length cs ≡ end
+  size : length cs ≤ end
   within : n < length cs
   free : (cell_at cs n).owner ≡ owners
   other : i ≢ owners
@@ -113,11 +196,14 @@ linked_free : (end : ℕ) (cs : List Cell) (owners n i count : ℕ) (c : Cell) (
     → IsFree end (linked cs n c) owners (cell_at cs n).next (count - 1)
 linked_free end cs owners n i count c es k f =
     let counted = f.counted in
+    let full = k.size in
+    let size = (written_only end cs owners n i c es k).size in
+    let size' = (linked_only end cs owners n i c es k).size in
     record {
       numbers = f.rest;
       once = f.once.1;
       row = row_only end (set cs n c) (linked cs n c) owners i (cell_at cs n).next f.rest (linked_only end cs owners n i c es k) (λ same. k.other (sym same))
-          (row_same end cs (set cs n c) owners (cell_at cs n).next f.rest (length-set cs n c) (λ m h. at_other cs n m c (λ is. f.once.0 (subst (λ (x : ℕ). Contains f.rest x) is h))) f.row);
+          (row_same end cs (set cs n c) owners (cell_at cs n).next f.rest (let size = length-set cs n c in omega arith) (λ m h. at_other cs n m c (λ is. f.once.0 (subst (λ (x : ℕ). Contains f.rest x) is h))) f.row);
       counted = omega arith;
     }
 
@@ -129,20 +215,21 @@ pub record LinksIn (s after : Inside) (v : CellLists) (i : ℕ) (e : Edge) : Typ
 
 pub links_in : (s : Inside) (v : CellLists) (w : Vec Cell Global) (g : Vec ℕ Global) (i next : ℕ) (c : Cell) → view_of s ≡ v → IsInside s → i < length v.lists → HasNone (owned v.lists i) c.serial → is_none c.rights ≡ false
     → s.free < length s.cells.items → c.owner ≡ i → c.previous ≡ v.size → c.next ≡ get_or s.heads.items i v.size → next ≡ (cell_at s.cells.items s.free).next
-    → w.items ≡ linked s.cells.items s.free c → g.items ≡ set s.heads.items i s.free
-    → LinksIn s (record { cells = w; heads = g; free = next; free_count = s.free_count - 1 }) v i (edge_of s.free c)
-links_in s v w g i next c is inside own none some within mine first after next_is ev gv =
+    → s.size ≤ vec_capacity w → w.items ≡ linked s.cells.items s.free c → g.items ≡ set s.heads.items i s.free
+    → LinksIn s (record { cells = w; heads = g; free = next; free_count = s.free_count - 1; size = s.size }) v i (edge_of s.free c)
+links_in s v w g i next c is inside own none some within mine first after next_is room ev gv =
     let seen = seen s v is inside in
     let shown = seen.shown in
     let most_owners = seen.most_owners in
     let heads = shown.heads in
-    let f = first_free v.size s.cells.items (length v.lists) s.free v.free shown.size within shown.free in
+    let f = first_free v.size s.cells.items (length v.lists) s.free v.free shown.used within shown.free in
     let counted = f.counted in
+    let used = shown.used in
     let count = shown.count in
     let fresh : IsFresh v.lists s.free = free_fresh s v s.free shown f.owner in
     let chain : Chain v.size s.cells.items i v.size c.next (owned v.lists i) = subst (λ (h : ℕ). Chain v.size s.cells.items i v.size h (owned v.lists i)) (sym after) (shown.chains i own) in
     let k : Enters v.size s.cells.items (length v.lists) s.free i c (owned v.lists i) = record {
-      size = shown.size;
+      size = shown.used;
       within = within;
       free = f.owner;
       other = λ same. omega arith;
@@ -160,9 +247,10 @@ links_in s v w g i next c is inside own none some within mine first after next_i
     let free : IsFree v.size (linked s.cells.items s.free c) (length v.lists) next (v.free - 1) =
     subst (λ (h : ℕ). IsFree v.size (linked s.cells.items s.free c) (length v.lists) h (v.free - 1)) (sym next_is)
     (linked_free v.size s.cells.items (length v.lists) s.free i v.free c (owned v.lists i) k f) in
-    let left : Leaves (record { cells = w; heads = g; free = next; free_count = s.free_count - 1 }) (record v { lists = set v.lists i (edge_of s.free c ∷ owned v.lists i); free = v.free - 1 }) =
-    leaves (record { cells = w; heads = g; free = next; free_count = s.free_count - 1 }) (record v { lists = set v.lists i (edge_of s.free c ∷ owned v.lists i); free = v.free - 1 }) (record {
-      size = ap length ev ∙ moved.size ∙ written.size ∙ shown.size;
+    let left : Leaves (record { cells = w; heads = g; free = next; free_count = s.free_count - 1; size = s.size }) (record v { lists = set v.lists i (edge_of s.free c ∷ owned v.lists i); free = v.free - 1 }) =
+    leaves (record { cells = w; heads = g; free = next; free_count = s.free_count - 1; size = s.size }) (record v { lists = set v.lists i (edge_of s.free c ∷ owned v.lists i); free = v.free - 1 }) (record {
+      size = shown.size;
+      used = (let same = ap length ev ∙ moved.size ∙ written.size in omega arith);
       heads = ap length gv ∙ length-set s.heads.items i s.free ∙ shown.heads ∙ sym lists;
       chains = subst (λ (l : List Cell). (j : ℕ) → j < length (set v.lists i (edge_of s.free c ∷ owned v.lists i)) → Chain v.size l j v.size (get_or g.items j v.size) (owned (set v.lists i (edge_of s.free c ∷ owned v.lists i)) j)) (sym ev)
           (chains_set v.size (linked s.cells.items s.free c) s.heads.items g.items v.lists i (edge_of s.free c ∷ owned v.lists i) own now
@@ -173,7 +261,7 @@ links_in s v w g i next c is inside own none some within mine first after next_i
           (subst (λ (l : List Cell). IsFree v.size l (length v.lists) next (v.free - 1)) (sym ev) free);
       count = ap (λ (m : ℕ). m - 1) count;
       sound = sound-link v i (edge_of s.free c) shown.sound own fresh none some (omega arith);
-    }) seen.most (omega arith) in
+    }) seen.most (omega arith) room in
     record {
       kept = left.kept;
       fresh = fresh;
@@ -186,13 +274,14 @@ entered i end head target serial rights = record { owner = i; previous = end; ne
 
 -- The same from the steps of the code, one after another.
 pub links : (s : Inside) (v : CellLists) (xs : List Cell) (i end head target serial : ℕ) (rights : Letters) (old : Cell) → view_of s ≡ v → IsInside s → i < length v.lists → HasNone (owned v.lists i) serial → is_none rights ≡ false
-    → end ≡ length s.cells.items → head ≡ get_or s.heads.items i head → s.free < length s.cells.items → old ≡ get_or s.cells.items s.free old
+    → end ≡ s.size → head ≡ get_or s.heads.items i head → s.free < length s.cells.items → old ≡ get_or s.cells.items s.free old
     → xs ≡ with_previous (set s.cells.items s.free (entered i end head target serial rights)) head s.free
     → LinksIn s (record {
       cells = with_items (with_item s.cells s.free (entered i end head target serial rights)) xs;
       heads = with_item s.heads i s.free;
       free = old.next;
       free_count = s.free_count - 1;
+      size = s.size;
     }) v i (record { cell = s.free; target = target; serial = serial; rights = rights })
 links s v xs i end head target serial rights old is inside own none some last read within met ex =
     let shown = (seen s v is inside).shown in
@@ -201,5 +290,5 @@ links s v xs i end head target serial rights old is inside own none some last re
     let two : length (set s.cells.items s.free (entered i end head target serial rights)) ≡ length s.cells.items = length-set s.cells.items s.free _ in
     links_in s v (with_items (with_item s.cells s.free (entered i end head target serial rights)) xs) (with_item s.heads i s.free) i old.next
     (entered i end head target serial rights) is inside own none some within refl (last ∙ shown.size)
-    (read ∙ get_or_default s.heads.items i head v.size (omega arith)) (ap (λ (x : Cell). x.next) (met ∙ get_or_default s.cells.items s.free old _ within))
+    (read ∙ get_or_default s.heads.items i head v.size (omega arith)) (ap (λ (x : Cell). x.next) (met ∙ get_or_default s.cells.items s.free old _ within)) inside.room
     (with_items_is (with_item s.cells s.free (entered i end head target serial rights)) xs (omega arith) ∙ ex) refl

@@ -1,5 +1,5 @@
 -- A cell leaves its list: its neighbours are joined, and it goes to the front of the free cells.
-use Rattle.std.proofs.Common.{◌≡◌, ◌≢◌, ℕ, ◌+◌, ◌<◌, List, [], ◌∷◌, ◌++◌, length, ◌⊎◌, inl, inr, sym, ◌∙◌, subst, ap, refl, set, get_or, arith, cond, eqb, eq-eqb, length-set, get_or-set_same, get_or-set_other, Global}
+use Rattle.std.proofs.Common.{◌≡◌, ◌≢◌, ℕ, ◌+◌, ◌<◌, ◌≤◌, List, [], ◌∷◌, ◌++◌, length, ◌⊎◌, inl, inr, sym, ◌∙◌, subst, ap, refl, set, get_or, arith, cond, eqb, eq-eqb, length-set, get_or-set_same, get_or-set_other, Global, vec_capacity}
 use Rattle.std.proofs.lemmas.Bool.{cases_Bool, ne_eqb, cond-true, cond-false}
 use Rattle.std.proofs.lemmas.List.{get_or_default, with_items_is}
 use Rattle.std.specs.Vec.{with_items, with_item}
@@ -24,7 +24,7 @@ unlinked cs n a b owners free = set (joined cs a b) n (record (cell_at (joined c
 
 -- A neighbour that is a cell is one of the list's, and the other end of the list doesn't have it.
 record Neighbours (end : ℕ) (cs : List Cell) (i n a b : ℕ) (p r : List ℕ) : Type 0 where
-  size : length cs ≡ end
+  size : length cs ≤ end
   apart : Apart p n r
   before : (a ≡ end) ⊎ Contains p a
   after : (b ≡ end) ⊎ Contains r b
@@ -32,7 +32,7 @@ record Neighbours (end : ℕ) (cs : List Cell) (i n a b : ℕ) (p r : List ℕ) 
   front : (m : ℕ) → Contains p m → IsOwn cs m i
   back : (m : ℕ) → Contains r m → IsOwn cs m i
 
-neighbours : (end : ℕ) (cs : List Cell) (i head : ℕ) (p r : List Edge) (e : Edge) → length cs ≡ end → Apart (cells p) e.cell (cells r) → Parts end cs i end head p e r
+neighbours : (end : ℕ) (cs : List Cell) (i head : ℕ) (p r : List Edge) (e : Edge) → length cs ≤ end → Apart (cells p) e.cell (cells r) → Parts end cs i end head p e r
     → Neighbours end cs i e.cell (cell_at cs e.cell).previous (cell_at cs e.cell).next (cells p) (cells r)
 neighbours end cs i head p r e size apart k = record {
   size = size;
@@ -91,15 +91,15 @@ front_path end cs i head n a b owners free (d ∷ p) r k c =
     let stays : cond (eqb a end) b head ≡ head = cond-false (eqb a end) b head (ne_eqb a end (omega arith)) in
     let all : length (unlinked cs n a b owners free) ≡ length (with_next cs a b) = length-set (joined cs a b) n _ ∙ length-set (with_next cs a b) b _ in
     subst (λ (h : ℕ). Path (unlinked cs n a b owners free) i end h (d ∷ p) a b) (sym stays)
-    (path_same (with_next cs a b) (unlinked cs n a b owners free) i end head (d ∷ p) a b all (front_stays end cs i n a b owners free (cells (d ∷ p)) r k)
+    (path_same (with_next cs a b) (unlinked cs n a b owners free) i end head (d ∷ p) a b (omega arith) (front_stays end cs i n a b owners free (cells (d ∷ p)) r k)
     (path_tail cs i end head d p a n b k.apart.front c))
 
 back_chain : (end : ℕ) (cs : List Cell) (i n a b owners free : ℕ) (p : List ℕ) (r : List Edge) → Neighbours end cs i n a b p (cells r) → Chain end cs i n b r → Chain end (unlinked cs n a b owners free) i a b r
 back_chain end cs i n a b owners free p r k c =
     let one : length (with_next cs a b) ≡ length cs = length-set cs a _ in
     let three : length (unlinked cs n a b owners free) ≡ length (joined cs a b) = length-set (joined cs a b) n _ in
-    chain_same end (joined cs a b) (unlinked cs n a b owners free) i a b r three (λ m h. at_other (joined cs a b) n m _ (k.apart.after m h))
-    (chain_front end (with_next cs a b) i n a b r k.apart.back (chain_same end cs (with_next cs a b) i n b r one (λ m h. at_other cs a m _ (back_not_before end cs i n a b p (cells r) k m h)) c))
+    chain_same end (joined cs a b) (unlinked cs n a b owners free) i a b r (omega arith) (λ m h. at_other (joined cs a b) n m _ (k.apart.after m h))
+    (chain_front end (with_next cs a b) i n a b r k.apart.back (chain_same end cs (with_next cs a b) i n b r (omega arith) (λ m h. at_other cs a m _ (back_not_before end cs i n a b p (cells r) k m h)) c))
 
 -- The freed cell is the first of the free ones.
 freed : (end : ℕ) (cs : List Cell) (i n a b owners free count : ℕ) (p r : List ℕ) → Neighbours end cs i n a b p r → owners ≢ i → IsFree end cs owners free count
@@ -145,9 +145,9 @@ heads_size hs i a b end = elim (cases_Bool (eqb a end)) [
 
 leaves-joined : (s : Inside) (v : CellLists) (w : Vec Cell Global) (g : Vec ℕ Global) (n i owners a b : ℕ) (p r : List Edge) (e : Edge) → view_of s ≡ v → IsInside s → Stands v.lists n i p e r → i < length v.lists
     → Neighbours v.size s.cells.items i n a b (cells p) (cells r) → Path s.cells.items i v.size (get_or s.heads.items i v.size) p a n → Chain v.size s.cells.items i n b r → owners ≡ length v.lists
-    → w.items ≡ unlinked s.cells.items n a b owners s.free → g.items ≡ cond (eqb a v.size) (set s.heads.items i b) s.heads.items
-    → Leaves (record { cells = w; heads = g; free = n; free_count = s.free_count + 1 }) (record v { lists = set v.lists i (p ++ r); free = v.free + 1 })
-leaves-joined s v w g n i owners a b p r e is inside st own k path rest total ev gv =
+    → s.size ≤ vec_capacity w → w.items ≡ unlinked s.cells.items n a b owners s.free → g.items ≡ cond (eqb a v.size) (set s.heads.items i b) s.heads.items
+    → Leaves (record { cells = w; heads = g; free = n; free_count = s.free_count + 1; size = s.size }) (record v { lists = set v.lists i (p ++ r); free = v.free + 1 })
+leaves-joined s v w g n i owners a b p r e is inside st own k path rest total room ev gv =
     let seen = seen s v is inside in
     let shown = seen.shown in
     let heads = shown.heads in
@@ -161,8 +161,9 @@ leaves-joined s v w g n i owners a b p r e is inside st own k path rest total ev
     (front_path v.size s.cells.items i (get_or s.heads.items i v.size) n a b owners s.free p (cells r) k path)
     (back_chain v.size s.cells.items i n a b owners s.free (cells p) r k rest)) in
     let free : IsFree v.size s.cells.items owners s.free v.free = subst (λ (m : ℕ). IsFree v.size s.cells.items m s.free v.free) (sym total) shown.free in
-    leaves (record { cells = w; heads = g; free = n; free_count = s.free_count + 1 }) (record v { lists = set v.lists i (p ++ r); free = v.free + 1 }) (record {
-      size = ap length ev ∙ only.size ∙ shown.size;
+    leaves (record { cells = w; heads = g; free = n; free_count = s.free_count + 1; size = s.size }) (record v { lists = set v.lists i (p ++ r); free = v.free + 1 }) (record {
+      size = shown.size;
+      used = (let used = shown.used in let same = ap length ev in let size = only.size in omega arith);
       heads = ap length gv ∙ heads_size s.heads.items i a b v.size ∙ shown.heads ∙ sym lists;
       chains = subst (λ (l : List Cell). (j : ℕ) → j < length (set v.lists i (p ++ r)) → Chain v.size l j v.size (get_or g.items j v.size) (owned (set v.lists i (p ++ r)) j)) (sym ev)
           (chains_set v.size (unlinked s.cells.items n a b owners s.free) s.heads.items g.items v.lists i (p ++ r) own chain
@@ -172,22 +173,22 @@ leaves-joined s v w g n i owners a b p r e is inside st own k path rest total ev
           (subst (λ (l : List Cell). IsFree v.size l owners n (v.free + 1)) (sym ev) (freed v.size s.cells.items i n a b owners s.free v.free (cells p) (cells r) k other free));
       count = ap (λ (m : ℕ). m + 1) shown.count;
       sound = sound-unlink v n i p r e shown.sound st;
-    }) seen.most (omega arith)
+    }) seen.most (omega arith) room
 
-pub leaves-unlink : (s : Inside) (v : CellLists) (w : Vec Cell Global) (g : Vec ℕ Global) (n i owners : ℕ) (p r : List Edge) (e : Edge) → view_of s ≡ v → IsInside s → Stands v.lists n i p e r → owners ≡ length s.heads.items
+pub leaves-unlink : (s : Inside) (v : CellLists) (w : Vec Cell Global) (g : Vec ℕ Global) (n i owners : ℕ) (p r : List Edge) (e : Edge) → view_of s ≡ v → IsInside s → Stands v.lists n i p e r → owners ≡ length s.heads.items → s.size ≤ vec_capacity w
     → w.items ≡ unlinked s.cells.items n (cell_at s.cells.items n).previous (cell_at s.cells.items n).next owners s.free
-    → g.items ≡ cond (eqb (cell_at s.cells.items n).previous (length s.cells.items)) (set s.heads.items i (cell_at s.cells.items n).next) s.heads.items
-    → Leaves (record { cells = w; heads = g; free = n; free_count = s.free_count + 1 }) (record v { lists = set v.lists i (p ++ r); free = v.free + 1 })
-leaves-unlink s v w g n i owners p r e is inside st every ev gv =
+    → g.items ≡ cond (eqb (cell_at s.cells.items n).previous s.size) (set s.heads.items i (cell_at s.cells.items n).next) s.heads.items
+    → Leaves (record { cells = w; heads = g; free = n; free_count = s.free_count + 1; size = s.size }) (record v { lists = set v.lists i (p ++ r); free = v.free + 1 })
+leaves-unlink s v w g n i owners p r e is inside st every room ev gv =
     let shown = (seen s v is inside).shown in
     let at = locate s v n i p r e shown st in
     let k : Neighbours v.size s.cells.items i n (cell_at s.cells.items n).previous (cell_at s.cells.items n).next (cells p) (cells r) =
     subst (λ (m : ℕ). Neighbours v.size s.cells.items i m (cell_at s.cells.items m).previous (cell_at s.cells.items m).next (cells p) (cells r)) st.here
-    (neighbours v.size s.cells.items i (get_or s.heads.items i v.size) p r e shown.size (list_apart v n i p r e shown.sound st) at.parts) in
+    (neighbours v.size s.cells.items i (get_or s.heads.items i v.size) p r e shown.used (list_apart v n i p r e shown.sound st) at.parts) in
     let path : Path s.cells.items i v.size (get_or s.heads.items i v.size) p (cell_at s.cells.items n).previous n =
     subst (λ (m : ℕ). Path s.cells.items i v.size (get_or s.heads.items i v.size) p (cell_at s.cells.items m).previous m) st.here at.parts.path in
     let rest : Chain v.size s.cells.items i n (cell_at s.cells.items n).next r = subst (λ (m : ℕ). Chain v.size s.cells.items i m (cell_at s.cells.items m).next r) st.here at.parts.rest in
-    leaves-joined s v w g n i owners (cell_at s.cells.items n).previous (cell_at s.cells.items n).next p r e is inside st at.within k path rest (every ∙ shown.heads) ev
+    leaves-joined s v w g n i owners (cell_at s.cells.items n).previous (cell_at s.cells.items n).next p r e is inside st at.within k path rest (every ∙ shown.heads) room ev
     (gv ∙ ap (λ (m : ℕ). cond (eqb (cell_at s.cells.items n).previous m) (set s.heads.items i (cell_at s.cells.items n).next) s.heads.items) shown.size)
 
 -- What the writes one after another make of the cells.
@@ -210,10 +211,10 @@ unlinked_items v xs ys n a b owners free old new w ex ey read ev =
 
 -- The same from the steps of the code, one after another.
 pub unlinks : (s : Inside) (v : CellLists) (xs ys : List Cell) (gs : List ℕ) (n i end owners : ℕ) (p r : List Edge) (e : Edge) (before after old new : Cell) → view_of s ≡ v → IsInside s → Stands v.lists n i p e r
-    → end ≡ length s.cells.items → owners ≡ length s.heads.items → before ≡ get_or s.cells.items n before → after ≡ get_or s.cells.items n after
+    → end ≡ s.size → owners ≡ length s.heads.items → before ≡ get_or s.cells.items n before → after ≡ get_or s.cells.items n after
     → gs ≡ cond (eqb before.previous end) (set s.heads.items i after.next) s.heads.items → xs ≡ with_next s.cells.items before.previous after.next
     → ys ≡ with_previous (with_items s.cells xs).items after.next before.previous → old ≡ get_or (with_items (with_items s.cells xs) ys).items n old → new ≡ record old { owner = owners; next = s.free }
-    → Leaves (record { cells = with_item (with_items (with_items s.cells xs) ys) n new; heads = with_items s.heads gs; free = n; free_count = s.free_count + 1 })
+    → Leaves (record { cells = with_item (with_items (with_items s.cells xs) ys) n new; heads = with_items s.heads gs; free = n; free_count = s.free_count + 1; size = s.size })
     (record v { lists = set v.lists i (p ++ r); free = v.free + 1 })
 unlinks s v xs ys gs n i end owners p r e before after old new is inside st last every read read' eg ex ey freed en =
     let within : n < length s.cells.items = linked_within s v n i p r e is inside st in
@@ -221,7 +222,7 @@ unlinks s v xs ys gs n i end owners p r e before after old new is inside st last
     let b : after.next ≡ (cell_at s.cells.items n).next = ap (λ (x : Cell). x.next) (read' ∙ get_or_default s.cells.items n after _ within) in
     let made = unlinked_items s.cells xs ys n before.previous after.next owners s.free old new within ex ey freed en in
     let heads : length gs ≡ length s.heads.items = ap length eg ∙ heads_size s.heads.items i before.previous after.next end in
-    leaves-unlink s v (with_item (with_items (with_items s.cells xs) ys) n new) (with_items s.heads gs) n i owners p r e is inside st every
+    leaves-unlink s v (with_item (with_items (with_items s.cells xs) ys) n new) (with_items s.heads gs) n i owners p r e is inside st every inside.room
     (made ∙ ap (λ (k : ℕ). unlinked s.cells.items n k after.next owners s.free) a ∙ ap (λ (k : ℕ). unlinked s.cells.items n (cell_at s.cells.items n).previous k owners s.free) b)
     (with_items_is s.heads gs (omega arith) ∙ eg ∙ ap (λ (k : ℕ). cond (eqb k end) (set s.heads.items i after.next) s.heads.items) a
     ∙ ap (λ (k : ℕ). cond (eqb (cell_at s.cells.items n).previous end) (set s.heads.items i k) s.heads.items) b

@@ -1,5 +1,5 @@
--- lists of cells that are linked both ways, and rows of free cells; `end`, the number of cells, ends each
-use Rattle.std.specs.Prelude.{◌≡◌, ℕ, zero, suc, ◌<◌, List, [], ◌∷◌, length, cond, eqb, set}
+-- lists of cells that are linked both ways, and rows of free cells; `end`, the number of all cells, ends each
+use Rattle.std.specs.Prelude.{◌≡◌, ℕ, zero, suc, ◌<◌, List, [], ◌∷◌, ◌++◌, length, cond, eqb, ltb, set}
 use Rattle.std.proofs.Common.{get_or}
 use Rattle.tg_rights.specs.Letters.{none}
 use Rattle.tg_cells.specs.declared.cells.Cell.{Cell}
@@ -24,6 +24,15 @@ with_next cs n next = set cs n (record (cell_at cs n) { next = next })
 abbrev pub walk : ℕ → List Cell → ℕ → ℕ → List Edge
 walk end cs zero head = []
 walk end cs (suc n) head = cond (eqb head end) [] (edge_of head (cell_at cs head) ∷ walk end cs n (cell_at cs head).next)
+
+-- a cell that was not used before, and no other one follows
+abbrev pub unused : ℕ → ℕ → Cell
+unused owners end = record { owner = owners; previous = end; next = end; target = 0; serial = 0; rights = none }
+
+-- the cells of which one is free, and the number of that one: where none of them is free, one more is among them, if there is one
+pub record IsProvided (cs ds : List Cell) (free end owners number : ℕ) : Type 0 where
+  pub first : number ≡ cond (ltb free (length cs)) free (length cs)
+  pub made : ds ≡ cond (ltb free (length cs)) cs (cond (ltb (length cs) end) (cs ++ unused owners end ∷ []) cs)
 
 -- a cell has this edge, owner, and previous one
 pub record IsEntry (cs : List Cell) (n i before : ℕ) (e : Edge) : Type 0 where

@@ -1,5 +1,6 @@
--- the lists that linked cells represent: one chain from each owner's head, and one row of free cells
-use Rattle.std.specs.Prelude.{◌≡◌, ℕ, ◌<◌, ◌≤◌, List, length, map}
+-- the lists that linked cells represent: one chain from each owner's head, and one row of free cells among those used so far
+use Rattle.std.specs.Prelude.{◌≡◌, ℕ, ◌+◌, ◌<◌, ◌≤◌, List, length, map}
+use Rattle.std.specs.Vec.{vec_capacity}
 use Rattle.std.proofs.Common.{get_or}
 use Rattle.tg_rights.specs.declared.limits.TheConstants.{MAX_CELLS, MAX_SLOTS}
 use Rattle.tg_rights.specs.Membership.{Distinct}
@@ -8,16 +9,17 @@ use Rattle.tg_cells.specs.declared.cells.Cells.TheInside.{Inside}
 use Rattle.tg_cells.specs.Lists.{CellLists, owned, IsCells}
 use Rattle.tg_cells.specs.Chain.{walk, Chain, Row}
 
--- the row of the free cells, which are so many
+-- the row of the free ones of the cells that were used so far; with those that were not, they are so many
 pub record IsFree (end : ℕ) (cs : List Cell) (owners head count : ℕ) : Type 0 where
   pub numbers : List ℕ
   pub once : Distinct numbers
   pub row : Row end cs owners head numbers
-  pub counted : count ≡ length numbers
+  pub counted : count + length cs ≡ length numbers + end
 
--- these fields show the lists v: there is a chain for each of its lists, and a row of as many cells as are free
+-- these fields show the lists v: there is a chain for each of its lists, and a row of free cells
 pub record Shows (s : Inside) (v : CellLists) : Type 0 where
-  pub size : length s.cells.items ≡ v.size
+  pub size : s.size ≡ v.size
+  pub used : length s.cells.items ≤ v.size
   pub heads : length s.heads.items ≡ length v.lists
   pub chains : (i : ℕ) → i < length v.lists → Chain v.size s.cells.items i v.size (get_or s.heads.items i v.size) (owned v.lists i)
   pub free : IsFree v.size s.cells.items (length v.lists) s.free v.free
@@ -26,13 +28,10 @@ pub record Shows (s : Inside) (v : CellLists) : Type 0 where
 
 -- what the walks from all heads give. No list is longer than the number of cells.
 abbrev pub view_of : Inside → CellLists
-view_of s = record {
-  lists = map (λ h. walk (length s.cells.items) s.cells.items (length s.cells.items) h) s.heads.items;
-  free = s.free_count;
-  size = length s.cells.items;
-}
+view_of s = record { lists = map (λ h. walk s.size s.cells.items s.size h) s.heads.items; free = s.free_count; size = s.size }
 
 pub record IsInside (s : Inside) : Type 0 where
   pub shown : Shows s (view_of s)
-  pub most : length s.cells.items ≤ MAX_CELLS
+  pub most : s.size ≤ MAX_CELLS
   pub most_owners : length s.heads.items ≤ MAX_SLOTS
+  pub room : s.size ≤ vec_capacity s.cells

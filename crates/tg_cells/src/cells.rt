@@ -1,9 +1,10 @@
 //! The cells: arrays of numbers, and a list through them for each owner.
 ghost use Rattle.std.specs.Prelude.{◌≡◌, ℕ, ◌+◌, ◌<◌, ◌≤◌, List, [], ◌∷◌, ◌++◌, length, MatchOption, MatchBool, IfOk, Some, None, cond, ltb, set, false};
+ghost use Rattle.std.specs.Vec.{vec_capacity};
 ghost use Rattle.tg_rights.specs.declared.limits.TheConstants.{MAX_CELLS, MAX_SLOTS};
 ghost use Rattle.tg_rights.specs.Letters.{is_none};
 ghost use Rattle.tg_cells.specs.Lists.{CellLists, Edge, owned, first_cell, Stands, IsLinked, IsLinkedBy, HasNone, IsFresh, Found, IsCells};
-ghost use Rattle.tg_cells.specs.Chain.{edge_of, with_previous, with_next};
+ghost use Rattle.tg_cells.specs.Chain.{edge_of, with_previous, with_next, IsProvided};
 
 use std::alloc::{AllocError, Global};
 use std::marker::Model;
@@ -33,12 +34,15 @@ impl Cell {
 /// One list of cells for each owner, and the free cells.
 #[derive(Drop)]
 pub struct Cells {
-    // All cells by number. The number of cells, which is no cell's number, ends each list.
+    // The cells that were used so far, by number, with room for all: cells that nobody used take no memory.
     cells: Vec<Cell>,
     // The first cell of each owner's list, its newest.
     heads: Vec<u32>,
+    // The first free one of the cells that were used so far.
     free: u32,
     free_count: u32,
+    // The number of all cells, which is no cell's number and ends each list.
+    size: u32,
 }
 
 impl Model for Cells {
@@ -82,6 +86,33 @@ fn set_next(cells: &mut [Cell], number: u32, next: u32)
     }
 }
 
+// The number of the first free cell; that of all cells, if none is free. Where none of the cells used so far is free,
+// the next one is put behind them.
+fn provide(cells: &mut Vec<Cell>, free: u32, size: u32, owners: u32) -> u32
+    requires used { length cells.old.items ≤ size }
+    requires room { size ≤ vec_capacity cells.old }
+    ensures provided { IsProvided cells.old.items cells.new.items free size owners result }
+    ensures room { size ≤ vec_capacity cells.new }
+{
+    let used = cells.len() as u32;
+    if free < used {
+        return free;
+    }
+    if used < size {
+        let Ok(()) = cells.push(Cell {
+            owner: owners,
+            previous: size,
+            next: size,
+            target: 0,
+            serial: 0,
+            rights: Rights::empty(),
+        }) else {
+            unreachable!();
+        };
+    }
+    used
+}
+
 // Where a list has lost its first cell, which had none before it, its head is the next one.
 fn set_head(heads: &mut [u32], owner: u32, is_first: bool, next: u32)
     requires { owner < length heads.old }
@@ -103,22 +134,13 @@ impl Cells {
         ensures { IfOk result (λ c. (length c.lists ≡ owners) × (c.free ≡ count) × (c.size ≡ count) × ((i : ℕ) → owned c.lists i ≡ [])) }
     {
         let heads = vec![in alloc; count; owners as usize]?;
-        let mut cells = Vec::with_capacity(alloc, count as usize)?;
-        for number in 0..count {
-            cells.push(Cell {
-                owner: owners,
-                previous: count,
-                next: number + 1,
-                target: 0,
-                serial: 0,
-                rights: Rights::empty(),
-            })?;
-        }
+        let cells = Vec::with_capacity(alloc, count as usize)?;
         Ok(Cells {
             cells,
             heads,
-            free: 0,
+            free: count,
             free_count: count,
+            size: count,
         })
     }
 
@@ -149,8 +171,10 @@ impl Cells {
             × (self.new ≡ record self.old { lists = set self.old.lists owner (e ∷ owned self.old.lists owner); free = self.new.free }))
             ((self.old.free ≡ 0) × (self.new ≡ self.old)) }
     {
-        let number = self.free;
-        let end = self.cells.len() as u32;
+        let end = self.size;
+        let owners = self.heads.len() as u32;
+        let number = provide(&mut self.cells, self.free, end, owners);
+        self.free = number;
         let head = self.heads[owner as usize];
         let Some(cell) = self.cells.get_mut(number as usize) else {
             return false;
@@ -176,7 +200,7 @@ impl Cells {
         ensures { (p : List Edge) (e : Edge) (r : List Edge) → Stands self.old.lists cell owner p e r
             → self.new ≡ record self.old { lists = set self.old.lists owner (p ++ r); free = self.old.free + 1 } }
     {
-        let end = self.cells.len() as u32;
+        let end = self.size;
         let owners = self.heads.len() as u32;
         let previous = self.cells[cell as usize].previous;
         let next = self.cells[cell as usize].next;

@@ -8,20 +8,20 @@ loop-cell-init c = search_start c.self.inside c.args.self.now c.args.owner c.arg
 pub returns-then-cell-serial : goal.returns-then-cell-serial
 returns-then-cell-serial c =
     let read = rw c.deref.ensures.value at c.in-Some.ensures.lookup in
-    search_found c.self.inside.cells.items c.args.self.now.lists c.args.owner c.args.serial c.loop-cell.number c.in-Some.cell.now c.loop-cell.invariant read.3.0 read.1 c.if-cell-serial.true
+    search_found c.self.inside.size c.self.inside.cells.items c.args.self.now.lists c.args.owner c.args.serial c.loop-cell.number c.in-Some.cell.now c.loop-cell.invariant read.3.0 read.1 c.if-cell-serial.true
 
 pub loop-cell-smaller : goal.loop-cell-smaller
 loop-cell-smaller c =
     let read = rw c.deref.ensures.value at c.in-Some.ensures.lookup in
-    (search_on c.self.inside.cells.items c.args.self.now.lists c.args.owner c.args.serial c.loop-cell.number c.in-Some.cell.now c.loop-cell.invariant read.3.0 read.1 c.if-cell-serial.false).smaller
+    (search_on c.self.inside.size c.self.inside.cells.items c.args.self.now.lists c.args.owner c.args.serial c.loop-cell.number c.in-Some.cell.now c.loop-cell.invariant read.3.0 read.1 c.if-cell-serial.false).smaller
 
 pub loop-cell-preserved : goal.loop-cell-preserved
 loop-cell-preserved c =
     let read = rw c.deref.ensures.value at c.in-Some.ensures.lookup in
-    (search_on c.self.inside.cells.items c.args.self.now.lists c.args.owner c.args.serial c.loop-cell.number c.in-Some.cell.now c.loop-cell.invariant read.3.0 read.1 c.if-cell-serial.false).searching
+    (search_on c.self.inside.size c.self.inside.cells.items c.args.self.now.lists c.args.owner c.args.serial c.loop-cell.number c.in-Some.cell.now c.loop-cell.invariant read.3.0 read.1 c.if-cell-serial.false).searching
 
 pub returns : goal.returns
 returns c =
     let read = rw c.deref.ensures.value at c.in_default.ensures.lookup in
     let past : length c.self.inside.cells.items ≤ c.loop-cell.number = omega (arith, read) in
-    search_end c.self.inside.cells.items c.args.self.now.lists c.args.owner c.args.serial c.loop-cell.number c.loop-cell.invariant past
+    search_end c.self.inside.size c.self.inside.cells.items c.args.self.now.lists c.args.owner c.args.serial c.loop-cell.number c.loop-cell.invariant past

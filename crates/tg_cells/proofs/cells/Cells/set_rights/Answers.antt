@@ -14,9 +14,9 @@ pub invariant_of-self : goal.invariant_of-self
 invariant_of-self c =
     let l = c.requires.linked in
     (leaves-rights c.self.inside c.args.self.now (with_item c.self.inside.cells c.args.cell (record c.index_mut.result.now { rights = c.args.rights })) c.args.cell l.owner l.before l.after l.edge c.index_mut.result.now c.args.rights
-    c.self.view_is c.self.invariant l.stands c.requires.some c.index_mut.ensures.value refl).kept
+    c.self.view_is c.self.invariant l.stands c.requires.some c.index_mut.ensures.value refl c.self.invariant.room).kept
 
 pub returns : goal.returns
 returns c = λ i p e r st.
     (leaves-rights c.self.inside c.args.self.now (with_item c.self.inside.cells c.args.cell (record c.index_mut.result.now { rights = c.args.rights })) c.args.cell i p r e c.index_mut.result.now c.args.rights
-    c.self.view_is c.self.invariant st c.requires.some c.index_mut.ensures.value refl).shows
+    c.self.view_is c.self.invariant st c.requires.some c.index_mut.ensures.value refl c.self.invariant.room).shows
