@@ -6,7 +6,7 @@ use Rattle.tg_rights.specs.Membership.{Contains, Distinct}
 use Rattle.tg_slots.specs.declared.slots.Occupant.{Occupant}
 use Rattle.tg_slots.specs.declared.slots.Entry.{Entry}
 use Rattle.tg_slots.specs.Table.{Free, mark_of, IsSound, if_free, nones, indices, fresh}
-use Rattle.tg_slots.specs.Inside.{links, occupants}
+use Rattle.tg_slots.specs.Inside.{links, occupants, unused}
 
 pub nones_length : (n : ℕ) → length (nones n) ≡ n
 nones_length zero = refl
@@ -16,10 +16,6 @@ pub nones_free : (n i : ℕ) → mark_of (get_or (nones n) i None) ≡ Free
 nones_free zero i = refl
 nones_free (suc n) zero = refl
 nones_free (suc n) (suc i) = nones_free n i
-
-pub nones_push : (n : ℕ) → nones n ++ None ∷ [] ≡ nones (suc n)
-nones_push zero = refl
-nones_push (suc n) = ap (λ (l : List (Option Occupant)). None ∷ l) (nones_push n)
 
 nones_sum : (n : ℕ) → sum_by if_free (nones n) ≡ n
 nones_sum zero = refl
@@ -59,33 +55,20 @@ fresh_sound n =
       grey_once = tt;
     }
 
-indices_push : (i n : ℕ) → indices i n ++ (i + n) ∷ [] ≡ indices i (suc n)
-indices_push i zero = ap (λ (k : ℕ). k ∷ []) (omega arith)
-indices_push i (suc n) =
-    let up : suc i + n ≡ i + suc n = omega arith in
-    ap (λ (l : List ℕ). i ∷ l) (ap (λ (k : ℕ). indices (suc i) n ++ k ∷ []) (sym up) ∙ indices_push (suc i) n)
-
 pub indices_get_or : (i n j d : ℕ) → j < n → get_or (indices i n) j d ≡ i + j
 indices_get_or i zero j d w = absurd (omega arith)
 indices_get_or i (suc n) zero d w = omega arith
 indices_get_or i (suc n) (suc j) d w = let rest = indices_get_or (suc i) n j d (omega arith) in omega (arith, rest)
 
-map_push : {X Y : Type 0} (f : X → Y) (xs : List X) (x : X) → map f (xs ++ x ∷ []) ≡ map f xs ++ f x ∷ []
-map_push f [] x = refl
-map_push f (y ∷ xs) x = ap (λ (l : List _). f y ∷ l) (map_push f xs x)
+-- Slots that nobody used are free, and lead to the next ones.
+pub unused_length : (i n : ℕ) → length (unused i n) ≡ n
+unused_length i zero = refl
+unused_length i (suc n) = let r = unused_length (suc i) n in omega (arith, r)
 
--- One more fresh slot, linked to the one that follows.
-pub record Grows (es : List Entry) (n : ℕ) : Type 0 where
-  pub slots : occupants es ≡ nones n
-  pub ups : links es ≡ indices 1 n
+pub unused_slots : (i n : ℕ) → occupants (unused i n) ≡ nones n
+unused_slots i zero = refl
+unused_slots i (suc n) = ap (λ (l : List (Option Occupant)). None ∷ l) (unused_slots (suc i) n)
 
-pub grows : (es es' : List Entry) (n : ℕ) → Grows es n → es' ≡ es ++ record { occupant = None; link = n + 1 } ∷ [] → Grows es' (n + 1)
-grows es es' n g ev =
-    let e : Entry = record { occupant = None; link = n + 1 } in
-    let up : suc n ≡ n + 1 = omega arith in
-    let next : n + 1 ≡ 1 + n = omega arith in
-    record {
-      slots = ap occupants ev ∙ map_push (λ (x : Entry). x.occupant) es e ∙ ap (λ (l : List (Option Occupant)). l ++ None ∷ []) g.slots ∙ nones_push n ∙ ap nones up;
-      ups = ap links ev ∙ map_push (λ (x : Entry). x.link) es e ∙ ap (λ (l : List ℕ). l ++ (n + 1) ∷ []) g.ups
-          ∙ ap (λ (k : ℕ). indices 1 n ++ k ∷ []) next ∙ indices_push 1 n ∙ ap (indices 1) up;
-    }
+pub unused_links : (i n : ℕ) → links (unused i n) ≡ indices (suc i) n
+unused_links i zero = refl
+unused_links i (suc n) = ap (λ (l : List ℕ). suc i ∷ l) (unused_links (suc i) n)

@@ -1,12 +1,13 @@
 -- The invariant of linked slots, and the table that they show.
-use Rattle.std.proofs.Common.{◌≡◌, ℕ, ◌<◌, ◌≤◌, List, [], ◌∷◌, length, Option, None, sym, ◌∙◌, subst, ap, refl, set, get_or, arith, map}
+use Rattle.std.proofs.Common.{◌≡◌, ℕ, ◌<◌, ◌≤◌, List, [], ◌∷◌, length, Option, None, sym, ◌∙◌, subst, ap, refl, set, get_or, arith, map, vec_capacity, Global}
 use Rattle.std.proofs.lemmas.List.{map-set, get_or-map}
+use Rattle.std.specs.declared.vec.Vec.{Vec}
 use Rattle.tg_slots.specs.declared.slots.Entry.{Entry}
 use Rattle.tg_slots.specs.declared.slots.Occupant.{Occupant}
 use Rattle.tg_slots.specs.declared.slots.Slots.TheInside.{Inside}
 use Rattle.tg_slots.specs.Table.{Table, IsSound, if_free, if_grey}
 use Rattle.tg_slots.specs.Chain.{walk, Chain}
-use Rattle.tg_slots.specs.Inside.{links, occupants, listed, table, IsInside}
+use Rattle.tg_slots.specs.Inside.{links, occupants, listed, unused, filled, all, table_of, table, IsBehind, IsInside}
 use Rattle.tg_slots.proofs.TableLemmas.{at_most_length, grey_at_most, free_one-le, grey_one-le}
 use Rattle.tg_slots.proofs.ChainLemmas.{walk_chain}
 
@@ -26,10 +27,10 @@ grey_fits t s =
 
 -- These fields, with so many slots, show the table t: its lists are the chains from both heads.
 pub record Shows (end : ℕ) (s : Inside) (t : Table) : Type 0 where
-  pub size : length s.entries.items ≡ end
-  pub slots : occupants s.entries.items ≡ t.slots
-  pub free : Chain end (links s.entries.items) s.free t.free
-  pub grey : Chain end (links s.entries.items) s.grey t.grey
+  pub size : length (all s) ≡ end
+  pub slots : occupants (all s) ≡ t.slots
+  pub free : Chain end (links (all s)) s.free t.free
+  pub grey : Chain end (links (all s)) s.grey t.grey
   pub sound : IsSound t
 
 listed_is : (end : ℕ) (es : List Entry) (head : ℕ) (l : List ℕ) → length es ≡ end → length l ≤ end → Chain end (links es) head l → listed es head ≡ l
@@ -38,28 +39,37 @@ listed_is end es head l size fits c =
 
 pub shows_table : (end : ℕ) (s : Inside) (t : Table) → Shows end s t → table s ≡ t
 shows_table end s t k =
-    let size : length s.entries.items ≡ end = k.size in
-    let slots : length t.slots ≡ end = sym (ap length k.slots) ∙ length_map (λ (e : Entry). e.occupant) s.entries.items ∙ k.size in
+    let size : length (all s) ≡ end = k.size in
+    let slots : length t.slots ≡ end = sym (ap length k.slots) ∙ length_map (λ (e : Entry). e.occupant) (all s) ∙ k.size in
     let free_short = free_fits t k.sound in
     let grey_short = grey_fits t k.sound in
-    let all : occupants s.entries.items ≡ t.slots = k.slots in
-    let free : listed s.entries.items s.free ≡ t.free = listed_is end s.entries.items s.free t.free size (omega (arith, slots, free_short)) k.free in
-    let grey : listed s.entries.items s.grey ≡ t.grey = listed_is end s.entries.items s.grey t.grey size (omega (arith, slots, grey_short)) k.grey in
-    ap (λ (l : List (Option Occupant)). record { slots = l; free = listed s.entries.items s.free; grey = listed s.entries.items s.grey }) all
-    ∙ ap (λ (l : List ℕ). record { slots = t.slots; free = l; grey = listed s.entries.items s.grey }) free
+    let every : occupants (all s) ≡ t.slots = k.slots in
+    let free : listed (all s) s.free ≡ t.free = listed_is end (all s) s.free t.free size (omega (arith, slots, free_short)) k.free in
+    let grey : listed (all s) s.grey ≡ t.grey = listed_is end (all s) s.grey t.grey size (omega (arith, slots, grey_short)) k.grey in
+    ap (λ (l : List (Option Occupant)). record { slots = l; free = listed (all s) s.free; grey = listed (all s) s.grey }) every
+    ∙ ap (λ (l : List ℕ). record { slots = t.slots; free = l; grey = listed (all s) s.grey }) free
     ∙ ap (λ (l : List ℕ). record { slots = t.slots; free = t.free; grey = l }) grey
 
-pub shows_inside : (end : ℕ) (s : Inside) (t : Table) → Shows end s t → s.free_count ≡ length t.free → end ≤ 65536 → IsInside s
-shows_inside end s t k count most =
+-- What holds of the slots that were used so far, and of those that were not.
+pub record Rests (entries : Vec Entry Global) (size : ℕ) (free : List ℕ) : Type 0 where
+  pub used : length entries.items ≤ size
+  pub room : size ≤ vec_capacity entries
+  pub behind : IsBehind (length entries.items) size free
+
+pub shows_inside : (end : ℕ) (s : Inside) (t : Table) → Shows end s t → s.free_count ≡ length t.free → end ≤ 65536 → Rests s.entries s.size t.free → IsInside s
+shows_inside end s t k count most rests =
     let is : t ≡ table s = sym (shows_table end s t k) in
     record {
       sound = subst (λ (u : Table). IsSound u) is k.sound;
-      free_ends = subst (λ (u : Table). Chain (length s.entries.items) (links s.entries.items) s.free u.free) is
-          (subst (λ (n : ℕ). Chain n (links s.entries.items) s.free t.free) (sym k.size) k.free);
-      grey_ends = subst (λ (u : Table). Chain (length s.entries.items) (links s.entries.items) s.grey u.grey) is
-          (subst (λ (n : ℕ). Chain n (links s.entries.items) s.grey t.grey) (sym k.size) k.grey);
+      free_ends = subst (λ (u : Table). Chain (length (all s)) (links (all s)) s.free u.free) is
+          (subst (λ (n : ℕ). Chain n (links (all s)) s.free t.free) (sym k.size) k.free);
+      grey_ends = subst (λ (u : Table). Chain (length (all s)) (links (all s)) s.grey u.grey) is
+          (subst (λ (n : ℕ). Chain n (links (all s)) s.grey t.grey) (sym k.size) k.grey);
       count = count ∙ ap (λ (u : Table). length u.free) is;
       size = (let size = k.size in omega (arith, size, most));
+      used = rests.used;
+      room = rests.room;
+      behind = subst (λ (u : Table). IsBehind (length s.entries.items) s.size u.free) is rests.behind;
     }
 
 -- One entry was replaced.
@@ -82,4 +92,4 @@ count_fits s k =
     let most = free_fits (table s) k.sound in
     let count = k.count in
     let size = k.size in
-    omega (arith, most, count, size, length_map (λ (e : Entry). e.occupant) s.entries.items)
+    omega (arith, most, count, size, length_map (λ (e : Entry). e.occupant) (all s))

@@ -2,4 +2,5 @@ pub mod TableLemmas
 pub mod FreshLemmas
 pub mod ChainLemmas
 pub mod InsideLemmas
+pub mod UnusedLemmas
 pub mod StepLemmas

@@ -1,11 +1,13 @@
 -- the table that linked slots represent
-use Rattle.std.specs.Prelude.{◌≡◌, ◌≤◌, ℕ, length, List, Option, map}
+use Rattle.std.specs.Prelude.{◌≡◌, ◌+◌, ◌-◌, ◌<◌, ◌≤◌, ℕ, zero, suc, length, List, [], ◌∷◌, ◌++◌, Option, None, map, cond, eqb, ltb}
+use Rattle.std.specs.Vec.{vec_capacity}
 use Rattle.tg_rights.specs.declared.limits.TheConstants.{MAX_SLOTS}
+use Rattle.tg_rights.specs.Membership.{Contains}
 use Rattle.tg_slots.specs.declared.slots.Entry.{Entry}
 use Rattle.tg_slots.specs.declared.slots.Slots.TheInside.{Inside}
 use Rattle.tg_slots.specs.declared.slots.Occupant.{Occupant}
 use Rattle.tg_slots.specs.Chain.{walk, Chain}
-use Rattle.tg_slots.specs.Table.{Table, IsSound}
+use Rattle.tg_slots.specs.Table.{Table, IsSound, indices}
 
 abbrev pub links : List Entry → List ℕ
 links es = map (λ e. e.link) es
@@ -17,13 +19,42 @@ occupants es = map (λ e. e.occupant) es
 abbrev pub listed : List Entry → ℕ → List ℕ
 listed es head = walk (length es) (links es) (length es) head
 
-abbrev pub table : Inside → Table
-table s = record { slots = occupants s.entries.items; free = listed s.entries.items s.free; grey = listed s.entries.items s.grey }
+-- slots that nobody used so far, so many from an index on: each is free, and leads to the next one
+abbrev pub unused : ℕ → ℕ → List Entry
+unused i zero = []
+unused i (suc n) = record { occupant = None; link = suc i } ∷ unused (suc i) n
 
--- both lists end, and the free ones are counted
+-- so many slots, of which these were used so far
+abbrev pub filled : List Entry → ℕ → List Entry
+filled es n = es ++ unused (length es) (n - length es)
+
+abbrev pub all : Inside → List Entry
+all s = filled s.entries.items s.size
+
+-- the table of some slots, with the heads of the two lists
+abbrev pub table_of : List Entry → ℕ → ℕ → Table
+table_of es free grey = record { slots = occupants es; free = listed es free; grey = listed es grey }
+
+abbrev pub table : Inside → Table
+table s = table_of (all s) s.free s.grey
+
+-- the slots that nobody used so far are the last ones of the free list, in the order of their indices
+pub record IsBehind (used size : ℕ) (free : List ℕ) : Type 0 where
+  pub before : List ℕ
+  pub is : free ≡ before ++ indices used (size - used)
+  pub within : (i : ℕ) → Contains before i → i < used
+
+-- both lists end, the free ones are counted, and there is room for all slots
 pub record IsInside (s : Inside) : Type 0 where
   pub sound : IsSound (table s)
-  pub free_ends : Chain (length s.entries.items) (links s.entries.items) s.free (table s).free
-  pub grey_ends : Chain (length s.entries.items) (links s.entries.items) s.grey (table s).grey
+  pub free_ends : Chain (length (all s)) (links (all s)) s.free (table s).free
+  pub grey_ends : Chain (length (all s)) (links (all s)) s.grey (table s).grey
   pub count : s.free_count ≡ length (table s).free
-  pub size : length s.entries.items ≤ MAX_SLOTS
+  pub size : length (all s) ≤ MAX_SLOTS
+  pub used : length s.entries.items ≤ s.size
+  pub room : s.size ≤ vec_capacity s.entries
+  pub behind : IsBehind (length s.entries.items) s.size (table s).free
+
+-- the slot of an index is among those that were used, where it is the next one
+pub record IsProvided (es ds : List Entry) (id size : ℕ) : Type 0 where
+  pub made : ds ≡ cond (ltb id size) (cond (eqb id (length es)) (es ++ record { occupant = None; link = id + 1 } ∷ []) es) es

@@ -1,8 +1,10 @@
 //! The table of slots, with the two lists through its link fields.
 ghost use Rattle.std.specs.Prelude.{◌≡◌, ◌≢◌, ◌<◌, ◌≤◌, [], ◌∷◌, length, MatchResult, MatchOption, IsTrue, ◌↔◌, set, ◌⊎◌, IfSome, IfOk, None, Some};
+ghost use Rattle.std.specs.Vec.{vec_capacity};
 ghost use Rattle.tg_rights.specs.Membership.{Contains};
 ghost use Rattle.tg_rights.specs.declared.limits.TheConstants.{MAX_SLOTS};
 ghost use Rattle.tg_slots.specs.Table.{Table, Free, Has, slot, mark, coloured, recoloured, with_text, in_slot, IsSound, fresh};
+ghost use Rattle.tg_slots.specs.Inside.{IsProvided};
 
 use crate::Colour;
 use std::alloc::{AllocError, Global};
@@ -39,11 +41,14 @@ impl Entry {
 /// Slots by index, the list of free ones and the list of waiting grey ones.
 #[derive(Drop)]
 pub struct Slots {
-    // The number of slots, which is no slot's index, ends both lists.
+    // The slots that were used so far, with room for all: slots that nobody used take no memory. Each of those would be
+    // free, and lead to the next one.
     entries: Vec<Entry>,
     free: u32,
     grey: u32,
     free_count: u32,
+    // The number of all slots, which is no slot's index and ends both lists.
+    size: u32,
 }
 
 impl Model for Slots {
@@ -58,6 +63,23 @@ impl Model for Slots {
     ghost invariant = { IsInside };
 }
 
+// The slot of that index is put behind those that were used so far, where it is the next one.
+fn provide(entries: &mut Vec<Entry>, id: u32, size: u32)
+    requires used { length entries.old.items ≤ size }
+    requires room { size ≤ vec_capacity entries.old }
+    ensures provided { IsProvided entries.old.items entries.new.items id size }
+    ensures room { size ≤ vec_capacity entries.new }
+{
+    if id < size && id as usize == entries.len() {
+        let Ok(()) = entries.push(Entry {
+            occupant: None,
+            link: id + 1,
+        }) else {
+            unreachable!();
+        };
+    }
+}
+
 impl Slots {
     /// That many slots, 1 to 65,536, all free, in the order of their indices. The only error is that an allocation failed.
     pub fn new(alloc: Global, count: u32) -> Result<Slots, AllocError>
@@ -65,18 +87,13 @@ impl Slots {
         requires high { count ≤ MAX_SLOTS }
         ensures { IfOk result (λ t. t ≡ fresh count) }
     {
-        let mut entries = Vec::with_capacity(alloc, count as usize)?;
-        for id in 0..count {
-            entries.push(Entry {
-                occupant: None,
-                link: id + 1,
-            })?;
-        }
+        let entries = Vec::with_capacity(alloc, count as usize)?;
         Ok(Slots {
             entries,
             free: 0,
             grey: count,
             free_count: count,
+            size: count,
         })
     }
 
@@ -92,7 +109,7 @@ impl Slots {
     pub fn len(&self) -> u32
         ensures { result ≡ length self.now.slots }
     {
-        self.entries.len() as u32
+        self.size
     }
 
     /// How many slots are free.
@@ -107,7 +124,7 @@ impl Slots {
         requires { id < length self.now.slots }
         ensures { IsTrue result ↔ (mark self.now id ≡ Free) }
     {
-        self.entries[id as usize].occupant.is_none()
+        self.occupant(id).is_none()
     }
 
     // The vertex in the slot.
@@ -115,7 +132,7 @@ impl Slots {
         requires { id < length self.now.slots }
         ensures { MatchOption result (slot self.now id ≡ None) (λ o. slot self.now id ≡ Some o.now) }
     {
-        self.entries[id as usize].occupant.as_ref()
+        self.entries.get(id as usize)?.occupant.as_ref()
     }
 
     /// The serial of the vertex; none where the slot is free.
@@ -178,6 +195,7 @@ impl Slots {
             (λ back. (back ≡ text) × (self.old.free ≡ []) × (self.new ≡ self.old)) }
     {
         let id = self.free;
+        provide(&mut self.entries, id, self.size);
         let Some(entry) = self.entries.get_mut(id as usize) else {
             return Err(text);
         };

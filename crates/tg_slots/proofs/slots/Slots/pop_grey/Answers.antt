@@ -1,5 +1,14 @@
-use Rattle.tg_slots.proofs.StepLemmas.{pops}
+use Rattle.std.proofs.Common.{◌≡◌, ◌≤◌, ◌∙◌, List, [], ℕ, length, sym, ap, refl, arith}
+use Rattle.tg_slots.specs.Table.{Table}
+use Rattle.tg_slots.proofs.StepLemmas.{pops, none_grey}
 use Rattle.tg_slots.proofs.slots.Slots.pop_grey.Goals as goal
+
+pub returns-in_err-self-inside : goal.returns-in_err-self-inside
+returns-in_err-self-inside c =
+    let read = rw c.deref.ensures.value at c.in_err-self-inside.ensures.lookup in
+    let past : length c.self.inside.entries.items ≤ c.self.inside.grey = omega (arith, read) in
+    let none : c.args.self.now.grey ≡ [] = ap (λ (t : Table). t.grey) (sym c.self.view_is) ∙ none_grey c.self.inside c.self.invariant past in
+    rw c.from_residual.ensures (none, refl)
 
 pub invariant_of-self : goal.invariant_of-self
 invariant_of-self c =
