@@ -34,7 +34,7 @@ impl Cell {
 /// One list of cells for each owner, and the free cells.
 #[derive(Drop)]
 pub struct Cells {
-    // The cells that were used so far, by number, with room for all: cells that nobody used take no memory.
+    // The cells that were used so far, by number, in room for all: a cell that nobody used is not written.
     cells: Vec<Cell>,
     // The first cell of each owner's list, its newest.
     heads: Vec<u32>,

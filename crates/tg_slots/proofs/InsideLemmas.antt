@@ -7,7 +7,7 @@ use Rattle.tg_slots.specs.declared.slots.Occupant.{Occupant}
 use Rattle.tg_slots.specs.declared.slots.Slots.TheInside.{Inside}
 use Rattle.tg_slots.specs.Table.{Table, IsSound, if_free, if_grey}
 use Rattle.tg_slots.specs.Chain.{walk, Chain}
-use Rattle.tg_slots.specs.Inside.{links, occupants, listed, unused, filled, all, table_of, table, IsBehind, IsInside}
+use Rattle.tg_slots.specs.Inside.{links, occupants, listed, all, table, IsBehind, IsInside}
 use Rattle.tg_slots.proofs.TableLemmas.{at_most_length, grey_at_most, free_one-le, grey_one-le}
 use Rattle.tg_slots.proofs.ChainLemmas.{walk_chain}
 

@@ -1,5 +1,5 @@
 -- What each call makes of linked slots: the invariant holds of them, and the table that they show is the one promised.
-use Rattle.std.proofs.Common.{◌≡◌, ◌≢◌, ℕ, zero, suc, ◌+◌, ◌-◌, ◌<◌, ◌≤◌, List, [], ◌∷◌, ◌++◌, length, Option, Some, None, ◌⊎◌, inl, inr, sym, ◌∙◌, subst, ap, refl, set, get_or, arith, length-set, length-append, cond, eqb, ltb, true, false, eq-eqb, Global, vec_capacity}
+use Rattle.std.proofs.Common.{◌≡◌, ◌≢◌, ℕ, zero, suc, ◌+◌, ◌-◌, ◌<◌, ◌≤◌, List, [], ◌∷◌, ◌++◌, length, Option, Some, None, ◌⊎◌, inl, inr, sym, ◌∙◌, subst, ap, refl, set, get_or, arith, length-set, length-append, eqb, ltb, true, false, eq-eqb, Global, vec_capacity}
 use Rattle.std.proofs.lemmas.Bool.{cases_eq, cases_lt, ne_eqb, lt-ltb, le-ltb}
 use Rattle.std.proofs.Math.Seq.{map-set_same}
 use Rattle.tg_rights.specs.Membership.{Contains}
@@ -9,14 +9,14 @@ use Rattle.tg_slots.specs.declared.slots.Slots.TheInside.{Inside}
 use Rattle.tg_slots.specs.declared.colour.Colour.{Colour}
 use Rattle.tg_slots.specs.declared.colour.Colour.TheVariants.{White, Grey, Black}
 use Rattle.std.specs.declared.vec.Vec.{Vec}
-use Rattle.tg_slots.specs.Table.{Table, mark, mark_of, Has, Free, IsSound, slot, coloured, recoloured, with_text, grey_one, fresh, nones, indices}
+use Rattle.tg_slots.specs.Table.{Table, mark, mark_of, Has, Free, IsSound, slot, coloured, recoloured, with_text, grey_one, fresh, indices}
 use Rattle.tg_slots.specs.Chain.{Chain}
 use Rattle.tg_slots.specs.Inside.{links, occupants, unused, filled, all, table, IsBehind, IsInside, IsProvided}
-use Rattle.tg_slots.proofs.TableLemmas.{occupied_within, within_table, sound-push_grey, sound-pop_grey, sound-take_free, sound-give_back, sound-painted, sound-set_text}
+use Rattle.tg_slots.proofs.TableLemmas.{within_table, sound-push_grey, sound-pop_grey, sound-take_free, sound-give_back, sound-painted, sound-set_text}
 use Rattle.tg_slots.proofs.FreshLemmas.{indices_length, indices_get_or, fresh_sound, unused_length, unused_slots, unused_links}
 use Rattle.tg_slots.proofs.ChainLemmas.{chain_set, chain_push, chain_first, chain_up}
 use Rattle.tg_slots.proofs.InsideLemmas.{Shows, Rests, shows_table, shows_inside, length_map, links_set, occupants_set, link_read, occupant_read}
-use Rattle.tg_slots.proofs.UnusedLemmas.{used_within, read_all, unused_free, Written, written, behind_taken, filled_more, behind_more}
+use Rattle.tg_slots.proofs.UnusedLemmas.{used_within, read_all, unused_free, written, behind_taken, filled_more, behind_more}
 
 pub record Leaves (s : Inside) (t : Table) : Type 0 where
   pub kept : IsInside s

@@ -1,5 +1,5 @@
 -- The slots that were used so far, and behind them those that were not.
-use Rattle.std.proofs.Common.{◌≡◌, ◌≢◌, ℕ, zero, suc, ◌+◌, ◌-◌, ◌<◌, ◌≤◌, List, [], ◌∷◌, ◌++◌, length, None, inl, inr, sym, ◌∙◌, subst, ap, refl, set, get_or, arith, length-set, length-append, append_assoc, Global}
+use Rattle.std.proofs.Common.{◌≡◌, ℕ, zero, suc, ◌+◌, ◌-◌, ◌<◌, ◌≤◌, List, [], ◌∷◌, ◌++◌, length, None, inl, inr, sym, ◌∙◌, ap, refl, set, get_or, arith, length-set, length-append, append_assoc, Global}
 use Rattle.std.proofs.lemmas.List.{set-append_left, get_or_append_left}
 use Rattle.std.specs.declared.vec.Vec.{Vec}
 use Rattle.tg_rights.specs.Membership.{Contains}

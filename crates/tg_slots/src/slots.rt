@@ -41,8 +41,8 @@ impl Entry {
 /// Slots by index, the list of free ones and the list of waiting grey ones.
 #[derive(Drop)]
 pub struct Slots {
-    // The slots that were used so far, with room for all: slots that nobody used take no memory. Each of those would be
-    // free, and lead to the next one.
+    // The slots that were used so far, in room for all: a slot that nobody used is not written. It would be free, and lead
+    // to the next one.
     entries: Vec<Entry>,
     free: u32,
     grey: u32,

@@ -1,4 +1,4 @@
-use Rattle.std.proofs.Common.{◌≡◌, ◌≤◌, ◌∙◌, List, [], ℕ, length, sym, ap, refl, arith}
+use Rattle.std.proofs.Common.{◌≡◌, ◌≤◌, ◌∙◌, [], length, sym, ap, refl, arith}
 use Rattle.tg_slots.specs.Table.{Table}
 use Rattle.tg_slots.proofs.StepLemmas.{pops, none_grey}
 use Rattle.tg_slots.proofs.slots.Slots.pop_grey.Goals as goal
