@@ -3,7 +3,7 @@ use Rattle.std.proofs.Common.{◌≡◌, ℕ, zero, suc, ◌+◌, ◌<◌, ◌�
 use Rattle.std.proofs.lemmas.Bool.Decides.{nat_tests}
 use Rattle.std.proofs.lemmas.List.Sums.{sum_by-cons}
 use Rattle.std.proofs.Math.Nat.{eq-or-lt_of_le}
-use Rattle.std.proofs.Math.Logic.{◌⊎◌, inl, inr}
+use Rattle.std.proofs.Math.Logic.{inl, inr}
 use Rattle.tg_graph.specs.Protection.{Protection}
 use Rattle.tg_graph.specs.Rules.{next_graph}
 use Rattle.tg_vault.specs.declared.entry.Entry.{Entry}

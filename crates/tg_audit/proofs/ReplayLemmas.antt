@@ -1,7 +1,8 @@
 -- A history, replayed entry by entry.
-use Rattle.std.proofs.Common.{◌≡◌, ℕ, suc, ◌+◌, List, [], ◌∷◌, ◌++◌, drop, refl, sym, ap, ◌∙◌, subst, arith, slice_get, Some, None, append_assoc}
+use Rattle.std.proofs.Common.{◌≡◌, ℕ, zero, suc, ◌+◌, ◌≤◌, List, [], ◌∷◌, ◌++◌, drop, take, length, refl, sym, ap, ◌∙◌, subst, arith, slice_get, Some, None}
 use Rattle.std.specs.Prelude.{All}
 use Rattle.std.proofs.lemmas.Option.{none-some, same_Some}
+use Rattle.std.proofs.lemmas.Grind.{common_steps}
 use Rattle.std.proofs.lemmas.List.Elements.{All-head, All-tail}
 use Rattle.tg_rights.specs.declared.command.Command.{Command}
 use Rattle.tg_rights.specs.declared.outcome.Outcome.{Outcome}
@@ -12,6 +13,7 @@ use Rattle.tg_graph.specs.Fullness.{Limits, Permitted}
 use Rattle.tg_graph.specs.Protection.{IsGraph, IsSubject, Protection}
 use Rattle.tg_graph.specs.Rules.{Applies, PlainlyDecided, next_graph, reply_of}
 use Rattle.tg_vault.specs.declared.entry.Entry.{Entry}
+use Rattle.tg_vault.specs.Contents.{Contents, graph_now}
 use Rattle.tg_vault.specs.History.{EntryRun, Legal}
 use Rattle.tg_vault.proofs.HistoryLemmas.{turn_keeps}
 use Rattle.tg_audit.specs.Replies.{beyond, replies_of}
@@ -48,14 +50,26 @@ graph_permitted limits G H x c d o answer permitted plain same applies =
     let here : Applies G x c answer H = (let A : Command → Type 0 = λ e. Applies G x e answer H in subst A same applies) in
     here.3 ∙ ap (next_graph G x c) (decided_as_permitted limits G x c o here.0 permitted plain here.1)
 
--- one entry more is replayed
-pub replayed_more : (first G H : Protection) (es : List Entry) (n : ℕ) (e : Entry) (replies more : List Reply) (r : Reply) →
-    replies_of first es ≡ replies ++ replies_of G (drop n es) → slice_get es n ≡ Some e → r ≡ reply_of G e.actor e.command e.outcome → H ≡ next_graph G e.actor e.command e.outcome → more ≡ replies ++ r ∷ [] →
-    replies_of first es ≡ more ++ replies_of H (drop (n + 1) es)
-replayed_more first G H es n e replies more r so_far at reply graph grown =
-    let next : n + 1 ≡ suc n = omega arith in
-    let here : replies_of G (drop n es) ≡ r ∷ replies_of H (drop (suc n) es) = rw (drop_some es n e at, reply, graph) refl in
-    rw (so_far, here, grown, next) (sym (append_assoc replies (r ∷ []) (replies_of H (drop (suc n) es))))
+drop_first : {X : Type 0} (xs : List X) (k : ℕ) → slice_get (drop k xs) 0 ≡ slice_get xs k
+drop_first [] zero = refl
+drop_first [] (suc k) = refl
+drop_first (x ∷ xs) zero = refl
+drop_first (x ∷ xs) (suc k) = drop_first xs k
+
+drop_rest : {X : Type 0} (xs : List X) (k : ℕ) → drop 1 (drop k xs) ≡ drop (suc k) xs
+drop_rest [] zero = refl
+drop_rest [] (suc k) = refl
+drop_rest (x ∷ xs) zero = refl
+drop_rest (x ∷ xs) (suc k) = drop_rest xs k
+
+-- one element more of the first ones
+pub take_more : {X : Type 0} (xs : List X) (k : ℕ) (x : X) → slice_get xs k ≡ Some x → take k xs ++ x ∷ [] ≡ take (suc k) xs
+take_more [] k x at = absurd (none-some x at)
+take_more (y ∷ xs) zero x at = ap (λ z. z ∷ []) (sym (same_Some y x at))
+take_more (y ∷ xs) (suc k) x at = ap (λ zs. y ∷ zs) (take_more xs k x at)
+
+pub take_past : {X : Type 0} (xs : List X) (k : ℕ) → length xs ≤ k → take k xs ≡ xs
+take_past xs k past = grind (arith, common_steps)
 
 -- what is left of a legal history, from a graph on: each entry's outcome is permitted, and its actor is a subject
 pub record IsLeft (limits : Limits) (first G : Protection) (es : List Entry) : Type 0 where
@@ -97,3 +111,37 @@ left_more limits first G H es n e left at graph =
       subjects = λ v s. (let S : Protection → Type 0 = λ F. IsSubject F v in subst S (sym graph) (kept.1 v (left.subjects v s)));
       actors = All-tail (λ (x : Entry). IsSubject first x.actor) e rest actors;
     })
+
+pub replies_length : (G : Protection) (es : List Entry) → length (replies_of G es) ≡ length es
+replies_length G [] = refl
+replies_length G (e ∷ es) = ap suc (replies_length (next_graph G e.actor e.command e.outcome) es)
+
+-- a vault's history has been replayed up to an entry: the further replies are those that the graph gives
+pub record IsReplayed (v : Contents) (G : Protection) (number : ℕ) : Type 0 where
+  pub further : drop number (replies_of v.opening v.history) ≡ replies_of G (drop number v.history)
+  pub left : IsLeft v.limits v.opening G (drop number v.history)
+
+pub replayed_none : (v : Contents) (G : Protection) → G ≡ v.opening → IsGraph G → Legal v.limits v.opening v.history (graph_now v) → IsReplayed v G 0
+replayed_none v G same graph legal = record {
+  further = ap (λ F. replies_of F v.history) (sym same);
+  left = left_at_start v.limits v.opening G v.history (graph_now v) same graph legal;
+}
+
+-- the next reply is the next entry's
+further_next : (v : Contents) (G H : Protection) (n : ℕ) (e : Entry) (r : Reply) → IsReplayed v G n → slice_get v.history n ≡ Some e → r ≡ reply_of G e.actor e.command e.outcome → H ≡ next_graph G e.actor e.command e.outcome →
+    drop n (replies_of v.opening v.history) ≡ r ∷ replies_of H (drop (suc n) v.history)
+further_next v G H n e r so_far at reply graph = so_far.further ∙ rw (drop_some v.history n e at, reply, graph) refl
+
+pub replied_next : (v : Contents) (G H : Protection) (n : ℕ) (e : Entry) (r : Reply) → IsReplayed v G n → slice_get v.history n ≡ Some e → r ≡ reply_of G e.actor e.command e.outcome → H ≡ next_graph G e.actor e.command e.outcome →
+    slice_get (replies_of v.opening v.history) n ≡ Some r
+replied_next v G H n e r so_far at reply graph =
+    sym (drop_first (replies_of v.opening v.history) n) ∙ ap (λ rs. slice_get rs 0) (further_next v G H n e r so_far at reply graph)
+
+pub replayed_more : (v : Contents) (G H : Protection) (n : ℕ) (e : Entry) (r : Reply) → IsReplayed v G n → slice_get v.history n ≡ Some e → r ≡ reply_of G e.actor e.command e.outcome → H ≡ next_graph G e.actor e.command e.outcome →
+    IsReplayed v H (n + 1)
+replayed_more v G H n e r so_far at reply graph =
+    let next : n + 1 ≡ suc n = omega arith in
+    record {
+      further = rw next (sym (drop_rest (replies_of v.opening v.history) n) ∙ ap (drop 1) (further_next v G H n e r so_far at reply graph));
+      left = left_more v.limits v.opening G H v.history n e so_far.left at graph;
+    }

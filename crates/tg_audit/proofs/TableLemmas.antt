@@ -24,10 +24,6 @@ use Rattle.tg_audit.specs.Replies.{replies_of}
 use Rattle.tg_audit.specs.Settling.{Agrees, DifferAt, IsPlace, exchanges_of, joined}
 use Rattle.tg_audit.proofs.FollowingLemmas.{drop_past, drop_some, joined_from_start}
 
-pub replies_length : (G : Protection) (es : List Entry) → length (replies_of G es) ≡ length es
-replies_length G [] = refl
-replies_length G (e ∷ es) = ap suc (replies_length (next_graph G e.actor e.command e.outcome) es)
-
 picked_whole : (seat : ℕ) (G : Protection) (es : List Entry) → picked seat es (replies_of G es) ≡ exchanges_of seat G es
 picked_whole seat G [] = refl
 picked_whole seat G (e ∷ es) = rw (picked_whole seat (next_graph G e.actor e.command e.outcome) es) refl
@@ -80,11 +76,12 @@ fresh_start (suc n) zero p at = sym (same_Some start p at)
 fresh_start (suc n) (suc seat) p at = fresh_start n seat p at
 
 -- no entry has been followed
-pub followed_fresh : (v : Contents) (logs : List SeatLog) (replies : List Reply) → replies ≡ replies_of v.opening v.history → FollowedTo v logs replies 0 (replicate SEATS start)
-followed_fresh v logs replies is = record {
+pub followed_fresh : (v : Contents) (logs : List SeatLog) → FollowedTo v logs (replies_of v.opening v.history) 0 (replicate SEATS start)
+followed_fresh v logs = record {
   whole = length-replicate SEATS start;
   follows = λ seat below p at.
-      (let entered : exchanges_of seat v.opening v.history ≡ picked seat v.history replies = sym (picked_whole seat v.opening v.history) ∙ ap (picked seat v.history) (sym is) in
+      (let replies = replies_of v.opening v.history in
+      let entered : exchanges_of seat v.opening v.history ≡ picked seat v.history replies = sym (picked_whole seat v.opening v.history) in
       let beside : Beside seat logs (exchanges_of seat v.opening v.history) (picked_from seat v.history replies 0) (record { log = 0; at = 0 }) 0 =
       record { common = []; entered = entered; logged = sym (joined_from_start seat logs); count = refl } in
       let F : Progress → Type 0 = λ q. Follows seat logs (exchanges_of seat v.opening v.history) (picked_from seat v.history replies 0) q in

@@ -1,13 +1,14 @@
 //! The logs of all seats, followed beside the history.
-ghost use Rattle.std.specs.Prelude.{◌≡◌, ◌↔◌, IsTrue, ◌<◌, ◌+◌, ◌≤◌, ◌^◌, [], ◌∷◌, ◌++◌, List, Some, IfSome, IfNone, length, slice_get};
+ghost use Rattle.std.specs.Prelude.{◌≡◌, ◌↔◌, IsTrue, ◌<◌, ◌+◌, ◌≤◌, ◌^◌, [], ◌∷◌, ◌++◌, List, Some, IfOk, IfSome, IfNone, length, slice_get};
 ghost use Rattle.tg_rights.specs.declared.limits.TheConstants.{SEATS};
 ghost use Rattle.tg_audit.specs.declared.logs.Exchange.{Exchange};
 ghost use Rattle.tg_audit.specs.declared.logs.SeatLog.{SeatLog};
 ghost use Rattle.tg_audit.specs.Following.{Follows, FollowsAll, IsLeastAbove, followed, left_of, told};
 ghost use Rattle.tg_audit.specs.Settling.{DifferAt, IsPlace, joined};
-ghost use Rattle.tg_audit.specs.Replies.{replies_of};
 
 use crate::logs::{Exchange, SeatLog};
+use crate::replaying::reply_to;
+use std::alloc::{AllocError, Global};
 use tg_rights::{Reply, SEATS};
 use tg_vault::{Entry, Vault};
 
@@ -146,13 +147,13 @@ fn entry_at(vault: &Vault, number: u64) -> &Entry
     }
 }
 
-/// The progress of each seat beside the whole history.
-fn follow(vault: &Vault, replies: &[Reply], logs: &[SeatLog]) -> [Progress; 64]
-    requires lengths { length replies.now ≡ length vault.now.history }
-    requires replies { replies.now ≡ replies_of vault.now.opening vault.now.history }
-    ensures whole { length result ≡ SEATS }
-    ensures follows { FollowsAll vault.now logs.now result }
+/// The progress of each seat beside the whole history. Each reply is compared where the replay finds it, and none is kept.
+fn follow(alloc: Global, vault: &Vault, logs: &[SeatLog]) -> Result<[Progress; 64], AllocError>
+    ensures whole { IfOk result (λ table. length table ≡ SEATS) }
+    ensures follows { IfOk result (FollowsAll vault.now logs.now) }
 {
+    vault.soundness();
+    let mut graph = vault.opening().copy()?;
     let start = Progress::Beside {
         position: Position { log: 0, at: 0 },
         index: 0,
@@ -160,27 +161,31 @@ fn follow(vault: &Vault, replies: &[Reply], logs: &[SeatLog]) -> [Progress; 64]
     let mut table = [start; SEATS as usize];
     for number in 0..vault.count() {
         let entry = entry_at(vault, number);
-        let reply = &replies[number as usize];
+        let reply = reply_to(alloc, &mut graph, entry)?;
         let seat = entry.seat as usize;
-        table[seat] = compared(logs, table[seat], entry, reply);
+        table[seat] = compared(logs, table[seat], entry, &reply);
     }
-    table
+    Ok(table)
 }
 
-/// The place, a seat and an index, at which the logs first differ from the history with these replies.
-pub fn first_difference(vault: &Vault, replies: &[Reply], logs: &[SeatLog]) -> Option<(u64, u64)>
-    requires { replies.now ≡ replies_of vault.now.opening vault.now.history }
-    ensures { IsPlace vault.now logs.now result }
+/// The place, a seat and an index, at which the logs first differ from the history with its replies by replay.
+/// `AllocError` where there is no memory for the graph or a reply.
+pub fn first_difference(
+    alloc: Global,
+    vault: &Vault,
+    logs: &[SeatLog],
+) -> Result<Option<(u64, u64)>, AllocError>
+    ensures { IfOk result (IsPlace vault.now logs.now) }
 {
     vault.soundness();
-    let table = follow(vault, replies, logs);
+    let table = follow(alloc, vault, logs)?;
     for seat in 0..SEATS {
         if let Some(index) = index_apart(logs, seat, table[seat as usize]) {
-            return Some((seat, index));
+            return Ok(Some((seat, index)));
         }
     }
     match least_above(logs) {
-        None => None,
-        Some(above) => Some((above, 0)),
+        None => Ok(None),
+        Some(above) => Ok(Some((above, 0))),
     }
 }

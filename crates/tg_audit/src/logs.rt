@@ -36,7 +36,7 @@ pub enum Settled {
         seat: u64,
         index: u64,
     },
-    /// There was no memory for the replies; the call may be made again.
+    /// There was no memory for the graph of the replay or a reply; the call may be made again.
     NoMemory {
         vault: Vault,
         logs: Vec<SeatLog>,

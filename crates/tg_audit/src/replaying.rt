@@ -27,7 +27,7 @@ fn beyond(outcome: Outcome) -> Option<Which>
 
 /// Carries out the entry's command where the graph allows it, and answers it. What no plain graph has too few of is
 /// taken from the entry.
-fn reply_to(alloc: Global, graph: &mut Graph, entry: &Entry) -> Result<Reply, AllocError>
+pub fn reply_to(alloc: Global, graph: &mut Graph, entry: &Entry) -> Result<Reply, AllocError>
     requires subject { IsSubject graph.old entry.now.actor }
     requires permitted { (limits : Limits) × Permitted limits graph.old entry.now.actor entry.now.command entry.now.outcome }
     ensures reply { IfOk result (λ r. r ≡ reply_of graph.old entry.now.actor entry.now.command entry.now.outcome) }

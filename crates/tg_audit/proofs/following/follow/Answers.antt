@@ -1,33 +1,57 @@
-use Rattle.std.proofs.Common.{◌≡◌, Some, length, refl, arith, slice_get, slice_index_or}
-use Rattle.std.proofs.lemmas.Option.{slice_get-get_or, slice_get_read}
-use Rattle.tg_rights.specs.declared.outcome.Reply.{Reply}
+use Rattle.std.proofs.Common.{◌≡◌, ◌∙◌, Some, arith, slice_get, slice_index_or}
+use Rattle.std.proofs.lemmas.Option.{slice_get-get_or}
+use Rattle.tg_audit.specs.Replies.{replies_of}
+use Rattle.tg_audit.proofs.ReplayLemmas.{left_permitted, left_subject, replayed_more, replayed_none, replied_next}
 use Rattle.tg_audit.proofs.TableLemmas.{followed_end, followed_fresh, followed_more, start}
 use Rattle.tg_audit.proofs.following.follow.Goals as goal
 
 pub loop-number-init : goal.loop-number-init
-loop-number-init c = followed_fresh c.args.vault.now c.args.logs.now c.args.replies.now c.requires.replies
+loop-number-init c =
+    let v = c.args.vault.now in
+    let G = c.in_ok-graph.graph in
+    record {
+      followed = followed_fresh v c.args.logs.now;
+      replayed = replayed_none v G (c.in_ok-graph.ensures.equal ∙ c.opening.ensures) c.in_ok-graph.ensures.graph c.soundness.ensures.vault.legal;
+    }
+
+pub reply_to-requires-clause-subject : goal.reply_to-requires-clause-subject
+reply_to-requires-clause-subject c =
+    let v = c.args.vault.now in
+    left_subject v.limits v.opening c.loop-number.graph v.history c.loop-number.number c.entry_at-entry.result.now c.loop-number.invariant.replayed.left c.entry_at-entry.ensures.entry
+
+pub reply_to-requires-clause-permitted : goal.reply_to-requires-clause-permitted
+reply_to-requires-clause-permitted c =
+    let v = c.args.vault.now in
+    (v.limits, left_permitted v.limits v.opening c.loop-number.graph v.history c.loop-number.number c.entry_at-entry.result.now c.loop-number.invariant.replayed.left c.entry_at-entry.ensures.entry)
 
 pub compared-requires : goal.compared-requires
 compared-requires c =
     let seat = c.entry_at-entry.result.now.seat in
     let p = slice_index_or c.loop-number.table seat start in
-    let here : slice_get c.loop-number.table seat ≡ Some p = slice_get-get_or c.loop-number.table seat start (omega (arith, c.loop-number.invariant.whole, c.entry_at-entry.ensures.seat)) in
-    omega (arith, c.loop-number.invariant.few seat c.entry_at-entry.ensures.seat p here)
+    let followed = c.loop-number.invariant.followed in
+    let here : slice_get c.loop-number.table seat ≡ Some p = slice_get-get_or c.loop-number.table seat start (omega (arith, followed.whole, c.entry_at-entry.ensures.seat)) in
+    omega (arith, followed.few seat c.entry_at-entry.ensures.seat p here)
 
 pub loop-number-preserved : goal.loop-number-preserved
 loop-number-preserved c =
     let v = c.args.vault.now in
-    let replies = c.args.replies.now in
     let n = c.loop-number.number in
+    let G = c.loop-number.graph in
+    let H = c.reply_to.new.graph in
     let e = c.entry_at-entry.result.now in
-    let r = c.index-replies-number.result in
+    let r = c.in_ok-reply.reply in
     let p = slice_index_or c.loop-number.table e.seat start in
-    let reply : slice_get replies n ≡ Some r = slice_get_read {X = Reply} replies (length replies) n r refl (omega arith) c.index-replies-number.is in
-    let here : slice_get c.loop-number.table e.seat ≡ Some p = slice_get-get_or c.loop-number.table e.seat start (omega (arith, c.loop-number.invariant.whole, c.entry_at-entry.ensures.seat)) in
-    followed_more v c.args.logs.now replies n c.loop-number.table e r p c.compared.result c.loop-number.invariant c.entry_at-entry.ensures.entry reply c.entry_at-entry.ensures.seat here c.compared.ensures.follows c.compared.ensures.count
+    let followed = c.loop-number.invariant.followed in
+    let replayed = c.loop-number.invariant.replayed in
+    let here : slice_get c.loop-number.table e.seat ≡ Some p = slice_get-get_or c.loop-number.table e.seat start (omega (arith, followed.whole, c.entry_at-entry.ensures.seat)) in
+    let told : slice_get (replies_of v.opening v.history) n ≡ Some r = replied_next v G H n e r replayed c.entry_at-entry.ensures.entry c.in_ok-reply.ensures.reply c.in_ok-reply.ensures.graph in
+    record {
+      followed = followed_more v c.args.logs.now (replies_of v.opening v.history) n c.loop-number.table e r p c.compared.result followed c.entry_at-entry.ensures.entry told c.entry_at-entry.ensures.seat here c.compared.ensures.follows c.compared.ensures.count;
+      replayed = replayed_more v G H n e r replayed c.entry_at-entry.ensures.entry c.in_ok-reply.ensures.reply c.in_ok-reply.ensures.graph;
+    }
 
 pub returns-clause-whole : goal.returns-clause-whole
-returns-clause-whole c = c.loop-number.invariant.whole
+returns-clause-whole c = c.loop-number.invariant.followed.whole
 
 pub returns-clause-follows : goal.returns-clause-follows
-returns-clause-follows c = followed_end c.args.vault.now c.args.logs.now c.args.replies.now c.loop-number.number c.loop-number.table c.loop-number.invariant (omega arith)
+returns-clause-follows c = followed_end c.args.vault.now c.args.logs.now (replies_of c.args.vault.now.opening c.args.vault.now.history) c.loop-number.number c.loop-number.table c.loop-number.invariant.followed (omega arith)

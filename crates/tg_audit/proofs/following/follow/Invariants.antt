@@ -1,5 +1,10 @@
+use Rattle.tg_audit.specs.Replies.{replies_of}
+use Rattle.tg_audit.proofs.ReplayLemmas.{IsReplayed}
 use Rattle.tg_audit.proofs.TableLemmas.{FollowedTo}
 use Rattle.tg_audit.proofs.following.follow.Given as goal
 
 abbrev pub invariant-loop-number : goal.invariant-loop-number
-invariant-loop-number l = FollowedTo l.vault l.logs l.replies l.number l.table
+invariant-loop-number l = record {
+  followed : FollowedTo l.vault l.logs (replies_of l.vault.opening l.vault.history) l.number l.table;
+  replayed : IsReplayed l.vault l.graph l.number;
+}
