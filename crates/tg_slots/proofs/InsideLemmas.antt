@@ -2,7 +2,7 @@
 use Rattle.std.proofs.Common.{◌≡◌, ℕ, ◌<◌, ◌≤◌, List, [], ◌∷◌, length, Option, None, sym, ◌∙◌, subst, ap, refl, set, get_or, arith, map, vec_capacity, Global}
 use Rattle.std.proofs.lemmas.List.{map-set, get_or-map}
 use Rattle.std.specs.declared.vec.Vec.{Vec}
-use Rattle.tg_slots.specs.declared.slots.Entry.{Entry}
+use Rattle.tg_slots.specs.Linked.{Linked}
 use Rattle.tg_slots.specs.declared.slots.Occupant.{Occupant}
 use Rattle.tg_slots.specs.declared.slots.Slots.TheInside.{Inside}
 use Rattle.tg_slots.specs.Table.{Table, IsSound, if_free, if_grey}
@@ -33,14 +33,14 @@ pub record Shows (end : ℕ) (s : Inside) (t : Table) : Type 0 where
   pub grey : Chain end (links (all s)) s.grey t.grey
   pub sound : IsSound t
 
-listed_is : (end : ℕ) (es : List Entry) (head : ℕ) (l : List ℕ) → length es ≡ end → length l ≤ end → Chain end (links es) head l → listed es head ≡ l
+listed_is : (end : ℕ) (es : List Linked) (head : ℕ) (l : List ℕ) → length es ≡ end → length l ≤ end → Chain end (links es) head l → listed es head ≡ l
 listed_is end es head l size fits c =
     ap (λ (n : ℕ). walk n (links es) n head) size ∙ walk_chain end (links es) end head l c fits
 
 pub shows_table : (end : ℕ) (s : Inside) (t : Table) → Shows end s t → table s ≡ t
 shows_table end s t k =
     let size : length (all s) ≡ end = k.size in
-    let slots : length t.slots ≡ end = sym (ap length k.slots) ∙ length_map (λ (e : Entry). e.occupant) (all s) ∙ k.size in
+    let slots : length t.slots ≡ end = sym (ap length k.slots) ∙ length_map (λ (e : Linked). e.occupant) (all s) ∙ k.size in
     let free_short = free_fits t k.sound in
     let grey_short = grey_fits t k.sound in
     let every : occupants (all s) ≡ t.slots = k.slots in
@@ -51,7 +51,7 @@ shows_table end s t k =
     ∙ ap (λ (l : List ℕ). record { slots = t.slots; free = t.free; grey = l }) grey
 
 -- What holds of the slots that were used so far, and of those that were not.
-pub record Rests (entries : Vec Entry Global) (size : ℕ) (free : List ℕ) : Type 0 where
+pub record Rests (entries : Vec Linked Global) (size : ℕ) (free : List ℕ) : Type 0 where
   pub used : length entries.items ≤ size
   pub room : size ≤ vec_capacity entries
   pub behind : IsBehind (length entries.items) size free
@@ -73,18 +73,18 @@ shows_inside end s t k count most rests =
     }
 
 -- One entry was replaced.
-pub links_set : (es : List Entry) (i : ℕ) (e : Entry) → links (set es i e) ≡ set (links es) i e.link
-links_set es i e = map-set (λ (x : Entry). x.link) es i e
+pub links_set : (es : List Linked) (i : ℕ) (e : Linked) → links (set es i e) ≡ set (links es) i e.link
+links_set es i e = map-set (λ (x : Linked). x.link) es i e
 
-pub occupants_set : (es : List Entry) (i : ℕ) (e : Entry) → occupants (set es i e) ≡ set (occupants es) i e.occupant
-occupants_set es i e = map-set (λ (x : Entry). x.occupant) es i e
+pub occupants_set : (es : List Linked) (i : ℕ) (e : Linked) → occupants (set es i e) ≡ set (occupants es) i e.occupant
+occupants_set es i e = map-set (λ (x : Linked). x.occupant) es i e
 
 -- The fields of an entry that was read.
-pub link_read : (es : List Entry) (i : ℕ) (e : Entry) → i < length es → e ≡ get_or es i e → get_or (links es) i (length es) ≡ e.link
-link_read es i e h is = get_or-map (λ (x : Entry). x.link) es i e (length es) h ∙ ap (λ (x : Entry). x.link) (sym is)
+pub link_read : (es : List Linked) (i : ℕ) (e : Linked) → i < length es → e ≡ get_or es i e → get_or (links es) i (length es) ≡ e.link
+link_read es i e h is = get_or-map (λ (x : Linked). x.link) es i e (length es) h ∙ ap (λ (x : Linked). x.link) (sym is)
 
-pub occupant_read : (es : List Entry) (i : ℕ) (e : Entry) → i < length es → e ≡ get_or es i e → e.occupant ≡ get_or (occupants es) i None
-occupant_read es i e h is = ap (λ (x : Entry). x.occupant) is ∙ sym (get_or-map (λ (x : Entry). x.occupant) es i e None h)
+pub occupant_read : (es : List Linked) (i : ℕ) (e : Linked) → i < length es → e ≡ get_or es i e → e.occupant ≡ get_or (occupants es) i None
+occupant_read es i e h is = ap (λ (x : Linked). x.occupant) is ∙ sym (get_or-map (λ (x : Linked). x.occupant) es i e None h)
 
 -- There are no more free slots than slots.
 pub count_fits : (s : Inside) → IsInside s → s.free_count ≤ 65536
@@ -92,4 +92,4 @@ count_fits s k =
     let most = free_fits (table s) k.sound in
     let count = k.count in
     let size = k.size in
-    omega (arith, most, count, size, length_map (λ (e : Entry). e.occupant) (all s))
+    omega (arith, most, count, size, length_map (λ (e : Linked). e.occupant) (all s))

@@ -3,7 +3,7 @@ use Rattle.std.proofs.Common.{◌≡◌, ◌≢◌, ℕ, zero, suc, ◌+◌, ◌
 use Rattle.std.proofs.lemmas.Bool.{cases_eq, cases_lt, ne_eqb, lt-ltb, le-ltb}
 use Rattle.std.proofs.Math.Seq.{map-set_same}
 use Rattle.tg_rights.specs.Membership.{Contains}
-use Rattle.tg_slots.specs.declared.slots.Entry.{Entry}
+use Rattle.tg_slots.specs.Linked.{Linked}
 use Rattle.tg_slots.specs.declared.slots.Occupant.{Occupant}
 use Rattle.tg_slots.specs.declared.slots.Slots.TheInside.{Inside}
 use Rattle.tg_slots.specs.declared.colour.Colour.{Colour}
@@ -26,7 +26,7 @@ leaves : (end : ℕ) (s : Inside) (t : Table) → Shows end s t → s.free_count
 leaves end s t k count most rests = record { kept = shows_inside end s t k count most rests; shows = shows_table end s t k }
 
 -- As many slots were used as before.
-rests : (s : Inside) (v : Vec Entry Global) → length v.items ≡ length s.entries.items → s.size ≤ vec_capacity v → IsInside s → Rests v s.size (table s).free
+rests : (s : Inside) (v : Vec Linked Global) → length v.items ≡ length s.entries.items → s.size ≤ vec_capacity v → IsInside s → Rests v s.size (table s).free
 rests s v same room k = record { used = (let used = k.used in omega arith); room = room; behind = subst (λ (n : ℕ). IsBehind n s.size (table s).free) (sym same) k.behind }
 
 -- An occupied slot is one of those that were used so far.
@@ -37,7 +37,7 @@ pub entry_within : (s : Inside) (i : ℕ) (c : Colour) → mark (table s) i ≡ 
 entry_within s i c w = taken_within s i (λ f. absurd (cc))
 
 -- What was read of a slot that was used is what the table has there.
-pub slot_read : (s : Inside) (i : ℕ) (old : Entry) → i < length s.entries.items → old ≡ get_or s.entries.items i old → old.occupant ≡ slot (table s) i
+pub slot_read : (s : Inside) (i : ℕ) (old : Linked) → i < length s.entries.items → old ≡ get_or s.entries.items i old → old.occupant ≡ slot (table s) i
 slot_read s i old within read = occupant_read (all s) i old (used_within s.entries.items i s.size within) (read ∙ read_all s.entries.items i s.size old within)
 
 -- A slot of one mark is not in the list of the other.
@@ -55,27 +55,27 @@ pub pale : (c : Colour) → (c ≡ White) ⊎ (c ≡ Black) → grey_one (Has c)
 pale c h = elim h [ inl w ↦ ap (λ (k : Colour). grey_one (Has k)) w | inr b ↦ ap (λ (k : Colour). grey_one (Has k)) b ]
 
 -- All that changed is an entry's vertex.
-record Repaints (es es' : List Entry) (i : ℕ) (o : Option Occupant) : Type 0 where
+record Repaints (es es' : List Linked) (i : ℕ) (o : Option Occupant) : Type 0 where
   size : length es' ≡ length es
   links : links es' ≡ links es
   slots : occupants es' ≡ set (occupants es) i o
 
-repaints : (es es' : List Entry) (i : ℕ) (old new : Entry) (o : Option Occupant) → old ≡ get_or es i old → new.link ≡ old.link → new.occupant ≡ o → es' ≡ set es i new → Repaints es es' i o
+repaints : (es es' : List Linked) (i : ℕ) (old new : Linked) (o : Option Occupant) → old ≡ get_or es i old → new.link ≡ old.link → new.occupant ≡ o → es' ≡ set es i new → Repaints es es' i o
 repaints es es' i old new o read link is ev = record {
   size = ap length ev ∙ length-set es i new;
-  links = ap links ev ∙ map-set_same (λ (x : Entry). x.link) es i new old (link ∙ ap (λ (x : Entry). x.link) read);
+  links = ap links ev ∙ map-set_same (λ (x : Linked). x.link) es i new old (link ∙ ap (λ (x : Linked). x.link) read);
   slots = ap occupants ev ∙ occupants_set es i new ∙ ap (set (occupants es) i) is;
 }
 
 -- A black slot turns white, or a grey one out of the list black.
-pub leaves-paint : (s : Inside) (v : Vec Entry Global) (i : ℕ) (c d : Colour) (old new : Entry) → IsInside s → mark (table s) i ≡ Has c → (Contains (table s).grey i → ⊥) → old ≡ get_or s.entries.items i old
+pub leaves-paint : (s : Inside) (v : Vec Linked Global) (i : ℕ) (c d : Colour) (old new : Linked) → IsInside s → mark (table s) i ≡ Has c → (Contains (table s).grey i → ⊥) → old ≡ get_or s.entries.items i old
     → new ≡ record old { occupant = coloured d old.occupant } → v.items ≡ set s.entries.items i new → s.size ≤ vec_capacity v → Leaves (record s { entries = v }) (record (table s) { slots = recoloured (table s) i d })
 leaves-paint s v i c d old new k w out read is ev room =
     let within : i < length s.entries.items = entry_within s i c w in
     let done = written s.entries v s.size i new within ev in
     let met : old ≡ get_or (all s) i old = read ∙ read_all s.entries.items i s.size old within in
-    let vertex : new.occupant ≡ coloured d (slot (table s) i) = ap (λ (x : Entry). x.occupant) is ∙ ap (coloured d) (occupant_read (all s) i old (used_within s.entries.items i s.size within) met) in
-    let r = repaints (all s) (filled v.items s.size) i old new (coloured d (slot (table s) i)) met (ap (λ (x : Entry). x.link) is) vertex done.all in
+    let vertex : new.occupant ≡ coloured d (slot (table s) i) = ap (λ (x : Linked). x.occupant) is ∙ ap (coloured d) (occupant_read (all s) i old (used_within s.entries.items i s.size within) met) in
+    let r = repaints (all s) (filled v.items s.size) i old new (coloured d (slot (table s) i)) met (ap (λ (x : Linked). x.link) is) vertex done.all in
     leaves (length (all s)) (record s { entries = v }) (record (table s) { slots = recoloured (table s) i d }) (record {
       size = r.size;
       slots = r.slots;
@@ -85,16 +85,15 @@ leaves-paint s v i c d old new k w out read is ev room =
     }) k.count k.size (rests s v done.same room k)
 
 -- The text of a vertex is replaced.
-pub leaves-set_text : (s : Inside) (v : Vec Entry Global) (i : ℕ) (x : List ℕ) (old : Entry) (o : Occupant) → IsInside s → mark (table s) i ≢ Free → old ≡ get_or s.entries.items i old → old.occupant ≡ Some o
-    → v.items ≡ set s.entries.items i (record old { occupant = Some (record o { text = x }) }) → s.size ≤ vec_capacity v
+pub leaves-set_text : (s : Inside) (v : Vec Linked Global) (i : ℕ) (x : List ℕ) (old : Linked) → IsInside s → mark (table s) i ≢ Free → old ≡ get_or s.entries.items i old
+    → v.items ≡ set s.entries.items i (record old { occupant = with_text x old.occupant }) → s.size ≤ vec_capacity v
     → Leaves (record s { entries = v }) (record (table s) { slots = set (table s).slots i (with_text x (slot (table s) i)) })
-leaves-set_text s v i x old o k taken read is ev room =
+leaves-set_text s v i x old k taken read ev room =
     let within : i < length s.entries.items = taken_within s i taken in
-    let new : Entry = record old { occupant = Some (record o { text = x }) } in
+    let new : Linked = record old { occupant = with_text x old.occupant } in
     let done = written s.entries v s.size i new within ev in
     let met : old ≡ get_or (all s) i old = read ∙ read_all s.entries.items i s.size old within in
-    let here : slot (table s) i ≡ Some o = sym (occupant_read (all s) i old (used_within s.entries.items i s.size within) met) ∙ is in
-    let vertex : Some (record o { text = x }) ≡ with_text x (slot (table s) i) = sym (ap (with_text x) here) in
+    let vertex : with_text x old.occupant ≡ with_text x (slot (table s) i) = ap (with_text x) (slot_read s i old within read) in
     let r = repaints (all s) (filled v.items s.size) i old new (with_text x (slot (table s) i)) met refl vertex done.all in
     leaves (length (all s)) (record s { entries = v }) (record (table s) { slots = set (table s).slots i (with_text x (slot (table s) i)) }) (record {
       size = r.size;
@@ -105,16 +104,16 @@ leaves-set_text s v i x old o k taken read is ev room =
     }) k.count k.size (rests s v done.same room k)
 
 -- A white slot turns grey, in front of the grey list.
-pub leaves-push_grey : (s : Inside) (v : Vec Entry Global) (i : ℕ) (old grey : Entry) → IsInside s → mark (table s) i ≡ Has White → old ≡ get_or s.entries.items i old
+pub leaves-push_grey : (s : Inside) (v : Vec Linked Global) (i : ℕ) (old grey : Linked) → IsInside s → mark (table s) i ≡ Has White → old ≡ get_or s.entries.items i old
     → grey ≡ record old { occupant = coloured Grey old.occupant } → v.items ≡ set s.entries.items i (record { occupant = grey.occupant; link = s.grey }) → s.size ≤ vec_capacity v
     → Leaves (record s { entries = v; grey = i }) (record (table s) { slots = recoloured (table s) i Grey; grey = i ∷ (table s).grey })
 leaves-push_grey s v i old grey k w read is ev room =
     let used : i < length s.entries.items = entry_within s i White w in
     let within : i < length (all s) = used_within s.entries.items i s.size used in
-    let new : Entry = record { occupant = grey.occupant; link = s.grey } in
+    let new : Linked = record { occupant = grey.occupant; link = s.grey } in
     let done = written s.entries v s.size i new used ev in
     let met : old ≡ get_or (all s) i old = read ∙ read_all s.entries.items i s.size old used in
-    let vertex : grey.occupant ≡ coloured Grey (slot (table s) i) = ap (λ (x : Entry). x.occupant) is ∙ ap (coloured Grey) (occupant_read (all s) i old within met) in
+    let vertex : grey.occupant ≡ coloured Grey (slot (table s) i) = ap (λ (x : Linked). x.occupant) is ∙ ap (coloured Grey) (occupant_read (all s) i old within met) in
     let changed : links (filled v.items s.size) ≡ set (links (all s)) i s.grey = ap links done.all ∙ links_set (all s) i new in
     leaves (length (all s)) (record s { entries = v; grey = i }) (record (table s) { slots = recoloured (table s) i Grey; grey = i ∷ (table s).grey }) (record {
       size = ap length done.all ∙ length-set (all s) i new;
@@ -122,17 +121,17 @@ leaves-push_grey s v i old grey k w read is ev room =
       free = subst (λ (l : List ℕ). Chain (length (all s)) l s.free (table s).free) (sym changed)
           (chain_set (length (all s)) (links (all s)) i s.grey s.free (table s).free (not_free (table s) i White k.sound w) k.free_ends);
       grey = subst (λ (l : List ℕ). Chain (length (all s)) l i (i ∷ (table s).grey)) (sym changed)
-          (chain_push (length (all s)) (links (all s)) i s.grey (table s).grey (omega (arith, within, length_map (λ (e : Entry). e.link) (all s))) within (not_grey (table s) i k.sound w) k.grey_ends);
+          (chain_push (length (all s)) (links (all s)) i s.grey (table s).grey (omega (arith, within, length_map (λ (e : Linked). e.link) (all s))) within (not_grey (table s) i k.sound w) k.grey_ends);
       sound = sound-push_grey (table s) i k.sound w;
     }) k.count k.size (rests s v done.same room k)
 
 -- A white slot is freed, in front of the free list.
-pub leaves-give_back : (s : Inside) (v : Vec Entry Global) (i : ℕ) → IsInside s → mark (table s) i ≡ Has White → v.items ≡ set s.entries.items i (record { occupant = None; link = s.free }) → s.size ≤ vec_capacity v
+pub leaves-give_back : (s : Inside) (v : Vec Linked Global) (i : ℕ) → IsInside s → mark (table s) i ≡ Has White → v.items ≡ set s.entries.items i (record { occupant = None; link = s.free }) → s.size ≤ vec_capacity v
     → Leaves (record { entries = v; free = i; grey = s.grey; free_count = s.free_count + 1; size = s.size }) (record (table s) { slots = set (table s).slots i None; free = i ∷ (table s).free })
 leaves-give_back s v i k w ev room =
     let used : i < length s.entries.items = entry_within s i White w in
     let within : i < length (all s) = used_within s.entries.items i s.size used in
-    let new : Entry = record { occupant = None; link = s.free } in
+    let new : Linked = record { occupant = None; link = s.free } in
     let done = written s.entries v s.size i new used ev in
     let changed : links (filled v.items s.size) ≡ set (links (all s)) i s.free = ap links done.all ∙ links_set (all s) i new in
     let count = k.count in
@@ -142,7 +141,7 @@ leaves-give_back s v i k w ev room =
       size = ap length done.all ∙ length-set (all s) i new;
       slots = ap occupants done.all ∙ occupants_set (all s) i new;
       free = subst (λ (l : List ℕ). Chain (length (all s)) l i (i ∷ (table s).free)) (sym changed)
-          (chain_push (length (all s)) (links (all s)) i s.free (table s).free (omega (arith, within, length_map (λ (e : Entry). e.link) (all s))) within (not_free (table s) i White k.sound w) k.free_ends);
+          (chain_push (length (all s)) (links (all s)) i s.free (table s).free (omega (arith, within, length_map (λ (e : Linked). e.link) (all s))) within (not_free (table s) i White k.sound w) k.free_ends);
       grey = subst (λ (l : List ℕ). Chain (length (all s)) l s.grey (table s).grey) (sym changed)
           (chain_set (length (all s)) (links (all s)) i s.free s.grey (table s).grey (not_grey (table s) i k.sound w) k.grey_ends);
       sound = sound-give_back (table s) i k.sound w;
@@ -161,7 +160,7 @@ pub record Pops (s after : Inside) : Type 0 where
   pub kept : IsInside after
   pub was : table s ≡ record (table after) { grey = s.grey ∷ (table after).grey }
 
-pub pops : (s : Inside) (old : Entry) → IsInside s → s.grey < length s.entries.items → old ≡ get_or s.entries.items s.grey old → Pops s (record s { grey = old.link })
+pub pops : (s : Inside) (old : Linked) → IsInside s → s.grey < length s.entries.items → old ≡ get_or s.entries.items s.grey old → Pops s (record s { grey = old.link })
 pops s old k used read =
     let within : s.grey < length (all s) = used_within s.entries.items s.grey s.size used in
     let met : old ≡ get_or (all s) s.grey old = read ∙ read_all s.entries.items s.grey s.size old used in
@@ -199,12 +198,12 @@ none_free s k past last = none (table s).free k.free_ends k.behind.before k.behi
   none (j ∷ l) chain (b ∷ bs) is within = absurd (let first : j ≡ b = cc in let here = chain.0 in let used = within b (inl refl) in omega arith)
 
 -- The first free slot is among those that were used, if there is one: the fields show what they showed.
-pub record Provided (s : Inside) (w : Vec Entry Global) : Type 0 where
+pub record Provided (s : Inside) (w : Vec Linked Global) : Type 0 where
   pub kept : IsInside (record s { entries = w })
   pub shows : table (record s { entries = w }) ≡ table s
   pub full : length w.items ≤ s.free → (table s).free ≡ []
 
-pub provides : (s : Inside) (w : Vec Entry Global) → IsInside s → IsProvided s.entries.items w.items s.free s.size → s.size ≤ vec_capacity w → Provided s w
+pub provides : (s : Inside) (w : Vec Linked Global) → IsInside s → IsProvided s.entries.items w.items s.free s.size → s.size ≤ vec_capacity w → Provided s w
 provides s w k p room = elim (cases_lt s.free s.size) [
   | inl within ↦ elim (cases_eq s.free (length s.entries.items)) [ inl next ↦ added within next | inr other ↦ stays (kept within other) (λ same. absurd (other same)) ]
   | inr past ↦ stays (beyond past) (λ same. past)
@@ -222,14 +221,14 @@ provides s w k p room = elim (cases_lt s.free s.size) [
   left e r = leaves (length (all s)) (record s { entries = w }) (table s) (record {
     size = ap length e;
     slots = ap occupants e;
-    free = subst (λ (l : List Entry). Chain (length (all s)) (links l) s.free (table s).free) (sym e) k.free_ends;
-    grey = subst (λ (l : List Entry). Chain (length (all s)) (links l) s.grey (table s).grey) (sym e) k.grey_ends;
+    free = subst (λ (l : List Linked). Chain (length (all s)) (links l) s.free (table s).free) (sym e) k.free_ends;
+    grey = subst (λ (l : List Linked). Chain (length (all s)) (links l) s.grey (table s).grey) (sym e) k.grey_ends;
     sound = k.sound;
   }) k.count k.size r
 
   stays : w.items ≡ s.entries.items → (s.free ≡ length s.entries.items → s.size ≤ s.free) → Provided s w
   stays e last =
-      let a = left (ap (λ (l : List Entry). filled l s.size) e) (rests s w (ap length e) room k) in
+      let a = left (ap (λ (l : List Linked). filled l s.size) e) (rests s w (ap length e) room k) in
       record { kept = a.kept; shows = a.shows; full = λ past. none_free s k (let size = ap length e in omega arith) last }
 
   added : s.free < s.size → s.free ≡ length s.entries.items → Provided s w
@@ -240,7 +239,7 @@ provides s w k p room = elim (cases_lt s.free s.size) [
       let is : w.items ≡ s.entries.items ++ record { occupant = None; link = length s.entries.items + 1 } ∷ [] = made ∙ ap (λ (n : ℕ). s.entries.items ++ record { occupant = None; link = n + 1 } ∷ []) next in
       let used : length s.entries.items < s.size = omega arith in
       let long : length w.items ≡ length s.entries.items + 1 = ap length is ∙ length-append s.entries.items _ in
-      let a = left (ap (λ (l : List Entry). filled l s.size) is ∙ filled_more s.entries.items s.size used) (record {
+      let a = left (ap (λ (l : List Linked). filled l s.size) is ∙ filled_more s.entries.items s.size used) (record {
         used = omega arith;
         room = room;
         behind = subst (λ (n : ℕ). IsBehind n s.size (table s).free) (sym long) (behind_more (length s.entries.items) s.size (table s).free used k.behind);
@@ -262,7 +261,7 @@ pub record Takes (s after : Inside) (o : Occupant) : Type 0 where
   pub grey : (table after).grey ≡ (table s).grey
   pub slots : (table after).slots ≡ set (table s).slots s.free (Some o)
 
-pub takes : (s : Inside) (v : Vec Entry Global) (old : Entry) (o : Occupant) → IsInside s → s.free < length s.entries.items → old ≡ get_or s.entries.items s.free old → grey_one (Has o.colour) ≡ 0
+pub takes : (s : Inside) (v : Vec Linked Global) (old : Linked) (o : Occupant) → IsInside s → s.free < length s.entries.items → old ≡ get_or s.entries.items s.free old → grey_one (Has o.colour) ≡ 0
     → v.items ≡ set s.entries.items s.free (record { occupant = Some o; link = old.link }) → s.size ≤ vec_capacity v
     → Takes s (record { entries = v; free = old.link; grey = s.grey; free_count = s.free_count - 1; size = s.size }) o
 takes s v old o k used read pale ev room =
@@ -294,7 +293,7 @@ takes s v old o k used read pale ev room =
 pub leaves-new : (s : Inside) → s.entries.items ≡ [] → s.free ≡ 0 → s.grey ≡ s.size → s.free_count ≡ s.size → s.size ≤ 65536 → s.size ≤ vec_capacity s.entries → Leaves s (fresh s.size)
 leaves-new s none free grey count most room =
     let less : s.size - 0 ≡ s.size = omega arith in
-    let is : all s ≡ unused 0 s.size = ap (λ (l : List Entry). filled l s.size) none ∙ ap (unused 0) less in
+    let is : all s ≡ unused 0 s.size = ap (λ (l : List Linked). filled l s.size) none ∙ ap (unused 0) less in
     let ups : links (all s) ≡ indices 1 s.size = ap links is ∙ unused_links 0 s.size in
     let used : length s.entries.items ≡ 0 = ap length none in
     leaves s.size s (fresh s.size) (record {

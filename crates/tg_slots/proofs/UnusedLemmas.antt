@@ -4,19 +4,19 @@ use Rattle.std.proofs.lemmas.List.{set-append_left, get_or_append_left}
 use Rattle.std.specs.declared.vec.Vec.{Vec}
 use Rattle.tg_rights.specs.Membership.{Contains}
 use Rattle.tg_rights.proofs.MembershipLemmas.{contains_append}
-use Rattle.tg_slots.specs.declared.slots.Entry.{Entry}
+use Rattle.tg_slots.specs.Linked.{Linked}
 use Rattle.tg_slots.specs.Table.{indices}
 use Rattle.tg_slots.specs.Inside.{occupants, unused, filled, IsBehind}
 use Rattle.tg_slots.proofs.FreshLemmas.{unused_length}
 
 -- A slot that was used is one of all, and reads the same.
-pub used_within : (es : List Entry) (i size : ℕ) → i < length es → i < length (filled es size)
+pub used_within : (es : List Linked) (i size : ℕ) → i < length es → i < length (filled es size)
 used_within es i size w = let all = length-append es (unused (length es) (size - length es)) in omega (arith, all)
 
-pub filled_length : (es : List Entry) (size : ℕ) → length es ≤ size → length (filled es size) ≡ size
+pub filled_length : (es : List Linked) (size : ℕ) → length es ≤ size → length (filled es size) ≡ size
 filled_length es size fits = omega (arith, length-append es (unused (length es) (size - length es)), unused_length (length es) (size - length es))
 
-pub read_all : (es : List Entry) (i size : ℕ) (d : Entry) → i < length es → get_or es i d ≡ get_or (filled es size) i d
+pub read_all : (es : List Linked) (i size : ℕ) (d : Linked) → i < length es → get_or es i d ≡ get_or (filled es size) i d
 read_all es i size d w = sym (get_or_append_left es (unused (length es) (size - length es)) d i w)
 
 -- A slot that was not used is free.
@@ -25,24 +25,24 @@ none_there k zero i = refl
 none_there k (suc n) zero = refl
 none_there k (suc n) (suc i) = none_there (suc k) n i
 
-none_behind : (es : List Entry) (i k n : ℕ) → length es ≤ i → get_or (occupants (es ++ unused k n)) i None ≡ None
+none_behind : (es : List Linked) (i k n : ℕ) → length es ≤ i → get_or (occupants (es ++ unused k n)) i None ≡ None
 none_behind [] i k n past = none_there k n i
 none_behind (e ∷ es) zero k n past = absurd (omega (arith, past))
 none_behind (e ∷ es) (suc i) k n past = none_behind es i k n (omega (arith, past))
 
-pub unused_free : (es : List Entry) (i size : ℕ) → length es ≤ i → get_or (occupants (filled es size)) i None ≡ None
+pub unused_free : (es : List Linked) (i size : ℕ) → length es ≤ i → get_or (occupants (filled es size)) i None ≡ None
 unused_free es i size past = none_behind es i (length es) (size - length es) past
 
 -- A slot that was used is written.
-pub record Written (old new : Vec Entry Global) (size i : ℕ) (e : Entry) : Type 0 where
+pub record Written (old new : Vec Linked Global) (size i : ℕ) (e : Linked) : Type 0 where
   pub all : filled new.items size ≡ set (filled old.items size) i e
   pub same : length new.items ≡ length old.items
 
-pub written : (old new : Vec Entry Global) (size i : ℕ) (e : Entry) → i < length old.items → new.items ≡ set old.items i e → Written old new size i e
+pub written : (old new : Vec Linked Global) (size i : ℕ) (e : Linked) → i < length old.items → new.items ≡ set old.items i e → Written old new size i e
 written old new size i e w is =
     let same : length new.items ≡ length old.items = ap length is ∙ length-set old.items i e in
     record {
-      all = ap (λ (n : ℕ). new.items ++ unused n (size - n)) same ∙ ap (λ (l : List Entry). l ++ unused (length old.items) (size - length old.items)) is
+      all = ap (λ (n : ℕ). new.items ++ unused n (size - n)) same ∙ ap (λ (l : List Linked). l ++ unused (length old.items) (size - length old.items)) is
           ∙ sym (set-append_left old.items (unused (length old.items) (size - length old.items)) i e w);
       same = same;
     }
@@ -59,9 +59,9 @@ behind_taken used size x free rest k e w = taken k.before (sym e ∙ k.is) k.wit
   taken (b ∷ bs) is within = record { before = bs; is = cc; within = λ i h. within i (inr h) }
 
 -- The next slot is put behind those that were used: all slots stay as they are.
-pub filled_more : (es : List Entry) (size : ℕ) → length es < size → filled (es ++ record { occupant = None; link = length es + 1 } ∷ []) size ≡ filled es size
+pub filled_more : (es : List Linked) (size : ℕ) → length es < size → filled (es ++ record { occupant = None; link = length es + 1 } ∷ []) size ≡ filled es size
 filled_more es size w =
-    let more : Entry = record { occupant = None; link = length es + 1 } in
+    let more : Linked = record { occupant = None; link = length es + 1 } in
     let long : length (es ++ more ∷ []) ≡ suc (length es) = omega (arith, length-append es (more ∷ [])) in
     let next : length es + 1 ≡ suc (length es) = omega arith in
     let left : suc (size - suc (length es)) ≡ size - length es = omega arith in

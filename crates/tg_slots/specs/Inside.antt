@@ -3,36 +3,36 @@ use Rattle.std.specs.Prelude.{◌≡◌, ◌+◌, ◌-◌, ◌<◌, ◌≤◌, �
 use Rattle.std.specs.Vec.{vec_capacity}
 use Rattle.tg_rights.specs.declared.limits.TheConstants.{MAX_SLOTS}
 use Rattle.tg_rights.specs.Membership.{Contains}
-use Rattle.tg_slots.specs.declared.slots.Entry.{Entry}
+use Rattle.tg_slots.specs.Linked.{Linked}
 use Rattle.tg_slots.specs.declared.slots.Slots.TheInside.{Inside}
 use Rattle.tg_slots.specs.declared.slots.Occupant.{Occupant}
 use Rattle.tg_slots.specs.Chain.{walk, Chain}
 use Rattle.tg_slots.specs.Table.{Table, IsSound, indices}
 
-abbrev pub links : List Entry → List ℕ
+abbrev pub links : List Linked → List ℕ
 links es = map (λ e. e.link) es
 
-abbrev pub occupants : List Entry → List (Option Occupant)
+abbrev pub occupants : List Linked → List (Option Occupant)
 occupants es = map (λ e. e.occupant) es
 
 -- the indices from a head on; no list is longer than the number of slots
-abbrev pub listed : List Entry → ℕ → List ℕ
+abbrev pub listed : List Linked → ℕ → List ℕ
 listed es head = walk (length es) (links es) (length es) head
 
 -- slots that nobody used so far, so many from an index on: each is free, and leads to the next one
-abbrev pub unused : ℕ → ℕ → List Entry
+abbrev pub unused : ℕ → ℕ → List Linked
 unused i zero = []
 unused i (suc n) = record { occupant = None; link = suc i } ∷ unused (suc i) n
 
 -- so many slots, of which these were used so far
-abbrev pub filled : List Entry → ℕ → List Entry
+abbrev pub filled : List Linked → ℕ → List Linked
 filled es n = es ++ unused (length es) (n - length es)
 
-abbrev pub all : Inside → List Entry
+abbrev pub all : Inside → List Linked
 all s = filled s.entries.items s.size
 
 -- the table of some slots, with the heads of the two lists
-abbrev pub table_of : List Entry → ℕ → ℕ → Table
+abbrev pub table_of : List Linked → ℕ → ℕ → Table
 table_of es free grey = record { slots = occupants es; free = listed es free; grey = listed es grey }
 
 abbrev pub table : Inside → Table
@@ -56,5 +56,5 @@ pub record IsInside (s : Inside) : Type 0 where
   pub behind : IsBehind (length s.entries.items) s.size (table s).free
 
 -- the slot of an index is among those that were used, where it is the next one
-pub record IsProvided (es ds : List Entry) (id size : ℕ) : Type 0 where
+pub record IsProvided (es ds : List Linked) (id size : ℕ) : Type 0 where
   pub made : ds ≡ cond (ltb id size) (cond (eqb id (length es)) (es ++ record { occupant = None; link = id + 1 } ∷ []) es) es

@@ -1,4 +1,5 @@
 pub mod Table
+pub mod Linked
 pub mod Chain
 pub mod Inside
 pub use Rattle.tg_rights.specs.Membership

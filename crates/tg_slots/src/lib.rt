@@ -6,6 +6,7 @@
 #![tactic(auto)]
 
 mod colour;
+mod entry;
 mod slots;
 #[cfg(test)]
 mod tests;

@@ -7,6 +7,7 @@ ghost use Rattle.tg_slots.specs.Table.{Table, Free, Has, slot, mark, coloured, r
 ghost use Rattle.tg_slots.specs.Inside.{IsProvided};
 
 use crate::Colour;
+use crate::entry::Entry;
 use std::alloc::{AllocError, Global};
 use std::marker::Model;
 use tg_rights::{Kind, Text};
@@ -18,24 +19,6 @@ pub struct Occupant {
     pub kind: Kind,
     pub colour: Colour,
     pub text: Text,
-}
-
-// A slot, and the next one of its list.
-#[derive(Drop)]
-struct Entry {
-    occupant: Option<Occupant>,
-    link: u32,
-}
-
-impl Entry {
-    // The vertex, if there is one, takes a colour.
-    fn paint(&mut self, colour: Colour)
-        ensures { self.new ≡ record self.old { occupant = coloured colour self.old.occupant } }
-    {
-        if let Some(occupant) = &mut self.occupant {
-            occupant.colour = colour;
-        }
-    }
 }
 
 /// Slots by index, the list of free ones and the list of waiting grey ones.
@@ -71,10 +54,7 @@ fn provide(entries: &mut Vec<Entry>, id: u32, size: u32)
     ensures room { size ≤ vec_capacity entries.new }
 {
     if id < size && id as usize == entries.len() {
-        let Ok(()) = entries.push(Entry {
-            occupant: None,
-            link: id + 1,
-        }) else {
+        let Ok(()) = entries.push(Entry::free(id + 1)) else {
             unreachable!();
         };
     }
@@ -124,15 +104,15 @@ impl Slots {
         requires { id < length self.now.slots }
         ensures { IsTrue result ↔ (mark self.now id ≡ Free) }
     {
-        self.occupant(id).is_none()
+        self.colour(id).is_none()
     }
 
-    // The vertex in the slot.
-    fn occupant(&self, id: u32) -> Option<&Occupant>
+    // The slot, where it was used.
+    fn used(&self, id: u32) -> Option<&Entry>
         requires { id < length self.now.slots }
-        ensures { MatchOption result (slot self.now id ≡ None) (λ o. slot self.now id ≡ Some o.now) }
+        ensures { MatchOption result (slot self.now id ≡ None) (λ e. slot self.now id ≡ e.now.occupant) }
     {
-        self.entries.get(id as usize)?.occupant.as_ref()
+        self.entries.get(id as usize)
     }
 
     /// The serial of the vertex; none where the slot is free.
@@ -140,10 +120,7 @@ impl Slots {
         requires { id < length self.now.slots }
         ensures { result ≡ in_slot (λ o. o.serial) (slot self.now id) }
     {
-        match self.occupant(id) {
-            None => None,
-            Some(occupant) => Some(occupant.serial),
-        }
+        self.used(id)?.serial()
     }
 
     /// The kind of the vertex; none where the slot is free.
@@ -151,10 +128,7 @@ impl Slots {
         requires { id < length self.now.slots }
         ensures { result ≡ in_slot (λ o. o.kind) (slot self.now id) }
     {
-        match self.occupant(id) {
-            None => None,
-            Some(occupant) => Some(occupant.kind),
-        }
+        self.used(id)?.kind()
     }
 
     /// The colour of the vertex; none where the slot is free.
@@ -162,10 +136,7 @@ impl Slots {
         requires { id < length self.now.slots }
         ensures { MatchOption result (mark self.now id ≡ Free) (λ c. mark self.now id ≡ Has c) }
     {
-        match self.occupant(id) {
-            None => None,
-            Some(occupant) => Some(occupant.colour),
-        }
+        self.used(id)?.colour()
     }
 
     /// The text of the vertex; none where the slot is free.
@@ -173,10 +144,7 @@ impl Slots {
         requires { id < length self.now.slots }
         ensures { MatchOption result (mark self.now id ≡ Free) (λ t. in_slot (λ o. o.text) (slot self.now id) ≡ Some t.now) }
     {
-        match self.occupant(id) {
-            None => None,
-            Some(occupant) => Some(&occupant.text),
-        }
+        self.used(id)?.text()
     }
 
     /// Takes the first free slot for a vertex, white or black, and answers its index. Where no slot is free, all is
@@ -199,9 +167,9 @@ impl Slots {
         let Some(entry) = self.entries.get_mut(id as usize) else {
             return Err(text);
         };
-        self.free = entry.link;
+        self.free = entry.link();
         self.free_count -= 1;
-        entry.occupant = Some(Occupant {
+        entry.fill(Occupant {
             serial,
             kind,
             colour,
@@ -216,9 +184,7 @@ impl Slots {
         ensures { self.new ≡ record self.old { slots = set self.old.slots id None; free = id ∷ self.old.free } }
     {
         self.free_count += 1;
-        let entry = &mut self.entries[id as usize];
-        entry.occupant = None;
-        entry.link = self.free;
+        self.entries[id as usize] = Entry::free(self.free);
         self.free = id;
     }
 
@@ -229,7 +195,7 @@ impl Slots {
     {
         let entry = &mut self.entries[id as usize];
         entry.paint(Colour::Grey);
-        entry.link = self.grey;
+        entry.lead_to(self.grey);
         self.grey = id;
     }
 
@@ -239,7 +205,7 @@ impl Slots {
         ensures { MatchOption result ((self.old.grey ≡ []) × (self.new ≡ self.old)) (λ id. self.old ≡ record self.new { grey = id ∷ self.new.grey }) }
     {
         let id = self.grey;
-        self.grey = self.entries.get(id as usize)?.link;
+        self.grey = self.entries.get(id as usize)?.link();
         Some(id)
     }
 
@@ -266,9 +232,6 @@ impl Slots {
         ensures slots { self.new ≡ record self.old { slots = set self.old.slots id (with_text text (slot self.old id)) } }
         ensures old { IfSome (slot self.old id) (λ o. result ≡ o.text) }
     {
-        match &mut self.entries[id as usize].occupant {
-            None => unreachable!(),
-            Some(occupant) => std::mem::replace(&mut occupant.text, text),
-        }
+        self.entries[id as usize].set_text(text)
     }
 }

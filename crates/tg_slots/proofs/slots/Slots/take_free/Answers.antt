@@ -1,7 +1,8 @@
-use Rattle.std.proofs.Common.{◌≡◌, ◌≤◌, ◌∙◌, length, Some, refl, ap, sym, arith, inl, inr, true, false}
+use Rattle.std.proofs.Common.{◌≡◌, ◌≤◌, ◌∙◌, length, Some, refl, ap, set, sym, arith, inl, inr, true, false}
 use Rattle.std.proofs.lemmas.Bool.{cases_lt}
 use Rattle.std.specs.Vec.{with_item}
 use Rattle.tg_slots.specs.declared.slots.Occupant.{Occupant}
+use Rattle.tg_slots.specs.Linked.{Linked}
 use Rattle.tg_slots.specs.Table.{Table}
 use Rattle.tg_slots.proofs.StepLemmas.{provides, some_free, takes, pale}
 use Rattle.tg_slots.proofs.slots.Slots.take_free.Goals as goal
@@ -27,13 +28,13 @@ pub invariant_of-self-2 : goal.invariant_of-self-2
 invariant_of-self-2 c =
     let provided = provides c.self.inside c.provide.new.entries c.self.invariant c.provide.ensures.provided c.provide.ensures.room in
     let o : Occupant = record { serial = c.args.serial; kind = c.args.kind; colour = c.args.colour; text = c.args.text } in
-    (takes (record c.self.inside { entries = c.provide.new.entries }) (with_item c.provide.new.entries c.self.inside.free (record { occupant = Some o; link = c.in-Some.entry.now.link })) c.in-Some.entry.now o provided.kept
-    c.in-Some.ensures.item.3.0 c.in-Some.ensures.value (pale c.args.colour c.requires) refl provided.kept.room).kept
+    rw c.link-self-inside.ensures (takes (record c.self.inside { entries = c.provide.new.entries }) (with_item c.provide.new.entries c.self.inside.free c.fill.new.self) c.in-Some.entry.now o provided.kept
+    c.in-Some.ensures.item.3.0 c.in-Some.ensures.value (pale c.args.colour c.requires) (ap (λ (e : Linked). set c.provide.new.entries.items c.self.inside.free e) c.fill.ensures) provided.kept.room).kept
 
 pub returns : goal.returns
 returns c =
     let provided = provides c.self.inside c.provide.new.entries c.self.invariant c.provide.ensures.provided c.provide.ensures.room in
     let o : Occupant = record { serial = c.args.serial; kind = c.args.kind; colour = c.args.colour; text = c.args.text } in
-    let t = takes (record c.self.inside { entries = c.provide.new.entries }) (with_item c.provide.new.entries c.self.inside.free (record { occupant = Some o; link = c.in-Some.entry.now.link })) c.in-Some.entry.now o provided.kept
-    c.in-Some.ensures.item.3.0 c.in-Some.ensures.value (pale c.args.colour c.requires) refl provided.kept.room in
-    rw (← provided.shows ∙ c.self.view_is) (t.free, t.grey, t.slots)
+    let t = takes (record c.self.inside { entries = c.provide.new.entries }) (with_item c.provide.new.entries c.self.inside.free c.fill.new.self) c.in-Some.entry.now o provided.kept
+    c.in-Some.ensures.item.3.0 c.in-Some.ensures.value (pale c.args.colour c.requires) (ap (λ (e : Linked). set c.provide.new.entries.items c.self.inside.free e) c.fill.ensures) provided.kept.room in
+    rw (c.link-self-inside.ensures, ← provided.shows ∙ c.self.view_is) (t.free, t.grey, t.slots)
