@@ -1,4 +1,5 @@
 pub mod Machine
+pub mod Course
 pub mod Names
 pub mod Lines
 pub mod SessionLines

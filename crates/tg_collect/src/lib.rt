@@ -2,6 +2,7 @@
 //! (1978), for up to 64 sessions and any number of edges, over a labelled heap.
 #![tactic(auto)]
 
+mod course;
 #[cfg(test)]
 mod growth_tests;
 mod laws;

@@ -11,6 +11,7 @@ ghost use Rattle.tg_collect.specs.Machine.{Invariant, IsPending, IsReached, IsHe
 ghost use Rattle.tg_collect.specs.Lines.{Steps, IsFirstWhite, all_shaded};
 ghost use Rattle.tg_collect.specs.SessionLines.{Adds, Removes, Places, Rewrites, ShadesTarget};
 
+use crate::course::Course;
 use crate::note::{Note, Phase};
 use tg_heap::{Dropped, Heap, HeapFull};
 use tg_rights::{Kind, Rights, Text};
@@ -41,7 +42,7 @@ pub(crate) enum Progress {
 #[derive(Drop)]
 pub(crate) struct Machine {
     pub heap: Heap,
-    pub progress: Progress,
+    pub progress: Course,
     pub principals: Vec<Root>,
     pub pending: Vec<Option<Root>>,
 }
@@ -60,7 +61,7 @@ impl Machine {
         let target = self.heap.target(cursor);
         let next = self.heap.next(cursor);
         self.heap.shade(target);
-        self.progress = Progress::Marking(Some(Scan { slot, cursor: next }));
+        self.progress = Course::of(Progress::Marking(Some(Scan { slot, cursor: next })));
     }
 
     /// Parks all white slots.
@@ -74,7 +75,7 @@ impl Machine {
         ensures step { self.new ≡ record self.old { progress = Progress.Sweeping 0 } }
         ensures unreached { (i : ℕ) → IsReached self.old i → mark_at self.old.heap i ≡ Has Colour.Black }
     {
-        self.progress = Progress::Sweeping(0);
+        self.progress = Course::of(Progress::Sweeping(0));
     }
 
     /// Makes the slot under scan black.
@@ -87,7 +88,7 @@ impl Machine {
     {
         self.heap.soundness();
         self.heap.blacken(slot);
-        self.progress = Progress::Marking(None);
+        self.progress = Course::of(Progress::Marking(None));
     }
 
     /// Takes the first of the grey list under scan, or answers that there is none.
@@ -106,7 +107,7 @@ impl Machine {
             None => false,
             Some(slot) => {
                 let cursor = self.heap.first(slot);
-                self.progress = Progress::Marking(Some(Scan { slot, cursor }));
+                self.progress = Course::of(Progress::Marking(Some(Scan { slot, cursor })));
                 true
             }
         }
@@ -123,7 +124,7 @@ impl Machine {
         ensures line { Steps self.old self.new 0 false }
         ensures step { self.new ≡ record self.old { progress = Progress.Sweeping (at + 1) } }
     {
-        self.progress = Progress::Sweeping(at + 1);
+        self.progress = Course::of(Progress::Sweeping(at + 1));
     }
 
     /// Makes a black slot white.
@@ -138,7 +139,7 @@ impl Machine {
         ensures step { self.new ≡ record self.old { heap = record self.old.heap { table = painted self.old.heap.table at Colour.White }; progress = Progress.Sweeping (at + 1) } }
     {
         self.heap.whiten(at);
-        self.progress = Progress::Sweeping(at + 1);
+        self.progress = Course::of(Progress::Sweeping(at + 1));
     }
 
     /// Frees a parked slot's first cell, or the slot where it has none; true where it freed the slot.
@@ -158,7 +159,7 @@ impl Machine {
             return false;
         }
         self.heap.free_slot(at);
-        self.progress = Progress::Sweeping(at + 1);
+        self.progress = Course::of(Progress::Sweeping(at + 1));
         true
     }
 
@@ -172,7 +173,7 @@ impl Machine {
         ensures step { self.new ≡ record self.old { progress = Progress.Idle } }
     {
         self.heap.soundness();
-        self.progress = Progress::Idle;
+        self.progress = Course::of(Progress::Idle);
     }
 
     /// Shades the pending target of the least seat that has a white one, or answers that there is none.
@@ -270,7 +271,7 @@ impl Machine {
             Dropped::Kept => self.heap.soundness(),
             Dropped::Gone { cell, next } => {
                 self.heap.soundness();
-                self.progress = self.progress.without(id, cell, next);
+                self.progress = Course::of(self.progress.get().without(id, cell, next));
             }
         }
     }
@@ -282,11 +283,12 @@ impl Machine {
         ensures step { Places self.old serial kind text result self.new }
     {
         self.heap.soundness();
-        let colour = self.progress.colour_ahead();
+        let progress = self.progress.get();
+        let colour = progress.colour_ahead();
         match self.heap.add_vertex(serial, kind, colour, text) {
             Err(refused) => Err(refused.1),
             Ok(id) => {
-                if self.progress.has_passed(id) {
+                if progress.has_passed(id) {
                     self.heap.whiten(id);
                 }
                 Ok(id)
@@ -319,7 +321,7 @@ impl Machine {
             let slot = self.principals[left].slot;
             self.shade_root(slot);
         }
-        self.progress = Progress::Marking(None);
+        self.progress = Course::of(Progress::Marking(None));
     }
 
     /// Shades a root that stays one.
@@ -342,7 +344,7 @@ impl Machine {
         ensures line { Steps self.old self.new result.freed result.ended }
         ensures phase { result.phase ≡ phase_of self.new.progress }
     {
-        match self.progress {
+        match self.progress.get() {
             Progress::Idle => {
                 self.start();
                 self.note(0, false)
@@ -369,7 +371,7 @@ impl Machine {
         ensures phase { result.phase ≡ phase_of self.now.progress }
     {
         Note {
-            phase: self.progress.phase(),
+            phase: self.progress.get().phase(),
             freed,
             ended,
         }

@@ -12,6 +12,7 @@ ghost use Rattle.tg_collect.specs.declared.note.Phase.TheVariants as phase;
 ghost use Rattle.std.specs.FinSet as finset;
 ghost use Rattle.tg_rights.specs.declared.limits.TheConstants.{MAX_CELLS, MAX_PRINCIPALS, MAX_SLOTS, SEATS};
 
+use crate::course::Course;
 use crate::machine::{Machine, Progress, Root};
 use std::alloc::{AllocError, Global};
 use tg_graph::Graph;
@@ -48,13 +49,14 @@ impl Machine {
         ensures triples { IfOk result (λ m. (stored m).triples ≡ finset.empty) }
         ensures free { IfOk result (λ m. IsFreeFrom 0 m.heap.table.free) }
     {
+        let progress = Course::of(Progress::Idle);
         let heap = Heap::new(alloc, slots, cells)?;
         heap.soundness();
         let principals = Vec::with_capacity(alloc, MAX_PRINCIPALS as usize)?;
         let pending = empty_seats(alloc)?;
         Ok(Machine {
             heap,
-            progress: Progress::Idle,
+            progress,
             principals,
             pending,
         })

@@ -139,7 +139,7 @@ impl Store {
     pub fn phase(&self) -> Phase
         ensures { result ≡ self.now.phase }
     {
-        self.machine.progress.phase()
+        self.machine.progress.get().phase()
     }
 
     /// Joins rights to the label of an edge, and makes its target the seat's pending one. The only error is Cells,

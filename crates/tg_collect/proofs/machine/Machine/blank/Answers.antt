@@ -1,16 +1,14 @@
-use Rattle.std.proofs.Common.{refl}
-use Rattle.tg_collect.specs.declared.machine.Progress.TheVariants.{Idle}
 use Rattle.tg_collect.specs.OpeningSteps.{Blank}
 use Rattle.tg_collect.proofs.OpeningLemmas.{blank_whole, blank_opens, blank_free, blank_triples}
 use Rattle.tg_collect.proofs.machine.Machine.blank.Goals as goal
 
-is_blank : (c : goal.In_ok-pending) → Blank (record { heap = c.in_ok-heap.heap; progress = Idle; principals = c.in_ok-principals.principals; pending = c.in_ok-pending.pending }) c.args.slots c.args.cells
+is_blank : (c : goal.In_ok-pending) → Blank (record { heap = c.in_ok-heap.heap; progress = c.of-progress.result; principals = c.in_ok-principals.principals; pending = c.in_ok-pending.pending }) c.args.slots c.args.cells
 is_blank c = record {
   table = c.in_ok-heap.ensures.0;
   free_cells = c.in_ok-heap.ensures.1;
   cell_count = c.in_ok-heap.ensures.2;
   lists = c.in_ok-heap.ensures.3;
-  progress = refl;
+  progress = c.of-progress.ensures;
   principals = c.in_ok-principals.ensures.items;
   seats = c.in_ok-pending.ensures.length;
   idle = c.in_ok-pending.ensures.idle;

@@ -27,7 +27,7 @@ returns-clause-kept c =
     let target = c.target-target.ensures c.args.slot s.before s.edge s.after stands in
     let next = c.next-next.ensures c.args.slot s.before s.edge s.after stands in
     let within = c.soundness.ensures.sound.targets c.args.slot s.edge (owned_here _ c.args.cursor s) in
-    rw (c.shade.ensures, target, next) (kept-scan c.args.self.now c.args.slot c.args.cursor s c.soundness.ensures.sound c.requires.at c.requires.kept within)
+    rw (c.of-self.ensures, c.shade.ensures, target, next) (kept-scan c.args.self.now c.args.slot c.args.cursor s c.soundness.ensures.sound c.requires.at c.requires.kept within)
 
 pub returns-clause-line : goal.returns-clause-line
 returns-clause-line c =
@@ -35,7 +35,7 @@ returns-clause-line c =
     let stands = stands_here c.args.self.now.heap c.args.slot c.args.cursor s in
     let target = c.target-target.ensures c.args.slot s.before s.edge s.after stands in
     let next = c.next-next.ensures c.args.slot s.before s.edge s.after stands in
-    rw (c.shade.ensures, target, next) (steps_scans c.args.self.now c.args.slot c.args.cursor s c.requires.at)
+    rw (c.of-self.ensures, c.shade.ensures, target, next) (steps_scans c.args.self.now c.args.slot c.args.cursor s c.requires.at)
 
 pub returns-clause-step : goal.returns-clause-step
 returns-clause-step c =
@@ -43,4 +43,4 @@ returns-clause-step c =
     let stands = stands_here c.args.self.now.heap c.args.slot c.args.cursor s in
     let target = c.target-target.ensures c.args.slot s.before s.edge s.after stands in
     let next = c.next-next.ensures c.args.slot s.before s.edge s.after stands in
-    (s.before, s.edge, s.after, s.whole, s.here, rw (c.shade.ensures, target, next) refl)
+    (s.before, s.edge, s.after, s.whole, s.here, rw (c.of-self.ensures, c.shade.ensures, target, next) refl)

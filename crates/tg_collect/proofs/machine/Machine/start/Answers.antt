@@ -31,15 +31,15 @@ loop-left-preserved c =
 pub returns-clause-kept : goal.returns-clause-kept
 returns-clause-kept c =
     let none : c.loop-left.left ≡ 0 = omega arith in
-    kept-start c.loop-left.self c.loop-left.invariant.starting.idle (all_dark c.loop-left.self (subst (DarkFrom c.loop-left.self) none c.loop-left.invariant.starting.dark)) c.loop-left.invariant.starting.kept
+    rw c.of-self.ensures (kept-start c.loop-left.self c.loop-left.invariant.starting.idle (all_dark c.loop-left.self (subst (DarkFrom c.loop-left.self) none c.loop-left.invariant.starting.dark)) c.loop-left.invariant.starting.kept)
 
 pub returns-clause-line : goal.returns-clause-line
 returns-clause-line c =
     let none : c.loop-left.left ≡ 0 = omega arith in
     let all = started_all c.args.self.now c.loop-left.self c.loop-left.left none c.loop-left.invariant.from in
-    subst (λ (m : Machine). Steps c.args.self.now m 0 false) (sym all) (steps_starts c.args.self.now c.requires.at c.requires.few)
+    rw c.of-self.ensures (subst (λ (m : Machine). Steps c.args.self.now m 0 false) (sym all) (steps_starts c.args.self.now c.requires.at c.requires.few))
 
 pub returns-clause-step : goal.returns-clause-step
 returns-clause-step c =
     let none : c.loop-left.left ≡ 0 = omega arith in
-    started_all c.args.self.now c.loop-left.self c.loop-left.left none c.loop-left.invariant.from
+    rw c.of-self.ensures (started_all c.args.self.now c.loop-left.self c.loop-left.left none c.loop-left.invariant.from)

@@ -11,4 +11,4 @@ first-cursor-requires c =
     let within = listed.0 in omega (arith, within, size)
 
 pub returns-in-Some-clause-line : goal.returns-in-Some-clause-line
-returns-in-Some-clause-line c = steps_popped c.args.self.now c.pop_grey.new.self c.in-Some.slot c.first-cursor.result c.requires.at c.in-Some.ensures.0 c.in-Some.ensures.1 c.first-cursor.ensures
+returns-in-Some-clause-line c = rw c.of-self.ensures (steps_popped c.args.self.now c.pop_grey.new.self c.in-Some.slot c.first-cursor.result c.requires.at c.in-Some.ensures.0 c.in-Some.ensures.1 c.first-cursor.ensures)
