@@ -54,10 +54,10 @@ fn next(logs: &[SeatLog], seat: u64, from: Position) -> Option<(&Exchange, Posit
 fn is_told(entry: &Entry, reply: &Reply, exchange: &Exchange) -> bool
     ensures { IsTrue result ↔ told entry.now reply.now ≡ exchange.now }
 {
-    if entry.actor != exchange.actor {
+    if entry.actor() != exchange.actor {
         return false;
     }
-    if entry.command != exchange.command {
+    if *entry.command() != exchange.command {
         return false;
     }
     *reply == exchange.reply
@@ -71,7 +71,7 @@ fn compared(logs: &[SeatLog], progress: Progress, entry: &Entry, reply: &Reply) 
 {
     match progress {
         Progress::Apart { index } => Progress::Apart { index },
-        Progress::Beside { position, index } => match next(logs, entry.seat, position) {
+        Progress::Beside { position, index } => match next(logs, entry.seat(), position) {
             None => Progress::Apart { index },
             Some(found) => {
                 if is_told(entry, reply, found.0) {
@@ -162,7 +162,7 @@ fn follow(alloc: Global, vault: &Vault, logs: &[SeatLog]) -> Result<[Progress; 6
     for number in 0..vault.count() {
         let entry = entry_at(vault, number);
         let reply = reply_to(alloc, &mut graph, entry)?;
-        let seat = entry.seat as usize;
+        let seat = entry.seat() as usize;
         table[seat] = compared(logs, table[seat], entry, &reply);
     }
     Ok(table)

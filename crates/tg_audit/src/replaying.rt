@@ -33,11 +33,11 @@ pub fn reply_to(alloc: Global, graph: &mut Graph, entry: &Entry) -> Result<Reply
     ensures reply { IfOk result (λ r. r ≡ reply_of graph.old entry.now.actor entry.now.command entry.now.outcome) }
     ensures graph { OnOk result (graph.new ≡ next_graph graph.old entry.now.actor entry.now.command entry.now.outcome) }
 {
-    match beyond(entry.outcome) {
+    match beyond(entry.outcome()) {
         Some(which) => Ok(Reply::Full(which)),
         None => {
-            let command = entry.command.copy(alloc)?;
-            graph.apply(entry.actor, command)
+            let command = entry.command().copy(alloc)?;
+            graph.apply(entry.actor(), command)
         }
     }
 }

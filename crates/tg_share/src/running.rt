@@ -76,7 +76,7 @@ impl Running {
         let Some(entry) = self.vault.entry(number) else {
             unreachable!()
         };
-        Ok((entry.actor, reply))
+        Ok((entry.actor(), reply))
     }
 
     pub fn shade(&mut self, seat: u64) -> Result<Option<u64>, SeatFault>

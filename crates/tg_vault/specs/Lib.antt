@@ -1,3 +1,4 @@
+pub mod Recorded
 pub mod History
 pub mod World
 pub mod CarriedOut

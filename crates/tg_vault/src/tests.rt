@@ -655,10 +655,10 @@ fn the_history_has_each_command(rt: HostRuntime) -> Result<(), AllocError> {
     )?;
     assert_eq!(rt; vault.count(), 1);
     let entry = vault.entry(0).expect(&rt, "no entry");
-    assert_eq!(rt; (entry.seat, entry.actor), (0, 1));
+    assert_eq!(rt; (entry.seat(), entry.actor()), (0, 1));
     assert!(rt;
-        matches!(&entry.outcome,
-        Outcome::Denied(Rule::Read, cause) if is_cause(*cause, Want::Lacks(1, 2, "r")))
+        matches!(entry.outcome(),
+        Outcome::Denied(Rule::Read, cause) if is_cause(cause, Want::Lacks(1, 2, "r")))
     );
     assert!(rt; vault.entry(1).is_none());
     assert_eq!(rt; vault.opening().rights(1, 2), rights_of("t"));

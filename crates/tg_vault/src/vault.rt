@@ -133,15 +133,11 @@ fn outcome_of(reply: &Reply) -> Outcome
 
 /// The entry of a command that was answered so.
 fn entry_of(seat: u64, actor: u64, command: Command, reply: &Reply) -> Entry
+    requires { seat < SEATS }
     ensures { result ≡ record { seat = seat; actor = actor; command = command; outcome = told reply.now } }
 {
     let outcome = outcome_of(reply);
-    Entry {
-        seat,
-        actor,
-        command,
-        outcome,
-    }
+    Entry::new(seat, actor, command, outcome)
 }
 
 impl Vault {

@@ -10,7 +10,7 @@ returns-in-None-clause-follows c = λ entries rest follows.
     let logs = c.args.logs.now in
     let here = told c.args.entry.now c.args.reply.now in
     let beside = subst (Follows seat logs entries (here ∷ rest)) c.in-Beside.is follows in
-    apart_entry seat logs entries rest c.in-Beside.position c.in-Beside.index here beside c.in-None.ensures.none
+    apart_entry seat logs entries rest c.in-Beside.position c.in-Beside.index here beside (rw c.seat.ensures at c.in-None.ensures.none)
 
 pub returns-then-is_told-clause-follows : goal.returns-then-is_told-clause-follows
 returns-then-is_told-clause-follows c = λ entries rest follows.
@@ -19,7 +19,7 @@ returns-then-is_told-clause-follows c = λ entries rest follows.
     let here = told c.args.entry.now c.args.reply.now in
     let found = c.in-Some.found in
     let beside = subst (Follows seat logs entries (here ∷ rest)) c.in-Beside.is follows in
-    beside_more seat logs entries rest c.in-Beside.position found.1 c.in-Beside.index here found.0.now beside c.in-Some.ensures.some (c.is_told.ensures.0 c.if-is_told.true)
+    beside_more seat logs entries rest c.in-Beside.position found.1 c.in-Beside.index here found.0.now beside (rw c.seat.ensures at c.in-Some.ensures.some) (c.is_told.ensures.0 c.if-is_told.true)
 
 pub returns-else-is_told-clause-follows : goal.returns-else-is_told-clause-follows
 returns-else-is_told-clause-follows c = λ entries rest follows.
@@ -28,5 +28,5 @@ returns-else-is_told-clause-follows c = λ entries rest follows.
     let here = told c.args.entry.now c.args.reply.now in
     let found = c.in-Some.found in
     let beside = subst (Follows seat logs entries (here ∷ rest)) c.in-Beside.is follows in
-    apart_there seat logs entries rest (left_of seat logs found.1) c.in-Beside.position c.in-Beside.index here found.0.now beside c.in-Some.ensures.some
+    apart_there seat logs entries rest (left_of seat logs found.1) c.in-Beside.position c.in-Beside.index here found.0.now beside (rw c.seat.ensures at c.in-Some.ensures.some)
     (λ same. false≢true (sym c.if-is_told.false ∙ c.is_told.ensures.1 same))

@@ -1,5 +1,6 @@
-use Rattle.std.proofs.Common.{◌≡◌, ◌∙◌, Some, arith, slice_get, slice_index_or}
+use Rattle.std.proofs.Common.{◌<◌, ◌≡◌, ◌∙◌, Some, arith, slice_get, slice_index_or}
 use Rattle.std.proofs.lemmas.Option.{slice_get-get_or}
+use Rattle.tg_rights.specs.declared.limits.TheConstants.{SEATS}
 use Rattle.tg_audit.specs.Replies.{replies_of}
 use Rattle.tg_audit.proofs.ReplayLemmas.{left_permitted, left_subject, replayed_more, replayed_none, replied_next}
 use Rattle.tg_audit.proofs.TableLemmas.{followed_end, followed_fresh, followed_more, start}
@@ -26,11 +27,12 @@ reply_to-requires-clause-permitted c =
 
 pub compared-requires : goal.compared-requires
 compared-requires c =
-    let seat = c.entry_at-entry.result.now.seat in
+    let seat = c.seat-seat.result in
+    let within : seat < SEATS = rw (← c.seat-seat.ensures) at c.entry_at-entry.ensures.seat in
     let p = slice_index_or c.loop-number.table seat start in
     let followed = c.loop-number.invariant.followed in
-    let here : slice_get c.loop-number.table seat ≡ Some p = slice_get-get_or c.loop-number.table seat start (omega (arith, followed.whole, c.entry_at-entry.ensures.seat)) in
-    omega (arith, followed.few seat c.entry_at-entry.ensures.seat p here)
+    let here : slice_get c.loop-number.table seat ≡ Some p = slice_get-get_or c.loop-number.table seat start (omega (arith, followed.whole, within)) in
+    omega (arith, followed.few seat within p here)
 
 pub loop-number-preserved : goal.loop-number-preserved
 loop-number-preserved c =
@@ -46,7 +48,7 @@ loop-number-preserved c =
     let here : slice_get c.loop-number.table e.seat ≡ Some p = slice_get-get_or c.loop-number.table e.seat start (omega (arith, followed.whole, c.entry_at-entry.ensures.seat)) in
     let told : slice_get (replies_of v.opening v.history) n ≡ Some r = replied_next v G H n e r replayed c.entry_at-entry.ensures.entry c.in_ok-reply.ensures.reply c.in_ok-reply.ensures.graph in
     record {
-      followed = followed_more v c.args.logs.now (replies_of v.opening v.history) n c.loop-number.table e r p c.compared.result followed c.entry_at-entry.ensures.entry told c.entry_at-entry.ensures.seat here c.compared.ensures.follows c.compared.ensures.count;
+      followed = rw c.seat-seat.ensures (followed_more v c.args.logs.now (replies_of v.opening v.history) n c.loop-number.table e r p c.compared.result followed c.entry_at-entry.ensures.entry told c.entry_at-entry.ensures.seat here (rw c.seat-seat.ensures at c.compared.ensures.follows) (rw c.seat-seat.ensures at c.compared.ensures.count));
       replayed = replayed_more v G H n e r replayed c.entry_at-entry.ensures.entry c.in_ok-reply.ensures.reply c.in_ok-reply.ensures.graph;
     }
 

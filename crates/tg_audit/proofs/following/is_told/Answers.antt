@@ -5,8 +5,10 @@ use Rattle.tg_audit.proofs.following.is_told.Goals as goal
 
 pub returns : goal.returns
 returns c =
-    let command : c.args.entry.now.command ≡ c.args.exchange.now.command = (commands_decided _ _).0 (not-false _ (sym c.ne.ensures ∙ c.if-ne.false)) in
+    let asked : c.command.result.now ≡ c.args.exchange.now.command = (commands_decided _ _).0 (not-false _ (sym c.ne.ensures ∙ c.if-ne.false)) in
+    let command : c.args.entry.now.command ≡ c.args.exchange.now.command = sym c.command.ensures ∙ asked in
+    let actor : c.args.entry.now.actor ≡ c.args.exchange.now.actor = sym c.actor.ensures ∙ c.if-actor-exchange.false in
     let replies = replies_decided c.args.reply.now c.args.exchange.now.reply in (
-      λ e. (λ i. record { actor = c.if-entry-exchange.false i; command = command i; reply = replies.0 (sym c.eq.ensures ∙ e) i }),
+      λ e. (λ i. record { actor = actor i; command = command i; reply = replies.0 (sym c.eq.ensures ∙ e) i }),
       λ same. c.eq.ensures ∙ replies.1 (ap (λ x. x.reply) same),
     )

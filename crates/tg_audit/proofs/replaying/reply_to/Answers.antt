@@ -10,8 +10,8 @@ returns-in_ok-command-in-None-clause-reply c =
     let e = c.args.entry.now in
     let command = c.in_ok-command-in-None.command in
     IfOk-weaker c.apply.result (λ r. Applies G e.actor command r c.apply.new.self) (λ r. r ≡ reply_of G e.actor e.command e.outcome)
-    (λ r applies. reply_permitted c.requires.permitted.0 G c.apply.new.self e.actor e.command command e.outcome r c.requires.permitted.1 (sym c.in-None.ensures) c.in_ok-command-in-None.ensures.equal applies)
-    c.apply.ensures.ok
+    (λ r applies. reply_permitted c.requires.permitted.0 G c.apply.new.self e.actor e.command command e.outcome r c.requires.permitted.1 (sym (rw c.outcome.ensures at c.in-None.ensures)) (rw c.command.ensures at c.in_ok-command-in-None.ensures.equal) applies)
+    (rw c.actor.ensures at c.apply.ensures.ok)
 
 pub returns-in_ok-command-in-None-clause-graph : goal.returns-in_ok-command-in-None-clause-graph
 returns-in_ok-command-in-None-clause-graph c =
@@ -19,5 +19,5 @@ returns-in_ok-command-in-None-clause-graph c =
     let e = c.args.entry.now in
     let command = c.in_ok-command-in-None.command in
     IfOk-weaker c.apply.result (λ r. Applies G e.actor command r c.apply.new.self) (λ r. c.apply.new.self ≡ next_graph G e.actor e.command e.outcome)
-    (λ r applies. graph_permitted c.requires.permitted.0 G c.apply.new.self e.actor e.command command e.outcome r c.requires.permitted.1 (sym c.in-None.ensures) c.in_ok-command-in-None.ensures.equal applies)
-    c.apply.ensures.ok
+    (λ r applies. graph_permitted c.requires.permitted.0 G c.apply.new.self e.actor e.command command e.outcome r c.requires.permitted.1 (sym (rw c.outcome.ensures at c.in-None.ensures)) (rw c.command.ensures at c.in_ok-command-in-None.ensures.equal) applies)
+    (rw c.actor.ensures at c.apply.ensures.ok)
