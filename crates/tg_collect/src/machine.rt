@@ -337,6 +337,7 @@ impl Machine {
     }
 
     /// One step of the collector.
+    #[inline(always)]
     pub fn collect(&mut self) -> Note
         requires few { length self.old.principals.items ≤ MAX_PRINCIPALS }
         requires kept { Invariant self.old }
@@ -390,6 +391,7 @@ impl Machine {
     }
 
     /// The step of the sweep phase.
+    #[inline(always)]
     fn sweep(&mut self, at: u32) -> Note
         requires at { self.old.progress ≡ Progress.Sweeping at }
         requires kept { Invariant self.old }

@@ -224,6 +224,7 @@ impl Store {
     }
 
     /// One step of the collector: one line of its table.
+    #[inline(always)]
     pub fn collect(&mut self) -> Note
         ensures collected { Collected self.old self.new result.freed result.ended }
         ensures phase { result.phase ≡ self.new.phase }

@@ -284,6 +284,7 @@ impl Vault {
     }
 
     /// One step of the collector, as its table has it. Takes no memory.
+    #[inline(always)]
     pub fn collect(&mut self) -> Note
         ensures step { StepOf self.old event.Collect (answer.Noted result) self.new }
         ensures keeps { Keeps self.old self.new }

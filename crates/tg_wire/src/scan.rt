@@ -41,7 +41,8 @@ fn is_space(byte: u8) -> bool
 }
 
 /// The first quote, backslash or control byte from a place on.
-#[inline(always)]
+// Inlined, it counts up what the caller does with the place beside it, at each byte.
+#[inline(never)]
 fn plain_end(bytes: &[u8], from: usize) -> usize
     requires { from ≤ length bytes.now }
     ensures value { result ≡ from + prefix_len is_plain (drop from bytes.now) }
