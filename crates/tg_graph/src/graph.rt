@@ -1,5 +1,5 @@
 //! The plain graph, which is never collected.
-ghost use Rattle.std.specs.Prelude.{◌≡◌, ◌≢◌, ◌≤◌, ◌+◌, ◌<◌, ◌↔◌, true, [], ◌∷◌, None, IsTrue, MatchBool, OnOk, OnErr, IfOk, IfErr, MatchOption, ⊤};
+ghost use Rattle.std.specs.Prelude.{◌≡◌, ◌≢◌, ◌≤◌, ◌+◌, ◌<◌, ◌↔◌, true, [], None, IsTrue, MatchBool, OnOk, OnErr, IfOk, IfErr, MatchOption, ⊤};
 ghost use Rattle.std.specs.FinMap as map;
 ghost use Rattle.std.specs.FinSet as set;
 ghost use Rattle.tg_graph.specs.Agreement.{IsRepliedAlike, KeepsViewers};

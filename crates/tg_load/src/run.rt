@@ -17,7 +17,7 @@ use std::sync::atomic::Ordering;
 use std::sync::ledger::{Blank, Ledger};
 use std::thread::Threads;
 use tg_audit::Settled;
-use tg_share::{Closed, Ended, PARTS, Shared};
+use tg_share::{Closed, PARTS, Shared};
 use tg_vault::Vault;
 
 /// What closing comes to.

@@ -1,5 +1,5 @@
 -- A shared vault that is closed: from what was settled and counted to what is promised.
-use Rattle.std.proofs.Common.{◌≡◌, ℕ, ◌+◌, List, [], ◌∷◌, ◌++◌, append-nil, arith, Bool, true, map, length, refl, sym, ap, subst, ◌∙◌, sum_by}
+use Rattle.std.proofs.Common.{◌≡◌, ◌+◌, List, [], ◌∷◌, ◌++◌, append-nil, arith, Bool, true, length, refl, sym, ap, subst, ◌∙◌, sum_by}
 use Rattle.std.proofs.lemmas.List.Sums.{sum_by-cons}
 use Rattle.tg_vault.specs.Contents.{Contents}
 use Rattle.tg_vault.specs.Laws.{CoursesHaveTheHeadline}

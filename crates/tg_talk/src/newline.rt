@@ -1,6 +1,6 @@
 //! The first line feed of some bytes.
 
-ghost use Rattle.std.specs.Prelude.{◌≡◌, ◌+◌, ◌∷◌, ◌++◌, ◌<◌, ◌≤◌, length, take, drop, IfSome, IfNone, false};
+ghost use Rattle.std.specs.Prelude.{◌≡◌, ◌+◌, ◌<◌, ◌≤◌, length, take, IfSome, IfNone, false};
 ghost use Rattle.tg_talk.specs.InputLines.{has_newline, IsFirstNewline};
 
 use memchr::memchr;

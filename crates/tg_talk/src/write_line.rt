@@ -1,6 +1,6 @@
 //! Writes all of some bytes.
 
-ghost use Rattle.std.specs.Prelude.{◌≡◌, ◌<◌, ◌≤◌, [], length, take, true, false, IfOk, IsTrue};
+ghost use Rattle.std.specs.Prelude.{◌≡◌, ◌<◌, ◌≤◌, [], length, take, true, false, IfOk};
 ghost use Rattle.std.specs.Io.KnownBytes.{Appends, Keeps};
 ghost use Rattle.tg_talk.specs.Devices.{device_of, has_failed, owed, promised, Sends};
 ghost use Rattle.tg_talk.specs.Endings.{EndsOnce};

@@ -17,7 +17,7 @@ use Rattle.tg_graph.specs.Triples.{edge}
 use Rattle.tg_graph.specs.Terms as effect
 use Rattle.tg_graph.specs.Terms.{Does, terms}
 use Rattle.tg_graph.specs.Deciding.{Each}
-use Rattle.tg_graph.specs.Protection.{Protection, IsEdge, label, vertex}
+use Rattle.tg_graph.specs.Protection.{Protection, IsEdge, label}
 use Rattle.tg_graph.specs.Fullness.{edges_at}
 use Rattle.tg_graph.specs.Rules.{Allowed, answered, denial, done, is_new, text_of, edges_of, with_text}
 use Rattle.tg_collect.specs.Stored.{Stored, held}

@@ -14,7 +14,7 @@ use Rattle.tg_graph.specs.Rules.{Allowed, done, is_new, next_graph}
 use Rattle.tg_graph.proofs.EdgesAreCountedLemmas.{edge_count-union, edge_count-difference, edge_count-new}
 use Rattle.tg_graph.proofs.FullnessLemmas.{vertex_count-again, edge_count-again, vertex_count-new}
 use Rattle.tg_graph.proofs.ProtectionLemmas.{Entitled, edge_to, entitled, includes_some}
-use Rattle.tg_graph.proofs.VertexLemmas.{IsVertex-from_kind, IsVertex-insert, with_text-document, with_text-next}
+use Rattle.tg_graph.proofs.VertexLemmas.{IsVertex-insert, with_text-document, with_text-next}
 use Rattle.tg_vault.specs.World.{new_target, slots_taken, target_of}
 use Rattle.tg_vault.specs.CarriedOut.{CellsMoved, EdgeMoves}
 

@@ -24,7 +24,7 @@ use Rattle.tg_collect.specs.StoreRuns as store_runs
 use Rattle.tg_vault.specs.History.{graph_of}
 use Rattle.tg_vault.specs.World.{Run, at_seat}
 use Rattle.tg_vault.specs.Contents.{Contents, RunOf, Keeps, graph_now, held_now, moment}
-use Rattle.tg_vault.specs.Fits.{Ties, IsRoot, HasSlot}
+use Rattle.tg_vault.specs.Fits.{IsRoot, HasSlot}
 use Rattle.tg_vault.specs.StoreSteps.{SessionStep}
 use Rattle.tg_vault.specs.Course.{Course, VaultStep, IsCoherent}
 use Rattle.tg_vault.specs.Cycles.{phase_after, notes_in, ended_in, IsComplete, IsBounded}

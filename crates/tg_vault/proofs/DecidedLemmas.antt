@@ -8,7 +8,7 @@ use Rattle.tg_rights.specs.declared.outcome.Which.{Which}
 use Rattle.tg_rights.specs.declared.outcome.Which.TheVariants as which
 use Rattle.tg_rights.specs.declared.outcome.Outcome.{Outcome}
 use Rattle.tg_rights.specs.declared.outcome.Outcome.TheVariants as outcome
-use Rattle.tg_graph.specs.Protection.{Protection, IsGraph, IsVertex, IsSubject, label}
+use Rattle.tg_graph.specs.Protection.{Protection, IsGraph, IsVertex, IsSubject}
 use Rattle.tg_graph.specs.Paths.{Agree}
 use Rattle.tg_graph.specs.Fullness.{Limits, NewEdge, Permitted, vertex_count, edge_count}
 use Rattle.tg_graph.specs.Terms as effect

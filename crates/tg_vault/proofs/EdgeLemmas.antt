@@ -1,10 +1,10 @@
 -- Edges of what a store holds, as triples and as labels.
-use Rattle.std.proofs.Common.{◌≡◌, ℕ, Bool, true, false, not, cond, refl, sym, ◌∙◌, ◌&&◌, ◌||◌, arith}
+use Rattle.std.proofs.Common.{◌≡◌, ℕ, Bool, false, not, cond, refl, ◌∙◌, ◌&&◌, ◌||◌, arith}
 use Rattle.std.specs.FinSet as finset
 use Rattle.std.proofs.lemmas.Bool.{eq-eqb}
 use Rattle.tg_rights.specs.Letters.{Letters, is_none, joined, without}
 use Rattle.tg_graph.specs.Triples.{edge}
-use Rattle.tg_graph.specs.Protection.{Protection, IsEdge, label}
+use Rattle.tg_graph.specs.Protection.{Protection, label}
 use Rattle.tg_graph.proofs.LabelLemmas.{difference-Relabels}
 use Rattle.tg_graph.proofs.PartsStayLemmas.{label-relabelled}
 use Rattle.tg_collect.specs.Stored.{Stored, held}

@@ -8,12 +8,12 @@ use Rattle.tg_rights.specs.declared.command.Command.{Command}
 use Rattle.tg_rights.specs.declared.outcome.Outcome.{Outcome}
 use Rattle.tg_rights.specs.declared.outcome.Outcome.TheVariants as outcome
 use Rattle.tg_rights.specs.declared.outcome.Reply.{Reply}
-use Rattle.tg_graph.specs.Protection.{Protection, IsGraph, IsVertex, IsEdge, label}
+use Rattle.tg_graph.specs.Protection.{Protection, IsGraph, IsVertex}
 use Rattle.tg_graph.specs.Terms as effect
 use Rattle.tg_graph.specs.Terms.{Does, terms}
 use Rattle.tg_graph.specs.Paths.{Agree, IsPart, Live, Reaches}
 use Rattle.tg_graph.specs.Fullness.{Permitted, edges_at, vertex_count, edge_count}
-use Rattle.tg_graph.specs.Rules.{Allowed, Judged, is_create, next_graph, reply_of, after}
+use Rattle.tg_graph.specs.Rules.{Allowed, Judged, is_create, next_graph, reply_of}
 use Rattle.tg_graph.proofs.OutcomesAgreeLemmas.{Judged-agrees, reaches_on}
 use Rattle.tg_graph.proofs.ProtectionLemmas.{Entitled, edge_to, entitled}
 use Rattle.tg_graph.proofs.PartsStayLemmas.{part_stays}

@@ -1,6 +1,6 @@
 -- A decision has come by each vertex that the effect works on, and has met what the effect takes for granted.
-use Rattle.std.proofs.Common.{◌≡◌, ◌≢◌, ℕ, true, false, refl, sym, ap, subst, ◌∙◌, ◌⊎◌, inl, inr, Some}
-use Rattle.tg_rights.specs.Letters.{Letters, includes, is_none}
+use Rattle.std.proofs.Common.{◌≡◌, ◌≢◌, ℕ, false, sym, subst, ◌∙◌, inl, inr}
+use Rattle.tg_rights.specs.Letters.{Letters, is_none}
 use Rattle.tg_rights.specs.declared.command.Command.{Command}
 use Rattle.tg_graph.specs.declared.rules.Found.{Found}
 use Rattle.tg_graph.specs.Terms as effect

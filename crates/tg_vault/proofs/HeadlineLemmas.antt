@@ -1,6 +1,5 @@
 -- the headline of a course
-use Rattle.std.proofs.Common.{◌≡◌, ℕ, List, [], ◌∷◌, refl, subst, ◌⊎◌, inl, inr}
-use Rattle.tg_rights.specs.declared.command.Command.{Command}
+use Rattle.std.proofs.Common.{◌≡◌, List, [], ◌∷◌, refl, subst, ◌⊎◌, inl, inr}
 use Rattle.tg_rights.specs.declared.command.Rule.{Rule}
 use Rattle.tg_rights.specs.declared.outcome.Cause.{Cause}
 use Rattle.tg_rights.specs.declared.outcome.Which.{Which}
@@ -13,11 +12,9 @@ use Rattle.tg_vault.specs.declared.entry.Entry.{Entry}
 use Rattle.tg_vault.specs.History.{EntryRun}
 use Rattle.tg_vault.specs.Headline.{EachEntry, IsCarriedOutWhenAllowed, IsDenialNamed}
 use Rattle.tg_vault.specs.Laws.{CoursesHaveTheHeadline}
-use Rattle.tg_vault.specs.Contents.{Contents, graph_now}
-use Rattle.tg_vault.specs.Course.{Course, IsCoherent}
+use Rattle.tg_vault.specs.Contents.{graph_now}
+use Rattle.tg_vault.specs.Course.{IsCoherent}
 use Rattle.tg_vault.specs.Fits.{Fits}
-use Rattle.tg_vault.specs.declared.event.Event.{Event}
-use Rattle.tg_vault.specs.declared.event.Answer.{Answer}
 use Rattle.tg_collect.specs.StoreRuns as store_runs
 use Rattle.tg_vault.proofs.AddedLemmas.{runs_add}
 use Rattle.tg_vault.proofs.CourseLemmas.{course_run}

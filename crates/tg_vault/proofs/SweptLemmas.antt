@@ -1,9 +1,8 @@
 -- A cycle, step by step.
-use Rattle.std.proofs.Common.{◌≡◌, ℕ, ◌+◌, ◌*◌, ◌≤◌, List, [], ◌∷◌, ◌++◌, length, map, refl, sym, ap, subst, ◌∙◌, inl, inr, true, false, length-append, arith}
+use Rattle.std.proofs.Common.{◌≡◌, ℕ, ◌+◌, ◌≤◌, List, [], ◌∷◌, ◌++◌, length, map, sym, subst, ◌∙◌, inl, inr, true, false, length-append, arith}
 use Rattle.std.specs.Prelude.{sum_by, All}
 use Rattle.std.proofs.lemmas.List.Elements.{All-append, All-cons, All-nil}
 use Rattle.std.proofs.lemmas.List.Sums.{sum_by-cons, sum_by-append}
-use Rattle.tg_graph.specs.Fullness.{Limits}
 use Rattle.tg_rights.proofs.MembershipLemmas.{map_append}
 use Rattle.tg_collect.specs.declared.note.Note.{Note}
 use Rattle.tg_vault.specs.declared.event.Event.{Event}

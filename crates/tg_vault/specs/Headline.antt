@@ -16,8 +16,8 @@ use Rattle.tg_vault.specs.declared.event.Answer.{Answer}
 use Rattle.tg_vault.specs.Contents.{Contents, RunOf}
 use Rattle.tg_vault.specs.Added.{AddsAsked}
 use Rattle.tg_vault.specs.Fits.{Fits}
-use Rattle.tg_vault.specs.Course.{Course, IsCoherent}
-use Rattle.tg_vault.specs.Cycles.{IsComplete, IsBounded}
+use Rattle.tg_vault.specs.Course.{Course}
+use Rattle.tg_vault.specs.Cycles.{IsComplete}
 
 -- something holds of each entry, and of the graph that the entries before it leave, from which nothing is ever collected
 abbrev pub EachEntry : (Protection → Entry → Type 0) → Protection → List Entry → Type 0

@@ -1,4 +1,4 @@
-use Rattle.std.proofs.Common.{◌≡◌, ap, subst, sym, ◌∙◌, Some}
+use Rattle.std.proofs.Common.{ap, subst, sym, ◌∙◌}
 use Rattle.tg_graph.specs.Deciding.{AskSome, DocumentNear, Follows, LeadTo}
 use Rattle.tg_graph.specs.Rules.{names_rights}
 use Rattle.tg_graph.proofs.DecidingLemmas.{sound}
