@@ -22,7 +22,7 @@ use Rattle.tg_rights.specs.Letters.{Letters}
 use Rattle.tg_graph.specs.Triples.{edge}
 use Rattle.tg_graph.specs.declared.vertex.Vertex.{Vertex}
 use Rattle.tg_graph.specs.Triples.{Triple, triple_cmp}
-use Rattle.tg_cells.specs.Lists.{Edge}
+use Rattle.tg_cells.specs.Lists.{Edge, HasNone}
 use Rattle.tg_heap.specs.Graph.{HeapGraph, edges, mark_at, IsHeap}
 use Rattle.tg_collect.specs.declared.note.Phase.TheVariants as phase
 use Rattle.tg_collect.specs.declared.machine.Scan.{Scan}
@@ -177,6 +177,10 @@ fresh_name m w x unheld unparked j n = by (is_parked m.progress j (mark_at m.hea
     (λ f. let u : Has n.0.colour ≡ Free = sym (ap mark_of n.1) ∙ f in cc),
     λ d. let t = parked_holds m.heap m.progress j d in let u : true ≡ false = sym t ∙ c in cc,
   ))
+
+-- No edge of a held slot has such a serial.
+pub fresh_edges : (m : Machine) → Whole m → (id x : ℕ) → IsHeld m id → (IsHeldIn (stored m) x → ⊥) → (InSet (stored m).parked x → ⊥) → HasNone (edges m.heap id) x
+fresh_edges m w id x held unheld unparked = λ e among is. fresh_name m w x unheld unparked e.target (subst (IsNamed m.heap e.target) is (w.names.edge id e held among))
 
 pub after_places : (m n : Machine) (serial : ℕ) (kind : Kind) (text : List ℕ) (i : ℕ) → IsHeap m.heap → Whole m → Invariant n → ((j : ℕ) → IsNamed m.heap j serial → ⊥)
     → Places m serial kind text (Ok i) n → Whole n × VertexPlaced (stored m) (stored n) serial kind text i × (IsNamed n.heap i serial × IsHeld n i)

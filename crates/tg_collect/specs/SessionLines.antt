@@ -30,6 +30,10 @@ Adds m seat id target rights (Ok t) n = (o : Occupant) × (slot m.heap.table tar
     × (n ≡ record m { heap = n.heap; pending = n.pending })
 Adds m seat id target rights (Err e) n = (e ≡ full.Cells) × (o : Occupant) × (slot m.heap.table target.slot ≡ Some o) × HasNone (edges m.heap id) o.serial × (m.heap.free_cells ≡ 0) × (n ≡ m)
 
+-- the same where no refusal can come
+abbrev pub Links : Machine → (seat id : ℕ) → Root → Letters → Machine → Type 0
+Links m seat id target rights n = Adds {U = Unit {0}} m seat id target rights (Ok tt) n
+
 -- where the cursor is after an edge has lost rights
 abbrev pub progress_dropped : Progress → ℕ → Dropped → Progress
 progress_dropped p id Kept = p

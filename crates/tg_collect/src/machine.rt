@@ -1,15 +1,15 @@
 //! The heap with its roots and the collector's progress: one private method for each line of the step table, and the session steps.
-ghost use Rattle.std.specs.Prelude.{◌≡◌, ◌≢◌, ℕ, ◌<◌, ◌≤◌, List, [], ◌∷◌, ◌++◌, length, MatchOption, MatchBool, MatchResult, ◌⊎◌, ◌+◌, get_or, set, false, true, cond, None, Some};
-ghost use Rattle.std.specs.Bool.{OnFalse, OnTrue};
+ghost use Rattle.std.specs.Prelude.{◌≡◌, ◌≢◌, ℕ, ◌<◌, ◌≤◌, List, [], ◌∷◌, ◌++◌, length, MatchOption, MatchBool, ◌+◌, get_or, false, true, cond, None, Some};
+ghost use Rattle.std.specs.Bool.{OnTrue};
 ghost use Rattle.tg_rights.specs.declared.limits.TheConstants.{MAX_PRINCIPALS, MAX_SLOTS};
 ghost use Rattle.tg_rights.specs.Letters.{includes, is_none};
-ghost use Rattle.tg_slots.specs.Table.{Table, Free, Has, mark, slot, with_text};
+ghost use Rattle.tg_slots.specs.Table.{Free, Has, slot};
 ghost use Rattle.tg_slots.specs.declared.slots.Occupant.{Occupant};
 ghost use Rattle.tg_cells.specs.Lists.{Edge, first_cell, HasNone, Found};
-ghost use Rattle.tg_heap.specs.Graph.{edges, mark_at, shaded, painted, IsHeap};
+ghost use Rattle.tg_heap.specs.Graph.{edges, mark_at, shaded, painted};
 ghost use Rattle.tg_collect.specs.Machine.{Invariant, IsPending, IsReached, IsHeld, IsRoot, without_slot, with_list, progress_without, phase_of, has_passed, colour_ahead};
 ghost use Rattle.tg_collect.specs.Lines.{Steps, IsFirstWhite, all_shaded};
-ghost use Rattle.tg_collect.specs.SessionLines.{Adds, Removes, Places, Rewrites, ShadesTarget};
+ghost use Rattle.tg_collect.specs.SessionLines.{Adds, Links, Removes, Places, Rewrites, ShadesTarget};
 
 use crate::course::Course;
 use crate::note::{Note, Phase};
@@ -256,6 +256,25 @@ impl Machine {
             }
             Err(full) => Err(full),
         }
+    }
+
+    /// Puts an edge to a held slot that the owner has none to, where a cell is free, and makes it the seat's pending target.
+    pub fn link_edge(&mut self, seat: usize, id: u32, target: Root, rights: Rights)
+        requires kept { Invariant self.old }
+        requires seat { seat < length self.old.pending.items }
+        requires idle_seat { get_or self.old.pending.items seat None ≡ None }
+        requires owner { IsHeld self.old id }
+        requires target { IsHeld self.old target.slot }
+        requires some { is_none rights ≡ false }
+        requires none { (o : Occupant) → slot self.old.heap.table target.slot ≡ Some o → HasNone (edges self.old.heap id) o.serial }
+        requires room { self.old.heap.free_cells ≢ 0 }
+        ensures kept { Invariant self.new }
+        ensures step { Links self.old seat id target rights self.new }
+    {
+        self.heap.soundness();
+        self.heap.add_edge(id, target.slot, rights);
+        self.heap.soundness();
+        self.pending[seat] = Some(target);
     }
 
     /// Takes rights from the label of an edge of a held slot; a cursor at a freed cell moves to the next cell.

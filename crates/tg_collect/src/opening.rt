@@ -1,7 +1,6 @@
 //! The machine of an opening graph.
-ghost use Rattle.std.specs.Prelude.{◌≡◌, ◌≢◌, ℕ, ◌<◌, ◌≤◌, ◌+◌, List, [], length, get_or, Option, Some, None, OnOk, IfOk, IsSome, false, true};
+ghost use Rattle.std.specs.Prelude.{◌≡◌, ◌≢◌, ℕ, ◌<◌, ◌≤◌, ◌+◌, length, get_or, Option, Some, None, OnOk, IfOk, IsSome, false};
 ghost use Rattle.tg_rights.specs.Letters.{is_none};
-ghost use Rattle.tg_graph.specs.Protection.{Protection, IsGraph};
 ghost use Rattle.tg_collect.specs.Names.{Whole};
 ghost use Rattle.tg_collect.specs.Stored.{stored};
 ghost use Rattle.tg_collect.specs.Views.{IsHeldIn, place, serial_at};
@@ -162,8 +161,10 @@ impl Machine {
         ensures whole { Whole self.new }
         ensures opened { EdgeOpened (stored self.old) (stored self.new) (serial_at (stored self.old) id) target.serial rights }
     {
-        self.link_new(0, id, target, rights);
-        self.pending[0] = None;
+        match self.store_edge(0, id, target.slot, rights) {
+            Ok(()) => self.pending[0] = None,
+            Err(_) => unreachable!(),
+        }
     }
 }
 

@@ -1,5 +1,5 @@
 //! The calls of sessions on the machine, by what contracts see of a store.
-ghost use Rattle.std.specs.Prelude.{◌≡◌, ◌≢◌, ℕ, ◌<◌, ◌≤◌, Option, Some, None, MatchOption, OnOk, OnErr, IfOk, IfErr, IsSome, true, false, length, map};
+ghost use Rattle.std.specs.Prelude.{◌≡◌, ◌≢◌, ℕ, ◌<◌, Option, Some, None, MatchOption, OnOk, OnErr, IfOk, IfErr, IsSome, true, false, length, map};
 ghost use Rattle.std.specs.Option.{option_map};
 ghost use Rattle.std.specs.FinMap as finmap;
 ghost use Rattle.tg_rights.specs.declared.limits.TheConstants.{SEATS};
@@ -7,6 +7,7 @@ ghost use Rattle.tg_rights.specs.Letters.{is_none, includes, none};
 ghost use Rattle.tg_rights.specs.Membership.{Contains};
 ghost use Rattle.tg_graph.specs.Protection.{label};
 ghost use Rattle.tg_graph.specs.Rules.{edges_of};
+ghost use Rattle.tg_cells.specs.Lists.{HasNone};
 ghost use Rattle.tg_heap.specs.Graph.{edges};
 ghost use Rattle.tg_collect.specs.Names.{Whole};
 ghost use Rattle.tg_collect.specs.Stored.{stored, held};
@@ -198,7 +199,7 @@ impl Machine {
         }
     }
 
-    /// Puts the edge to a new vertex, where a cell is free.
+    /// Puts the edge to a new vertex, which the owner has no edge to, where a cell is free.
     pub fn link_new(&mut self, seat: u64, id: u32, target: Root, rights: Rights)
         requires whole { Whole self.old }
         requires seat { seat < SEATS }
@@ -207,15 +208,14 @@ impl Machine {
         requires target { place (stored self.old) target.slot ≡ Some target.serial }
         requires distinct { target.slot ≢ id }
         requires some { is_none rights ≡ false }
+        requires none { HasNone (edges self.old.heap id) target.serial }
         requires room { self.old.heap.free_cells ≢ 0 }
         ensures whole { Whole self.new }
         ensures stored { EdgeStored (stored self.old) (stored self.new) seat (serial_at (stored self.old) id) target.serial rights }
     {
         self.heap.soundness();
-        match self.add_edge(seat as usize, id, target, rights) {
-            Ok(()) => self.heap.soundness(),
-            Err(_) => unreachable!(),
-        }
+        self.link_edge(seat as usize, id, target, rights);
+        self.heap.soundness();
     }
 
     /// Takes rights from the label of an edge of a held vertex.

@@ -194,6 +194,22 @@ impl Heap {
         }
     }
 
+    /// Puts an edge to a vertex in front of a slot's edges, none of which leads to it, where a cell is free. Unlike
+    /// `add_rights` it looks for no edge, so it takes as long whatever the number of edges.
+    pub fn add_edge(&mut self, id: u32, target: u32, rights: Rights)
+        requires owner { mark_at self.old id ≢ Free }
+        requires target { mark_at self.old target ≢ Free }
+        requires some { is_none rights ≡ false }
+        requires none { (o : Occupant) → slot self.old.table target ≡ Some o → HasNone (edges self.old id) o.serial }
+        requires room { self.old.free_cells ≢ 0 }
+        ensures { (o : Occupant) × (slot self.old.table target ≡ Some o) × IsAdded self.old self.new id target o.serial rights }
+    {
+        let serial = self.slots.serial(target).unwrap();
+        if !self.cells.link(id, target, serial, rights) {
+            unreachable!();
+        }
+    }
+
     /// Takes rights that it has from the label of the edge to a serial; an edge that keeps none is gone, and its cell
     /// is free.
     pub fn drop_rights(&mut self, id: u32, serial: u64, rights: Rights) -> Dropped

@@ -18,6 +18,8 @@ enum Act {
     NoSlot,
     /// An edge between two slots gains rights, and what is full.
     Add(u32, u32, &'static str, Option<HeapFull>),
+    /// An edge between two slots comes in where there is none.
+    First(u32, u32, &'static str),
     /// The edge from a slot to a serial loses rights, and whether it is gone.
     Lose(u32, u64, &'static str, bool),
     Shade(u32),
@@ -39,7 +41,8 @@ enum Act {
 }
 
 use Act::{
-    Add, Clear, Edges, Free, Lose, NoEdge, NoSlot, NoneWaits, Put, Scan, Shade, White, Whiten,
+    Add, Clear, Edges, First, Free, Lose, NoEdge, NoSlot, NoneWaits, Put, Scan, Shade, White,
+    Whiten,
 };
 
 struct Script {
@@ -63,6 +66,22 @@ const SCRIPTS: &[Script] = &[
             Edges(0, &[(2, 30, "g"), (1, 20, "rw")]),
             Edges(1, &[]),
             Free(0, 2),
+        ],
+    },
+    // an edge that was not there comes in front
+    Script {
+        slots: 3,
+        cells: 2,
+        acts: &[
+            Put(10, 0),
+            Put(20, 1),
+            Put(30, 2),
+            First(0, 1, "r"),
+            First(0, 2, "wg"),
+            Edges(0, &[(2, 30, "wg"), (1, 20, "r")]),
+            Free(0, 0),
+            Add(0, 1, "t", None),
+            Edges(0, &[(2, 30, "wg"), (1, 20, "rt")]),
         ],
     },
     // an edge that keeps no right is gone
@@ -197,6 +216,21 @@ fn add(
     heap.add_rights(id, target, rights)
 }
 
+// Puts an edge in where there is none and a cell is free.
+fn add_first(rt: &impl Abort, heap: &mut Heap, id: u32, target: u32, rights: Rights) {
+    assert!(rt; !rights.is_empty());
+    is_taken(rt, heap, id);
+    is_taken(rt, heap, target);
+    assert!(rt; heap.free_cells() != 0);
+    let Some(serial) = heap.serial(target) else {
+        panic!(rt; "slot {target} is free")
+    };
+    match heap.edge(id, serial) {
+        None => heap.add_edge(id, target, rights),
+        Some(_) => panic!(rt; "slot {id} has an edge to {serial}"),
+    }
+}
+
 fn drop_from(rt: &impl Abort, heap: &mut Heap, id: u32, serial: u64, rights: Rights) -> Dropped {
     assert!(rt; id < heap.len());
     match heap.edge(id, serial) {
@@ -298,6 +332,7 @@ fn play(rt: &impl Abort, alloc: Global, heap: &mut Heap, act: Act) -> Result<(),
             let added = add(rt, heap, id, target, rights(letters));
             assert!(rt; added.err() == full);
         }
+        First(id, target, letters) => add_first(rt, heap, id, target, rights(letters)),
         Lose(id, serial, letters, gone) => loses(rt, heap, id, serial, rights(letters), gone),
         Shade(id) => shade(rt, heap, id),
         Scan(id) => assert!(rt; scan(rt, heap) == id),
