@@ -1,5 +1,5 @@
 -- A flat object: from the lexemes of its members to its value, and what is found in it.
-use Rattle.std.proofs.Common.{◌≡◌, ℕ, List, [], ◌∷◌, ◌++◌, Option, Some, None, IfSome, Ordering, Less, Equal, Greater, Bor, nat_cmp, is_eq, ◌&&◌, Bool, true, false, true≢false, max, option_map, option_and_then, drop, bytes_eq, if◌then◌else◌, refl, sym, ap, ◌∙◌, arith, append-nil}
+use Rattle.std.proofs.Common.{◌≡◌, ℕ, List, [], ◌∷◌, ◌++◌, Option, Some, None, IfSome, Ordering, Less, Equal, Greater, nat_cmp, is_eq, ◌&&◌, Bool, true, false, true≢false, max, option_map, option_and_then, drop, bytes_eq, if◌then◌else◌, refl, sym, ap, ◌∙◌, arith, append-nil}
 use Rattle.std.specs.Prelude.{⊤}
 use Rattle.std.specs.List.{list_all}
 use Rattle.std.specs.Cmp.Lexicographic.{slice_cmp}
@@ -20,8 +20,9 @@ use Rattle.serde_json.specs.Find.{get, get_member, as_array}
 use Rattle.serde_json.proofs.Views.{get_member-put, get_member-put_other}
 use Rattle.tg_wire.specs.Flat.{Spells, AreSpelled, member_lexemes, plain_data, put_all, flat_data, ReadsMembers}
 use Rattle.tg_wire.specs.Reading.{is_among, member_keys, knows_all}
-use Rattle.tg_wire.specs.Texts.{is_listed_in_either}
-use Rattle.tg_wire.proofs.TextsLemmas.{texts, among_either}
+use Rattle.tg_wire.specs.Keys.{key_text, key_texts, is_listed_in_either}
+use Rattle.tg_wire.proofs.KeysLemmas.{among_either}
+use Rattle.tg_wire.specs.declared.key.Key.{Key}
 use Rattle.tg_wire.specs.declared.flat.Plain.{Plain}
 use Rattle.tg_wire.specs.declared.flat.Plain.TheVariants.{Text, Number}
 use Rattle.tg_wire.specs.declared.flat.Member.{Member}
@@ -32,7 +33,7 @@ some_weaker (Some a) P Q f h = f a h
 
 -- ---- one member more
 
-pub spelled_more : (ks : List (List ℕ × Token)) (ms : List Member) (k : List ℕ) (t : Token) (m : Member) → AreSpelled ks ms → k ≡ m.key.now → Spells t m.value → AreSpelled (ks ++ (k, t) ∷ []) (ms ++ m ∷ [])
+pub spelled_more : (ks : List (List ℕ × Token)) (ms : List Member) (k : List ℕ) (t : Token) (m : Member) → AreSpelled ks ms → k ≡ key_text m.key → Spells t m.value → AreSpelled (ks ++ (k, t) ∷ []) (ms ++ m ∷ [])
 spelled_more [] [] k t m h same is = (same, is, tt)
 spelled_more [] (x ∷ ms) k t m h same is = absurd h
 spelled_more (x ∷ ks) [] k t m h same is = absurd h
@@ -49,7 +50,7 @@ abbrev key_tokens : List (List ℕ × Token) → List Token
 key_tokens [] = []
 key_tokens (k ∷ ks) = token.key k.0 ∷ k.1 ∷ key_tokens ks
 
--- texts and numbers
+-- key_texts and numbers
 abbrev AreScalars : List (List ℕ × Token) → Type 0
 AreScalars [] = ⊤
 AreScalars (k ∷ ks) = ((v : Plain) × Spells k.1 v) × AreScalars ks
@@ -132,7 +133,7 @@ values_of [] (m ∷ ms) found h = absurd h
 values_of (k ∷ ks) [] found h = absurd h
 values_of (k ∷ ks) (m ∷ ms) found h =
     ap (option_and_then (λ d. of_members (members_of ks) (put k.0 d found))) (leaf_value k.1 m.value h.1)
-    ∙ ap (λ name. of_members (members_of ks) (put name (plain_data m.value) found)) h.0 ∙ values_of ks ms (put m.key.now (plain_data m.value) found) h.2
+    ∙ ap (λ name. of_members (members_of ks) (put name (plain_data m.value) found)) h.0 ∙ values_of ks ms (put (key_text m.key) (plain_data m.value) found) h.2
 
 abbrev whole : Option (json.Json × List Token) → Option Data
 whole o = option_and_then of_json (option_and_then (λ p. json.if_last p.0 p.1) o)
@@ -152,27 +153,27 @@ line_read line from after ms opens found over =
 
 -- ---- what is found
 
-put_all_last : (ms : List Member) (m : Member) (found : Members) → put_all (ms ++ m ∷ []) found ≡ put m.key.now (plain_data m.value) (put_all ms found)
+put_all_last : (ms : List Member) (m : Member) (found : Members) → put_all (ms ++ m ∷ []) found ≡ put (key_text m.key) (plain_data m.value) (put_all ms found)
 put_all_last [] m found = refl
 put_all_last (x ∷ ms) m found = put_all_last ms m _
 
-found_here : (ms : List Member) (m : Member) (name : List ℕ) → m.key.now ≡ name → get_member name (put_all (ms ++ m ∷ []) no_members) ≡ Some (plain_data m.value)
+found_here : (ms : List Member) (m : Member) (name : List ℕ) → key_text m.key ≡ name → get_member name (put_all (ms ++ m ∷ []) no_members) ≡ Some (plain_data m.value)
 found_here ms m name is =
     ap (get_member name) (put_all_last ms m no_members) ∙ ap (λ k. get_member name (put k (plain_data m.value) (put_all ms no_members))) is ∙ get_member-put name (plain_data m.value) (put_all ms no_members)
 
-found_before : (ms : List Member) (m : Member) (name : List ℕ) → (m.key.now ≡ name → ⊥) → get_member name (put_all (ms ++ m ∷ []) no_members) ≡ get_member name (put_all ms no_members)
+found_before : (ms : List Member) (m : Member) (name : List ℕ) → (key_text m.key ≡ name → ⊥) → get_member name (put_all (ms ++ m ∷ []) no_members) ≡ get_member name (put_all ms no_members)
 found_before ms m name other =
-    ap (get_member name) (put_all_last ms m no_members) ∙ get_member-put_other name m.key.now (plain_data m.value) (put_all ms no_members) (λ e. other (sym e))
+    ap (get_member name) (put_all_last ms m no_members) ∙ get_member-put_other name (key_text m.key) (plain_data m.value) (put_all ms no_members) (λ e. other (sym e))
 
-found_either : (b : Bool) (ms : List Member) (m : Member) (name : List ℕ) (before : Option Plain) → bytes_eq m.key.now name ≡ b
+found_either : (b : Bool) (ms : List Member) (m : Member) (name : List ℕ) (before : Option Plain) → bytes_eq (key_text m.key) name ≡ b
     → option_map plain_data before ≡ get_member name (put_all ms no_members) → option_map plain_data (if b then Some m.value else before) ≡ get_member name (put_all (ms ++ m ∷ []) no_members)
-found_either true ms m name before is so = sym (found_here ms m name ((bytes_eq-Decides m.key.now name).0 is))
-found_either false ms m name before is so = so ∙ sym (found_before ms m name (λ same. true≢false (sym ((bytes_eq-Decides m.key.now name).1 same) ∙ is)))
+found_either true ms m name before is so = sym (found_here ms m name ((bytes_eq-Decides (key_text m.key) name).0 is))
+found_either false ms m name before is so = so ∙ sym (found_before ms m name (λ same. true≢false (sym ((bytes_eq-Decides (key_text m.key) name).1 same) ∙ is)))
 
 -- one member more is looked at
 pub found_later : (ms : List Member) (m : Member) (name : List ℕ) (before : Option Plain)
-    → option_map plain_data before ≡ get_member name (put_all ms no_members) → option_map plain_data (if bytes_eq m.key.now name then Some m.value else before) ≡ get_member name (put_all (ms ++ m ∷ []) no_members)
-found_later ms m name before so = found_either (bytes_eq m.key.now name) ms m name before refl so
+    → option_map plain_data before ≡ get_member name (put_all ms no_members) → option_map plain_data (if bytes_eq (key_text m.key) name then Some m.value else before) ≡ get_member name (put_all (ms ++ m ∷ []) no_members)
+found_later ms m name before so = found_either (bytes_eq (key_text m.key) name) ms m name before refl so
 
 -- ---- no list is found
 
@@ -190,7 +191,7 @@ no_list_put false k name v found is none =
 
 no_list_all : (ms : List Member) (name : List ℕ) (found : Members) → option_and_then as_array (get_member name found) ≡ None → option_and_then as_array (get_member name (put_all ms found)) ≡ None
 no_list_all [] name found none = none
-no_list_all (m ∷ ms) name found none = no_list_all ms name _ (no_list_put (bytes_eq m.key.now name) m.key.now name m.value found refl none)
+no_list_all (m ∷ ms) name found none = no_list_all ms name _ (no_list_put (bytes_eq (key_text m.key) name) (key_text m.key) name m.value found refl none)
 
 pub flat_no_list : (ms : List Member) (name : List ℕ) → None ≡ option_and_then as_array (get name (flat_data ms))
 flat_no_list ms name = sym (no_list_all ms name no_members refl)
@@ -229,16 +230,16 @@ module _ (P : List ℕ → Bool) where
   keys_put k d no_members = refl
   keys_put k d (member l e ms) = keys_put_at _ k l d e ms refl (keys_put k d ms)
 
-  keys_put_all : (ms : List Member) (found : Members) → list_all P (member_keys (put_all ms found)) ≡ (list_all (λ m. P m.key.now) ms && list_all P (member_keys found))
+  keys_put_all : (ms : List Member) (found : Members) → list_all P (member_keys (put_all ms found)) ≡ (list_all (λ m. P (key_text m.key)) ms && list_all P (member_keys found))
   keys_put_all [] found = refl
   keys_put_all (m ∷ ms) found =
-      keys_put_all ms _ ∙ ap (λ x. list_all (λ m. P m.key.now) ms && x) (keys_put m.key.now (plain_data m.value) found)
-      ∙ and_in (list_all (λ m. P m.key.now) ms) (P m.key.now) (list_all P (member_keys found))
+      keys_put_all ms _ ∙ ap (λ x. list_all (λ m. P (key_text m.key)) ms && x) (keys_put (key_text m.key) (plain_data m.value) found)
+      ∙ and_in (list_all (λ m. P (key_text m.key)) ms) (P (key_text m.key)) (list_all P (member_keys found))
 
-all_either : (a b : List (Bor (List ℕ))) (ms : List Member) → list_all (λ m. is_among (texts a ++ texts b) m.key.now) ms ≡ list_all (λ m. is_listed_in_either a b m.key.now) ms
+all_either : (a b : List Key) (ms : List Member) → list_all (λ m. is_among (key_texts a ++ key_texts b) (key_text m.key)) ms ≡ list_all (λ m. is_listed_in_either a b (key_text m.key)) ms
 all_either a b [] = refl
-all_either a b (m ∷ ms) = ap (λ x. x && list_all (λ m. is_among (texts a ++ texts b) m.key.now) ms) (among_either a b m.key.now) ∙ ap (λ x. is_listed_in_either a b m.key.now && x) (all_either a b ms)
+all_either a b (m ∷ ms) = ap (λ x. x && list_all (λ m. is_among (key_texts a ++ key_texts b) (key_text m.key)) ms) (among_either a b (key_text m.key)) ∙ ap (λ x. is_listed_in_either a b (key_text m.key) && x) (all_either a b ms)
 
 -- the keys of a flat object are known where those of its members are
-pub flat_known : (a b : List (Bor (List ℕ))) (ms : List Member) → knows_all (texts a ++ texts b) (flat_data ms) ≡ list_all (λ m. is_listed_in_either a b m.key.now) ms
-flat_known a b ms = keys_put_all (is_among (texts a ++ texts b)) ms no_members ∙ and_true _ ∙ all_either a b ms
+pub flat_known : (a b : List Key) (ms : List Member) → knows_all (key_texts a ++ key_texts b) (flat_data ms) ≡ list_all (λ m. is_listed_in_either a b (key_text m.key)) ms
+flat_known a b ms = keys_put_all (is_among (key_texts a ++ key_texts b)) ms no_members ∙ and_true _ ∙ all_either a b ms

@@ -1,6 +1,6 @@
 pub mod Literals
 pub mod ReadingLemmas
-pub mod TextsLemmas
+pub mod KeysLemmas
 pub mod LexemesLemmas
 pub mod NumbersLemmas
 pub mod FlatLemmas

@@ -7,6 +7,7 @@ use Rattle.json.specs.Lex.{Lexeme}
 use Rattle.serde_json.specs.Data.{Data, string, number, unsigned, object, Members, no_members, put}
 use Rattle.serde_json.specs.Read.{number_of}
 use Rattle.serde_json.specs.View.{view}
+use Rattle.tg_wire.specs.Keys.{key_text}
 use Rattle.tg_wire.specs.declared.flat.Plain.{Plain}
 use Rattle.tg_wire.specs.declared.flat.Plain.TheVariants.{Text, Number}
 use Rattle.tg_wire.specs.declared.flat.Member.{Member}
@@ -20,7 +21,7 @@ plain_data (Number n) = number (unsigned n)
 -- the members put in one after another, so that of equal keys the last stands
 abbrev pub put_all : List Member → Members → Members
 put_all [] found = found
-put_all (m ∷ ms) found = put_all ms (put m.key.now (plain_data m.value) found)
+put_all (m ∷ ms) found = put_all ms (put (key_text m.key) (plain_data m.value) found)
 
 abbrev pub flat_data : List Member → Data
 flat_data ms = object (put_all ms no_members)
@@ -43,7 +44,7 @@ abbrev pub AreSpelled : List (List ℕ × Token) → List Member → Type 0
 AreSpelled [] [] = ⊤
 AreSpelled [] (m ∷ ms) = ⊥
 AreSpelled (k ∷ ks) [] = ⊥
-AreSpelled (k ∷ ks) (m ∷ ms) = (k.0 ≡ m.key.now) × Spells k.1 m.value × AreSpelled ks ms
+AreSpelled (k ∷ ks) (m ∷ ms) = (k.0 ≡ key_text m.key) × Spells k.1 m.value × AreSpelled ks ms
 
 -- members, each with a comma behind it, and then the rest
 abbrev pub member_lexemes : List (List ℕ × Token) → List Lexeme → List Lexeme

@@ -1,4 +1,4 @@
-pub mod Texts
+pub mod Keys
 pub mod Fields
 pub mod Ops
 pub mod Configs

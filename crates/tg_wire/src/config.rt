@@ -5,13 +5,15 @@ ghost use Rattle.std.specs.Prelude.{◌≡◌, ◌≤◌, Err, length, option_ma
 ghost use Rattle.serde_json.specs.View.{view, items_view};
 ghost use Rattle.tg_wire.specs.Fields as fields;
 ghost use Rattle.tg_wire.specs.Flat.{data_of};
+ghost use Rattle.tg_wire.specs.Keys.{key_text};
 ghost use Rattle.tg_wire.specs.Configs.{goal_in, opening_in, opening_of};
 ghost use Rattle.tg_wire.specs.Lines.{goal_of, config_of};
-ghost use Rattle.tg_wire.specs.Reading.{Answers, AnswersBy, AnswersField, or_else};
+ghost use Rattle.tg_wire.specs.Reading.{Answers, AnswersBy, or_else};
 ghost use Rattle.tg_wire.specs.declared.fault.WireFault.TheVariants.{BadField, OutOfMemory};
 
 use crate::fault::WireFault;
 use crate::field;
+use crate::key::Key;
 use crate::object::{LineObject, has_required, knows_all, object};
 use serde_json::Value;
 use std::alloc::Global;
@@ -26,11 +28,11 @@ pub fn read_config(alloc: Global, bytes: &[u8]) -> Result<Config, WireFault>
     ensures short { result ≡ Err OutOfMemory → length bytes.now ≤ LONGEST_LINE }
 {
     let object = object(alloc, bytes)?;
-    has_required(&["principals"], &object)?;
+    has_required(&[Key::Principals], &object)?;
     let config = config(alloc, &object)?;
     knows_all(
-        &["edges", "next", "slots", "cells"],
-        &["principals"],
+        &[Key::Edges, Key::Next, Key::Slots, Key::Cells],
+        &[Key::Principals],
         &object,
     )?;
     Ok(config)
@@ -43,17 +45,17 @@ pub fn read_goal(alloc: Global, bytes: &[u8]) -> Result<Goal, WireFault>
     ensures short { result ≡ Err OutOfMemory → length bytes.now ≤ LONGEST_LINE }
 {
     let object = object(alloc, bytes)?;
-    has_required(&["from", "to", "rights"], &object)?;
+    has_required(&[Key::From, Key::To, Key::Rights], &object)?;
     let goal = goal(&object).ok_or(WireFault::BadField)?;
-    knows_all(&[], &["from", "to", "rights"], &object)?;
+    knows_all(&[], &[Key::From, Key::To, Key::Rights], &object)?;
     Ok(goal)
 }
 
 fn goal(object: &LineObject<'_>) -> Option<Goal>
     ensures { result ≡ goal_in (data_of object.now) }
 {
-    let from = field::number(object, "from")?;
-    let to = field::number(object, "to")?;
+    let from = field::number(object, Key::From)?;
+    let to = field::number(object, Key::To)?;
     let rights = field::rights(object)?;
     Some(Goal { from, to, rights })
 }
@@ -61,12 +63,12 @@ fn goal(object: &LineObject<'_>) -> Option<Goal>
 fn config(alloc: Global, object: &LineObject<'_>) -> Result<Config, WireFault>
     ensures { AnswersBy opening_of result (or_else BadField (opening_in (data_of object.now))) }
 {
-    let principals = words(alloc, object, "principals")?;
+    let principals = words(alloc, object, Key::Principals)?;
     let edges = edges(alloc, object)?;
     let least = principals.len() as u64 + 1;
-    let next = field::optional_number(object, "next", least).ok_or(WireFault::BadField)?;
-    let slots = field::optional_number(object, "slots", 1_024).ok_or(WireFault::BadField)?;
-    let cells = field::optional_number(object, "cells", 16_384).ok_or(WireFault::BadField)?;
+    let next = field::optional_number(object, Key::Next, least).ok_or(WireFault::BadField)?;
+    let slots = field::optional_number(object, Key::Slots, 1_024).ok_or(WireFault::BadField)?;
+    let cells = field::optional_number(object, Key::Cells, 16_384).ok_or(WireFault::BadField)?;
     Ok(Config {
         principals,
         edges,
@@ -76,10 +78,10 @@ fn config(alloc: Global, object: &LineObject<'_>) -> Result<Config, WireFault>
     })
 }
 
-fn words(alloc: Global, object: &LineObject<'_>, name: &str) -> Result<Vec<Word>, WireFault>
-    ensures { AnswersBy (λ v. v.items) result (or_else BadField (fields.texts_in name.now (data_of object.now))) }
+fn words(alloc: Global, object: &LineObject<'_>, key: Key) -> Result<Vec<Word>, WireFault>
+    ensures { AnswersBy (λ v. v.items) result (or_else BadField (fields.texts_in (key_text key) (data_of object.now))) }
 {
-    let list = field::list(object, name).ok_or(WireFault::BadField)?;
+    let list = field::list(object, key).ok_or(WireFault::BadField)?;
     words_of(alloc, list)
 }
 
@@ -97,8 +99,8 @@ fn words_of(alloc: Global, list: &Vec<Value>) -> Result<Vec<Word>, WireFault>
 fn edges(alloc: Global, object: &LineObject<'_>) -> Result<Vec<(u64, Rights, u64)>, WireFault>
     ensures { AnswersBy (λ v. v.items) result (or_else BadField (fields.edges_in (data_of object.now))) }
 {
-    if field::has(object, "edges") {
-        let list = field::list(object, "edges").ok_or(WireFault::BadField)?;
+    if field::has(object, Key::Edges) {
+        let list = field::list(object, Key::Edges).ok_or(WireFault::BadField)?;
         edges_of(alloc, list)
     } else {
         Ok(Vec::new(alloc))

@@ -1,80 +1,82 @@
 //! The fields of an object: nothing where one is absent that has to be there, or where its value is bad.
 
-ghost use Rattle.std.specs.Prelude.{◌≡◌, ◌==◌, ◌+◌, is_some, option_map, option_and_then, length, count_by, nat_le};
-ghost use Rattle.std.specs.List.{list_all, list_any};
+ghost use Rattle.std.specs.Prelude.{◌≡◌, ◌==◌, is_some, option_map, option_and_then, count_by};
+ghost use Rattle.std.specs.List.{list_all};
 ghost use Rattle.serde_json.specs.Find.{as_array, get};
 ghost use Rattle.serde_json.specs.View.{view, items_view};
 ghost use Rattle.tg_wire.specs.Fields as fields;
 ghost use Rattle.tg_wire.specs.Flat.{data_of};
+ghost use Rattle.tg_wire.specs.Keys.{key_text};
 ghost use Rattle.tg_wire.specs.Reading.{AnswersField};
 
 use crate::fault::WireFault;
+use crate::key::Key;
 use crate::object::LineObject;
 use serde_json::Value;
 use std::alloc::Global;
 use tg_rights::{Kind, MAX_TEXT, Rights, Text, Word};
 
 /// The field is there, with any value.
-pub(crate) fn has(object: &LineObject<'_>, name: &str) -> bool
-    ensures { result ≡ is_some (get name.now (data_of object.now)) }
+pub(crate) fn has(object: &LineObject<'_>, key: Key) -> bool
+    ensures { result ≡ is_some (get (key_text key) (data_of object.now)) }
 {
     match object {
-        LineObject::Flat(flat) => flat.get(name).is_some(),
-        LineObject::Tree(value) => value.get(name).is_some(),
+        LineObject::Flat(flat) => flat.get(key).is_some(),
+        LineObject::Tree(value) => value.get(key.word()).is_some(),
     }
 }
 
-pub(crate) fn number(object: &LineObject<'_>, name: &str) -> Option<u64>
-    ensures { result ≡ fields.number_in name.now (data_of object.now) }
+pub(crate) fn number(object: &LineObject<'_>, key: Key) -> Option<u64>
+    ensures { result ≡ fields.number_in (key_text key) (data_of object.now) }
 {
     match object {
-        LineObject::Flat(flat) => flat.number(name),
-        LineObject::Tree(value) => value.get(name).and_then(Value::as_u64),
+        LineObject::Flat(flat) => flat.number(key),
+        LineObject::Tree(value) => value.get(key.word()).and_then(Value::as_u64),
     }
 }
 
 /// A number that may be absent.
-pub(crate) fn optional_number(object: &LineObject<'_>, name: &str, default: u64) -> Option<u64>
-    ensures { result ≡ fields.optional_number name.now default (data_of object.now) }
+pub(crate) fn optional_number(object: &LineObject<'_>, key: Key, default: u64) -> Option<u64>
+    ensures { result ≡ fields.optional_number (key_text key) default (data_of object.now) }
 {
     match object {
-        LineObject::Flat(flat) => flat.optional_number(name, default),
-        LineObject::Tree(value) => optional_in(value, name, default),
+        LineObject::Flat(flat) => flat.optional_number(key, default),
+        LineObject::Tree(value) => optional_in(value, key, default),
     }
 }
 
-fn optional_in(value: &Value, name: &str, default: u64) -> Option<u64>
-    ensures { result ≡ fields.optional_number name.now default (view value.now) }
+fn optional_in(value: &Value, key: Key, default: u64) -> Option<u64>
+    ensures { result ≡ fields.optional_number (key_text key) default (view value.now) }
 {
-    match value.get(name) {
+    match value.get(key.word()) {
         None => Some(default),
         Some(found) => found.as_u64(),
     }
 }
 
-pub(crate) fn string<'o>(object: &'o LineObject<'_>, name: &str) -> Option<&'o str>
-    ensures { option_map (λ s. s.now) result ≡ fields.string_in name.now (data_of object.now) }
+pub(crate) fn string<'o>(object: &'o LineObject<'_>, key: Key) -> Option<&'o str>
+    ensures { option_map (λ s. s.now) result ≡ fields.string_in (key_text key) (data_of object.now) }
 {
     match object {
-        LineObject::Flat(flat) => flat.string(name),
-        LineObject::Tree(value) => value.get(name).and_then(Value::as_str),
+        LineObject::Flat(flat) => flat.string(key),
+        LineObject::Tree(value) => value.get(key.word()).and_then(Value::as_str),
     }
 }
 
 /// A flat object has no list.
-pub(crate) fn list<'o>(object: &'o LineObject<'_>, name: &str) -> Option<&'o Vec<Value>>
-    ensures { option_map (λ v. items_view v.now.items) result ≡ option_and_then as_array (get name.now (data_of object.now)) }
+pub(crate) fn list<'o>(object: &'o LineObject<'_>, key: Key) -> Option<&'o Vec<Value>>
+    ensures { option_map (λ v. items_view v.now.items) result ≡ option_and_then as_array (get (key_text key) (data_of object.now)) }
 {
     match object {
         LineObject::Flat(_) => None,
-        LineObject::Tree(value) => value.get(name).and_then(Value::as_array),
+        LineObject::Tree(value) => value.get(key.word()).and_then(Value::as_array),
     }
 }
 
 pub(crate) fn rights(object: &LineObject<'_>) -> Option<Rights>
     ensures { result ≡ fields.rights_in (data_of object.now) }
 {
-    rights_of(string(object, "rights")?)
+    rights_of(string(object, Key::Rights)?)
 }
 
 pub(crate) fn rights_value(value: &Value) -> Option<Rights>
@@ -147,7 +149,7 @@ fn has_letter(bytes: &[u8], letter: u8) -> bool
 pub(crate) fn kind(object: &LineObject<'_>) -> Option<Kind>
     ensures { result ≡ fields.kind_in (data_of object.now) }
 {
-    match string(object, "kind")? {
+    match string(object, Key::Kind)? {
         "subject" => Some(Kind::Subject),
         "document" => Some(Kind::Document),
         _ => None,
@@ -158,13 +160,13 @@ pub(crate) fn kind(object: &LineObject<'_>) -> Option<Kind>
 pub(crate) fn seat(object: &LineObject<'_>) -> Option<u64>
     ensures { result ≡ fields.seat_in (data_of object.now) }
 {
-    optional_number(object, "seat", 0)
+    optional_number(object, Key::Seat, 0)
 }
 
-pub(crate) fn word(alloc: Global, object: &LineObject<'_>, name: &str) -> Result<Word, WireFault>
-    ensures { AnswersField result (fields.string_in name.now (data_of object.now)) }
+pub(crate) fn word(alloc: Global, object: &LineObject<'_>, key: Key) -> Result<Word, WireFault>
+    ensures { AnswersField result (fields.string_in (key_text key) (data_of object.now)) }
 {
-    let text = string(object, name).ok_or(WireFault::BadField)?;
+    let text = string(object, key).ok_or(WireFault::BadField)?;
     Ok(Word::new(String::from_str(alloc, text)?))
 }
 
@@ -172,7 +174,7 @@ pub(crate) fn word(alloc: Global, object: &LineObject<'_>, name: &str) -> Result
 pub(crate) fn text(alloc: Global, object: &LineObject<'_>) -> Result<Text, WireFault>
     ensures { AnswersField result (fields.text_in (data_of object.now)) }
 {
-    let text = string(object, "text").ok_or(WireFault::BadField)?;
+    let text = string(object, Key::Text).ok_or(WireFault::BadField)?;
     if text.len() > MAX_TEXT {
         return Err(WireFault::BadField);
     }

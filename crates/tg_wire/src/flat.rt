@@ -1,6 +1,7 @@
-//! A line's object where each member is a text without escapes or a whole number, as a list of its members.
+//! A line's object where each key is one that some line has, and each member a text without escapes or a whole number, as a
+//! list of its members.
 
-ghost use Rattle.std.specs.Prelude.{◌≡◌, ◌<◌, ◌≤◌, ◌∷◌, ◌++◌, [], Some, IfSome, OnSome, map, option_map, length, drop, if◌then◌else◌};
+ghost use Rattle.std.specs.Prelude.{◌≡◌, ◌<◌, ◌≤◌, ◌∷◌, ◌++◌, [], Some, IfSome, OnSome, option_map, length, drop, if◌then◌else◌};
 ghost use Rattle.std.specs.Str.{bytes_eq};
 ghost use Rattle.std.specs.List.{list_all};
 ghost use Rattle.json.specs.Token.{Token, string};
@@ -10,10 +11,10 @@ ghost use Rattle.serde_json.specs.Find.{get};
 ghost use Rattle.tg_wire.specs.Fields as fields;
 ghost use Rattle.tg_wire.specs.Flat.{Spells, ReadsMembers, plain_data, flat_data};
 ghost use Rattle.tg_wire.specs.Reading.{json_of, knows_all as knows_all_of};
-ghost use Rattle.tg_wire.specs.Texts.{is_listed_in_either};
+ghost use Rattle.tg_wire.specs.Keys.{is_listed_in_either, key_text, key_texts};
 
+use crate::key::Key;
 use crate::scan::{byte_at, read_number, read_text, spaces_end};
-use crate::texts::is_one_of_either;
 use arrayvec::ArrayVec;
 
 /// A member's value.
@@ -26,14 +27,14 @@ pub(crate) enum Plain<'a> {
 /// A member: its key and its value.
 #[derive(Clone, Copy, Drop)]
 pub(crate) struct Member<'a> {
-    key: &'a str,
+    key: Key,
     value: Plain<'a>,
 }
 
 impl Default for Member<'_> {
     fn default() -> Self {
         Member {
-            key: "",
+            key: Key::Op,
             value: Plain::Number(0),
         }
     }
@@ -104,11 +105,12 @@ fn read_members<'a>(line: &'a str, from: usize, found: &mut Members<'a>) -> Opti
 fn read_member<'a>(line: &'a str, from: usize) -> Option<(Member<'a>, usize)>
     requires { from ≤ length line.now }
     ensures found { IfSome result (λ r. (t : Token) × Spells t r.0.value
-        × (lex between (drop from line.now) ≡ token (string r.0.key.now) ∷ colon ∷ token t ∷ lex between (drop r.1 line.now))) }
+        × (lex between (drop from line.now) ≡ token (string (key_text r.0.key)) ∷ colon ∷ token t ∷ lex between (drop r.1 line.now))) }
     ensures bounds { IfSome result (λ r. (from < r.1) × (r.1 ≤ length line.now)) }
 {
     let bytes = line.as_bytes();
-    let (key, after) = read_text(line, spaces_end(bytes, from))?;
+    let (word, after) = read_text(line, spaces_end(bytes, from))?;
+    let key = Key::named(word)?;
     let between = spaces_end(bytes, after);
     if byte_at(bytes, between) != b':' {
         return None;
@@ -134,12 +136,12 @@ fn read_value<'a>(line: &'a str, at: usize) -> Option<(Plain<'a>, usize)>
     }
 }
 
-/// The value of the member where it has that name, else what was found before it.
+/// The value of the member where it has that key, else what was found before it.
 #[inline(always)]
-fn later<'a>(member: &Member<'a>, name: &str, before: Option<Plain<'a>>) -> Option<Plain<'a>>
-    ensures { result ≡ (if bytes_eq member.now.key.now name.now then Some member.now.value else before.entry) }
+fn later<'a>(member: &Member<'a>, key: Key, before: Option<Plain<'a>>) -> Option<Plain<'a>>
+    ensures { result ≡ (if bytes_eq (key_text member.now.key) (key_text key) then Some member.now.value else before.entry) }
 {
-    if member.key == name {
+    if member.key.is(key) {
         Some(member.value)
     } else {
         before
@@ -153,58 +155,58 @@ impl<'a> Flat<'a> {
         Flat { members }
     }
 
-    /// The last member of that name.
-    pub(crate) fn get(&self, name: &str) -> Option<Plain<'a>>
-        ensures { option_map plain_data result ≡ get name.now (flat_data self.now.members.now) }
+    /// The last member of that key.
+    pub(crate) fn get(&self, key: Key) -> Option<Plain<'a>>
+        ensures { option_map plain_data result ≡ get (key_text key) (flat_data self.now.members.now) }
     {
         let mut found = None;
         let members = self.members;
         for member in members {
-            found = later(member, name, found);
+            found = later(member, key, found);
         }
         found
     }
 
-    pub(crate) fn number(&self, name: &str) -> Option<u64>
-        ensures { result ≡ fields.number_in name.now (flat_data self.now.members.now) }
+    pub(crate) fn number(&self, key: Key) -> Option<u64>
+        ensures { result ≡ fields.number_in (key_text key) (flat_data self.now.members.now) }
     {
-        match self.get(name)? {
+        match self.get(key)? {
             Plain::Number(number) => Some(number),
             Plain::Text(_) => None,
         }
     }
 
-    pub(crate) fn optional_number(&self, name: &str, default: u64) -> Option<u64>
-        ensures { result ≡ fields.optional_number name.now default (flat_data self.now.members.now) }
+    pub(crate) fn optional_number(&self, key: Key, default: u64) -> Option<u64>
+        ensures { result ≡ fields.optional_number (key_text key) default (flat_data self.now.members.now) }
     {
-        match self.get(name) {
+        match self.get(key) {
             None => Some(default),
             Some(Plain::Number(number)) => Some(number),
             Some(Plain::Text(_)) => None,
         }
     }
 
-    pub(crate) fn string(&self, name: &str) -> Option<&'a str>
-        ensures { option_map (λ s. s.now) result ≡ fields.string_in name.now (flat_data self.now.members.now) }
+    pub(crate) fn string(&self, key: Key) -> Option<&'a str>
+        ensures { option_map (λ s. s.now) result ≡ fields.string_in (key_text key) (flat_data self.now.members.now) }
     {
-        match self.get(name)? {
+        match self.get(key)? {
             Plain::Text(text) => Some(text),
             Plain::Number(_) => None,
         }
     }
 
-    /// Each key is one of the names.
-    pub(crate) fn knows_all(&self, others: &[&str], required: &[&str]) -> bool
-        ensures { result ≡ knows_all_of (map (λ s. s.now) others.now ++ map (λ s. s.now) required.now) (flat_data self.now.members.now) }
+    /// Each key is one of these.
+    pub(crate) fn knows_all(&self, others: &[Key], required: &[Key]) -> bool
+        ensures { result ≡ knows_all_of (key_texts others.now ++ key_texts required.now) (flat_data self.now.members.now) }
     {
         self.are_known(others, required)
     }
 
-    fn are_known(&self, others: &[&str], required: &[&str]) -> bool
-        ensures { result ≡ list_all (λ m. is_listed_in_either others.now required.now m.key.now) self.now.members.now }
+    fn are_known(&self, others: &[Key], required: &[Key]) -> bool
+        ensures { result ≡ list_all (λ m. is_listed_in_either others.now required.now (key_text m.key)) self.now.members.now }
     {
         self.members
             .iter()
-            .all(|member| is_one_of_either(member.key, others, required))
+            .all(|member| member.key.is_in_either(others, required))
     }
 }

@@ -7,6 +7,7 @@ mod field;
 mod flat;
 #[cfg(test)]
 mod growth_tests;
+mod key;
 mod laws;
 mod line;
 mod object;
@@ -17,7 +18,6 @@ mod refusal;
 mod scan;
 #[cfg(test)]
 mod tests;
-mod texts;
 mod write;
 
 pub use config::{read_config, read_goal};

@@ -1,21 +1,21 @@
 //! A line as a JSON object, and which fields it has.
 
 ghost use Rattle.tg_wire.specs.declared.line.TheConstants.{LONGEST_LINE};
-ghost use Rattle.std.specs.Prelude.{◌≡◌, ◌≤◌, ◌++◌, Err, is_some, length, map, string_bytes, nat_le};
+ghost use Rattle.std.specs.Prelude.{◌≡◌, ◌≤◌, ◌++◌, Err, is_some, length, string_bytes, nat_le};
 ghost use Rattle.std.specs.List.{list_all};
 ghost use Rattle.std.specs.BTreeMap.{keys};
 ghost use Rattle.serde_json.specs.Find.{as_object, get};
 ghost use Rattle.serde_json.specs.View.{view};
 ghost use Rattle.tg_wire.specs.Flat.{data_of};
 ghost use Rattle.tg_wire.specs.Reading.{json_of, json_object, object_of, has_all as has_all_of, knows_all as knows_all_of, guard, or_else, AnswersBy};
-ghost use Rattle.tg_wire.specs.Texts.{is_listed_in_either};
+ghost use Rattle.tg_wire.specs.Keys.{is_listed_in_either, key_text, key_texts};
 ghost use Rattle.tg_wire.specs.declared.fault.WireFault.TheVariants.{NotJson, NotObject, MissingField, UnknownField, TooLong, OutOfMemory};
 
 use crate::fault::WireFault;
 use crate::field::has;
 use crate::flat::Flat;
+use crate::key::{Key, is_word_in_either};
 use crate::line::LONGEST_LINE;
-use crate::texts::is_one_of_either;
 use serde_json::{Map, Value};
 use std::alloc::Global;
 
@@ -79,31 +79,31 @@ fn is_object(value: &Value) -> Result<(), WireFault>
     }
 }
 
-/// Each of the names is a key of the object.
-#[tactic(auto, using(crate::proofs::TextsLemmas::has_all_texts))]
-pub(crate) fn has_required(names: &[&str], object: &LineObject<'_>) -> Result<(), WireFault>
-    ensures { result ≡ guard (has_all_of (map (λ s. s.now) names.now) (data_of object.now)) MissingField }
+/// The object has each of the keys.
+#[tactic(auto, using(crate::proofs::KeysLemmas::has_all_texts))]
+pub(crate) fn has_required(keys: &[Key], object: &LineObject<'_>) -> Result<(), WireFault>
+    ensures { result ≡ guard (has_all_of (key_texts keys.now) (data_of object.now)) MissingField }
 {
-    if has_all(names, object) {
+    if has_all(keys, object) {
         Ok(())
     } else {
         Err(WireFault::MissingField)
     }
 }
 
-fn has_all(names: &[&str], object: &LineObject<'_>) -> bool
-    ensures { result ≡ list_all (λ name. is_some (get name.now (data_of object.now))) names.now }
+fn has_all(keys: &[Key], object: &LineObject<'_>) -> bool
+    ensures { result ≡ list_all (λ key. is_some (get (key_text key) (data_of object.now))) keys.now }
 {
-    names.iter().all(|name| has(object, name))
+    keys.iter().all(|key| has(object, *key))
 }
 
-/// Each key of the object is one of the names.
+/// Each key of the object is one of these.
 pub(crate) fn knows_all(
-    others: &[&str],
-    required: &[&str],
+    others: &[Key],
+    required: &[Key],
     object: &LineObject<'_>,
 ) -> Result<(), WireFault>
-    ensures { result ≡ guard (knows_all_of (map (λ s. s.now) others.now ++ map (λ s. s.now) required.now) (data_of object.now)) UnknownField }
+    ensures { result ≡ guard (knows_all_of (key_texts others.now ++ key_texts required.now) (data_of object.now)) UnknownField }
 {
     if is_known(others, required, object) {
         Ok(())
@@ -112,8 +112,8 @@ pub(crate) fn knows_all(
     }
 }
 
-fn is_known(others: &[&str], required: &[&str], object: &LineObject<'_>) -> bool
-    ensures { result ≡ knows_all_of (map (λ s. s.now) others.now ++ map (λ s. s.now) required.now) (data_of object.now) }
+fn is_known(others: &[Key], required: &[Key], object: &LineObject<'_>) -> bool
+    ensures { result ≡ knows_all_of (key_texts others.now ++ key_texts required.now) (data_of object.now) }
 {
     match object {
         LineObject::Flat(flat) => flat.knows_all(others, required),
@@ -121,8 +121,8 @@ fn is_known(others: &[&str], required: &[&str], object: &LineObject<'_>) -> bool
     }
 }
 
-fn all_known(others: &[&str], required: &[&str], value: &Value) -> bool
-    ensures { result ≡ knows_all_of (map (λ s. s.now) others.now ++ map (λ s. s.now) required.now) (view value.now) }
+fn all_known(others: &[Key], required: &[Key], value: &Value) -> bool
+    ensures { result ≡ knows_all_of (key_texts others.now ++ key_texts required.now) (view value.now) }
 {
     match value.as_object() {
         Some(members) => are_known(others, required, members),
@@ -130,10 +130,10 @@ fn all_known(others: &[&str], required: &[&str], value: &Value) -> bool
     }
 }
 
-fn are_known(others: &[&str], required: &[&str], members: &Map<String, Value>) -> bool
+fn are_known(others: &[Key], required: &[Key], members: &Map<String, Value>) -> bool
     ensures { result ≡ list_all (λ key. is_listed_in_either others.now required.now (string_bytes key)) (keys members.now) }
 {
     members
         .keys()
-        .all(|key| is_one_of_either(key.as_str(), others, required))
+        .all(|key| is_word_in_either(key.as_str(), others, required))
 }

@@ -1,16 +1,17 @@
 //! From a line to what it asks for, and from a line to a step.
 
 ghost use Rattle.tg_wire.specs.declared.line.TheConstants.{LONGEST_LINE};
-ghost use Rattle.std.specs.Prelude.{◌≡◌, ◌≤◌, Err, length, option_map, map, codes, ◌∷◌, []};
+ghost use Rattle.std.specs.Prelude.{◌≡◌, ◌≤◌, Err, Some, length};
 ghost use Rattle.tg_wire.specs.Flat.{data_of};
 ghost use Rattle.tg_wire.specs.Ops.{command_form, op_form};
-ghost use Rattle.tg_wire.specs.Lines.{line_in, line_of, step_in, step_of, op_in, rule_in};
-ghost use Rattle.tg_wire.specs.Reading.{Answers, AnswersField, or_else};
+ghost use Rattle.tg_wire.specs.Lines.{line_extras, line_in, line_of, step_in, step_of, op_in, rule_in};
+ghost use Rattle.tg_wire.specs.Reading.{Answers, AnswersField, fields_of, or_else};
 ghost use Rattle.tg_wire.specs.declared.fault.WireFault.TheVariants.{NoOp, OutOfMemory};
 
 use crate::fault::WireFault;
 use crate::field;
 use crate::flat::{Flat, Members, read_flat};
+use crate::key::Key;
 use crate::line::Line;
 use crate::object::{LineObject, fits, has_required, knows_all, tree};
 use crate::op::{Op, of_command, rule_named};
@@ -38,9 +39,22 @@ fn line_of_object(alloc: Global, object: &LineObject<'_>) -> Result<Line, WireFa
     ensures { Answers result (line_in (data_of object.now)) }
 {
     let op = op(object)?;
-    has_required(op.fields(), object)?;
-    let line = line(alloc, op, object)?;
-    knows_all(&["op", "seat"], op.fields(), object)?;
+    match line(alloc, op, object) {
+        Ok(line) => only_known(line, op, object),
+        Err(fault) => {
+            // A field that is not there comes before one that is bad, and no good line lacks one.
+            has_required(op.keys(), object)?;
+            Err(fault)
+        }
+    }
+}
+
+/// A good line, where its object has no other fields.
+fn only_known(line: Line, op: Op, object: &LineObject<'_>) -> Result<Line, WireFault>
+    requires { (op_form op).value (data_of object.now) ≡ Some line }
+    ensures { result ≡ fields_of (op_form op).fields line_extras (op_form op).value (data_of object.now) }
+{
+    knows_all(&[Key::Op, Key::Seat], op.keys(), object)?;
     Ok(line)
 }
 
@@ -62,25 +76,25 @@ fn step_of_object(alloc: Global, object: &LineObject<'_>) -> Result<Step, WireFa
     ensures { Answers result (step_in (data_of object.now)) }
 {
     let rule = rule(object)?;
-    has_required(&["actor"], object)?;
-    has_required(of_command(rule).fields, object)?;
-    let actor = field::number(object, "actor").ok_or(WireFault::BadField)?;
+    has_required(&[Key::Actor], object)?;
+    has_required(of_command(rule).keys, object)?;
+    let actor = field::number(object, Key::Actor).ok_or(WireFault::BadField)?;
     let command = command(alloc, rule, object)?;
-    knows_all(&["op", "actor"], of_command(rule).fields, object)?;
+    knows_all(&[Key::Op, Key::Actor], of_command(rule).keys, object)?;
     Ok(Step { actor, command })
 }
 
 fn op(object: &LineObject<'_>) -> Result<Op, WireFault>
     ensures { result ≡ or_else NoOp (op_in (data_of object.now)) }
 {
-    let word = field::string(object, "op").ok_or(WireFault::NoOp)?;
+    let word = field::string(object, Key::Op).ok_or(WireFault::NoOp)?;
     Op::named(word).ok_or(WireFault::NoOp)
 }
 
 fn rule(object: &LineObject<'_>) -> Result<Rule, WireFault>
     ensures { result ≡ or_else NoOp (rule_in (data_of object.now)) }
 {
-    let word = field::string(object, "op").ok_or(WireFault::NoOp)?;
+    let word = field::string(object, Key::Op).ok_or(WireFault::NoOp)?;
     rule_named(word).ok_or(WireFault::NoOp)
 }
 
@@ -90,7 +104,7 @@ fn line(alloc: Global, op: Op, object: &LineObject<'_>) -> Result<Line, WireFaul
     let seat = field::seat(object).ok_or(WireFault::BadField)?;
     match op {
         Op::Hello => {
-            let name = field::word(alloc, object, "name")?;
+            let name = field::word(alloc, object, Key::Name)?;
             Ok(Line::Act(Event::Hello { seat, name }))
         }
         Op::Bye => Ok(Line::Act(Event::Bye { seat })),
@@ -110,14 +124,14 @@ fn command(alloc: Global, rule: Rule, object: &LineObject<'_>) -> Result<Command
     match rule {
         Rule::Take => {
             let rights = field::rights(object).ok_or(WireFault::BadField)?;
-            let over = field::number(object, "over").ok_or(WireFault::BadField)?;
-            let from = field::number(object, "from").ok_or(WireFault::BadField)?;
+            let over = field::number(object, Key::Over).ok_or(WireFault::BadField)?;
+            let from = field::number(object, Key::From).ok_or(WireFault::BadField)?;
             Ok(Command::Take { rights, over, from })
         }
         Rule::Grant => {
             let rights = field::rights(object).ok_or(WireFault::BadField)?;
-            let over = field::number(object, "over").ok_or(WireFault::BadField)?;
-            let to = field::number(object, "to").ok_or(WireFault::BadField)?;
+            let over = field::number(object, Key::Over).ok_or(WireFault::BadField)?;
+            let to = field::number(object, Key::To).ok_or(WireFault::BadField)?;
             Ok(Command::Grant { rights, over, to })
         }
         Rule::Create => {
@@ -127,20 +141,20 @@ fn command(alloc: Global, rule: Rule, object: &LineObject<'_>) -> Result<Command
         }
         Rule::Remove => {
             let rights = field::rights(object).ok_or(WireFault::BadField)?;
-            let over = field::number(object, "over").ok_or(WireFault::BadField)?;
+            let over = field::number(object, Key::Over).ok_or(WireFault::BadField)?;
             Ok(Command::Remove { rights, over })
         }
         Rule::Read => {
-            let over = field::number(object, "over").ok_or(WireFault::BadField)?;
+            let over = field::number(object, Key::Over).ok_or(WireFault::BadField)?;
             Ok(Command::Read { over })
         }
         Rule::Write => {
-            let over = field::number(object, "over").ok_or(WireFault::BadField)?;
+            let over = field::number(object, Key::Over).ok_or(WireFault::BadField)?;
             let text = field::text(alloc, object)?;
             Ok(Command::Write { over, text })
         }
         Rule::Look => {
-            let at = field::number(object, "at").ok_or(WireFault::BadField)?;
+            let at = field::number(object, Key::At).ok_or(WireFault::BadField)?;
             Ok(Command::Look { at })
         }
     }

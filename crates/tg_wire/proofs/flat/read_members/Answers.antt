@@ -2,6 +2,7 @@ use Rattle.std.proofs.Common.{◌≡◌, ◌∷◌, ◌+◌, ◌++◌, [], drop,
 use Rattle.json.specs.Token.{string}
 use Rattle.json.specs.Lex.{token, colon, between, lex}
 use Rattle.tg_wire.specs.Flat.{AreSpelled, member_lexemes}
+use Rattle.tg_wire.specs.Keys.{key_text}
 use Rattle.tg_wire.proofs.LexemesLemmas.{within, operator_at}
 use Rattle.tg_wire.proofs.FlatLemmas.{spelled_more, lexemes_more}
 use Rattle.tg_wire.proofs.flat.read_members.Goals as goal
@@ -16,10 +17,10 @@ loop-member-preserved c =
     let is_comma : get_or d end 32 ≡ 44 = ap (λ t. get_or t end 32) (sym c.as_bytes-bytes.ensures.value) ∙ sym c.byte_at.ensures ∙ c.in-44.is in (
       omega (arith, within d end 44 is_comma (λ z. omega arith)),
       (
-        front.0 ++ (member.key.now, found.0) ∷ [],
-        subst (AreSpelled (front.0 ++ (member.key.now, found.0) ∷ [])) (sym c.push.ensures.items) (spelled_more front.0 _ member.key.now found.0 member front.1 refl found.1),
-        front.2 ∙ ap (member_lexemes front.0) (found.2 ∙ ap (λ ls. token (string member.key.now) ∷ colon ∷ token found.0 ∷ ls) (operator_at d end 44 refl is_comma (λ z. omega arith)))
-            ∙ lexemes_more front.0 member.key.now found.0 (lex between (drop (end + 1) d)),
+        front.0 ++ (key_text member.key, found.0) ∷ [],
+        subst (AreSpelled (front.0 ++ (key_text member.key, found.0) ∷ [])) (sym c.push.ensures.items) (spelled_more front.0 _ (key_text member.key) found.0 member front.1 refl found.1),
+        front.2 ∙ ap (member_lexemes front.0) (found.2 ∙ ap (λ ls. token (string (key_text member.key)) ∷ colon ∷ token found.0 ∷ ls) (operator_at d end 44 refl is_comma (λ z. omega arith)))
+            ∙ lexemes_more front.0 (key_text member.key) found.0 (lex between (drop (end + 1) d)),
       ),
     )
 
@@ -33,8 +34,8 @@ returns-in-125-clause-found c =
     let is_brace : get_or d end 32 ≡ 125 = ap (λ t. get_or t end 32) (sym c.as_bytes-bytes.ensures.value) ∙ sym c.byte_at.ensures ∙ c.in-125.is in
     record {
       front = front.0;
-      key = member.key.now;
+      key = key_text member.key;
       value = found.0;
-      spelled = subst (AreSpelled (front.0 ++ (member.key.now, found.0) ∷ [])) (sym c.push.ensures.items) (spelled_more front.0 _ member.key.now found.0 member front.1 refl found.1);
-      lexemes = front.2 ∙ ap (member_lexemes front.0) (found.2 ∙ ap (λ ls. token (string member.key.now) ∷ colon ∷ token found.0 ∷ ls) (operator_at d end 125 refl is_brace (λ z. omega arith)));
+      spelled = subst (AreSpelled (front.0 ++ (key_text member.key, found.0) ∷ [])) (sym c.push.ensures.items) (spelled_more front.0 _ (key_text member.key) found.0 member front.1 refl found.1);
+      lexemes = front.2 ∙ ap (member_lexemes front.0) (found.2 ∙ ap (λ ls. token (string (key_text member.key)) ∷ colon ∷ token found.0 ∷ ls) (operator_at d end 125 refl is_brace (λ z. omega arith)));
     }

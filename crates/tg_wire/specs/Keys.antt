@@ -1,0 +1,33 @@
+-- the keys that lines have, and lists of them
+use Rattle.std.specs.Prelude.{ℕ, List, Bool, ◌||◌, map, codes}
+use Rattle.std.specs.List.{list_any}
+use Rattle.std.specs.Str.{bytes_eq}
+use Rattle.tg_wire.specs.declared.key.Key.{Key}
+use Rattle.tg_wire.specs.declared.key.Key.TheVariants as key
+
+abbrev pub key_text : Key → List ℕ
+key_text key.Op = codes "op"
+key_text key.Seat = codes "seat"
+key_text key.Actor = codes "actor"
+key_text key.Over = codes "over"
+key_text key.From = codes "from"
+key_text key.To = codes "to"
+key_text key.At = codes "at"
+key_text key.Rights = codes "rights"
+key_text key.Kind = codes "kind"
+key_text key.Text = codes "text"
+key_text key.Name = codes "name"
+key_text key.Principals = codes "principals"
+key_text key.Edges = codes "edges"
+key_text key.Next = codes "next"
+key_text key.Slots = codes "slots"
+key_text key.Cells = codes "cells"
+
+abbrev pub key_texts : List Key → List (List ℕ)
+key_texts keys = map key_text keys
+
+abbrev pub is_listed : List ℕ → List Key → Bool
+is_listed text keys = list_any (λ key. bytes_eq text (key_text key)) keys
+
+abbrev pub is_listed_in_either : List Key → List Key → List ℕ → Bool
+is_listed_in_either a b text = is_listed text a || is_listed text b
