@@ -21,7 +21,7 @@ use std::rt::Clock;
 use std::sync::Wait;
 use std::sync::ledger::Ledger;
 use tg_share::{Ended, Gate, Session, Shared};
-use tg_wire::{WireFault, error_line};
+use tg_wire::{LineRoom, WireFault, error_line};
 
 /// What a talk came to.
 #[derive(Drop)]
@@ -75,10 +75,11 @@ pub fn talk<L: Ledger, D: Read, W: Write + Drop, R: Wait + Clock, G: Gate>(
             ended: None,
         };
     };
+    let mut room = LineRoom::new(alloc);
     let mut sitting = None;
     loop {
         match take_turn(
-            rt, alloc, &mut input, reader, writer, shared, seat, gate, sitting,
+            rt, alloc, &mut input, reader, writer, shared, seat, gate, sitting, &mut room,
         ) {
             Turn::GoOn(then) => sitting = then,
             Turn::Ended(then, fault) => {
@@ -113,6 +114,7 @@ fn take_turn<'s, L: Ledger, D: Read, W: Write + Drop, R: Wait + Clock, G: Gate>(
     seat: u64,
     gate: &G,
     sitting: Option<Session<'s, L>>,
+    room: &mut LineRoom,
 ) -> Turn<'s, L>
     requires few { input.old.taken ≤ MOST_LINES }
     requires reads { has_failed reader.old ≡ false }
@@ -149,8 +151,8 @@ fn take_turn<'s, L: Ledger, D: Read, W: Write + Drop, R: Wait + Clock, G: Gate>(
             Turn::Ended(sitting, fault)
         }
         Next::Line => match sitting {
-            None => answer_stranger(rt, alloc, writer, shared, seat, input.line()),
-            Some(session) => answer_session(rt, alloc, writer, gate, session, input.line()),
+            None => answer_stranger(rt, alloc, writer, shared, seat, input.line(), room),
+            Some(session) => answer_session(rt, alloc, writer, gate, session, input.line(), room),
         },
     }
 }
@@ -163,6 +165,7 @@ fn answer_stranger<'s, L: Ledger, W: Write + Drop, R: Wait>(
     shared: &'s Shared<L>,
     seat: u64,
     bytes: &[u8],
+    room: &mut LineRoom,
 ) -> Turn<'s, L>
     requires writes { has_failed writer.old ≡ false }
     ensures writes { goes_on result ≡ true → has_failed writer.new ≡ false }
@@ -172,8 +175,8 @@ fn answer_stranger<'s, L: Ledger, W: Write + Drop, R: Wait>(
     ensures seat { IfSome (sitting_in result) (λ s. s.seat ≡ seat) }
     ensures answered { Answered result None bytes.now (promised W.contents writer.old) (promised W.contents writer.new) (has_failed writer.new) }
 {
-    let Greeted { session, text } = hear_stranger(rt, alloc, shared, seat, bytes);
-    match send(writer, text) {
+    let Greeted { session, text } = hear_stranger(rt, alloc, shared, seat, bytes, room);
+    match send(writer, text, room) {
         None => Turn::GoOn(session),
         Some(fault) => Turn::Ended(session, Some(fault)),
     }
@@ -187,6 +190,7 @@ fn answer_session<'s, L: Ledger, W: Write + Drop, R: Wait + Clock, G: Gate>(
     gate: &G,
     session: Session<'s, L>,
     bytes: &[u8],
+    room: &mut LineRoom,
 ) -> Turn<'s, L>
     requires writes { has_failed writer.old ≡ false }
     ensures writes { goes_on result ≡ true → has_failed writer.new ≡ false }
@@ -197,12 +201,12 @@ fn answer_session<'s, L: Ledger, W: Write + Drop, R: Wait + Clock, G: Gate>(
     ensures answered { Answered result (Some session.entry) bytes.now (promised W.contents writer.old) (promised W.contents writer.new) (has_failed writer.new) }
 {
     let mut session = session;
-    match hear_session(rt, alloc, &mut session, gate, bytes) {
-        Said::Answer(text) => match send(writer, text) {
+    match hear_session(rt, alloc, &mut session, gate, bytes, room) {
+        Said::Answer(text) => match send(writer, text, room) {
             None => Turn::GoOn(Some(session)),
             Some(fault) => Turn::Ended(Some(session), Some(fault)),
         },
-        Said::Bye(text) => Turn::Ended(Some(session), send_last(writer, text)),
+        Said::Bye(text) => Turn::Ended(Some(session), send_last(writer, text, room)),
         Said::Nothing => Turn::Ended(
             Some(session),
             pay_last(writer, Some(TalkFault::OutOfMemory)),
@@ -210,14 +214,21 @@ fn answer_session<'s, L: Ledger, W: Write + Drop, R: Wait + Clock, G: Gate>(
     }
 }
 
-/// Writes the line of a text; the fault of the writer where it fails.
-fn send<W: Write + Drop>(writer: &mut Watched<BufWriter<W>>, text: Text) -> Option<TalkFault>
+/// Writes the line of a text, and takes its room back; the fault of the writer where it fails.
+fn send<W: Write + Drop>(
+    writer: &mut Watched<BufWriter<W>>,
+    text: Text,
+    room: &mut LineRoom,
+) -> Option<TalkFault>
     requires writes { has_failed writer.old ≡ false }
     ensures fault { EndsOnce None (has_failed writer.new) result }
     ensures sent { Sends (promised W.contents writer.old) (promised W.contents writer.new) (has_failed writer.new) (text_of text) }
 {
     match text {
-        Text::Line(line) => send_line(writer, &line),
+        Text::Line(line) => {
+            send_line(writer, &line);
+            room.take_back(line);
+        }
         Text::Refusal(refused) => send_line(writer, error_line(refused)),
         Text::NotForASession => send_line(writer, not_for_a_session_line()),
     }
@@ -229,13 +240,17 @@ fn send<W: Write + Drop>(writer: &mut Watched<BufWriter<W>>, text: Text) -> Opti
 }
 
 /// Writes the line of a text, and all that is held back; the fault of the writer where it fails.
-fn send_last<W: Write + Drop>(writer: &mut Watched<BufWriter<W>>, text: Text) -> Option<TalkFault>
+fn send_last<W: Write + Drop>(
+    writer: &mut Watched<BufWriter<W>>,
+    text: Text,
+    room: &mut LineRoom,
+) -> Option<TalkFault>
     requires writes { has_failed writer.old ≡ false }
     ensures fault { EndsOnce None (has_failed writer.new) result }
     ensures paid { has_failed writer.new ≡ false → owed writer.new ≡ [] }
     ensures sent { Sends (promised W.contents writer.old) (promised W.contents writer.new) (has_failed writer.new) (text_of text) }
 {
-    match send(writer, text) {
+    match send(writer, text, room) {
         None => pay_last(writer, None),
         Some(fault) => Some(fault),
     }

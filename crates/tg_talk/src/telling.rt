@@ -11,7 +11,7 @@ use std::sync::ledger::Ledger;
 use tg_rights::{Command, Word};
 use tg_share::{Gate, Session, Shared};
 use tg_vault::{Answer, AskFault, Event, SeatFault};
-use tg_wire::{Line, WireFault, read_line, write_answer, write_reply};
+use tg_wire::{Line, LineRoom, WireFault, read_line, write_answer_in, write_reply_in};
 
 /// The line of an answer, or the refusal whose line it is.
 #[derive(Drop)]
@@ -39,10 +39,10 @@ pub(crate) struct Greeted<'s, L: Ledger> {
 }
 
 /// The line of an answer, or `out of memory` in its place.
-fn text_of_answer(alloc: Global, answer: &Answer) -> Text
+fn text_of_answer(room: &mut LineRoom, answer: &Answer) -> Text
     ensures { Tells answer.now (text_of result) }
 {
-    match write_answer(alloc, answer) {
+    match write_answer_in(room, answer) {
         Ok(line) => Text::Line(line),
         Err(_) => Text::Refusal(WireFault::OutOfMemory),
     }
@@ -75,12 +75,13 @@ fn greet<'s, L: Ledger, R: Wait>(
     shared: &'s Shared<L>,
     seat: u64,
     name: &Word,
+    room: &mut LineRoom,
 ) -> Greeted<'s, L>
     ensures { Seats result.session (text_of result.text) seat }
 {
     match shared.session(rt, alloc, seat, name.get()) {
         Ok(session) => {
-            let text = text_of_answer(alloc, &Answer::Hello(session.actor()));
+            let text = text_of_answer(room, &Answer::Hello(session.actor()));
             Greeted {
                 session: Some(session),
                 text,
@@ -88,7 +89,7 @@ fn greet<'s, L: Ledger, R: Wait>(
         }
         Err(fault) => Greeted {
             session: None,
-            text: text_of_answer(alloc, &Answer::Seat(fault)),
+            text: text_of_answer(room, &Answer::Seat(fault)),
         },
     }
 }
@@ -100,6 +101,7 @@ pub(crate) fn hear_stranger<'s, L: Ledger, R: Wait>(
     shared: &'s Shared<L>,
     seat: u64,
     bytes: &[u8],
+    room: &mut LineRoom,
 ) -> Greeted<'s, L>
     ensures told { LineTold None bytes.now (actor_of result.session) [] (text_of result.text) }
     ensures seat { IfSome result.session (λ s. (s.seat ≡ seat) × (s.log ≡ [])) }
@@ -110,10 +112,10 @@ pub(crate) fn hear_stranger<'s, L: Ledger, R: Wait>(
             text: Text::Refusal(fault),
         },
         Ok(line) => match hello_in(line) {
-            Some(name) => greet(rt, alloc, shared, seat, &name),
+            Some(name) => greet(rt, alloc, shared, seat, &name, room),
             None => Greeted {
                 session: None,
-                text: text_of_answer(alloc, &Answer::Ask(AskFault::NoActor)),
+                text: text_of_answer(room, &Answer::Ask(AskFault::NoActor)),
             },
         },
     }
@@ -126,6 +128,7 @@ pub(crate) fn hear_session<'s, L: Ledger, R: Wait + Clock, G: Gate>(
     session: &mut Session<'s, L>,
     gate: &G,
     bytes: &[u8],
+    room: &mut LineRoom,
 ) -> Said
     ensures heard { Hears session.old bytes.now result session.new }
     ensures seat { session.new.seat ≡ session.old.seat }
@@ -135,10 +138,10 @@ pub(crate) fn hear_session<'s, L: Ledger, R: Wait + Clock, G: Gate>(
         Ok(Line::Cycle) => Said::Answer(Text::NotForASession),
         Ok(Line::Act(event)) => match event {
             Event::Hello { seat: _, name: _ } => {
-                Said::Answer(text_of_answer(alloc, &Answer::Seat(SeatFault::Bound)))
+                Said::Answer(text_of_answer(room, &Answer::Seat(SeatFault::Bound)))
             }
-            Event::Bye { seat: _ } => Said::Bye(text_of_answer(alloc, &Answer::Bye)),
-            Event::Ask { seat: _, command } => ask(rt, alloc, session, gate, command),
+            Event::Bye { seat: _ } => Said::Bye(text_of_answer(room, &Answer::Bye)),
+            Event::Ask { seat: _, command } => ask(rt, session, gate, command, room),
             Event::Shade { seat: _ } => Said::Answer(Text::NotForASession),
             Event::Collect => Said::Answer(Text::NotForASession),
         },
@@ -148,18 +151,18 @@ pub(crate) fn hear_session<'s, L: Ledger, R: Wait + Clock, G: Gate>(
 /// Asks the command, and gives the line of the reply.
 fn ask<'s, L: Ledger, R: Wait + Clock, G: Gate>(
     rt: &R,
-    alloc: Global,
     session: &mut Session<'s, L>,
     gate: &G,
     command: Command,
+    room: &mut LineRoom,
 ) -> Said
     ensures { Asks session.old command result session.new }
 {
     match session.submit(rt, command, gate) {
-        Ok(reply) => match write_reply(alloc, reply) {
+        Ok(reply) => match write_reply_in(room, reply) {
             Ok(line) => Said::Answer(Text::Line(line)),
             Err(_) => Said::Nothing,
         },
-        Err(fault) => Said::Answer(text_of_answer(alloc, &Answer::Ask(fault))),
+        Err(fault) => Said::Answer(text_of_answer(room, &Answer::Ask(fault))),
     }
 }

@@ -1,7 +1,8 @@
 -- what the fields of a line that is written tell
-use Rattle.std.specs.Prelude.{ℕ, List, [], ◌∷◌}
+use Rattle.std.specs.Prelude.{ℕ, List, [], ◌∷◌, ◌++◌}
 use Rattle.std.specs.Borrow.{Bor}
 use Rattle.serde_json.specs.Data.{Data, null, boolean, string, number, unsigned, array, Members, no_members, member}
+use Rattle.serde_json.specs.Written.{compact_text}
 use Rattle.tg_wire.specs.Replies.{rights_text, edges_data}
 use Rattle.tg_wire.specs.declared.object_line.Told.{Told}
 use Rattle.tg_wire.specs.declared.object_line.Told.TheVariants as told
@@ -18,3 +19,7 @@ told_data (told.Edges es) = array (edges_data es.now)
 abbrev pub told_members : List (Bor (List ℕ) × Told) → Members
 told_members [] = no_members
 told_members (f ∷ fs) = member f.0.now (told_data f.1) (told_members fs)
+
+-- the line of an object that begins so, and ends with this value
+abbrev pub led_text : List ℕ → Data → List ℕ
+led_text lead d = lead ++ ((compact_text d ++ 125 ∷ []) ++ 10 ∷ [])

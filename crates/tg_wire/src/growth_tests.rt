@@ -1,8 +1,8 @@
 //! Each call that takes memory, where it is refused: the call says so, and made again it answers as the protocol has it.
 //! tests/growths.py refuses each allocation of a test in turn.
 use crate::{
-    Line, WireFault, read_config, read_goal, read_line, read_step, write_answer, write_reply,
-    write_swept, write_verdict,
+    Line, LineRoom, WireFault, read_config, read_goal, read_line, read_step, write_answer,
+    write_reply, write_reply_in, write_swept, write_verdict,
 };
 use std::alloc::Global;
 use tg_graph::Verdict;
@@ -132,6 +132,32 @@ fn the_reply_is_written(alloc: Global) -> Result<bool, WireFault> {
 #[test]
 fn growth_refused_in_write_reply(rt: HostRuntime) {
     assert!(rt; matches!(&answered(&rt, the_reply_is_written), Ok(true)));
+}
+
+/// The reply of a create is written in the room, which then comes back; once more where memory is refused.
+fn is_written_in(rt: &HostRuntime, room: &mut LineRoom, vertex: u64, wanted: &[u8]) -> bool {
+    let reply = Reply::Created(vertex);
+    let line = match write_reply_in(room, &reply) {
+        Ok(line) => line,
+        Err(_) => {
+            let _ = rt.println("no memory");
+            let Ok(line) = write_reply_in(room, &reply) else {
+                return false;
+            };
+            line
+        }
+    };
+    let same = line.as_slice() == wanted;
+    room.take_back(line);
+    same
+}
+
+/// Room that could not be taken is taken with the next line, and kept for the one behind it.
+#[test]
+fn growth_refused_in_write_reply_in(rt: HostRuntime) {
+    let room = &mut LineRoom::new(rt.alloc());
+    assert!(rt; is_written_in(&rt, room, 3, b"{\"ok\":\"created\",\"vertex\":3}\n"));
+    assert!(rt; is_written_in(&rt, room, 4, b"{\"ok\":\"created\",\"vertex\":4}\n"));
 }
 
 fn the_answer_is_written(alloc: Global) -> Result<bool, WireFault> {

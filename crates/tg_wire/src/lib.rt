@@ -10,6 +10,7 @@ mod growth_tests;
 mod key;
 mod laws;
 mod line;
+mod line_room;
 mod object;
 mod object_line;
 mod op;
@@ -24,6 +25,10 @@ pub use config::{read_config, read_goal};
 pub use fault::WireFault;
 pub use laws::{configs_say, goals_say, lines_say, one_reply_a_line, steps_say, worked_lines};
 pub use line::{LONGEST_LINE, Line};
+pub use line_room::LineRoom;
 pub use read::{read_line, read_step};
 pub use refusal::{error_line, open_fault_line};
-pub use write::{write_answer, write_reply, write_swept, write_verdict};
+pub use write::{
+    write_answer, write_answer_in, write_reply, write_reply_in, write_swept, write_swept_in,
+    write_verdict,
+};

@@ -2,19 +2,17 @@
 
 ghost use Rattle.std.specs.Prelude.{◌≡◌, ◌++◌, ◌∷◌, [], IfOk, OnOk};
 ghost use Rattle.json.specs.Token.{end_object};
-ghost use Rattle.json.specs.Tree.{json_tokens, items_tokens, members_tokens};
+ghost use Rattle.json.specs.Tree.{json_tokens, members_tokens};
 ghost use Rattle.serde_json.specs.Data.{array, object};
-ghost use Rattle.serde_json.specs.Written.{outline, items_outline, members_outline};
+ghost use Rattle.serde_json.specs.Written.{outline, members_outline};
 ghost use Rattle.tg_wire.specs.Faults.{line_text};
 ghost use Rattle.tg_wire.specs.Replies.{rights_text, edge_data, edges_data};
-ghost use Rattle.tg_wire.specs.Told.{told_data, told_members};
+ghost use Rattle.tg_wire.specs.Told.{led_text, told_data, told_members};
 
+use crate::line_room::LineRoom;
 use json::Writer;
-use std::alloc::{AllocError, Global};
+use std::alloc::AllocError;
 use tg_rights::Rights;
-
-/// Room for most lines.
-const ROOM: usize = 128;
 
 /// What a field tells.
 #[derive(Clone, Copy, Drop)]
@@ -29,15 +27,46 @@ pub(crate) enum Told<'a> {
 
 /// The line of an object with these fields, in their order. It ends with a line feed.
 #[tactic(auto, using(crate::proofs::ObjectLineLemmas::printed_line))]
-pub(crate) fn object_line(alloc: Global, fields: &[(&str, Told<'_>)]) -> Result<Vec<u8>, AllocError>
+pub(crate) fn object_line(
+    room: &mut LineRoom,
+    fields: &[(&str, Told<'_>)],
+) -> Result<Vec<u8>, AllocError>
     ensures { IfOk result (λ line. line.items ≡ line_text (object (told_members fields.now))) }
 {
-    let mut out = Writer::new(Vec::with_capacity(alloc, ROOM)?);
+    let mut out = Writer::new(room.lend()?);
     out.begin_object()?;
     put_fields(&mut out, fields)?;
     out.end_object()?;
     let mut bytes = out.into_inner();
     bytes.push(b'\n')?;
+    Ok(bytes)
+}
+
+/// The line of an object that begins so, and ends with this value. It ends with a line feed.
+#[tactic(auto, using(crate::proofs::ObjectLineLemmas::led))]
+pub(crate) fn led_line(
+    room: &mut LineRoom,
+    lead: &[u8],
+    told: &Told<'_>,
+) -> Result<Vec<u8>, AllocError>
+    ensures { IfOk result (λ line. line.items ≡ led_text lead.now (told_data told.now)) }
+{
+    let mut bytes = room.lend()?;
+    bytes.extend_from_slice(lead)?;
+    let mut out = Writer::new(bytes);
+    put(&mut out, told)?;
+    let mut line = out.into_inner();
+    line.push(b'}')?;
+    line.push(b'\n')?;
+    Ok(line)
+}
+
+/// A line that is always the same.
+pub(crate) fn fixed_line(room: &mut LineRoom, line: &[u8]) -> Result<Vec<u8>, AllocError>
+    ensures { IfOk result (λ told. told.items ≡ line.now) }
+{
+    let mut bytes = room.lend()?;
+    bytes.extend_from_slice(line)?;
     Ok(bytes)
 }
 

@@ -6,7 +6,8 @@ ghost use Rattle.tg_wire.specs.Faults.{line_text, seat_fault_text as text_of_sea
 ghost use Rattle.tg_wire.specs.Replies.{which_text as text_of_which, denied_data, reply_line};
 ghost use Rattle.tg_wire.specs.Answers.{phase_text as text_of_phase, denied_step_data, noted_data, answer_line, swept_line, verdict_line};
 
-use crate::object_line::{Told, object_line};
+use crate::line_room::LineRoom;
+use crate::object_line::{Told, fixed_line, led_line, object_line};
 use crate::op::of_command;
 use std::alloc::{AllocError, Global};
 use tg_collect::{Note, Phase};
@@ -15,56 +16,79 @@ use tg_rights::{Cause, Reply, Rule, Which};
 use tg_vault::{Answer, AskFault, SeatFault, Swept};
 
 /// The line of a reply, which ends with a line feed. Keys are in rising order, with no white space.
-#[tactic(auto, unfolding(crate::specs::Replies::reply_line))]
 pub fn write_reply(alloc: Global, reply: &Reply) -> Result<Vec<u8>, AllocError>
     ensures { IfOk result (λ line. line.items ≡ reply_line reply.now) }
 {
+    write_reply_in(&mut LineRoom::new(alloc), reply)
+}
+
+/// The same in room that is kept; where memory is refused, there is no room until a line comes back.
+#[tactic(auto, unfolding(crate::specs::Replies::reply_line, crate::proofs::Literals::numbers_on_literals))]
+pub fn write_reply_in(room: &mut LineRoom, reply: &Reply) -> Result<Vec<u8>, AllocError>
+    ensures { IfOk result (λ line. line.items ≡ reply_line reply.now) }
+{
     match reply {
-        Reply::Done => object_line(alloc, &[("ok", Told::Word("done"))]),
-        Reply::Created(vertex) => vertex_line(alloc, "created", *vertex),
-        Reply::Text(text) => object_line(
-            alloc,
-            &[("ok", Told::Word("text")), ("text", Told::Word(text.get()))],
+        Reply::Done => fixed_line(room, b"{\"ok\":\"done\"}\n"),
+        Reply::Created(vertex) => led_line(
+            room,
+            b"{\"ok\":\"created\",\"vertex\":",
+            &Told::Number(*vertex),
         ),
+        Reply::Text(text) => led_line(room, b"{\"ok\":\"text\",\"text\":", &Told::Word(text.get())),
         Reply::Edges(edges) => object_line(
-            alloc,
+            room,
             &[
                 ("edges", Told::Edges(edges.get())),
                 ("ok", Told::Word("edges")),
             ],
         ),
-        Reply::Denied(rule, cause) => denied_line(alloc, *rule, *cause),
-        Reply::Full(which) => object_line(alloc, &[("full", Told::Word(which_text(*which)))]),
+        Reply::Denied(rule, cause) => denied_line(room, *rule, *cause),
+        Reply::Full(which) => led_line(room, b"{\"full\":", &Told::Word(which_text(*which))),
     }
 }
 
 /// The line of an answer, which ends with a line feed. Keys are in rising order, with no white space.
-#[tactic(auto, unfolding(crate::specs::Answers::answer_line, crate::specs::Replies::reply_line))]
 pub fn write_answer(alloc: Global, answer: &Answer) -> Result<Vec<u8>, AllocError>
     ensures { IfOk result (λ line. line.items ≡ answer_line answer.now) }
 {
+    write_answer_in(&mut LineRoom::new(alloc), answer)
+}
+
+/// The same in room that is kept, as `write_reply_in`.
+#[tactic(auto, unfolding(crate::specs::Answers::answer_line, crate::specs::Replies::reply_line, crate::proofs::Literals::numbers_on_literals))]
+pub fn write_answer_in(room: &mut LineRoom, answer: &Answer) -> Result<Vec<u8>, AllocError>
+    ensures { IfOk result (λ line. line.items ≡ answer_line answer.now) }
+{
     match answer {
-        Answer::Hello(vertex) => vertex_line(alloc, "hello", *vertex),
-        Answer::Bye => object_line(alloc, &[("ok", Told::Word("bye"))]),
-        Answer::Asked(_, reply) => write_reply(alloc, reply),
-        Answer::Shaded(Some(vertex)) => object_line(alloc, &[("shaded", Told::Number(*vertex))]),
-        Answer::Shaded(None) => object_line(alloc, &[("shaded", Told::Nothing)]),
-        Answer::Seat(fault) => object_line(
-            alloc,
-            &[("error", Told::Word(seat_fault_text(*fault)))],
+        Answer::Hello(vertex) => led_line(
+            room,
+            b"{\"ok\":\"hello\",\"vertex\":",
+            &Told::Number(*vertex),
         ),
-        Answer::Ask(fault) => object_line(alloc, &[("error", Told::Word(ask_fault_text(*fault)))]),
-        Answer::Noted(note) => noted_line(alloc, *note),
+        Answer::Bye => fixed_line(room, b"{\"ok\":\"bye\"}\n"),
+        Answer::Asked(_, reply) => write_reply_in(room, reply),
+        Answer::Shaded(Some(vertex)) => led_line(room, b"{\"shaded\":", &Told::Number(*vertex)),
+        Answer::Shaded(None) => led_line(room, b"{\"shaded\":", &Told::Nothing),
+        Answer::Seat(fault) => led_line(room, b"{\"error\":", &Told::Word(seat_fault_text(*fault))),
+        Answer::Ask(fault) => led_line(room, b"{\"error\":", &Told::Word(ask_fault_text(*fault))),
+        Answer::Noted(note) => noted_line(room, *note),
     }
 }
 
 /// The line of what a cycle did, which ends with a line feed. Keys are in rising order, with no white space.
-#[tactic(auto, unfolding(crate::specs::Answers::swept_line))]
 pub fn write_swept(alloc: Global, swept: Swept) -> Result<Vec<u8>, AllocError>
     ensures { IfOk result (λ line. line.items ≡ swept_line swept) }
 {
+    write_swept_in(&mut LineRoom::new(alloc), swept)
+}
+
+/// The same in room that is kept, as `write_reply_in`.
+#[tactic(auto, unfolding(crate::specs::Answers::swept_line))]
+pub fn write_swept_in(room: &mut LineRoom, swept: Swept) -> Result<Vec<u8>, AllocError>
+    ensures { IfOk result (λ line. line.items ≡ swept_line swept) }
+{
     object_line(
-        alloc,
+        room,
         &[
             ("freed", Told::Number(swept.freed)),
             ("steps", Told::Number(swept.steps)),
@@ -77,15 +101,16 @@ pub fn write_swept(alloc: Global, swept: Swept) -> Result<Vec<u8>, AllocError>
 pub fn write_verdict(alloc: Global, verdict: &Verdict) -> Result<Vec<u8>, AllocError>
     ensures { IfOk result (λ line. line.items ≡ verdict_line verdict.now) }
 {
+    let room = &mut LineRoom::new(alloc);
     match verdict {
-        Verdict::Shared => object_line(alloc, &[("verdict", Told::Word("shared"))]),
-        Verdict::ActorNotSubject { index } => step_line(alloc, *index, "actor not subject"),
+        Verdict::Shared => object_line(room, &[("verdict", Told::Word("shared"))]),
+        Verdict::ActorNotSubject { index } => step_line(room, *index, "actor not subject"),
         Verdict::StepDenied { index, rule, cause } => {
-            denied_step_line(alloc, *index, *rule, *cause)
+            denied_step_line(room, *index, *rule, *cause)
         }
-        Verdict::StepFull { index } => step_line(alloc, *index, "step full"),
+        Verdict::StepFull { index } => step_line(room, *index, "step full"),
         Verdict::GoalMissing { rights } => object_line(
-            alloc,
+            room,
             &[
                 ("missing", Told::Letters(*rights)),
                 ("verdict", Told::Word("goal missing")),
@@ -94,20 +119,11 @@ pub fn write_verdict(alloc: Global, verdict: &Verdict) -> Result<Vec<u8>, AllocE
     }
 }
 
-fn vertex_line(alloc: Global, word: &str, vertex: u64) -> Result<Vec<u8>, AllocError>
-    ensures { IfOk result (λ line. line.items ≡ line_text (object (member (codes "ok") (string word.now) (member (codes "vertex") (number (unsigned vertex)) no_members)))) }
-{
-    object_line(
-        alloc,
-        &[("ok", Told::Word(word)), ("vertex", Told::Number(vertex))],
-    )
-}
-
-fn step_line(alloc: Global, step: u64, verdict: &str) -> Result<Vec<u8>, AllocError>
+fn step_line(room: &mut LineRoom, step: u64, verdict: &str) -> Result<Vec<u8>, AllocError>
     ensures { IfOk result (λ line. line.items ≡ line_text (object (member (codes "step") (number (unsigned step)) (member (codes "verdict") (string verdict.now) no_members)))) }
 {
     object_line(
-        alloc,
+        room,
         &[
             ("step", Told::Number(step)),
             ("verdict", Told::Word(verdict)),
@@ -115,18 +131,18 @@ fn step_line(alloc: Global, step: u64, verdict: &str) -> Result<Vec<u8>, AllocEr
     )
 }
 
-fn denied_line(alloc: Global, rule: Rule, cause: Cause) -> Result<Vec<u8>, AllocError>
+fn denied_line(room: &mut LineRoom, rule: Rule, cause: Cause) -> Result<Vec<u8>, AllocError>
     ensures { IfOk result (λ line. line.items ≡ line_text (denied_data rule cause)) }
 {
     let denied = Told::Word(of_command(rule).word);
     match cause {
-        Cause::Empty => object_line(alloc, &[("cause", Told::Word("empty")), ("denied", denied)]),
+        Cause::Empty => object_line(room, &[("cause", Told::Word("empty")), ("denied", denied)]),
         Cause::NotDistinct => object_line(
-            alloc,
+            room,
             &[("cause", Told::Word("not distinct")), ("denied", denied)],
         ),
         Cause::Missing { from, to, rights } => object_line(
-            alloc,
+            room,
             &[
                 ("denied", denied),
                 ("from", Told::Number(from)),
@@ -135,7 +151,7 @@ fn denied_line(alloc: Global, rule: Rule, cause: Cause) -> Result<Vec<u8>, Alloc
             ],
         ),
         Cause::NotDocument { vertex } => object_line(
-            alloc,
+            room,
             &[
                 ("cause", Told::Word("not document")),
                 ("denied", denied),
@@ -146,7 +162,7 @@ fn denied_line(alloc: Global, rule: Rule, cause: Cause) -> Result<Vec<u8>, Alloc
 }
 
 fn denied_step_line(
-    alloc: Global,
+    room: &mut LineRoom,
     step: u64,
     rule: Rule,
     cause: Cause,
@@ -158,7 +174,7 @@ fn denied_step_line(
     let verdict = Told::Word("step denied");
     match cause {
         Cause::Empty => object_line(
-            alloc,
+            room,
             &[
                 ("cause", Told::Word("empty")),
                 ("denied", denied),
@@ -167,7 +183,7 @@ fn denied_step_line(
             ],
         ),
         Cause::NotDistinct => object_line(
-            alloc,
+            room,
             &[
                 ("cause", Told::Word("not distinct")),
                 ("denied", denied),
@@ -176,7 +192,7 @@ fn denied_step_line(
             ],
         ),
         Cause::Missing { from, to, rights } => object_line(
-            alloc,
+            room,
             &[
                 ("denied", denied),
                 ("from", Told::Number(from)),
@@ -187,7 +203,7 @@ fn denied_step_line(
             ],
         ),
         Cause::NotDocument { vertex } => object_line(
-            alloc,
+            room,
             &[
                 ("cause", Told::Word("not document")),
                 ("denied", denied),
@@ -199,11 +215,11 @@ fn denied_step_line(
     }
 }
 
-fn noted_line(alloc: Global, note: Note) -> Result<Vec<u8>, AllocError>
+fn noted_line(room: &mut LineRoom, note: Note) -> Result<Vec<u8>, AllocError>
     ensures { IfOk result (λ line. line.items ≡ line_text (noted_data note)) }
 {
     object_line(
-        alloc,
+        room,
         &[
             ("ended", Told::Truth(note.ended)),
             ("freed", Told::Number(note.freed)),

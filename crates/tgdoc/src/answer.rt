@@ -11,7 +11,7 @@ ghost use Rattle.tgdoc.specs.Turns.{AnswersLine, TellsAnswer, TellsSwept, text_o
 
 use std::alloc::Global;
 use tg_vault::{Answer, Event, Swept, Vault};
-use tg_wire::{Line, WireFault, read_line, write_answer, write_swept};
+use tg_wire::{Line, LineRoom, WireFault, read_line, write_answer_in, write_swept_in};
 
 /// The line of an answer, or the fault whose line it is, and whether that is an `error` line.
 #[derive(Drop)]
@@ -22,12 +22,12 @@ pub(crate) struct Told {
 
 /// Reads a line, carries out its event or a cycle of the collector, and gives the answer's line.
 #[inline(always)]
-pub(crate) fn answer(alloc: Global, vault: &mut Vault, bytes: &[u8]) -> Told
+pub(crate) fn answer(alloc: Global, vault: &mut Vault, bytes: &[u8], room: &mut LineRoom) -> Told
     ensures { AnswersLine vault.old bytes.now vault.new (text_of result.text) (one_if result.is_error) }
 {
     match read_line(alloc, bytes) {
-        Ok(Line::Act(event)) => carry_out(alloc, vault, event),
-        Ok(Line::Cycle) => sweep(alloc, vault),
+        Ok(Line::Act(event)) => carry_out(vault, event, room),
+        Ok(Line::Cycle) => sweep(vault, room),
         Err(fault) => Told {
             text: Err(fault),
             is_error: true,
@@ -37,28 +37,28 @@ pub(crate) fn answer(alloc: Global, vault: &mut Vault, bytes: &[u8]) -> Told
 
 /// Carries out one event, and gives the answer's line.
 #[inline(always)]
-fn carry_out(alloc: Global, vault: &mut Vault, event: Event) -> Told
+fn carry_out(vault: &mut Vault, event: Event, room: &mut LineRoom) -> Told
     ensures { (answer : Answer) × VaultStep vault.old event answer vault.new × TellsAnswer answer (text_of result.text) result.is_error }
 {
     let answer = vault.run_one(event);
-    tell(alloc, &answer)
+    tell(room, &answer)
 }
 
 /// Carries out a cycle of the collector, and gives the line of what it did.
 #[inline(always)]
-fn sweep(alloc: Global, vault: &mut Vault) -> Told
+fn sweep(vault: &mut Vault, room: &mut LineRoom) -> Told
     ensures keeps { Keeps vault.old vault.new }
     ensures swept { (swept : Swept) × IsCycle vault.old swept vault.new × TellsSwept swept (text_of result.text) result.is_error }
 {
     let swept = vault.cycle();
-    tell_swept(alloc, swept)
+    tell_swept(room, swept)
 }
 
 /// The line of the answer, or `out of memory` in its place.
-fn tell(alloc: Global, answer: &Answer) -> Told
+fn tell(room: &mut LineRoom, answer: &Answer) -> Told
     ensures { TellsAnswer answer.now (text_of result.text) result.is_error }
 {
-    match write_answer(alloc, answer) {
+    match write_answer_in(room, answer) {
         Ok(line) => Told {
             text: Ok(line),
             is_error: is_error(answer),
@@ -71,10 +71,10 @@ fn tell(alloc: Global, answer: &Answer) -> Told
 }
 
 /// The line of what a cycle did, or `out of memory` in its place.
-fn tell_swept(alloc: Global, swept: Swept) -> Told
+fn tell_swept(room: &mut LineRoom, swept: Swept) -> Told
     ensures { TellsSwept swept (text_of result.text) result.is_error }
 {
-    match write_swept(alloc, swept) {
+    match write_swept_in(room, swept) {
         Ok(line) => Told {
             text: Ok(line),
             is_error: false,

@@ -2,9 +2,8 @@
 
 ghost use Rattle.std.specs.Prelude.{◌≡◌, ◌≢◌, ◌↔◌, ◌≤◌, [], true, false, IfSome, IfOk, IfErr, Some};
 ghost use Rattle.std.specs.Io.KnownBytes.{Keeps, prepend_known};
-ghost use Rattle.tg_talk.specs.Devices.{Sends, device_of, has_failed, owed, promised};
+ghost use Rattle.tg_talk.specs.Devices.{device_of, has_failed, owed, promised};
 ghost use Rattle.tg_talk.specs.declared.fault.TalkFault.TheVariants.{OutOfMemory, Reading, Writing};
-ghost use Rattle.tg_talk.specs.Endings.{EndsOnce};
 ghost use Rattle.tgdoc.specs.Runs.{LinesRan, RefusesOpening};
 ghost use Rattle.tgdoc.specs.Turns.{Opens, RestAnswered};
 
@@ -12,9 +11,9 @@ use crate::finished::{Finished, finish};
 use crate::run_state::{RunState, Turn};
 use std::alloc::Global;
 use std::io::{BufWriter, Read, Write};
-use tg_talk::{InputLines, Next, TalkFault, Watched, send_line};
+use tg_talk::{InputLines, Next, TalkFault, Watched};
 use tg_vault::{Vault, courses_have_the_headline, courses_join};
-use tg_wire::{WireFault, error_line, open_fault_line, read_config};
+use tg_wire::{LineRoom, WireFault, error_line, open_fault_line, read_config};
 
 /// Reads a configuration line and then event lines, and answers each. Answers to lines that came together are written
 /// together, and nothing is held back when more is read, nor in the end. A configuration line that is
@@ -106,7 +105,11 @@ fn answer_lines<R: Read, W: Write + Drop>(
         (RestAnswered vault result (promised W.contents writer.old) (promised W.contents writer.new) (has_failed writer.new)) }
 {
     courses_join();
-    let mut state = RunState { input, errors: 0 };
+    let mut state = RunState {
+        input,
+        errors: 0,
+        room: LineRoom::new(alloc),
+    };
     let mut vault = vault;
     loop {
         match state.turn(alloc, &mut vault, reader, writer) {

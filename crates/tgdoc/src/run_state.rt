@@ -2,7 +2,6 @@
 
 ghost use Rattle.std.specs.Prelude.{◌≡◌, ◌≢◌, ◌↔◌, ℕ, ◌<◌, ◌≤◌, ◌+◌, List, [], true, false, IfSome, Some};
 ghost use Rattle.std.specs.Io.KnownBytes.{prepend_known};
-ghost use Rattle.tg_vault.specs.Contents.{Contents};
 ghost use Rattle.tg_talk.specs.Devices.{Sends, device_of, has_failed, owed, promised};
 ghost use Rattle.tg_talk.specs.declared.fault.TalkFault.TheVariants.{OutOfMemory, Reading, Writing};
 ghost use Rattle.tg_talk.specs.declared.line_buffer.TheConstants.{MOST_LINES};
@@ -13,7 +12,7 @@ use std::alloc::Global;
 use std::io::{BufWriter, Read, Write};
 use tg_talk::{InputLines, Next, TalkFault, Watched, send_line, too_many_line};
 use tg_vault::Vault;
-use tg_wire::{WireFault, error_line};
+use tg_wire::{LineRoom, WireFault, error_line};
 
 /// What a turn comes to.
 #[derive(Drop)]
@@ -24,20 +23,28 @@ pub(crate) enum Turn {
     Ended(Option<TalkFault>),
 }
 
-/// The lines of the input, and the `error` lines answered so far.
+/// The lines of the input, the `error` lines answered so far, and room for the lines of answers.
 #[derive(Drop)]
 pub(crate) struct RunState {
     pub input: InputLines,
     pub errors: u64,
+    pub room: LineRoom,
 }
 
-/// Writes the line of an answer, or of a fault.
-fn send_text<W: Write + Drop>(writer: &mut Watched<BufWriter<W>>, text: Result<Vec<u8>, WireFault>)
+/// Writes the line of an answer, whose room comes back, or of a fault.
+fn send_text<W: Write + Drop>(
+    writer: &mut Watched<BufWriter<W>>,
+    text: Result<Vec<u8>, WireFault>,
+    room: &mut LineRoom,
+)
     requires { has_failed writer.old ≡ false }
     ensures { Sends (promised W.contents writer.old) (promised W.contents writer.new) (has_failed writer.new) (text_of text) }
 {
     match text {
-        Ok(line) => send_line(writer, &line),
+        Ok(line) => {
+            send_line(writer, &line);
+            room.take_back(line);
+        }
         Err(fault) => send_line(writer, error_line(fault)),
     }
 }
@@ -108,8 +115,8 @@ impl RunState {
         ensures taken { (text : List ℕ) × AnswersTaken result vault.old vault.new self.old.errors self.old.input.line self.new.errors text
             × Sends (promised W.contents writer.old) (promised W.contents writer.new) (has_failed writer.new) text }
     {
-        let told = answer(alloc, vault, self.input.line());
-        send_text(writer, told.text);
+        let told = answer(alloc, vault, self.input.line(), &mut self.room);
+        send_text(writer, told.text, &mut self.room);
         self.errors += count(told.is_error);
         if writer.failed() {
             Turn::Ended(Some(TalkFault::Writing))

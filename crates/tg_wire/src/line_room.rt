@@ -1,0 +1,43 @@
+//! Room for the lines of answers.
+
+ghost use Rattle.std.specs.Prelude.{◌≡◌, [], IfOk};
+
+use std::alloc::{AllocError, Global};
+use std::mem;
+
+/// Room for most lines.
+const ROOM: usize = 128;
+
+/// Room in which lines are written, one after another: a line takes memory only where it is the longest so far. It is
+/// empty between two lines.
+#[derive(Drop)]
+pub struct LineRoom {
+    alloc: Global,
+    bytes: Vec<u8>,
+    ghost empty: { bytes.items ≡ [] },
+}
+
+impl LineRoom {
+    /// No room yet. Takes no memory.
+    pub fn new(alloc: Global) -> LineRoom {
+        LineRoom {
+            alloc,
+            bytes: Vec::new(alloc),
+        }
+    }
+
+    /// Lends the room for one line; there is none left until it comes back.
+    pub(crate) fn lend(&mut self) -> Result<Vec<u8>, AllocError>
+        ensures { IfOk result (λ bytes. bytes.items ≡ []) }
+    {
+        self.bytes.try_reserve(ROOM)?;
+        Ok(mem::replace(&mut self.bytes, Vec::new(self.alloc)))
+    }
+
+    /// Takes the room of a line back, which is no longer wanted. Takes no memory.
+    pub fn take_back(&mut self, line: Vec<u8>) {
+        let mut bytes = line;
+        bytes.clear();
+        self.bytes = bytes;
+    }
+}
