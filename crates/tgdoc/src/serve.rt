@@ -39,8 +39,8 @@ enum Found {
 /// Collector steps between two rests, and between two looks at whether all is over.
 const STEPS: u64 = 1_000;
 
-/// How long the collector rests, in microseconds, while its cycles free slots. Each step holds the lock, and rests leave it to sessions.
-const SHORT_REST: u64 = 300;
+/// How long the collector rests, in microseconds, while its cycles free slots.
+const SHORT_REST: u64 = 100;
 
 /// How long it rests after a cycle that freed nothing.
 const LONG_REST: u64 = 1_000;
