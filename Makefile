@@ -1,5 +1,7 @@
 # Two commands do everything: `make demo` runs the main job on an example, `make test` proves and tests all.
-.PHONY: all load demo test soak bench check
+CRATES := $(shell sed 's/:.*//' crates.txt)
+
+.PHONY: all load demo test soak bench check $(CRATES)
 
 # The proved program, crates/tgdoc/out/tgdoc: every crate is proved first, which takes some minutes.
 all:
@@ -13,7 +15,7 @@ demo:
 # The gate proves every crate and its tests from nothing, tries the planted bugs and runs the program as two compilers
 # build it; then the built program is tested from outside.
 test:
-	rt ci
+	tests/gate
 	tests/run
 
 # The proved program of many sessions at once, crates/tg_load/out/tg_load.
@@ -31,6 +33,11 @@ bench: all load
 	bench/lines.py
 	bench/threads.py
 
-# Proves each crate over what earlier runs left: the command while you write.
+# The edit loop, over what earlier runs left: `make check tg_cells` proves that crate and its tests, tries its planted bugs and proves
+# the crates that stand on it; `make check` proves every crate, and no more.
 check:
-	rt all check
+	tests/check $(filter $(CRATES),$(MAKECMDGOALS))
+
+# (the name of a crate is a goal only so that it can stand behind `check`)
+$(CRATES):
+	@test -n "$(filter check,$(MAKECMDGOALS))" || echo "say: make check $@"

@@ -1,0 +1,291 @@
+"""What tests/planted does: many planted bugs of a crate judged in one check, and the others one by one.
+
+An edit in the body of a function is made in a copy of the function, which stands beside it under a name of its own, with its contract and
+a copy of its written proofs. Nothing calls a copy, and a copy calls what the function calls; so no edit can change what becomes of another,
+and one check, which is asked for the copies alone, judges many. A copy with no edit, the control, stands beside the others of its function.
+An edit is refused where in that check the control is proved, nothing but copies is refused, and of the edited copy a goal fails, or a
+written proof no longer fits it.
+
+All else is tried alone: what a check of copies does not clearly refuse, and each edit of anything but a body, of a trait's method, of a
+method at chosen type arguments and of a cycle of calls. It is first tried on the functions that it is about, and where those do not refuse
+it, by the toolchain's own rule, over what the crate's checks have kept and then from nothing. So only that rule ever says that an edit is
+not refused, or can't be made. An edit that is refused only because a written proof names what it took away shows little of the contract;
+it counts as failed.
+"""
+
+import os
+import re
+import shutil
+import subprocess
+import sys
+import tempfile
+import time
+import types
+from importlib.machinery import SourceFileLoader
+from pathlib import Path
+
+FLAGS, MOST = ["--jobs", "1"], 24
+# Words of items and contracts, with which an edit may change more than a body.
+ITEMS = re.compile(r"\b(?:fn|impl|struct|enum|trait|mod|use|const|static|extern|macro_rules|ghost|requires|ensures|prove)\b|#\s*!?\[")
+# What a report says of a written proof that names what an edit took away, and what the toolchain's rule says of such an edit.
+NAMES = re.compile(r"has no field|is not in scope|has no `|was not admitted")
+BY_FORM = "only because a proof file names what the edit took away"
+ERROR = re.compile(r"(?:\./)?((?:src|specs|proofs)/\S+?):(\d+):\d+: error")
+TOLD = re.compile(r"(?:note: )?\S+:\d+:\d+:")
+
+
+def load(file):
+    """A program of the toolchain as a module, so that its rules are not written again."""
+    made = types.ModuleType(os.path.basename(file))
+    made.__file__ = file
+    SourceFileLoader(made.__name__, file).exec_module(made)
+    return made
+
+
+RT = os.path.realpath(shutil.which("rt") or sys.exit("planted: there is no rt on the path"))
+rt, bodies = load(RT), load(os.path.dirname(RT) + "/rt-plant-bodies")
+rtlib = rt.rtlib
+
+
+def shape(row):
+    """The brackets that a line opens and closes, and its words of items."""
+    return [row.count(a) - row.count(b) for a, b in (b"()", b"[]", b"{}")], ITEMS.findall(row.decode())
+
+
+def can_stand_twice(f):
+    """Whether a copy of the function can stand beside it: it is no trait's, in no cycle, and its impl is of no chosen type arguments."""
+    if f.in_trait or f.in_cycle or not f.has_body:
+        return False
+    words = f.block.ty[1:] if f.block else []
+    names = [it for before, it in zip(["", *words], words) if it.isidentifier() and before != "'"]
+    return all(it in f.block.generics for it in names)
+
+
+def ran(words, folder):
+    """What a check said, its status, and the seconds until each function's proof had ended behind the one before it."""
+    how = {"cwd": folder, "stdin": subprocess.DEVNULL, "stdout": subprocess.PIPE, "stderr": subprocess.STDOUT, "errors": "replace"}
+    said, seconds, last = [], {}, time.monotonic()
+    with subprocess.Popen([*rtlib.guarded(), *words, "--progress"], **how) as process:
+        for line in process.stdout:
+            ended = re.match(r"checked (\S+), \d+ of \d+$", line)
+            if ended:
+                seconds[ended[1]], last = time.monotonic() - last, time.monotonic()
+            else:
+                said.append(line)
+    return types.SimpleNamespace(stdout="".join(said), returncode=process.returncode, seconds=seconds)
+
+
+class Edit:
+    """A planted bug, and the functions whose bodies it changes, each with the bytes that it replaces there."""
+
+    def __init__(self, crate, path):
+        self.seconds = 0
+        self.path, self.name, self.spans = path, f"{crate.name}/{os.path.basename(path)[: -len('.edit')]}", {}
+        self.texts, why = rt.read_edit(path, crate.folder)
+        self.result = (False, f"BAD EDIT: {why}") if why else None
+
+    def fits(self, source):
+        """Finds what differs, and returns whether all of it lies in bodies of functions that can stand twice."""
+        for file, text in self.texts.items():
+            at, old, new = 0, source.data.get(file, b"").split(b"\n"), text.encode().split(b"\n")
+            if len(old) != len(new):
+                return False
+            for was, row in zip(old, new):
+                if was != row:
+                    first = at + len(os.path.commonprefix([was, row]))
+                    end = max(first, at + len(was) - len(os.path.commonprefix([was[::-1], row[::-1]])))
+                    found = [f for f in source.functions if f.file == file and f.has_body and f.opens < first and end < f.end]
+                    if len(found) != 1 or not can_stand_twice(found[0]) or shape(was) != shape(row):
+                        return False
+                    self.spans.setdefault(found[0], []).append((at, at + len(was), row))
+                at += len(was) + 1
+        return bool(self.spans)
+
+
+class Report:
+    """What a check said of a crate with copies: the faults of each copy, the copies that are proved, and what else is wrong."""
+
+    def __init__(self, crate, ran, lines, symbols):
+        self.faults, self.proved, self.unread, self.stray = {}, set(), set(), []
+        said, notes = ran.stdout.rstrip("\n").split("\n"), []
+        for line in said:
+            error, name = ERROR.match(line), line[len("fn ") :].partition(": ")[0] if line.startswith("fn ") else ""
+            if error:
+                name = "::".join([crate.name, *error[1].split("/")[1:-1]])
+            # (a closure in M::T::f is named M::fn::T::f::closure)
+            copy = next((it for it in symbols if f"{name}::".replace("::fn::", "::").startswith(f"{it}::")), None)
+            if error and copy:
+                self.faults.setdefault(copy, []).append(line)
+            elif error and (error[1], int(error[2])) in lines:
+                self.unread.add(lines[error[1], int(error[2])])
+            elif line.startswith("note: src/") and ": it is not proved" in line:
+                notes.append(line)
+            elif copy and not error:
+                self.proved |= {copy} if line.startswith(f"fn {copy}: proved") else set()
+                own = [*notes, *[line] * ("; `search` did not prove" in line)]
+                self.faults.setdefault(copy, []).extend([] if "not proved" in line.partition("; it calls ")[2] else own)
+            elif error or re.match(r"(fn|impl) \S+: (?!proved|assumed)", line):
+                self.stray.append(line)
+            notes = [] if line.startswith("fn ") else notes
+        ended = ran.returncode in (0, 1) and said[-1].startswith("only=") and not rtlib.STALE.search(ran.stdout)
+        self.stray += [] if ended else said[-1:]
+
+
+def refusal(ran, texts):
+    """What refuses the edited texts in a check that was asked for some functions, or None where that is not clear."""
+    lines = ran.stdout.rstrip("\n").split("\n")
+    if ran.returncode != 1 or not lines[-1].startswith("only=") or rtlib.STALE.search(ran.stdout):
+        return None
+    if any(rt.unread(it, texts) for it in lines):
+        return None
+    told = [it for it in lines if TOLD.match(it)]
+    told = [it for it in told if ": error" in it or it.startswith("note: ")]
+    return next((it for it in told if not (NAMES.search(it) and re.match(r"(note: )?(\./)?proofs/", it))), None)
+
+
+class Trial:
+    """The planted bugs of a crate, tried."""
+
+    def __init__(self, crate, edits, gate, options):
+        self.crate, self.edits, self.gate, self.log, self.checks = crate, edits, gate, options.log, 0
+        places = [f"{crate.folder}/{rtlib.KEPT[1]}", *[f"{it}/{crate.name}" for it in [options.seeds] if it]]
+        self.were = [it for it in places if os.path.isdir(it)]
+        self.source, self.stem, self.kept = bodies.Source(crate.folder), "_planted", ""
+        self.source.read("src/main.rt" if crate.is_program else "src/lib.rt")
+        while any(self.stem.encode() in it for it in self.source.data.values()):
+            self.stem += "_"
+
+    def path(self, f):
+        """Where a report and the written proofs have the function: a method goes by the module that declares its type."""
+        homes = [it[0] for it in self.source.declared.get(f.owner, [])] if f.block else []
+        module = f.module if f.module in homes or not homes else homes[0]
+        return [*module, *[f.owner] * bool(f.block), f.name]
+
+    def symbol(self, f, number):
+        """The name by which a report calls the copy of the function."""
+        return "::".join([self.crate.name, *self.path(f)]) + f"{self.stem}{number}"
+
+    def copies(self, edits):
+        """The texts of the files with the copies, and of each line of a copy its function and its number, 0 for the control."""
+        texts, lines = {}, {}
+        functions = dict.fromkeys(f for it in edits for f in it.spans)
+        wanted = [(f, number, it.spans[f]) for number, it in enumerate(edits, 1) for f in it.spans]
+        for file in {f.file for f in functions}:
+            text, done = b"", 0
+            for f in sorted((f for f in functions if f.file == file), key=lambda f: f.end):
+                text, done = text + self.source.data[file][done : f.end], f.end
+                for number, spans in [(0, []), *[it[1:] for it in wanted if it[0] is f]]:
+                    first = text.count(b"\n") + 2
+                    text += b"\n" + self.copy(f, number, spans)
+                    lines.update({(file, line): (f, number) for line in range(first, text.count(b"\n") + 2)})
+            texts[file] = (text + self.source.data[file][done:]).decode()
+        for f, number, _ in [*[(f, 0, None) for f in functions], *wanted]:
+            texts.update(self.proofs(f, number))
+        return texts, lines
+
+    def copy(self, f, number, spans):
+        """The text of a copy of the function, with these spans of its file replaced."""
+        data = self.source.data[f.file][: f.end]
+        for start, end, new in sorted([*spans, (*f.named, f"{f.name}{self.stem}{number}".encode())], reverse=True):
+            data = data[:start] + new + data[end:]
+        return data[f.first :]
+
+    def proofs(self, f, number):
+        """The written proofs of the function, for a copy: each file's path and text, where it names its own modules anew."""
+        path, texts = self.path(f), {}
+        named = re.compile(rf"(\bRattle\.{self.crate.name}\.proofs\.{re.escape('.'.join(path))})(?=[.\s])")
+        for at, _, names in os.walk(f"{self.crate.folder}/proofs/{'/'.join(path)}"):
+            to = os.path.relpath(at, self.crate.folder).split("/")
+            to[len(path)] += f"{self.stem}{number}"
+            for name in names:
+                texts["/".join([*to, name])] = named.sub(rf"\g<1>{self.stem}{number}", rtlib.text_of(f"{at}/{name}"))
+        return texts
+
+    def check(self, texts, only):
+        """What a check says of these functions of the crate with these texts, over what the crate's checks have kept."""
+        with self.gate, tempfile.TemporaryDirectory(prefix="planted-") as room:
+            for part in filter(os.path.isdir, (f"{self.crate.folder}/{it}" for it in rtlib.PARTS)):
+                shutil.copytree(part, f"{room}/{os.path.basename(part)}")
+            for path, text in texts.items():
+                os.makedirs(os.path.dirname(f"{room}/{path}"), exist_ok=True)
+                Path(room, path).write_text(text, encoding="utf-8")
+            is_first = not os.path.isdir(self.kept)
+            is_first or rt.linked(self.kept, f"{room}/kept")
+            asked = [word for it in only for word in ("--only", it)]
+            words = [rtlib.RATTLE, "check", *self.crate.words(FLAGS, keeps=False), *asked, "--incremental", f"{room}/kept"]
+            done = ran(words, room)
+            if is_first and os.path.isdir(f"{room}/kept"):
+                shutil.move(f"{room}/kept", self.kept)
+        self.checks += 1
+        if self.log:
+            Path(self.log, f"{self.crate.name}-{self.checks}").write_text(done.stdout, encoding="utf-8")
+        return done
+
+    def batch(self, edits):
+        """Tries the edits in one check of their copies. Those that it does not refuse for certain get no result."""
+        texts, lines = self.copies(edits)
+        symbols = {self.symbol(f, number) for f, number in lines.values()}
+        done = self.check(texts, [it.partition("::")[2] for it in sorted(symbols)])
+        report = Report(self.crate, done, lines, symbols)
+        if report.unread:
+            rest = [it for number, it in enumerate(edits, 1) if not any({(f, number), (f, 0)} & report.unread for f in it.spans)]
+            if rest:
+                self.batch(rest)
+        elif report.stray:
+            print(f"planted: {self.crate.name}: {len(edits)} edits are tried in halves, or alone: {report.stray[0][:200]}", file=sys.stderr)
+            for half in (edits[: len(edits) // 2], edits[len(edits) // 2 :]) * (len(edits) > 1):
+                self.batch(half)
+        else:
+            self.judge(edits, report, done.seconds)
+
+    def judge(self, edits, report, seconds):
+        """Gives their result to the edits that the report refuses for certain, and to each how long its copies took."""
+        for number, edit in enumerate(edits, 1):
+            for f in edit.spans:
+                edit.seconds += seconds.get(self.symbol(f, number), 0)
+                own = [it for it in report.faults.get(self.symbol(f, number), []) if not NAMES.search(it)]
+                if own and self.symbol(f, 0) in report.proved and self.symbol(f, number) not in report.proved:
+                    edit.result = True, f"refused: {own[0][:160]}"
+
+    def about(self, edit):
+        """The functions that an edit is about: the laws where it changes a definition, else those of the modules that it changes."""
+        if any(not it.startswith("src/") for it in edit.texts):
+            laws = [f for f in self.source.functions if not f.block and not f.params and not f.body]
+            return ["::".join(self.path(f)) for f in laws]
+        modules = {f.module for f in self.source.functions if f.file in edit.texts}
+        return [] if () in modules else ["::".join(it) for it in sorted(modules)]
+
+    def alone(self, edit):
+        """Tries the edit on the functions that it is about, and then by the toolchain's own rule."""
+        begun, about = time.monotonic(), self.about(edit)
+        fault = about and refusal(self.check(edit.texts, about), edit.texts)
+        if fault:
+            edit.result = True, f"refused, alone: {fault[:160]}"
+        else:
+            self.by_the_rule(edit)
+        edit.seconds += time.monotonic() - begun
+
+    def by_the_rule(self, edit):
+        """Tries the edit by the toolchain's own rule, over what is kept and from nothing."""
+        with self.gate, tempfile.TemporaryDirectory(prefix="planted-") as room:
+            if os.path.isdir(self.kept):
+                rt.linked(self.kept, f"{room}/kept")
+            for kept in (f"{room}/kept", None):
+                self.checks += 1
+                verdict, said = rt.must_fail(self.crate, edit.path, FLAGS, kept)
+                if verdict in rt.SETTLED:
+                    break
+        is_refused = verdict in (rt.REFUSED, rt.AT_LIMIT) and BY_FORM not in said
+        said = re.sub(r"^must-fail \S+: ", "", said)
+        edit.result = is_refused, f"BY FORM ALONE: {said}" if BY_FORM in said else f"alone: {said}"
+
+    def run(self, pool):
+        """Tries all the edits."""
+        with tempfile.TemporaryDirectory(prefix="planted-") as room:
+            self.kept = f"{room}/kept"
+            if self.were:
+                rt.linked(self.were[-1], self.kept)
+            fit = [it for it in self.edits if not it.result and it.fits(self.source)]
+            for at in range(0, len(fit), MOST):
+                self.batch(fit[at : at + MOST])
+            list(pool.map(self.alone, [it for it in self.edits if not it.result]))

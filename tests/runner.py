@@ -1,0 +1,120 @@
+"""What the runner of planted bugs says of a crate of three lines: that it can fail, and that no bug is credited with another's refusal."""
+
+import subprocess
+import sys
+import tempfile
+from pathlib import Path
+
+ROOT = Path(__file__).resolve().parent.parent
+
+SOURCE = """//! A number and its echo.
+#![tactic(auto)]
+
+ghost use Rattle.std.specs.Prelude.{◌≡◌};
+ghost use Rattle.tiny.specs.Echo.{echo_of};
+
+/// The echo of three is three.
+pub fn echo_of_three()
+    ensures { echo_of 3 ≡ 3 }
+{}
+
+/// The number's echo.
+pub fn echo(number: usize) -> usize
+    ensures { result ≡ echo_of number }
+{
+    let heard = number;
+    heard
+}
+
+/// The same as `echo`.
+pub fn same(number: usize) -> usize
+    ensures { result ≡ echo_of number }
+{
+    let answer = echo(number);
+    answer
+}
+
+/// The same as `echo`, with a proof that names the call.
+pub fn named(number: usize) -> usize
+    ensures { result ≡ echo_of number }
+{
+    echo(number)
+}
+"""
+
+SPEC = """-- The echo of a number.
+use Rattle.std.specs.Prelude.{ℕ}
+
+unfoldable pub echo_of : ℕ → ℕ
+echo_of number = number
+"""
+
+LAW = """use Rattle.std.proofs.Common.{refl}
+use Rattle.tiny.specs.Echo.{echo_of}
+use Rattle.tiny.proofs.echo_of_three.Goals as goal
+
+pub returns : goal.returns
+unfolding echo_of
+returns c = refl
+"""
+
+ECHO = LAW.replace("echo_of_three", "echo")
+
+NAMED = """use Rattle.tiny.proofs.named.Goals as goal
+
+pub returns : goal.returns
+returns c = c.echo.ensures
+"""
+
+FILES = {
+    "HANDLES": "Handles allowed: none.\n",
+    "crates.txt": "tiny:\n",
+    "crates/tiny/src/lib.rt": SOURCE,
+    "crates/tiny/specs/Lib.antt": "pub mod Echo\n",
+    "crates/tiny/specs/Echo.antt": SPEC,
+    "crates/tiny/proofs/echo_of_three/Answers.antt": LAW,
+    "crates/tiny/proofs/echo/Answers.antt": ECHO,
+    "crates/tiny/proofs/named/Answers.antt": NAMED,
+}
+
+# Each edit, its file, its old and new text, and how its line begins.
+EDITS = [
+    ("echo-of-nothing", "src/lib.rt", "let heard = number;", "let heard = 0;", "refused: "),
+    ("law-echo-is-four", "specs/Echo.antt", "echo_of number = number", "echo_of number = 4", "refused, alone: "),
+    # it means the same, and what it calls is broken by the first
+    ("harmless-beside-a-bug", "src/lib.rt", "let answer = echo(number);", "let answer = (echo(number));", "alone: NOT REFUSED"),
+    ("text-that-is-not-there", "src/lib.rt", "let heard = nothing;", "let heard = 0;", "BAD EDIT"),
+    # it means the same, and the written proof names the call of `echo`
+    ("proof-loses-a-name", "src/lib.rt", "    echo(number)", "    same(number)", "BY FORM ALONE"),
+]
+
+
+def said(line):
+    """The edit's name and what became of it, of a line of the runner."""
+    name, _, result = line.removeprefix("planted tiny/").partition(": ")
+    return name, result
+
+
+def edits_of_a_crate_are_told_apart(program):
+    """Two bugs are refused; a harmless edit, an absent text and an edit that only a proof's names refuse count as failed."""
+    with tempfile.TemporaryDirectory() as folder:
+        edits = {f"crates/tiny/planted/{name}.edit": f"file: {file}\nold: {old}\nnew: {new}\n" for name, file, old, new, _ in EDITS}
+        for path, text in (FILES | edits).items():
+            Path(folder, path).parent.mkdir(parents=True, exist_ok=True)
+            Path(folder, path).write_text(text, encoding="utf-8")
+        ran = subprocess.run([str(program), "--jobs", "1"], cwd=folder, capture_output=True, text=True, timeout=300)
+    lines = ran.stdout.splitlines()
+    found = dict(said(line) for line in lines if line.startswith("planted tiny/"))
+    wrong = [name for name, _, _, _, begins in EDITS if not found.get(name, "").startswith(begins)]
+    if wrong or lines[-1:] != ["2 passed, 3 failed"] or ran.returncode != 1:
+        print(f"  not as wanted: {wrong}, status {ran.returncode}", *lines, ran.stderr, sep="\n    ")
+        return False
+    return True
+
+
+def tests():
+    return [("edits_of_a_crate_are_told_apart", edits_of_a_crate_are_told_apart)]
+
+
+if __name__ == "__main__":
+    sys.exit(0 if all(test(ROOT / "tests" / "planted") for _, test in tests()) else 1)
