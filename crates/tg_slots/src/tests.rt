@@ -167,111 +167,166 @@ fn play(rt: &impl Abort, alloc: Global, slots: &mut Slots, act: Act) {
     }
 }
 
+/// Carries out a script over new slots.
+fn run(rt: &impl Abort, alloc: Global, script: &Script) -> Result<(), AllocError> {
+    assert!(rt; 1 <= script.slots && script.slots <= 65_536);
+    let mut slots = Slots::new(alloc, script.slots)?;
+    assert!(rt; slots.len() == script.slots);
+    for act in script.acts {
+        play(rt, alloc, &mut slots, *act);
+    }
+    Ok(())
+}
+
 #[test]
 fn each_script_runs_as_worked_out(rt: HostRuntime) -> Result<(), AllocError> {
     for script in SCRIPTS {
-        let mut slots = Slots::new(rt.alloc(), script.slots)?;
-        assert!(rt; slots.len() == script.slots);
-        for act in script.acts {
-            play(&rt, rt.alloc(), &mut slots, *act);
-        }
+        run(&rt, rt.alloc(), script)?;
     }
     Ok(())
+}
+
+/// A text of these bytes.
+fn text(rt: &impl Abort, alloc: Global, content: &str) -> Result<Text, AllocError> {
+    match Text::new(String::from_str(alloc, content)?) {
+        Ok(text) => Ok(text),
+        Err(_) => panic!(rt; "the text is too long"),
+    }
+}
+
+/// No slot is free for a vertex with this text, which comes back.
+fn hands_back(rt: &impl Abort, slots: &mut Slots, text: Text, content: &str) {
+    match slots.take_free(2, Kind::Subject, Colour::Black, text) {
+        Ok(_) => panic!(rt; "a second slot of one"),
+        Err(text) => assert!(rt; text.get() == content),
+    }
 }
 
 #[test]
 fn a_full_table_hands_the_text_back(rt: HostRuntime) -> Result<(), AllocError> {
+    let text = text(&rt, rt.alloc(), "hi")?;
     let mut slots = Slots::new(rt.alloc(), 1)?;
-    assert_eq!(rt; take(&rt, rt.alloc(), &mut slots, 1), 0);
-    let Ok(text) = Text::new(String::from_str(rt.alloc(), "hi")?) else {
-        panic!(rt; "refused")
-    };
-    match slots.take_free(2, Kind::Subject, Colour::Black, text) {
-        Ok(_) => panic!(rt; "a second slot of one"),
-        Err(text) => assert_eq!(rt; text.get(), "hi"),
-    }
+    assert!(rt; take(&rt, rt.alloc(), &mut slots, 1) == 0);
+    hands_back(&rt, &mut slots, text, "hi");
     give(&rt, &mut slots, 0);
-    assert_eq!(rt; take(&rt, rt.alloc(), &mut slots, 3), 0);
+    assert!(rt; take(&rt, rt.alloc(), &mut slots, 3) == 0);
     Ok(())
+}
+
+/// Whether there is a text, of these bytes.
+fn reads(text: Option<&Text>, content: &str) -> bool {
+    match text {
+        Some(text) => text.get() == content,
+        None => false,
+    }
+}
+
+/// The slot has a black subject of this serial and text.
+fn has_subject(rt: &impl Abort, slots: &Slots, id: u32, serial: u64, content: &str) {
+    assert!(rt; id < slots.len());
+    assert!(rt; !slots.is_free(id));
+    assert!(rt; slots.serial(id) == Some(serial));
+    assert!(rt; slots.kind(id) == Some(Kind::Subject));
+    assert!(rt; slots.colour(id) == Some(Colour::Black));
+    assert!(rt; reads(slots.text(id), content));
+}
+
+/// The slot is free, and has none of what a vertex has.
+fn has_nothing(rt: &impl Abort, slots: &Slots, id: u32) {
+    assert!(rt; id < slots.len());
+    assert!(rt; slots.is_free(id));
+    assert!(rt; slots.serial(id).is_none());
+    assert!(rt; slots.kind(id).is_none());
+    assert!(rt; slots.colour(id).is_none());
+    assert!(rt; slots.text(id).is_none());
 }
 
 #[test]
 fn a_vertex_is_read_as_it_was_put_in(rt: HostRuntime) -> Result<(), AllocError> {
+    let text = text(&rt, rt.alloc(), "first")?;
     let mut slots = Slots::new(rt.alloc(), 2)?;
     slots.soundness();
-    let Ok(first) = Text::new(String::from_str(rt.alloc(), "first")?) else {
-        panic!(rt; "refused")
-    };
     assert!(rt;
         slots
-            .take_free(7, Kind::Subject, Colour::Black, first)
+            .take_free(7, Kind::Subject, Colour::Black, text)
             .is_ok()
     );
-    assert_eq!(rt; slots.len(), 2);
-    assert!(rt; !slots.is_free(0) && slots.is_free(1));
-    assert_eq!(rt; (slots.serial(0), slots.serial(1)), (Some(7), None));
-    assert_eq!(rt; (slots.kind(0), slots.kind(1)), (Some(Kind::Subject), None));
-    assert_eq!(rt;
-        (slots.colour(0), slots.colour(1)),
-        (Some(Colour::Black), None)
-    );
-    assert_eq!(rt; slots.text(0).map(|text| text.get()), Some("first"));
-    assert!(rt; slots.text(1).is_none());
+    assert!(rt; slots.len() == 2);
+    has_subject(&rt, &slots, 0, 7, "first");
+    has_nothing(&rt, &slots, 1);
     Ok(())
+}
+
+/// A white vertex gets a text, in place of this one.
+fn replaces(rt: &impl Abort, slots: &mut Slots, id: u32, new: Text, old: &str) {
+    is_white(rt, slots, id);
+    assert!(rt; reads(Some(&slots.set_text(id, new)), old));
 }
 
 #[test]
 fn a_text_is_replaced(rt: HostRuntime) -> Result<(), AllocError> {
+    let second = text(&rt, rt.alloc(), "second")?;
     let mut slots = Slots::new(rt.alloc(), 2)?;
-    assert_eq!(rt; take(&rt, rt.alloc(), &mut slots, 7), 0);
-    let Ok(second) = Text::new(String::from_str(rt.alloc(), "second")?) else {
-        panic!(rt; "refused")
-    };
-    is_white(&rt, &slots, 0);
-    let old = slots.set_text(0, second);
-    assert_eq!(rt; old.get(), "");
-    is_white(&rt, &slots, 0);
-    let old = slots.set_text(0, Text::empty(rt.alloc()));
-    assert_eq!(rt; old.get(), "second");
+    assert!(rt; take(&rt, rt.alloc(), &mut slots, 7) == 0);
+    replaces(&rt, &mut slots, 0, second, "");
+    replaces(&rt, &mut slots, 0, Text::empty(rt.alloc()), "second");
     Ok(())
+}
+
+/// Takes so many slots, in the order of their numbers.
+fn take_all(rt: &impl Abort, alloc: Global, slots: &mut Slots, count: u32) {
+    for id in 0..count {
+        assert!(rt; take(rt, alloc, slots, 10) == id);
+    }
+}
+
+/// Whitens a black slot, and gives it back.
+fn whiten_and_give(rt: &impl Abort, slots: &mut Slots, id: u32) {
+    is_black(rt, slots, id);
+    slots.whiten(id);
+    give(rt, slots, id);
+}
+
+/// Shades so many slots, scans them from the last to the first, and gives them back.
+fn scan_all(rt: &impl Abort, slots: &mut Slots, count: u32) {
+    for id in 0..count {
+        shade(rt, slots, id);
+    }
+    for id in 0..count {
+        assert!(rt; scan(rt, slots) == count - 1 - id);
+    }
+    for id in 0..count {
+        whiten_and_give(rt, slots, id);
+    }
 }
 
 #[test]
 fn as_many_slots_as_there_may_be(rt: HostRuntime) -> Result<(), AllocError> {
     let mut slots = Slots::new(rt.alloc(), 65_536)?;
-    for id in 0..65_536 {
-        assert_eq!(rt; take(&rt, rt.alloc(), &mut slots, 10), id);
-    }
-    assert_eq!(rt; (slots.len(), slots.free()), (65_536, 0));
-    for id in 0..65_536 {
-        shade(&rt, &mut slots, id);
-    }
-    for id in 0..65_536 {
-        assert_eq!(rt; scan(&rt, &mut slots), 65_535 - id);
-    }
-    for id in 0..65_536 {
-        is_black(&rt, &slots, id);
-        slots.whiten(id);
-        give(&rt, &mut slots, id);
-    }
-    assert_eq!(rt; slots.free(), 65_536);
+    take_all(&rt, rt.alloc(), &mut slots, 65_536);
+    assert!(rt; slots.len() == 65_536 && slots.free() == 0);
+    scan_all(&rt, &mut slots, 65_536);
+    assert!(rt; slots.free() == 65_536);
     Ok(())
 }
 
-/// A refused table is made again, with its slots all free: tests/growths.py refuses each allocation in turn.
-#[test]
-fn growth_refused_in_new_slots(rt: HostRuntime) -> Result<(), AllocError> {
-    let mut slots = match Slots::new(rt.alloc(), 3) {
-        Ok(slots) => slots,
+/// New slots, made again in want of memory: tests/growths.py refuses each allocation in turn.
+fn made_again(rt: &impl Print, alloc: Global) -> Result<Slots, AllocError> {
+    match Slots::new(alloc, 3) {
+        Ok(slots) => Ok(slots),
         Err(_) => {
             let _ = rt.println("no memory");
-            Slots::new(rt.alloc(), 3)?
+            Slots::new(alloc, 3)
         }
-    };
-    assert_eq!(rt; (slots.len(), slots.free()), (3, 3));
-    for id in 0..3 {
-        assert_eq!(rt; take(&rt, rt.alloc(), &mut slots, 10), id);
     }
-    assert_eq!(rt; slots.free(), 0);
+}
+
+/// A refused table is made again, with its slots all free.
+#[test]
+fn growth_refused_in_new_slots(rt: HostRuntime) -> Result<(), AllocError> {
+    let mut slots = made_again(&rt, rt.alloc())?;
+    assert!(rt; slots.len() == 3 && slots.free() == 3);
+    take_all(&rt, rt.alloc(), &mut slots, 3);
+    assert!(rt; slots.free() == 0);
     Ok(())
 }
