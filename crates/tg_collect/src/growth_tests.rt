@@ -1,12 +1,11 @@
 //! Calls in want of memory: what they leave, and the same calls made again. tests/growths.py refuses each allocation of
 //! a test in turn.
 use crate::Store;
-use crate::tests::Act::{Create, FreeCells, FreeSlots, Join, Remove, Shade, Steps};
-use crate::tests::{Script, TWO, at, config, open, play, rights};
+use crate::tests::Act::{Create, End, FreeCells, FreeSlots, Join, Mark, Remove, Shade, Sweep};
+use crate::tests::{GRANT, READ, Script, TAKE, TWO, WRITE, at, graph, open, play, rights};
 use std::alloc::{AllocError, Global};
 use std::process::Abort;
-use std::test::Fail;
-use tg_graph::{Graph, OpenFault};
+use tg_graph::Graph;
 use tg_heap::HeapFull;
 use tg_rights::{Kind, Rights};
 
@@ -19,46 +18,51 @@ const GARBAGE: &Script = &Script {
     acts: &[
         FreeSlots(1),
         FreeCells(4),
-        Create(0, 1, 3, "r", None),
+        Create(0, 1, 3, READ, None),
         Shade(0, Some(3)),
-        Remove(1, 3, "r"),
-        Create(0, 1, 4, "r", Some(HeapFull::Slots)),
-        Steps("mmmmmmmsssse"),
+        Remove(1, 3, READ),
+        Create(0, 1, 4, READ, Some(HeapFull::Slots)),
+        Mark(7),
+        Sweep(4),
+        End,
     ],
 };
 
 const JOINED: &Script = &Script {
     name: "a take joins labels",
     principals: TWO,
-    edges: &[(1, "tg", 2)],
+    edges: &[(1, TAKE | GRANT, 2)],
     slots: 8,
     cells: 8,
     acts: &[
-        Create(1, 2, 3, "rwg", None),
+        Create(1, 2, 3, READ | WRITE | GRANT, None),
         Shade(1, Some(3)),
-        Join(0, (1, 1), (2, 3), "r", None),
+        Join(0, (1, 1), (2, 3), READ, None),
         Shade(0, Some(3)),
-        Join(0, (1, 1), (2, 3), "w", None),
+        Join(0, (1, 1), (2, 3), WRITE, None),
         Shade(0, Some(3)),
     ],
 };
 
+/// The graph still has its two principals alone.
+fn is_left(rt: &impl Abort, graph: &Graph) {
+    assert!(rt; graph.kind(2) == Some(Kind::Subject));
+    assert!(rt; graph.kind(3).is_none());
+}
+
 /// The store of a script. In want of memory its graph is left, and it is made again.
-fn opened_again(rt: &(impl Abort + Print), alloc: Global, script: &Script) -> Result<Store, Fail> {
-    let config = config(alloc, script)?;
-    match Graph::build(alloc, &config) {
-        Err(OpenFault::OutOfMemory) => Err(AllocError.into()),
-        Err(fault) => panic!(rt; "refused: {fault:?}"),
-        Ok(graph) => {
-            crate::openings_can_be_stored();
-            match Store::new(alloc, &graph, script.slots, script.cells) {
-                Ok(store) => Ok(store),
-                Err(_) => {
-                    let _ = rt.println("no memory");
-                    assert!(rt; graph.kind(2) == Some(Kind::Subject) && graph.kind(3).is_none());
-                    Ok(Store::new(alloc, &graph, script.slots, script.cells)?)
-                }
-            }
+fn opened_again(
+    rt: &(impl Abort + Print),
+    alloc: Global,
+    script: &Script,
+) -> Result<Store, AllocError> {
+    let graph = graph(rt, alloc, script)?;
+    match Store::new(alloc, &graph, script.slots, script.cells) {
+        Ok(store) => Ok(store),
+        Err(_) => {
+            let _ = rt.println("no memory");
+            is_left(rt, &graph);
+            Store::new(alloc, &graph, script.slots, script.cells)
         }
     }
 }
@@ -82,24 +86,30 @@ fn edges_again(
 
 /// A refused store leaves the graph, which is then stored, and all goes as worked out.
 #[test]
-fn growth_refused_in_a_store_that_is_opened(rt: HostRuntime) -> Result<(), Fail> {
+fn growth_refused_in_a_store_that_is_opened(rt: HostRuntime) -> Result<(), AllocError> {
     let mut store = opened_again(&rt, rt.alloc(), GARBAGE)?;
-    for act in GARBAGE.acts {
-        play(&rt, rt.alloc(), &mut store, GARBAGE.name, act)?;
-    }
-    Ok(())
+    play(&rt, rt.alloc(), &mut store, GARBAGE)
+}
+
+/// Whether these are the edges of a principal.
+fn has_edges(
+    rt: &(impl Abort + Print),
+    alloc: Global,
+    store: &Store,
+    principal: u64,
+    wanted: &[(u64, Rights)],
+) -> Result<bool, AllocError> {
+    Ok(edges_again(rt, alloc, store, principal)?.as_slice() == wanted)
 }
 
 /// A refused list leaves the edges, which are then told.
 #[test]
-fn growth_refused_in_a_list_of_edges(rt: HostRuntime) -> Result<(), Fail> {
+fn growth_refused_in_a_list_of_edges(rt: HostRuntime) -> Result<(), AllocError> {
     let mut store = open(&rt, rt.alloc(), JOINED)?;
-    for act in JOINED.acts {
-        play(&rt, rt.alloc(), &mut store, JOINED.name, act)?;
-    }
-    let edges = edges_again(&rt, rt.alloc(), &store, 1)?;
-    assert!(rt; edges.as_slice() == [(2, rights("tg")), (3, rights("rw"))].as_slice());
-    let edges = edges_again(&rt, rt.alloc(), &store, 2)?;
-    assert!(rt; edges.as_slice() == [(3, rights("rwg"))].as_slice());
+    play(&rt, rt.alloc(), &mut store, JOINED)?;
+    let first = [(2, rights(TAKE | GRANT)), (3, rights(READ | WRITE))];
+    assert!(rt; has_edges(&rt, rt.alloc(), &store, 1, first.as_slice())?);
+    let second = [(3, rights(READ | WRITE | GRANT))];
+    assert!(rt; has_edges(&rt, rt.alloc(), &store, 2, second.as_slice())?);
     Ok(())
 }

@@ -3,6 +3,7 @@
 ghost use Rattle.std.specs.Prelude.{◌≡◌, Some, IfOk};
 ghost use Rattle.std.specs.Bool.{OnFalse};
 ghost use Rattle.tg_collect.specs.Names.{Whole};
+ghost use Rattle.tg_collect.specs.Openings.{Fitted};
 ghost use Rattle.tg_collect.specs.Stored.{stored};
 ghost use Rattle.tg_collect.specs.Views.{InSet, IsHeldIn, place};
 
@@ -10,7 +11,6 @@ use crate::machine::Machine;
 use crate::{Note, Phase, Store};
 use std::alloc::{AllocError, Global};
 use std::process::Abort;
-use std::test::Fail;
 use tg_graph::{Config, Graph, OpenFault};
 use tg_heap::HeapFull;
 use tg_rights::{Kind, Rights, Text, Word};
@@ -28,21 +28,26 @@ pub(crate) fn has(machine: &Machine, serial: u64) -> bool
     false
 }
 
-/// One call of a script with its answer, or what must be seen after the calls before it. Rights are given by their letters.
+/// One call of a script with its answer, or what must be seen after the calls before it. Rights are given by their bits.
 pub enum Act {
     /// A principal's new document: seat, principal, serial, rights, and what is full.
-    Create(u64, u64, u64, &'static str, Option<HeapFull>),
+    Create(u64, u64, u64, u8, Option<HeapFull>),
     /// An edge gains rights: seat, its two ends, each with a principal that has a right over it, rights, and what is full.
-    Join(u64, (u64, u64), (u64, u64), &'static str, Option<HeapFull>),
+    Join(u64, (u64, u64), (u64, u64), u8, Option<HeapFull>),
     /// A principal loses rights over a serial.
-    Remove(u64, u64, &'static str),
+    Remove(u64, u64, u8),
     /// A seat shades its target.
     Shade(u64, Option<u64>),
     /// The text of a document over which a principal has a right is replaced, with the old one.
     Write(u64, u64, &'static str, &'static str),
-    /// Collector steps, each with its note: m, s and i are the phase after it, f a step of the sweep that freed a slot,
-    /// e the end of a cycle.
-    Steps(&'static str),
+    /// So many collector steps of the marking.
+    Mark(u32),
+    /// So many collector steps of the sweep that free no slot.
+    Sweep(u32),
+    /// So many collector steps of the sweep that free a slot each.
+    Reclaim(u32),
+    /// The collector step that ends a cycle.
+    End,
     Pending(u64, Option<u64>),
     FreeSlots(u32),
     FreeCells(u32),
@@ -51,17 +56,26 @@ pub enum Act {
     /// The text of a document over which a principal has a right.
     Reads(u64, u64, &'static str),
     /// A principal's only edge.
-    Edge(u64, u64, &'static str),
+    Edge(u64, u64, u8),
 }
 
 use Act::{
-    At, Create, Edge, FreeCells, FreeSlots, Join, Pending, Reads, Remove, Shade, Steps, Write,
+    At, Create, Edge, End, FreeCells, FreeSlots, Join, Mark, Pending, Reads, Reclaim, Remove,
+    Shade, Sweep, Write,
 };
+
+pub const READ: u8 = 1;
+
+pub const WRITE: u8 = 2;
+
+pub const TAKE: u8 = 4;
+
+pub const GRANT: u8 = 8;
 
 pub struct Script {
     pub name: &'static str,
     pub principals: &'static [&'static str],
-    pub edges: &'static [(u64, &'static str, u64)],
+    pub edges: &'static [(u64, u8, u64)],
     pub slots: u32,
     pub cells: u32,
     pub acts: &'static [Act],
@@ -77,13 +91,18 @@ const SCRIPTS: &[Script] = &[
         slots: 3,
         cells: 4,
         acts: &[
-            Create(0, 1, 3, "r", None),
+            Create(0, 1, 3, READ, None),
             Shade(0, Some(3)),
-            Remove(1, 3, "r"),
-            Create(0, 1, 4, "r", Some(HeapFull::Slots)),
-            Steps("mmmmmmmsssse"),
-            Steps("mmmmmsssfe"),
-            Create(0, 1, 4, "r", None),
+            Remove(1, 3, READ),
+            Create(0, 1, 4, READ, Some(HeapFull::Slots)),
+            Mark(7),
+            Sweep(4),
+            End,
+            Mark(5),
+            Sweep(3),
+            Reclaim(1),
+            End,
+            Create(0, 1, 4, READ, None),
         ],
     },
     Script {
@@ -93,34 +112,45 @@ const SCRIPTS: &[Script] = &[
         slots: 3,
         cells: 4,
         acts: &[
-            Create(0, 1, 3, "r", None),
+            Create(0, 1, 3, READ, None),
             Pending(0, Some(3)),
-            Remove(1, 3, "r"),
-            Steps("mmmmmmmmsssse"),
+            Remove(1, 3, READ),
+            Mark(8),
+            Sweep(4),
+            End,
             Pending(0, Some(3)),
             Shade(0, Some(3)),
             Pending(0, None),
-            Steps("mmmmmmmsssse"),
+            Mark(7),
+            Sweep(4),
+            End,
             FreeSlots(0),
-            Steps("mmmmmsssfe"),
+            Mark(5),
+            Sweep(3),
+            Reclaim(1),
+            End,
             FreeSlots(1),
         ],
     },
     Script {
         name: "take from a white edge during marking",
         principals: TWO,
-        edges: &[(1, "tg", 2)],
+        edges: &[(1, TAKE | GRANT, 2)],
         slots: 3,
         cells: 8,
         acts: &[
-            Create(1, 2, 3, "rw", None),
+            Create(1, 2, 3, READ | WRITE, None),
             Shade(1, Some(3)),
             Write(2, 3, "hi", ""),
-            Steps("mmmmmmmmmsssse"),
-            Steps("mmmm"),
-            Join(0, (1, 1), (2, 3), "r", None),
-            Remove(2, 3, "rw"),
-            Steps("mmmmmsssse"),
+            Mark(9),
+            Sweep(4),
+            End,
+            Mark(4),
+            Join(0, (1, 1), (2, 3), READ, None),
+            Remove(2, 3, READ | WRITE),
+            Mark(5),
+            Sweep(4),
+            End,
             Shade(0, Some(3)),
             Reads(1, 3, "hi"),
         ],
@@ -132,19 +162,26 @@ const SCRIPTS: &[Script] = &[
         slots: 5,
         cells: 8,
         acts: &[
-            Create(0, 1, 3, "r", None),
+            Create(0, 1, 3, READ, None),
             Shade(0, Some(3)),
-            Remove(1, 3, "r"),
-            Steps("mmmmmmmsssssse"),
-            Steps("mmmmmsssf"),
-            Create(0, 1, 4, "r", None),
+            Remove(1, 3, READ),
+            Mark(7),
+            Sweep(6),
+            End,
+            Mark(5),
+            Sweep(3),
+            Reclaim(1),
+            Create(0, 1, 4, READ, None),
             At(1, 4, 2),
             Shade(0, Some(4)),
-            Create(0, 1, 5, "r", None),
+            Create(0, 1, 5, READ, None),
             At(1, 5, 3),
-            Steps("sse"),
+            Sweep(2),
+            End,
             Shade(0, Some(5)),
-            Steps("mmmmmmmmmmmsssssse"),
+            Mark(11),
+            Sweep(6),
+            End,
             FreeSlots(1),
         ],
     },
@@ -155,19 +192,26 @@ const SCRIPTS: &[Script] = &[
         slots: 4,
         cells: 8,
         acts: &[
-            Create(0, 1, 3, "rg", None),
+            Create(0, 1, 3, READ | GRANT, None),
             Shade(0, Some(3)),
-            Create(0, 1, 4, "rg", None),
+            Create(0, 1, 4, READ | GRANT, None),
             Shade(0, Some(4)),
-            Join(0, (1, 3), (1, 4), "r", None),
+            Join(0, (1, 3), (1, 4), READ, None),
             Shade(0, Some(4)),
-            Join(0, (1, 4), (1, 3), "r", None),
+            Join(0, (1, 4), (1, 3), READ, None),
             Shade(0, Some(3)),
-            Remove(1, 3, "rg"),
-            Remove(1, 4, "rg"),
+            Remove(1, 3, READ | GRANT),
+            Remove(1, 4, READ | GRANT),
             FreeCells(6),
-            Steps("mmmmmmmmmmmssssse"),
-            Steps("mmmmmssssfsfe"),
+            Mark(11),
+            Sweep(5),
+            End,
+            Mark(5),
+            Sweep(4),
+            Reclaim(1),
+            Sweep(1),
+            Reclaim(1),
+            End,
             FreeSlots(2),
             FreeCells(8),
         ],
@@ -180,12 +224,14 @@ const SCRIPTS: &[Script] = &[
         slots: 4,
         cells: 8,
         acts: &[
-            Create(1, 2, 3, "r", None),
-            Create(0, 1, 4, "r", None),
-            Join(2, (1, 4), (2, 3), "r", None),
-            Remove(2, 3, "r"),
-            Remove(1, 4, "r"),
-            Steps("mmmmmmmmmmmssssse"),
+            Create(1, 2, 3, READ, None),
+            Create(0, 1, 4, READ, None),
+            Join(2, (1, 4), (2, 3), READ, None),
+            Remove(2, 3, READ),
+            Remove(1, 4, READ),
+            Mark(11),
+            Sweep(5),
+            End,
         ],
     },
     // alice is scanned before bob: an edge that she gets after her scan is not looked at
@@ -196,10 +242,12 @@ const SCRIPTS: &[Script] = &[
         slots: 3,
         cells: 4,
         acts: &[
-            Steps("mmm"),
-            Create(0, 1, 3, "r", None),
+            Mark(3),
+            Create(0, 1, 3, READ, None),
             Shade(0, Some(3)),
-            Steps("mmmmsssse"),
+            Mark(4),
+            Sweep(4),
+            End,
         ],
     },
     // nothing but its seat leads to the vertex: the marking shades it, and then scans it
@@ -209,11 +257,7 @@ const SCRIPTS: &[Script] = &[
         edges: &[],
         slots: 3,
         cells: 4,
-        acts: &[
-            Steps("mmm"),
-            Create(0, 1, 3, "r", None),
-            Steps("mmmmmsssse"),
-        ],
+        acts: &[Mark(3), Create(0, 1, 3, READ, None), Mark(5), Sweep(4), End],
     },
     // slots 2 and 3 are freed in this order; slot 4 was never used
     Script {
@@ -223,23 +267,29 @@ const SCRIPTS: &[Script] = &[
         slots: 5,
         cells: 8,
         acts: &[
-            Create(0, 1, 3, "r", None),
+            Create(0, 1, 3, READ, None),
             At(1, 3, 2),
             Shade(0, Some(3)),
-            Remove(1, 3, "r"),
-            Create(0, 1, 4, "r", None),
+            Remove(1, 3, READ),
+            Create(0, 1, 4, READ, None),
             At(1, 4, 3),
             Shade(0, Some(4)),
-            Remove(1, 4, "r"),
-            Steps("mmmmmmmmmsssssse"),
-            Steps("mmmmmsssffse"),
-            Create(0, 1, 5, "r", None),
+            Remove(1, 4, READ),
+            Mark(9),
+            Sweep(6),
+            End,
+            Mark(5),
+            Sweep(3),
+            Reclaim(2),
+            Sweep(1),
+            End,
+            Create(0, 1, 5, READ, None),
             At(1, 5, 3),
             Shade(0, Some(5)),
-            Create(0, 1, 6, "r", None),
+            Create(0, 1, 6, READ, None),
             At(1, 6, 2),
             Shade(0, Some(6)),
-            Create(0, 1, 7, "r", None),
+            Create(0, 1, 7, READ, None),
             At(1, 7, 4),
             FreeSlots(0),
         ],
@@ -252,16 +302,22 @@ const SCRIPTS: &[Script] = &[
         slots: 5,
         cells: 8,
         acts: &[
-            Create(0, 1, 3, "r", None),
+            Create(0, 1, 3, READ, None),
             Shade(0, Some(3)),
-            Create(0, 1, 4, "r", None),
+            Create(0, 1, 4, READ, None),
             Shade(0, Some(4)),
-            Create(0, 1, 5, "r", None),
+            Create(0, 1, 5, READ, None),
             Shade(0, Some(5)),
-            Steps("mmmmmmmmmmmmmmsssssse"),
-            Steps("mmm"),
-            Remove(1, 4, "r"),
-            Steps("mmmmmmmmssssfse"),
+            Mark(14),
+            Sweep(6),
+            End,
+            Mark(3),
+            Remove(1, 4, READ),
+            Mark(8),
+            Sweep(4),
+            Reclaim(1),
+            Sweep(1),
+            End,
             FreeSlots(1),
             At(1, 3, 2),
             At(1, 5, 4),
@@ -271,66 +327,73 @@ const SCRIPTS: &[Script] = &[
     Script {
         name: "edges are opened by rising pairs",
         principals: &["alice", "bob", "carol"],
-        edges: &[(1, "t", 2), (1, "t", 3)],
+        edges: &[(1, TAKE, 2), (1, TAKE, 3)],
         slots: 4,
         cells: 8,
         acts: &[
             At(1, 1, 0),
             At(2, 2, 1),
             At(3, 3, 2),
-            Steps("mmm"),
-            Remove(1, 3, "t"),
-            Steps("mmmmmmssssse"),
+            Mark(3),
+            Remove(1, 3, TAKE),
+            Mark(6),
+            Sweep(5),
+            End,
         ],
     },
     Script {
         name: "refusals change nothing",
         principals: TWO,
-        edges: &[(2, "r", 1)],
+        edges: &[(2, READ, 1)],
         slots: 3,
         cells: 1,
         acts: &[
             FreeCells(0),
-            Create(0, 1, 3, "r", Some(HeapFull::Cells)),
-            Join(0, (1, 1), (2, 2), "r", Some(HeapFull::Cells)),
+            Create(0, 1, 3, READ, Some(HeapFull::Cells)),
+            Join(0, (1, 1), (2, 2), READ, Some(HeapFull::Cells)),
             Pending(0, None),
-            Join(0, (2, 2), (1, 1), "t", None),
+            Join(0, (2, 2), (1, 1), TAKE, None),
             Shade(0, Some(1)),
-            Edge(2, 1, "rt"),
-            Remove(2, 1, "r"),
+            Edge(2, 1, READ | TAKE),
+            Remove(2, 1, READ),
             FreeCells(0),
-            Remove(2, 1, "t"),
+            Remove(2, 1, TAKE),
             FreeCells(1),
         ],
     },
 ];
 
-pub fn rights(letters: &str) -> Rights {
-    let mut all = Rights::empty();
-    for letter in letters.as_bytes() {
-        all = all.union(match *letter {
-            b'r' => Rights::read(),
-            b'w' => Rights::write(),
-            b't' => Rights::take(),
-            _ => Rights::grant(),
-        });
+/// The rights of these bits.
+pub fn rights(bits: u8) -> Rights {
+    match Rights::from_bits(bits) {
+        Some(rights) => rights,
+        None => Rights::empty(),
     }
-    all
+}
+
+fn principals(alloc: Global, names: &[&str]) -> Result<Vec<Word>, AllocError> {
+    let mut principals = Vec::new(alloc);
+    for name in names {
+        principals.push(Word::new(String::from_str(alloc, name)?))?;
+    }
+    Ok(principals)
+}
+
+fn edges(alloc: Global, wanted: &[(u64, u8, u64)]) -> Result<Vec<(u64, Rights, u64)>, AllocError> {
+    let mut edges = Vec::new(alloc);
+    for edge in wanted {
+        edges.push((edge.0, rights(edge.1), edge.2))?;
+    }
+    Ok(edges)
 }
 
 /// What a script is opened with.
-pub fn config(alloc: Global, script: &Script) -> Result<Config, Fail>
+fn config(alloc: Global, script: &Script) -> Result<Config, AllocError>
     ensures slots { IfOk result (λ config. config.slots ≡ script.now.slots) }
     ensures cells { IfOk result (λ config. config.cells ≡ script.now.cells) }
 {
-    let mut principals = Vec::new(alloc);
-    for name in script.principals {
-        principals.push(Word::new(String::from_str(alloc, name)?))?;
-    }
-    let mut edges = Vec::new(alloc);
-    for edge in script.edges {
-        edges.push((edge.0, rights(edge.1), edge.2))?;
-    }
+    let edges = edges(alloc, script.edges)?;
+    let principals = principals(alloc, script.principals)?;
     let next = principals.len() as u64 + 1;
     Ok(Config {
         principals,
@@ -341,16 +404,24 @@ pub fn config(alloc: Global, script: &Script) -> Result<Config, Fail>
     })
 }
 
-pub fn open(rt: &impl Abort, alloc: Global, script: &Script) -> Result<Store, Fail> {
+/// The graph that a script is opened with, which a store of the script's slots and cells can open.
+pub fn graph(rt: &impl Abort, alloc: Global, script: &Script) -> Result<Graph, AllocError>
+    ensures { IfOk result (λ graph. Fitted graph script.now.slots script.now.cells) }
+{
     let config = config(alloc, script)?;
     match Graph::build(alloc, &config) {
-        Err(OpenFault::OutOfMemory) => Err(AllocError.into()),
+        Err(OpenFault::OutOfMemory) => Err(AllocError),
         Err(fault) => panic!(rt; "refused: {fault:?}"),
         Ok(graph) => {
             crate::openings_can_be_stored();
-            Ok(Store::new(alloc, &graph, script.slots, script.cells)?)
+            Ok(graph)
         }
     }
+}
+
+pub fn open(rt: &impl Abort, alloc: Global, script: &Script) -> Result<Store, AllocError> {
+    let graph = graph(rt, alloc, script)?;
+    Store::new(alloc, &graph, script.slots, script.cells)
 }
 
 /// The slot of a principal, or of a vertex that it has an edge to.
@@ -422,100 +493,128 @@ fn remove(rt: &impl Abort, store: &mut Store, principal: u64, serial: u64, right
     }
 }
 
-fn steps(rt: &impl Abort, store: &mut Store, name: &str, wanted: &str) {
-    for letter in wanted.as_bytes() {
-        let note = store.collect();
-        let (phase, freed, ended) = match *letter {
-            b'm' => (Phase::Mark, 0, false),
-            b's' => (Phase::Sweep, 0, false),
-            b'f' => (Phase::Sweep, 1, false),
-            _ => (Phase::Idle, 0, true),
-        };
-        let wanted = Note {
-            phase,
-            freed,
-            ended,
-        };
-        assert_eq!(rt; note, wanted, "{name}");
-    }
+fn shade(rt: &impl Abort, store: &mut Store, seat: u64) -> Option<u64> {
+    assert!(rt; seat < 64);
+    store.shade(seat)
+}
+
+fn pending(rt: &impl Abort, store: &Store, seat: u64) -> Option<u64> {
+    assert!(rt; seat < 64);
+    store.pending(seat)
+}
+
+/// Replaces the text of a document over which a principal has a right; whether the old one was this.
+fn replaces(
+    rt: &impl Abort,
+    alloc: Global,
+    store: &mut Store,
+    principal: u64,
+    serial: u64,
+    new: &str,
+    old: &str,
+) -> Result<bool, AllocError> {
+    let Ok(text) = Text::new(String::from_str(alloc, new)?) else {
+        panic!(rt; "the text is too long");
+    };
+    let id = at(rt, store, principal, serial);
+    Ok(reads(&store.set_text(id, text), old))
 }
 
 fn reads(text: &Text, wanted: &str) -> bool {
     text.get() == wanted
 }
 
+/// Whether a document over which a principal has a right has this text.
+fn is_text(rt: &impl Abort, store: &Store, principal: u64, serial: u64, text: &str) -> bool {
+    let id = at(rt, store, principal, serial);
+    reads(store.text(id), text) && store.kind(id) == Kind::Document
+}
+
+/// Whether a principal has this edge alone.
+fn has_edge(
+    rt: &impl Abort,
+    alloc: Global,
+    store: &Store,
+    principal: u64,
+    serial: u64,
+    rights: Rights,
+) -> Result<bool, AllocError> {
+    let id = at(rt, store, principal, principal);
+    let edges = store.edges(alloc, id)?;
+    Ok(edges.as_slice() == [(serial, rights)].as_slice())
+}
+
+/// Takes so many steps of the collector; whether each has this note.
+fn steps(store: &mut Store, count: u32, phase: Phase, freed: u64, ended: bool) -> bool {
+    let wanted = Note {
+        phase,
+        freed,
+        ended,
+    };
+    for _ in 0..count {
+        if store.collect() != wanted {
+            return false;
+        }
+    }
+    true
+}
+
+/// Carries out one line of a script; whether it goes as it says.
+fn goes(rt: &impl Abort, alloc: Global, store: &mut Store, act: &Act) -> Result<bool, AllocError> {
+    match act {
+        Create(seat, principal, serial, bits, full) => {
+            let made = create(rt, alloc, store, *seat, *principal, *serial, rights(*bits));
+            Ok(made.err() == *full)
+        }
+        Join(seat, from, to, bits, full) => {
+            let joined = join(rt, store, *seat, *from, *to, rights(*bits));
+            Ok(joined.err() == *full)
+        }
+        Remove(principal, serial, bits) => {
+            remove(rt, store, *principal, *serial, rights(*bits));
+            Ok(true)
+        }
+        Shade(seat, target) => Ok(shade(rt, store, *seat) == *target),
+        Write(principal, serial, new, old) => {
+            replaces(rt, alloc, store, *principal, *serial, new, old)
+        }
+        Mark(count) => Ok(steps(store, *count, Phase::Mark, 0, false)),
+        Sweep(count) => Ok(steps(store, *count, Phase::Sweep, 0, false)),
+        Reclaim(count) => Ok(steps(store, *count, Phase::Sweep, 1, false)),
+        End => Ok(steps(store, 1, Phase::Idle, 0, true)),
+        Pending(seat, target) => Ok(pending(rt, store, *seat) == *target),
+        FreeSlots(count) => Ok(store.free_slots() == *count),
+        FreeCells(count) => Ok(store.free_cells() == *count),
+        At(principal, serial, slot) => Ok(at(rt, store, *principal, *serial) == *slot),
+        Reads(principal, serial, text) => Ok(is_text(rt, store, *principal, *serial, text)),
+        Edge(principal, serial, bits) => {
+            has_edge(rt, alloc, store, *principal, *serial, rights(*bits))
+        }
+    }
+}
+
+/// Carries out the lines of a script over a store that was opened for it.
 pub fn play(
     rt: &impl Abort,
     alloc: Global,
     store: &mut Store,
-    name: &str,
-    act: &Act,
-) -> Result<(), Fail> {
-    match act {
-        Create(seat, principal, serial, letters, full) => {
-            let made = create(
-                rt,
-                alloc,
-                store,
-                *seat,
-                *principal,
-                *serial,
-                rights(letters),
-            );
-            assert_eq!(rt; made.err(), *full, "{name}");
-        }
-        Join(seat, from, to, letters, full) => {
-            let joined = join(rt, store, *seat, *from, *to, rights(letters));
-            assert_eq!(rt; joined.err(), *full, "{name}");
-        }
-        Remove(principal, serial, letters) => {
-            remove(rt, store, *principal, *serial, rights(letters));
-        }
-        Shade(seat, target) => {
-            assert!(rt; *seat < 64);
-            assert_eq!(rt; store.shade(*seat), *target, "{name}");
-        }
-        Write(principal, serial, new, old) => {
-            let Ok(text) = Text::new(String::from_str(alloc, new)?) else {
-                panic!(rt; "the text is too long");
-            };
-            let id = at(rt, store, *principal, *serial);
-            assert!(rt; reads(&store.set_text(id, text), old), "{name}");
-        }
-        Steps(wanted) => steps(rt, store, name, wanted),
-        Pending(seat, target) => {
-            assert!(rt; *seat < 64);
-            assert_eq!(rt; store.pending(*seat), *target, "{name}");
-        }
-        FreeSlots(count) => assert_eq!(rt; store.free_slots(), *count, "{name}"),
-        FreeCells(count) => assert_eq!(rt; store.free_cells(), *count, "{name}"),
-        At(principal, serial, slot) => {
-            assert_eq!(rt; at(rt, store, *principal, *serial), *slot, "{name}");
-        }
-        Reads(principal, serial, text) => {
-            let id = at(rt, store, *principal, *serial);
-            assert!(rt; reads(store.text(id), text), "{name}");
-            assert!(rt; store.kind(id) == Kind::Document, "{name}");
-        }
-        Edge(principal, serial, letters) => {
-            let id = at(rt, store, *principal, *principal);
-            let edges = store.edges(alloc, id)?;
-            assert!(rt;
-                edges.as_slice() == [(*serial, rights(letters))].as_slice(),
-                "{name}"
-            );
-        }
+    script: &Script,
+) -> Result<(), AllocError> {
+    for act in script.acts {
+        assert!(rt; goes(rt, alloc, store, act)?, "{}", script.name);
     }
     Ok(())
 }
 
+fn run(rt: &impl Abort, alloc: Global, script: &Script) -> Result<(), AllocError> {
+    let mut store = open(rt, alloc, script)?;
+    play(rt, alloc, &mut store, script)
+}
+
 #[test]
-fn scripts_go_as_worked_out(rt: HostRuntime) -> Result<(), Fail> {
+fn scripts_go_as_worked_out(rt: HostRuntime) -> Result<(), AllocError> {
     for script in SCRIPTS {
-        let mut store = open(&rt, rt.alloc(), script)?;
-        for act in script.acts {
-            play(&rt, rt.alloc(), &mut store, script.name, act)?;
-        }
+        run(&rt, rt.alloc(), script)?;
     }
     Ok(())
 }
