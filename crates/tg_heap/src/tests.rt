@@ -9,7 +9,7 @@ use std::process::Abort;
 use tg_rights::{Kind, Rights, Text};
 use tg_slots::Colour;
 
-/// One call of a script with its answer, or what must be seen after the calls before it. Rights are given by their letters.
+/// One call of a script with its answer, or what must be seen after the calls before it. Rights are given by their bits.
 #[derive(Clone, Copy)]
 enum Act {
     /// A white document of this serial comes into this slot.
@@ -17,11 +17,11 @@ enum Act {
     /// A vertex finds no free slot.
     NoSlot,
     /// An edge between two slots gains rights, and what is full.
-    Add(u32, u32, &'static str, Option<HeapFull>),
+    Add(u32, u32, u8, Option<HeapFull>),
     /// An edge between two slots comes in where there is none.
-    First(u32, u32, &'static str),
+    First(u32, u32, u8),
     /// The edge from a slot to a serial loses rights, and whether it is gone.
-    Lose(u32, u64, &'static str, bool),
+    Lose(u32, u64, u8, bool),
     Shade(u32),
     /// The first of the grey list is this slot, and is made black.
     Scan(u32),
@@ -35,7 +35,7 @@ enum Act {
     /// The free slots and the free cells.
     Free(u32, u32),
     /// A slot's edges, newest first: target, serial and label.
-    Edges(u32, &'static [(u32, u64, &'static str)]),
+    Edges(u32, &'static [(u32, u64, u8)]),
     /// A slot has no edge to a serial.
     NoEdge(u32, u64),
 }
@@ -44,6 +44,14 @@ use Act::{
     Add, Clear, Edges, First, Free, Lose, NoEdge, NoSlot, NoneWaits, Put, Scan, Shade, White,
     Whiten,
 };
+
+const READ: u8 = 1;
+
+const WRITE: u8 = 2;
+
+const TAKE: u8 = 4;
+
+const GRANT: u8 = 8;
 
 struct Script {
     slots: u32,
@@ -60,10 +68,10 @@ const SCRIPTS: &[Script] = &[
             Put(10, 0),
             Put(20, 1),
             Put(30, 2),
-            Add(0, 1, "r", None),
-            Add(0, 2, "g", None),
-            Add(0, 1, "w", None),
-            Edges(0, &[(2, 30, "g"), (1, 20, "rw")]),
+            Add(0, 1, READ, None),
+            Add(0, 2, GRANT, None),
+            Add(0, 1, WRITE, None),
+            Edges(0, &[(2, 30, GRANT), (1, 20, READ | WRITE)]),
             Edges(1, &[]),
             Free(0, 2),
         ],
@@ -76,12 +84,12 @@ const SCRIPTS: &[Script] = &[
             Put(10, 0),
             Put(20, 1),
             Put(30, 2),
-            First(0, 1, "r"),
-            First(0, 2, "wg"),
-            Edges(0, &[(2, 30, "wg"), (1, 20, "r")]),
+            First(0, 1, READ),
+            First(0, 2, WRITE | GRANT),
+            Edges(0, &[(2, 30, WRITE | GRANT), (1, 20, READ)]),
             Free(0, 0),
-            Add(0, 1, "t", None),
-            Edges(0, &[(2, 30, "wg"), (1, 20, "rt")]),
+            Add(0, 1, TAKE, None),
+            Edges(0, &[(2, 30, WRITE | GRANT), (1, 20, READ | TAKE)]),
         ],
     },
     // an edge that keeps no right is gone
@@ -91,12 +99,12 @@ const SCRIPTS: &[Script] = &[
         acts: &[
             Put(10, 0),
             Put(20, 1),
-            Add(0, 0, "t", None),
-            Add(0, 1, "rw", None),
-            Lose(0, 20, "r", false),
-            Edges(0, &[(1, 20, "w"), (0, 10, "t")]),
-            Lose(0, 20, "w", true),
-            Edges(0, &[(0, 10, "t")]),
+            Add(0, 0, TAKE, None),
+            Add(0, 1, READ | WRITE, None),
+            Lose(0, 20, READ, false),
+            Edges(0, &[(1, 20, WRITE), (0, 10, TAKE)]),
+            Lose(0, 20, WRITE, true),
+            Edges(0, &[(0, 10, TAKE)]),
             NoEdge(0, 20),
             Free(0, 2),
         ],
@@ -133,13 +141,13 @@ const SCRIPTS: &[Script] = &[
             Put(20, 1),
             Put(30, 2),
             NoSlot,
-            Add(0, 1, "r", None),
-            Add(0, 2, "r", None),
-            Add(1, 0, "r", None),
-            Add(2, 0, "r", None),
+            Add(0, 1, READ, None),
+            Add(0, 2, READ, None),
+            Add(1, 0, READ, None),
+            Add(2, 0, READ, None),
             Free(0, 0),
-            Add(2, 1, "r", Some(HeapFull::Cells)),
-            Add(0, 1, "w", None),
+            Add(2, 1, READ, Some(HeapFull::Cells)),
+            Add(0, 1, WRITE, None),
             Clear(1),
             Free(1, 1),
             Clear(0),
@@ -153,18 +161,12 @@ const SCRIPTS: &[Script] = &[
     },
 ];
 
-/// The rights of the letters.
-fn rights(letters: &str) -> Rights {
-    let mut all = Rights::empty();
-    for letter in letters.as_bytes() {
-        all = all.union(match *letter {
-            b'r' => Rights::read(),
-            b'w' => Rights::write(),
-            b't' => Rights::take(),
-            _ => Rights::grant(),
-        });
+/// The rights of these bits.
+fn rights(bits: u8) -> Rights {
+    match Rights::from_bits(bits) {
+        Some(rights) => rights,
+        None => Rights::empty(),
     }
-    all
 }
 
 // The slot has a vertex; the condition of a call is then known.
@@ -266,11 +268,16 @@ fn clear(rt: &impl Abort, heap: &mut Heap, id: u32) {
     heap.free_slot(id);
 }
 
+/// Whether the text has these bytes.
+fn reads(text: &Text, content: &str) -> bool {
+    text.get() == content
+}
+
 /// A vertex finds no free slot, and its text comes back.
 fn finds_no_slot(rt: &impl Abort, alloc: Global, heap: &mut Heap) {
     match heap.add_vertex(40, Kind::Document, Colour::White, Text::empty(alloc)) {
         Ok(_) => panic!(rt; "a slot too many"),
-        Err((full, text)) => assert!(rt; full == HeapFull::Slots && text.get().is_empty()),
+        Err((full, text)) => assert!(rt; full == HeapFull::Slots && reads(&text, "")),
     }
 }
 
@@ -286,45 +293,24 @@ fn loses(rt: &impl Abort, heap: &mut Heap, id: u32, serial: u64, rights: Rights,
     }
 }
 
-/// The slot's edges, newest first: target, serial and label of each.
-fn list(
-    rt: &impl Abort,
-    alloc: Global,
-    heap: &Heap,
-    id: u32,
-) -> Result<Vec<(u32, u64, Rights)>, AllocError> {
+/// The slot's edges are these, from its first cell to the next and the next.
+fn has_edges(rt: &impl Abort, heap: &Heap, id: u32, wanted: &[(u32, u64, u8)]) {
     assert!(rt; id < heap.len());
-    let mut found = Vec::new(alloc);
-    let mut cursor = heap.first(id);
-    while let Some(cell) = cursor {
-        found.push((
-            heap.target(cell),
-            heap.target_serial(cell),
-            heap.label(cell),
-        ))?;
-        cursor = heap.next(cell);
+    let mut next = heap.first(id);
+    for edge in wanted {
+        let Some(cell) = next else {
+            panic!(rt; "slot {id} has too few edges")
+        };
+        assert!(rt; heap.target(cell) == edge.0);
+        assert!(rt; heap.target_serial(cell) == edge.1);
+        assert!(rt; heap.label(cell) == rights(edge.2));
+        next = heap.next(cell);
     }
-    Ok(found)
-}
-
-/// The slot's edges are these, newest first.
-fn has_edges(
-    rt: &impl Abort,
-    alloc: Global,
-    heap: &Heap,
-    id: u32,
-    wanted: &[(u32, u64, &str)],
-) -> Result<(), AllocError> {
-    let found = list(rt, alloc, heap, id)?;
-    assert!(rt; found.len() == wanted.len());
-    for (edge, want) in found.iter().zip(wanted) {
-        assert!(rt; edge.0 == want.0 && edge.1 == want.1 && edge.2 == rights(want.2));
-    }
-    Ok(())
+    assert!(rt; next.is_none());
 }
 
 /// Carries out one line of a script.
-fn play(rt: &impl Abort, alloc: Global, heap: &mut Heap, act: Act) -> Result<(), AllocError> {
+fn play(rt: &impl Abort, alloc: Global, heap: &mut Heap, act: Act) {
     match act {
         Put(serial, slot) => assert!(rt; put(rt, alloc, heap, serial) == slot),
         NoSlot => finds_no_slot(rt, alloc, heap),
@@ -346,46 +332,64 @@ fn play(rt: &impl Abort, alloc: Global, heap: &mut Heap, act: Act) -> Result<(),
         Free(slots, cells) => {
             assert!(rt; heap.free_slots() == slots && heap.free_cells() == cells);
         }
-        Edges(id, wanted) => has_edges(rt, alloc, heap, id, wanted)?,
+        Edges(id, wanted) => has_edges(rt, heap, id, wanted),
         NoEdge(id, serial) => {
             assert!(rt; id < heap.len());
             assert!(rt; heap.edge(id, serial).is_none());
         }
     }
+}
+
+/// Carries out the lines of a script.
+fn play_all(rt: &impl Abort, alloc: Global, heap: &mut Heap, acts: &[Act]) {
+    for act in acts {
+        play(rt, alloc, heap, *act);
+    }
+}
+
+/// Carries out a script over a new heap.
+fn run(rt: &impl Abort, alloc: Global, script: &Script) -> Result<(), AllocError> {
+    assert!(rt; 1 <= script.slots && script.slots <= 65_536);
+    assert!(rt; 1 <= script.cells && script.cells <= 1_048_576);
+    let mut heap = Heap::new(alloc, script.slots, script.cells)?;
+    play_all(rt, alloc, &mut heap, script.acts);
     Ok(())
 }
 
 #[test]
 fn each_script_runs_as_worked_out(rt: HostRuntime) -> Result<(), AllocError> {
     for script in SCRIPTS {
-        let mut heap = Heap::new(rt.alloc(), script.slots, script.cells)?;
-        for act in script.acts {
-            play(&rt, rt.alloc(), &mut heap, *act)?;
-        }
+        run(&rt, rt.alloc(), script)?;
     }
     Ok(())
 }
 
+/// The slot has a black subject of this serial and text.
+fn has_subject(rt: &impl Abort, heap: &Heap, id: u32, serial: u64, content: &str) {
+    assert!(rt; id < heap.len());
+    assert!(rt; heap.serial(id) == Some(serial));
+    assert!(rt; heap.kind(id) == Some(Kind::Subject));
+    assert!(rt; heap.colour(id) == Some(Colour::Black));
+    match heap.text(id) {
+        Some(text) => assert!(rt; reads(text, content)),
+        None => panic!(rt; "slot {id} has no text"),
+    }
+}
+
 #[test]
 fn a_vertex_is_read_as_it_was_put_in(rt: HostRuntime) -> Result<(), AllocError> {
-    let mut heap = Heap::new(rt.alloc(), 1, 1)?;
     let Ok(text) = Text::new(String::from_str(rt.alloc(), "hi")?) else {
         panic!(rt; "refused")
     };
+    let mut heap = Heap::new(rt.alloc(), 1, 1)?;
     assert!(rt;
         heap.add_vertex(7, Kind::Subject, Colour::Black, text)
             .is_ok()
     );
+    assert!(rt; heap.len() == 1);
+    has_subject(&rt, &heap, 0, 7, "hi");
     is_taken(&rt, &heap, 0);
-    assert_eq!(rt; heap.len(), 1);
-    assert_eq!(rt;
-        (heap.serial(0), heap.kind(0)),
-        (Some(7), Some(Kind::Subject))
-    );
-    assert_eq!(rt; heap.colour(0), Some(Colour::Black));
-    assert_eq!(rt; heap.text(0).map(|text| text.get()), Some("hi"));
-    let old = heap.set_text(0, Text::empty(rt.alloc()));
-    assert_eq!(rt; old.get(), "hi");
+    assert!(rt; reads(&heap.set_text(0, Text::empty(rt.alloc())), "hi"));
     Ok(())
 }
 
@@ -393,14 +397,14 @@ fn a_vertex_is_read_as_it_was_put_in(rt: HostRuntime) -> Result<(), AllocError> 
 fn as_many_slots_and_cells_as_there_may_be(rt: HostRuntime) -> Result<(), AllocError> {
     let mut heap = Heap::new(rt.alloc(), 65_536, 1_048_576)?;
     for id in 0..65_536 {
-        assert_eq!(rt; put(&rt, rt.alloc(), &mut heap, 10), id);
+        assert!(rt; put(&rt, rt.alloc(), &mut heap, 10) == id);
     }
-    assert_eq!(rt; add(&rt, &mut heap, 65_535, 0, Rights::grant()), Ok(()));
-    assert_eq!(rt; (heap.free_slots(), heap.free_cells()), (0, 1_048_575));
+    assert!(rt; add(&rt, &mut heap, 65_535, 0, Rights::grant()).is_ok());
+    assert!(rt; heap.free_slots() == 0 && heap.free_cells() == 1_048_575);
     for id in 0..65_536 {
         clear(&rt, &mut heap, id);
     }
-    assert_eq!(rt; (heap.free_slots(), heap.free_cells()), (65_536, 1_048_576));
+    assert!(rt; heap.free_slots() == 65_536 && heap.free_cells() == 1_048_576);
     Ok(())
 }
 
@@ -410,9 +414,9 @@ const FILLED: &[Act] = &[
     Put(1, 0),
     Put(2, 1),
     Put(3, 2),
-    Add(0, 2, "r", None),
+    Add(0, 2, READ, None),
     Free(0, 3),
-    Lose(0, 3, "r", true),
+    Lose(0, 3, READ, true),
     NoSlot,
     Free(0, 4),
 ];
@@ -427,8 +431,6 @@ fn growth_refused_in_a_new_heap(rt: HostRuntime) -> Result<(), AllocError> {
             Heap::new(rt.alloc(), 3, 4)?
         }
     };
-    for act in FILLED {
-        play(&rt, rt.alloc(), &mut heap, *act)?;
-    }
+    play_all(&rt, rt.alloc(), &mut heap, FILLED);
     Ok(())
 }
