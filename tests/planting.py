@@ -286,6 +286,12 @@ class Trial:
             if self.were:
                 rt.linked(self.were[-1], self.kept)
             fit = [it for it in self.edits if not it.result and it.fits(self.source)]
-            for at in range(0, len(fit), MOST):
-                self.batch(fit[at : at + MOST])
+            # (a function's edits follow one another, so that it has one control)
+            fit.sort(key=lambda it: min((f.file, f.start) for f in it.spans))
+            count = -(-len(fit) // MOST)
+            batches = [fit[at * len(fit) // count : (at + 1) * len(fit) // count] for at in range(count)]
+            if not self.were and batches:
+                # (it makes what the others begin with)
+                self.batch(batches.pop(0))
+            list(pool.map(self.batch, batches))
             list(pool.map(self.alone, [it for it in self.edits if not it.result]))
