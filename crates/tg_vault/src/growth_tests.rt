@@ -1,18 +1,19 @@
 //! Calls that are refused their memory and made again: tests/growths.py refuses each allocation of these tests in turn.
-use crate::tests::{ALICE, Ask, BOB, Want, answers, command, hello, is_reply, opened, rights_of};
-use crate::{Answer, AskFault, Event, Vault};
+use crate::tests::{
+    ALICE, Ask, BOB, Case, Line, Step, Want, answers, command, events, is_reply, opened, played,
+    rights_of, rule_of, words,
+};
+use crate::{Answer, AskFault, Event, Ran, Vault};
 use std::alloc::{AllocError, Global};
 use std::io::Print;
 use std::process::Abort;
 use tg_graph::{Config, OpenFault};
-use tg_rights::{Command, Kind, Reply, Word};
+use tg_rights::{Command, Kind, Reply};
 
 /// The configuration of alice alone, with the slots and the cells that it has where none are named.
 fn alice_alone(alloc: Global) -> Result<Config, AllocError> {
-    let mut principals = Vec::new(alloc);
-    principals.push(Word::new(String::from_str(alloc, "alice")?))?;
     Ok(Config {
-        principals,
+        principals: words(alloc, &["alice"])?,
         edges: Vec::new(alloc),
         next: 2,
         slots: 1024,
@@ -20,29 +21,42 @@ fn alice_alone(alloc: Global) -> Result<Config, AllocError> {
     })
 }
 
+/// The vault of alice alone, opened again where memory is refused.
+fn opened_again(rt: &(impl Abort + Print), alloc: Global) -> Result<Vault, AllocError> {
+    match Vault::new(alloc, alice_alone(alloc)?) {
+        Ok(vault) => Ok(vault),
+        Err(fault) => {
+            let _ = rt.println("no memory");
+            assert!(rt; fault == OpenFault::OutOfMemory);
+            let config = alice_alone(alloc)?;
+            Ok(Vault::new(alloc, config).ok().expect(rt, "refused again"))
+        }
+    }
+}
+
+/// Whether the vault has no entry, and began with alice alone.
+fn has_alice_alone(vault: &Vault) -> bool {
+    vault.count() == 0
+        && vault.opening().kind(1) == Some(Kind::Subject)
+        && vault.opening().kind(2).is_none()
+}
+
 /// After a refused opening the same configuration opens a vault: without entries, and with alice alone.
 #[test]
 fn growth_refused_in_an_opening(rt: HostRuntime) -> Result<(), AllocError> {
-    let mut vault = match Vault::new(rt.alloc(), alice_alone(rt.alloc())?) {
-        Ok(vault) => vault,
-        Err(fault) => {
-            let _ = rt.println("no memory");
-            assert_eq!(rt; fault, OpenFault::OutOfMemory);
-            let config = alice_alone(rt.alloc())?;
-            Vault::new(rt.alloc(), config)
-                .ok()
-                .expect(&rt, "refused again")
-        }
-    };
-    assert_eq!(rt; vault.count(), 0);
-    assert_eq!(rt; vault.opening().kind(1), Some(Kind::Subject));
-    assert_eq!(rt; vault.opening().kind(2), None);
-    assert_eq!(rt; vault.hello(0, "alice"), Ok(1));
+    let mut vault = opened_again(&rt, rt.alloc())?;
+    assert!(rt; has_alice_alone(&vault));
+    assert!(rt; vault.hello(0, "alice") == Ok(1));
     Ok(())
 }
 
-/// The seat's command is answered so, as the next entry. Where memory is refused nothing is entered, no target is left, and
-/// it is answered so when it is asked again.
+/// Whether nothing was entered since there were so many entries, and the seat has no target.
+fn is_unchanged(vault: &mut Vault, seat: u64, entries: u64) -> bool {
+    vault.count() == entries && vault.shade(seat) == Ok(None)
+}
+
+/// Whether the seat's command is answered so, as the next entry. Where memory is refused nothing is entered, no target is
+/// left, and it is answered so when it is asked again.
 fn asks_again(
     rt: &(impl Abort + Print),
     alloc: Global,
@@ -50,62 +64,101 @@ fn asks_again(
     seat: u64,
     ask: Ask,
     want: Want,
-) -> Result<(), AllocError> {
+) -> Result<bool, AllocError> {
     let entries = vault.count();
-    let (first, rule) = command(rt, alloc, ask)?;
+    let first = command(rt, alloc, ask)?;
     let entered = match vault.command(seat, first) {
         Ok(entered) => entered,
         Err(fault) => {
             let _ = rt.println("no memory");
-            assert_eq!(rt; fault, AskFault::OutOfMemory);
-            assert_eq!(rt; vault.count(), entries);
-            assert_eq!(rt; vault.shade(seat), Ok(None));
-            let (second, _) = command(rt, alloc, ask)?;
+            assert!(rt; fault == AskFault::OutOfMemory && is_unchanged(vault, seat, entries));
+            let second = command(rt, alloc, ask)?;
             vault.command(seat, second).ok().expect(rt, "refused again")
         }
     };
-    assert_eq!(rt; entered.0, entries);
-    assert!(rt; is_reply(&entered.1, rule, want));
+    Ok(entered.0 == entries && is_reply(&entered.1, rule_of(ask), want))
+}
+
+/// Whether the line is answered so; a command that is refused its memory is asked again.
+fn answers_again(
+    rt: &(impl Abort + Print),
+    alloc: Global,
+    vault: &mut Vault,
+    line: Line,
+) -> Result<bool, AllocError> {
+    match line {
+        Line::Ask(seat, ask, want) => asks_again(rt, alloc, vault, seat, ask, want),
+        other => answers(rt, alloc, vault, other),
+    }
+}
+
+/// The lines are answered so, one after another; each command that is refused its memory is asked again.
+fn lines_are_answered_again(
+    rt: &(impl Abort + Print),
+    alloc: Global,
+    vault: &mut Vault,
+    lines: &[Line],
+) -> Result<(), AllocError> {
+    for line in lines {
+        assert!(rt; answers_again(rt, alloc, vault, *line)?);
+    }
     Ok(())
 }
+
+/// The case's lines are answered so, again where memory is refused.
+fn plays_again(rt: &(impl Abort + Print), alloc: Global, case: &Case) -> Result<(), AllocError> {
+    let mut vault = opened(rt, alloc, case)?;
+    lines_are_answered_again(rt, alloc, &mut vault, case.lines)
+}
+
+/// Bob creates a document and shades it, and has nothing more to shade.
+const CREATED: Case = Case {
+    slots: 8,
+    cells: 8,
+    next: 3,
+    edges: &[],
+    lines: &[
+        BOB,
+        Line::Ask(1, Ask::Document("rwg"), Want::Created(3)),
+        Line::Shaded(1, 3),
+        Line::Shade(1, Ok(None)),
+    ],
+};
 
 /// A create that is refused leaves no vertex and no target.
 #[test]
 fn growth_refused_in_a_create(rt: HostRuntime) -> Result<(), AllocError> {
-    let mut vault = opened(&rt, rt.alloc(), &[])?;
-    answers(&rt, rt.alloc(), &mut vault, BOB)?;
-    asks_again(
-        &rt,
-        rt.alloc(),
-        &mut vault,
-        1,
-        Ask::Document("rwg"),
-        Want::Created(3),
-    )?;
-    assert_eq!(rt; vault.shade(1), Ok(Some(3)));
-    assert_eq!(rt; vault.shade(1), Ok(None));
-    Ok(())
+    plays_again(&rt, rt.alloc(), &CREATED)
 }
 
 /// Commands that take memory of their own: for the copy of a text, and for a list of edges.
-const ON_A_TEXT: &[(Ask, Want)] = &[
-    (Ask::Write(3, "hi"), Want::Done),
-    (Ask::Read(3), Want::Text("hi")),
-    (Ask::Look(1), Want::Edges(&[(2, "t"), (3, "rw")])),
-];
+const ON_A_TEXT: Case = Case {
+    slots: 8,
+    cells: 8,
+    next: 3,
+    edges: &[(1, "t", 2)],
+    lines: &[
+        ALICE,
+        Line::Ask(0, Ask::Document("rw"), Want::Created(3)),
+        Line::Shaded(0, 3),
+        Line::Ask(0, Ask::Write(3, "hi"), Want::Done),
+        Line::Ask(0, Ask::Read(3), Want::Text("hi")),
+        Line::Ask(0, Ask::Look(1), Want::Edges(&[(2, "t"), (3, "rw")])),
+    ],
+};
 
 /// A write that is refused leaves the text, a read and a look the vault.
 #[test]
 fn growth_refused_in_commands_on_a_text(rt: HostRuntime) -> Result<(), AllocError> {
-    let mut vault = opened(&rt, rt.alloc(), &[(1, "t", 2)])?;
-    answers(&rt, rt.alloc(), &mut vault, ALICE)?;
-    let create = (Ask::Document("rw"), Want::Created(3));
-    asks_again(&rt, rt.alloc(), &mut vault, 0, create.0, create.1)?;
-    assert_eq!(rt; vault.shade(0), Ok(Some(3)));
-    for (ask, want) in ON_A_TEXT {
-        asks_again(&rt, rt.alloc(), &mut vault, 0, *ask, *want)?;
-    }
-    Ok(())
+    plays_again(&rt, rt.alloc(), &ON_A_TEXT)
+}
+
+/// Bob creates a document.
+fn create() -> Event {
+    let kind = Kind::Document;
+    let rights = rights_of("rwg");
+    let command = Command::Create { kind, rights };
+    Event::Ask { seat: 1, command }
 }
 
 /// What an event is answered.
@@ -117,56 +170,6 @@ enum Told {
     Shaded(Option<u64>),
 }
 
-/// Bob creates a document.
-fn create() -> Event {
-    let kind = Kind::Document;
-    let rights = rights_of("rwg");
-    let command = Command::Create { kind, rights };
-    Event::Ask { seat: 1, command }
-}
-
-/// A create that is refused as an event leaves no entry, and is answered when it comes again.
-#[test]
-fn growth_refused_in_an_event(rt: HostRuntime) -> Result<(), AllocError> {
-    let mut vault = opened(&rt, rt.alloc(), &[])?;
-    answers(&rt, rt.alloc(), &mut vault, BOB)?;
-    let mut answer = vault.run_one(create());
-    if matches!(&answer, Answer::Ask(AskFault::OutOfMemory)) {
-        let _ = rt.println("no memory");
-        assert_eq!(rt; vault.count(), 0);
-        answer = vault.run_one(create());
-    }
-    assert!(rt; matches!(&answer, Answer::Asked(0, Reply::Created(3))));
-    assert!(rt;
-        matches!(
-            vault.run_one(Event::Shade { seat: 1 }),
-            Answer::Shaded(Some(3))
-        )
-    );
-    assert_eq!(rt; vault.count(), 1);
-    Ok(())
-}
-
-/// Alice and bob take their seats; he creates a document, shades it, and has nothing more to shade.
-fn create_and_shade(alloc: Global) -> Result<Vec<Event>, AllocError> {
-    let mut events = Vec::new(alloc);
-    events.push(hello(alloc, 0, "alice")?)?;
-    events.push(hello(alloc, 1, "bob")?)?;
-    events.push(create())?;
-    events.push(Event::Shade { seat: 1 })?;
-    events.push(Event::Shade { seat: 1 })?;
-    Ok(events)
-}
-
-/// What these events are answered.
-const CREATED_AND_SHADED: [Told; 5] = [
-    Told::Hello(1),
-    Told::Hello(2),
-    Told::Created(3),
-    Told::Shaded(Some(3)),
-    Told::Shaded(None),
-];
-
 /// Whether the answer tells so.
 fn tells(answer: &Answer, told: Told) -> bool {
     match told {
@@ -177,6 +180,72 @@ fn tells(answer: &Answer, told: Told) -> bool {
         Told::Shaded(wanted) => matches!(answer, Answer::Shaded(target) if *target == wanted),
     }
 }
+
+/// Bob sits, and nobody has rights.
+const SEATED: Case = Case {
+    slots: 8,
+    cells: 8,
+    next: 3,
+    edges: &[],
+    lines: &[BOB],
+};
+
+/// What bob's create is answered as an event; where memory is refused nothing is entered, and it comes again.
+fn created_again(rt: &(impl Abort + Print), vault: &mut Vault) -> Answer {
+    match vault.run_one(create()) {
+        Answer::Ask(AskFault::OutOfMemory) => {
+            let _ = rt.println("no memory");
+            assert!(rt; vault.count() == 0);
+            vault.run_one(create())
+        }
+        answer => answer,
+    }
+}
+
+/// Whether the create is answered so and shaded, and is the one entry.
+fn is_created_again(rt: &(impl Abort + Print), vault: &mut Vault) -> bool {
+    tells(&created_again(rt, vault), Told::Created(3))
+        && tells(
+            &vault.run_one(Event::Shade { seat: 1 }),
+            Told::Shaded(Some(3)),
+        )
+        && vault.count() == 1
+}
+
+/// A create that is refused as an event leaves no entry, and is answered when it comes again.
+#[test]
+fn growth_refused_in_an_event(rt: HostRuntime) -> Result<(), AllocError> {
+    let mut vault = played(&rt, rt.alloc(), &SEATED)?;
+    assert!(rt; is_created_again(&rt, &mut vault));
+    Ok(())
+}
+
+/// Nobody sits, and nobody has rights.
+const EMPTY: Case = Case {
+    slots: 8,
+    cells: 8,
+    next: 3,
+    edges: &[],
+    lines: &[],
+};
+
+/// Alice and bob take their seats; he creates a document, shades it, and has nothing more to shade.
+const CREATE_AND_SHADE: &[Step] = &[
+    Step::Hello(0, "alice"),
+    Step::Hello(1, "bob"),
+    Step::Ask(1, Ask::Document("rwg")),
+    Step::Shade(1),
+    Step::Shade(1),
+];
+
+/// What these events are answered.
+const CREATED_AND_SHADED: [Told; 5] = [
+    Told::Hello(1),
+    Told::Hello(2),
+    Told::Created(3),
+    Told::Shaded(Some(3)),
+    Told::Shaded(None),
+];
 
 /// How many answers tell what they should, before the first that does not.
 fn count_told(answers: &[Answer], wanted: &[Told]) -> usize {
@@ -200,25 +269,46 @@ fn are_refused(answers: &[Answer]) -> bool {
     }
 }
 
+/// What is behind the first items.
+fn rest<T>(items: &[T], done: usize) -> &[T] {
+    items.get(done..).unwrap_or(&[])
+}
+
+/// Whether the run was refused memory behind the first answers, and carried out no more than those.
+fn ends_at(ran: &Ran, done: usize) -> bool {
+    are_refused(rest(&ran.answers, done)) && (ran.vault.count() == 1) == (done > 2)
+}
+
+/// Whether each answer tells what it should.
+fn are_told(answers: &[Answer], wanted: &[Told]) -> bool {
+    answers.len() == wanted.len() && count_told(answers, wanted) == wanted.len()
+}
+
+/// The vault after the events. What a run in want of memory did not carry out is answered in a further run.
+fn run_again(rt: &(impl Abort + Print), vault: Vault, events: &[Event]) -> Vault {
+    let ran = vault.run(events);
+    let done = count_told(&ran.answers, &CREATED_AND_SHADED);
+    if done >= events.len() {
+        return ran.vault;
+    }
+    let _ = rt.println("no memory");
+    assert!(rt; ends_at(&ran, done));
+    let again = ran.vault.run(rest(events, done));
+    assert!(rt; are_told(&again.answers, rest(&CREATED_AND_SHADED, done)));
+    again.vault
+}
+
+/// How many entries a new vault has after those events.
+fn count_again(rt: &(impl Abort + Print), alloc: Global) -> Result<u64, AllocError> {
+    let events = events(rt, alloc, CREATE_AND_SHADE)?;
+    let vault = opened(rt, alloc, &EMPTY)?;
+    Ok(run_again(rt, vault, &events).count())
+}
+
 /// Where a run has no room for an answer it ends before that event, and where it has none for a command it goes on as though
 /// that were not asked. What was not carried out is answered in a further run.
 #[test]
 fn growth_refused_in_a_run(rt: HostRuntime) -> Result<(), AllocError> {
-    let vault = opened(&rt, rt.alloc(), &[])?;
-    let events = create_and_shade(rt.alloc())?;
-    let ran = vault.run(&events);
-    let done = count_told(&ran.answers, &CREATED_AND_SHADED);
-    let mut vault = ran.vault;
-    if done < events.len() {
-        let _ = rt.println("no memory");
-        assert!(rt; are_refused(ran.answers.get(done..).unwrap_or(&[])));
-        assert_eq!(rt; vault.count() == 1, done > 2);
-        let again = vault.run(events.get(done..).unwrap_or(&[]));
-        let wanted = CREATED_AND_SHADED.get(done..).unwrap_or(&[]);
-        assert_eq!(rt; again.answers.len(), wanted.len());
-        assert_eq!(rt; count_told(&again.answers, wanted), wanted.len());
-        vault = again.vault;
-    }
-    assert_eq!(rt; vault.count(), 1);
+    assert!(rt; count_again(&rt, rt.alloc())? == 1);
     Ok(())
 }

@@ -1,6 +1,6 @@
 //! What no clause says: that calls succeed when there is memory, and what worked cases answer, with every sum of the
 //! collector's steps as it was worked out by hand.
-use crate::{Answer, AskFault, Event, Ran, SeatFault, Swept, Vault};
+use crate::{Answer, AskFault, Event, SeatFault, Swept, Vault};
 use std::alloc::{AllocError, Global};
 use std::process::Abort;
 use tg_collect::{Note, Phase};
@@ -53,12 +53,13 @@ pub enum Line {
 }
 
 /// A case over the principals alice and bob, who are 1 and 2.
-struct Case {
-    slots: u64,
-    cells: u64,
-    next: u64,
-    edges: &'static [(u64, &'static str, u64)],
-    lines: &'static [Line],
+#[derive(Clone, Copy)]
+pub struct Case {
+    pub slots: u64,
+    pub cells: u64,
+    pub next: u64,
+    pub edges: &'static [(u64, &'static str, u64)],
+    pub lines: &'static [Line],
 }
 
 pub const ALICE: Line = Line::Hello(0, "alice", Ok(1));
@@ -377,60 +378,65 @@ const CASES: &[Case] = &[
     },
 ];
 
-/// The right of a letter.
-fn right_of(letter: u8) -> Rights {
-    match letter {
-        b'r' => Rights::read(),
-        b'w' => Rights::write(),
-        b't' => Rights::take(),
-        b'g' => Rights::grant(),
-        _ => Rights::empty(),
-    }
-}
-
 /// The rights of the letters.
 pub fn rights_of(letters: &str) -> Rights {
     let mut rights = Rights::empty();
-    for letter in letters.as_bytes() {
-        rights = rights.union(right_of(*letter));
+    for (letter, right) in b"rwtg".iter().zip(Rights::each().iter()) {
+        if letters.as_bytes().contains(letter) {
+            rights = rights.union(*right);
+        }
     }
     rights
 }
 
-/// A text of these bytes.
-fn text(rt: &impl Abort, alloc: Global, content: &str) -> Result<Text, AllocError> {
-    match Text::new(String::from_str(alloc, content)?) {
-        Ok(text) => Ok(text),
+/// The content as a text.
+fn text(rt: &impl Abort, content: String) -> Text {
+    match Text::new(content) {
+        Ok(text) => text,
         Err(_) => panic!(rt; "too long"),
     }
 }
 
-/// The command that is asked, and its rule.
-pub fn command(rt: &impl Abort, alloc: Global, ask: Ask) -> Result<(Command, Rule), AllocError> {
+/// The rule of what is asked.
+pub fn rule_of(ask: Ask) -> Rule {
+    match ask {
+        Ask::Take(..) => Rule::Take,
+        Ask::Grant(..) => Rule::Grant,
+        Ask::Document(_) => Rule::Create,
+        Ask::Remove(..) => Rule::Remove,
+        Ask::Read(_) => Rule::Read,
+        Ask::Write(..) => Rule::Write,
+        Ask::Look(_) => Rule::Look,
+    }
+}
+
+/// The command that is asked.
+pub fn command(rt: &impl Abort, alloc: Global, ask: Ask) -> Result<Command, AllocError> {
     Ok(match ask {
-        Ask::Take(rights, over, from) => {
-            let rights = rights_of(rights);
-            (Command::Take { rights, over, from }, Rule::Take)
-        }
-        Ask::Grant(rights, over, to) => {
-            let rights = rights_of(rights);
-            (Command::Grant { rights, over, to }, Rule::Grant)
-        }
-        Ask::Document(rights) => {
-            let kind = Kind::Document;
-            let rights = rights_of(rights);
-            (Command::Create { kind, rights }, Rule::Create)
-        }
-        Ask::Remove(rights, over) => {
-            let rights = rights_of(rights);
-            (Command::Remove { rights, over }, Rule::Remove)
-        }
-        Ask::Read(over) => (Command::Read { over }, Rule::Read),
-        Ask::Write(over, content) => {
-            let text = text(rt, alloc, content)?;
-            (Command::Write { over, text }, Rule::Write)
-        }
-        Ask::Look(at) => (Command::Look { at }, Rule::Look),
+        Ask::Take(letters, over, from) => Command::Take {
+            rights: rights_of(letters),
+            over,
+            from,
+        },
+        Ask::Grant(letters, over, to) => Command::Grant {
+            rights: rights_of(letters),
+            over,
+            to,
+        },
+        Ask::Document(letters) => Command::Create {
+            kind: Kind::Document,
+            rights: rights_of(letters),
+        },
+        Ask::Remove(letters, over) => Command::Remove {
+            rights: rights_of(letters),
+            over,
+        },
+        Ask::Read(over) => Command::Read { over },
+        Ask::Write(over, content) => Command::Write {
+            over,
+            text: text(rt, String::from_str(alloc, content)?),
+        },
+        Ask::Look(at) => Command::Look { at },
     })
 }
 
@@ -469,7 +475,7 @@ pub fn is_reply(reply: &Reply, rule: Rule, want: Want) -> bool {
     }
 }
 
-/// The seat's command is answered so.
+/// Whether the seat's command is answered so.
 fn asks(
     rt: &impl Abort,
     alloc: Global,
@@ -477,13 +483,12 @@ fn asks(
     seat: u64,
     ask: Ask,
     want: Want,
-) -> Result<(), AllocError> {
-    let (command, rule) = command(rt, alloc, ask)?;
-    match vault.command(seat, command) {
-        Ok(entered) => assert!(rt; is_reply(&entered.1, rule, want)),
-        Err(fault) => assert!(rt; matches!(want, Want::Fault(wanted) if wanted == fault)),
-    }
-    Ok(())
+) -> Result<bool, AllocError> {
+    let command = command(rt, alloc, ask)?;
+    Ok(match vault.command(seat, command) {
+        Ok(entered) => is_reply(&entered.1, rule_of(ask), want),
+        Err(fault) => matches!(want, Want::Fault(wanted) if wanted == fault),
+    })
 }
 
 /// The note of a letter.
@@ -501,214 +506,342 @@ fn note_of(letter: u8) -> Note {
     }
 }
 
-/// Collector steps with these notes.
-fn collects(rt: &impl Abort, vault: &mut Vault, wanted: &str) {
+/// Whether collector steps have these notes.
+fn collects(vault: &mut Vault, wanted: &str) -> bool {
     for letter in wanted.as_bytes() {
-        assert_eq!(rt; vault.collect(), note_of(*letter));
+        if vault.collect() != note_of(*letter) {
+            return false;
+        }
     }
+    true
 }
 
-/// The line is answered so.
+/// Whether the line is answered so.
 pub fn answers(
     rt: &impl Abort,
     alloc: Global,
     vault: &mut Vault,
     line: Line,
-) -> Result<(), AllocError> {
-    match line {
-        Line::Hello(seat, name, wanted) => assert_eq!(rt; vault.hello(seat, name), wanted),
-        Line::Bye(seat, wanted) => assert_eq!(rt; vault.bye(seat), wanted),
-        Line::Shaded(seat, serial) => assert_eq!(rt; vault.shade(seat), Ok(Some(serial))),
-        Line::Shade(seat, wanted) => assert_eq!(rt; vault.shade(seat), wanted),
+) -> Result<bool, AllocError> {
+    Ok(match line {
+        Line::Hello(seat, name, wanted) => vault.hello(seat, name) == wanted,
+        Line::Bye(seat, wanted) => vault.bye(seat) == wanted,
+        Line::Shaded(seat, serial) => vault.shade(seat) == Ok(Some(serial)),
+        Line::Shade(seat, wanted) => vault.shade(seat) == wanted,
         Line::Ask(seat, ask, want) => asks(rt, alloc, vault, seat, ask, want)?,
-        Line::Cycle(freed, steps) => assert_eq!(rt; vault.cycle(), Swept { freed, steps }),
-        Line::Collect(wanted) => collects(rt, vault, wanted),
-    }
-    Ok(())
+        Line::Cycle(freed, steps) => vault.cycle() == Swept { freed, steps },
+        Line::Collect(wanted) => collects(vault, wanted),
+    })
 }
 
-/// The configuration of a case.
-fn configuration(
+/// A word of these letters.
+pub fn word(alloc: Global, letters: &str) -> Result<Word, AllocError> {
+    Ok(Word::new(String::from_str(alloc, letters)?))
+}
+
+/// The words in their order.
+pub fn words(alloc: Global, listed: &[&str]) -> Result<Vec<Word>, AllocError> {
+    let mut words = Vec::new(alloc);
+    for letters in listed {
+        words.push(word(alloc, letters)?)?;
+    }
+    Ok(words)
+}
+
+/// The edges in their order.
+fn edges(
     alloc: Global,
-    slots: u64,
-    cells: u64,
-    next: u64,
     listed: &[(u64, &str, u64)],
-) -> Result<Config, AllocError> {
-    let mut principals = Vec::new(alloc);
-    principals.push(Word::new(String::from_str(alloc, "alice")?))?;
-    principals.push(Word::new(String::from_str(alloc, "bob")?))?;
+) -> Result<Vec<(u64, Rights, u64)>, AllocError> {
     let mut edges = Vec::new(alloc);
     for (from, letters, to) in listed {
         edges.push((*from, rights_of(letters), *to))?;
     }
+    Ok(edges)
+}
+
+/// The configuration of a case.
+fn configuration(alloc: Global, case: &Case) -> Result<Config, AllocError> {
+    let principals = words(alloc, &["alice", "bob"])?;
+    let edges = edges(alloc, case.edges)?;
     Ok(Config {
         principals,
         edges,
-        next,
-        slots,
-        cells,
+        next: case.next,
+        slots: case.slots,
+        cells: case.cells,
     })
 }
 
-/// A vault of 8 slots and 8 cells over these edges.
-pub fn opened(
-    rt: &impl Abort,
-    alloc: Global,
-    edges: &[(u64, &str, u64)],
-) -> Result<Vault, AllocError> {
-    let config = configuration(alloc, 8, 8, 3, edges)?;
-    match Vault::new(alloc, config) {
+/// The vault with which a case begins.
+pub fn opened(rt: &impl Abort, alloc: Global, case: &Case) -> Result<Vault, AllocError> {
+    match Vault::new(alloc, configuration(alloc, case)?) {
         Ok(vault) => Ok(vault),
         Err(OpenFault::OutOfMemory) => Err(AllocError),
         Err(_) => panic!(rt; "refused"),
     }
 }
 
-/// The case's lines are answered as it says.
-fn is_answered(rt: &impl Abort, alloc: Global, case: &Case) -> Result<(), AllocError> {
-    let config = configuration(alloc, case.slots, case.cells, case.next, case.edges)?;
-    let mut vault = Vault::new(alloc, config).ok().expect(rt, "refused");
-    for line in case.lines {
-        answers(rt, alloc, &mut vault, *line)?;
+/// The lines are answered so, one after another.
+fn lines_are_answered(
+    rt: &impl Abort,
+    alloc: Global,
+    vault: &mut Vault,
+    lines: &[Line],
+) -> Result<(), AllocError> {
+    for line in lines {
+        assert!(rt; answers(rt, alloc, vault, *line)?);
     }
     Ok(())
+}
+
+/// The vault with which a case ends: its lines are answered as it says.
+pub fn played(rt: &impl Abort, alloc: Global, case: &Case) -> Result<Vault, AllocError> {
+    let mut vault = opened(rt, alloc, case)?;
+    lines_are_answered(rt, alloc, &mut vault, case.lines)?;
+    Ok(vault)
+}
+
+/// The case's lines are answered as it says.
+fn plays(rt: &impl Abort, alloc: Global, case: &Case) -> Result<(), AllocError> {
+    let mut vault = opened(rt, alloc, case)?;
+    lines_are_answered(rt, alloc, &mut vault, case.lines)
 }
 
 #[test]
 fn each_case_is_answered_as_worked_out(rt: HostRuntime) -> Result<(), AllocError> {
     for case in CASES {
-        is_answered(&rt, rt.alloc(), case)?;
+        plays(&rt, rt.alloc(), case)?;
     }
     Ok(())
 }
 
-/// Lines of one round: alice makes two documents, links one to the other, and drops both; two cycles free them.
-fn round(first: u64, second: u64) -> [Line; 10] {
-    [
-        Line::Ask(0, Ask::Document("rg"), Want::Created(first)),
-        Line::Shaded(0, first),
-        Line::Ask(0, Ask::Document("rg"), Want::Created(second)),
-        Line::Shaded(0, second),
-        Line::Ask(0, Ask::Grant("r", second, first), Want::Done),
-        Line::Shaded(0, second),
-        Line::Ask(0, Ask::Remove("rg", first), Want::Done),
-        Line::Ask(0, Ask::Remove("rg", second), Want::Done),
+/// Three rounds: alice makes two documents, links one to the other, and drops both; two cycles free them. Then she makes one
+/// more.
+const ROUNDS: Case = Case {
+    slots: 4,
+    cells: 3,
+    next: 3,
+    edges: &[],
+    lines: &[
+        ALICE,
+        Line::Ask(0, Ask::Document("rg"), Want::Created(3)),
+        Line::Shaded(0, 3),
+        Line::Ask(0, Ask::Document("rg"), Want::Created(4)),
+        Line::Shaded(0, 4),
+        Line::Ask(0, Ask::Grant("r", 4, 3), Want::Done),
+        Line::Shaded(0, 4),
+        Line::Ask(0, Ask::Remove("rg", 3), Want::Done),
+        Line::Ask(0, Ask::Remove("rg", 4), Want::Done),
         Line::Cycle(0, 16),
         Line::Cycle(2, 12),
-    ]
-}
+        Line::Ask(0, Ask::Document("rg"), Want::Created(5)),
+        Line::Shaded(0, 5),
+        Line::Ask(0, Ask::Document("rg"), Want::Created(6)),
+        Line::Shaded(0, 6),
+        Line::Ask(0, Ask::Grant("r", 6, 5), Want::Done),
+        Line::Shaded(0, 6),
+        Line::Ask(0, Ask::Remove("rg", 5), Want::Done),
+        Line::Ask(0, Ask::Remove("rg", 6), Want::Done),
+        Line::Cycle(0, 16),
+        Line::Cycle(2, 12),
+        Line::Ask(0, Ask::Document("rg"), Want::Created(7)),
+        Line::Shaded(0, 7),
+        Line::Ask(0, Ask::Document("rg"), Want::Created(8)),
+        Line::Shaded(0, 8),
+        Line::Ask(0, Ask::Grant("r", 8, 7), Want::Done),
+        Line::Shaded(0, 8),
+        Line::Ask(0, Ask::Remove("rg", 7), Want::Done),
+        Line::Ask(0, Ask::Remove("rg", 8), Want::Done),
+        Line::Cycle(0, 16),
+        Line::Cycle(2, 12),
+        Line::Ask(0, Ask::Document("r"), Want::Created(9)),
+    ],
+};
 
 /// After three rounds the graph that is never collected has three edges, as many as there are cells; all cells are free.
 #[test]
 fn cells_are_free_though_the_history_has_as_many_edges(rt: HostRuntime) -> Result<(), AllocError> {
-    let config = configuration(rt.alloc(), 4, 3, 3, &[])?;
-    let mut vault = Vault::new(rt.alloc(), config).ok().expect(&rt, "refused");
-    answers(&rt, rt.alloc(), &mut vault, ALICE)?;
-    for (first, second) in [(3, 4), (5, 6), (7, 8)] {
-        for line in round(first, second) {
-            answers(&rt, rt.alloc(), &mut vault, line)?;
-        }
-    }
-    asks(
-        &rt,
-        rt.alloc(),
-        &mut vault,
-        0,
-        Ask::Document("r"),
-        Want::Created(9),
-    )
+    plays(&rt, rt.alloc(), &ROUNDS)
 }
 
-/// No vault is opened, and this fault of the configuration is answered.
-fn refuses(
-    rt: &impl Abort,
+/// Configurations with two faults: their slots and edges, and the fault that is answered.
+const REFUSED: &[(u64, &[(u64, &str, u64)], OpenFault)] = &[
+    (1, &[(1, "t", 1)], OpenFault::SelfEdge),
+    (1, &[], OpenFault::FewSlots),
+    (8, &[(1, "", 2), (1, "t", 3)], OpenFault::EdgeEnd),
+];
+
+/// Whether no vault of so many slots and these edges is opened, for this fault.
+fn is_refused(
     alloc: Global,
     slots: u64,
-    edges: &[(u64, &str, u64)],
+    edges: &'static [(u64, &'static str, u64)],
     fault: OpenFault,
-) -> Result<(), AllocError> {
-    let config = configuration(alloc, slots, 8, 3, edges)?;
-    assert_eq!(rt; Vault::new(alloc, config).err(), Some(fault));
-    Ok(())
+) -> Result<bool, AllocError> {
+    let case = Case {
+        slots,
+        cells: 8,
+        next: 3,
+        edges,
+        lines: &[],
+    };
+    let config = configuration(alloc, &case)?;
+    Ok(Vault::new(alloc, config).err() == Some(fault))
 }
 
 #[test]
 fn the_first_of_two_faults_is_answered(rt: HostRuntime) -> Result<(), AllocError> {
-    refuses(&rt, rt.alloc(), 1, &[(1, "t", 1)], OpenFault::SelfEdge)?;
-    refuses(&rt, rt.alloc(), 1, &[], OpenFault::FewSlots)?;
-    let stray = [(1, "", 2), (1, "t", 3)];
-    refuses(&rt, rt.alloc(), 8, &stray, OpenFault::EdgeEnd)
+    for (slots, edges, fault) in REFUSED {
+        assert!(rt; is_refused(rt.alloc(), *slots, edges, *fault)?);
+    }
+    Ok(())
+}
+
+/// Alice's read of bob is denied.
+const DENIED: Case = Case {
+    slots: 8,
+    cells: 8,
+    next: 3,
+    edges: &[(1, "t", 2)],
+    lines: &[ALICE, Line::Ask(0, Ask::Read(2), Want::Lacks(1, 2, "r"))],
+};
+
+/// Whether the vault's first entry is alice's denied read.
+fn has_the_denial(vault: &Vault) -> bool {
+    match vault.entry(0) {
+        Some(entry) => {
+            (entry.seat(), entry.actor()) == (0, 1)
+                && matches!(entry.outcome(), Outcome::Denied(Rule::Read, cause)
+                    if is_cause(cause, Want::Lacks(1, 2, "r")))
+        }
+        None => false,
+    }
+}
+
+/// Whether that is the vault's one entry, and the vault tells the graph with which it began.
+fn has_its_history(vault: &Vault) -> bool {
+    vault.count() == 1
+        && has_the_denial(vault)
+        && vault.entry(1).is_none()
+        && vault.opening().rights(1, 2) == rights_of("t")
 }
 
 #[test]
 fn the_history_has_each_command(rt: HostRuntime) -> Result<(), AllocError> {
-    let mut vault = opened(&rt, rt.alloc(), &[(1, "t", 2)])?;
-    answers(&rt, rt.alloc(), &mut vault, ALICE)?;
-    asks(
-        &rt,
-        rt.alloc(),
-        &mut vault,
-        0,
-        Ask::Read(2),
-        Want::Lacks(1, 2, "r"),
-    )?;
-    assert_eq!(rt; vault.count(), 1);
-    let entry = vault.entry(0).expect(&rt, "no entry");
-    assert_eq!(rt; (entry.seat(), entry.actor()), (0, 1));
-    assert!(rt;
-        matches!(entry.outcome(),
-        Outcome::Denied(Rule::Read, cause) if is_cause(cause, Want::Lacks(1, 2, "r")))
-    );
-    assert!(rt; vault.entry(1).is_none());
-    assert_eq!(rt; vault.opening().rights(1, 2), rights_of("t"));
+    assert!(rt; has_its_history(&played(&rt, rt.alloc(), &DENIED)?));
     Ok(())
+}
+
+/// Alice has made a document, which she may read and write.
+const DOCUMENT: Case = Case {
+    slots: 8,
+    cells: 8,
+    next: 3,
+    edges: &[],
+    lines: &[
+        ALICE,
+        Line::Ask(0, Ask::Document("rw"), Want::Created(3)),
+        Line::Shaded(0, 3),
+    ],
+};
+
+/// Whether the longest text is written into the document, as the second entry.
+fn longest_is_written(
+    rt: &impl Abort,
+    alloc: Global,
+    vault: &mut Vault,
+) -> Result<bool, AllocError> {
+    let text = text(rt, "a".repeat(alloc, 4096)?);
+    let written = vault.command(0, Command::Write { over: 3, text });
+    Ok(matches!(&written, Ok((1, Reply::Done))))
+}
+
+/// Whether it is the longest text.
+fn is_longest(content: &str) -> bool {
+    content.len() == 4096 && content.as_bytes().iter().all(|byte| *byte == b'a')
+}
+
+/// Whether the longest text is read, as the third entry.
+fn longest_is_read(vault: &mut Vault) -> bool {
+    match vault.command(0, Command::Read { over: 3 }) {
+        Ok((2, Reply::Text(found))) => is_longest(found.get()),
+        _ => false,
+    }
+}
+
+/// Whether the longest text is written into the document, and read again.
+fn longest_is_kept(rt: &impl Abort, alloc: Global, vault: &mut Vault) -> Result<bool, AllocError> {
+    Ok(longest_is_written(rt, alloc, vault)? && longest_is_read(vault))
+}
+
+/// Whether that is so in a new vault.
+fn new_vault_keeps_longest(rt: &impl Abort, alloc: Global) -> Result<bool, AllocError> {
+    let mut vault = played(rt, alloc, &DOCUMENT)?;
+    longest_is_kept(rt, alloc, &mut vault)
 }
 
 #[test]
 fn a_longest_text_is_written_and_read(rt: HostRuntime) -> Result<(), AllocError> {
-    let longest = "a".repeat(rt.alloc(), 4096)?;
-    let mut vault = opened(&rt, rt.alloc(), &[])?;
-    answers(&rt, rt.alloc(), &mut vault, ALICE)?;
-    asks(
-        &rt,
-        rt.alloc(),
-        &mut vault,
-        0,
-        Ask::Document("rw"),
-        Want::Created(3),
-    )?;
-    answers(&rt, rt.alloc(), &mut vault, Line::Shaded(0, 3))?;
-    let text = text(&rt, rt.alloc(), longest.as_str())?;
-    let written = vault.command(0, Command::Write { over: 3, text });
-    assert!(rt; matches!(&written, Ok((1, Reply::Done))));
-    let read = vault.command(0, Command::Read { over: 3 });
-    assert!(rt; matches!(&read, Ok((2, Reply::Text(found))) if found.get() == longest.as_str()));
+    assert!(rt; new_vault_keeps_longest(&rt, rt.alloc())?);
     Ok(())
 }
 
-/// The principal of this name takes the seat.
-pub fn hello(alloc: Global, seat: u64, name: &str) -> Result<Event, AllocError> {
-    Ok(Event::Hello {
-        seat,
-        name: Word::new(String::from_str(alloc, name)?),
+/// An event that holds no memory.
+#[derive(Clone, Copy)]
+pub enum Step {
+    Hello(u64, &'static str),
+    Bye(u64),
+    Ask(u64, Ask),
+    Shade(u64),
+    Collect,
+}
+
+/// The event of a step.
+fn event(rt: &impl Abort, alloc: Global, step: Step) -> Result<Event, AllocError> {
+    Ok(match step {
+        Step::Hello(seat, name) => Event::Hello {
+            seat,
+            name: word(alloc, name)?,
+        },
+        Step::Bye(seat) => Event::Bye { seat },
+        Step::Ask(seat, ask) => Event::Ask {
+            seat,
+            command: command(rt, alloc, ask)?,
+        },
+        Step::Shade(seat) => Event::Shade { seat },
+        Step::Collect => Event::Collect,
     })
 }
 
-/// The answers of a run of alice's first look, with a refused hello, bye and shade between.
-fn first_look(rt: &impl Abort, alloc: Global) -> Result<Ran, AllocError> {
-    let vault = opened(rt, alloc, &[(1, "g", 2)])?;
+/// The events of the steps.
+pub fn events(rt: &impl Abort, alloc: Global, steps: &[Step]) -> Result<Vec<Event>, AllocError> {
     let mut events = Vec::new(alloc);
-    events.push(hello(alloc, 64, "alice")?)?;
-    events.push(hello(alloc, 0, "alice")?)?;
-    events.push(Event::Bye { seat: 1 })?;
-    let command = Command::Look { at: 1 };
-    events.push(Event::Ask { seat: 0, command })?;
-    events.push(Event::Shade { seat: 1 })?;
-    events.push(Event::Shade { seat: 0 })?;
-    events.push(Event::Collect)?;
-    Ok(vault.run(&events))
+    for step in steps {
+        events.push(event(rt, alloc, *step)?)?;
+    }
+    Ok(events)
 }
+
+/// Alice may grant to bob, and nobody sits.
+const GRANTED: Case = Case {
+    slots: 8,
+    cells: 8,
+    next: 3,
+    edges: &[(1, "g", 2)],
+    lines: &[],
+};
+
+/// Alice's first look, with a refused hello, bye and shade between.
+const FIRST_LOOK: &[Step] = &[
+    Step::Hello(64, "alice"),
+    Step::Hello(0, "alice"),
+    Step::Bye(1),
+    Step::Ask(0, Ask::Look(1)),
+    Step::Shade(1),
+    Step::Shade(0),
+    Step::Collect,
+];
 
 /// Whether these are the answers of that run.
 fn are_first_look(answers: &[Answer]) -> bool {
@@ -727,10 +860,21 @@ fn are_first_look(answers: &[Answer]) -> bool {
     }
 }
 
+/// Whether the vault answers those events so, with one entry.
+fn answers_first_look(vault: Vault, events: &[Event]) -> bool {
+    let ran = vault.run(events);
+    are_first_look(&ran.answers) && ran.vault.count() == 1
+}
+
+/// Whether a new vault does.
+fn first_look_is_answered(rt: &impl Abort, alloc: Global) -> Result<bool, AllocError> {
+    let events = events(rt, alloc, FIRST_LOOK)?;
+    let vault = opened(rt, alloc, &GRANTED)?;
+    Ok(answers_first_look(vault, &events))
+}
+
 #[test]
 fn a_run_answers_each_event(rt: HostRuntime) -> Result<(), AllocError> {
-    let ran = first_look(&rt, rt.alloc())?;
-    assert!(rt; are_first_look(&ran.answers));
-    assert_eq!(rt; ran.vault.count(), 1);
+    assert!(rt; first_look_is_answered(&rt, rt.alloc())?);
     Ok(())
 }
