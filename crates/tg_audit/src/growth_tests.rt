@@ -1,13 +1,12 @@
 //! Calls that are refused their memory and made again: tests/growths.py refuses each allocation of these tests in turn.
 use crate::tests::{
-    Ask, Derivation, ENTRIES, Finding, SETTLEMENTS, Settlement, goal_of, graph_of, is_found,
-    is_verdict, logs_of, opened, steps_of, tells, vault_of,
+    Ask, Derivation, Finding, READ, SETTLEMENTS, Settlement, are_replies, goal_of, graph_of,
+    is_found, is_settled, is_verdict, logs_of, opened, steps_of, vault_of,
 };
 use crate::{SeatLog, Settled, check, replay, settle};
 use std::alloc::{AllocError, Global};
 use std::io::Print;
 use std::process::Abort;
-use tg_rights::Reply;
 use tg_vault::Vault;
 
 /// Whether the derivation has the verdict that was worked out. Where memory is refused the graph is used up, and is made again.
@@ -32,8 +31,8 @@ const FIRST_EDGE: &Derivation = &Derivation {
     names: &["alice"],
     edges: &[],
     next: 2,
-    steps: &[(1, Ask::Document("r"))],
-    goal: (1, "r", 2),
+    steps: &[(1, Ask::Document(READ))],
+    goal: (1, READ, 2),
     finding: Finding::Shared,
 };
 
@@ -42,15 +41,6 @@ const FIRST_EDGE: &Derivation = &Derivation {
 fn growth_refused_in_a_check(rt: HostRuntime) -> Result<(), AllocError> {
     assert!(rt; is_found_again(&rt, rt.alloc(), FIRST_EDGE)?);
     Ok(())
-}
-
-/// Whether these are the replies to the entries.
-fn are_replies(found: &[Reply]) -> bool {
-    found.len() == ENTRIES.len()
-        && found
-            .iter()
-            .zip(ENTRIES.iter())
-            .all(|(reply, entry)| tells(reply, entry.1))
 }
 
 /// A replay that is refused leaves the history.
@@ -93,7 +83,8 @@ fn settles_again(
         }
         settled => settled,
     };
-    vault_of(rt, settled, settlement)
+    assert!(rt; is_settled(&settled, settlement));
+    vault_of(settled)
 }
 
 /// A settlement that is refused leaves the vault and the logs.

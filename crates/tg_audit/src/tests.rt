@@ -6,16 +6,26 @@ use tg_graph::{Config, Goal, Graph, OpenFault, Step, Verdict};
 use tg_rights::{Cause, Command, Kind, Reply, Rights, Rule, Which, Word};
 use tg_vault::{AskFault, Vault};
 
-/// What a step or an entry asks. Rights are given by their letters: r, w, t and g.
+const NONE: u8 = 0;
+
+pub const READ: u8 = 1;
+
+const WRITE: u8 = 2;
+
+const TAKE: u8 = 4;
+
+const GRANT: u8 = 8;
+
+/// What a step or an entry asks. Rights are given by their bits.
 #[derive(Clone, Copy)]
 pub enum Ask {
     /// These rights over the first, from the second.
-    Take(&'static str, u64, u64),
+    Take(u8, u64, u64),
     /// These rights over the first, to the second.
-    Grant(&'static str, u64, u64),
-    Document(&'static str),
-    Subject(&'static str),
-    Remove(&'static str, u64),
+    Grant(u8, u64, u64),
+    Document(u8),
+    Subject(u8),
+    Remove(u8, u64),
 }
 
 /// What a derivation is found to be.
@@ -25,25 +35,25 @@ pub enum Finding {
     NoSubject(u64),
     NotDistinct(u64, Rule),
     /// The step is denied, since the label of the first vertex to the second lacks these rights.
-    Lacks(u64, Rule, u64, u64, &'static str),
+    Lacks(u64, Rule, u64, u64, u8),
     Full(u64),
     /// The goal lacks these.
-    Missing(&'static str),
+    Missing(u8),
 }
 
 /// Steps from the graph of some principals with these edges on, and a goal: rights of the first vertex over the other.
 pub struct Derivation {
     pub names: &'static [&'static str],
-    pub edges: &'static [(u64, &'static str, u64)],
+    pub edges: &'static [(u64, u8, u64)],
     pub next: u64,
     pub steps: &'static [(u64, Ask)],
-    pub goal: (u64, &'static str, u64),
+    pub goal: (u64, u8, u64),
     pub finding: Finding,
 }
 
 const THREE: &[&str] = &["alice", "bob", "carol"];
 
-const TO_BOB: &[(u64, &str, u64)] = &[(1, "t", 2), (2, "r", 3)];
+const TO_BOB: &[(u64, u8, u64)] = &[(1, TAKE, 2), (2, READ, 3)];
 
 const DERIVATIONS: &[Derivation] = &[
     // a take reaches the goal
@@ -51,8 +61,8 @@ const DERIVATIONS: &[Derivation] = &[
         names: THREE,
         edges: TO_BOB,
         next: 4,
-        steps: &[(1, Ask::Take("r", 3, 2))],
-        goal: (1, "r", 3),
+        steps: &[(1, Ask::Take(READ, 3, 2))],
+        goal: (1, READ, 3),
         finding: Finding::Shared,
     },
     // without it the goal's right lacks
@@ -61,25 +71,25 @@ const DERIVATIONS: &[Derivation] = &[
         edges: TO_BOB,
         next: 4,
         steps: &[],
-        goal: (1, "r", 3),
-        finding: Finding::Missing("r"),
+        goal: (1, READ, 3),
+        finding: Finding::Missing(READ),
     },
     // only what lacks of the goal's rights is named
     Derivation {
         names: THREE,
         edges: TO_BOB,
         next: 4,
-        steps: &[(1, Ask::Take("r", 3, 2))],
-        goal: (1, "rw", 3),
-        finding: Finding::Missing("w"),
+        steps: &[(1, Ask::Take(READ, 3, 2))],
+        goal: (1, READ | WRITE, 3),
+        finding: Finding::Missing(WRITE),
     },
     // two vertices of the step are one
     Derivation {
         names: THREE,
         edges: TO_BOB,
         next: 4,
-        steps: &[(1, Ask::Take("r", 3, 3))],
-        goal: (1, "r", 3),
+        steps: &[(1, Ask::Take(READ, 3, 3))],
+        goal: (1, READ, 3),
         finding: Finding::NotDistinct(0, Rule::Take),
     },
     // the actor is no vertex
@@ -87,8 +97,8 @@ const DERIVATIONS: &[Derivation] = &[
         names: THREE,
         edges: TO_BOB,
         next: 4,
-        steps: &[(9, Ask::Take("r", 3, 2))],
-        goal: (1, "r", 3),
+        steps: &[(9, Ask::Take(READ, 3, 2))],
+        goal: (1, READ, 3),
         finding: Finding::NoSubject(0),
     },
     // no serial is left
@@ -96,8 +106,8 @@ const DERIVATIONS: &[Derivation] = &[
         names: &["alice"],
         edges: &[],
         next: 18_446_744_073_709_551_615,
-        steps: &[(1, Ask::Document("r"))],
-        goal: (1, "", 1),
+        steps: &[(1, Ask::Document(READ))],
+        goal: (1, NONE, 1),
         finding: Finding::Full(0),
     },
     // a goal without rights is met by every graph
@@ -106,7 +116,7 @@ const DERIVATIONS: &[Derivation] = &[
         edges: &[],
         next: 18_446_744_073_709_551_615,
         steps: &[],
-        goal: (1, "", 1),
+        goal: (1, NONE, 1),
         finding: Finding::Shared,
     },
     // a subject that a step has made acts in a later one, and only then
@@ -115,21 +125,21 @@ const DERIVATIONS: &[Derivation] = &[
         edges: TO_BOB,
         next: 4,
         steps: &[
-            (1, Ask::Subject("g")),
-            (1, Ask::Take("r", 3, 2)),
-            (1, Ask::Grant("r", 3, 4)),
-            (4, Ask::Remove("r", 3)),
+            (1, Ask::Subject(GRANT)),
+            (1, Ask::Take(READ, 3, 2)),
+            (1, Ask::Grant(READ, 3, 4)),
+            (4, Ask::Remove(READ, 3)),
         ],
-        goal: (4, "r", 3),
-        finding: Finding::Missing("r"),
+        goal: (4, READ, 3),
+        finding: Finding::Missing(READ),
     },
     // a document can't act
     Derivation {
         names: THREE,
         edges: TO_BOB,
         next: 4,
-        steps: &[(1, Ask::Document("r")), (4, Ask::Document("r"))],
-        goal: (1, "", 1),
+        steps: &[(1, Ask::Document(READ)), (4, Ask::Document(READ))],
+        goal: (1, NONE, 1),
         finding: Finding::NoSubject(1),
     },
     // the first step that fails is named, also where the goal is met before it
@@ -138,58 +148,43 @@ const DERIVATIONS: &[Derivation] = &[
         edges: TO_BOB,
         next: 4,
         steps: &[
-            (1, Ask::Take("r", 3, 2)),
-            (1, Ask::Take("w", 3, 2)),
-            (9, Ask::Document("r")),
+            (1, Ask::Take(READ, 3, 2)),
+            (1, Ask::Take(WRITE, 3, 2)),
+            (9, Ask::Document(READ)),
         ],
-        goal: (1, "r", 3),
-        finding: Finding::Lacks(1, Rule::Take, 2, 3, "w"),
+        goal: (1, READ, 3),
+        finding: Finding::Lacks(1, Rule::Take, 2, 3, WRITE),
     },
 ];
 
-/// The right of a letter.
-fn right_of(letter: u8) -> Rights {
-    match letter {
-        b'r' => Rights::read(),
-        b'w' => Rights::write(),
-        b't' => Rights::take(),
-        b'g' => Rights::grant(),
-        _ => Rights::empty(),
-    }
-}
-
-/// The rights of the letters.
-fn rights_of(letters: &str) -> Rights {
-    let mut rights = Rights::empty();
-    for letter in letters.as_bytes() {
-        rights = rights.union(right_of(*letter));
-    }
-    rights
+/// The rights of these bits.
+fn rights_of(bits: u8) -> Rights {
+    Rights::from_bits(bits).unwrap_or(Rights::empty())
 }
 
 /// The command that is asked.
 fn command(ask: Ask) -> Command {
     match ask {
-        Ask::Take(rights, over, from) => Command::Take {
-            rights: rights_of(rights),
+        Ask::Take(bits, over, from) => Command::Take {
+            rights: rights_of(bits),
             over,
             from,
         },
-        Ask::Grant(rights, over, to) => Command::Grant {
-            rights: rights_of(rights),
+        Ask::Grant(bits, over, to) => Command::Grant {
+            rights: rights_of(bits),
             over,
             to,
         },
-        Ask::Document(rights) => Command::Create {
+        Ask::Document(bits) => Command::Create {
             kind: Kind::Document,
-            rights: rights_of(rights),
+            rights: rights_of(bits),
         },
-        Ask::Subject(rights) => Command::Create {
+        Ask::Subject(bits) => Command::Create {
             kind: Kind::Subject,
-            rights: rights_of(rights),
+            rights: rights_of(bits),
         },
-        Ask::Remove(rights, over) => Command::Remove {
-            rights: rights_of(rights),
+        Ask::Remove(bits, over) => Command::Remove {
+            rights: rights_of(bits),
             over,
         },
     }
@@ -205,41 +200,52 @@ fn verdict(finding: Finding) -> Verdict {
             rule,
             cause: Cause::NotDistinct,
         },
-        Finding::Lacks(index, rule, from, to, rights) => Verdict::StepDenied {
+        Finding::Lacks(index, rule, from, to, bits) => Verdict::StepDenied {
             index,
             rule,
             cause: Cause::Missing {
                 from,
                 to,
-                rights: rights_of(rights),
+                rights: rights_of(bits),
             },
         },
         Finding::Full(index) => Verdict::StepFull { index },
-        Finding::Missing(rights) => Verdict::GoalMissing {
-            rights: rights_of(rights),
+        Finding::Missing(bits) => Verdict::GoalMissing {
+            rights: rights_of(bits),
         },
     }
+}
+
+fn words(alloc: Global, names: &[&str]) -> Result<Vec<Word>, AllocError> {
+    let mut words = Vec::new(alloc);
+    for name in names {
+        words.push(Word::new(String::from_str(alloc, name)?))?;
+    }
+    Ok(words)
+}
+
+fn labelled(
+    alloc: Global,
+    listed: &[(u64, u8, u64)],
+) -> Result<Vec<(u64, Rights, u64)>, AllocError> {
+    listed
+        .iter()
+        .map(|(from, bits, to)| (*from, rights_of(*bits), *to))
+        .collect(alloc)
 }
 
 /// The configuration of some principals with these edges.
 fn configuration(
     alloc: Global,
     names: &[&str],
-    listed: &[(u64, &str, u64)],
+    listed: &[(u64, u8, u64)],
     next: u64,
     slots: u64,
     cells: u64,
 ) -> Result<Config, AllocError> {
-    let mut principals = Vec::new(alloc);
-    for name in names {
-        principals.push(Word::new(String::from_str(alloc, name)?))?;
-    }
-    let mut edges = Vec::new(alloc);
-    for (from, letters, to) in listed {
-        edges.push((*from, rights_of(letters), *to))?;
-    }
+    let edges = labelled(alloc, listed)?;
     Ok(Config {
-        principals,
+        principals: words(alloc, names)?,
         edges,
         next,
         slots,
@@ -275,14 +281,14 @@ pub fn graph_of(
 
 /// The derivation's steps.
 pub fn steps_of(alloc: Global, derivation: &Derivation) -> Result<Vec<Step>, AllocError> {
-    let mut steps = Vec::new(alloc);
-    for (actor, ask) in derivation.steps {
-        steps.push(Step {
+    derivation
+        .steps
+        .iter()
+        .map(|(actor, ask)| Step {
             actor: *actor,
             command: command(*ask),
-        })?;
-    }
-    Ok(steps)
+        })
+        .collect(alloc)
 }
 
 /// What the derivation is to bring about.
@@ -325,31 +331,31 @@ pub enum Told {
 /// What alice asks at seat 0, and what she is told: in a vault of three slots a document is made and dropped, another one
 /// is refused, and after two cycles it is made.
 pub const ENTRIES: &[(Ask, Told)] = &[
-    (Ask::Document("r"), Told::Created(3)),
-    (Ask::Remove("r", 3), Told::Done),
-    (Ask::Document("r"), Told::Full(Which::Slots)),
-    (Ask::Document("r"), Told::Created(4)),
+    (Ask::Document(READ), Told::Created(3)),
+    (Ask::Remove(READ, 3), Told::Done),
+    (Ask::Document(READ), Told::Full(Which::Slots)),
+    (Ask::Document(READ), Told::Created(4)),
 ];
 
 /// The same with another serial at the end.
 const INVENTED: &[(Ask, Told)] = &[
-    (Ask::Document("r"), Told::Created(3)),
-    (Ask::Remove("r", 3), Told::Done),
-    (Ask::Document("r"), Told::Full(Which::Slots)),
-    (Ask::Document("r"), Told::Created(5)),
+    (Ask::Document(READ), Told::Created(3)),
+    (Ask::Remove(READ, 3), Told::Done),
+    (Ask::Document(READ), Told::Full(Which::Slots)),
+    (Ask::Document(READ), Told::Created(5)),
 ];
 
 const FIRST_TWO: &[(Ask, Told)] = &[
-    (Ask::Document("r"), Told::Created(3)),
-    (Ask::Remove("r", 3), Told::Done),
+    (Ask::Document(READ), Told::Created(3)),
+    (Ask::Remove(READ, 3), Told::Done),
 ];
 
 const LAST_TWO: &[(Ask, Told)] = &[
-    (Ask::Document("r"), Told::Full(Which::Slots)),
-    (Ask::Document("r"), Told::Created(4)),
+    (Ask::Document(READ), Told::Full(Which::Slots)),
+    (Ask::Document(READ), Told::Created(4)),
 ];
 
-const ONE: &[(Ask, Told)] = &[(Ask::Document("r"), Told::Created(4))];
+const ONE: &[(Ask, Told)] = &[(Ask::Document(READ), Told::Created(4))];
 
 /// Exchanges of a principal at a seat.
 pub type Log = (u64, u64, &'static [(Ask, Told)]);
@@ -451,29 +457,40 @@ fn of_three_slots(rt: &impl Abort, alloc: Global) -> Result<Vault, AllocError> {
     }
 }
 
+/// Those entries, with two cycles before the last.
+fn play(rt: &impl Abort, vault: &mut Vault) -> Result<(), AllocError> {
+    assert!(rt; vault.hello(0, "alice").is_ok());
+    assert!(rt; vault.hello(1, "bob").is_ok());
+    asks(rt, vault, ENTRIES[0])?;
+    assert!(rt; vault.shade(0).is_ok());
+    asks(rt, vault, ENTRIES[1])?;
+    asks(rt, vault, ENTRIES[2])?;
+    vault.cycle();
+    vault.cycle();
+    asks(rt, vault, ENTRIES[3])
+}
+
 /// The vault of those entries.
 pub fn opened(rt: &impl Abort, alloc: Global) -> Result<Vault, AllocError> {
     let mut vault = of_three_slots(rt, alloc)?;
-    assert!(rt; vault.hello(0, "alice").is_ok());
-    assert!(rt; vault.hello(1, "bob").is_ok());
-    asks(rt, &mut vault, ENTRIES[0])?;
-    assert!(rt; vault.shade(0).is_ok());
-    asks(rt, &mut vault, ENTRIES[1])?;
-    asks(rt, &mut vault, ENTRIES[2])?;
-    vault.cycle();
-    vault.cycle();
-    asks(rt, &mut vault, ENTRIES[3])?;
+    play(rt, &mut vault)?;
     Ok(vault)
+}
+
+/// Whether these are the replies to the entries.
+pub fn are_replies(found: &[Reply]) -> bool {
+    found.len() == ENTRIES.len()
+        && found
+            .iter()
+            .zip(ENTRIES.iter())
+            .all(|(reply, entry)| tells(reply, entry.1))
 }
 
 #[test]
 fn a_history_is_replayed(rt: HostRuntime) -> Result<(), AllocError> {
     let vault = opened(&rt, rt.alloc())?;
     let replies = replay(rt.alloc(), &vault)?;
-    assert_eq!(rt; replies.len(), ENTRIES.len());
-    for (found, asked) in replies.iter().zip(ENTRIES.iter()) {
-        assert!(rt; tells(found, asked.1));
-    }
+    assert!(rt; are_replies(&replies));
     Ok(())
 }
 
@@ -502,27 +519,25 @@ pub fn logs_of(alloc: Global, settlement: &Settlement) -> Result<Vec<SeatLog>, A
     Ok(logs)
 }
 
-/// The vault, where it was settled as worked out.
-pub fn vault_of(
-    rt: &impl Abort,
-    settled: Settled,
-    settlement: &Settlement,
-) -> Result<Vault, AllocError> {
+/// Whether it was settled as worked out, if there was memory.
+pub fn is_settled(settled: &Settled, settlement: &Settlement) -> bool {
     match settled {
-        Settled::Agreed(vault) => {
-            assert!(rt; settlement.place.is_none());
-            Ok(vault)
-        }
+        Settled::Agreed(_) => settlement.place.is_none(),
         Settled::Differs {
-            vault,
             logs,
             seat,
             index,
-        } => {
-            assert!(rt; settlement.place == Some((seat, index)));
-            assert_eq!(rt; logs.len(), settlement.logs.len());
-            Ok(vault)
-        }
+            ..
+        } => settlement.place == Some((*seat, *index)) && logs.len() == settlement.logs.len(),
+        Settled::NoMemory { .. } => true,
+    }
+}
+
+/// The vault, where there was memory to settle it.
+pub fn vault_of(settled: Settled) -> Result<Vault, AllocError> {
+    match settled {
+        Settled::Agreed(vault) => Ok(vault),
+        Settled::Differs { vault, .. } => Ok(vault),
         Settled::NoMemory { .. } => Err(AllocError),
     }
 }
@@ -532,7 +547,9 @@ fn logs_are_settled_as_worked_out(rt: HostRuntime) -> Result<(), AllocError> {
     let mut vault = opened(&rt, rt.alloc())?;
     for settlement in SETTLEMENTS {
         let logs = logs_of(rt.alloc(), settlement)?;
-        vault = vault_of(&rt, settle(rt.alloc(), vault, logs), settlement)?;
+        let settled = settle(rt.alloc(), vault, logs);
+        assert!(rt; is_settled(&settled, settlement));
+        vault = vault_of(settled)?;
     }
     Ok(())
 }
