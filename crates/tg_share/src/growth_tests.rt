@@ -4,7 +4,8 @@ ghost use Rattle.std.specs.Prelude.{◌≡◌, []};
 ghost use Rattle.tg_share.specs.declared.locked.TheConstants.{PARTS};
 
 use crate::tests::{
-    ALONE, Ask, CREATED, Told, agreed, both, command, is_told, opened, play, reply,
+    ALONE, Ask, CREATED, TAKE, Told, agreed, both, command, count_in, is_told, one, opened, play,
+    tells,
 };
 use crate::{Closed, Ended, Open, PARTS, Session, Shared};
 use std::alloc::{AllocError, Global};
@@ -25,9 +26,9 @@ fn is_told_at_once<L: Ledger, R: Wait + Clock>(
     told: Told,
 ) -> Result<Option<bool>, AllocError> {
     let command = command(alloc, ask)?;
-    let wanted = reply(alloc, command.rule(), told)?;
+    let rule = command.rule();
     Ok(match session.submit(rt, command, &Open) {
-        Ok(found) => Some(*found == wanted),
+        Ok(found) => Some(tells(found, rule, told)),
         Err(AskFault::OutOfMemory) => None,
         Err(_) => Some(false),
     })
@@ -55,13 +56,13 @@ fn are_told_again<L: Ledger, R: Wait + Clock + Print>(
     Ok(true)
 }
 
-/// The vault after a session of alice, who asks again where memory is refused.
+/// How many entries there are after a session of alice, who asks again where memory is refused.
 fn play_again<L: Ledger, R: Wait + Clock + Print>(
     rt: &R,
     alloc: Global,
     blank: Blank,
     vault: Vault,
-) -> Option<Vault>
+) -> Option<u64>
     requires name { blank.name ≡ L.name }
     requires parts { blank.parts ≡ L.parts }
     requires all { blank.parts ≡ PARTS }
@@ -73,23 +74,16 @@ fn play_again<L: Ledger, R: Wait + Clock + Print>(
     };
     let told = are_told_again(rt, alloc, &mut alice, ALONE);
     let alice = alice.end(rt);
-    if !matches!(told, Ok(true)) {
-        return None;
-    }
-    let mut ended = Vec::new(alloc);
-    ended.push(alice).ok()?;
-    agreed(shared, ended)
+    let alice = matches!(told, Ok(true)).then_some(alice);
+    agreed(shared, one(alloc, alice))
 }
 
 /// A submit that is refused enters nothing, in the history or in the log: in the end they agree, with one entry for each line.
 #[test]
 fn growth_refused_in_a_submit(rt: HostRuntime) -> Result<(), AllocError> {
-    let vault = opened(&rt, rt.alloc(), 8, 8, &[(1, "t", 2)])?;
-    let vault = play_again::<Brand, _>(&rt, rt.alloc(), Blank::new(PARTS), vault);
-    let Some(vault) = vault else {
-        return Err(AllocError);
-    };
-    assert_eq!(rt; vault.count(), 8);
+    let vault = opened(&rt, rt.alloc(), 8, 8, &[(1, TAKE, 2)])?;
+    let count = play_again::<Brand, _>(&rt, rt.alloc(), Blank::new(PARTS), vault);
+    assert_eq!(rt; count.ok_or(AllocError)?, 8);
     Ok(())
 }
 
@@ -115,63 +109,53 @@ fn are_their_logs(vault: &Vault, logs: &[SeatLog]) -> bool {
     }
 }
 
-/// The vault, where the logs agree. Where memory is refused vault and logs are handed back, and settled again.
-fn settled_again<R: Print>(rt: &R, alloc: Global, settled: Settled) -> Option<Vault> {
+/// What settling comes to. Where memory is refused vault and logs are handed back, and settled again.
+fn settled_again<R: Print>(rt: &R, alloc: Global, settled: Settled) -> Settled {
     match settled {
-        Settled::Agreed(vault) => Some(vault),
-        Settled::Differs { .. } => None,
         Settled::NoMemory { vault, logs } => {
             let _ = rt.println("no memory");
-            if !are_their_logs(&vault, &logs) {
-                return None;
-            }
-            match settle(alloc, vault, logs) {
-                Settled::Agreed(vault) => Some(vault),
-                Settled::Differs { .. } => None,
-                Settled::NoMemory { .. } => None,
+            if are_their_logs(&vault, &logs) {
+                settle(alloc, vault, logs)
+            } else {
+                Settled::NoMemory { vault, logs }
             }
         }
+        settled => settled,
     }
 }
 
-/// The vault, where the logs agree and all sessions were counted. Where there is no room for the list of logs, all is handed
-/// back, and closed again.
+/// How many entries there are, where the logs agree and all sessions were counted. Where there is no room for the list of
+/// logs, all is handed back, and closed again.
 fn closed_again<L: Ledger, R: Print>(
     rt: &R,
     alloc: Global,
     shared: Shared<L>,
     ended: Vec<Ended<L>>,
-) -> Option<Vault>
+) -> Option<u64>
     requires { L.parts ≡ PARTS }
 {
     match shared.close(ended) {
         Closed::Done { settled, counted } => {
-            if counted {
-                settled_again(rt, alloc, settled)
-            } else {
-                None
-            }
+            let settled = settled_again(rt, alloc, settled);
+            if counted { count_in(&settled) } else { None }
         }
         Closed::NoRoom { shared, ended } => {
             let _ = rt.println("no memory");
-            if are_both(&ended) {
-                agreed(shared, ended)
-            } else {
-                None
-            }
+            let ended = are_both(&ended).then_some(ended);
+            agreed(shared, ended)
         }
     }
 }
 
 const LOOKED: (Ask, Told) = (Ask::Look(2), Told::Edges(&[]));
 
-/// The vault after a session of alice, who creates a document, and one of bob, who looks at himself.
+/// How many entries there are after a session of alice, who creates a document, and one of bob, who looks at himself.
 fn close_again<L: Ledger, R: Wait + Clock + Print>(
     rt: &R,
     alloc: Global,
     blank: Blank,
     vault: Vault,
-) -> Option<Vault>
+) -> Option<u64>
     requires name { blank.name ≡ L.name }
     requires parts { blank.parts ≡ L.parts }
     requires all { blank.parts ≡ PARTS }
@@ -187,11 +171,8 @@ fn close_again<L: Ledger, R: Wait + Clock + Print>(
 /// A close that is refused hands back the vault and the ends, or the logs.
 #[test]
 fn growth_refused_in_a_close(rt: HostRuntime) -> Result<(), AllocError> {
-    let vault = opened(&rt, rt.alloc(), 8, 8, &[(1, "t", 2)])?;
-    let vault = close_again::<Brand, _>(&rt, rt.alloc(), Blank::new(PARTS), vault);
-    let Some(vault) = vault else {
-        return Err(AllocError);
-    };
-    assert_eq!(rt; vault.count(), 2);
+    let vault = opened(&rt, rt.alloc(), 8, 8, &[(1, TAKE, 2)])?;
+    let count = close_again::<Brand, _>(&rt, rt.alloc(), Blank::new(PARTS), vault);
+    assert_eq!(rt; count.ok_or(AllocError)?, 2);
     Ok(())
 }

@@ -2,7 +2,10 @@
 ghost use Rattle.std.specs.Prelude.{◌≡◌, []};
 ghost use Rattle.tg_share.specs.declared.locked.TheConstants.{PARTS};
 
-use crate::tests::{Ask, Board, Holds, Told, agreed, are_told, both, is_told, opened, play};
+use crate::tests::{
+    Ask, Board, GRANT, Holds, READ, TAKE, Told, WRITE, agreed, are_told, both, is_told, opened,
+    play,
+};
 use crate::{Ended, Gate, Open, PARTS, Place, Shared, Worked};
 use std::alloc::{AllocError, Global};
 use std::marker::Brand;
@@ -30,12 +33,12 @@ impl Gate for HoldsFirst<'_> {
 }
 
 const MADE: &[(Ask, Told)] = &[
-    (Ask::Document("rw"), Told::Created(3)),
+    (Ask::Document(READ | WRITE), Told::Created(3)),
     (Ask::Write(3, "hi"), Told::Done),
 ];
 
 const TAKEN: &[(Ask, Told)] = &[
-    (Ask::Take("r", 3, 2), Told::Done),
+    (Ask::Take(READ, 3, 2), Told::Done),
     (Ask::Read(3), Told::Text("hi")),
 ];
 
@@ -66,7 +69,14 @@ fn remove_meanwhile<L: Ledger, R: Wait + Clock>(
     let worked = shared.collector(rt, 18, &Open);
     board.is_prepared.store(true, Ordering::SeqCst);
     board.wait(rt, |board| board.pauses.load(Ordering::SeqCst) > 0);
-    let removed = is_told(rt, alloc, &mut bob, Ask::Remove("rw", 3), Told::Done, &Open);
+    let removed = is_told(
+        rt,
+        alloc,
+        &mut bob,
+        Ask::Remove(READ | WRITE, 3),
+        Told::Done,
+        &Open,
+    );
     board.is_released.store(true, Ordering::SeqCst);
     let ended = bob.end(rt);
     if matches!(made, Ok(true)) && matches!(removed, Ok(true)) {
@@ -114,7 +124,7 @@ fn race<L: Ledger + Send + Sync, R: Threads + Wait + Clock + Sync>(
     alloc: Global,
     blank: Blank,
     vault: Vault,
-) -> Option<(Worked, u64)>
+) -> (Option<Worked>, Option<u64>)
     requires name { blank.name ≡ L.name }
     requires parts { blank.parts ≡ L.parts }
     requires all { blank.parts ≡ PARTS }
@@ -123,20 +133,17 @@ fn race<L: Ledger + Send + Sync, R: Threads + Wait + Clock + Sync>(
     let shared = Shared::<L>::new(alloc, blank, vault);
     let board = Board::new();
     let ((alice, bob), _) = take_remove_and_collect(rt, alloc, &shared, &board);
-    let (bob, worked) = bob?;
-    let ended = both(alloc, alice, Some(bob))?;
-    if board.is_late.load(Ordering::SeqCst) {
-        return None;
-    }
-    Some((worked, agreed(shared, ended)?.count()))
+    let (bob, worked) = bob.unzip();
+    let ended = board.in_time(both(alloc, alice, bob));
+    (worked, agreed(shared, ended))
 }
 
 /// When the collector has scanned alice and not yet bob, alice takes a right over a white document of his, and before she
 /// has shaded it bob removes the only other edge to it: she can read it when that cycle and further ones have ended.
 #[test]
 fn take_while_the_other_edge_is_removed(rt: HostRuntime) -> Result<(), AllocError> {
-    let vault = opened(&rt, rt.alloc(), 3, 8, &[(1, "tg", 2)])?;
+    let vault = opened(&rt, rt.alloc(), 3, 8, &[(1, TAKE | GRANT, 2)])?;
     let done = race::<Brand, _>(&rt, rt.alloc(), Blank::new(PARTS), vault);
-    assert_eq!(rt; done, Some((Worked { freed: 0, ended: 1 }, 5)));
+    assert_eq!(rt; done, (Some(Worked { freed: 0, ended: 1 }), Some(5)));
     Ok(())
 }

@@ -20,13 +20,21 @@ use tg_graph::{Config, OpenFault};
 use tg_rights::{Cause, Command, EdgeList, Kind, Reply, Rights, Rule, Text, Word};
 use tg_vault::{SeatFault, Vault};
 
-/// What a session asks. Rights are given by their letters: r, w, t and g.
+pub const READ: u8 = 1;
+
+pub const WRITE: u8 = 2;
+
+pub const TAKE: u8 = 4;
+
+pub const GRANT: u8 = 8;
+
+/// What a session asks. Rights are given by their bits.
 #[derive(Clone, Copy)]
 pub enum Ask {
-    Take(&'static str, u64, u64),
-    Grant(&'static str, u64, u64),
-    Document(&'static str),
-    Remove(&'static str, u64),
+    Take(u8, u64, u64),
+    Grant(u8, u64, u64),
+    Document(u8),
+    Remove(u8, u64),
     Read(u64),
     Write(u64, &'static str),
     Look(u64),
@@ -38,58 +46,40 @@ pub enum Told {
     Done,
     Created(u64),
     Text(&'static str),
-    Edges(&'static [(u64, &'static str)]),
+    Edges(&'static [(u64, u8)]),
     /// Denied, since the label of the first vertex to the second lacks these rights.
-    Lacks(u64, u64, &'static str),
+    Lacks(u64, u64, u8),
 }
 
-/// The right of a letter.
-fn right_of(letter: u8) -> Rights {
-    match letter {
-        b'r' => Rights::read(),
-        b'w' => Rights::write(),
-        b't' => Rights::take(),
-        b'g' => Rights::grant(),
-        _ => Rights::empty(),
-    }
-}
-
-/// The rights of the letters.
-fn rights_of(letters: &str) -> Rights {
-    let mut rights = Rights::empty();
-    for letter in letters.as_bytes() {
-        rights = rights.union(right_of(*letter));
-    }
-    rights
+/// The rights of these bits.
+fn rights_of(bits: u8) -> Rights {
+    Rights::from_bits(bits).unwrap_or(Rights::empty())
 }
 
 /// A text of these bytes.
 fn text(alloc: Global, content: &str) -> Result<Text, AllocError> {
-    match Text::new(String::from_str(alloc, content)?) {
-        Ok(text) => Ok(text),
-        Err(_) => Ok(Text::empty(alloc)),
-    }
+    Text::new(String::from_str(alloc, content)?).map_err(|_| AllocError)
 }
 
 /// The command that is asked.
 pub fn command(alloc: Global, ask: Ask) -> Result<Command, AllocError> {
     Ok(match ask {
-        Ask::Take(letters, over, from) => Command::Take {
-            rights: rights_of(letters),
+        Ask::Take(bits, over, from) => Command::Take {
+            rights: rights_of(bits),
             over,
             from,
         },
-        Ask::Grant(letters, over, to) => Command::Grant {
-            rights: rights_of(letters),
+        Ask::Grant(bits, over, to) => Command::Grant {
+            rights: rights_of(bits),
             over,
             to,
         },
-        Ask::Document(letters) => Command::Create {
+        Ask::Document(bits) => Command::Create {
             kind: Kind::Document,
-            rights: rights_of(letters),
+            rights: rights_of(bits),
         },
-        Ask::Remove(letters, over) => Command::Remove {
-            rights: rights_of(letters),
+        Ask::Remove(bits, over) => Command::Remove {
+            rights: rights_of(bits),
             over,
         },
         Ask::Read(over) => Command::Read { over },
@@ -101,26 +91,70 @@ pub fn command(alloc: Global, ask: Ask) -> Result<Command, AllocError> {
     })
 }
 
-/// The list of these edges.
-fn edges(alloc: Global, listed: &[(u64, &str)]) -> Result<EdgeList, AllocError> {
-    let mut edges = Vec::new(alloc);
-    for (to, letters) in listed {
-        edges.push((*to, rights_of(letters)))?;
-    }
-    Ok(EdgeList::new(edges))
+/// Whether the list is of these edges.
+fn are_edges(found: &[(u64, Rights)], listed: &[(u64, u8)]) -> bool {
+    found.len() == listed.len()
+        && found.iter().zip(listed.iter()).all(|(edge, wanted)| edge.0 == wanted.0
+            && edge.1.bits() == wanted.1)
 }
 
-/// The reply that tells so.
-pub fn reply(alloc: Global, rule: Rule, told: Told) -> Result<Reply, AllocError> {
-    Ok(match told {
-        Told::Done => Reply::Done,
-        Told::Created(serial) => Reply::Created(serial),
-        Told::Text(content) => Reply::Text(text(alloc, content)?),
-        Told::Edges(listed) => Reply::Edges(edges(alloc, listed)?),
-        Told::Lacks(from, to, letters) => {
-            let rights = rights_of(letters);
-            Reply::Denied(rule, Cause::Missing { from, to, rights })
+/// Whether the cause is that the label of the first vertex to the second lacks these rights.
+fn is_lack(cause: Cause, from: u64, to: u64, bits: u8) -> bool {
+    cause
+        == Cause::Missing {
+            from,
+            to,
+            rights: rights_of(bits),
         }
+}
+
+/// Whether the reply to a command of this rule tells so.
+pub fn tells(found: &Reply, rule: Rule, told: Told) -> bool {
+    match told {
+        Told::Done => matches!(found, Reply::Done),
+        Told::Created(serial) => matches!(found, Reply::Created(given) if *given == serial),
+        Told::Text(content) => matches!(found, Reply::Text(text) if text.get() == content),
+        Told::Edges(listed) => {
+            matches!(found, Reply::Edges(edges) if are_edges(edges.get(), listed))
+        }
+        Told::Lacks(from, to, bits) => {
+            matches!(found, Reply::Denied(by, cause) if *by == rule && is_lack(*cause, from, to, bits))
+        }
+    }
+}
+
+fn words(alloc: Global, names: &[&str]) -> Result<Vec<Word>, AllocError> {
+    let mut words = Vec::new(alloc);
+    for name in names {
+        words.push(Word::new(String::from_str(alloc, name)?))?;
+    }
+    Ok(words)
+}
+
+fn labelled(
+    alloc: Global,
+    listed: &[(u64, u8, u64)],
+) -> Result<Vec<(u64, Rights, u64)>, AllocError> {
+    listed
+        .iter()
+        .map(|(from, bits, to)| (*from, rights_of(*bits), *to))
+        .collect(alloc)
+}
+
+/// Principals alice and bob, who are 1 and 2, with these edges.
+fn configuration(
+    alloc: Global,
+    slots: u64,
+    cells: u64,
+    listed: &[(u64, u8, u64)],
+) -> Result<Config, AllocError> {
+    let edges = labelled(alloc, listed)?;
+    Ok(Config {
+        principals: words(alloc, &["alice", "bob"])?,
+        edges,
+        next: 3,
+        slots,
+        cells,
     })
 }
 
@@ -130,25 +164,11 @@ pub fn opened(
     alloc: Global,
     slots: u64,
     cells: u64,
-    listed: &[(u64, &str, u64)],
+    listed: &[(u64, u8, u64)],
 ) -> Result<Vault, AllocError>
     ensures { IfOk result (λ vault. vault.history ≡ []) }
 {
-    let mut principals = Vec::new(alloc);
-    principals.push(Word::new(String::from_str(alloc, "alice")?))?;
-    principals.push(Word::new(String::from_str(alloc, "bob")?))?;
-    let mut edges = Vec::new(alloc);
-    for (from, letters, to) in listed {
-        edges.push((*from, rights_of(letters), *to))?;
-    }
-    let config = Config {
-        principals,
-        edges,
-        next: 3,
-        slots,
-        cells,
-    };
-    match Vault::new(alloc, config) {
+    match Vault::new(alloc, configuration(alloc, slots, cells, listed)?) {
         Ok(vault) => Ok(vault),
         Err(OpenFault::OutOfMemory) => Err(AllocError),
         Err(_) => panic!(rt; "refused"),
@@ -195,6 +215,15 @@ impl Board {
         }
         self.is_late.store(true, Ordering::SeqCst);
     }
+
+    /// What came of a case in which no wait used up its turns.
+    pub fn in_time<T: Drop>(&self, found: Option<T>) -> Option<T> {
+        if self.is_late.load(Ordering::SeqCst) {
+            None
+        } else {
+            found
+        }
+    }
 }
 
 /// Holds a session until it is released and the collector has paused so many times.
@@ -237,9 +266,9 @@ pub fn is_told<L: Ledger, R: Wait + Clock, G: Gate>(
     gate: &G,
 ) -> Result<bool, AllocError> {
     let command = command(alloc, ask)?;
-    let wanted = reply(alloc, command.rule(), told)?;
+    let rule = command.rule();
     Ok(match session.submit(rt, command, gate) {
-        Ok(found) => *found == wanted,
+        Ok(found) => tells(found, rule, told),
         Err(_) => false,
     })
 }
@@ -282,20 +311,19 @@ pub fn play<L: Ledger, R: Wait + Clock, G: Gate>(
     }
 }
 
+/// The list of one session's end.
+pub fn one<L: Ledger>(alloc: Global, ended: Option<Ended<L>>) -> Option<Vec<Ended<L>>> {
+    vec![in alloc; ended?].ok()
+}
+
 /// The list of two sessions' ends.
 pub fn both<L: Ledger>(
     alloc: Global,
     first: Option<Ended<L>>,
     second: Option<Ended<L>>,
 ) -> Option<Vec<Ended<L>>> {
-    let mut ended = Vec::with_capacity(alloc, 2).ok()?;
-    let Ok(()) = ended.push(first?) else {
-        return None;
-    };
-    let Ok(()) = ended.push(second?) else {
-        return None;
-    };
-    Some(ended)
+    let (first, second) = first.zip(second)?;
+    vec![in alloc; first, second].ok()
 }
 
 /// Closes, and once more where there was no room.
@@ -308,18 +336,34 @@ fn closed<L: Ledger>(shared: Shared<L>, ended: Vec<Ended<L>>) -> Closed<L>
     }
 }
 
+/// The vault, where the logs agree.
+fn vault_in(settled: &Settled) -> Option<&Vault> {
+    match settled {
+        Settled::Agreed(vault) => Some(vault),
+        Settled::Differs { .. } => None,
+        Settled::NoMemory { .. } => None,
+    }
+}
+
+/// How many entries there are, where the logs agree.
+pub fn count_in(settled: &Settled) -> Option<u64> {
+    Some(vault_in(settled)?.count())
+}
+
 /// The vault, where the logs agree and all sessions were counted.
-pub fn agreed<L: Ledger>(shared: Shared<L>, ended: Vec<Ended<L>>) -> Option<Vault>
-    requires { L.parts ≡ PARTS }
-{
-    match closed(shared, ended) {
-        Closed::Done { settled, counted } => match settled {
-            Settled::Agreed(vault) => { if counted { Some(vault) } else { None } }
-            Settled::Differs { .. } => None,
-            Settled::NoMemory { .. } => None,
-        },
+fn vault_after<L: Ledger>(closed: &Closed<L>) -> Option<&Vault> {
+    match closed {
+        Closed::Done { settled, counted } => { if *counted { vault_in(settled) } else { None } }
         Closed::NoRoom { .. } => None,
     }
+}
+
+/// How many entries there are, where the logs agree and all sessions were counted.
+pub fn agreed<L: Ledger>(shared: Shared<L>, ended: Option<Vec<Ended<L>>>) -> Option<u64>
+    requires { L.parts ≡ PARTS }
+{
+    let closed = closed(shared, ended?);
+    Some(vault_after(&closed)?.count())
 }
 
 /// Alice creates a document, and is held with it.
@@ -331,7 +375,7 @@ fn create_held<L: Ledger, R: Wait + Clock>(
     pauses: u64,
 ) -> Option<Ended<L>> {
     let gate = Holds { board, pauses };
-    let lines = [(Ask::Document("r"), Told::Created(3))];
+    let lines = [(Ask::Document(READ), Told::Created(3))];
     play(rt, alloc, shared, 0, "alice", &lines, &gate)
 }
 
@@ -400,18 +444,14 @@ fn hold_a_create<L: Ledger + Send + Sync, R: Threads + Wait + Clock + Sync>(
     let shared = Shared::<L>::new(alloc, blank, vault);
     let board = Board::new();
     let ((alice, bob), _) = create_look_and_collect(rt, alloc, &shared, &board);
-    let ended = both(alloc, alice, bob)?;
-    if board.is_late.load(Ordering::SeqCst) {
-        return None;
-    }
-    Some(agreed(shared, ended)?.count())
+    agreed(shared, board.in_time(both(alloc, alice, bob)))
 }
 
 /// Alice is held between the store and the shade until bob was answered and the collector has made 100 steps: so the lock
 /// is free.
 #[test]
 fn held_create(rt: HostRuntime) -> Result<(), AllocError> {
-    let vault = opened(&rt, rt.alloc(), 8, 8, &[(1, "t", 2)])?;
+    let vault = opened(&rt, rt.alloc(), 8, 8, &[(1, TAKE, 2)])?;
     let entries = hold_a_create::<Brand, _>(&rt, rt.alloc(), Blank::new(PARTS), vault);
     assert_eq!(rt; entries, Some(2));
     Ok(())
@@ -430,74 +470,70 @@ fn is_opening(vault: &Vault) -> bool {
 }
 
 pub const ALONE: &[(Ask, Told)] = &[
-    (Ask::Document("rw"), Told::Created(3)),
+    (Ask::Document(READ | WRITE), Told::Created(3)),
     (Ask::Write(3, "hi"), Told::Done),
     (Ask::Read(3), Told::Text("hi")),
-    (Ask::Look(1), Told::Edges(&[(2, "t"), (3, "rw")])),
-    (Ask::Grant("r", 3, 2), Told::Lacks(1, 2, "g")),
-    (Ask::Take("w", 3, 2), Told::Lacks(2, 3, "w")),
-    (Ask::Remove("r", 3), Told::Done),
-    (Ask::Read(3), Told::Lacks(1, 3, "r")),
+    (Ask::Look(1), Told::Edges(&[(2, TAKE), (3, READ | WRITE)])),
+    (Ask::Grant(READ, 3, 2), Told::Lacks(1, 2, GRANT)),
+    (Ask::Take(WRITE, 3, 2), Told::Lacks(2, 3, WRITE)),
+    (Ask::Remove(READ, 3), Told::Done),
+    (Ask::Read(3), Told::Lacks(1, 3, READ)),
 ];
 
-/// The vault after a session of alice.
+/// How many entries there are after a session of alice, and whether the vault's opening graph is as it was.
 fn play_alone<L: Ledger, R: Wait + Clock>(
     rt: &R,
     alloc: Global,
     blank: Blank,
     vault: Vault,
-) -> Option<Vault>
+) -> Option<(u64, bool)>
     requires name { blank.name ≡ L.name }
     requires parts { blank.parts ≡ L.parts }
     requires all { blank.parts ≡ PARTS }
     requires empty { vault.history ≡ [] }
 {
     let shared = Shared::<L>::new(alloc, blank, vault);
-    let alice = play(rt, alloc, &shared, 0, "alice", ALONE, &Open)?;
-    let mut ended = Vec::new(alloc);
-    ended.push(alice).ok()?;
-    agreed(shared, ended)
+    let alice = play(rt, alloc, &shared, 0, "alice", ALONE, &Open);
+    let closed = closed(shared, one(alloc, alice)?);
+    let vault = vault_after(&closed)?;
+    Some((vault.count(), is_opening(vault)))
 }
 
 #[test]
 fn a_session_alone(rt: HostRuntime) -> Result<(), AllocError> {
-    let vault = opened(&rt, rt.alloc(), 8, 8, &[(1, "t", 2)])?;
-    let vault = play_alone::<Brand, _>(&rt, rt.alloc(), Blank::new(PARTS), vault);
-    let vault = vault.expect(&rt, "told otherwise");
-    assert_eq!(rt; vault.count(), 8);
-    assert!(rt; is_opening(&vault));
+    let vault = opened(&rt, rt.alloc(), 8, 8, &[(1, TAKE, 2)])?;
+    let found = play_alone::<Brand, _>(&rt, rt.alloc(), Blank::new(PARTS), vault);
+    assert_eq!(rt; found, Some((8, true)));
     Ok(())
 }
 
-pub const CREATED: (Ask, Told) = (Ask::Document("r"), Told::Created(3));
+pub const CREATED: (Ask, Told) = (Ask::Document(READ), Told::Created(3));
 
-const REMOVED: (Ask, Told) = (Ask::Remove("r", 3), Told::Done);
+const REMOVED: (Ask, Told) = (Ask::Remove(READ, 3), Told::Done);
 
-/// What the collector did, and how many entries there are in the end.
+/// What the collector did, and how many entries there are in the end, if they are known.
 fn collect_after<L: Ledger, R: Wait + Clock>(
     rt: &R,
     alloc: Global,
     blank: Blank,
     vault: Vault,
-) -> Option<(Worked, u64)>
+) -> (Worked, Option<u64>)
     requires name { blank.name ≡ L.name }
     requires parts { blank.parts ≡ L.parts }
     requires all { blank.parts ≡ PARTS }
     requires empty { vault.history ≡ [] }
 {
     let shared = Shared::<L>::new(alloc, blank, vault);
-    let alice = play(rt, alloc, &shared, 0, "alice", &[CREATED, REMOVED], &Open)?;
+    let alice = play(rt, alloc, &shared, 0, "alice", &[CREATED, REMOVED], &Open);
     let worked = shared.collector(rt, 22, &Open);
-    let mut ended = Vec::new(alloc);
-    ended.push(alice).ok()?;
-    Some((worked, agreed(shared, ended)?.count()))
+    (worked, agreed(shared, one(alloc, alice)))
 }
 
 #[test]
 fn a_collector_frees_in_two_cycles(rt: HostRuntime) -> Result<(), AllocError> {
     let vault = opened(&rt, rt.alloc(), 3, 4, &[])?;
     let done = collect_after::<Brand, _>(&rt, rt.alloc(), Blank::new(PARTS), vault);
-    assert_eq!(rt; done, Some((Worked { freed: 1, ended: 2 }, 2)));
+    assert_eq!(rt; done, (Worked { freed: 1, ended: 2 }, Some(2)));
     Ok(())
 }
 
@@ -528,13 +564,13 @@ fn create_and_remove<L: Ledger + Send + Sync, R: Threads + Wait + Clock + Sync>(
     )
 }
 
-/// What the collector did while the target was held, and how many entries there are in the end.
+/// What the collector did while the target was held, and how many entries there are in the end, if they are known.
 fn hold_a_target<L: Ledger + Send + Sync, R: Threads + Wait + Clock + Sync>(
     rt: &R,
     alloc: Global,
     blank: Blank,
     vault: Vault,
-) -> Option<(Worked, u64)>
+) -> (Worked, Option<u64>)
     requires name { blank.name ≡ L.name }
     requires parts { blank.parts ≡ L.parts }
     requires all { blank.parts ≡ PARTS }
@@ -543,11 +579,8 @@ fn hold_a_target<L: Ledger + Send + Sync, R: Threads + Wait + Clock + Sync>(
     let shared = Shared::<L>::new(alloc, blank, vault);
     let board = Board::new();
     let (first, (second, worked)) = create_and_remove(rt, alloc, &shared, &board);
-    let ended = both(alloc, first, second)?;
-    if board.is_late.load(Ordering::SeqCst) {
-        return None;
-    }
-    Some((worked, agreed(shared, ended)?.count()))
+    let ended = board.in_time(both(alloc, first, second));
+    (worked, agreed(shared, ended))
 }
 
 /// A target that is not yet shaded keeps its slot through two cycles, though no edge leads to it.
@@ -555,7 +588,7 @@ fn hold_a_target<L: Ledger + Send + Sync, R: Threads + Wait + Clock + Sync>(
 fn target_held_through_two_cycles(rt: HostRuntime) -> Result<(), AllocError> {
     let vault = opened(&rt, rt.alloc(), 3, 4, &[])?;
     let done = hold_a_target::<Brand, _>(&rt, rt.alloc(), Blank::new(PARTS), vault);
-    assert_eq!(rt; done, Some((Worked { freed: 0, ended: 2 }, 2)));
+    assert_eq!(rt; done, (Worked { freed: 0, ended: 2 }, Some(2)));
     Ok(())
 }
 
@@ -568,26 +601,39 @@ enum HandedIn {
     SecondAlone,
 }
 
-/// The ends that are handed in.
-fn handed_in<L: Ledger>(
-    alloc: Global,
-    first: Ended<L>,
-    second: Ended<L>,
-    order: HandedIn,
-) -> Option<Vec<Ended<L>>> {
+/// Leaves of two sessions' ends those that are handed in.
+fn hand_in<L: Ledger>(ended: &mut Vec<Ended<L>>, order: HandedIn) {
     match order {
-        HandedIn::InOrder => both(alloc, Some(first), Some(second)),
-        HandedIn::Turned => both(alloc, Some(second), Some(first)),
-        HandedIn::FirstAlone => {
-            let mut ended = Vec::new(alloc);
-            ended.push(first).ok()?;
-            Some(ended)
-        }
+        HandedIn::InOrder => {}
+        HandedIn::Turned => ended.reverse(),
+        HandedIn::FirstAlone => ended.truncate(1),
         HandedIn::SecondAlone => {
-            let mut ended = Vec::new(alloc);
-            ended.push(second).ok()?;
-            Some(ended)
+            ended.reverse();
+            ended.truncate(1);
         }
+    }
+}
+
+/// Two sessions of alice on a seat, one after the other.
+fn play_two<L: Ledger, R: Wait + Clock>(
+    rt: &R,
+    alloc: Global,
+    shared: &Shared<L>,
+) -> Option<Vec<Ended<L>>> {
+    let first = play(rt, alloc, shared, 0, "alice", &[CREATED], &Open);
+    let second = play(rt, alloc, shared, 0, "alice", &[REMOVED], &Open);
+    both(alloc, first, second)
+}
+
+/// Where the logs differ from the history, if they do, and whether all sessions were counted.
+fn found_in<L: Ledger>(closed: Closed<L>) -> Option<(Option<(u64, u64)>, bool)> {
+    match closed {
+        Closed::Done { settled, counted } => match settled {
+            Settled::Agreed(_) => Some((None, counted)),
+            Settled::Differs { seat, index, .. } => Some((Some((seat, index)), counted)),
+            Settled::NoMemory { .. } => None,
+        },
+        Closed::NoRoom { .. } => None,
     }
 }
 
@@ -606,16 +652,9 @@ fn close_two<L: Ledger, R: Wait + Clock>(
     requires empty { vault.history ≡ [] }
 {
     let shared = Shared::<L>::new(alloc, blank, vault);
-    let first = play(rt, alloc, &shared, 0, "alice", &[CREATED], &Open)?;
-    let second = play(rt, alloc, &shared, 0, "alice", &[REMOVED], &Open)?;
-    match closed(shared, handed_in(alloc, first, second, order)?) {
-        Closed::Done { settled, counted } => match settled {
-            Settled::Agreed(_) => Some((None, counted)),
-            Settled::Differs { seat, index, .. } => Some((Some((seat, index)), counted)),
-            Settled::NoMemory { .. } => None,
-        },
-        Closed::NoRoom { .. } => None,
-    }
+    let mut ended = play_two(rt, alloc, &shared)?;
+    hand_in(&mut ended, order);
+    found_in(closed(shared, ended))
 }
 
 /// The logs of a seat are joined in the order in which they are handed in; a session that is kept back is not counted.
