@@ -1,36 +1,14 @@
 //! A talk where memory is refused: the lines that it took are answered, the logs agree, and a talk of its own has all answers.
 //! tests/growths.py refuses each allocation of the test in turn.
-use crate::talk_tests::{ANSWERS, Came, LINES, opened, talk_alone};
-use crate::{TalkFault, Watched, buffered};
+use crate::TalkFault;
+use crate::talk_tests::{ANSWERS, Came, LINES, talk_over};
 use std::alloc::{AllocError, Global};
-use std::marker::Brand;
+use std::io::Print;
+use std::process::Abort;
 use std::rt::Clock;
 use std::sync::Wait;
-use std::sync::ledger::Blank;
-use tg_share::PARTS;
 
 const REFUSAL: &[u8] = b"{\"error\":\"out of memory\"}\n";
-
-/// A talk over the lines, on a vault of its own.
-fn talk_into<R: Wait + Clock>(
-    rt: &R,
-    alloc: Global,
-    out: &mut Vec<u8>,
-) -> Result<Came, AllocError> {
-    let mut reader = Watched::new(LINES);
-    let mut writer = buffered(alloc, out)?;
-    let Some(vault) = opened(alloc) else {
-        return Err(AllocError);
-    };
-    Ok(talk_alone::<Brand, _, _, _>(
-        rt,
-        alloc,
-        &mut reader,
-        &mut writer,
-        Blank::new(PARTS),
-        vault,
-    ))
-}
 
 /// How many answers were written.
 fn answers_in(out: &[u8]) -> u64 {
@@ -59,17 +37,27 @@ fn is_answered(came: Came, out: &[u8]) -> bool {
     came.lines == 6 && came.fault.is_none() && came.entries == Some(2) && out == ANSWERS
 }
 
+/// A talk over the lines, and once more where memory was refused.
+fn talk_again<R: Abort + Clock + Print + Wait>(
+    rt: &R,
+    alloc: Global,
+    out: &mut Vec<u8>,
+) -> Result<Came, AllocError> {
+    let came = talk_over(rt, alloc, LINES, &mut *out)?;
+    if came.fault != Some(TalkFault::OutOfMemory) && !says_no_memory(out) {
+        return Ok(came);
+    }
+    let _ = rt.println("no memory");
+    assert!(rt; is_left_whole(came, out));
+    out.clear();
+    talk_over(rt, alloc, LINES, &mut *out)
+}
+
 /// A talk that is refused memory leaves all that it did in the logs; one that is not answers each line.
 #[test]
 fn growth_refused_in_talk(rt: HostRuntime) -> Result<(), AllocError> {
     let mut out = Vec::with_capacity(rt.alloc(), 1_024)?;
-    let mut came = talk_into(&rt, rt.alloc(), &mut out)?;
-    if came.fault == Some(TalkFault::OutOfMemory) || says_no_memory(&out) {
-        let _ = rt.println("no memory");
-        assert!(rt; is_left_whole(came, &out));
-        out.clear();
-        came = talk_into(&rt, rt.alloc(), &mut out)?;
-    }
+    let came = talk_again(&rt, rt.alloc(), &mut out)?;
     if came.entries.is_none() {
         // The logs found no memory.
         return Err(AllocError);

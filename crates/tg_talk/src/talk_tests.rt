@@ -7,12 +7,11 @@ use crate::{FailingReader, FailingWriter, TalkFault, Talked, Watched, buffered, 
 use std::alloc::{AllocError, Global};
 use std::io::{BufWriter, Read, Write};
 use std::marker::Brand;
-use std::process::Abort;
 use std::rt::Clock;
 use std::sync::Wait;
 use std::sync::ledger::{Blank, Ledger};
 use tg_audit::Settled;
-use tg_share::{Closed, Open, PARTS, Shared};
+use tg_share::{Closed, Ended, Open, PARTS, Shared};
 use tg_vault::Vault;
 use tg_wire::read_config;
 
@@ -54,6 +53,14 @@ fn entries_of<L: Ledger>(closed: Closed<L>) -> Option<u64> {
     }
 }
 
+/// The list of the session's end, if it was given; empty where there is no memory.
+fn list_of<L: Ledger>(alloc: Global, ended: Option<Ended<L>>) -> Vec<Ended<L>> {
+    match ended {
+        Some(ended) => vec![in alloc; ended].unwrap_or(Vec::new(alloc)),
+        None => Vec::new(alloc),
+    }
+}
+
 /// A talk on seat 0 over a vault of its own, and the settle of its log.
 pub(crate) fn talk_alone<L: Ledger, D: Read, W: Write + Drop, R: Wait + Clock>(
     rt: &R,
@@ -77,99 +84,85 @@ pub(crate) fn talk_alone<L: Ledger, D: Read, W: Write + Drop, R: Wait + Clock>(
         fault,
         ended,
     } = talk(rt, alloc, reader, writer, &shared, 0, &Open);
-    let mut all = Vec::new(alloc);
-    if let Some(one) = ended {
-        let _ = all.push(one);
-    }
+    let closed = shared.close(list_of(alloc, ended));
     Came {
         lines,
         fault,
-        entries: entries_of(shared.close(all)),
+        entries: entries_of(closed),
     }
 }
 
+/// A talk over these devices, on a vault of its own; where there is memory for it.
+pub(crate) fn talk_over<D: Read + Drop, W: Write + Drop, R: Wait + Clock>(
+    rt: &R,
+    alloc: Global,
+    reader: D,
+    writer: W,
+) -> Result<Came, AllocError> {
+    let mut reader = Watched::new(reader);
+    let vault = opened(alloc).ok_or(AllocError)?;
+    let mut writer = buffered(alloc, writer)?;
+    let blank = Blank::new(PARTS);
+    Ok(talk_alone::<Brand, _, _, _>(rt, alloc, &mut reader, &mut writer, blank, vault))
+}
+
+/// What a whole talk over the lines comes to.
+const WHOLE: Came = Came {
+    lines: 6,
+    fault: None,
+    entries: Some(2),
+};
+
 #[test]
 fn talk_over_memory(rt: HostRuntime) -> Result<(), AllocError> {
-    let mut reader = Watched::new(LINES);
     let mut out = Vec::new(rt.alloc());
-    let mut writer = buffered(rt.alloc(), &mut out)?;
-    let vault = opened(rt.alloc()).expect(&rt, "refused");
-    let came = talk_alone::<Brand, _, _, _>(
-        &rt,
-        rt.alloc(),
-        &mut reader,
-        &mut writer,
-        Blank::new(PARTS),
-        vault,
-    );
-    drop(writer);
+    let came = talk_over(&rt, rt.alloc(), LINES, &mut out)?;
     assert!(rt; out.as_slice() == ANSWERS);
-    assert_eq!(rt;
-        came,
-        Came {
-            lines: 6,
-            fault: None,
-            entries: Some(2)
-        }
-    );
+    assert_eq!(rt; came, WHOLE);
     Ok(())
 }
 
 /// A talk over the lines, with a reader and a writer of single bytes, the former for so many reads and the latter for so
 /// many writes.
-fn talk_by_bytes<R: Abort + Wait + Clock>(
+fn talk_by_bytes<R: Wait + Clock>(
     rt: &R,
     alloc: Global,
     reads: usize,
     writes: usize,
-) -> Came {
-    let mut reader = Watched::new(FailingReader {
-        bytes: LINES,
-        reads,
-    });
+) -> Result<Came, AllocError> {
+    let bytes = LINES;
     let failing = FailingWriter {
         bytes: Vec::new(alloc),
         writes,
     };
-    let mut writer = buffered(alloc, failing).expect(rt, "no memory");
-    let vault = opened(alloc).expect(rt, "refused");
-    talk_alone::<Brand, _, _, _>(
-        rt,
-        alloc,
-        &mut reader,
-        &mut writer,
-        Blank::new(PARTS),
-        vault,
-    )
+    talk_over(rt, alloc, FailingReader { bytes, reads }, failing)
+}
+
+/// Whether the talk ended by this fault, and its logs agree with the history.
+fn ended_by(came: Came, fault: TalkFault) -> bool {
+    came.fault == Some(fault) && came.entries.is_some()
 }
 
 #[test]
-fn each_read_of_a_talk_fails_in_turn(rt: HostRuntime) {
+fn each_read_of_a_talk_fails_in_turn(rt: HostRuntime) -> Result<(), AllocError> {
     for reads in 0..LINES.len() {
-        let came = talk_by_bytes(&rt, rt.alloc(), reads, 1000);
-        assert_eq!(rt; came.fault, Some(TalkFault::Reading));
-        assert!(rt; came.entries.is_some());
+        let came = talk_by_bytes(&rt, rt.alloc(), reads, 1000)?;
+        assert!(rt; ended_by(came, TalkFault::Reading));
     }
+    Ok(())
 }
 
 #[test]
-fn each_write_of_a_talk_fails_in_turn(rt: HostRuntime) {
+fn each_write_of_a_talk_fails_in_turn(rt: HostRuntime) -> Result<(), AllocError> {
     for writes in 0..ANSWERS.len() {
-        let came = talk_by_bytes(&rt, rt.alloc(), 1000, writes);
-        assert_eq!(rt; came.fault, Some(TalkFault::Writing));
-        assert!(rt; came.entries.is_some());
+        let came = talk_by_bytes(&rt, rt.alloc(), 1000, writes)?;
+        assert!(rt; ended_by(came, TalkFault::Writing));
     }
+    Ok(())
 }
 
 #[test]
-fn a_talk_over_single_bytes_is_whole(rt: HostRuntime) {
-    let came = talk_by_bytes(&rt, rt.alloc(), 1000, 1000);
-    assert_eq!(rt;
-        came,
-        Came {
-            lines: 6,
-            fault: None,
-            entries: Some(2)
-        }
-    );
+fn a_talk_over_single_bytes_is_whole(rt: HostRuntime) -> Result<(), AllocError> {
+    assert_eq!(rt; talk_by_bytes(&rt, rt.alloc(), 1000, 1000)?, WHOLE);
+    Ok(())
 }
