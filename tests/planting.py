@@ -64,7 +64,8 @@ def can_stand_twice(f):
 def ran(words, folder):
     """What a check said, its status, and the seconds until each function's proof had ended behind the one before it."""
     how = {"cwd": folder, "stdin": subprocess.DEVNULL, "stdout": subprocess.PIPE, "stderr": subprocess.STDOUT, "errors": "replace"}
-    said, seconds, last = [], {}, time.monotonic()
+    begun = last = time.monotonic()
+    said, seconds = [], {}
     with subprocess.Popen([*rtlib.guarded(), *words, "--progress"], **how) as process:
         for line in process.stdout:
             ended = re.match(r"checked (\S+), \d+ of \d+$", line)
@@ -72,7 +73,8 @@ def ran(words, folder):
                 seconds[ended[1]], last = time.monotonic() - last, time.monotonic()
             else:
                 said.append(line)
-    return types.SimpleNamespace(stdout="".join(said), returncode=process.returncode, seconds=seconds)
+    last = time.monotonic()
+    return types.SimpleNamespace(stdout="".join(said), returncode=process.returncode, seconds=seconds, elapsed=last - begun)
 
 
 class Edit:
@@ -257,24 +259,27 @@ class Trial:
 
     def alone(self, edit):
         """Tries the edit on the functions that it is about, and then by the toolchain's own rule."""
-        begun, about = time.monotonic(), self.about(edit)
-        fault = about and refusal(self.check(edit.texts, about), edit.texts)
+        about = self.about(edit)
+        done = about and self.check(edit.texts, about)
+        fault = done and refusal(done, edit.texts)
+        edit.seconds += done.elapsed if done else 0
         if fault:
             edit.result = True, f"refused, alone: {fault[:160]}"
         else:
             self.by_the_rule(edit)
-        edit.seconds += time.monotonic() - begun
 
     def by_the_rule(self, edit):
         """Tries the edit by the toolchain's own rule, over what is kept and from nothing."""
         with self.gate, tempfile.TemporaryDirectory(prefix="planted-") as room:
             if os.path.isdir(self.kept):
                 rt.linked(self.kept, f"{room}/kept")
+            begun = time.monotonic()
             for kept in (f"{room}/kept", None):
                 self.checks += 1
                 verdict, said = rt.must_fail(self.crate, edit.path, FLAGS, kept)
                 if verdict in rt.SETTLED:
                     break
+            edit.seconds += time.monotonic() - begun
         is_refused = verdict in (rt.REFUSED, rt.AT_LIMIT) and BY_FORM not in said
         said = re.sub(r"^must-fail \S+: ", "", said)
         edit.result = is_refused, f"BY FORM ALONE: {said}" if BY_FORM in said else f"alone: {said}"
