@@ -5,13 +5,9 @@ ghost use Rattle.tg_audit.specs.Laws.{AgreedCounts, ExactlyOnePlace, ExactlyOneV
 
 mod derivations;
 mod following;
-#[cfg(test)]
-mod growth_tests;
 mod logs;
 mod replaying;
 mod settling;
-#[cfg(test)]
-mod tests;
 
 pub use derivations::check;
 pub use logs::{Exchange, SeatLog, Settled};

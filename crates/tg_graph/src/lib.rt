@@ -6,12 +6,8 @@ ghost use Rattle.tg_graph.specs.Laws.{AllowedIsMet, AnswersAgree, DenialsAreFirs
 mod config;
 mod derivation;
 mod graph;
-#[cfg(test)]
-mod growth_tests;
 mod rules;
 mod search;
-#[cfg(test)]
-mod tests;
 mod vertex;
 
 pub use config::{Config, OpenFault};

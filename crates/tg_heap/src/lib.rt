@@ -6,7 +6,5 @@
 #![tactic(auto)]
 
 mod heap;
-#[cfg(test)]
-mod tests;
 
 pub use heap::{Dropped, Heap, HeapFull};

@@ -8,8 +8,6 @@
 mod colour;
 mod entry;
 mod slots;
-#[cfg(test)]
-mod tests;
 
 pub use colour::Colour;
 pub use slots::{Occupant, Slots};

@@ -4,11 +4,7 @@
 mod carry_out;
 mod entry;
 mod event;
-#[cfg(test)]
-mod growth_tests;
 mod laws;
-#[cfg(test)]
-mod tests;
 mod vault;
 
 pub use entry::Entry;

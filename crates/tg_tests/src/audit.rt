@@ -1,7 +1,7 @@
 //! What no clause says: that calls which take memory succeed, and what cases that were worked by hand come to.
-use crate::{Exchange, SeatLog, Settled, check, replay, settle};
 use std::alloc::{AllocError, Global};
 use std::process::Abort;
+use tg_audit::{Exchange, SeatLog, Settled, check, replay, settle};
 use tg_graph::{Config, Goal, Graph, OpenFault, Step, Verdict};
 use tg_rights::{Cause, Command, Kind, Reply, Rights, Rule, Which, Word};
 use tg_vault::{AskFault, Vault};

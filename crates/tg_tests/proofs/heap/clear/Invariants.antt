@@ -2,7 +2,7 @@ use Rattle.std.proofs.Common.{◌≡◌, length}
 use Rattle.tg_slots.specs.Table.{Has}
 use Rattle.tg_slots.specs.declared.colour.Colour.TheVariants.{White}
 use Rattle.tg_heap.specs.Graph.{edges, mark_at}
-use Rattle.tg_heap.proofs.tests.clear.Given as goal
+use Rattle.tg_tests.proofs.heap.clear.Given as goal
 
 abbrev pub invariant-loop : goal.invariant-loop
 invariant-loop g l = mark_at l.heap l.id ≡ Has White

@@ -2,10 +2,10 @@
 ghost use Rattle.std.specs.Prelude.{◌≡◌};
 ghost use Rattle.tg_slots.specs.Table.{Has, mark};
 
-use crate::{Colour, Slots};
 use std::alloc::{AllocError, Global};
 use std::process::Abort;
 use tg_rights::{Kind, Text};
+use tg_slots::{Colour, Slots};
 
 // The slot has this colour; the condition of a call is then known.
 fn is_white(rt: &impl Abort, slots: &Slots, id: u32)

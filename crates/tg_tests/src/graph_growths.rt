@@ -1,9 +1,12 @@
 //! Calls in want of memory: what they leave, and the same calls made again. tests/growths.py refuses each allocation of
 //! a test in turn.
-use crate::tests::{Ask, NAMES, Want, Written, asks, command, config, is_reply, opened, rights_of};
-use crate::{Graph, OpenFault};
+use crate::graph::{
+    Ask, Case, Line, NAMES, Want, Written, command, config, is_reply, opened, played, plays,
+    rights_of, rule_of,
+};
 use std::alloc::{AllocError, Global};
 use std::process::Abort;
+use tg_graph::{Config, Graph, OpenFault};
 use tg_rights::Kind;
 
 /// The opening of the audits.
@@ -30,18 +33,18 @@ fn asks_again(
     want: Want,
     labels: &[(u64, &str, u64)],
 ) -> Result<(), AllocError> {
-    let (first, rule) = command(rt, alloc, ask)?;
-    let (second, _) = command(rt, alloc, ask)?;
+    let first = command(rt, alloc, ask)?;
     assert!(rt; graph.kind(actor) == Some(Kind::Subject) && has_labels(graph, labels));
     let reply = match graph.apply(actor, first) {
         Ok(reply) => reply,
         Err(_) => {
             let _ = rt.println("no memory");
             assert!(rt; graph.kind(actor) == Some(Kind::Subject) && has_labels(graph, labels));
+            let second = command(rt, alloc, ask)?;
             graph.apply(actor, second)?
         }
     };
-    assert!(rt; is_reply(&reply, rule, want));
+    assert!(rt; is_reply(&reply, rule_of(ask), want));
     Ok(())
 }
 
@@ -56,22 +59,32 @@ fn leads(rt: &impl Print, graph: &Graph, from: u64, to: u64) -> Result<bool, All
     }
 }
 
+/// The configuration's graph, built again in want of memory.
+fn built_again(rt: &impl Print, alloc: Global, config: &Config) -> Result<Graph, OpenFault> {
+    match Graph::build(alloc, config) {
+        Err(OpenFault::OutOfMemory) => {
+            let _ = rt.println("no memory");
+            Graph::build(alloc, config)
+        }
+        built => built,
+    }
+}
+
+/// Whether it is the graph of the opening of the audits.
+fn is_audited(graph: &Graph) -> bool {
+    has_labels(graph, &[(1, "t", 2), (2, "r", 3), (1, "", 3), (2, "", 1)])
+        && graph.kind(3) == Some(Kind::Subject)
+        && graph.kind(4).is_none()
+}
+
 /// A refused graph leaves the configuration, which is then opened.
 #[test]
 fn growth_refused_in_a_graph_that_is_built(rt: HostRuntime) -> Result<(), AllocError> {
     let config = config(rt.alloc(), AUDITED)?;
-    let built = match Graph::build(rt.alloc(), &config) {
-        Err(OpenFault::OutOfMemory) => {
-            let _ = rt.println("no memory");
-            Graph::build(rt.alloc(), &config)
-        }
-        built => built,
-    };
-    let Ok(graph) = built else {
-        panic!(rt; "refused");
-    };
-    assert!(rt; has_labels(&graph, &[(1, "t", 2), (2, "r", 3), (1, "", 3), (2, "", 1)]));
-    assert!(rt; graph.kind(3) == Some(Kind::Subject) && graph.kind(4).is_none());
+    match built_again(&rt, rt.alloc(), &config) {
+        Ok(graph) => assert!(rt; is_audited(&graph)),
+        Err(_) => panic!(rt; "refused"),
+    }
     Ok(())
 }
 
@@ -94,108 +107,95 @@ fn growth_refused_in_a_create(rt: HostRuntime) -> Result<(), AllocError> {
     Ok(())
 }
 
+/// Alice takes to read the document that bob has made.
+const TAKEN: Case = Case {
+    edges: &[(1, "tg", 2)],
+    next: 3,
+    asks: &[
+        (2, Ask::Document("rwg"), Want::Created(3)),
+        (1, Ask::Take("r", 3, 2), Want::Done),
+    ],
+};
+
 /// A refused look leaves the edges, which are then told.
 #[test]
 fn growth_refused_in_a_look(rt: HostRuntime) -> Result<(), AllocError> {
-    let mut graph = opened(&rt, rt.alloc(), NAMES, &[(1, "tg", 2)], 3)?;
-    asks(
-        &rt,
-        rt.alloc(),
-        &mut graph,
-        2,
-        Ask::Document("rwg"),
-        Want::Created(3),
-    )?;
-    asks(
-        &rt,
-        rt.alloc(),
-        &mut graph,
-        1,
-        Ask::Take("r", 3, 2),
-        Want::Done,
-    )?;
+    let mut graph = played(&rt, rt.alloc(), &TAKEN)?;
     let told = Want::Edges(&[(2, "tg"), (3, "r")]);
     let labels: &[(u64, &str, u64)] = &[(1, "tg", 2), (1, "r", 3), (2, "rwg", 3)];
     asks_again(&rt, rt.alloc(), &mut graph, 1, Ask::Look(1), told, labels)
 }
 
+/// Alice has written into a document of her own.
+const WRITTEN: Case = Case {
+    edges: &[(1, "t", 2)],
+    next: 3,
+    asks: &[
+        (1, Ask::Document("rw"), Want::Created(3)),
+        (1, Ask::Write(3, "hi"), Want::Done),
+    ],
+};
+
 /// A refused read leaves the text, which is then told.
 #[test]
 fn growth_refused_in_a_read(rt: HostRuntime) -> Result<(), AllocError> {
-    let mut graph = opened(&rt, rt.alloc(), NAMES, &[(1, "t", 2)], 3)?;
-    asks(
-        &rt,
-        rt.alloc(),
-        &mut graph,
-        1,
-        Ask::Document("rw"),
-        Want::Created(3),
-    )?;
-    asks(
-        &rt,
-        rt.alloc(),
-        &mut graph,
-        1,
-        Ask::Write(3, "hi"),
-        Want::Done,
-    )?;
+    let mut graph = played(&rt, rt.alloc(), &WRITTEN)?;
+    let told = Want::Text("hi");
     let labels: &[(u64, &str, u64)] = &[(1, "t", 2), (1, "rw", 3)];
-    asks_again(
-        &rt,
-        rt.alloc(),
-        &mut graph,
-        1,
-        Ask::Read(3),
-        Want::Text("hi"),
-        labels,
-    )
+    asks_again(&rt, rt.alloc(), &mut graph, 1, Ask::Read(3), told, labels)
+}
+
+/// Two vertices, and whether a path leads from the first to the second.
+const PATHS: &[(u64, u64, bool)] = &[(1, 3, true), (3, 1, false), (1, 1, true)];
+
+/// Whether paths lead so in the graph.
+fn lead_so(rt: &impl Print, graph: &Graph, paths: &[(u64, u64, bool)]) -> Result<bool, AllocError> {
+    for (from, to, wanted) in paths {
+        if leads(rt, graph, *from, *to)? != *wanted {
+            return Ok(false);
+        }
+    }
+    Ok(true)
 }
 
 /// A refused search is made again.
 #[test]
 fn growth_refused_in_a_search(rt: HostRuntime) -> Result<(), AllocError> {
     let graph = opened(&rt, rt.alloc(), AUDITED.names, AUDITED.edges, AUDITED.next)?;
-    assert!(rt; leads(&rt, &graph, 1, 3)?);
-    assert!(rt; !leads(&rt, &graph, 3, 1)?);
-    assert!(rt; leads(&rt, &graph, 1, 1)?);
+    assert!(rt; lead_so(&rt, &graph, PATHS)?);
     Ok(())
+}
+
+/// Alice has made a document.
+const CREATED: Case = Case {
+    edges: &[],
+    next: 3,
+    asks: &[(1, Ask::Document("r"), Want::Created(3))],
+};
+
+/// What is asked of the copy: alice drops the document, and makes one more.
+const ON_A_COPY: &[Line] = &[
+    (1, Ask::Remove("r", 3), Want::Done),
+    (1, Ask::Document("r"), Want::Created(4)),
+];
+
+/// The graph's copy, made again in want of memory.
+fn copied(rt: &impl Print, graph: &Graph) -> Result<Graph, AllocError> {
+    match graph.copy() {
+        Ok(copy) => Ok(copy),
+        Err(_) => {
+            let _ = rt.println("no memory");
+            graph.copy()
+        }
+    }
 }
 
 /// A refused copy leaves the graph, which is then copied, and stays as it was where the copy changes.
 #[test]
 fn growth_refused_in_a_copy_of_a_graph(rt: HostRuntime) -> Result<(), AllocError> {
-    let mut graph = opened(&rt, rt.alloc(), NAMES, &[], 3)?;
-    asks(
-        &rt,
-        rt.alloc(),
-        &mut graph,
-        1,
-        Ask::Document("r"),
-        Want::Created(3),
-    )?;
-    let mut copy = match graph.copy() {
-        Ok(copy) => copy,
-        Err(_) => {
-            let _ = rt.println("no memory");
-            graph.copy()?
-        }
-    };
-    asks(
-        &rt,
-        rt.alloc(),
-        &mut copy,
-        1,
-        Ask::Remove("r", 3),
-        Want::Done,
-    )?;
-    asks(
-        &rt,
-        rt.alloc(),
-        &mut copy,
-        1,
-        Ask::Document("r"),
-        Want::Created(4),
-    )?;
+    let graph = played(&rt, rt.alloc(), &CREATED)?;
+    let mut copy = copied(&rt, &graph)?;
+    plays(&rt, rt.alloc(), &mut copy, ON_A_COPY)?;
     assert!(rt; graph.kind(4).is_none() && has_labels(&graph, &[(1, "r", 3)]));
     Ok(())
 }

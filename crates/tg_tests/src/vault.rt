@@ -1,11 +1,11 @@
 //! What no clause says: that calls succeed when there is memory, and what worked cases answer, with every sum of the
 //! collector's steps as it was worked out by hand.
-use crate::{Answer, AskFault, Event, SeatFault, Swept, Vault};
 use std::alloc::{AllocError, Global};
 use std::process::Abort;
 use tg_collect::{Note, Phase};
 use tg_graph::{Config, OpenFault};
 use tg_rights::{Cause, Command, Kind, Outcome, Reply, Rights, Rule, Text, Which, Word};
+use tg_vault::{Answer, AskFault, Event, SeatFault, Swept, Vault};
 
 /// What a seat asks. Rights are given by their letters: r, w, t and g.
 #[derive(Clone, Copy)]

@@ -1,14 +1,14 @@
 //! Calls that are refused their memory and made again: tests/growths.py refuses each allocation of these tests in turn.
-use crate::tests::{
+use crate::vault::{
     ALICE, Ask, BOB, Case, Line, Step, Want, answers, command, events, is_reply, opened, played,
     rights_of, rule_of, words,
 };
-use crate::{Answer, AskFault, Event, Ran, Vault};
 use std::alloc::{AllocError, Global};
 use std::io::Print;
 use std::process::Abort;
 use tg_graph::{Config, OpenFault};
 use tg_rights::{Command, Kind, Reply};
+use tg_vault::{Answer, AskFault, Event, Ran, Vault};
 
 /// The configuration of alice alone, with the slots and the cells that it has where none are named.
 fn alice_alone(alloc: Global) -> Result<Config, AllocError> {

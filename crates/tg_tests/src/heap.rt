@@ -3,9 +3,9 @@ ghost use Rattle.std.specs.Prelude.{◌≡◌, ◌≢◌, ◌<◌};
 ghost use Rattle.tg_slots.specs.Table.{Has, Free};
 ghost use Rattle.tg_heap.specs.Graph.{mark_at};
 
-use crate::{Dropped, Heap, HeapFull};
 use std::alloc::{AllocError, Global};
 use std::process::Abort;
+use tg_heap::{Dropped, Heap, HeapFull};
 use tg_rights::{Kind, Rights, Text};
 use tg_slots::Colour;
 

@@ -1,7 +1,7 @@
 use Rattle.std.proofs.Common.{ℕ}
 use Rattle.tg_cells.proofs.WalkLemmas.{Walked}
 use Rattle.tg_heap.specs.Graph.{edges}
-use Rattle.tg_heap.proofs.tests.has_edges.Given as goal
+use Rattle.tg_tests.proofs.heap.has_edges.Given as goal
 
 -- The cursor is somewhere in the slot's list.
 abbrev pub invariant-loop-edge : goal.invariant-loop-edge

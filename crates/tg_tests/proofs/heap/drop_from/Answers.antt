@@ -1,6 +1,6 @@
 use Rattle.std.proofs.Common.{ap}
 use Rattle.tg_rights.specs.Letters.{Letters, includes}
-use Rattle.tg_heap.proofs.tests.drop_from.Goals as goal
+use Rattle.tg_tests.proofs.heap.drop_from.Goals as goal
 
 pub drop_rights-requires : goal.drop_rights-requires
 drop_rights-requires g c =

@@ -1,12 +1,12 @@
 //! Calls that are refused their memory and made again: tests/growths.py refuses each allocation of these tests in turn.
-use crate::tests::{
+use crate::audit::{
     Ask, Derivation, Finding, READ, SETTLEMENTS, Settlement, are_replies, goal_of, graph_of,
     is_found, is_settled, is_verdict, logs_of, opened, steps_of, vault_of,
 };
-use crate::{SeatLog, Settled, check, replay, settle};
 use std::alloc::{AllocError, Global};
 use std::io::Print;
 use std::process::Abort;
+use tg_audit::{SeatLog, Settled, check, replay, settle};
 use tg_vault::Vault;
 
 /// Whether the derivation has the verdict that was worked out. Where memory is refused the graph is used up, and is made again.

@@ -1,0 +1,25 @@
+//! The tests of the crates from tg_rights up to tg_audit, each in a module of its crate's name; those of calls in want of memory are in
+//! one that ends in `_growths`. They stand in one crate since the gate proves a crate once more for its tests, and loads all that it
+//! stands on: here it does so once. tg_collect has its tests in the crate itself, as they look at what it does not show.
+#![tactic(auto)]
+
+#[cfg(test)]
+mod audit;
+#[cfg(test)]
+mod audit_growths;
+#[cfg(test)]
+mod cells;
+#[cfg(test)]
+mod graph;
+#[cfg(test)]
+mod graph_growths;
+#[cfg(test)]
+mod heap;
+#[cfg(test)]
+mod rights;
+#[cfg(test)]
+mod slots;
+#[cfg(test)]
+mod vault;
+#[cfg(test)]
+mod vault_growths;
