@@ -47,6 +47,22 @@ rt, bodies = load(RT), load(os.path.dirname(RT) + "/rt-plant-bodies")
 rtlib = rt.rtlib
 
 
+def linked(kept, to):
+    """A copy of the work that checks have kept, by links: a check puts new files in the place of old ones, and writes into none."""
+    shutil.copytree(kept, to, copy_function=os.link)
+
+
+def tried(crate, path, kept):
+    """What the toolchain's own rule says of an edit: whether it is refused, whether that is settled over this kept work, and its words.
+
+    Some kits answer whether it is refused, others one of several verdicts.
+    """
+    verdict, said = rt.must_fail(crate, path, FLAGS, kept)
+    if isinstance(verdict, bool):
+        return verdict, verdict, said
+    return verdict in (rt.REFUSED, rt.AT_LIMIT), verdict in rt.SETTLED, said
+
+
 def shape(row):
     """The brackets that a line opens and closes, and its words of items."""
     return [row.count(a) - row.count(b) for a, b in (b"()", b"[]", b"{}")], ITEMS.findall(row.decode())
@@ -212,7 +228,7 @@ class Trial:
                 os.makedirs(os.path.dirname(f"{room}/{path}"), exist_ok=True)
                 Path(room, path).write_text(text, encoding="utf-8")
             is_first = not os.path.isdir(self.kept)
-            is_first or rt.linked(self.kept, f"{room}/kept")
+            is_first or linked(self.kept, f"{room}/kept")
             asked = [word for it in only for word in ("--only", it)]
             words = [rtlib.RATTLE, "check", *self.crate.words(FLAGS, keeps=False), *asked, "--incremental", f"{room}/kept"]
             done = ran(words, room)
@@ -272,24 +288,23 @@ class Trial:
         """Tries the edit by the toolchain's own rule, over what is kept and from nothing."""
         with self.gate, tempfile.TemporaryDirectory(prefix="planted-") as room:
             if os.path.isdir(self.kept):
-                rt.linked(self.kept, f"{room}/kept")
+                linked(self.kept, f"{room}/kept")
             begun = time.monotonic()
             for kept in (f"{room}/kept", None):
                 self.checks += 1
-                verdict, said = rt.must_fail(self.crate, edit.path, FLAGS, kept)
-                if verdict in rt.SETTLED:
+                is_refused, is_settled, said = tried(self.crate, edit.path, kept)
+                if is_settled:
                     break
             edit.seconds += time.monotonic() - begun
-        is_refused = verdict in (rt.REFUSED, rt.AT_LIMIT) and BY_FORM not in said
         said = re.sub(r"^must-fail \S+: ", "", said)
-        edit.result = is_refused, f"BY FORM ALONE: {said}" if BY_FORM in said else f"alone: {said}"
+        edit.result = is_refused and BY_FORM not in said, f"BY FORM ALONE: {said}" if BY_FORM in said else f"alone: {said}"
 
     def run(self, pool):
         """Tries all the edits."""
         with tempfile.TemporaryDirectory(prefix="planted-") as room:
             self.kept = f"{room}/kept"
             if self.were:
-                rt.linked(self.were[-1], self.kept)
+                linked(self.were[-1], self.kept)
             fit = [it for it in self.edits if not it.result and it.fits(self.source)]
             # (a function's edits follow one another, so that it has one control)
             fit.sort(key=lambda it: min((f.file, f.start) for f in it.spans))
