@@ -5,11 +5,12 @@ ghost use Rattle.std.specs.FinSet as set;
 ghost use Rattle.tg_graph.specs.Agreement.{IsRepliedAlike, KeepsViewers};
 ghost use Rattle.tg_graph.specs.Paths.{Agree, Reaches};
 ghost use Rattle.tg_graph.specs.Protection.{Protection, IsGraph, IsSubject, IsVertex, kind_of, label, vertex};
-ghost use Rattle.tg_graph.specs.Rules.{Judged, Applies, text_of, with_text, Allowed, takes_memory, after, allowed_reply, edges_of, last_serial, is_create};
+ghost use Rattle.tg_graph.specs.Rules.{Judged, PlainlyDecided, Applies, text_of, with_text, Allowed, takes_memory, after, allowed_reply, edges_of, last_serial, is_create};
 ghost use Rattle.tg_graph.specs.Searching.{IsSearching, work_left};
 ghost use Rattle.tg_graph.specs.Opening.{first_fault, opening, subjects, IsRefusal};
 ghost use Rattle.tg_graph.specs.Triples.{edge};
 ghost use Rattle.tg_rights.specs.Letters.{none};
+ghost use Rattle.tg_rights.specs.declared.outcome.Outcome.TheVariants as outcome;
 
 use crate::config::{Config, OpenFault, first_fault};
 use crate::rules::{Effect, Reader, Spot, decide, effect_of, into_text, is_create};
@@ -159,11 +160,11 @@ impl Graph {
         }
     }
 
-    /// Carries out the actor's command where the rules allow it and, for a create, a serial is left; otherwise the
+    /// Carries out the actor's command if the rules allow it and, for a create, a serial is left; otherwise the
     /// graph stays, and the reply says why: `Denied` by the rule, with the first cause, or `Full` for serials, which is
-    /// the only thing that a plain graph has too few of. `AllocError` only for an allowed command that takes memory for
-    /// what is told or stored, so never for a denial, a remove or a write; then too the graph stays. The command is used
-    /// up in each case.
+    /// the only thing that a plain graph has too few of. `AllocError` only for a command that would else be carried out and
+    /// takes memory for what is told or stored, so never for a denial, where no serial is left, or for a remove or a write; then
+    /// too the graph stays. The command is used up in each case.
     ///
     /// In graphs that agree for the actor the reply is the same, a new vertex's serial and fullness aside, and graphs
     /// with the same next serial that agree for some subjects, the actor among them, agree for them afterwards.
@@ -171,7 +172,7 @@ impl Graph {
         requires { IsSubject self.old actor }
         ensures ok { IfOk result (λ reply. Applies self.old actor command reply self.new) }
         ensures err { OnErr result (self.new ≡ self.old) }
-        ensures needed { OnErr result (Allowed self.old actor command) }
+        ensures needed { OnErr result (PlainlyDecided self.old actor command outcome.Allowed) }
         ensures memory { OnErr result (takes_memory actor command ≡ true) }
         ensures graph { IsGraph self.new }
         ensures alike { IfOk result (λ reply. IsRepliedAlike self.old actor command reply) }
@@ -188,7 +189,7 @@ impl Graph {
         requires { IsSubject self.old actor }
         ensures ok { IfOk result (λ reply. Applies self.old actor command reply self.new) }
         ensures err { OnErr result (self.new ≡ self.old) }
-        ensures needed { OnErr result (Allowed self.old actor command) }
+        ensures needed { OnErr result (PlainlyDecided self.old actor command outcome.Allowed) }
         ensures memory { OnErr result (takes_memory actor command ≡ true) }
     {
         match self.decide(actor, &command) {

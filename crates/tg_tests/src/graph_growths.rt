@@ -107,6 +107,39 @@ fn growth_refused_in_a_create(rt: HostRuntime) -> Result<(), AllocError> {
     Ok(())
 }
 
+/// Alice may take from bob, who has made 14 documents: with one edge more the labels no longer fit one node of their map.
+const FIFTEEN_EDGES: Case = Case {
+    edges: &[(1, "t", 2)],
+    next: 3,
+    asks: &[
+        (2, Ask::Document("r"), Want::Created(3)),
+        (2, Ask::Document("r"), Want::Created(4)),
+        (2, Ask::Document("r"), Want::Created(5)),
+        (2, Ask::Document("r"), Want::Created(6)),
+        (2, Ask::Document("r"), Want::Created(7)),
+        (2, Ask::Document("r"), Want::Created(8)),
+        (2, Ask::Document("r"), Want::Created(9)),
+        (2, Ask::Document("r"), Want::Created(10)),
+        (2, Ask::Document("r"), Want::Created(11)),
+        (2, Ask::Document("r"), Want::Created(12)),
+        (2, Ask::Document("r"), Want::Created(13)),
+        (2, Ask::Document("r"), Want::Created(14)),
+        (2, Ask::Document("r"), Want::Created(15)),
+        (2, Ask::Document("r"), Want::Created(16)),
+    ],
+};
+
+/// A refused take leaves the labels, and is then carried out.
+#[test]
+fn growth_refused_in_a_take(rt: HostRuntime) -> Result<(), AllocError> {
+    let mut graph = played(&rt, rt.alloc(), &FIFTEEN_EDGES)?;
+    let take = Ask::Take("r", 3, 2);
+    let labels: &[(u64, &str, u64)] = &[(1, "t", 2), (1, "", 3), (2, "r", 3)];
+    asks_again(&rt, rt.alloc(), &mut graph, 1, take, Want::Done, labels)?;
+    assert!(rt; has_labels(&graph, &[(1, "r", 3), (2, "r", 3)]));
+    Ok(())
+}
+
 /// Alice takes to read the document that bob has made.
 const TAKEN: Case = Case {
     edges: &[(1, "tg", 2)],
