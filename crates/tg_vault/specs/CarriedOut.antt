@@ -1,5 +1,5 @@
 -- what a command does to a store that decides it by what it holds
-use Rattle.std.specs.Prelude.{◌≡◌, ◌≢◌, ◌<◌, ◌≤◌, ℕ, ◌+◌, true, cond, [], Option, Some, None}
+use Rattle.std.specs.Prelude.{◌≡◌, ◌≢◌, ◌<◌, ◌≤◌, ℕ, ◌+◌, Bool, true, false, cond, [], Option, Some, None}
 use Rattle.tg_rights.specs.Letters.{Letters, joined, without}
 use Rattle.tg_rights.specs.declared.kind.Kind.{Kind}
 use Rattle.tg_rights.specs.declared.command.Command.{Command}
@@ -54,6 +54,15 @@ abbrev pub CellsMoved : Protection → (before after : ℕ) → ℕ → Command 
 CellsMoved G before after x c outcome.Allowed = EdgeMoves G before after x (terms x c).does
 CellsMoved G before after x c (outcome.Denied rule cause) = after ≡ before
 CellsMoved G before after x c (outcome.Full w) = after ≡ before
+
+-- whether an effect copies a text or a list of edges, and so may want memory; room for vertices and edges was made when the store was opened
+abbrev pub copies : Does → Bool
+copies (effect.Joins from α to) = false
+copies (effect.Makes k α) = false
+copies (effect.Drops α over) = false
+copies (effect.Rewrites over text) = true
+copies (effect.Tells over) = true
+copies (effect.Lists at) = true
 
 -- the command of x, from the seat, was decided, carried out and answered in the store
 pub record CarriedOut (s t : Stored) (next after seat x : ℕ) (c : Command) (answer : Reply) : Type 0 where

@@ -5,18 +5,17 @@ ghost use Rattle.tg_rights.specs.Membership.{Contains};
 ghost use Rattle.tg_rights.specs.declared.limits.TheConstants.{SEATS};
 ghost use Rattle.tg_rights.specs.declared.outcome.Reply.TheVariants as reply;
 ghost use Rattle.tg_graph.specs.Protection.{label};
-ghost use Rattle.tg_graph.specs.Rules.{edges_of, text_of};
-ghost use Rattle.tg_graph.specs.Terms.{text_in};
+ghost use Rattle.tg_graph.specs.Rules.{Allowed, edges_of, text_of};
+ghost use Rattle.tg_graph.specs.Terms.{terms, text_in};
 ghost use Rattle.tg_collect.specs.Stored.{held};
 ghost use Rattle.tg_collect.specs.Views.{InSet, IsEdgeIn, IsHeldIn, place, serial_at};
 ghost use Rattle.tg_collect.specs.Sessions.{pending_of, RightsRemoved, TextReplaced};
 ghost use Rattle.tg_collect.specs.StoreRuns.{Acted};
-ghost use Rattle.tg_vault.specs.CarriedOut.{Joined, Made, CarriedOut};
+ghost use Rattle.tg_vault.specs.CarriedOut.{Joined, Made, CarriedOut, copies};
 
 use std::alloc::{AllocError, Global};
-use tg_collect::Store;
+use tg_collect::{HeapFull, Store};
 use tg_graph::{Effect, LAST_SERIAL, Spot, decide, effect_of, into_text};
-use tg_heap::HeapFull;
 use tg_rights::{Command, EdgeList, Kind, Reply, Rights, Text, Which};
 
 /// The edge gains the rights, and its target is the seat's; full where it is new and no cell is free.
@@ -117,7 +116,8 @@ fn list(store: &Store, alloc: Global, of: u32) -> Result<Reply, AllocError>
 }
 
 /// Decides the command of the principal, carries it out where the rules allow it, unless something that it needs is used
-/// up, and answers it. `AllocError` leaves all as it was.
+/// up, and answers it. `AllocError` leaves all as it was; it comes only of an allowed command for which a text or a list is
+/// copied, so never of a denial.
 pub fn answer(
     store: &mut Store,
     next: &mut u64,
@@ -132,6 +132,8 @@ pub fn answer(
     requires unheld { IsHeldIn store.old next.old → ⊥ }
     requires unparked { InSet store.old.parked next.old → ⊥ }
     ensures carried { IfOk result (λ answer. CarriedOut store.old store.new next.old next.new seat actor command.now answer) }
+    ensures needed { OnErr result (Allowed (held store.old next.old) actor command.now) }
+    ensures memory { OnErr result (copies (terms actor command.now).does ≡ true) }
     ensures unchanged { OnErr result (store.new ≡ store.old) }
     ensures same { OnErr result (next.new ≡ next.old) }
 {

@@ -1,4 +1,4 @@
-use Rattle.std.proofs.Common.{ℕ, List, OnOk, ap, subst, sym, ◌∙◌}
+use Rattle.std.proofs.Common.{ℕ, List, Result, Ok, Err, OnOk, OnErr, ap, subst, sym, ◌∙◌}
 use Rattle.std.proofs.lemmas.Result.{IfOk-weaker}
 use Rattle.tg_rights.specs.declared.outcome.Reply.TheVariants as reply
 use Rattle.tg_graph.specs.Terms as effect
@@ -92,3 +92,17 @@ returns-in-Lists-clause-carried c =
     (λ answer is. carried_by c.args.store.now c.args.store.now c.args.next.now c.args.seat c.args.next.now c.args.actor c.args.command.now (effect.Lists c.in-Lists.at) answer c.in-Lists.ensures allowed
     (list_done c.args.store.now c.args.next.now c.args.seat c.args.actor c.in-Lists.at answer (is c.args.next.now ∙ ap (λ v. reply.Edges (edges_of (held c.args.store.now c.args.next.now) v)) at)))
     c.list.ensures
+
+-- what is true whatever comes of it
+whatever : {A E P : Type 0} (r : Result A E) → P → OnErr r P
+whatever (Ok x) p = tt
+whatever (Err e) p = p
+
+pub returns-in-Rewrites-clause-needed : goal.returns-in-Rewrites-clause-needed
+returns-in-Rewrites-clause-needed c = whatever c.replace.result (denial_next c.args.store.now c.args.next.now 0 c.args.actor c.args.command.now ∙ c.in-Ok.ensures.allowed)
+
+pub returns-in-Tells-clause-needed : goal.returns-in-Tells-clause-needed
+returns-in-Tells-clause-needed c = whatever c.tell.result (denial_next c.args.store.now c.args.next.now 0 c.args.actor c.args.command.now ∙ c.in-Ok.ensures.allowed)
+
+pub returns-in-Lists-clause-needed : goal.returns-in-Lists-clause-needed
+returns-in-Lists-clause-needed c = whatever c.list.result (denial_next c.args.store.now c.args.next.now 0 c.args.actor c.args.command.now ∙ c.in-Ok.ensures.allowed)
