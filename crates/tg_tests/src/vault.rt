@@ -832,11 +832,13 @@ const GRANTED: Case = Case {
     lines: &[],
 };
 
-/// Alice's first look, with a refused hello, bye and shade between.
+/// Alice's first look and first document, with a refused hello, bye, command and shade between.
 const FIRST_LOOK: &[Step] = &[
     Step::Hello(64, "alice"),
     Step::Hello(0, "alice"),
     Step::Bye(1),
+    Step::Ask(0, Ask::Look(1)),
+    Step::Ask(0, Ask::Document("r")),
     Step::Ask(0, Ask::Look(1)),
     Step::Shade(1),
     Step::Shade(0),
@@ -846,24 +848,26 @@ const FIRST_LOOK: &[Step] = &[
 /// Whether these are the answers of that run.
 fn are_first_look(answers: &[Answer]) -> bool {
     match answers {
-        [refused, taken, left, asked, empty, shaded, noted] => {
+        [refused, taken, left, asked, made, busy, empty, shaded, noted] => {
             matches!(refused, Answer::Seat(SeatFault::NoSeat))
                 && matches!(taken, Answer::Hello(1))
                 && matches!(left, Answer::Seat(SeatFault::NoActor))
                 && matches!(asked, Answer::Asked(0, Reply::Edges(edges))
                     if are_edges(edges.get(), &[(2, "g")]))
+                && matches!(made, Answer::Asked(1, Reply::Created(3)))
+                && matches!(busy, Answer::Ask(AskFault::Busy))
                 && matches!(empty, Answer::Seat(SeatFault::NoActor))
-                && matches!(shaded, Answer::Shaded(None))
+                && matches!(shaded, Answer::Shaded(Some(3)))
                 && matches!(noted, Answer::Noted(note) if note.freed == 0 && !note.ended)
         }
         _ => false,
     }
 }
 
-/// Whether the vault answers those events so, with one entry.
+/// Whether the vault answers those events so, with two entries.
 fn answers_first_look(vault: Vault, events: &[Event]) -> bool {
     let ran = vault.run(events);
-    are_first_look(&ran.answers) && ran.vault.count() == 1
+    are_first_look(&ran.answers) && ran.vault.count() == 2
 }
 
 /// Whether a new vault does.

@@ -305,8 +305,8 @@ fn count_again(rt: &(impl Abort + Print), alloc: Global) -> Result<u64, AllocErr
     Ok(run_again(rt, vault, &events).count())
 }
 
-/// Where a run has no room for an answer it ends before that event, and where it has none for a command it goes on as though
-/// that were not asked. What was not carried out is answered in a further run.
+/// A run that has no room for its answers carries out no event, and one that has none for a command goes on as though that were
+/// not asked. What was not carried out is answered in a further run.
 #[test]
 fn growth_refused_in_a_run(rt: HostRuntime) -> Result<(), AllocError> {
     assert!(rt; count_again(&rt, rt.alloc())? == 1);

@@ -1,5 +1,5 @@
 //! The vault: the seats, the store, and the history of the commands.
-ghost use Rattle.std.specs.Prelude.{◌≡◌, ◌==◌, ◌<◌, ◌≤◌, ◌+◌, ◌∷◌, [], length, slice_get, replicate, Some, None, IfOk, IfErr, IfSome, IfNone, OnErr, MatchResult, take};
+ghost use Rattle.std.specs.Prelude.{◌≡◌, ◌==◌, ◌<◌, ◌≤◌, ◌+◌, ◌⊎◌, ◌∷◌, [], length, slice_get, replicate, Some, None, IfOk, IfErr, IfSome, IfNone, OnErr, MatchResult, take};
 ghost use Rattle.std.specs.List.{position};
 ghost use Rattle.std.specs.Cmp.Lexicographic.{pointwise};
 ghost use Rattle.tg_rights.specs.declared.limits.TheConstants.{MAX_PRINCIPALS, SEATS};
@@ -297,7 +297,7 @@ impl Vault {
     }
 
     /// Judges the command of the seat's principal, carries it out where it is allowed, and enters it in the history with
-    /// its outcome. StepOf the entry's number, from 0, and the reply. An allowed take or grant makes `over` the seat's
+    /// its outcome. Returns the entry's number, from 0, and the reply. An allowed take or grant makes `over` the seat's
     /// pending target, also where the edge was there; an allowed create makes the new vertex so.
     ///
     /// Faults, in this order, after which all is as before, nothing is entered and the command is dropped: `NoSeat` for a
@@ -458,9 +458,9 @@ impl Vault {
         }
     }
 
-    /// Carries out the events in order, each one atomic step. There are fewer answers than events only where room for an
-    /// answer was refused; the events answered are then those carried out. A refused copy of a command is answered
-    /// `Ask(OutOfMemory)`, after the seat's faults.
+    /// Carries out the events in order, each one atomic step, and answers each. Room for all answers is taken first: if it is
+    /// refused, no event is carried out and there is no answer. A refused copy of a command is answered `Ask(OutOfMemory)`,
+    /// after the seat's faults.
     ///
     /// The answers are a run of the world that the history gives, and the entries added are those of the `Asked` answers.
     /// Each command is carried out exactly when the take-grant rules (Lipton and Snyder 1977; Bishop) allow it in the graph
@@ -474,7 +474,7 @@ impl Vault {
         ensures course { Course self (take (length result.answers.items) events.now) result.answers.items result.vault }
         ensures added { AddsAsked self result.answers.items result.vault }
         ensures bounded { IsBounded self result.answers.items }
-        ensures few { length result.answers.items ≤ length events.now }
+        ensures all_or_none { (length result.answers.items ≡ length events.now) ⊎ (result.answers.items ≡ []) }
         ensures keeps { Keeps self result.vault }
     {
         self.soundness();
@@ -485,16 +485,19 @@ impl Vault {
     /// The run, event by event.
     fn go(self, events: &[Event]) -> Ran
         ensures course { Course self (take (length result.answers.items) events.now) result.answers.items result.vault }
-        ensures few { length result.answers.items ≤ length events.now }
+        ensures all_or_none { (length result.answers.items ≡ length events.now) ⊎ (result.answers.items ≡ []) }
         ensures keeps { Keeps self result.vault }
     {
         let mut vault = self;
         vault.soundness();
-        let mut answers = Vec::new(vault.alloc);
+        let alloc = vault.alloc;
+        let Ok(mut answers) = Vec::with_capacity(alloc, events.len()) else {
+            return Ran {
+                vault,
+                answers: Vec::new(alloc),
+            };
+        };
         for event in events {
-            if answers.try_reserve(1).is_err() {
-                break;
-            }
             let answer = vault.step(event);
             vault.soundness();
             let Ok(()) = answers.push(answer) else {
