@@ -2,14 +2,15 @@
 
    FAULT says which: `memory`, `thread`, `read` or `write`. The calls of that kind count from 1, and those from FIRST to LAST go wrong:
    memory and threads are refused, and a read or a write moves MOVES bytes, or fails with EIO where that is negative. For each
-   one byte is written to the descriptor TOLD. No read or write moves more than MOST bytes, where MOST is given.
+   one byte is written to the descriptor TOLD. No read or write moves more than MOST bytes, where MOST is given. Where WHOSE is given,
+   only calls of the program's first thread count (`first`), or only those of its other threads (`others`).
 
    It is for Linux on x86-64, and includes nothing, so that a compiler without the C library's headers will do. */
 
 typedef __SIZE_TYPE__ size;
 typedef __PTRDIFF_TYPE__ length;
 
-enum { READ = 0, WRITE = 1, SEND_TO = 44, RECEIVE_FROM = 45 };
+enum { READ = 0, WRITE = 1, GET_PROCESS = 39, SEND_TO = 44, RECEIVE_FROM = 45, GET_THREAD = 186 };
 enum { INPUT_OUTPUT = 5, TRY_AGAIN = 11, NO_MEMORY = 12 };
 
 extern void *__libc_malloc(size);
@@ -21,7 +22,7 @@ extern long strtol(const char *, char **, int);
 extern long syscall(long, ...);
 extern void *dlsym(void *, const char *);
 
-static char kind;
+static char kind, whose;
 static long made, first, last, moves, most, told;
 
 static long number(const char *name)
@@ -32,15 +33,21 @@ static long number(const char *name)
 
 __attribute__((constructor)) static void begin(void)
 {
-    const char *fault = getenv("FAULT");
+    const char *fault = getenv("FAULT"), *threads = getenv("WHOSE");
     first = number("FIRST"), last = number("LAST"), moves = number("MOVES"), most = number("MOST"), told = number("TOLD");
-    kind = fault ? *fault : 0;
+    kind = fault ? *fault : 0, whose = threads ? *threads : 0;
+}
+
+/* Whether calls of this thread count. */
+static int counts(void)
+{
+    return !whose || whose == (syscall(GET_THREAD) == syscall(GET_PROCESS) ? 'f' : 'o');
 }
 
 /* Whether this call, of the kind with this first letter, goes wrong. */
 static int goes_wrong(char letter)
 {
-    if (letter != kind)
+    if (letter != kind || !counts())
         return 0;
     long call = __sync_add_and_fetch(&made, 1);
     if (call < first || last < call)

@@ -22,13 +22,15 @@ WITHOUT_END = 1 << 62
 
 
 class Fault(NamedTuple):
-    """What goes wrong: the calls of a kind from the first to the last; the bytes that they move where they read or write; and the most that any does."""
+    """What goes wrong: the calls of a kind from the first to the last; the bytes that they move where they read or write; the most that any does; and whose
+    calls count, those of the program's first thread, those of its others, or of all."""
 
     kind: str = ""
     first: int = 0
     last: int = 0
     moves: int = FAILS
     most: int = 0
+    whose: str = ""
 
 
 class Ran(NamedTuple):
@@ -62,7 +64,7 @@ def at_fault(fault):
     with tempfile.TemporaryFile() as told:
         numbers = {"FIRST": fault.first, "LAST": fault.last, "MOVES": fault.moves, "MOST": fault.most, "TOLD": told.fileno()}
         given = {name: str(number) for name, number in numbers.items()}
-        yield {**os.environ, **given, "LD_PRELOAD": str(library()), "FAULT": fault.kind}, told
+        yield {**os.environ, **given, "LD_PRELOAD": str(library()), "FAULT": fault.kind, "WHOSE": fault.whose}, told
 
 
 @contextlib.contextmanager
