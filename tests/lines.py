@@ -186,6 +186,7 @@ def ends():
     """Where the lines end, and how many they are."""
     yield "no-line-at-all", ["run"], b"", joined(NOT_JSON), 1
     yield "an-empty-line-alone", ["run"], b"\n", joined(NOT_JSON), 1
+    yield after_hello("error-after-many-lines", *[(LOOK, SEEN)] * 1_001, (b"", NOT_JSON))
     yield "last-line-without-a-line-feed", ["run"], joined(CONFIG, HELLO) + LOOK, joined(WELCOME, SEEN), 0
     yield "configuration-without-a-line-feed", ["run"], CONFIG, b"", 0
     yield "line-feed-at-the-end-begins-no-line", ["run"], joined(CONFIG, HELLO), joined(WELCOME), 0
@@ -465,6 +466,12 @@ def verdicts():
     yield audited("step-not-distinct", b'{"cause":"not distinct","denied":"write","step":0,"verdict":"step denied"}', two, GOAL, itself)
     lacks = step_of("take", rights='"rwg"', over="3", **{"from": "2"})
     yield audited("step-lacks-two", b'{"denied":"take","from":2,"missing":"wg","step":0,"to":3,"verdict":"step denied"}', THREE, GOAL, lacks, itself)
+    # The verdict on many steps is the one on few, and so is the status.
+    looks = [step_of("look", at="1")] * 1_001
+    yield audited("goal-missing-after-many-steps", b'{"missing":"r","verdict":"goal missing"}', two, GOAL, *looks)
+    yield audited("step-denied-after-many-steps", b'{"denied":"look","from":1,"missing":"t","step":1001,"to":9,"verdict":"step denied"}', two, GOAL, *looks, step_of("look", at="9"))
+    yield audited("actor-no-subject-after-many-steps", stopped(1_001, b"actor not subject"), two, GOAL, *looks, step_of("look", actor="9", at="9"))
+    yield audited("line-refused-after-many-steps", NOT_JSON, two, GOAL, *looks, b"")
     person = b'{"edges":[[1,"r",2]],"principals":["alice","bob"]}'
     read = step_of("read", over="2")
     yield audited("step-not-document", b'{"cause":"not document","denied":"read","step":1,"verdict":"step denied","vertex":2}', person, GOAL, create, read)

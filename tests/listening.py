@@ -67,9 +67,9 @@ def started(program, given, *words):
     return ran.stdout, ran.returncode
 
 
-def no_listener(address):
+def no_listener(address, connections="1"):
     """An address that is not listened on: it says so, with status 1."""
-    return lambda program: started(program, CONFIG, "--listen", address, "--connections", "1") == (LISTEN, 1)
+    return lambda program: started(program, CONFIG, "--listen", address, "--connections", connections) == (LISTEN, 1)
 
 
 def address_in_use(program):
@@ -172,6 +172,7 @@ def tests_of_listening():
     others = ["0.0.0.0:0", "[::]:0", "[::ffff:127.0.0.1]:0", "192.0.2.1:0"]
     for address in [*others, "nonsense", "127.0.0.1", "localhost:0", "127.0.0.1:65536", ":0", ""]:
         yield "no-listener-on-%s" % (address or "nothing"), no_listener(address)
+    yield "no-listener-for-a-million-connections", no_listener("nonsense", "1000000")
     yield "no-configuration", no_vault(b"", NOT_JSON)
     yield "configuration-that-is-no-json", no_vault(b'{"principals":["alice"]\n', NOT_JSON)
     yield "configuration-that-is-too-long", no_vault(b" " * 16_385, b'{"error":"line too long"}\n')
