@@ -25,13 +25,15 @@ ROOT = Path(__file__).resolve().parent.parent
 SOON = 1.0
 
 ROOMY = b'{"edges":[[1,"t",2]],"principals":["alice","bob"]}\n'
-# Room for one document.
+# Room for one document, by slots and by cells.
 NARROW = b'{"edges":[[1,"rt",2]],"principals":["alice","bob"],"slots":3}\n'
+FEW_CELLS = b'{"cells":2,"edges":[[1,"t",2]],"principals":["alice","bob"]}\n'
 HELLO = b'{"name":"alice","op":"hello"}\n'
 WELCOME = b'{"ok":"hello","vertex":1}\n'
 BYE = b'{"op":"bye"}\n'
 PARTED = b'{"ok":"bye"}\n'
 CREATE = b'{"kind":"document","op":"create","rights":"rw"}\n'
+MADE = b'{"ok":"created","vertex":3}\n'
 LOOK = b'{"at":1,"op":"look"}\n'
 SEEN = b'{"edges":[[2,"t"]],"ok":"edges"}\n'
 
@@ -493,6 +495,10 @@ def tests_of_talks():
     yield "cut-after-each-byte", cut_after_each_byte
     yield "dropped-after-each-byte", dropped_after_each_byte
     yield "slots-come-back", slots_come_back
+    # What was refused as full stands in the history, with nothing made, and the server settles.
+    for which, config in [("slots", NARROW), ("cells", FEW_CELLS)]:
+        full = b'{"full":"%s"}\n' % which.encode()
+        yield "create-that-is-full-for-" + which, one_talk(config, HELLO + CREATE * 2 + BYE, WELCOME + MADE + full + PARTED)
 
 
 def tests_of_clients_at_once():
@@ -501,6 +507,7 @@ def tests_of_clients_at_once():
     yield "more-clients-than-workers", more_clients_than_workers
     yield "four-workers-where-no-number-is-given", waits_for_a_seat(4)
     yield "one-worker", waits_for_a_seat(1, "--workers", "1")
+    yield "most-workers-each-with-a-client", waits_for_a_seat(63, "--workers", "63")
     yield "beside-one-that-waits-in-a-line", beside(waits_in_a_line, 1)
     yield "beside-one-that-never-reads", beside(never_reads, 1)
     yield "beside-one-that-leaves-in-a-line", beside(leaves_in_a_line, 20)
