@@ -52,6 +52,7 @@ pub fn buffered<W: Write + Drop>(
 ) -> Result<Watched<BufWriter<W>>, AllocError>
     ensures unfailed { IfOk result (λ writer. has_failed writer ≡ false) }
     ensures paid { IfOk result (λ writer. owed writer ≡ []) }
+    ensures contents { IfOk result (λ writer. promised W.contents writer ≡ W.contents device) }
 {
     match BufWriter::with_capacity(alloc, HELD_BACK, device) {
         Ok(writer) => Ok(Watched::new(writer)),
