@@ -1,12 +1,12 @@
 //! A talk: a client's lines, answered over one session.
 
-ghost use Rattle.std.specs.Prelude.{◌≡◌, ◌≢◌, ◌↔◌, ◌≤◌, ◌+◌, [], true, false, IfSome, Some, None};
-ghost use Rattle.std.specs.Io.KnownBytes.{prepend_known};
+ghost use Rattle.std.specs.Prelude.{◌≡◌, ◌≢◌, ◌↔◌, ◌<◌, ◌≤◌, ◌+◌, [], true, false, IfSome, IsNone, Some, None};
+ghost use Rattle.std.specs.Io.KnownBytes.{Keeps, prepend_known};
 ghost use Rattle.tg_talk.specs.Devices.{Sends, device_of, has_failed, owed, promised};
 ghost use Rattle.tg_talk.specs.Endings.{EndsOnce};
 ghost use Rattle.tg_talk.specs.Talks.{HasTalked};
 ghost use Rattle.tg_talk.specs.Talking.{Answered, Leaves, Turned, fault_in, goes_on, sitting_in, text_of};
-ghost use Rattle.tg_talk.specs.declared.fault.TalkFault.TheVariants.{Reading, Writing};
+ghost use Rattle.tg_talk.specs.declared.fault.TalkFault.TheVariants.{OutOfMemory, Reading, Writing};
 ghost use Rattle.tg_talk.specs.declared.line_buffer.TheConstants.{MOST_LINES};
 
 use crate::fault::TalkFault;
@@ -65,6 +65,9 @@ pub fn talk<L: Ledger, D: Read, W: Write + Drop, R: Wait + Clock, G: Gate>(
     ensures writing { (has_failed writer.new ≡ true) ↔ (result.fault ≡ Some Writing) }
     ensures few { result.lines ≤ 1000001 }
     ensures seat { IfSome result.ended (λ e. e.log.seat ≡ seat) }
+    // Where the talk's buffer is refused. A reply that finds no memory ends it behind a line.
+    ensures unread { result.fault ≡ Some OutOfMemory → result.lines ≡ 0
+        → IsNone result.ended × Keeps (D.remaining (device_of reader.old)) (D.remaining (device_of reader.new)) }
     ensures talked { IfSome (D.remaining (device_of reader.old))
         (HasTalked result.lines result.fault result.ended (promised W.contents writer.old) (promised W.contents writer.new) (has_failed writer.new)) }
 {
@@ -126,6 +129,7 @@ fn take_turn<'s, L: Ledger, D: Read, W: Write + Drop, R: Wait + Clock, G: Gate>(
     ensures writes { goes_on result ≡ true → has_failed writer.new ≡ false }
     ensures reading { (has_failed reader.new ≡ true) ↔ (fault_in result ≡ Some Reading) }
     ensures writing { (has_failed writer.new ≡ true) ↔ (fault_in result ≡ Some Writing) }
+    ensures memory { fault_in result ≡ Some OutOfMemory → 0 < input.new.taken }
     ensures paid { goes_on result ≡ false → has_failed writer.new ≡ false → owed writer.new ≡ [] }
     ensures seat { IfSome (sitting_in result) (λ s. s.seat ≡ seat) }
     ensures turned { IfSome (prepend_known input.old.left (D.remaining (device_of reader.old)))
