@@ -1,5 +1,5 @@
 -- What a line of a talk is answered.
-use Rattle.std.proofs.Common.{◌≡◌, ℕ, List, [], ◌∷◌, Option, None, Some, Ok, Err, inl, inr, refl, sym, ap, ◌∙◌, append-nil, true, false}
+use Rattle.std.proofs.Common.{◌≡◌, ◌≢◌, ℕ, List, [], ◌∷◌, Option, None, Some, Ok, Err, inl, inr, refl, sym, ap, ◌∙◌, append-nil, true, false}
 use Rattle.tg_rights.specs.declared.command.Command.{Command}
 use Rattle.tg_vault.specs.declared.event.Event.TheVariants as event
 use Rattle.tg_vault.specs.declared.event.Answer.TheVariants as answer
@@ -69,15 +69,15 @@ pub heard_bye : (s : Sitting) (line : List ℕ) (t : Text) (seat : ℕ) → line
 heard_bye s line t seat read tells =
     record { log = []; grown = sym (append-nil s.log); says = record { actor = s.actor; seat = seat; sits_there = refl; read = read; stays = refl; none = refl; told = tells } }
 
-told_fault : (actor seat : ℕ) (line : List ℕ) (command : Command) (f : AskFault) (bytes : List ℕ) → line_of line ≡ Ok (Act (event.Ask seat command)) → Tells (answer.Ask f) bytes
+told_fault : (actor seat : ℕ) (line : List ℕ) (command : Command) (f : AskFault) (bytes : List ℕ) → f ≢ ask_fault.NoSeat → line_of line ≡ Ok (Act (event.Ask seat command)) → Tells (answer.Ask f) bytes
     → LineTold (Some actor) line (Some actor) [] bytes
-told_fault actor seat line command f bytes read (inl told) = not_entered actor seat command f refl read refl refl told
-told_fault actor seat line command f bytes read (inr told) = no_memory refl refl told
+told_fault actor seat line command f bytes has_seat read (inl told) = not_entered actor seat command f has_seat refl read refl refl told
+told_fault actor seat line command f bytes has_seat read (inr told) = no_memory refl refl told
 
 pub heard_ask : (s new : Sitting) (line : List ℕ) (d : Said) (seat : ℕ) (command : Command) → line_of line ≡ Ok (Act (event.Ask seat command)) → Asks s command d new → Hears s line d new
 heard_ask s new line (said.Answer t) seat command read (inl (reply, grown, told)) =
     rw grown (record { log = record { actor = s.actor; command = command; reply = reply } ∷ []; grown = refl; says = exchanged s.actor seat command reply refl read refl refl told })
-heard_ask s new line (said.Answer t) seat command read (inr (f, same, tells)) = rw same (heard_quiet s line t (told_fault s.actor seat line command f (text_of t) read tells))
+heard_ask s new line (said.Answer t) seat command read (inr (f, has_seat, same, tells)) = rw same (heard_quiet s line t (told_fault s.actor seat line command f (text_of t) has_seat read tells))
 heard_ask s new line (said.Bye t) seat command read h = absurd h
 heard_ask s new line said.Nothing seat command read (reply, grown) =
     rw grown (record {

@@ -1,10 +1,11 @@
 -- one turn of a talk: a line is taken and answered
-use Rattle.std.specs.Prelude.{◌≡◌, ℕ, ◌+◌, ◌<◌, ◌≤◌, List, [], ◌∷◌, ◌++◌, length, Bool, true, false, Option, Some, None, option_map, ◌⊎◌}
+use Rattle.std.specs.Prelude.{◌≡◌, ◌≢◌, ℕ, ◌+◌, ◌<◌, ◌≤◌, List, [], ◌∷◌, ◌++◌, length, Bool, true, false, Option, Some, None, option_map, ◌⊎◌}
 use Rattle.tg_rights.specs.declared.command.Command.{Command}
 use Rattle.tg_rights.specs.declared.outcome.Reply.{Reply}
 use Rattle.tg_vault.specs.declared.event.Answer.{Answer}
 use Rattle.tg_vault.specs.declared.event.Answer.TheVariants as answer
 use Rattle.tg_vault.specs.declared.event.AskFault.{AskFault}
+use Rattle.tg_vault.specs.declared.event.AskFault.TheVariants as ask_fault
 use Rattle.tg_vault.specs.declared.event.SeatFault.{SeatFault}
 use Rattle.tg_vault.specs.declared.event.Event.TheVariants as event
 use Rattle.tg_wire.specs.declared.line.Line.{Line}
@@ -67,7 +68,7 @@ Seats (Some s) text seat = (s.seat ≡ seat) × (s.log ≡ []) × Tells (answer.
 -- a command was asked: what is to be said, and the session then
 abbrev pub Asks : Sitting → Command → Said → Sitting → Type 0
 Asks old command (said.Answer t) new =
-    ((reply : Reply) × (new ≡ with_exchange old command reply) × (text_of t ≡ reply_line reply)) ⊎ ((f : AskFault) × (new ≡ old) × Tells (answer.Ask f) (text_of t))
+    ((reply : Reply) × (new ≡ with_exchange old command reply) × (text_of t ≡ reply_line reply)) ⊎ ((f : AskFault) × (f ≢ ask_fault.NoSeat) × (new ≡ old) × Tells (answer.Ask f) (text_of t))
 Asks old command (said.Bye t) new = ⊥
 Asks old command said.Nothing new = (reply : Reply) × (new ≡ with_exchange old command reply)
 

@@ -1,5 +1,5 @@
 -- what a talk answers to the lines of its input
-use Rattle.std.specs.Prelude.{◌≡◌, ℕ, ◌+◌, ◌<◌, ◌≤◌, List, [], ◌∷◌, ◌++◌, length, Bool, true, false, Option, Some, None, option_map, ◌⊎◌, Ok, Err}
+use Rattle.std.specs.Prelude.{◌≡◌, ◌≢◌, ℕ, ◌+◌, ◌<◌, ◌≤◌, List, [], ◌∷◌, ◌++◌, length, Bool, true, false, Option, Some, None, option_map, ◌⊎◌, Ok, Err}
 use Rattle.tg_rights.specs.declared.command.Command.{Command}
 use Rattle.tg_rights.specs.declared.outcome.Reply.{Reply}
 use Rattle.tg_vault.specs.declared.event.Event.TheVariants as event
@@ -55,7 +55,8 @@ pub data LineTold (sits : Option ℕ) (line : List ℕ) (then : Option ℕ) (log
   not_for_a_session : (actor : ℕ) (asked : Line) → sits ≡ Some actor → line_of line ≡ Ok asked → is_for_no_session asked ≡ true → then ≡ sits → log ≡ [] → text ≡ not_for_a_session_line → LineTold sits line then log text
   exchanged : (actor seat : ℕ) (command : Command) (reply : Reply) → sits ≡ Some actor → line_of line ≡ Ok (Act (event.Ask seat command)) → then ≡ sits
       → log ≡ record { actor = actor; command = command; reply = reply } ∷ [] → text ≡ reply_line reply → LineTold sits line then log text
-  not_entered : (actor seat : ℕ) (command : Command) (f : AskFault) → sits ≡ Some actor → line_of line ≡ Ok (Act (event.Ask seat command)) → then ≡ sits → log ≡ [] → text ≡ answer_line (answer.Ask f) → LineTold sits line then log text
+  not_entered : (actor seat : ℕ) (command : Command) (f : AskFault) → f ≢ ask_fault.NoSeat → sits ≡ Some actor → line_of line ≡ Ok (Act (event.Ask seat command)) → then ≡ sits → log ≡ []
+      → text ≡ answer_line (answer.Ask f) → LineTold sits line then log text
   -- no memory to read the line, or for the line of its answer
   no_memory : then ≡ sits → log ≡ [] → text ≡ fault_line wire.OutOfMemory → LineTold sits line then log text
   -- a hello has succeeded, and there was no memory to say so
