@@ -27,21 +27,38 @@ impl Read for FailingReader<'_> {
     }
 }
 
-/// Takes one byte a write, and none at the write behind `writes` others. For tests.
-#[derive(Drop)]
-pub struct FailingWriter {
-    /// The bytes that were taken.
-    pub bytes: Vec<u8>,
-    /// The writes that succeed.
-    pub writes: usize,
+/// How a writer fails.
+#[derive(Clone, Copy, Debug, PartialEq, Eq)]
+pub enum Failure {
+    /// A write answers an error.
+    Error,
+    /// A write takes no byte.
+    TakesNone,
 }
 
-impl Write for FailingWriter {
-    ghost contents = { λ w. Some w.bytes.items };
+/// Takes one byte a write, and fails at the writes behind `writes` others. For tests.
+#[derive(Drop)]
+pub struct FailingWriter<'a> {
+    /// The bytes that were taken, which a test can look at afterwards.
+    pub bytes: &'a mut Vec<u8>,
+    /// The writes that succeed.
+    pub writes: usize,
+    /// How the others fail.
+    pub how: Failure,
+}
+
+impl Write for FailingWriter<'_> {
+    ghost contents = { λ w. Some w.bytes.now.items };
 
     fn write(&mut self, buf: &[u8]) -> io::Result<usize> {
-        if self.writes == 0 || buf.is_empty() {
+        if buf.is_empty() {
             return Ok(0);
+        }
+        if self.writes == 0 {
+            return match self.how {
+                Failure::Error => Err(io::Error::from(io::ErrorKind::BrokenPipe)),
+                Failure::TakesNone => Ok(0),
+            };
         }
         self.writes -= 1;
         self.bytes.write(&buf[..1])

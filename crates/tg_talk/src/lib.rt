@@ -18,7 +18,7 @@ mod tests;
 mod watched;
 mod write_line;
 
-pub use failing::{FailingReader, FailingWriter};
+pub use failing::{FailingReader, FailingWriter, Failure};
 pub use fault::TalkFault;
 pub use input_lines::{InputLines, Next};
 pub use line_buffer::{Found, LineBuffer, MOST_LINES};

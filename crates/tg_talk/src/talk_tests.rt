@@ -3,7 +3,8 @@ ghost use Rattle.std.specs.Prelude.{◌≡◌, [], IfOk, IfSome, false};
 ghost use Rattle.tg_share.specs.declared.locked.TheConstants.{PARTS};
 ghost use Rattle.tg_talk.specs.Devices.{has_failed, owed};
 
-use crate::{FailingReader, FailingWriter, TalkFault, Talked, Watched, buffered, talk};
+use crate::tests::FAILURES;
+use crate::{FailingReader, FailingWriter, Failure, TalkFault, Talked, Watched, buffered, talk};
 use std::alloc::{AllocError, Global};
 use std::io::{BufWriter, Read, Write};
 use std::marker::Brand;
@@ -123,46 +124,68 @@ fn talk_over_memory(rt: HostRuntime) -> Result<(), AllocError> {
 }
 
 /// A talk over the lines, with a reader and a writer of single bytes, the former for so many reads and the latter for so
-/// many writes.
+/// many writes. What is written is put behind `out`.
 fn talk_by_bytes<R: Wait + Clock>(
     rt: &R,
     alloc: Global,
     reads: usize,
     writes: usize,
+    how: Failure,
+    out: &mut Vec<u8>,
 ) -> Result<Came, AllocError> {
     let bytes = LINES;
     let failing = FailingWriter {
-        bytes: Vec::new(alloc),
+        bytes: out,
         writes,
+        how,
     };
     talk_over(rt, alloc, FailingReader { bytes, reads }, failing)
 }
 
-/// Whether the talk ended by this fault, and its logs agree with the history.
-fn ended_by(came: Came, fault: TalkFault) -> bool {
-    came.fault == Some(fault) && came.entries.is_some()
+/// Whether the talk ended by this fault, its logs agree with the history, and the answers begin with what was written.
+fn ended_by(came: Came, fault: TalkFault, out: &[u8]) -> bool {
+    came.fault == Some(fault) && came.entries.is_some() && ANSWERS.starts_with(out)
 }
 
 #[test]
 fn each_read_of_a_talk_fails_in_turn(rt: HostRuntime) -> Result<(), AllocError> {
     for reads in 0..LINES.len() {
-        let came = talk_by_bytes(&rt, rt.alloc(), reads, 1000)?;
-        assert!(rt; ended_by(came, TalkFault::Reading));
+        let mut out = Vec::new(rt.alloc());
+        let came = talk_by_bytes(&rt, rt.alloc(), reads, 1000, Failure::Error, &mut out)?;
+        assert!(rt; ended_by(came, TalkFault::Reading, &out));
     }
     Ok(())
 }
 
+/// Whether each write fails in turn as it should, where writes fail so: all bytes before it are there.
+fn fails_at_each_write<R: Wait + Clock>(
+    rt: &R,
+    alloc: Global,
+    how: Failure,
+) -> Result<bool, AllocError> {
+    for writes in 0..ANSWERS.len() {
+        let mut out = Vec::new(alloc);
+        let came = talk_by_bytes(rt, alloc, 1000, writes, how, &mut out)?;
+        if !ended_by(came, TalkFault::Writing, &out) || out.len() != writes {
+            return Ok(false);
+        }
+    }
+    Ok(true)
+}
+
 #[test]
 fn each_write_of_a_talk_fails_in_turn(rt: HostRuntime) -> Result<(), AllocError> {
-    for writes in 0..ANSWERS.len() {
-        let came = talk_by_bytes(&rt, rt.alloc(), 1000, writes)?;
-        assert!(rt; ended_by(came, TalkFault::Writing));
+    for how in FAILURES {
+        assert!(rt; fails_at_each_write(&rt, rt.alloc(), *how)?);
     }
     Ok(())
 }
 
 #[test]
 fn a_talk_over_single_bytes_is_whole(rt: HostRuntime) -> Result<(), AllocError> {
-    assert_eq!(rt; talk_by_bytes(&rt, rt.alloc(), 1000, 1000)?, WHOLE);
+    let mut out = Vec::new(rt.alloc());
+    let came = talk_by_bytes(&rt, rt.alloc(), 1000, 1000, Failure::Error, &mut out)?;
+    assert!(rt; out.as_slice() == ANSWERS);
+    assert_eq!(rt; came, WHOLE);
     Ok(())
 }

@@ -1,9 +1,10 @@
 //! Lines over a reader that gives one byte a read and a writer that takes one byte a write, which fail at a given call.
 use crate::{
-    FailingReader, FailingWriter, Found, InputLines, LineBuffer, Next, Watched, send_line,
-    too_many_line,
+    FailingReader, FailingWriter, Failure, Found, InputLines, LineBuffer, Next, Watched, send_line,
 };
-use std::alloc::AllocError;
+use std::alloc::{AllocError, Global};
+
+pub(crate) const FAILURES: &[Failure] = &[Failure::Error, Failure::TakesNone];
 
 #[test]
 fn a_line_is_taken_byte_by_byte(rt: HostRuntime) -> Result<(), AllocError> {
@@ -42,24 +43,35 @@ fn no_bytes_are_the_end(rt: HostRuntime) -> Result<(), AllocError> {
     Ok(())
 }
 
-#[test]
-fn all_bytes_are_written_one_by_one(rt: HostRuntime) {
+/// What is written of a line through a writer of single bytes, for so many writes; and whether it has failed.
+fn sent(alloc: Global, how: Failure, writes: usize) -> (Vec<u8>, bool) {
+    let mut bytes = Vec::new(alloc);
     let mut writer = Watched::new(FailingWriter {
-        bytes: Vec::new(rt.alloc()),
-        writes: 100,
+        bytes: &mut bytes,
+        writes,
+        how,
     });
-    send_line(&mut writer, too_many_line());
-    assert!(rt; !writer.failed());
+    send_line(&mut writer, b"four\n");
+    let failed = writer.failed();
+    (bytes, failed)
 }
 
 #[test]
-fn a_write_that_takes_nothing_is_remembered(rt: HostRuntime) {
-    let mut writer = Watched::new(FailingWriter {
-        bytes: Vec::new(rt.alloc()),
-        writes: 3,
-    });
-    send_line(&mut writer, b"four\n");
-    assert!(rt; writer.failed());
+fn all_bytes_are_written_one_by_one(rt: HostRuntime) {
+    for how in FAILURES {
+        let (bytes, failed) = sent(rt.alloc(), *how, 5);
+        assert!(rt; bytes.as_slice() == b"four\n".as_slice());
+        assert!(rt; !failed);
+    }
+}
+
+#[test]
+fn a_failed_write_is_remembered(rt: HostRuntime) {
+    for how in FAILURES {
+        let (bytes, failed) = sent(rt.alloc(), *how, 3);
+        assert!(rt; bytes.as_slice() == b"fou".as_slice());
+        assert!(rt; failed);
+    }
 }
 
 #[test]
