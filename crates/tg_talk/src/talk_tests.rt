@@ -189,3 +189,41 @@ fn a_talk_over_single_bytes_is_whole(rt: HostRuntime) -> Result<(), AllocError> 
     assert_eq!(rt; came, WHOLE);
     Ok(())
 }
+
+/// A line that writes a text begins so, ends so, and is read back behind it.
+const WRITE: &[u8] =
+    b"{\"name\":\"alice\",\"op\":\"hello\"}\n{\"kind\":\"document\",\"op\":\"create\",\"rights\":\"rw\"}\n{\"op\":\"write\",\"over\":3,\"text\":\"";
+
+const READ: &[u8] = b"\"}\n{\"op\":\"read\",\"over\":3}\n";
+
+/// The answers begin and end so.
+const WRITTEN: &[u8] =
+    b"{\"ok\":\"hello\",\"vertex\":1}\n{\"ok\":\"created\",\"vertex\":3}\n{\"ok\":\"done\"}\n{\"ok\":\"text\",\"text\":\"";
+
+const WRITTEN_END: &[u8] = b"\"}\n";
+
+/// A text of the greatest length, 4,096 bytes, between these.
+fn round_a_text(alloc: Global, before: &[u8], behind: &[u8]) -> Result<Vec<u8>, AllocError> {
+    let mut bytes = Vec::from_slice(alloc, before)?;
+    for _ in 0..512u32 {
+        bytes.extend_from_slice(b"longtext")?;
+    }
+    bytes.extend_from_slice(behind)?;
+    Ok(bytes)
+}
+
+#[test]
+fn the_longest_text_is_written_and_read_back(rt: HostRuntime) -> Result<(), AllocError> {
+    let lines = round_a_text(rt.alloc(), WRITE, READ)?;
+    let answers = round_a_text(rt.alloc(), WRITTEN, WRITTEN_END)?;
+    let mut out = Vec::new(rt.alloc());
+    let came = talk_over(&rt, rt.alloc(), lines.as_slice(), &mut out)?;
+    assert!(rt; out.as_slice() == answers.as_slice());
+    let whole = Came {
+        lines: 4,
+        fault: None,
+        entries: Some(3),
+    };
+    assert_eq!(rt; came, whole);
+    Ok(())
+}
