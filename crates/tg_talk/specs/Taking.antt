@@ -1,8 +1,6 @@
 -- lines taken one after another
 use Rattle.std.specs.Prelude.{◌≡◌, ℕ, ◌<◌, List, [], ◌∷◌, length, Option, Some}
-use Rattle.tg_wire.specs.declared.line.TheConstants.{LONGEST_LINE}
 use Rattle.tg_talk.specs.InputLines.{lines_of}
-use Rattle.tg_talk.specs.declared.line_buffer.TheConstants.{MOST_LINES}
 use Rattle.tg_talk.specs.declared.input_lines.Next.{Next}
 use Rattle.tg_talk.specs.declared.input_lines.Next.TheVariants as next
 
@@ -26,10 +24,10 @@ pub record TakesLine (line xs : List ℕ) (left : Option (List ℕ)) : Type 0 wh
 -- what is next where n lines were taken and the bytes xs are to come, and what is left then; a line after the millionth is one too many,
 -- whatever its length
 abbrev pub Takes : Next → ℕ → List ℕ → Option (List ℕ) → List ℕ → Type 0
-Takes next.Line n line left xs = (n < MOST_LINES) × TakesLine line xs left
+Takes next.Line n line left xs = (n < 1000000) × TakesLine line xs left
 Takes next.End n line left xs = xs ≡ []
-Takes next.TooLong n line left xs = (n < MOST_LINES) × ((l : List ℕ) × HasLine xs l × (LONGEST_LINE < length l))
-Takes next.TooMany n line left xs = (n ≡ MOST_LINES) × ((l : List ℕ) × HasLine xs l)
+Takes next.TooLong n line left xs = (n < 1000000) × ((l : List ℕ) × HasLine xs l × (16384 < length l))
+Takes next.TooMany n line left xs = (n ≡ 1000000) × ((l : List ℕ) × HasLine xs l)
 Takes next.Failed n line left xs = Unit {0}
 
 -- how many lines more are taken
