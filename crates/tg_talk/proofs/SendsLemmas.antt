@@ -1,5 +1,5 @@
 -- What a writer holds after texts were sent.
-use Rattle.std.proofs.Common.{◌≡◌, ℕ, List, [], ◌++◌, Option, None, Some, Bool, false, refl, sym, ap, ◌∙◌, subst, append-nil}
+use Rattle.std.proofs.Common.{◌≡◌, ℕ, List, [], ◌++◌, Option, None, Some, Bool, true, false, true≢false, refl, sym, ap, ◌∙◌, subst, append_assoc, append-nil}
 use Rattle.std.specs.Io.KnownBytes.{Appends, Keeps}
 use Rattle.tg_talk.specs.Devices.{Sends, SendsLast}
 use Rattle.tg_talk.proofs.KnownBytesLemmas.{Appends-more, Appends-kept, Appends-keeps, Appends-none}
@@ -40,3 +40,23 @@ sends_kept old now new failed text kept sent =
 pub sends_paid : (old now new : Option (List ℕ)) (failed again : Bool) (text : List ℕ) → failed ≡ false → Sends old now failed text → Keeps now new → Sends old new again text
 sends_paid old now new failed again text ok sent kept =
     record { done = sent.done; rest = sent.rest; split = sent.split; appended = Appends-keeps old now new sent.done sent.appended kept; whole = λ _. sent.whole ok }
+
+-- bytes that were sent behind others, as one text
+pub sends_more : (old now new : Option (List ℕ)) (was failed : Bool) (before bytes : List ℕ) → was ≡ false → Sends old now was before → Sends now new failed bytes → Sends old new failed (before ++ bytes)
+sends_more old now new was failed before bytes ok first then = record {
+  done = before ++ then.done;
+  rest = then.rest;
+  split = ap (λ b. before ++ b) then.split ∙ sym (append_assoc before then.done then.rest);
+  appended = Appends-more old now new before then.done (sent_whole old now was before ok first) then.appended;
+  whole = then.whole;
+}
+
+-- bytes that were not sent any more, where the writer had failed
+pub sends_no_more : (old new : Option (List ℕ)) (failed : Bool) (before bytes : List ℕ) → failed ≡ true → Sends old new failed before → Sends old new failed (before ++ bytes)
+sends_no_more old new failed before bytes has sent = record {
+  done = sent.done;
+  rest = sent.rest ++ bytes;
+  split = ap (λ b. b ++ bytes) sent.split ∙ append_assoc sent.done sent.rest bytes;
+  appended = sent.appended;
+  whole = λ ok. absurd (true≢false (sym has ∙ ok));
+}

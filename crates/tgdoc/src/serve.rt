@@ -1,9 +1,10 @@
 //! A vault served to several clients at once, over connections.
-ghost use Rattle.std.specs.Prelude.{◌≡◌, ◌↔◌, [], false, true};
+ghost use Rattle.std.specs.Prelude.{◌≡◌, ◌↔◌, ℕ, List, [], ◌++◌, Option, false, true};
 ghost use Rattle.tg_share.specs.declared.locked.TheConstants.{PARTS};
 ghost use Rattle.tg_talk.specs.Devices.{Sends, device_of, has_failed};
-ghost use Rattle.tgdoc.specs.Serving.{Announces, IsServed, agreed_line};
+ghost use Rattle.tgdoc.specs.Serving.{Announces, IsFound, IsServed, differs_line, found_line, found_of};
 
+use itoa::Buffer;
 use std::alloc::{AllocError, Global};
 use std::io::Write;
 use std::marker::Brand;
@@ -29,7 +30,7 @@ pub struct Served {
 
 /// What settling found.
 #[derive(Clone, Copy, Debug, PartialEq, Eq)]
-enum Found {
+pub(crate) enum Found {
     Agreed,
     Differs { seat: u64, index: u64 },
     /// A growth or a thread was refused.
@@ -95,27 +96,51 @@ fn announce<W: Write>(writer: &mut Watched<W>, listener: &TcpListener) -> bool
 }
 
 /// Writes what settling found.
-fn tell<W: Write>(writer: &mut Watched<W>, found: Found) -> Served
+pub(crate) fn tell<W: Write>(writer: &mut Watched<W>, found: Found) -> Served
     requires { has_failed writer.old ≡ false }
     ensures settled { (result.settled ≡ true) ↔ ((found ≡ Found.Agreed) × (has_failed writer.new ≡ false)) }
-    ensures agreed { found ≡ Found.Agreed → Sends (W.contents (device_of writer.old)) (W.contents (device_of writer.new)) (has_failed writer.new) agreed_line }
+    ensures told { Sends (W.contents (device_of writer.old)) (W.contents (device_of writer.new)) (has_failed writer.new) (found_line found) }
 {
     match found {
         Found::Agreed => {
             send_line(writer, b"{\"settled\":\"agreed\"}\n");
-            return Served {
+            Served {
                 settled: !writer.failed(),
-            };
+            }
         }
         Found::Differs { seat, index } => {
-            let _ = write!(
-                writer,
-                "{{\"index\":{index},\"seat\":{seat},\"settled\":\"differs\"}}\n"
-            );
+            tell_difference(writer, seat, index);
+            Served { settled: false }
         }
-        Found::NoMemory => send_line(writer, b"{\"settled\":\"no memory\"}\n"),
+        Found::NoMemory => {
+            send_line(writer, b"{\"settled\":\"no memory\"}\n");
+            Served { settled: false }
+        }
     }
-    Served { settled: false }
+}
+
+/// Writes at which index of which seat the logs first differ. Takes no memory.
+fn tell_difference<W: Write>(writer: &mut Watched<W>, seat: u64, index: u64)
+    requires { has_failed writer.old ≡ false }
+    ensures { Sends (W.contents (device_of writer.old)) (W.contents (device_of writer.new)) (has_failed writer.new) (differs_line seat index) }
+{
+    let mut digits = Buffer::new();
+    send_line(writer, b"{\"index\":");
+    send_more(writer, digits.format(index).as_bytes());
+    send_more(writer, b",\"seat\":");
+    send_more(writer, digits.format(seat).as_bytes());
+    send_more(writer, b",\"settled\":\"differs\"}\n");
+}
+
+/// Writes bytes behind others of their line, unless the writer has failed.
+fn send_more<W: Write>(writer: &mut Watched<W>, bytes: &[u8])
+    ensures { (start : Option (List ℕ)) (before : List ℕ) → Sends start (W.contents (device_of writer.old)) (has_failed writer.old) before
+        → Sends start (W.contents (device_of writer.new)) (has_failed writer.new) (before ++ bytes.now) }
+{
+    if writer.failed() {
+        return;
+    }
+    send_line(writer, bytes);
 }
 
 /// Serves all connections, and settles.
@@ -132,6 +157,7 @@ fn serve_by<L: Ledger + Send + Sync, R: Threads + Wait + Clock + Sync>(
     requires parts { blank.parts ≡ L.parts }
     requires all { blank.parts ≡ PARTS }
     requires empty { vault.history ≡ [] }
+    ensures { IsFound L result }
 {
     let shared = Shared::<L>::new(alloc, blank, vault);
     let left = Mutex::new(connections);
@@ -142,7 +168,9 @@ fn serve_by<L: Ledger + Send + Sync, R: Threads + Wait + Clock + Sync>(
 }
 
 /// What closing found.
-fn found_in<L: Ledger>(closed: Closed<L>) -> Found {
+fn found_in<L: Ledger>(closed: Closed<L>) -> Found
+    ensures { result ≡ found_of closed }
+{
     match closed {
         Closed::Done {
             settled,

@@ -1,5 +1,6 @@
 //! A server and a client over the loopback, and addresses that are not listened on.
 
+use crate::serve::{Found, tell};
 use crate::{Served, serve_lines, serve_on};
 use std::alloc::{AllocError, Global};
 use std::io::{Read, Write};
@@ -121,4 +122,44 @@ fn a_refused_configuration(rt: HostRuntime) {
     let (served, out) = serve_at(&rt, rt.alloc(), b"[]", "127.0.0.1:0");
     assert!(rt; !served.settled);
     assert!(rt; out.as_slice() == NOT_AN_OBJECT);
+}
+
+/// What settling found, the line that tells it, and whether the server has settled.
+const TOLD: &[(Found, &[u8], bool)] = &[
+    (Found::Agreed, b"{\"settled\":\"agreed\"}\n", true),
+    (
+        Found::Differs {
+            seat: 63,
+            index: 1_000_000,
+        },
+        b"{\"index\":1000000,\"seat\":63,\"settled\":\"differs\"}\n",
+        false,
+    ),
+    (
+        Found::Differs { seat: 7, index: 0 },
+        b"{\"index\":0,\"seat\":7,\"settled\":\"differs\"}\n",
+        false,
+    ),
+    (
+        Found::NoMemory,
+        b"{\"settled\":\"no memory\"}\n",
+        false,
+    ),
+];
+
+/// What is written of what settling found, and whether the server has settled.
+fn told(alloc: Global, found: Found) -> (Vec<u8>, bool) {
+    let mut out = Vec::new(alloc);
+    let mut writer = Watched::new(&mut out);
+    let served = tell(&mut writer, found);
+    (out, served.settled)
+}
+
+#[test]
+fn each_end_of_a_server_is_told(rt: HostRuntime) {
+    for (found, line, settled) in TOLD {
+        let (out, is_settled) = told(rt.alloc(), *found);
+        assert!(rt; out.as_slice() == *line);
+        assert!(rt; is_settled == *settled);
+    }
 }
