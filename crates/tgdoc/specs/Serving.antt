@@ -1,4 +1,4 @@
--- the lines of a server's own
+-- the configuration line of a server, and the lines of its own
 use Rattle.std.specs.Prelude.{◌≡◌, ◌<◌, ◌≤◌, ℕ, Bool, List, [], ◌∷◌, ◌++◌, length, Option, codes, decimal, false}
 use Rattle.std.specs.Io.KnownBytes.{Appends}
 use Rattle.tg_audit.specs.declared.logs.Settled.TheVariants as settled
@@ -6,6 +6,12 @@ use Rattle.tg_share.specs.Closing.{IsClosed}
 use Rattle.tg_share.specs.declared.closing.Closed.{Closed}
 use Rattle.tg_share.specs.declared.closing.Closed.TheVariants as closed
 use Rattle.tg_share.specs.declared.session.Ended.{Ended}
+use Rattle.tg_vault.specs.Contents.{Contents}
+use Rattle.tg_wire.specs.Faults.{fault_line}
+use Rattle.tg_wire.specs.declared.fault.WireFault.TheVariants as wire
+use Rattle.tg_talk.specs.InputLines.{lines_of}
+use Rattle.tgdoc.specs.Runs.{RefusesOpening}
+use Rattle.tgdoc.specs.Turns.{Opens}
 use Rattle.tgdoc.specs.declared.serve.Found.{Found}
 use Rattle.tgdoc.specs.declared.serve.Found.TheVariants as found
 
@@ -53,3 +59,29 @@ pub record IsServed (old new : Option (List ℕ)) (failed : Bool) : Type 0 where
   pub unfailed : failed ≡ false
   pub address : List ℕ
   pub appended : Appends old new (listening_line address ++ agreed_line)
+
+-- these lines begin with a configuration that opens this vault
+pub record OpensInput (v : Contents) (lines : List (List ℕ)) : Type 0 where
+  pub first : List ℕ
+  pub others : List (List ℕ)
+  pub are : lines ≡ first ∷ others
+  pub short : length first ≤ 16384
+  pub opens : Opens first v
+
+-- of these lines no configuration is taken, and this text is written
+pub data RefusesInput (text : List ℕ) : List (List ℕ) → Type 0 where
+  -- no memory for the lines: none is taken
+  no_buffer : {ls : List (List ℕ)} → text ≡ fault_line wire.OutOfMemory → RefusesInput text ls
+  -- the reader failed before a line came
+  stopped : {ls : List (List ℕ)} → text ≡ [] → RefusesInput text ls
+  -- no line at all is read as an empty one
+  no_line : RefusesOpening [] text → RefusesInput text []
+  too_long : {l : List ℕ} {ls : List (List ℕ)} → 16384 < length l → text ≡ fault_line wire.TooLong → RefusesInput text (l ∷ ls)
+  refused : {l : List ℕ} {ls : List (List ℕ)} → length l ≤ 16384 → RefusesOpening l text → RefusesInput text (l ∷ ls)
+
+-- the same of the bytes of an input
+abbrev pub OpensBytes : Contents → List ℕ → Type 0
+OpensBytes v xs = OpensInput v (lines_of xs)
+
+abbrev pub RefusesBytes : List ℕ → List ℕ → Type 0
+RefusesBytes text xs = RefusesInput text (lines_of xs)

@@ -1,7 +1,7 @@
 //! The configuration line of a server, and the address that it listens on.
-ghost use Rattle.std.specs.Prelude.{◌≡◌, [], IfOk, false, true};
+ghost use Rattle.std.specs.Prelude.{◌≡◌, ◌↔◌, [], IfErr, IfOk, IfSome, false, true};
 ghost use Rattle.tg_talk.specs.Devices.{Sends, device_of, has_failed};
-ghost use Rattle.tgdoc.specs.Serving.{IsServed};
+ghost use Rattle.tgdoc.specs.Serving.{IsServed, OpensBytes, RefusesBytes};
 
 use crate::run::open;
 use crate::serve::{Served, serve_on};
@@ -59,7 +59,10 @@ fn refuse<W: Write>(writer: &mut Watched<W>, text: &[u8]) -> Served
 /// The vault of the configuration line, or the line of its refusal, which is empty where the line can't be read.
 fn read_vault<R: Read>(alloc: Global, reader: &mut Watched<R>) -> Result<Vault, &'static [u8]>
     requires reads { has_failed reader.old ≡ false }
-    ensures { IfOk result (λ vault. vault.history ≡ []) }
+    ensures empty { IfOk result (λ vault. vault.history ≡ []) }
+    ensures opened { IfOk result (λ vault. IfSome (R.remaining (device_of reader.old)) (OpensBytes vault)) }
+    ensures silent { IfErr result (λ text. (text.now ≡ []) ↔ (has_failed reader.new ≡ true)) }
+    ensures refused { IfErr result (λ text. IfSome (R.remaining (device_of reader.old)) (RefusesBytes text.now)) }
 {
     let Ok(mut input) = InputLines::new(alloc) else {
         return Err(error_line(WireFault::OutOfMemory));
