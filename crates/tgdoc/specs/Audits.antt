@@ -14,13 +14,11 @@ use Rattle.tg_wire.specs.Lines.{config_of, goal_of, step_of}
 use Rattle.tg_wire.specs.Faults.{fault_line}
 use Rattle.tg_wire.specs.declared.fault.WireFault.{WireFault}
 use Rattle.tg_wire.specs.declared.fault.WireFault.TheVariants as wire
-use Rattle.tg_wire.specs.declared.line.TheConstants.{LONGEST_LINE}
 use Rattle.tg_talk.specs.Devices.{Sends}
 use Rattle.tg_talk.specs.InputLines.{lines_of}
 use Rattle.tg_talk.specs.Refusals.{too_many_line}
 use Rattle.tg_talk.specs.declared.fault.TalkFault.{TalkFault}
 use Rattle.tg_talk.specs.declared.fault.TalkFault.TheVariants as talk
-use Rattle.tg_talk.specs.declared.line_buffer.TheConstants.{MOST_LINES}
 use Rattle.tg_talk.specs.Endings.{EndsOnce}
 use Rattle.tgdoc.specs.Runs.{RefusesOpening}
 use Rattle.tgdoc.specs.declared.finished.Finished.{Finished}
@@ -36,10 +34,10 @@ pub record End : Type 0 where
 pub data EndsAt (Refuses : List ℕ → List ℕ → Type 0) (is_wanted : Bool) (n : ℕ) : List (List ℕ) → End → Type 0 where
   -- the reader failed
   stopped : {ls : List (List ℕ)} → EndsAt Refuses is_wanted n ls (record { lines = n; text = []; fault = Some talk.Reading })
-  too_many : {l : List ℕ} {ls : List (List ℕ)} → n ≡ MOST_LINES → EndsAt Refuses is_wanted n (l ∷ ls) (record { lines = n + 1; text = too_many_line; fault = Some talk.TooMany })
-  too_long : {l : List ℕ} {ls : List (List ℕ)} → n < MOST_LINES → LONGEST_LINE < length l
+  too_many : {l : List ℕ} {ls : List (List ℕ)} → n ≡ 1000000 → EndsAt Refuses is_wanted n (l ∷ ls) (record { lines = n + 1; text = too_many_line; fault = Some talk.TooMany })
+  too_long : {l : List ℕ} {ls : List (List ℕ)} → n < 1000000 → 16384 < length l
       → EndsAt Refuses is_wanted n (l ∷ ls) (record { lines = n + 1; text = fault_line wire.TooLong; fault = Some talk.TooLong })
-  refused : {l text : List ℕ} {ls : List (List ℕ)} → n < MOST_LINES → length l ≤ LONGEST_LINE → Refuses l text → EndsAt Refuses is_wanted n (l ∷ ls) (record { lines = n + 1; text = text; fault = None })
+  refused : {l text : List ℕ} {ls : List (List ℕ)} → n < 1000000 → length l ≤ 16384 → Refuses l text → EndsAt Refuses is_wanted n (l ∷ ls) (record { lines = n + 1; text = text; fault = None })
   no_line : is_wanted ≡ true → EndsAt Refuses is_wanted n [] (record { lines = n; text = fault_line wire.NotJson; fault = None })
 
 -- a line that is read so is refused with this text
@@ -57,8 +55,8 @@ pub record OpensGraph (G : Protection) (line : List ℕ) : Type 0 where
 
 -- the line after n others is no longer than a line may be, and says this
 pub record IsRead (n : ℕ) (line : List ℕ) (Says : List ℕ → Type 0) : Type 0 where
-  pub within : n < MOST_LINES
-  pub short : length line ≤ LONGEST_LINE
+  pub within : n < 1000000
+  pub short : length line ≤ 16384
   pub says : Says line
 
 abbrev pub SaysGoal : Goal → List ℕ → Type 0
