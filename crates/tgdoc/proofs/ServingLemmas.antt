@@ -1,10 +1,9 @@
 -- A server's configuration line.
-use Rattle.std.proofs.Common.{◌≡◌, ◌↔◌, ◌∙◌, ℕ, ◌<◌, ◌≤◌, List, [], ◌∷◌, ◌++◌, length, Bool, true, Option, Some, IfSome, Result, Ok, Err, IfOk, IfErr, refl, sym, subst}
+use Rattle.std.proofs.Common.{◌≡◌, ◌↔◌, ◌∙◌, ℕ, ◌<◌, ◌≤◌, List, [], ◌∷◌, ◌++◌, length, Bool, true, Option, Some, IfSome, Result, Ok, Err, IfOk, IfErr, refl, sym, ap, subst, arith, length-append}
 use Rattle.std.specs.Borrow.{Bor}
-use Rattle.serde_json.specs.Written.{compact_text}
 use Rattle.tg_graph.specs.declared.config.OpenFault.{OpenFault}
 use Rattle.tg_vault.specs.Contents.{Contents}
-use Rattle.tg_wire.specs.Faults.{error_data, fault_line, fault_text, open_fault_data, open_fault_line}
+use Rattle.tg_wire.specs.Faults.{fault_line, open_fault_line}
 use Rattle.tg_wire.specs.declared.fault.WireFault.{WireFault}
 use Rattle.tg_wire.specs.declared.fault.WireFault.TheVariants as wire
 use Rattle.tg_talk.specs.InputLines.{lines_of}
@@ -17,17 +16,13 @@ use Rattle.tgdoc.proofs.OpeningLemmas.{empty_line}
 
 -- ---- the line of a refusal has bytes
 
-ends_in_line_feed : (xs : List ℕ) → xs ++ 10 ∷ [] ≡ [] → ⊥
-ends_in_line_feed [] e = cc
-ends_in_line_feed (x ∷ xs) e = cc
-
 pub fault_has_text : (text : List ℕ) (f : WireFault) → text ≡ fault_line f → text ≡ [] → ⊥
 unfolding fault_line
-fault_has_text text f same none = ends_in_line_feed (compact_text (error_data (fault_text f))) (sym same ∙ none)
+fault_has_text text f same none = omega (arith, length-append {A = ℕ}, ap length (sym same ∙ none))
 
 open_fault_has_text : (text : List ℕ) (f : OpenFault) → text ≡ open_fault_line f → text ≡ [] → ⊥
 unfolding open_fault_line
-open_fault_has_text text f same none = ends_in_line_feed (compact_text (open_fault_data f)) (sym same ∙ none)
+open_fault_has_text text f same none = omega (arith, length-append {A = ℕ}, ap length (sym same ∙ none))
 
 pub refusal_has_text : (line text : List ℕ) → RefusesOpening line text → text ≡ [] → ⊥
 refusal_has_text line text (misread f read same) none = fault_has_text text f same none

@@ -140,11 +140,7 @@ const TOLD: &[(Found, &[u8], bool)] = &[
         b"{\"index\":0,\"seat\":7,\"settled\":\"differs\"}\n",
         false,
     ),
-    (
-        Found::NoMemory,
-        b"{\"settled\":\"no memory\"}\n",
-        false,
-    ),
+    (Found::NoMemory, b"{\"settled\":\"no memory\"}\n", false),
 ];
 
 /// What is written of what settling found, and whether the server has settled.

@@ -1,4 +1,4 @@
-use Rattle.std.proofs.Common.{[], None, refl, sym, true≢false, ◌∙◌}
+use Rattle.std.proofs.Common.{◌≡◌, [], None, refl, sym, true≢false, ◌∙◌}
 use Rattle.tg_talk.proofs.TakingLemmas.{always}
 use Rattle.tg_talk.specs.Taking.{Takes, TakesLine}
 use Rattle.tg_talk.specs.declared.input_lines.Next.TheVariants as next
@@ -9,7 +9,7 @@ use Rattle.tgdoc.proofs.ServingLemmas.{bytes_no_line, bytes_too_long, fault_has_
 use Rattle.tgdoc.proofs.serve_lines.read_vault.Goals as goal
 
 pub returns-in_default-clause-silent : goal.returns-in_default-clause-silent
-returns-in_default-clause-silent g c = is_told _ _ (fault_has_text _ wire.OutOfMemory c.error_line.ensures) (λ failed. true≢false (sym failed ∙ c.requires))
+returns-in_default-clause-silent g c = is_told _ _ (fault_has_text _ wire.OutOfMemory c.error_line.ensures) (λ failed. true≢false (sym failed ∙ c.requires.reads))
 
 pub returns-in_default-clause-refused : goal.returns-in_default-clause-refused
 returns-in_default-clause-refused g c = always _ (RefusesBytes _) (λ xs. no_buffer c.error_line.ensures)
@@ -42,5 +42,5 @@ pub returns-in-TooLong-clause-refused : goal.returns-in-TooLong-clause-refused
 returns-in-TooLong-clause-refused g c =
     at_start _ _ (Takes next.TooLong _ [] None) (RefusesBytes _) c.in-Ok.ensures c.in-TooLong.ensures.takes (λ xs (within, (line, has, long)). bytes_too_long _ xs line has long c.error_line-in-TooLong.ensures)
 
-pub returns-in-Failed-clause-refused : goal.returns-in-Failed-clause-refused
-returns-in-Failed-clause-refused g c = always _ (RefusesBytes _) (λ xs. stopped refl)
+pub returns-clause-refused : goal.returns-clause-refused
+returns-clause-refused g c = always _ (RefusesBytes _) (λ xs. stopped refl)
