@@ -1,10 +1,10 @@
--- vaults to which nothing but events has happened
+-- vaults to which nothing but events has happened, and what they answer
 use Rattle.std.specs.Prelude.{◌≡◌, ℕ, List, [], length, Some, slice_get}
 use Rattle.std.specs.Option.{option_map}
 use Rattle.tg_vault.specs.declared.event.Event.{Event}
 use Rattle.tg_vault.specs.declared.event.Answer.{Answer}
 use Rattle.tg_vault.specs.Contents.{Contents}
-use Rattle.tg_vault.specs.Course.{Course, IsCoherent}
+use Rattle.tg_vault.specs.Course.{Course, IsCoherent, VaultStep}
 use Rattle.tg_vault.specs.Cycles.{IsBounded}
 use Rattle.tg_vault.specs.Headline.{Headline}
 
@@ -25,6 +25,11 @@ pub record HasHeadline (v : Contents) : Type 0 where
   pub empty : opened.history ≡ []
   pub headline : Headline opened events answers v
   pub bounded : IsBounded opened answers
+
+-- the vault answers the event so, and some vault comes of it
+pub record IsAnswered (v : Contents) (e : Event) (a : Answer) : Type 0 where
+  pub after : Contents
+  pub step : VaultStep v e a after
 
 -- the entry that was added is this actor's
 abbrev pub IsEnteredFor : Contents → Contents → ℕ → Type 0

@@ -4,10 +4,10 @@ ghost use Rattle.std.specs.Prelude.{◌≡◌, []};
 ghost use Rattle.tg_share.specs.declared.locked.TheConstants.{PARTS};
 
 use crate::tests::{
-    ALONE, Ask, CREATED, TAKE, Told, agreed, both, command, count_in, is_told, one, opened, play,
-    tells,
+    ALONE, Ask, CREATED, TAKE, Tally, Told, agreed, both, command, count_in, is_told, one, opened,
+    play, tells,
 };
-use crate::{Closed, Ended, Open, PARTS, Session, Shared};
+use crate::{Closed, Ended, Gate, Open, PARTS, Session, Shared};
 use std::alloc::{AllocError, Global};
 use std::io::Print;
 use std::marker::Brand;
@@ -18,16 +18,17 @@ use tg_audit::{SeatLog, Settled, settle};
 use tg_vault::{AskFault, Vault};
 
 /// Whether the session asks so and is told so; none where memory is refused.
-fn is_told_at_once<L: Ledger, R: Wait + Clock>(
+fn is_told_at_once<L: Ledger, R: Wait + Clock, G: Gate>(
     rt: &R,
     alloc: Global,
     session: &mut Session<'_, L>,
     ask: Ask,
     told: Told,
+    gate: &G,
 ) -> Result<Option<bool>, AllocError> {
     let command = command(alloc, ask)?;
     let rule = command.rule();
-    Ok(match session.submit(rt, command, &Open) {
+    Ok(match session.submit(rt, command, gate) {
         Ok(found) => Some(tells(found, rule, told)),
         Err(AskFault::OutOfMemory) => None,
         Err(_) => Some(false),
@@ -35,18 +36,19 @@ fn is_told_at_once<L: Ledger, R: Wait + Clock>(
 }
 
 /// Whether the session is told so, line by line. Where memory is refused it asks again.
-fn are_told_again<L: Ledger, R: Wait + Clock + Print>(
+fn are_told_again<L: Ledger, R: Wait + Clock + Print, G: Gate>(
     rt: &R,
     alloc: Global,
     session: &mut Session<'_, L>,
     lines: &[(Ask, Told)],
+    gate: &G,
 ) -> Result<bool, AllocError> {
     for (ask, told) in lines {
-        let is_good = match is_told_at_once(rt, alloc, session, *ask, *told)? {
+        let is_good = match is_told_at_once(rt, alloc, session, *ask, *told, gate)? {
             Some(is_good) => is_good,
             None => {
                 let _ = rt.println("no memory");
-                is_told(rt, alloc, session, *ask, *told, &Open)?
+                is_told(rt, alloc, session, *ask, *told, gate)?
             }
         };
         if !is_good {
@@ -56,13 +58,14 @@ fn are_told_again<L: Ledger, R: Wait + Clock + Print>(
     Ok(true)
 }
 
-/// How many entries there are after a session of alice, who asks again where memory is refused.
+/// How many entries there are after a session of alice, who asks again where memory is refused, and how many times she
+/// paused after a store and between steps.
 fn play_again<L: Ledger, R: Wait + Clock + Print>(
     rt: &R,
     alloc: Global,
     blank: Blank,
     vault: Vault,
-) -> Option<u64>
+) -> Option<(u64, (u64, u64))>
     requires name { blank.name ≡ L.name }
     requires parts { blank.parts ≡ L.parts }
     requires all { blank.parts ≡ PARTS }
@@ -72,18 +75,20 @@ fn play_again<L: Ledger, R: Wait + Clock + Print>(
     let Ok(mut alice) = shared.session(rt, alloc, 0, "alice") else {
         return None;
     };
-    let told = are_told_again(rt, alloc, &mut alice, ALONE);
+    let gate = Tally::new();
+    let told = are_told_again(rt, alloc, &mut alice, ALONE, &gate);
     let alice = alice.end(rt);
     let alice = matches!(told, Ok(true)).then_some(alice);
-    agreed(shared, one(alloc, alice))
+    agreed(shared, one(alloc, alice)).zip(Some(gate.pauses()))
 }
 
-/// A submit that is refused enters nothing, in the history or in the log: in the end they agree, with one entry for each line.
+/// A submit that is refused enters nothing, in the history or in the log, and does not pause: in the end they agree, with
+/// one entry and one pause for each line.
 #[test]
 fn growth_refused_in_a_submit(rt: HostRuntime) -> Result<(), AllocError> {
     let vault = opened(&rt, rt.alloc(), 8, 8, &[(1, TAKE, 2)])?;
-    let count = play_again::<Brand, _>(&rt, rt.alloc(), Blank::new(PARTS), vault);
-    assert_eq!(rt; count.ok_or(AllocError)?, 8);
+    let done = play_again::<Brand, _>(&rt, rt.alloc(), Blank::new(PARTS), vault);
+    assert_eq!(rt; done.ok_or(AllocError)?, (8, (8, 0)));
     Ok(())
 }
 

@@ -1,10 +1,12 @@
-//! Threads over one vault: each call takes the one lock for one event of the vault, or for none.
+//! Threads over one vault, under one lock. Nothing but events of the vault happens under the lock, and a hold of the lock
+//! is used up by its event.
 #![tactic(auto)]
 
 mod closing;
 mod gate;
 #[cfg(test)]
 mod growth_tests;
+mod hold;
 mod locked;
 #[cfg(test)]
 mod race_tests;

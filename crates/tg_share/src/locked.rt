@@ -1,4 +1,5 @@
-//! What lies under the lock. Each method that changes the vault is one hold of the lock: one event, or none.
+//! What lies under the lock. Each method that changes the vault is one event, or none; a hold of the lock is used up by one
+//! of them.
 ghost use Rattle.std.specs.Prelude.{◌≡◌, ◌+◌, ◌<◌, ◌≤◌, [], length, Err, IfOk, OnOk, OnErr, MatchResult};
 ghost use Rattle.tg_vault.specs.declared.event.SeatFault.TheVariants as seat_fault;
 ghost use Rattle.tg_vault.specs.declared.event.Event.TheVariants as event;

@@ -7,21 +7,22 @@ ghost use Rattle.tg_share.specs.declared.locked.TheConstants.{PARTS};
 ghost use Rattle.tg_share.specs.Sessions.{Grows};
 
 use crate::gate::{Gate, Place};
+use crate::hold::Lock;
 use crate::locked::Locked;
 use std::alloc::Global;
 use std::marker::Model;
 use std::rt::Clock;
+use std::sync::Wait;
 use std::sync::ledger::{Blank, Ledger, Share};
-use std::sync::{Mutex, Wait};
 use tg_audit::{Exchange, SeatLog};
 use tg_rights::{Command, Reply};
 use tg_vault::{AskFault, SeatFault, Vault};
 
-/// One vault for many threads, under one lock. The lock is held for one event at a time, and for nothing else: what a
-/// session copies and keeps, it copies and keeps with the lock free.
+/// One vault for many threads, under one lock. Nothing but events happens to it there, and a hold of the lock is used up by
+/// its event: what a session copies and keeps, it copies and keeps with the lock free.
 #[derive(Drop)]
 pub struct Shared<L: Ledger> {
-    pub(crate) locked: Mutex<Locked<L>>,
+    pub(crate) locked: Lock<L>,
     pub(crate) alloc: Global,
 }
 
@@ -77,7 +78,7 @@ impl<L: Ledger> Shared<L> {
     {
         let (entries, rest) = blank.open::<L>();
         Shared {
-            locked: Mutex::new(Locked::new(vault, entries, rest)),
+            locked: Lock::new(Locked::new(vault, entries, rest)),
             alloc,
         }
     }
@@ -94,7 +95,7 @@ impl<L: Ledger> Shared<L> {
         ensures ok { IfOk result (λ s. (s.seat ≡ seat) × (s.log ≡ []) × (s.counted ≡ 0)) }
         ensures err { IfErr result (λ fault. (fault ≡ seat_fault.NoSeat) ⊎ ((fault ≡ seat_fault.Bound) ⊎ (fault ≡ seat_fault.NoPrincipal))) }
     {
-        let (actor, share) = self.locked.lock(rt).hello(seat, name)?;
+        let (actor, share) = self.locked.hold(rt).hello(seat, name)?;
         Ok(Session {
             shared: self,
             alloc,
@@ -116,7 +117,7 @@ impl<L: Ledger> Shared<L> {
             if step > 0 {
                 gate.pause(rt, Place::BetweenSteps);
             }
-            let note = self.locked.lock(rt).collect();
+            let note = self.locked.hold(rt).collect();
             worked.freed += note.freed;
             if note.ended {
                 worked.ended += 1;
@@ -151,13 +152,13 @@ impl<'a, L: Ledger> Session<'a, L> {
         let Ok(asked) = command.copy(self.alloc) else {
             return Err(AskFault::OutOfMemory);
         };
-        let (_, reply) = self
+        let reply = self
             .shared
             .locked
-            .lock(rt)
+            .hold(rt)
             .ask(self.seat, asked, &mut self.share)?;
         gate.pause(rt, Place::AfterStore);
-        let _ = self.shared.locked.lock(rt).shade(self.seat);
+        let _ = self.shared.locked.hold(rt).shade(self.seat);
         let Ok(()) = self.log.push(Exchange {
             actor: self.actor,
             command,
@@ -190,7 +191,7 @@ impl<'a, L: Ledger> Session<'a, L> {
             log,
             share,
         } = self;
-        let _ = shared.locked.lock(rt).bye(seat);
+        let _ = shared.locked.hold(rt).bye(seat);
         Ended {
             log: SeatLog {
                 seat,

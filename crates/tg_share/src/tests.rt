@@ -256,6 +256,37 @@ impl Gate for Counts<'_> {
     }
 }
 
+/// Counts the pauses at each place.
+#[derive(Drop)]
+pub struct Tally {
+    after_store: AtomicU64,
+    between_steps: AtomicU64,
+}
+
+impl Tally {
+    pub fn new() -> Tally {
+        Tally {
+            after_store: AtomicU64::new(0),
+            between_steps: AtomicU64::new(0),
+        }
+    }
+
+    /// How many pauses there were after a store, and how many between steps.
+    pub fn pauses(&self) -> (u64, u64) {
+        let after_store = self.after_store.load(Ordering::SeqCst);
+        (after_store, self.between_steps.load(Ordering::SeqCst))
+    }
+}
+
+impl Gate for Tally {
+    fn pause<R: Wait + Clock>(&self, _rt: &R, place: Place) {
+        match place {
+            Place::AfterStore => self.after_store.fetch_add(1, Ordering::SeqCst),
+            Place::BetweenSteps => self.between_steps.fetch_add(1, Ordering::SeqCst),
+        };
+    }
+}
+
 /// Whether the session asks so and is told so.
 pub fn is_told<L: Ledger, R: Wait + Clock, G: Gate>(
     rt: &R,
@@ -326,6 +357,16 @@ pub fn both<L: Ledger>(
     vec![in alloc; first, second].ok()
 }
 
+/// The list with one end more.
+fn with_one<L: Ledger>(
+    ended: Option<Vec<Ended<L>>>,
+    one: Option<Ended<L>>,
+) -> Option<Vec<Ended<L>>> {
+    let (mut ended, one) = ended.zip(one)?;
+    ended.push(one).ok()?;
+    Some(ended)
+}
+
 /// Closes, and once more where there was no room.
 fn closed<L: Ledger>(shared: Shared<L>, ended: Vec<Ended<L>>) -> Closed<L>
     requires { L.parts ≡ PARTS }
@@ -366,17 +407,18 @@ pub fn agreed<L: Ledger>(shared: Shared<L>, ended: Option<Vec<Ended<L>>>) -> Opt
     Some(vault_after(&closed)?.count())
 }
 
-/// Alice creates a document, and is held with it.
+/// Alice creates a document on the seat, and is held with it.
 fn create_held<L: Ledger, R: Wait + Clock>(
     rt: &R,
     alloc: Global,
     shared: &Shared<L>,
+    seat: u64,
     board: &Board,
     pauses: u64,
 ) -> Option<Ended<L>> {
     let gate = Holds { board, pauses };
     let lines = [(Ask::Document(READ), Told::Created(3))];
-    play(rt, alloc, shared, 0, "alice", &lines, &gate)
+    play(rt, alloc, shared, seat, "alice", &lines, &gate)
 }
 
 /// Bob looks at himself once alice is held, and releases her.
@@ -411,7 +453,7 @@ fn create_and_look<L: Ledger + Send + Sync, R: Threads + Wait + Clock + Sync>(
 ) -> (Option<Ended<L>>, Option<Ended<L>>) {
     thread::join(
         rt,
-        || create_held(rt, alloc, shared, board, 100),
+        || create_held(rt, alloc, shared, 0, board, 100),
         || look_meanwhile(rt, alloc, shared, board),
     )
 }
@@ -429,13 +471,13 @@ fn create_look_and_collect<L: Ledger + Send + Sync, R: Threads + Wait + Clock + 
     )
 }
 
-/// How many entries there are in the end, where all was told as worked out.
+/// How many entries there are in the end, where all was told as worked out, and how many times the collector paused.
 fn hold_a_create<L: Ledger + Send + Sync, R: Threads + Wait + Clock + Sync>(
     rt: &R,
     alloc: Global,
     blank: Blank,
     vault: Vault,
-) -> Option<u64>
+) -> (Option<u64>, u64)
     requires name { blank.name ≡ L.name }
     requires parts { blank.parts ≡ L.parts }
     requires all { blank.parts ≡ PARTS }
@@ -444,16 +486,18 @@ fn hold_a_create<L: Ledger + Send + Sync, R: Threads + Wait + Clock + Sync>(
     let shared = Shared::<L>::new(alloc, blank, vault);
     let board = Board::new();
     let ((alice, bob), _) = create_look_and_collect(rt, alloc, &shared, &board);
-    agreed(shared, board.in_time(both(alloc, alice, bob)))
+    let ended = board.in_time(both(alloc, alice, bob));
+    let pauses = board.pauses.load(Ordering::SeqCst);
+    (agreed(shared, ended), pauses)
 }
 
 /// Alice is held between the store and the shade until bob was answered and the collector has made 100 steps: so the lock
-/// is free.
+/// is free. The collector pauses after each of its 101 steps but the last.
 #[test]
 fn held_create(rt: HostRuntime) -> Result<(), AllocError> {
     let vault = opened(&rt, rt.alloc(), 8, 8, &[(1, TAKE, 2)])?;
-    let entries = hold_a_create::<Brand, _>(&rt, rt.alloc(), Blank::new(PARTS), vault);
-    assert_eq!(rt; entries, Some(2));
+    let done = hold_a_create::<Brand, _>(&rt, rt.alloc(), Blank::new(PARTS), vault);
+    assert_eq!(rt; done, (Some(2), 100));
     Ok(())
 }
 
@@ -537,15 +581,160 @@ fn a_collector_frees_in_two_cycles(rt: HostRuntime) -> Result<(), AllocError> {
     Ok(())
 }
 
-/// Once the first session of alice is held with its document, her second one removes it, and the collector ends two cycles.
+/// A session of alice over a vault of so many slots and no edges, and then two calls of the collector.
+struct Tour {
+    slots: u64,
+    lines: &'static [(Ask, Told)],
+    /// How many steps the first call makes. The second makes one.
+    steps: u64,
+    /// How many times the first call pauses.
+    pauses: u64,
+    worked: Worked,
+    last: Worked,
+}
+
+const NOTHING: Worked = Worked { freed: 0, ended: 0 };
+
+const A_CYCLE: Worked = Worked { freed: 0, ended: 1 };
+
+const THREE: &[(Ask, Told)] = &[
+    (Ask::Document(READ), Told::Created(3)),
+    (Ask::Document(READ), Told::Created(4)),
+    (Ask::Document(READ), Told::Created(5)),
+    (Ask::Remove(READ, 3), Told::Done),
+    (Ask::Remove(READ, 4), Told::Done),
+    (Ask::Remove(READ, 5), Told::Done),
+];
+
+/// A cycle shades alice and bob in one step, takes each grey vertex under scan and makes it black in two, as none has an
+/// edge any more, goes to the sweep in one, sweeps each slot in one and ends in one.
+const TOURS: &[Tour] = &[
+    Tour {
+        slots: 3,
+        lines: &[],
+        steps: 5,
+        pauses: 4,
+        worked: NOTHING,
+        last: NOTHING,
+    },
+    // A cycle of 1 + 2 * 2 + 1 + 3 + 1 = 10 steps.
+    Tour {
+        slots: 3,
+        lines: &[],
+        steps: 9,
+        pauses: 8,
+        worked: NOTHING,
+        last: A_CYCLE,
+    },
+    // With a document that was shaded, 1 + 3 * 2 + 1 + 3 + 1 = 12 steps.
+    Tour {
+        slots: 3,
+        lines: &[CREATED, REMOVED],
+        steps: 11,
+        pauses: 10,
+        worked: NOTHING,
+        last: A_CYCLE,
+    },
+    // With three such documents 1 + 5 * 2 + 1 + 8 + 1 = 21 steps. The second cycle frees them in 1 + 2 * 2 + 1 + 8 + 1 = 15,
+    // and of 15 are the others too: 330 in 4,950 steps. Then 14 steps are left, and the next ends a cycle.
+    Tour {
+        slots: 8,
+        lines: THREE,
+        steps: 5000,
+        pauses: 4999,
+        worked: Worked {
+            freed: 3,
+            ended: 332,
+        },
+        last: A_CYCLE,
+    },
+];
+
+/// Whether the collector's calls do what they should, alice pauses once for each line, after its store, and the collector so
+/// many times between its steps.
+fn is_as_counted<L: Ledger, R: Wait + Clock>(
+    rt: &R,
+    alloc: Global,
+    blank: Blank,
+    vault: Vault,
+    tour: &Tour,
+) -> bool
+    requires name { blank.name ≡ L.name }
+    requires parts { blank.parts ≡ L.parts }
+    requires all { blank.parts ≡ PARTS }
+    requires empty { vault.history ≡ [] }
+{
+    let shared = Shared::<L>::new(alloc, blank, vault);
+    let (asked, collected) = (Tally::new(), Tally::new());
+    let alice = play(rt, alloc, &shared, 0, "alice", tour.lines, &asked);
+    let worked = shared.collector(rt, tour.steps, &collected);
+    let last = shared.collector(rt, 1, &collected);
+    alice.is_some()
+        && (worked, last) == (tour.worked, tour.last)
+        && asked.pauses() == (tour.lines.len() as u64, 0)
+        && collected.pauses() == (0, tour.pauses)
+}
+
+/// No step of the collector is made but by its own calls, and these make as many as they should.
+#[test]
+fn steps_and_pauses_are_counted(rt: HostRuntime) -> Result<(), AllocError> {
+    for tour in TOURS {
+        let vault = opened(&rt, rt.alloc(), tour.slots, 4, &[])?;
+        assert!(rt; is_as_counted::<Brand, _>(&rt, rt.alloc(), Blank::new(PARTS), vault, tour));
+    }
+    Ok(())
+}
+
+/// The seat of a session that is held with its target. The seats below `others` but that one have a session meanwhile.
+#[derive(Clone, Copy)]
+struct Seats {
+    held: u64,
+    others: u64,
+}
+
+const LOOKED: (Ask, Told) = (Ask::Look(1), Told::Edges(&[]));
+
+/// Alice, who has no edges, looks at herself on each of the other seats in turn. None where she is told otherwise.
+fn look_from_others<L: Ledger, R: Wait + Clock>(
+    rt: &R,
+    alloc: Global,
+    shared: &Shared<L>,
+    seats: Seats,
+    ended: &mut Vec<Ended<L>>,
+) -> Option<()> {
+    for seat in 0..seats.others {
+        if seat != seats.held {
+            let looked = play(rt, alloc, shared, seat, "alice", &[LOOKED], &Open)?;
+            ended.push(looked).ok()?;
+        }
+    }
+    Some(())
+}
+
+/// Alice removes her document, and then looks at herself on each of the other seats.
+fn remove_and_look<L: Ledger, R: Wait + Clock>(
+    rt: &R,
+    alloc: Global,
+    shared: &Shared<L>,
+    seats: Seats,
+) -> Option<Vec<Ended<L>>> {
+    let removed = play(rt, alloc, shared, 2, "alice", &[REMOVED], &Open);
+    let mut ended = one(alloc, removed)?;
+    look_from_others(rt, alloc, shared, seats, &mut ended)?;
+    Some(ended)
+}
+
+/// Once the first session of alice is held with its document, her other ones have their turns, and the collector ends two
+/// cycles.
 fn remove_meanwhile<L: Ledger, R: Wait + Clock>(
     rt: &R,
     alloc: Global,
     shared: &Shared<L>,
+    seats: Seats,
     board: &Board,
-) -> (Option<Ended<L>>, Worked) {
+) -> (Option<Vec<Ended<L>>>, Worked) {
     board.wait(rt, |board| board.is_held.load(Ordering::SeqCst));
-    let ended = play(rt, alloc, shared, 2, "alice", &[REMOVED], &Open);
+    let ended = remove_and_look(rt, alloc, shared, seats);
     let worked = shared.collector(rt, 26, &Open);
     board.is_released.store(true, Ordering::SeqCst);
     (ended, worked)
@@ -555,12 +744,13 @@ fn create_and_remove<L: Ledger + Send + Sync, R: Threads + Wait + Clock + Sync>(
     rt: &R,
     alloc: Global,
     shared: &Shared<L>,
+    seats: Seats,
     board: &Board,
-) -> (Option<Ended<L>>, (Option<Ended<L>>, Worked)) {
+) -> (Option<Ended<L>>, (Option<Vec<Ended<L>>>, Worked)) {
     thread::join(
         rt,
-        || create_held(rt, alloc, shared, board, 0),
-        || remove_meanwhile(rt, alloc, shared, board),
+        || create_held(rt, alloc, shared, seats.held, board, 0),
+        || remove_meanwhile(rt, alloc, shared, seats, board),
     )
 }
 
@@ -570,6 +760,7 @@ fn hold_a_target<L: Ledger + Send + Sync, R: Threads + Wait + Clock + Sync>(
     alloc: Global,
     blank: Blank,
     vault: Vault,
+    seats: Seats,
 ) -> (Worked, Option<u64>)
     requires name { blank.name ≡ L.name }
     requires parts { blank.parts ≡ L.parts }
@@ -578,17 +769,21 @@ fn hold_a_target<L: Ledger + Send + Sync, R: Threads + Wait + Clock + Sync>(
 {
     let shared = Shared::<L>::new(alloc, blank, vault);
     let board = Board::new();
-    let (first, (second, worked)) = create_and_remove(rt, alloc, &shared, &board);
-    let ended = board.in_time(both(alloc, first, second));
+    let (first, (others, worked)) = create_and_remove(rt, alloc, &shared, seats, &board);
+    let ended = board.in_time(with_one(others, first));
     (worked, agreed(shared, ended))
 }
 
-/// A target that is not yet shaded keeps its slot through two cycles, though no edge leads to it.
+/// A target that is not yet shaded keeps its slot through two cycles, though no edge leads to it; so it does though each of
+/// the 63 other seats has a session meanwhile, which shades what it has itself.
 #[test]
 fn target_held_through_two_cycles(rt: HostRuntime) -> Result<(), AllocError> {
-    let vault = opened(&rt, rt.alloc(), 3, 4, &[])?;
-    let done = hold_a_target::<Brand, _>(&rt, rt.alloc(), Blank::new(PARTS), vault);
-    assert_eq!(rt; done, (Worked { freed: 0, ended: 2 }, Some(2)));
+    for (held, others, entries) in [(0, 0, 2), (31, 64, 65)] {
+        let vault = opened(&rt, rt.alloc(), 3, 4, &[])?;
+        let seats = Seats { held, others };
+        let done = hold_a_target::<Brand, _>(&rt, rt.alloc(), Blank::new(PARTS), vault, seats);
+        assert_eq!(rt; done, (Worked { freed: 0, ended: 2 }, Some(entries)));
+    }
     Ok(())
 }
 
