@@ -848,7 +848,17 @@ const FIRST_LOOK: &[Step] = &[
 /// Whether these are the answers of that run.
 fn are_first_look(answers: &[Answer]) -> bool {
     match answers {
-        [refused, taken, left, asked, made, busy, empty, shaded, noted] => {
+        [
+            refused,
+            taken,
+            left,
+            asked,
+            made,
+            busy,
+            empty,
+            shaded,
+            noted,
+        ] => {
             matches!(refused, Answer::Seat(SeatFault::NoSeat))
                 && matches!(taken, Answer::Hello(1))
                 && matches!(left, Answer::Seat(SeatFault::NoActor))
