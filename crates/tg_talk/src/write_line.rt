@@ -11,7 +11,7 @@ use std::alloc::{AllocError, Global};
 use std::io::{BufWriter, Write};
 
 /// Writes the bytes, in as many writes as the writer asks for. It stops where the writer fails, and a prefix of them
-/// is then written; an interrupted write counts as a failed one. Takes no memory.
+/// is then written; a write that the writer answers as interrupted has failed. Takes no memory.
 pub fn send_line<W: Write>(writer: &mut Watched<W>, bytes: &[u8])
     requires { has_failed writer.old ≡ false }
     ensures { Sends (W.contents (device_of writer.old)) (W.contents (device_of writer.new)) (has_failed writer.new) bytes.now }
