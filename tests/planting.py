@@ -13,14 +13,19 @@ not refused, or can't be made. An edit that is refused only because a written pr
 it counts as failed.
 """
 
+import heapq
 import os
 import re
+import resource
 import shutil
 import subprocess
 import sys
 import tempfile
+import threading
 import time
 import types
+from concurrent.futures import ThreadPoolExecutor, as_completed
+from contextlib import contextmanager
 from importlib.machinery import SourceFileLoader
 from pathlib import Path
 
@@ -75,6 +80,25 @@ def can_stand_twice(f):
     words = f.block.ty[1:] if f.block else []
     names = [it for before, it in zip(["", *words], words) if it.isidentifier() and before != "'"]
     return all(it in f.block.generics for it in names)
+
+
+def are_left(crates, since=0):
+    """Whether each library is there as rt ci leaves it, without a stamp, newer than its sources, and written after this time."""
+    made = lambda it: os.path.isfile(f"{it.rlib}/format") and not os.path.exists(f"{it.folder}/out/rlib/stamp")
+    newest = lambda it: max(map(os.path.getmtime, rtlib.files_of(it.folder)))
+    return all(made(it) and os.path.getmtime(f"{it.rlib}/format") > max(since, newest(it)) for it in crates)
+
+
+def jobs_now():
+    """How many checks processors and memory allow at once."""
+    return max(1, min(rt.processors(), int(rt.free() / 4e9)))
+
+
+def edits_of(crate, parts):
+    """The edits in these folders of the crate."""
+    places = [f"{crate.folder}/{part}" for part in parts]
+    files = [f"{place}/{name}" for place in filter(os.path.isdir, places) for name in sorted(os.listdir(place))]
+    return [Edit(crate, it) for it in files if it.endswith(".edit")]
 
 
 def ran(words, folder):
@@ -161,12 +185,56 @@ def refusal(ran, texts):
     return next((it for it in told if not (NAMES.search(it) and re.match(r"(note: )?(\./)?proofs/", it))), None)
 
 
-class Trial:
-    """The planted bugs of a crate, tried."""
+class Closed(Exception):
+    """No turn comes any more."""
 
-    def __init__(self, crate, edits, gate, options):
-        self.crate, self.edits, self.gate, self.log, self.checks = crate, edits, gate, options.log, 0
-        places = [f"{crate.folder}/{rtlib.KEPT[1]}", *[f"{it}/{crate.name}" for it in [options.seeds] if it]]
+
+class Turns:
+    """Lets so many run at once, and of those that wait the one that ranks first."""
+
+    def __init__(self, count, before=()):
+        self.free, self.before, self.is_closed = count, before, False
+        self.asked, self.waiting, self.changed = 0, [], threading.Condition()
+
+    @contextmanager
+    def turn(self, rank):
+        """Waits for a turn, and gives the words to put before a command that is run in it."""
+        with self.changed:
+            self.asked += 1
+            own = rank, self.asked
+            heapq.heappush(self.waiting, own)
+            self.changed.wait_for(lambda: self.is_closed or self.free > 0 and self.waiting[0] == own)
+            if self.is_closed:
+                raise Closed
+            heapq.heappop(self.waiting)
+            self.free -= 1
+            self.changed.notify_all()
+        try:
+            yield self.before
+        finally:
+            with self.changed:
+                self.free += 1
+                self.changed.notify_all()
+
+    def grow(self, more, before=()):
+        """Lets so many more run at once, with these words before each command."""
+        with self.changed:
+            self.free, self.before = self.free + more, before
+            self.changed.notify_all()
+
+    def close(self):
+        """Gives no more turns."""
+        with self.changed:
+            self.is_closed = True
+            self.changed.notify_all()
+
+
+class Trial:
+    """The planted bugs of a crate, tried. Those that are tried alone, which take less time each, come behind all checks of copies."""
+
+    def __init__(self, crate, edits, turns, rank, seeds, log=None):
+        self.crate, self.edits, self.turns, self.rank, self.log, self.checks = crate, edits, turns, rank, log, 0
+        places = [f"{crate.folder}/{rtlib.KEPT[1]}", *[f"{it}/{crate.name}" for it in [seeds] if it]]
         self.were = [it for it in places if os.path.isdir(it)]
         self.source, self.stem, self.kept = bodies.Source(crate.folder), "_planted", ""
         self.source.read("src/main.rt" if crate.is_program else "src/lib.rt")
@@ -219,9 +287,9 @@ class Trial:
                 texts["/".join([*to, name])] = named.sub(rf"\g<1>{self.stem}{number}", rtlib.text_of(f"{at}/{name}"))
         return texts
 
-    def check(self, texts, only):
+    def check(self, texts, only, is_alone=False):
         """What a check says of these functions of the crate with these texts, over what the crate's checks have kept."""
-        with self.gate, tempfile.TemporaryDirectory(prefix="planted-") as room:
+        with self.turns.turn((is_alone, self.rank)) as before, tempfile.TemporaryDirectory(prefix="planted-") as room:
             for part in filter(os.path.isdir, (f"{self.crate.folder}/{it}" for it in rtlib.PARTS)):
                 shutil.copytree(part, f"{room}/{os.path.basename(part)}")
             for path, text in texts.items():
@@ -230,7 +298,7 @@ class Trial:
             is_first = not os.path.isdir(self.kept)
             is_first or linked(self.kept, f"{room}/kept")
             asked = [word for it in only for word in ("--only", it)]
-            words = [rtlib.RATTLE, "check", *self.crate.words(FLAGS, keeps=False), *asked, "--incremental", f"{room}/kept"]
+            words = [*before, rtlib.RATTLE, "check", *self.crate.words(FLAGS, keeps=False), *asked, "--incremental", f"{room}/kept"]
             done = ran(words, room)
             if is_first and os.path.isdir(f"{room}/kept"):
                 shutil.move(f"{room}/kept", self.kept)
@@ -276,7 +344,7 @@ class Trial:
     def alone(self, edit):
         """Tries the edit on the functions that it is about, and then by the toolchain's own rule."""
         about = self.about(edit)
-        done = about and self.check(edit.texts, about)
+        done = about and self.check(edit.texts, about, is_alone=True)
         fault = done and refusal(done, edit.texts)
         edit.seconds += done.elapsed if done else 0
         if fault:
@@ -286,7 +354,7 @@ class Trial:
 
     def by_the_rule(self, edit):
         """Tries the edit by the toolchain's own rule, over what is kept and from nothing."""
-        with self.gate, tempfile.TemporaryDirectory(prefix="planted-") as room:
+        with self.turns.turn((True, self.rank)), tempfile.TemporaryDirectory(prefix="planted-") as room:
             if os.path.isdir(self.kept):
                 linked(self.kept, f"{room}/kept")
             begun = time.monotonic()
@@ -315,3 +383,45 @@ class Trial:
                 self.batch(batches.pop(0))
             list(pool.map(self.batch, batches))
             list(pool.map(self.alone, [it for it in self.edits if not it.result]))
+
+
+class Planting:
+    """The planted bugs of crates that come one after another, tried beside one another."""
+
+    def __init__(self, crates, parts, turns, seeds=None, log=None):
+        # (its first call sets a signal's handler, which only the main thread may)
+        rtlib.guarded()
+        # (the dearest crates stand last in the list, and have the first turns)
+        self.ranks = {it.name: -at for at, it in enumerate(crates)}
+        self.edits = {it.name: edits_of(it, parts) for it in crates}
+        self.turns, self.seeds, self.log, self.begun, self.running = turns, seeds, log, {}, {}
+        # (most of the threads wait for a turn)
+        self.crates, self.pool = (ThreadPoolExecutor(max(1, it)) for it in (len(crates), sum(map(len, self.edits.values()))))
+
+    def begin(self, crate):
+        """Begins with the bugs of a crate whose libraries are proved."""
+        trial = Trial(crate, self.edits[crate.name], self.turns, self.ranks[crate.name], self.seeds, self.log)
+        self.begun[crate.name] = trial
+        self.running[self.crates.submit(trial.run, self.pool)] = trial
+
+    def leave(self):
+        """Waits for the checks that run, and begins with no other."""
+        self.turns.close()
+        self.crates.shutdown()
+        self.pool.shutdown()
+
+    def end(self):
+        """Tells of each bug, as soon as its crate's have been tried, and returns whether all were refused."""
+        for ended in as_completed(self.running):
+            ended.result()
+            for edit in self.running[ended].edits:
+                print(f"planted {edit.name}: {edit.result[1]}", flush=True)
+        edits = [edit for trial in self.begun.values() for edit in trial.edits]
+        dearest = sorted(edits, key=lambda it: -it.seconds)[:10]
+        print("planted: dearest, in seconds: " + ", ".join(f"{it.name} {it.seconds:.0f}" for it in dearest))
+        used = resource.getrusage(resource.RUSAGE_CHILDREN)
+        checks = sum(it.checks for it in self.begun.values())
+        print(f"planted: {checks} checks, {(used.ru_utime + used.ru_stime) / 60:.1f} minutes of processor time")
+        passed = sum(it.result[0] for it in edits)
+        print(f"{passed} passed, {len(edits) - passed} failed", flush=True)
+        return passed == len(edits)
