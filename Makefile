@@ -4,7 +4,7 @@ PREFIX ?= /usr/local
 
 .PHONY: all help load demo test soak bench check install clean $(CRATES)
 
-all: ## prove every crate (some minutes), and leave the program at bin/tgdoc
+all: ## prove the program and the crates below it (half an hour), and leave it at bin/tgdoc
 	cd crates/tgdoc && rt run -- run < ../../examples/first-run.jsonl > /dev/null
 	@mkdir -p bin && ln -sf ../crates/tgdoc/out/tgdoc bin/tgdoc
 	@ls -lL bin/tgdoc
