@@ -1,42 +1,50 @@
-# Two commands do everything: `make demo` runs the main job on an example, `make test` proves and tests all.
+# `make help` lists the targets; `make demo` plays the README's example, and `make test` proves and tests all.
 CRATES := $(shell sed 's/:.*//' crates.txt)
+PREFIX ?= /usr/local
 
-.PHONY: all load demo test soak bench check $(CRATES)
+.PHONY: all help load demo test soak bench check install clean $(CRATES)
 
-# The proved program, crates/tgdoc/out/tgdoc: every crate is proved first, which takes some minutes.
-all:
+all: ## prove the program and the crates below it (half an hour), and leave it at bin/tgdoc
 	cd crates/tgdoc && rt run -- run < ../../examples/first-run.jsonl > /dev/null
-	@ls -l crates/tgdoc/out/tgdoc
+	@mkdir -p bin && ln -sf ../crates/tgdoc/out/tgdoc bin/tgdoc
+	@ls -lL bin/tgdoc
 
-# The proved program where it is built, else an unproved build, which takes half a minute.
-demo:
+help: ## list the targets
+	@awk -F ':.*## ' '/^[a-z]+:.*## / { printf "make %-8s %s\n", $$1, $$2 }' Makefile
+
+demo: ## play the README's example; without a proved program, on an unproved build (half a minute)
 	examples/demo
 
 # The gate proves every crate and its tests from nothing, tries the planted bugs and runs the program as two compilers
 # build it; then the built program is tested from outside.
-test:
+test: ## prove everything from nothing, try the planted bugs, test the programs (an hour, four cores)
 	tests/gate
 	tests/run
 
 # The proved program of many sessions at once, crates/tg_load/out/tg_load.
-load:
+load: ## prove and build tg_load, many sessions at once over one vault
 	cd crates/tg_load && rt run -- --sessions 1 --commands 1 > /dev/null
 
-# 63 sessions at once, a million commands in all, and the settle of their logs; then a million bad lines and 20,000 random runs and
-# derivations. No part of the gate, which runs fewer.
-soak: all load
+# 63 sessions at once, a million commands in all, and the settle of their logs; then tests/soak: a million bad lines,
+# 20,000 random runs and derivations, and servers that are kept busy. No part of the gate, which runs fewer.
+soak: all load ## run at length: a million commands of 63 sessions, a million bad lines, busy servers
 	crates/tg_load/out/tg_load --sessions 63 --commands 15874 --reuse --figures
 	tests/soak
 
-# Lines per second and peak memory on generated input, and what sessions on threads take; no test, and no part of one.
-bench: all load
+bench: all load ## measure lines per second, peak memory, and sessions on threads; tests nothing
 	bench/lines.py
 	bench/threads.py
 
-# The edit loop, over what earlier runs left: `make check tg_cells` proves that crate and its tests, tries its planted bugs and proves
-# the crates that stand on it; `make check` proves every crate, and no more.
-check:
+# The edit loop, over what earlier runs left: `make check tg_cells` proves that crate and its tests, tries its planted
+# bugs and proves the crates that stand on it; `make check` proves every crate, and no more.
+check: ## prove what changed: `make check NAME` a crate, its tests, its planted bugs and the crates above it
 	tests/check $(filter $(CRATES),$(MAKECMDGOALS))
+
+install: all ## copy the program to PREFIX/bin (PREFIX=/usr/local unless given)
+	install -D -m 755 crates/tgdoc/out/tgdoc $(DESTDIR)$(PREFIX)/bin/tgdoc
+
+clean: ## remove all that was built, and what the checks kept
+	rm -rf bin bench/out crates/*/out
 
 # (the name of a crate is a goal only so that it can stand behind `check`)
 $(CRATES):

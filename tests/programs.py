@@ -1,6 +1,7 @@
 """Runs that are more than an input and an output: each test takes the program's path and answers whether it passed."""
 
 import contextlib
+import itertools
 import os
 import select
 import shlex
@@ -193,6 +194,27 @@ def example(name, answer, status):
     return test
 
 
+def demo_of(program, *words):
+    """What examples/demo prints, with status 0."""
+    shown = [str(ROOT / "examples" / "demo"), *words]
+    how = {"env": {**os.environ, "TGDOC": str(program)}, "capture_output": True, "text": True}
+    return subprocess.run(shown, timeout=SECONDS, check=True, **how).stdout
+
+
+def readme_example(program):
+    """README.md shows what `make demo` prints: its indented lines from the one that opens a graph on."""
+    rows = (ROOT / "README.md").read_text().splitlines()
+    first = next(place for place, row in enumerate(rows) if row.startswith('    {"principals"'))
+    shown = itertools.takewhile(lambda row: row.startswith("    "), rows[first:])
+    return demo_of(program) == "".join(row[4:] + "\n" for row in shown)
+
+
+def demo_of_an_audit(program):
+    """The demo of a derivation prints its lines, and the verdict behind them."""
+    given = ROOT / "examples" / "derivation.jsonl"
+    return demo_of(program, str(given)) == given.read_text() + SHARED.decode()
+
+
 def versioned(*words):
     """A command line that asks for the version: the name and the version on standard output, status 0."""
 
@@ -231,6 +253,8 @@ def tests():
     # Without the step by which bob takes g, he may not grant to vertex 5.
     short = b'{"denied":"grant","from":2,"missing":"g","step":3,"to":5,"verdict":"step denied"}\n'
     yield "example-derivation-short", example("derivation-short.jsonl", short, 1)
+    yield "example-of-the-readme", readme_example
+    yield "demo-of-an-audit", demo_of_an_audit
     yield "no-word", refused()
     yield "another-word", refused("steal")
     yield "two-modes", refused("run", "audit")

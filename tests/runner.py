@@ -1,4 +1,5 @@
-"""What the runner of planted bugs says of a crate of three lines: that it can fail, and that no bug is credited with another's refusal."""
+"""What the runners say: that of planted bugs, of a crate of three lines, can fail, and credits no bug with another's refusal; tests/run, given
+names, runs the tests of these names, and fails where a name is no test's."""
 
 import subprocess
 import sys
@@ -112,8 +113,21 @@ def edits_of_a_crate_are_told_apart(program):
     return True
 
 
+def names_pick_tests(program):
+    """A name and a pattern pick a test each; a name that no test has counts as failed."""
+    words = ["every-want-of-memory-is-handed-on", "wants-that-*", "no-test"]
+    ran = subprocess.run([str(program.parent / "run"), *words], capture_output=True, text=True, timeout=60)
+    rows = [row for row in ran.stdout.splitlines() if not row.startswith(" ")]
+    wanted = [f"passed {words[0]} (crates)", "passed wants-that-are-made-up-are-seen (crates)", "no test has the name no-test", "2 passed, 1 failed"]
+    if (rows, ran.returncode) != (wanted, 1):
+        print(f"  not as wanted, status {ran.returncode}", *rows, ran.stderr, sep="\n    ")
+        return False
+    return True
+
+
 def tests():
-    return [("edits_of_a_crate_are_told_apart", edits_of_a_crate_are_told_apart)]
+    yield "edits-of-a-crate-are-told-apart", edits_of_a_crate_are_told_apart
+    yield "names-pick-tests", names_pick_tests
 
 
 if __name__ == "__main__":
