@@ -18,7 +18,7 @@ use tg_collect::{HeapFull, Store};
 use tg_graph::{Effect, LAST_SERIAL, Spot, decide, effect_of, into_text};
 use tg_rights::{Command, EdgeList, Kind, Reply, Rights, Text, Which};
 
-/// The edge gains the rights, and its target is the seat's; full where it is new and no cell is free.
+/// The edge gains the rights, and its target becomes the seat's; full if it is new and no cell is free.
 fn join(store: &mut Store, seat: u64, owner: u32, target: u32, rights: Rights) -> Reply
     requires seat { seat < SEATS }
     requires idle { pending_of store.old seat ≡ None }
@@ -34,7 +34,8 @@ fn join(store: &mut Store, seat: u64, owner: u32, target: u32, rights: Rights) -
     }
 }
 
-/// A vertex of the next serial comes in, and is the seat's target; full where there is no serial, slot or cell for it.
+/// A vertex with the next serial is added and becomes the seat's target; full if there is no serial, slot or cell for
+/// it.
 fn make(
     store: &mut Store,
     next: &mut u64,
@@ -79,7 +80,7 @@ fn remove(store: &mut Store, id: u32, over: u64, rights: Rights) -> Reply
     Reply::Done
 }
 
-/// A copy of the text is told.
+/// The reply is a copy of the text.
 fn tell(store: &Store, alloc: Global, at: u32) -> Result<Reply, AllocError>
     requires { IsSome (place store.now at) }
     ensures { IfOk result (λ answer. (next : ℕ) → answer ≡ reply.Text (text_of (held store.now next) (serial_at store.now at))) }
@@ -106,7 +107,7 @@ fn replace(
     Ok(Reply::Done)
 }
 
-/// The edges are told, by rising serial.
+/// The reply is the edges, by rising serial.
 fn list(store: &Store, alloc: Global, of: u32) -> Result<Reply, AllocError>
     requires { IsSome (place store.now of) }
     ensures { IfOk result (λ answer. (next : ℕ) → answer ≡ reply.Edges (edges_of (held store.now next) (serial_at store.now of))) }
@@ -115,9 +116,9 @@ fn list(store: &Store, alloc: Global, of: u32) -> Result<Reply, AllocError>
     Ok(Reply::Edges(EdgeList::new(edges)))
 }
 
-/// Decides the command of the principal, carries it out where the rules allow it, unless something that it needs is used
-/// up, and answers it. `AllocError` leaves all as it was; it comes only of an allowed command for which a text or a list is
-/// copied, so never of a denial.
+/// Decides the principal's command, carries it out if the rules allow it and nothing that it needs is used up, and
+/// returns the reply. `AllocError` leaves everything as it was; it occurs only for an allowed command that copies a
+/// text or a list, so never for a denial.
 pub fn answer(
     store: &mut Store,
     next: &mut u64,

@@ -38,7 +38,8 @@ enum Decided {
     },
 }
 
-/// A command that was decided. Contracts see its seat, its actor, the command and the outcome; in memory it takes 72 bytes.
+/// A command that was decided. Contracts see its seat, its actor, the command and the outcome; in memory it takes 72
+/// bytes.
 #[derive(Debug, Drop)]
 pub struct Entry {
     actor: u64,
@@ -55,7 +56,7 @@ impl Model for Entry {
 }
 
 impl Entry {
-    /// The command of that seat, 0 to 63, for that principal, and how it was decided.
+    /// The command that came from this seat, 0 to 63, for this principal, and how it was decided.
     pub(crate) fn new(seat: u64, actor: u64, command: Command, outcome: Outcome) -> Entry
         requires { seat < SEATS }
         ensures { result ≡ record { seat = seat; actor = actor; command = command; outcome = outcome } }

@@ -12,7 +12,7 @@ pub fn courses_have_the_headline()
     runs_are_complete_and_bounded();
 }
 
-/// One course behind another is a course.
+/// One course after another is a course.
 pub fn courses_join()
     ensures { CoursesJoin }
 {}

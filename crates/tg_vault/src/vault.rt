@@ -33,7 +33,7 @@ use tg_rights::{Command, Outcome, Reply, SEATS, Word};
 
 /// The whole state of the server: the opening graph with its principals' names, the seats, the store with its collector
 /// and the pending target of each seat, and the history of commands. Each call is one atomic step. Contracts see its
-/// `Contents`; the graph of the history is in them alone, and what is stored is what of it is still in use.
+/// `Contents`. Only they have the graph of the history; what is stored is the part of it still in use.
 ///
 /// The history is kept whole, and is legal: each entry's outcome is one that the take-grant rules (Lipton and Snyder
 /// 1977; Bishop) permit in the graph that the entries before it leave.
@@ -81,7 +81,7 @@ pub struct Ran {
     pub answers: Vec<Answer>,
 }
 
-/// What a table of seats has for one of them.
+/// The table's entry for a seat.
 fn at_seat(table: &[Option<u64>], seat: u64) -> Option<u64>
     ensures { result ≡ at_seat table.now seat }
 {
@@ -91,7 +91,7 @@ fn at_seat(table: &[Option<u64>], seat: u64) -> Option<u64>
     }
 }
 
-/// Seats that nobody has.
+/// Seats that are all empty.
 fn empty_seats(alloc: Global) -> Result<Vec<Option<u64>>, AllocError>
     ensures { IfOk result (λ seats. seats.items ≡ replicate SEATS None) }
 {
@@ -120,7 +120,7 @@ fn principal_named(names: &[Word], name: &str) -> Option<u64>
     }
 }
 
-/// The outcome that the reply tells of.
+/// The outcome that a reply reports.
 fn outcome_of(reply: &Reply) -> Outcome
     ensures { result ≡ told reply.now }
 {
@@ -131,7 +131,7 @@ fn outcome_of(reply: &Reply) -> Outcome
     }
 }
 
-/// The entry of a command that was answered so.
+/// The entry of a command that got this reply.
 fn entry_of(seat: u64, actor: u64, command: Command, reply: &Reply) -> Entry
     requires { seat < SEATS }
     ensures { result ≡ record { seat = seat; actor = actor; command = command; outcome = told reply.now } }
@@ -142,8 +142,8 @@ fn entry_of(seat: u64, actor: u64, command: Command, reply: &Reply) -> Entry
 
 impl Vault {
     /// A vault over the graph that the configuration opens: no entries, no seat in use, the configuration's names, and
-    /// the graph in the store. Otherwise the first fault of the configuration, as of `Graph::build`; `OutOfMemory` only
-    /// where there is no other.
+    /// the graph in the store. Otherwise the first fault of the configuration, as `Graph::build` returns it;
+    /// `OutOfMemory` only if there is no other.
     pub fn new(alloc: Global, config: Config) -> Result<Vault, OpenFault>
         ensures ok { IfOk result (λ vault. IsFresh config vault) }
         ensures sound { IfOk result (λ _. first_fault config ≡ None) }
@@ -204,9 +204,9 @@ impl Vault {
         &self.opening
     }
 
-    /// Seats the principal of this name, and answers its serial. One principal may sit on several seats. Faults, in this
-    /// order, after which all is as before: `NoSeat` for a seat above 63, `Bound` for one in use, `NoPrincipal` where nobody
-    /// has the name. Takes no memory.
+    /// Seats the principal of this name, and returns its serial. One principal may sit on several seats. Faults, in
+    /// this order, after which everything is as before: `NoSeat` for a seat above 63, `Bound` for one in use,
+    /// `NoPrincipal` if nobody has the name. Allocates nothing.
     pub fn hello(&mut self, seat: u64, name: &str) -> Result<u64, SeatFault>
         ensures step { MatchResult result (λ x. StepOf self.old (event.Hello seat name.now) (answer.Hello x) self.new) (λ fault. StepOf self.old (event.Hello seat name.now) (answer.Seat fault) self.new) }
         ensures keeps { Keeps self.old self.new }
@@ -242,7 +242,7 @@ impl Vault {
         }
     }
 
-    /// The principal at the seat, which has no pending target.
+    /// The principal at the seat, if no target is pending there.
     fn idle_at(&self, seat: u64) -> Result<u64, SeatFault>
         ensures ok { IfOk result (λ x. (seat < SEATS) × (at_seat self.now.seats seat ≡ Some x) × (at_seat self.now.store.pending seat ≡ None)) }
         ensures err { IfErr result (λ fault. bye_fault (moment self.now).world seat ≡ Some fault) }
@@ -254,8 +254,8 @@ impl Vault {
         Ok(principal)
     }
 
-    /// Empties the seat. Faults, in this order, after which all is as before: `NoSeat` for a seat above 63, `NoActor` for
-    /// an empty one, `Busy` while the seat has a pending target. Takes no memory.
+    /// Empties the seat. Faults, in this order, after which everything is as before: `NoSeat` for a seat above 63,
+    /// `NoActor` for an empty one, `Busy` while the seat has a pending target. Allocates nothing.
     pub fn bye(&mut self, seat: u64) -> Result<(), SeatFault>
         ensures step { MatchResult result (λ _. StepOf self.old (event.Bye seat) answer.Bye self.new) (λ fault. StepOf self.old (event.Bye seat) (answer.Seat fault) self.new) }
         ensures keeps { Keeps self.old self.new }
@@ -267,8 +267,9 @@ impl Vault {
         Ok(())
     }
 
-    /// Finishes the seat's pending target and answers its serial, or `None` where there is none. Faults, in this order,
-    /// after which all is as before: `NoSeat` for a seat above 63, `NoActor` for an empty one. Takes no memory.
+    /// Finishes the seat's pending target and returns its serial, or `None` if there is none. Faults, in this order,
+    /// after which everything is as before: `NoSeat` for a seat above 63, `NoActor` for an empty one. Allocates
+    /// nothing.
     pub fn shade(&mut self, seat: u64) -> Result<Option<u64>, SeatFault>
         ensures step { MatchResult result (λ target. StepOf self.old (event.Shade seat) (answer.Shaded target) self.new) (λ fault. StepOf self.old (event.Shade seat) (answer.Seat fault) self.new) }
         ensures keeps { Keeps self.old self.new }
@@ -283,7 +284,7 @@ impl Vault {
         Ok(target)
     }
 
-    /// One step of the collector, as its table has it. Takes no memory.
+    /// One step of the collector, as its table has it. Allocates nothing.
     #[inline(always)]
     pub fn collect(&mut self) -> Note
         ensures step { StepOf self.old event.Collect (answer.Noted result) self.new }
@@ -296,16 +297,16 @@ impl Vault {
         note
     }
 
-    /// Judges the command of the seat's principal, carries it out where it is allowed, and enters it in the history with
+    /// Judges the command of the seat's principal, carries it out if it is allowed, and enters it in the history with
     /// its outcome. Returns the entry's number, from 0, and the reply. An allowed take or grant makes `over` the seat's
-    /// pending target, also where the edge was there; an allowed create makes the new vertex so.
+    /// pending target, even if the edge was there already; an allowed create, the new vertex.
     ///
-    /// Faults, in this order, after which all is as before, nothing is entered and the command is dropped: `NoSeat` for a
-    /// seat above 63, `NoActor` for an empty one, `Busy` while the seat has a pending target, `OutOfMemory` where a
-    /// growth was refused, whatever the outcome would have been.
+    /// Faults, in this order, after which everything is as before, nothing is entered and the command is dropped:
+    /// `NoSeat` for a seat above 63, `NoActor` for an empty one, `Busy` while the seat has a pending target,
+    /// `OutOfMemory` if an allocation failed, whatever the outcome would have been.
     ///
-    /// The outcome and the reply are those of every graph that the actor can't tell from the graph of the history, a new
-    /// vertex's serial and fullness aside.
+    /// The outcome and the reply are those of every graph that the actor cannot tell from the graph of the history, a
+    /// new vertex's serial and fullness aside.
     pub fn command(&mut self, seat: u64, command: Command) -> Result<(u64, Reply), AskFault>
         ensures step { MatchResult result (λ r. StepOf self.old (event.Ask seat command) (answer.Asked r.0 r.1) self.new) (λ fault. StepOf self.old (event.Ask seat command) (answer.Ask fault) self.new) }
         ensures keeps { Keeps self.old self.new }
@@ -365,7 +366,7 @@ impl Vault {
         Ok((number, reply))
     }
 
-    /// Carries out a copy of the command, which is made only once the seat has no fault.
+    /// Carries out a copy of the command; the copy is made only once the seat is known to have no fault.
     fn command_copy(&mut self, seat: u64, command: &Command) -> Result<(u64, Reply), AskFault>
         ensures step { MatchResult result (λ r. StepOf self.old (event.Ask seat command.now) (answer.Asked r.0 r.1) self.new) (λ fault. StepOf self.old (event.Ask seat command.now) (answer.Ask fault) self.new) }
         ensures keeps { Keeps self.old self.new }
@@ -408,9 +409,9 @@ impl Vault {
         }
     }
 
-    /// A run of one event: carries it out, and answers it; `Ask(OutOfMemory)` where a growth was refused. `run` copies the
-    /// commands that it is lent, and takes the vault by value; here both stay where they are. Of one call after another
-    /// `courses_join` makes a course, and `courses_have_the_headline` says what `run` does of it.
+    /// A run of one event: carries it out and returns its answer; `Ask(OutOfMemory)` if an allocation failed. `run`
+    /// copies the commands that it borrows, and takes the vault by value; here both stay in place. `courses_join` joins
+    /// successive calls into a course, and `courses_have_the_headline` says of it what `run` promises.
     pub fn run_one(&mut self, event: Event) -> Answer
         ensures step { VaultStep self.old event result self.new }
         ensures headline { Headline self.old (event ∷ []) (result ∷ []) self.new }
@@ -422,7 +423,7 @@ impl Vault {
         answer
     }
 
-    /// Carries out one event, whose command is not copied.
+    /// Carries out one event, without copying its command.
     fn act(&mut self, event: Event) -> Answer
         ensures step { StepOf self.old event result self.new }
         ensures keeps { Keeps self.old self.new }
@@ -438,8 +439,8 @@ impl Vault {
         }
     }
 
-    /// Collector steps up to and with the first that ends a cycle: how many slots they freed, and how many they were. There
-    /// are at most `S * S + 3 * S + C + 3`, for S slots and C cells. Takes no memory.
+    /// Collector steps up to and including the first that ends a cycle: how many slots they freed, and how many steps
+    /// there were. There are at most `S * S + 3 * S + C + 3`, for S slots and C cells. Allocates nothing.
     pub fn cycle(&mut self) -> Swept
         ensures cycle { IsCycle self.old result self.new }
         ensures keeps { Keeps self.old self.new }
@@ -458,16 +459,16 @@ impl Vault {
         }
     }
 
-    /// Carries out the events in order, each one atomic step, and answers each. Room for all answers is taken first: if it is
-    /// refused, no event is carried out and there is no answer. A refused copy of a command is answered `Ask(OutOfMemory)`,
-    /// after the seat's faults.
+    /// Carries out the events in order, each as one atomic step, and answers each. Room for all answers is taken first:
+    /// if that fails, no event is carried out and there is no answer. If a command cannot be copied, the answer is
+    /// `Ask(OutOfMemory)`, unless the seat has a fault.
     ///
-    /// The answers are a run of the world that the history gives, and the entries added are those of the `Asked` answers.
-    /// Each command is carried out exactly when the take-grant rules (Lipton and Snyder 1977; Bishop) allow it in the graph
-    /// that is never collected, unless refused as full; every denial names its rule and missing rights; no vertex
-    /// reachable from a principal or an unfinished step loses its slot; what is unreachable when a cycle starts has no slot
-    /// when the next cycle ends (the collector of Dijkstra, Lamport, Martin, Scholten and Steffens 1978). Among any
-    /// `S * S + 3 * S + C + 3` collector steps in a row, for S slots and C cells, one ends a cycle.
+    /// The answers are a run of the world that the history gives, and the entries added are those of the `Asked`
+    /// answers. Each command is carried out exactly when the take-grant rules (Lipton and Snyder 1977; Bishop) allow it
+    /// in the graph that is never collected, unless refused as full; every denial names its rule and missing rights; no
+    /// vertex reachable from a principal or an unfinished step loses its slot; what is unreachable when a cycle starts
+    /// has no slot when the next cycle ends (the collector of Dijkstra, Lamport, Martin, Scholten and Steffens 1978).
+    /// Among any `S * S + 3 * S + C + 3` collector steps in a row, for S slots and C cells, one ends a cycle.
     pub fn run(self, events: &[Event]) -> Ran
         ensures headline { Headline self (take (length result.answers.items) events.now) result.answers.items result.vault }
         ensures run { RunOf self (take (length result.answers.items) events.now) result.answers.items result.vault }
