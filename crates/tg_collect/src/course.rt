@@ -30,7 +30,7 @@ impl Model for Course {
 }
 
 impl Course {
-    /// What stands for a progress.
+    /// What represents a progress.
     pub fn of(progress: Progress) -> Course
         ensures { result ≡ progress }
     {
@@ -49,7 +49,7 @@ impl Course {
         Course { flat }
     }
 
-    /// The progress that it stands for.
+    /// The progress that it represents.
     pub fn get(&self) -> Progress
         ensures { result ≡ self.now }
     {

@@ -1,5 +1,5 @@
-//! Calls in want of memory: what they leave, and the same calls made again. tests/growths.py refuses each allocation of
-//! a test in turn.
+//! Calls whose allocations fail: what they leave, and the same calls made again. tests/growths.py makes each allocation
+//! of a test fail in turn.
 use crate::Store;
 use crate::tests::Act::{Create, End, FreeCells, FreeSlots, Join, Mark, Remove, Shade, Sweep};
 use crate::tests::{GRANT, READ, Script, TAKE, TWO, WRITE, at, graph, open, play, rights};
@@ -44,13 +44,13 @@ const JOINED: &Script = &Script {
     ],
 };
 
-/// The graph still has its two principals alone.
+/// The graph still has its two principals and nothing else.
 fn is_left(rt: &impl Abort, graph: &Graph) {
     assert!(rt; graph.kind(2) == Some(Kind::Subject));
     assert!(rt; graph.kind(3).is_none());
 }
 
-/// The store of a script. In want of memory its graph is left, and it is made again.
+/// The store of a script. If memory runs out the graph is as before, and the store is made again.
 fn opened_again(
     rt: &(impl Abort + Print),
     alloc: Global,
@@ -67,7 +67,7 @@ fn opened_again(
     }
 }
 
-/// The edges of a principal, asked again in want of memory.
+/// The edges of a principal, asked for again if memory runs out.
 fn edges_again(
     rt: &(impl Abort + Print),
     alloc: Global,
@@ -84,7 +84,7 @@ fn edges_again(
     }
 }
 
-/// A refused store leaves the graph, which is then stored, and all goes as worked out.
+/// A store that lacks memory leaves the graph; the graph is then stored, and everything goes as worked out.
 #[test]
 fn growth_refused_in_a_store_that_is_opened(rt: HostRuntime) -> Result<(), AllocError> {
     let mut store = opened_again(&rt, rt.alloc(), GARBAGE)?;
@@ -102,7 +102,7 @@ fn has_edges(
     Ok(edges_again(rt, alloc, store, principal)?.as_slice() == wanted)
 }
 
-/// A refused list leaves the edges, which are then told.
+/// A list that lacks memory leaves the edges; they are listed on the next call.
 #[test]
 fn growth_refused_in_a_list_of_edges(rt: HostRuntime) -> Result<(), AllocError> {
     let mut store = open(&rt, rt.alloc(), JOINED)?;

@@ -1,4 +1,5 @@
-//! The heap with its roots and the collector's progress: one private method for each line of the step table, and the session steps.
+//! The heap with its roots and the collector's progress: one private method for each line of the step table, and the
+//! session steps.
 ghost use Rattle.std.specs.Prelude.{◌≡◌, ◌≢◌, ℕ, ◌<◌, ◌≤◌, List, [], ◌∷◌, ◌++◌, length, MatchOption, MatchBool, ◌+◌, get_or, false, true, cond, None, Some};
 ghost use Rattle.std.specs.Bool.{OnTrue};
 ghost use Rattle.tg_rights.specs.declared.limits.TheConstants.{MAX_PRINCIPALS, MAX_SLOTS};
@@ -91,7 +92,7 @@ impl Machine {
         self.progress = Course::of(Progress::Marking(None));
     }
 
-    /// Takes the first of the grey list under scan, or answers that there is none.
+    /// Takes the first of the grey list under scan; false if there is none.
     fn take_grey(&mut self) -> bool
         requires at { self.old.progress ≡ Progress.Marking None }
         requires kept { Invariant self.old }
@@ -142,7 +143,7 @@ impl Machine {
         self.progress = Course::of(Progress::Sweeping(at + 1));
     }
 
-    /// Frees a parked slot's first cell, or the slot where it has none; true where it freed the slot.
+    /// Frees a parked slot's first cell, or the slot if it has none; true if it freed the slot.
     fn reclaim(&mut self, at: u32) -> bool
         requires at { self.old.progress ≡ Progress.Sweeping at }
         requires white { mark_at self.old.heap at ≡ Has Colour.White }
@@ -176,7 +177,7 @@ impl Machine {
         self.progress = Course::of(Progress::Idle);
     }
 
-    /// Shades the pending target of the least seat that has a white one, or answers that there is none.
+    /// Shades the pending target of the least seat that has a white one; false if there is none.
     fn shade_pending(&mut self) -> bool
         requires at { self.old.progress ≡ Progress.Marking None }
         requires none_grey { self.old.heap.table.grey ≡ [] }
@@ -258,7 +259,8 @@ impl Machine {
         }
     }
 
-    /// Puts an edge to a held slot that the owner has none to, where a cell is free, and makes it the seat's pending target.
+    /// Adds an edge to a held slot to which the owner has none, if a cell is free, and makes it the seat's pending
+    /// target.
     pub fn link_edge(&mut self, seat: usize, id: u32, target: Root, rights: Rights)
         requires kept { Invariant self.old }
         requires seat { seat < length self.old.pending.items }
@@ -295,7 +297,7 @@ impl Machine {
         }
     }
 
-    /// Puts a vertex without edges into the first free slot; the text comes back where there is none.
+    /// Puts a vertex without edges into the first free slot; returns the text if there is none.
     pub fn place_vertex(&mut self, serial: u64, kind: Kind, text: Text) -> Result<u32, Text>
         requires kept { Invariant self.old }
         ensures kept { Invariant self.new }
@@ -315,7 +317,7 @@ impl Machine {
         }
     }
 
-    /// Replaces the text of a held slot, and gives the old one.
+    /// Replaces the text of a held slot, and returns the old one.
     pub fn set_text(&mut self, id: u32, text: Text) -> Text
         requires kept { Invariant self.old }
         requires held { IsHeld self.old id }
@@ -343,7 +345,7 @@ impl Machine {
         self.progress = Course::of(Progress::Marking(None));
     }
 
-    /// Shades a root that stays one.
+    /// Shades a root; it stays one.
     fn shade_root(&mut self, slot: u32)
         requires kept { Invariant self.old }
         requires root { IsRoot self.old slot }
@@ -397,7 +399,7 @@ impl Machine {
         }
     }
 
-    /// The step of the marking phase where no slot is under scan.
+    /// The step of the marking phase when no slot is under scan.
     fn mark_next(&mut self)
         requires at { self.old.progress ≡ Progress.Marking None }
         requires kept { Invariant self.old }

@@ -19,7 +19,8 @@ use tg_heap::Heap;
 use tg_rights::{Kind, MAX_PRINCIPALS, Rights, SEATS, Text};
 
 impl Machine {
-    /// The machine of a graph: its vertices, which are the principals, and then its edges by rising pairs of their ends.
+    /// The machine of a graph: its vertices, which are the principals, and then its edges by rising pairs of their
+    /// ends.
     pub fn open(alloc: Global, graph: &Graph, slots: u32, cells: u32) -> Result<Machine, AllocError>
         requires low_slots { 1 ≤ slots }
         requires high_slots { slots ≤ MAX_SLOTS }
@@ -98,7 +99,7 @@ impl Machine {
         }
     }
 
-    /// Puts the graph's edges between the principals in, by rising pairs of their ends.
+    /// Adds the graph's edges between the principals, by rising pairs of their ends.
     fn open_edges(&mut self, graph: &Graph)
         requires whole { Whole self.old }
         requires opens { OpensEdges (stored self.old) graph.now (length self.old.principals.items) 0 0 }
@@ -111,7 +112,7 @@ impl Machine {
         self.heap.soundness();
     }
 
-    /// Puts the edges of one principal in.
+    /// Adds the edges of one principal.
     fn open_edges_of(&mut self, graph: &Graph, from: usize)
         requires whole { Whole self.old }
         requires from { from < length self.old.principals.items }
@@ -127,7 +128,7 @@ impl Machine {
         }
     }
 
-    /// Puts the edge of a pair of principals in, where the graph has one.
+    /// Adds the edge of a pair of principals, if the graph has one.
     fn open_pair(&mut self, graph: &Graph, from: usize, to: usize)
         requires whole { Whole self.old }
         requires from { from < length self.old.principals.items }
@@ -148,7 +149,7 @@ impl Machine {
         }
     }
 
-    /// Puts an edge in by way of the first seat, which has no target afterwards: no cycle has started.
+    /// Adds an edge through the first seat, which has no target afterwards: no cycle has started.
     fn open_edge(&mut self, id: u32, target: Root, rights: Rights)
         requires whole { Whole self.old }
         requires phase { (stored self.old).phase ≡ phase.Idle }

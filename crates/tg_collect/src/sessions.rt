@@ -1,4 +1,4 @@
-//! The calls of sessions on the machine, by what contracts see of a store.
+//! The calls of sessions on the machine, in terms of what contracts see of a store.
 ghost use Rattle.std.specs.Prelude.{◌≡◌, ◌≢◌, ℕ, ◌<◌, Option, Some, None, MatchOption, OnOk, OnErr, IfOk, IfErr, IsSome, true, false, length, map};
 ghost use Rattle.std.specs.Option.{option_map};
 ghost use Rattle.std.specs.FinMap as finmap;
@@ -199,7 +199,7 @@ impl Machine {
         }
     }
 
-    /// Puts the edge to a new vertex, which the owner has no edge to, where a cell is free.
+    /// Adds the edge to a new vertex, to which the owner has none, if a cell is free.
     pub fn link_new(&mut self, seat: u64, id: u32, target: Root, rights: Rights)
         requires whole { Whole self.old }
         requires seat { seat < SEATS }

@@ -22,11 +22,11 @@ use tg_graph::Graph;
 use tg_heap::HeapFull;
 use tg_rights::{Kind, Rights, Text};
 
-/// Vertices with their labelled edges in slots and cells, the principals, one pending target per seat, and the
-/// collector beside them. Contracts see what is held as a protection graph, and of the collector its phase, the colours,
-/// what is parked and what is left of a cycle.
+/// Vertices with their labelled edges in slots and cells, the principals, one pending target per seat, and their
+/// collector. Contracts see what is held as a protection graph, and of the collector its phase, the colours, what is
+/// parked and what is left of a cycle.
 ///
-/// A call that names a slot has the condition that a vertex is held there; one that names a seat, that it is 0 to 63.
+/// A call that names a slot requires that a vertex is held there; one that names a seat, that it is 0 to 63.
 #[derive(Drop)]
 pub struct Store {
     machine: Machine,
@@ -47,8 +47,8 @@ impl Model for Store {
 }
 
 impl Store {
-    /// The store of a graph of at most 64 subjects with the serials from 1 on in a row, which fit with their edges: its
-    /// principals. They are in the first slots, white, in the order of their serials; their edges are put in by rising
+    /// The store of a graph of at most 64 subjects, with consecutive serials from 1 on, which fit with their edges: its
+    /// principals. They are in the first slots, white, in the order of their serials; their edges are added by rising
     /// pairs of their ends. All memory is allocated here; the only error is that an allocation failed.
     pub fn new(alloc: Global, graph: &Graph, slots: u32, cells: u32) -> Result<Store, AllocError>
         requires low_slots { 1 ≤ slots }
@@ -71,7 +71,7 @@ impl Store {
         self.machine.heap.soundness();
     }
 
-    /// The slot of a principal, by its serial; none where no principal has it.
+    /// The slot of a principal, by its serial; none if no principal has it.
     pub fn principal(&self, serial: u64) -> Option<u32>
         ensures { MatchOption result (Contains self.now.principals serial → ⊥) (λ id. Contains self.now.principals serial × (place self.now id ≡ Some serial)) }
     {
@@ -94,7 +94,7 @@ impl Store {
         self.machine.text(id)
     }
 
-    /// The slot of the vertex with this serial and the rights over it; none where the slot's vertex has no right over it.
+    /// The slot of the vertex with this serial and the rights over it; none if the slot's vertex has no right over it.
     pub fn edge(&self, id: u32, serial: u64) -> Option<(u32, Rights)>
         requires { IsSome (place self.now id) }
         ensures { MatchOption result
@@ -142,8 +142,8 @@ impl Store {
         self.machine.progress.get().phase()
     }
 
-    /// Joins rights to the label of an edge, and makes its target the seat's pending one. The only error is Cells,
-    /// where the edge is new and no cell is free; all is then as before.
+    /// Joins rights to the label of an edge, and makes its target the seat's pending one. The only error is Cells, if
+    /// the edge is new and no cell is free; everything is then as before.
     pub fn store_edge(
         &mut self,
         seat: u64,
@@ -166,8 +166,8 @@ impl Store {
     }
 
     /// Puts a new vertex into a slot, with an edge to it from the vertex in the slot `id`, and makes it the seat's
-    /// pending target. Slots is the error where no slot is free, else Cells where no cell is; all is then as before and
-    /// the text comes back. The serial is neither held nor parked.
+    /// pending target. The error is Slots if no slot is free, else Cells if no cell is; everything is then as before
+    /// and the text is returned. The serial is neither held nor parked.
     pub fn store_vertex(
         &mut self,
         seat: u64,
@@ -194,7 +194,7 @@ impl Store {
             .store_vertex(seat, id, serial, kind, rights, text)
     }
 
-    /// Takes rights from the label of an edge, which has them; an edge that keeps none gives its cell back.
+    /// Takes rights from the label of an edge, which has them; an edge left with none gives its cell back.
     pub fn remove_rights(&mut self, id: u32, serial: u64, rights: Rights)
         requires source { IsSome (place self.old id) }
         requires edge { IsEdgeIn self.old (serial_at self.old id) serial }
@@ -205,7 +205,7 @@ impl Store {
         self.machine.drop_rights(id, serial, rights)
     }
 
-    /// Replaces the text of the vertex in a slot, and gives the old one.
+    /// Replaces the text of the vertex in a slot, and returns the old one.
     pub fn set_text(&mut self, id: u32, text: Text) -> Text
         requires { IsSome (place self.old id) }
         ensures replaced { TextReplaced self.old self.new (serial_at self.old id) text result }
@@ -214,7 +214,7 @@ impl Store {
         self.machine.replace_text(id, text)
     }
 
-    /// Shades the seat's pending target, if it has one, and clears it; answers it.
+    /// Shades the seat's pending target, if it has one, and clears it; returns it.
     pub fn shade(&mut self, seat: u64) -> Option<u64>
         requires { seat < SEATS }
         ensures shaded { Shaded self.old self.new seat result }

@@ -1,5 +1,5 @@
 //! Scripts of store calls with every note of the collector, in the steps that were worked out by hand. The helpers stop
-//! a test where a call's condition is not met.
+//! a test if a call's condition is not met.
 ghost use Rattle.std.specs.Prelude.{◌≡◌, Some, IfOk};
 ghost use Rattle.std.specs.Bool.{OnFalse};
 ghost use Rattle.tg_collect.specs.Names.{Whole};
@@ -28,11 +28,13 @@ pub(crate) fn has(machine: &Machine, serial: u64) -> bool
     false
 }
 
-/// One call of a script with its answer, or what must be seen after the calls before it. Rights are given by their bits.
+/// One call of a script with its result, or what must be seen after the calls before it. Rights are given by their
+/// bits.
 pub enum Act {
     /// A principal's new document: seat, principal, serial, rights, and what is full.
     Create(u64, u64, u64, u8, Option<HeapFull>),
-    /// An edge gains rights: seat, its two ends, each with a principal that has a right over it, rights, and what is full.
+    /// An edge gains rights: seat, its two ends, each with a principal that has a right over it, rights, and what is
+    /// full.
     Join(u64, (u64, u64), (u64, u64), u8, Option<HeapFull>),
     /// A principal loses rights over a serial.
     Remove(u64, u64, u8),
@@ -40,11 +42,11 @@ pub enum Act {
     Shade(u64, Option<u64>),
     /// The text of a document over which a principal has a right is replaced, with the old one.
     Write(u64, u64, &'static str, &'static str),
-    /// So many collector steps of the marking.
+    /// This many collector steps of the marking.
     Mark(u32),
-    /// So many collector steps of the sweep that free no slot.
+    /// This many collector steps of the sweep that free no slot.
     Sweep(u32),
-    /// So many collector steps of the sweep that free a slot each.
+    /// This many collector steps of the sweep that free a slot each.
     Reclaim(u32),
     /// The collector step that ends a cycle.
     End,
@@ -216,7 +218,8 @@ const SCRIPTS: &[Script] = &[
             FreeCells(8),
         ],
     },
-    // seat 0's target has an edge to that of seat 1: were seat 1's shaded first, the other would need a step of its own
+    // seat 0's target has an edge to that of seat 1: if seat 1's were shaded first, the other would need a step of its
+    // own
     Script {
         name: "the least seat with a white target is first",
         principals: TWO,
@@ -250,7 +253,7 @@ const SCRIPTS: &[Script] = &[
             End,
         ],
     },
-    // nothing but its seat leads to the vertex: the marking shades it, and then scans it
+    // only its seat leads to the vertex: the marking shades it, and then scans it
     Script {
         name: "a new vertex is white during marking",
         principals: TWO,
@@ -294,7 +297,8 @@ const SCRIPTS: &[Script] = &[
             FreeSlots(0),
         ],
     },
-    // alice's scan has passed the edge to 5 and is to look at that to 4, which goes: the edge to 3 is next, not 5's again
+    // alice's scan has passed the edge to 5 and comes next to that to 4, which is removed: next is the edge to 3, not
+    // 5's again
     Script {
         name: "a cursor moves to the next cell",
         principals: TWO,
@@ -503,7 +507,7 @@ fn pending(rt: &impl Abort, store: &Store, seat: u64) -> Option<u64> {
     store.pending(seat)
 }
 
-/// Replaces the text of a document over which a principal has a right; whether the old one was this.
+/// Replaces the text of a document over which a principal has a right; returns whether the old one was this.
 fn replaces(
     rt: &impl Abort,
     alloc: Global,
@@ -530,7 +534,7 @@ fn is_text(rt: &impl Abort, store: &Store, principal: u64, serial: u64, text: &s
     reads(store.text(id), text) && store.kind(id) == Kind::Document
 }
 
-/// Whether a principal has this edge alone.
+/// Whether this is a principal's only edge.
 fn has_edge(
     rt: &impl Abort,
     alloc: Global,
@@ -544,7 +548,7 @@ fn has_edge(
     Ok(edges.as_slice() == [(serial, rights)].as_slice())
 }
 
-/// Takes so many steps of the collector; whether each has this note.
+/// Makes this many steps of the collector; returns whether each has this note.
 fn steps(store: &mut Store, count: u32, phase: Phase, freed: u64, ended: bool) -> bool {
     let wanted = Note {
         phase,
@@ -559,7 +563,7 @@ fn steps(store: &mut Store, count: u32, phase: Phase, freed: u64, ended: bool) -
     true
 }
 
-/// Carries out one line of a script; whether it goes as it says.
+/// Carries out one line of a script; returns whether it goes as it says.
 fn goes(rt: &impl Abort, alloc: Global, store: &mut Store, act: &Act) -> Result<bool, AllocError> {
     match act {
         Create(seat, principal, serial, bits, full) => {
