@@ -1,4 +1,4 @@
-//! The end of a shared vault: what its sessions were told, against its history.
+//! The end of a shared vault: what its sessions received, against its history.
 ghost use Rattle.std.specs.Prelude.{◌≡◌};
 ghost use Rattle.tg_share.specs.declared.locked.TheConstants.{PARTS};
 ghost use Rattle.tg_share.specs.Closing.{IsClosed};
@@ -9,11 +9,11 @@ use std::sync::ledger::Ledger;
 use tg_audit::{Settled, agreed_counts, settle};
 use tg_vault::courses_have_the_headline;
 
-/// What `close` answers.
+/// What `close` returns.
 #[derive(Drop)]
 pub enum Closed<L: Ledger> {
-    /// The logs were settled with the history. `counted` says that as many ended sessions came as were given: the history
-    /// then has as many entries as the logs have exchanges, whatever `settled` is.
+    /// The logs were settled with the history. `counted` says that as many ended sessions were passed in as were given:
+    /// the history then has as many entries as the logs have exchanges, whatever `settled` is.
     Done {
         settled: Settled,
         counted: bool,

@@ -1,5 +1,5 @@
-//! The lock, and holds of it. A hold is used up by its one event, and can't be dropped without: so nothing but events
-//! happens under the lock, and each hold makes one, or none where no part is left for a session.
+//! The lock, and holds of it. A hold is used up by its one event, and cannot be dropped without it: so nothing but
+//! events happens under the lock, and each hold makes one, or none if no part is left for a session.
 ghost use Rattle.std.specs.Prelude.{◌≡◌, ◌⊎◌, ◌+◌, ◌<◌, length, Err, IfOk, IfErr, OnOk, OnErr, MatchResult};
 ghost use Rattle.tg_rights.specs.declared.limits.TheConstants.{SEATS};
 ghost use Rattle.tg_vault.specs.declared.event.AskFault.TheVariants as ask_fault;
@@ -60,8 +60,8 @@ impl<L: Ledger> Lock<L> {
 }
 
 impl<'a, L: Ledger> Hold<'a, L> {
-    /// The event hello. A session that it seats gets a part with nothing counted; `NoSeat` too, and no event, where only
-    /// the last part is left.
+    /// The event hello. A session that it seats gets a part with nothing counted; if only the last part is left, there
+    /// is no event, and the fault is `NoSeat` too.
     pub fn hello(self, seat: u64, name: &str) -> Result<(u64, Share<L>), SeatFault>
         ensures seat { OnOk result (seat < SEATS) }
         ensures share { IfOk result (λ r. (r.1.parts ≡ 1) × (r.1.amount ≡ 0)) }
@@ -71,7 +71,7 @@ impl<'a, L: Ledger> Hold<'a, L> {
         guard.hello(seat, name)
     }
 
-    /// The event ask. Where it enters the command the share grows by one.
+    /// The event ask. If it enters the command, the share grows by one.
     pub fn ask(self, seat: u64, command: Command, share: &mut Share<L>) -> Result<Reply, AskFault>
         requires { 0 < share.old.parts }
         ensures event { MatchResult result (λ reply. IsAnswered self.entry (event.Ask seat command) (answer.Asked (length self.entry.history) reply)) (λ fault. IsAnswered self.entry (event.Ask seat command) (answer.Ask fault)) }

@@ -1,5 +1,5 @@
-//! What lies under the lock. Each method that changes the vault is one event, or none; a hold of the lock is used up by one
-//! of them.
+//! What lies under the lock. Each method that changes the vault is one event, or none; a hold of the lock is used up by
+//! one of them.
 ghost use Rattle.std.specs.Prelude.{◌≡◌, ◌+◌, ◌<◌, ◌≤◌, [], length, Err, IfOk, OnOk, OnErr, MatchResult};
 ghost use Rattle.tg_vault.specs.declared.event.SeatFault.TheVariants as seat_fault;
 ghost use Rattle.tg_vault.specs.declared.event.Event.TheVariants as event;
@@ -47,7 +47,7 @@ impl<L: Ledger> Locked<L> {
         }
     }
 
-    /// The event hello; no event where only the last part is left. A session that it seats gets a part with nothing
+    /// The event hello; no event if only the last part is left. A session that it seats gets a part with nothing
     /// counted.
     pub fn hello(&mut self, seat: u64, name: &str) -> Result<(u64, Share<L>), SeatFault>
         ensures event { self.old.given + 1 < PARTS → MatchResult result (λ r. VaultStep self.old.vault (event.Hello seat name.now) (answer.Hello r.0) self.new.vault) (λ fault. VaultStep self.old.vault (event.Hello seat name.now) (answer.Seat fault) self.new.vault) }
@@ -71,8 +71,8 @@ impl<L: Ledger> Locked<L> {
         Ok((actor, share))
     }
 
-    /// The event ask. Where it enters the command, book and share grow by one, and the answer has the entry's actor beside
-    /// the reply.
+    /// The event ask. If it enters the command, book and share grow by one, and the result has the entry's actor as
+    /// well as the reply.
     pub fn ask(
         &mut self,
         seat: u64,

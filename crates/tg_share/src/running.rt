@@ -11,8 +11,8 @@ use tg_collect::Note;
 use tg_rights::{Command, Reply};
 use tg_vault::{AskFault, SeatFault, Vault};
 
-/// A vault, and nothing but events has happened to it since it had no entries. Each method that changes it is one event.
-/// Contracts see the vault.
+/// A vault, and nothing but events has happened to it since it had no entries. Each method that changes it is one
+/// event. Contracts see the vault.
 #[derive(Drop)]
 pub struct Running {
     vault: Vault,
@@ -40,7 +40,7 @@ impl Running {
         Running { vault }
     }
 
-    /// The vault, which events have led to.
+    /// The vault to which the events have led.
     pub fn into_vault(self) -> Vault
         ensures same { result ≡ self }
         ensures reached { IsReached result }

@@ -18,8 +18,8 @@ use tg_audit::{Exchange, SeatLog};
 use tg_rights::{Command, Reply};
 use tg_vault::{AskFault, SeatFault, Vault};
 
-/// One vault for many threads, under one lock. Nothing but events happens to it there, and a hold of the lock is used up by
-/// its event: what a session copies and keeps, it copies and keeps with the lock free.
+/// One vault for many threads, under one lock. Nothing but events happens to it there, and a hold of the lock is used
+/// up by its event: a session makes its copies and keeps its log with the lock free.
 #[derive(Drop)]
 pub struct Shared<L: Ledger> {
     pub(crate) locked: Lock<L>,
@@ -35,8 +35,8 @@ pub struct Worked {
     pub ended: u64,
 }
 
-/// A principal on a seat, with a log of what it asked and was told, and a share of the ledger that counts the log. It has
-/// to be ended: it can't be dropped.
+/// A principal on a seat, with a log of its commands and the replies, and a share of the ledger that counts the log. It
+/// has to be ended: it cannot be dropped.
 pub struct Session<'a, L: Ledger> {
     shared: &'a Shared<L>,
     alloc: Global,
@@ -69,7 +69,7 @@ pub struct Ended<L: Ledger> {
 }
 
 impl<L: Ledger> Shared<L> {
-    /// Puts a vault without entries under a lock, with the blank as the ledger of its entries. Takes no memory.
+    /// Puts a vault without entries under a lock, with the blank as the ledger of its entries. Allocates nothing.
     pub fn new(alloc: Global, blank: Blank, vault: Vault) -> Shared<L>
         requires name { blank.name ≡ L.name }
         requires parts { blank.parts ≡ L.parts }
@@ -83,8 +83,9 @@ impl<L: Ledger> Shared<L> {
         }
     }
 
-    /// Seats the principal of this name by the event hello. The session begins with an empty log, for which it keeps the
-    /// allocator; the call takes no memory. `NoSeat` too, and no event, where `PARTS - 1` sessions were given.
+    /// Seats the principal of this name by the event hello. The session begins with an empty log, for which it keeps
+    /// the allocator; the call allocates nothing. If `PARTS - 1` sessions were given, there is no event, and the fault
+    /// is `NoSeat` too.
     pub fn session<R: Wait>(
         &self,
         rt: &R,
@@ -106,8 +107,8 @@ impl<L: Ledger> Shared<L> {
         })
     }
 
-    /// Makes so many steps of the collector, each the event collect under a hold of its own, with a pause after each but
-    /// the last. Takes no memory.
+    /// Makes this many steps of the collector, each the event collect under a hold of its own, with a pause after each
+    /// but the last. Allocates nothing.
     pub fn collector<R: Wait + Clock, G: Gate>(&self, rt: &R, steps: u64, gate: &G) -> Worked
         ensures freed { result.freed ≤ steps }
         ensures ended { result.ended ≤ steps }
@@ -135,7 +136,7 @@ impl<'a, L: Ledger> Session<'a, L> {
         self.actor
     }
 
-    /// Asks the command, and enters the exchange in the log.
+    /// Submits the command, and enters the exchange in the log.
     fn carry_out<R: Wait + Clock, G: Gate>(
         &mut self,
         rt: &R,
@@ -177,7 +178,7 @@ impl<'a, L: Ledger> Session<'a, L> {
         &self.log[self.log.len() - 1].reply
     }
 
-    /// Empties the seat by the event bye, and hands out the log, the principal and the share. Takes no memory.
+    /// Empties the seat by the event bye, and returns the log, the principal and the share. Allocates nothing.
     pub fn end<R: Wait>(self, rt: &R) -> Ended<L>
         ensures seat { result.log.seat ≡ self.entry.seat }
         ensures log { result.log.exchanges.items ≡ self.entry.log }
@@ -212,9 +213,9 @@ impl<'a, L: Ledger> Session<'a, L> {
     ghost use Rattle.tg_share.specs.contracts.session.Session.{the_row};
     ghost use Rattle.tg_share.specs.Sessions.{HasAsked};
 
-    /// Asks the command by the event ask, pauses, and shades what it left as the seat's target by the event shade. The
-    /// reply is that of the last exchange of the log. After a fault the log is as before, nothing is entered and the command
-    /// is dropped; where room in the log or a copy of the command is refused, there is no event.
+    /// Submits the command by the event ask, pauses, and shades what it left as the seat's target by the event shade.
+    /// The reply is that of the last exchange of the log. After a fault the log is as before, nothing is entered and
+    /// the command is dropped; if there is no memory for the log or for a copy of the command, there is no event.
     pub fn submit<R: Wait + Clock, G: Gate>(
         &mut self,
         rt: &R,
