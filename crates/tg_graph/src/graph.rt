@@ -51,8 +51,8 @@ impl Model for Graph {
 
 impl Graph {
     /// The graph that the configuration opens: principal k of its list is the subject of serial k, counted from 1.
-    /// Otherwise the first of its faults in the order of `OpenFault`, each asked over the whole configuration;
-    /// `OutOfMemory` only where there is no other.
+    /// Otherwise the first of its faults in the order of `OpenFault`, each checked over the whole configuration;
+    /// `OutOfMemory` only if there is no other.
     pub fn build(alloc: Global, config: &Config) -> Result<Graph, OpenFault>
         ensures ok { IfOk result (λ graph. graph ≡ opening config.now) }
         ensures sound { IfOk result (λ _. first_fault config.now ≡ None) }
@@ -114,8 +114,8 @@ impl Graph {
         let _ = &self.next;
     }
 
-    /// The label from one vertex to another: the rights that `from` has over `to`. It is empty where there is no edge,
-    /// and where one of the serials is no vertex's.
+    /// The label from one vertex to another: the rights that `from` has over `to`. It is empty if there is no edge,
+    /// also if one of the serials is no vertex's.
     pub fn rights(&self, from: u64, to: u64) -> Rights
         ensures { result ≡ label self.now from to }
     {
@@ -125,7 +125,7 @@ impl Graph {
         }
     }
 
-    /// What the vertex of this serial is; `None` where there is none.
+    /// What the vertex of this serial is; `None` if there is none.
     pub fn kind(&self, vertex: u64) -> Option<Kind>
         ensures { result ≡ kind_of self.now vertex }
     {
@@ -136,8 +136,8 @@ impl Graph {
     }
 
     /// How the rules alone decide a command of the actor: allowed, or denied for the first cause that holds, in the
-    /// order of `Cause`; never full. A subject's command is judged alike in all graphs that agree for it: those where the
-    /// same paths lead from it, to vertices of the same kind, text and labels.
+    /// order of `Cause`; never full. A subject's command is judged alike in all graphs that agree for it: those in
+    /// which the same paths lead from it, to vertices of the same kind, text and labels.
     pub fn judge(&self, actor: u64, command: &Command) -> Outcome
         requires { IsSubject self.now actor }
         ensures decided { Judged self.now actor command.now result }
@@ -160,11 +160,11 @@ impl Graph {
         }
     }
 
-    /// Carries out the actor's command if the rules allow it and, for a create, a serial is left; otherwise the
-    /// graph stays, and the reply says why: `Denied` by the rule, with the first cause, or `Full` for serials, which is
-    /// the only thing that a plain graph has too few of. `AllocError` only for a command that would else be carried out and
-    /// takes memory for what is told or stored, so never for a denial, where no serial is left, or for a remove or a write; then
-    /// too the graph stays. The command is used up in each case.
+    /// Carries out the actor's command if the rules allow it and, for a create, a serial is left; otherwise the graph
+    /// stays as it is, and the reply says why: `Denied` by the rule, with the first cause, or `Full` for serials, the
+    /// only thing that a plain graph can run out of. `AllocError` only for a command that would otherwise be carried
+    /// out and needs memory for what is returned or stored, so never for a denial, nor if no serial is left, nor for a
+    /// remove or a write; the graph then stays too. The command is used up in each case.
     ///
     /// In graphs that agree for the actor the reply is the same, a new vertex's serial and fullness aside, and graphs
     /// with the same next serial that agree for some subjects, the actor among them, agree for them afterwards.
@@ -316,7 +316,7 @@ impl Graph {
         }
     }
 
-    /// The vertex's edges by rising serial. It goes over the vertex's own labels, and not over all vertices.
+    /// The vertex's edges by rising serial. It goes through the vertex's own labels, not through all vertices.
     fn edges(&self, of: u64) -> Result<EdgeList, AllocError>
         ensures { IfOk result (λ edges. edges ≡ edges_of self.now of) }
     {
@@ -331,7 +331,7 @@ impl Graph {
     }
 
     /// Whether a path leads from one vertex to another, along edges of any label that is not empty. A vertex reaches
-    /// itself; a serial that is no vertex's reaches nothing. `AllocError` where there is no memory for the search.
+    /// itself; a serial that is no vertex's reaches nothing. `AllocError` if there is no memory for the search.
     pub fn reaches(&self, from: u64, to: u64) -> Result<bool, AllocError>
         ensures { IfOk result (λ reached. IsTrue reached ↔ Reaches self.now from to) }
     {
@@ -343,7 +343,7 @@ impl Graph {
         Ok(search.seen.contains(&to))
     }
 
-    /// Goes on along the edges of one of the vertices from which the search has not gone on yet; false without one.
+    /// Continues along the edges of a vertex from which the search has not continued yet; false if there is none.
     fn advance(&self, search: &mut Search) -> Result<bool, AllocError>
         requires { IsSearching self.now search.old }
         ensures kept { OnOk result (IsSearching self.now search.new) }
@@ -363,7 +363,7 @@ impl Graph {
         Ok(true)
     }
 
-    /// An equal graph; `AllocError` where there is no memory for it.
+    /// An equal graph; `AllocError` if there is no memory for it.
     pub fn copy(&self) -> Result<Graph, AllocError>
         ensures equal { IfOk result (λ graph. graph ≡ self.now) }
         ensures graph { IfOk result IsGraph }

@@ -23,7 +23,7 @@ pub fn exactly_one_outcome()
     ensures { ExactlyOneOutcome }
 {}
 
-/// A command is allowed exactly where all that its rule asks is there.
+/// A command is allowed exactly if all that its rule asks is there.
 pub fn allowed_is_met()
     ensures { AllowedIsMet }
 {}
@@ -33,18 +33,18 @@ pub fn denials_are_first()
     ensures { DenialsAreFirst }
 {}
 
-/// The rules decide alike in graphs that the actor can't tell apart.
+/// The rules decide alike in graphs that the actor cannot tell apart.
 pub fn outcomes_agree()
     ensures { OutcomesAgree }
 {}
 
-/// A subject's allowed command is answered alike in graphs that it can't tell apart.
+/// A subject's allowed command gets the same reply in graphs that it cannot tell apart.
 pub fn replies_agree()
     ensures { RepliesAgree }
 {}
 
-/// A command is answered alike in graphs that its actor can't tell apart, and what some subjects can't tell apart
-/// stays so after a command of one of them.
+/// A command gets the same reply in graphs that its actor cannot tell apart, and graphs that some subjects cannot tell
+/// apart stay so after a command of one of them.
 pub fn answers_agree()
     ensures { AnswersAgree }
 {}
@@ -69,7 +69,7 @@ pub fn openings_are_sound()
     ensures { OpeningsAreSound }
 {}
 
-/// A configuration without a fault has slots and cells enough, within the limits, for the graph that it opens.
+/// A configuration without a fault has enough slots and cells, within the limits, for the graph that it opens.
 pub fn openings_fit()
     ensures { OpeningsFit }
 {}
