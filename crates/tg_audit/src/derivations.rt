@@ -9,7 +9,7 @@ use std::alloc::{AllocError, Global};
 use tg_graph::{Goal, Graph, Step, Verdict};
 use tg_rights::{Cause, Kind, Reply, Rule};
 
-/// Why a step can't be carried out.
+/// Why a step cannot be carried out.
 #[derive(Clone, Copy)]
 enum Stop {
     NoSubject,
@@ -17,7 +17,7 @@ enum Stop {
     NoSerial,
 }
 
-/// Carries the step out, or says why it can't be, asking first for its actor, then for the rules, then for a serial.
+/// Carries the step out, or says why it cannot be, checking its actor first, then the rules, then for a serial.
 fn carry_out(alloc: Global, graph: &mut Graph, step: &Step) -> Result<Option<Stop>, AllocError>
     ensures { IfOk result (λ stop. MatchOption stop (CarriesOut graph.old step.now graph.new) (StopsBy graph.old step.now)) }
 {
@@ -35,7 +35,7 @@ fn carry_out(alloc: Global, graph: &mut Graph, step: &Step) -> Result<Option<Sto
     }
 }
 
-/// The verdict that the step of this number can't be carried out.
+/// The verdict that the step of this number cannot be carried out.
 fn verdict_at(index: u64, stop: Stop) -> Verdict
     ensures { result ≡ verdict_at index stop }
 {
@@ -46,7 +46,7 @@ fn verdict_at(index: u64, stop: Stop) -> Verdict
     }
 }
 
-/// The verdict on the graph that all steps lead to.
+/// The verdict on the graph to which all steps lead.
 fn weigh(graph: &Graph, goal: Goal) -> Verdict
     ensures { IsVerdict graph.now [] goal result }
 {
@@ -60,11 +60,11 @@ fn weigh(graph: &Graph, goal: Goal) -> Verdict
     }
 }
 
-/// Carries out the steps one after another, from the graph on, and says what comes of them: the first step, counted
-/// from 0, that can't be carried out, with the first of these that holds: its actor is no subject of the graph as it then
-/// is; the rules (Lipton and Snyder 1977; Bishop) deny it, for the first cause; it is a create and no serial is left. After
-/// all steps, the rights of the goal that the label lacks, or `Shared`, so that the goal's rights can be shared, by these
-/// steps. `AllocError` only where there was no memory for a step.
+/// Carries out the steps one after another, starting from the graph, and returns the verdict: the first step, counted
+/// from 0, that cannot be carried out, with the first of these that holds: its actor is no subject of the graph as it
+/// then is; the rules (Lipton and Snyder 1977; Bishop) deny it, for the first cause; it is a create and no serial is
+/// left. After all steps, the rights of the goal that the label lacks, or `Shared`, so that the goal's rights can be
+/// shared, by these steps. `AllocError` only if there was no memory for a step.
 pub fn check(
     alloc: Global,
     mut graph: Graph,

@@ -1,4 +1,4 @@
-//! The logs of all seats, followed beside the history.
+//! The logs of all seats, followed along the history.
 ghost use Rattle.std.specs.Prelude.{◌≡◌, ◌↔◌, IsTrue, ◌<◌, ◌+◌, ◌≤◌, ◌^◌, [], ◌∷◌, ◌++◌, List, Some, IfOk, IfSome, IfNone, length, slice_get};
 ghost use Rattle.tg_rights.specs.declared.limits.TheConstants.{SEATS};
 ghost use Rattle.tg_audit.specs.declared.logs.Exchange.{Exchange};
@@ -12,23 +12,23 @@ use std::alloc::{AllocError, Global};
 use tg_rights::{Reply, SEATS};
 use tg_vault::{Entry, Vault};
 
-/// Where an exchange stands: the number of a log, and the index in it.
+/// Where an exchange is: the number of a log, and the index in it.
 #[derive(Clone, Copy)]
 struct Position {
     log: usize,
     at: usize,
 }
 
-/// How far the logs of a seat have been followed beside its entries.
+/// How far the logs of a seat have been followed along its entries.
 #[derive(Clone, Copy)]
 enum Progress {
-    /// So many exchanges are those of the seat's first entries; the next is sought from this position on.
+    /// This many exchanges are those of the seat's first entries; the next is sought from this position on.
     Beside { position: Position, index: u64 },
     /// They differ at this index, and at none before.
     Apart { index: u64 },
 }
 
-/// The next exchange of the seat from the position on, and the position behind it.
+/// The next exchange of the seat from the position on, and the position after it.
 fn next(logs: &[SeatLog], seat: u64, from: Position) -> Option<(&Exchange, Position)>
     ensures some { IfSome result (λ found. left_of seat logs.now from ≡ found.0.now ∷ left_of seat logs.now found.1) }
     ensures none { IfNone result (left_of seat logs.now from ≡ []) }
@@ -63,7 +63,7 @@ fn is_told(entry: &Entry, reply: &Reply, exchange: &Exchange) -> bool
     *reply == exchange.reply
 }
 
-/// The progress behind the next entry of the seat.
+/// The progress after the next entry of the seat.
 fn compared(logs: &[SeatLog], progress: Progress, entry: &Entry, reply: &Reply) -> Progress
     requires { followed progress + 1 < 2 ^ 64 }
     ensures follows { (entries rest : List Exchange) → Follows entry.now.seat logs.now entries (told entry.now reply.now ∷ rest) progress → Follows entry.now.seat logs.now entries rest result }
@@ -101,7 +101,7 @@ fn index_apart(logs: &[SeatLog], seat: u64, progress: Progress) -> Option<u64>
     }
 }
 
-/// The least seat, of those that no entry has, whose logs have an exchange, where there is one more log.
+/// The least seat, of those that no entry has, whose logs have an exchange, after one more log.
 fn least_with(least: Option<u64>, log: &SeatLog) -> Option<u64>
     ensures { (before : List SeatLog) → IsLeastAbove before least → IsLeastAbove (before ++ log.now ∷ []) result }
 {
@@ -147,7 +147,7 @@ fn entry_at(vault: &Vault, number: u64) -> &Entry
     }
 }
 
-/// The progress of each seat beside the whole history. Each reply is compared where the replay finds it, and none is kept.
+/// The progress of each seat after the whole history. Each reply is compared as the replay finds it, and none is kept.
 fn follow(alloc: Global, vault: &Vault, logs: &[SeatLog]) -> Result<[Progress; 64], AllocError>
     ensures whole { IfOk result (λ table. length table ≡ SEATS) }
     ensures follows { IfOk result (FollowsAll vault.now logs.now) }
@@ -169,7 +169,7 @@ fn follow(alloc: Global, vault: &Vault, logs: &[SeatLog]) -> Result<[Progress; 6
 }
 
 /// The place, a seat and an index, at which the logs first differ from the history with its replies by replay.
-/// `AllocError` where there is no memory for the graph or a reply.
+/// `AllocError` if there is no memory for the graph or a reply.
 pub fn first_difference(
     alloc: Global,
     vault: &Vault,

@@ -1,4 +1,4 @@
-//! The auditor: derivations over the plain graph, and whether what callers were told is what the history says.
+//! The auditor: derivations over the plain graph, and whether callers received what the history says.
 #![tactic(auto)]
 
 ghost use Rattle.tg_audit.specs.Laws.{AgreedCounts, ExactlyOnePlace, ExactlyOneVerdict};
@@ -22,12 +22,12 @@ pub fn exactly_one_verdict()
 {}
 
 /// For each vault and logs there is exactly one place at which the logs first differ from the history, or none: so
-/// `settle` has exactly one answer but for `NoMemory`.
+/// `settle` has exactly one result, `NoMemory` aside.
 pub fn exactly_one_place()
     ensures { ExactlyOnePlace }
 {}
 
-/// Where the logs agree with the history for each seat, they have as many exchanges as it has entries.
+/// If the logs agree with the history for each seat, they have as many exchanges as it has entries.
 pub fn agreed_counts()
     ensures { AgreedCounts }
 {}

@@ -1,34 +1,34 @@
-//! What callers were told, and whether it is what the history says.
+//! What callers received, and whether it is what the history says.
 use tg_rights::{Command, Reply};
 use tg_vault::Vault;
 
-/// What a caller asked, and what it was told.
+/// What a caller submitted, and what it received.
 #[derive(Debug, Drop)]
 pub struct Exchange {
-    /// The serial of the principal for whom it was asked.
+    /// The serial of the principal for whom it was submitted.
     pub actor: u64,
-    /// What was asked.
+    /// What was submitted.
     pub command: Command,
-    /// What was told.
+    /// What was received.
     pub reply: Reply,
 }
 
 /// The exchanges of one session at a seat, in order.
 #[derive(Debug, Drop)]
 pub struct SeatLog {
-    /// The seat. Any number may stand here: one above 63 is no seat, so an exchange of its log is in no history.
+    /// The seat. It may be any number: one above 63 is no seat, so an exchange of its log is in no history.
     pub seat: u64,
     /// The exchanges.
     pub exchanges: Vec<Exchange>,
 }
 
-/// Whether the logs of all callers are what the history says. Each answer hands back the vault, and all but the first
-/// the logs.
+/// Whether the logs of all callers are what the history says. Each result returns the vault, and all but the first the
+/// logs.
 #[derive(Drop)]
 pub enum Settled {
     /// For each seat, its entries with their replies are its logs, joined in the order given.
     Agreed(Vault),
-    /// The least seat, and in it the least index, at which its entries and its joined logs differ; where one is longer,
+    /// The least seat, and in it the least index, at which its entries and its joined logs differ; if one is longer,
     /// the length of the shorter one.
     Differs {
         vault: Vault,

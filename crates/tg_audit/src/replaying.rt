@@ -25,7 +25,7 @@ fn beyond(outcome: Outcome) -> Option<Which>
     }
 }
 
-/// Carries out the entry's command where the graph allows it, and answers it. What no plain graph has too few of is
+/// Carries out the entry's command if the graph allows it, and returns the reply. What no plain graph can run out of is
 /// taken from the entry.
 pub fn reply_to(alloc: Global, graph: &mut Graph, entry: &Entry) -> Result<Reply, AllocError>
     requires subject { IsSubject graph.old entry.now.actor }
@@ -42,10 +42,10 @@ pub fn reply_to(alloc: Global, graph: &mut Graph, entry: &Entry) -> Result<Reply
     }
 }
 
-/// The replies of all entries, each by the plain graph that the entries before it leave, from a copy of the opening
-/// graph on: a witness of the vault that shares nothing with its store. A plain graph is full for serials alone, so an entry
-/// that was full for slots or cells is answered so and changes nothing. `AllocError` where there is no memory for the graph
-/// or the replies.
+/// The replies of all entries, each by the plain graph that the entries before it leave, starting from a copy of the
+/// opening graph: a witness of the vault that shares nothing with its store. A plain graph is full for serials only, so
+/// an entry that was full for slots or cells gets that reply and changes nothing. `AllocError` if there is no memory
+/// for the graph or the replies.
 pub fn replay(alloc: Global, vault: &Vault) -> Result<Vec<Reply>, AllocError>
     ensures { IfOk result (λ replies. replies.items ≡ replies_of vault.now.opening vault.now.history) }
 {

@@ -6,10 +6,11 @@ use crate::logs::{SeatLog, Settled};
 use std::alloc::Global;
 use tg_vault::Vault;
 
-/// Settles what callers were told with the history: for each seat, its entries in order, each with its actor, its
-/// command and its reply by replay, are the seat's logs joined in the order given; or the least seat, and in it the least
-/// index, at which the two differ. `NoMemory` only where there was none for the graph of the replay or a reply. It goes over
-/// the history once, and over the logs once for each seat that has entries; each reply is compared where the replay finds it.
+/// Settles what callers received with the history: for each seat, its entries in order, each with its actor, its
+/// command and its reply by replay, are the seat's logs joined in the order given; or the least seat, and in it the
+/// least index, at which the two differ. `NoMemory` only if there was none for the graph of the replay or a reply. It
+/// goes over the history once, and over the logs once for each seat that has entries; each reply is compared as the
+/// replay finds it.
 pub fn settle(alloc: Global, vault: Vault, logs: Vec<SeatLog>) -> Settled
     ensures { SettledAs vault logs.items result }
 {
