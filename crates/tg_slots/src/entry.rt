@@ -95,7 +95,7 @@ impl Entry {
         }
     }
 
-    /// A vertex comes in.
+    /// Puts a vertex in.
     pub fn fill(&mut self, occupant: Occupant)
         ensures { self.new ≡ record self.old { occupant = Some occupant } }
     {
@@ -118,7 +118,7 @@ impl Entry {
         }
     }
 
-    /// The vertex, if there is one, takes a colour.
+    /// Gives the vertex, if there is one, a colour.
     pub fn paint(&mut self, new: Colour)
         ensures { self.new ≡ record self.old { occupant = coloured new self.old.occupant } }
     {
@@ -127,7 +127,7 @@ impl Entry {
         }
     }
 
-    /// Replaces the text of the vertex, and answers the old one.
+    /// Replaces the text of the vertex, and returns the old one.
     pub fn set_text(&mut self, new: Text) -> Text
         requires { self.old.occupant ≢ None }
         ensures entry { self.new ≡ record self.old { occupant = with_text new self.old.occupant } }

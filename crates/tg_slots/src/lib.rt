@@ -2,7 +2,7 @@
 //! that wait for the collector.
 //!
 //! Contracts see the table as its slots and the two lists. In memory both lists run through one link field of each
-//! slot, so that no list operation needs a loop, and only `Slots::new` takes memory.
+//! slot, so that no list operation needs a loop, and only `Slots::new` allocates.
 #![tactic(auto)]
 
 mod colour;

@@ -24,8 +24,8 @@ pub struct Occupant {
 /// Slots by index, the list of free ones and the list of waiting grey ones.
 #[derive(Drop)]
 pub struct Slots {
-    // The slots that were used so far, in room for all: a slot that nobody used is not written. It would be free, and lead
-    // to the next one.
+    // The slots that were used so far, with room for all: a slot that was never used is not written. It would be free,
+    // and lead to the next one.
     entries: Vec<Entry>,
     free: u32,
     grey: u32,
@@ -46,7 +46,7 @@ impl Model for Slots {
     ghost invariant = { IsInside };
 }
 
-// The slot of that index is put behind those that were used so far, where it is the next one.
+// Appends the slot of this index to those that were used so far, if it is the next one.
 fn provide(entries: &mut Vec<Entry>, id: u32, size: u32)
     requires used { length entries.old.items ≤ size }
     requires room { size ≤ vec_capacity entries.old }
@@ -61,7 +61,8 @@ fn provide(entries: &mut Vec<Entry>, id: u32, size: u32)
 }
 
 impl Slots {
-    /// That many slots, 1 to 65,536, all free, in the order of their indices. The only error is that an allocation failed.
+    /// That many slots, 1 to 65,536, all free, in the order of their indices. The only error is that an allocation
+    /// failed.
     pub fn new(alloc: Global, count: u32) -> Result<Slots, AllocError>
         requires low { 1 ≤ count }
         requires high { count ≤ MAX_SLOTS }
@@ -107,7 +108,7 @@ impl Slots {
         self.colour(id).is_none()
     }
 
-    // The slot, where it was used.
+    // The slot, if it was used.
     fn used(&self, id: u32) -> Option<&Entry>
         requires { id < length self.now.slots }
         ensures { MatchOption result (slot self.now id ≡ None) (λ e. slot self.now id ≡ e.now.occupant) }
@@ -115,7 +116,7 @@ impl Slots {
         self.entries.get(id as usize)
     }
 
-    /// The serial of the vertex; none where the slot is free.
+    /// The serial of the vertex; none if the slot is free.
     pub fn serial(&self, id: u32) -> Option<u64>
         requires { id < length self.now.slots }
         ensures { result ≡ in_slot (λ o. o.serial) (slot self.now id) }
@@ -123,7 +124,7 @@ impl Slots {
         self.used(id)?.serial()
     }
 
-    /// The kind of the vertex; none where the slot is free.
+    /// The kind of the vertex; none if the slot is free.
     pub fn kind(&self, id: u32) -> Option<Kind>
         requires { id < length self.now.slots }
         ensures { result ≡ in_slot (λ o. o.kind) (slot self.now id) }
@@ -131,7 +132,7 @@ impl Slots {
         self.used(id)?.kind()
     }
 
-    /// The colour of the vertex; none where the slot is free.
+    /// The colour of the vertex; none if the slot is free.
     pub fn colour(&self, id: u32) -> Option<Colour>
         requires { id < length self.now.slots }
         ensures { MatchOption result (mark self.now id ≡ Free) (λ c. mark self.now id ≡ Has c) }
@@ -139,7 +140,7 @@ impl Slots {
         self.used(id)?.colour()
     }
 
-    /// The text of the vertex; none where the slot is free.
+    /// The text of the vertex; none if the slot is free.
     pub fn text(&self, id: u32) -> Option<&Text>
         requires { id < length self.now.slots }
         ensures { MatchOption result (mark self.now id ≡ Free) (λ t. in_slot (λ o. o.text) (slot self.now id) ≡ Some t.now) }
@@ -147,8 +148,8 @@ impl Slots {
         self.used(id)?.text()
     }
 
-    /// Takes the first free slot for a vertex, white or black, and answers its index. Where no slot is free, all is
-    /// as before and the text comes back.
+    /// Takes the first free slot for a vertex, white or black, and returns its index. If no slot is free, everything is
+    /// as before and the text is returned.
     pub fn take_free(
         &mut self,
         serial: u64,
@@ -199,8 +200,8 @@ impl Slots {
         self.grey = id;
     }
 
-    /// Takes the first index out of the grey list; its vertex stays grey. None, and all as before, where the list is
-    /// empty.
+    /// Takes the first index out of the grey list; its vertex stays grey. None, and everything as before, if the list
+    /// is empty.
     pub fn pop_grey(&mut self) -> Option<u32>
         ensures { MatchOption result ((self.old.grey ≡ []) × (self.new ≡ self.old)) (λ id. self.old ≡ record self.new { grey = id ∷ self.new.grey }) }
     {
@@ -226,7 +227,7 @@ impl Slots {
         self.entries[id as usize].paint(Colour::White);
     }
 
-    /// Replaces the text of a vertex, and answers the old one.
+    /// Replaces the text of a vertex, and returns the old one.
     pub fn set_text(&mut self, id: u32, text: Text) -> Text
         requires { mark self.old id ≢ Free }
         ensures slots { self.new ≡ record self.old { slots = set self.old.slots id (with_text text (slot self.old id)) } }
