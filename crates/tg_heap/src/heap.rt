@@ -105,7 +105,7 @@ impl Heap {
         self.slots.is_free(id)
     }
 
-    /// The serial of the vertex; none where the slot is free.
+    /// The serial of the vertex; none if the slot is free.
     pub fn serial(&self, id: u32) -> Option<u64>
         requires { id < length self.now.table.slots }
         ensures { result ≡ in_slot (λ o. o.serial) (slot self.now.table id) }
@@ -113,7 +113,7 @@ impl Heap {
         self.slots.serial(id)
     }
 
-    /// The kind of the vertex; none where the slot is free.
+    /// The kind of the vertex; none if the slot is free.
     pub fn kind(&self, id: u32) -> Option<Kind>
         requires { id < length self.now.table.slots }
         ensures { result ≡ in_slot (λ o. o.kind) (slot self.now.table id) }
@@ -121,7 +121,7 @@ impl Heap {
         self.slots.kind(id)
     }
 
-    /// The colour of the vertex; none where the slot is free.
+    /// The colour of the vertex; none if the slot is free.
     pub fn colour(&self, id: u32) -> Option<Colour>
         requires { id < length self.now.table.slots }
         ensures { MatchOption result (mark_at self.now id ≡ Free) (λ c. mark_at self.now id ≡ Has c) }
@@ -129,7 +129,7 @@ impl Heap {
         self.slots.colour(id)
     }
 
-    /// The text of the vertex; none where the slot is free.
+    /// The text of the vertex; none if the slot is free.
     pub fn text(&self, id: u32) -> Option<&Text>
         requires { id < length self.now.table.slots }
         ensures { MatchOption result (mark_at self.now id ≡ Free) (λ t. in_slot (λ o. o.text) (slot self.now.table id) ≡ Some t.now) }
@@ -137,7 +137,7 @@ impl Heap {
         self.slots.text(id)
     }
 
-    /// Replaces the text of a vertex, and answers the old one.
+    /// Replaces the text of a vertex, and returns the old one.
     pub fn set_text(&mut self, id: u32, text: Text) -> Text
         requires { mark_at self.old id ≢ Free }
         ensures slots { self.new ≡ record self.old { table = record self.old.table { slots = set self.old.table.slots id (with_text text (slot self.old.table id)) } } }
@@ -146,8 +146,8 @@ impl Heap {
         self.slots.set_text(id, text)
     }
 
-    /// Puts a vertex, white or black and without edges, into the first free slot, and answers its index. The only
-    /// error is `Slots`, only where no slot is free; all is then as before, and the text comes back.
+    /// Puts a vertex, white or black and without edges, into the first free slot, and returns its index. The only error
+    /// is `Slots`, only if no slot is free; everything is then as before, and the text is returned.
     pub fn add_vertex(
         &mut self,
         serial: u64,
@@ -167,8 +167,8 @@ impl Heap {
         }
     }
 
-    /// Joins rights that are not empty to the label of the edge from one vertex to another, and makes the edge where
-    /// there is none. The only error is `Cells`, only where the edge is new and no cell is free; all is then as before.
+    /// Joins rights that are not empty to the label of the edge from one vertex to another, and makes the edge if there
+    /// is none. The only error is `Cells`, only if the edge is new and no cell is free; everything is then as before.
     pub fn add_rights(&mut self, id: u32, target: u32, rights: Rights) -> Result<(), HeapFull>
         requires owner { mark_at self.old id ≢ Free }
         requires target { mark_at self.old target ≢ Free }
@@ -194,7 +194,7 @@ impl Heap {
         }
     }
 
-    /// Puts an edge to a vertex in front of a slot's edges, none of which leads to it, where a cell is free. Unlike
+    /// Puts an edge to a vertex in front of a slot's edges, none of which leads to it, if a cell is free. Unlike
     /// `add_rights` it looks for no edge, so it takes as long whatever the number of edges.
     pub fn add_edge(&mut self, id: u32, target: u32, rights: Rights)
         requires owner { mark_at self.old id ≢ Free }
@@ -210,8 +210,8 @@ impl Heap {
         }
     }
 
-    /// Takes rights that it has from the label of the edge to a serial; an edge that keeps none is gone, and its cell
-    /// is free.
+    /// Takes rights that it has from the label of the edge to a serial; an edge left with none is gone, and its cell is
+    /// free.
     pub fn drop_rights(&mut self, id: u32, serial: u64, rights: Rights) -> Dropped
         requires { (f : Found (edges self.old id) serial) × (includes f.edge.rights rights ≡ true) }
         ensures { IsDropped self.old self.new id serial rights result }
@@ -228,7 +228,7 @@ impl Heap {
         }
     }
 
-    /// The slot that the edge to a serial leads to, and its label; none where there is no such edge.
+    /// The slot that the edge to a serial leads to, and its label; none if there is no such edge.
     pub fn edge(&self, id: u32, serial: u64) -> Option<(u32, Rights)>
         requires { id < length self.now.table.slots }
         ensures { MatchOption result (HasNone (edges self.now id) serial) (λ t. (f : Found (edges self.now id) serial) × (t.0 ≡ f.edge.target) × (t.1 ≡ f.edge.rights)) }
@@ -239,7 +239,7 @@ impl Heap {
         }
     }
 
-    /// The first cell of the slot's list; none where it is empty.
+    /// The first cell of the slot's list; none if it is empty.
     pub fn first(&self, id: u32) -> Option<u32>
         requires { id < length self.now.table.slots }
         ensures { result ≡ first_cell (edges self.now id) }
@@ -289,8 +289,8 @@ impl Heap {
         }
     }
 
-    /// Takes the first index out of the grey list; its vertex stays grey. None, and all as before, where the list is
-    /// empty.
+    /// Takes the first index out of the grey list; its vertex stays grey. None, and everything as before, if the list
+    /// is empty.
     pub fn pop_grey(&mut self) -> Option<u32>
         ensures { MatchOption result ((self.old.table.grey ≡ []) × (self.new ≡ self.old))
             (λ id. (self.old.table.grey ≡ id ∷ self.new.table.grey) × (self.new ≡ record self.old { table = record self.old.table { grey = self.new.table.grey } })) }
@@ -315,7 +315,7 @@ impl Heap {
         self.slots.whiten(id);
     }
 
-    /// Frees the first cell of a white slot, and so one edge of its vertex; false, and all as before, where it has
+    /// Frees the first cell of a white slot, and so one edge of its vertex; false, and everything as before, if it has
     /// none.
     pub fn strip_one_cell(&mut self, id: u32) -> bool
         requires { mark_at self.old id ≡ Has Colour.White }
