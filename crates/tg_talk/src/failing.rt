@@ -5,7 +5,7 @@ ghost use Rattle.std.specs.Prelude.{Some};
 use std::io;
 use std::io::{Read, Write};
 
-/// Gives one byte a read, and fails at the read behind `reads` others. For tests.
+/// Returns one byte a read, and fails at the read after `reads` others. For tests.
 #[derive(Drop)]
 pub struct FailingReader<'a> {
     /// The bytes that are left.
@@ -30,13 +30,13 @@ impl Read for FailingReader<'_> {
 /// How a writer fails.
 #[derive(Clone, Copy, Debug, PartialEq, Eq)]
 pub enum Failure {
-    /// A write answers an error.
+    /// A write returns an error.
     Error,
     /// A write takes no byte.
     TakesNone,
 }
 
-/// Takes one byte a write, and fails at the writes behind `writes` others. For tests.
+/// Takes one byte a write, and fails at the writes after `writes` others. For tests.
 #[derive(Drop)]
 pub struct FailingWriter<'a> {
     /// The bytes that were taken, which a test can look at afterwards.

@@ -3,14 +3,14 @@
 /// Why a talk or a run ended before its lines did.
 #[derive(Clone, Copy, Debug, PartialEq, Eq)]
 pub enum TalkFault {
-    /// A read answered an error.
+    /// A read returned an error.
     Reading,
-    /// A write answered an error, or took 0 bytes of some.
+    /// A write returned an error, or took 0 bytes of some.
     Writing,
     /// A line has more than 16,384 bytes.
     TooLong,
     /// A line came after the millionth.
     TooMany,
-    /// Memory was refused.
+    /// An allocation failed.
     OutOfMemory,
 }

@@ -56,8 +56,8 @@ impl InputLines {
     ghost use Rattle.tg_talk.specs.Finding.{is_decided};
     ghost use Rattle.tg_talk.specs.Taking.{Takes, count_of};
 
-    /// No line taken, nothing read. The memory for all lines, 32,768 bytes, is taken here and never again; `AllocError`
-    /// where it is refused.
+    /// No line taken, nothing read. The memory for all lines, 32,768 bytes, is allocated here and never again;
+    /// `AllocError` if that fails.
     pub fn new(alloc: Global) -> Result<InputLines, AllocError>
         ensures { IfOk result (λ lines. lines ≡ record { taken = 0; line = []; left = [] }) }
     {
@@ -93,7 +93,7 @@ impl InputLines {
         newline_from(left, 0).is_some() || left.len() > LONGEST_LINE
     }
 
-    /// Writes what is held back where more has to be read for the next line. Whether the writer has not failed.
+    /// Writes what is held back if more has to be read for the next line; false if the writer fails.
     #[inline(always)]
     pub fn is_ready<W: Write + Drop>(&self, writer: &mut Watched<BufWriter<W>>) -> bool
         requires { has_failed writer.old ≡ false }
@@ -109,7 +109,7 @@ impl InputLines {
         }
     }
 
-    /// Takes the next line, where lines are answered by this writer: it holds nothing back when more is read.
+    /// Takes the next line, with a writer that answers the lines: it holds nothing back when more is read.
     #[inline(always)]
     pub fn next_paid<R: Read, W: Write + Drop>(
         &mut self,
@@ -131,8 +131,9 @@ impl InputLines {
         self.next(reader)
     }
 
-    /// Takes the next line. A line that is too long is counted, and so is the one after the millionth, which is known
-    /// as that whatever its length. Nothing is read ahead: a whole line is found before more is asked for. Takes no memory.
+    /// Takes the next line. A line that is too long is counted, and so is the one after the millionth, which is
+    /// recognised as that whatever its length. Nothing is read ahead: a whole line is found before more is asked for.
+    /// Allocates nothing.
     #[inline(always)]
     pub fn next<R: Read>(&mut self, reader: &mut Watched<R>) -> Next
         requires few { self.old.taken ≤ MOST_LINES }
@@ -177,7 +178,7 @@ impl InputLines {
     }
 }
 
-// What a line is that comes after so many.
+// What a line is that comes after this many.
 fn counted(taken: u64, next: Next) -> Next
     ensures within { taken < MOST_LINES → result ≡ next }
     ensures over { taken ≡ MOST_LINES → result ≡ Next.TooMany }

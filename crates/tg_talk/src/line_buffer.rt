@@ -13,7 +13,7 @@ use std::io::Read;
 use std::marker::Model;
 use tg_wire::LONGEST_LINE;
 
-/// The bytes of a buffer: room for a read behind those of the longest line.
+/// The size of a buffer: room for a read after the bytes of the longest line.
 const CAPACITY: usize = 32_768;
 
 /// The greatest number of lines of a run or a talk.
@@ -31,7 +31,7 @@ pub struct LineBuffer {
 /// What is at the front of the buffer.
 #[derive(Clone, Copy, Debug, PartialEq, Eq)]
 pub enum Found {
-    /// A line of so many bytes, and its line feed.
+    /// A line of this many bytes, and its line feed.
     Line(usize),
     /// The last line, which has no line feed, and is all that is left.
     Last,
@@ -43,7 +43,7 @@ pub enum Found {
     Failed,
 }
 
-/// What one read gave.
+/// The result of one read.
 #[derive(Clone, Copy, Debug, PartialEq, Eq)]
 enum Filled {
     More,
@@ -66,7 +66,7 @@ impl LineBuffer {
     ghost use Rattle.tg_talk.specs.Devices.{device_of, has_failed};
     ghost use Rattle.tg_talk.specs.Finding.{FindsLine, Fills, is_decided};
 
-    /// No bytes. The memory for all lines, 32,768 bytes, is taken here and never again; `AllocError` where it is refused.
+    /// No bytes. The memory for all lines, 32,768 bytes, is allocated here and never again; `AllocError` if that fails.
     pub fn new(alloc: Global) -> Result<LineBuffer, AllocError>
         ensures { IfOk result (λ buffer. buffer ≡ []) }
     {
@@ -74,7 +74,7 @@ impl LineBuffer {
         Ok(LineBuffer::over(bytes))
     }
 
-    // Nothing read, over this memory.
+    // A buffer over this memory, with nothing read.
     fn over(bytes: Vec<u8>) -> LineBuffer
         requires { length bytes.items ≡ CAPACITY }
         ensures { result ≡ [] }
@@ -86,7 +86,7 @@ impl LineBuffer {
         }
     }
 
-    /// Lends the bytes. Takes no memory.
+    /// Lends the bytes. Allocates nothing.
     pub fn bytes(&self) -> &[u8]
         ensures { result.now ≡ self.now }
     {
@@ -101,10 +101,10 @@ impl LineBuffer {
         self.start += n;
     }
 
-    /// Reads until the next line is at the front, and says which it is: one of at most 16,384 bytes, the last one,
-    /// the end, one that is too long, or that the reader failed. Nothing is read ahead: a read is made only where the
+    /// Reads until the next line is at the front, and reports what it is: one of at most 16,384 bytes, the last one,
+    /// the end, one that is too long, or that the reader failed. Nothing is read ahead: a read is made only if the
     /// bytes at hand have no line feed and are at most 16,384, so a whole line is found before more is asked for, and
-    /// none is left at a failed read. Takes no memory.
+    /// none is left when a read fails. Allocates nothing.
     pub fn find<R: Read>(&mut self, reader: &mut Watched<R>) -> Found
         requires { has_failed reader.old ≡ false }
         ensures kept { Keeps (prepend_known self.old (R.remaining (device_of reader.old))) (prepend_known self.new (R.remaining (device_of reader.new))) }
@@ -139,7 +139,7 @@ impl LineBuffer {
         }
     }
 
-    // One read, behind the bytes that are there.
+    // One read, after the bytes that are there.
     fn fill<R: Read>(&mut self, reader: &mut Watched<R>) -> Filled
         requires room { length self.old ≤ LONGEST_LINE }
         requires unfailed { has_failed reader.old ≡ false }
@@ -173,7 +173,7 @@ fn move_down(bytes: &mut Vec<u8>, start: usize, end: usize)
     bytes.copy_within(start..end, 0);
 }
 
-// One read behind `at`, and how many bytes it gave. Nothing where it failed.
+// One read at `at`, and how many bytes it returned; none if it failed.
 fn read_at<R: Read>(reader: &mut Watched<R>, bytes: &mut Vec<u8>, at: usize) -> Option<usize>
     requires room { at < length bytes.old.items }
     requires unfailed { has_failed reader.old ≡ false }

@@ -1,9 +1,9 @@
-//! The lines of refusals that no line's value gives.
+//! The lines of refusals that no value of a line has.
 
 ghost use Rattle.std.specs.Prelude.{◌≡◌};
 ghost use Rattle.tg_talk.specs.Refusals.{not_for_a_session_line as line_of_no_session, too_many_line as line_of_too_many};
 
-/// The line that is answered to the line after the millionth. It takes no memory.
+/// The line that answers the line after the millionth. It allocates nothing.
 #[tactic(auto, unfolding(crate::specs::Refusals::too_many_line, serde_json::proofs::OnLiterals::serde_json_on_literals))]
 pub fn too_many_line() -> &'static [u8]
     ensures { result.now ≡ line_of_too_many }
@@ -11,7 +11,7 @@ pub fn too_many_line() -> &'static [u8]
     b"{\"error\":\"too many lines\"}\n"
 }
 
-/// The line that is answered in a talk to a line that asks for the shade or for the collector. It takes no memory.
+/// The line that answers, in a talk, a line that asks for the shade or for the collector. It allocates nothing.
 #[tactic(auto, unfolding(crate::specs::Refusals::not_for_a_session_line, serde_json::proofs::OnLiterals::serde_json_on_literals))]
 pub(crate) fn not_for_a_session_line() -> &'static [u8]
     ensures { result.now ≡ line_of_no_session }

@@ -23,31 +23,32 @@ use std::sync::ledger::Ledger;
 use tg_share::{Ended, Gate, Session, Shared};
 use tg_wire::{LineRoom, WireFault, error_line};
 
-/// What a talk came to.
+/// The result of a talk.
 #[derive(Drop)]
 pub struct Talked<L: Ledger> {
     /// Input lines taken, a last one that is too long or one too many among them.
     pub lines: u64,
     /// Why the talk ended before its lines did or before a bye, if it did.
     pub fault: Option<TalkFault>,
-    /// What is left of the session; none where no hello succeeded.
+    /// What is left of the session; none if no hello succeeded.
     pub ended: Option<Ended<L>>,
 }
 
-/// What a turn comes to: who sits, and whether the talk goes on.
+/// The result of a turn: who sits, and whether the talk goes on.
 pub(crate) enum Turn<'s, L: Ledger> {
     GoOn(Option<Session<'s, L>>),
     Ended(Option<Session<'s, L>>, Option<TalkFault>),
 }
 
-/// Answers each line. Answers to lines that came together are written together, and nothing is held back when more is read:
-/// then, and when the talk ends, the writer has all of them unless it fails. Until a hello has succeeded, each other line that can be read is answered
-/// `no actor`; then a hello is answered `bound`, and a line that asks for the shade or for the collector `not for a
-/// session`. The seat is this one, whatever seat a line names. The talk ends at a bye, which is answered, at the end of
-/// the input, at a line of more than 16,384 bytes, at the line after the millionth, and where the reader or the writer
-/// fails. Where there is no memory to read a line or for its answer's line, `out of memory` is answered in its place; but
-/// where there is none for the line of a reply, nothing is, and the talk ends. Where there is none for the buffer of
-/// 32,768 bytes, no line is read. A session that a hello began is ended here, whatever ends the talk.
+/// Answers each line. Answers to lines that came together are written together, and nothing is held back when more is
+/// read: then, and when the talk ends, the writer has all of them unless it fails. Until a hello has succeeded, each
+/// other line that can be read is answered `no actor`; then a hello is answered `bound`, and a line that asks for the
+/// shade or for the collector `not for a session`. The seat is this one, whatever seat a line names. The talk ends at a
+/// bye, which is answered, at the end of the input, at a line of more than 16,384 bytes, at the line after the
+/// millionth, and when the reader or the writer fails. If there is no memory to read a line or for its answer's line,
+/// `out of memory` is answered in its place; but if there is none for the line of a reply, nothing is, and the talk
+/// ends. If there is none for the buffer of 32,768 bytes, no line is read. A session that a hello began is ended here,
+/// whatever ends the talk.
 pub fn talk<L: Ledger, D: Read, W: Write + Drop, R: Wait + Clock, G: Gate>(
     rt: &R,
     alloc: Global,
@@ -65,7 +66,7 @@ pub fn talk<L: Ledger, D: Read, W: Write + Drop, R: Wait + Clock, G: Gate>(
     ensures writing { (has_failed writer.new ≡ true) ↔ (result.fault ≡ Some Writing) }
     ensures few { result.lines ≤ 1000001 }
     ensures seat { IfSome result.ended (λ e. e.log.seat ≡ seat) }
-    // Where the talk's buffer is refused. A reply that finds no memory ends it behind a line.
+    // If the talk's buffer lacks memory. A reply that lacks memory ends the talk after a line.
     ensures unread { result.fault ≡ Some OutOfMemory → result.lines ≡ 0
         → IsNone result.ended × Keeps (D.remaining (device_of reader.old)) (D.remaining (device_of reader.new)) }
     ensures talked { IfSome (D.remaining (device_of reader.old))
@@ -96,7 +97,7 @@ pub fn talk<L: Ledger, D: Read, W: Write + Drop, R: Wait + Clock, G: Gate>(
     }
 }
 
-/// Ends the session of whoever sits.
+/// Ends the session of the one who sits.
 fn leave<'s, L: Ledger, R: Wait>(rt: &R, sitting: Option<Session<'s, L>>) -> Option<Ended<L>>
     ensures { Leaves sitting.entry result }
 {
@@ -161,7 +162,7 @@ fn take_turn<'s, L: Ledger, D: Read, W: Write + Drop, R: Wait + Clock, G: Gate>(
     }
 }
 
-/// Answers a line of one who has not said hello with success.
+/// Answers a line from a client whose hello has not succeeded yet.
 fn answer_stranger<'s, L: Ledger, W: Write + Drop, R: Wait>(
     rt: &R,
     alloc: Global,
@@ -218,7 +219,7 @@ fn answer_session<'s, L: Ledger, W: Write + Drop, R: Wait + Clock, G: Gate>(
     }
 }
 
-/// Writes the line of a text, and takes its room back; the fault of the writer where it fails.
+/// Writes the line of a text, and takes its room back; returns the writer's fault if it fails.
 fn send<W: Write + Drop>(
     writer: &mut Watched<BufWriter<W>>,
     text: Text,
@@ -243,7 +244,7 @@ fn send<W: Write + Drop>(
     }
 }
 
-/// Writes the line of a text, and all that is held back; the fault of the writer where it fails.
+/// Writes the line of a text, and all that is held back; returns the writer's fault if it fails.
 fn send_last<W: Write + Drop>(
     writer: &mut Watched<BufWriter<W>>,
     text: Text,
@@ -260,7 +261,7 @@ fn send_last<W: Write + Drop>(
     }
 }
 
-/// Writes a line, and all that is held back; the fault where the writer does not fail.
+/// Writes a line, and all that is held back; returns the fault, unless the writer fails.
 fn end<W: Write + Drop>(
     writer: &mut Watched<BufWriter<W>>,
     line: &[u8],

@@ -21,7 +21,7 @@ pub(crate) enum Text {
     NotForASession,
 }
 
-/// What is to be said to a line of a session.
+/// The answer to a line of a session.
 #[derive(Drop)]
 pub(crate) enum Said {
     /// This, and the talk goes on.
@@ -32,7 +32,7 @@ pub(crate) enum Said {
     Nothing,
 }
 
-/// What is to be said to one who has not said hello with success before, and the session if that is done now.
+/// The answer to a client whose hello had not succeeded before, and the session if it does now.
 pub(crate) struct Greeted<'s, L: Ledger> {
     pub session: Option<Session<'s, L>>,
     pub text: Text,
@@ -94,7 +94,7 @@ fn greet<'s, L: Ledger, R: Wait>(
     }
 }
 
-/// Reads a line of one who has not said hello with success.
+/// Reads a line from a client whose hello has not succeeded yet.
 pub(crate) fn hear_stranger<'s, L: Ledger, R: Wait>(
     rt: &R,
     alloc: Global,
@@ -121,7 +121,7 @@ pub(crate) fn hear_stranger<'s, L: Ledger, R: Wait>(
     }
 }
 
-/// Reads a line of a session, and asks its command.
+/// Reads a line of a session, and submits its command.
 pub(crate) fn hear_session<'s, L: Ledger, R: Wait + Clock, G: Gate>(
     rt: &R,
     alloc: Global,
@@ -148,7 +148,7 @@ pub(crate) fn hear_session<'s, L: Ledger, R: Wait + Clock, G: Gate>(
     }
 }
 
-/// Asks the command, and gives the line of the reply.
+/// Submits the command, and returns the line of the reply.
 fn ask<'s, L: Ledger, R: Wait + Clock, G: Gate>(
     rt: &R,
     session: &mut Session<'s, L>,

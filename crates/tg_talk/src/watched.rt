@@ -8,8 +8,8 @@ ghost use Rattle.tg_talk.specs.Devices.{device_of, has_failed, owed, promised, t
 use std::io;
 use std::io::{BufWriter, Read, Write};
 
-/// A reader or a writer, and whether a read or a write on it has failed: whether one answered an error, or a write
-/// took 0 bytes of some. Once it has failed it stays so.
+/// A reader or a writer, and whether a read or a write on it has failed: whether one returned an error, or a write took
+/// 0 bytes of some. Once it has failed it stays so.
 #[derive(Drop)]
 pub struct Watched<D> {
     device: D,
@@ -37,7 +37,8 @@ impl<D> Watched<D> {
 }
 
 impl<W: Write + Drop> Watched<BufWriter<W>> {
-    /// Writes the answers that are held back. Whether that was done; where it fails, what was not written stays held back.
+    /// Writes the answers that are held back; returns whether that was done. If it fails, what was not written stays
+    /// held back.
     pub fn pay(&mut self) -> bool
         ensures paid { result ≡ true → owed self.new ≡ [] }
         ensures kept { Keeps (promised W.contents self.old) (promised W.contents self.new) }

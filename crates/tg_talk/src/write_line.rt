@@ -10,8 +10,8 @@ use crate::watched::Watched;
 use std::alloc::{AllocError, Global};
 use std::io::{BufWriter, Write};
 
-/// Writes the bytes, in as many writes as the writer asks for. It stops where the writer fails, and a prefix of them
-/// is then written; a write that the writer answers as interrupted has failed. Takes no memory.
+/// Writes the bytes, in as many writes as the writer needs. It stops when the writer fails, and a prefix of them is
+/// then written; a write that the writer reports as interrupted has failed. Allocates nothing.
 pub fn send_line<W: Write>(writer: &mut Watched<W>, bytes: &[u8])
     requires { has_failed writer.old ≡ false }
     ensures { Sends (W.contents (device_of writer.old)) (W.contents (device_of writer.new)) (has_failed writer.new) bytes.now }
@@ -26,7 +26,7 @@ pub fn send_line<W: Write>(writer: &mut Watched<W>, bytes: &[u8])
     }
 }
 
-// One write. It takes none only where the writer fails.
+// One write. It takes none only if the writer fails.
 fn send_some<W: Write>(writer: &mut Watched<W>, bytes: &[u8]) -> usize
     requires unfailed { has_failed writer.old ≡ false }
     requires some { 0 < length bytes.now }
@@ -41,11 +41,11 @@ fn send_some<W: Write>(writer: &mut Watched<W>, bytes: &[u8]) -> usize
     }
 }
 
-/// How many bytes of answers are held back at most.
+/// The most bytes of answers that are held back.
 const HELD_BACK: usize = 32_768;
 
-/// A writer that holds answers back, so that many are written at once. `AllocError` where the room for them, 32,768 bytes,
-/// is refused.
+/// A writer that holds answers back, so that many are written at once. `AllocError` if the room for them, 32,768 bytes,
+/// cannot be allocated.
 pub fn buffered<W: Write + Drop>(
     alloc: Global,
     device: W,
@@ -60,7 +60,7 @@ pub fn buffered<W: Write + Drop>(
     }
 }
 
-/// Writes the answers that are held back. The fault, where the writer does not fail.
+/// Writes the answers that are held back; returns the fault, unless the writer fails.
 pub fn pay_last<W: Write + Drop>(
     writer: &mut Watched<BufWriter<W>>,
     fault: Option<TalkFault>,
