@@ -20,8 +20,8 @@ use std::alloc::Global;
 use tg_graph::{Config, Goal};
 use tg_rights::{Rights, Word};
 
-/// The value of a configuration line, or its first fault. Where a field is absent, `edges` are none, `next` is the
-/// number of principals plus 1, `slots` are 1,024 and `cells` 16,384. The answer is never `NoOp`.
+/// The value of a configuration line, or its first fault. If a field is absent, `edges` are none, `next` is the number
+/// of principals plus 1, `slots` are 1,024 and `cells` 16,384. The fault is never `NoOp`.
 #[tactic(auto, unfolding(crate::specs::Lines::config_of))]
 pub fn read_config(alloc: Global, bytes: &[u8]) -> Result<Config, WireFault>
     ensures answered { AnswersBy opening_of result (config_of bytes.now) }
@@ -38,7 +38,7 @@ pub fn read_config(alloc: Global, bytes: &[u8]) -> Result<Config, WireFault>
     Ok(config)
 }
 
-/// The value of a goal line, or its first fault. The answer is never `NoOp`.
+/// The value of a goal line, or its first fault. The fault is never `NoOp`.
 #[tactic(auto, unfolding(crate::specs::Lines::goal_of))]
 pub fn read_goal(alloc: Global, bytes: &[u8]) -> Result<Goal, WireFault>
     ensures answered { Answers result (goal_of bytes.now) }

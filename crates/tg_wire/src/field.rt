@@ -1,4 +1,4 @@
-//! The fields of an object: nothing where one is absent that has to be there, or where its value is bad.
+//! The fields of an object: none if a required one is absent, or if its value is bad.
 
 ghost use Rattle.std.specs.Prelude.{◌≡◌, ◌==◌, is_some, option_map, option_and_then, count_by};
 ghost use Rattle.std.specs.List.{list_all};
@@ -16,7 +16,7 @@ use serde_json::Value;
 use std::alloc::Global;
 use tg_rights::{Kind, MAX_TEXT, Rights, Text, Word};
 
-/// The field is there, with any value.
+/// Whether the field is there, with any value.
 pub(crate) fn has(object: &LineObject<'_>, key: Key) -> bool
     ensures { result ≡ is_some (get (key_text key) (data_of object.now)) }
 {
@@ -156,7 +156,7 @@ pub(crate) fn kind(object: &LineObject<'_>) -> Option<Kind>
     }
 }
 
-/// The seat, 0 where the field is absent.
+/// The seat, 0 if the field is absent.
 pub(crate) fn seat(object: &LineObject<'_>) -> Option<u64>
     ensures { result ≡ fields.seat_in (data_of object.now) }
 {

@@ -1,5 +1,5 @@
-//! A line's object where each key is one that some line has, and each member a text without escapes or a whole number, as a
-//! list of its members.
+//! A line's object in which each key is one that some line has, and each member a text without escapes or a whole
+//! number, as a list of its members.
 
 ghost use Rattle.std.specs.Prelude.{◌≡◌, ◌<◌, ◌≤◌, ◌∷◌, ◌++◌, [], Some, IfSome, OnSome, option_map, length, drop, if◌then◌else◌};
 ghost use Rattle.std.specs.Str.{bytes_eq};
@@ -49,8 +49,8 @@ pub(crate) struct Flat<'a> {
     members: &'a [Member<'a>],
 }
 
-/// Reads the members of a line's object into room for them, where it is flat; nothing says that it is not flat where
-/// nothing is answered.
+/// Reads the members of a line's object into room for them, if it is flat. If nothing is returned, that does not mean
+/// that it is not flat.
 pub(crate) fn read_flat<'a>(bytes: &'a [u8], found: &mut Members<'a>) -> Option<()>
     requires { found.old.items ≡ [] }
     ensures { OnSome result (json_of bytes.now ≡ Some (flat_data found.new.items)) }
@@ -58,7 +58,7 @@ pub(crate) fn read_flat<'a>(bytes: &'a [u8], found: &mut Members<'a>) -> Option<
     read_object(std::str::from_utf8(bytes).ok()?, found)
 }
 
-/// The same of a text.
+/// The same for a text.
 #[inline(always)]
 fn read_object<'a>(line: &'a str, found: &mut Members<'a>) -> Option<()>
     requires { found.old.items ≡ [] }
@@ -76,7 +76,7 @@ fn read_object<'a>(line: &'a str, found: &mut Members<'a>) -> Option<()>
     Some(())
 }
 
-/// The members behind the opening brace, and the place behind the closing one.
+/// The members after the opening brace, and the place after the closing one.
 #[inline(always)]
 fn read_members<'a>(line: &'a str, from: usize, found: &mut Members<'a>) -> Option<usize>
     requires room { from ≤ length line.now }
@@ -100,7 +100,7 @@ fn read_members<'a>(line: &'a str, from: usize, found: &mut Members<'a>) -> Opti
     }
 }
 
-/// The member at a place, and the place of the comma or the brace behind it.
+/// The member at a place, and the place of the comma or the brace after it.
 #[inline(always)]
 fn read_member<'a>(line: &'a str, from: usize) -> Option<(Member<'a>, usize)>
     requires { from ≤ length line.now }
@@ -119,7 +119,7 @@ fn read_member<'a>(line: &'a str, from: usize) -> Option<(Member<'a>, usize)>
     Some((Member { key, value }, spaces_end(bytes, end)))
 }
 
-/// The value at a place, and the place behind it.
+/// The value at a place, and the place after it.
 #[inline(always)]
 fn read_value<'a>(line: &'a str, at: usize) -> Option<(Plain<'a>, usize)>
     requires { at ≤ length line.now }
@@ -136,7 +136,7 @@ fn read_value<'a>(line: &'a str, at: usize) -> Option<(Plain<'a>, usize)>
     }
 }
 
-/// The value of the member where it has that key, else what was found before it.
+/// The value of the member if it has that key, else what was found before it.
 #[inline(always)]
 fn later<'a>(member: &Member<'a>, key: Key, before: Option<Plain<'a>>) -> Option<Plain<'a>>
     ensures { result ≡ (if bytes_eq (key_text member.now.key) (key_text key) then Some member.now.value else before.entry) }
@@ -195,7 +195,7 @@ impl<'a> Flat<'a> {
         }
     }
 
-    /// Each key is one of these.
+    /// Whether each key is one of these.
     pub(crate) fn knows_all(&self, others: &[Key], required: &[Key]) -> bool
         ensures { result ≡ knows_all_of (key_texts others.now ++ key_texts required.now) (flat_data self.now.members.now) }
     {

@@ -83,7 +83,7 @@ impl Key {
         self == other
     }
 
-    /// The key is in one of the lists.
+    /// Whether the key is in one of the lists.
     #[inline(always)]
     pub(crate) fn is_in_either(self, others: &[Key], required: &[Key]) -> bool
         ensures { result ≡ is_listed_in_either others.now required.now (key_text self) }

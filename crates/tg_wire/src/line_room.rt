@@ -8,7 +8,7 @@ use std::mem;
 /// Room for most lines.
 const ROOM: usize = 128;
 
-/// Room in which lines are written, one after another: a line takes memory only where it is the longest so far. It is
+/// Room in which lines are written, one after another: a line takes memory only if it is the longest so far. It is
 /// empty between two lines.
 #[derive(Drop)]
 pub struct LineRoom {
@@ -18,7 +18,7 @@ pub struct LineRoom {
 }
 
 impl LineRoom {
-    /// No room yet. Takes no memory.
+    /// No room yet. Allocates nothing.
     pub fn new(alloc: Global) -> LineRoom {
         LineRoom {
             alloc,
@@ -34,7 +34,7 @@ impl LineRoom {
         Ok(mem::replace(&mut self.bytes, Vec::new(self.alloc)))
     }
 
-    /// Takes the room of a line back, which is no longer wanted. Takes no memory.
+    /// Takes back the room of a line that is no longer wanted. Allocates nothing.
     pub fn take_back(&mut self, line: Vec<u8>) {
         let mut bytes = line;
         bytes.clear();

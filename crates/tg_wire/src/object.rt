@@ -19,14 +19,14 @@ use crate::line::LONGEST_LINE;
 use serde_json::{Map, Value};
 use std::alloc::Global;
 
-/// The object of a line: the list of its members where it is flat, or its tree.
+/// The object of a line: the list of its members if it is flat, or its tree.
 #[derive(Drop)]
 pub(crate) enum LineObject<'a> {
     Flat(Flat<'a>),
     Tree(Value),
 }
 
-/// The object of a line, as its tree. Its length is asked before any memory is.
+/// The object of a line, as its tree. Its length is checked before any memory is asked for.
 pub(crate) fn object<'a>(alloc: Global, bytes: &[u8]) -> Result<LineObject<'a>, WireFault>
     ensures answered { AnswersBy data_of result (object_of bytes.now) }
     ensures short { result ≡ Err OutOfMemory → length bytes.now ≤ LONGEST_LINE }
@@ -45,7 +45,7 @@ pub(crate) fn fits(bytes: &[u8]) -> Result<(), WireFault>
     }
 }
 
-/// The same of a line that is not too long.
+/// The same for a line that is not too long.
 #[inline(never)]
 pub(crate) fn tree<'a>(alloc: Global, bytes: &[u8]) -> Result<LineObject<'a>, WireFault>
     ensures { AnswersBy data_of result (json_object bytes.now) }

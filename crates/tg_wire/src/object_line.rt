@@ -14,7 +14,7 @@ use json::Writer;
 use std::alloc::AllocError;
 use tg_rights::Rights;
 
-/// What a field tells.
+/// The value of a field to write.
 #[derive(Clone, Copy, Drop)]
 pub(crate) enum Told<'a> {
     Nothing,
@@ -42,7 +42,7 @@ pub(crate) fn object_line(
     Ok(bytes)
 }
 
-/// The line of an object that begins so, and ends with this value. It ends with a line feed.
+/// The line of an object that begins with these bytes, and ends with this value. It ends with a line feed.
 #[tactic(auto, using(crate::proofs::ObjectLineLemmas::led))]
 pub(crate) fn led_line(
     room: &mut LineRoom,

@@ -20,8 +20,8 @@ use tg_graph::Step;
 use tg_rights::{Command, Rule};
 use tg_vault::Event;
 
-/// The value of an event line, or its first fault. `seat` is 0 where it is absent; `collect` and `cycle` don't use it, but
-/// where it is given it is a number there too.
+/// The value of an event line, or its first fault. `seat` is 0 if it is absent; `collect` and `cycle` do not use it,
+/// but if it is given it has to be a number there too.
 #[tactic(auto, unfolding(crate::specs::Lines::line_of))]
 pub fn read_line(alloc: Global, bytes: &[u8]) -> Result<Line, WireFault>
     ensures answered { Answers result (line_of bytes.now) }
@@ -42,14 +42,14 @@ fn line_of_object(alloc: Global, object: &LineObject<'_>) -> Result<Line, WireFa
     match line(alloc, op, object) {
         Ok(line) => only_known(line, op, object),
         Err(fault) => {
-            // A field that is not there comes before one that is bad, and no good line lacks one.
+            // A missing field comes before a bad one, and no good line lacks one.
             has_required(op.keys(), object)?;
             Err(fault)
         }
     }
 }
 
-/// A good line, where its object has no other fields.
+/// A good line, if its object has no other fields.
 fn only_known(line: Line, op: Op, object: &LineObject<'_>) -> Result<Line, WireFault>
     requires { (op_form op).value (data_of object.now) ≡ Some line }
     ensures { result ≡ fields_of (op_form op).fields line_extras (op_form op).value (data_of object.now) }

@@ -1,4 +1,4 @@
-//! What stands at a place of a line: spaces, a text without escapes, a whole number.
+//! What is at a place of a line: spaces, a text without escapes, a whole number.
 
 ghost use Rattle.std.specs.Prelude.{◌≡◌, ◌<◌, ◌≤◌, ◌+◌, ◌-◌, ◌∷◌, ◌||◌, ◌==◌, ℕ, List, Some, IfSome, length, drop, get_or, false};
 ghost use Rattle.std.specs.List.{prefix_len};
@@ -11,7 +11,7 @@ ghost use Rattle.json.specs.Lex.{token, between, lex};
 ghost use Rattle.serde_json.specs.Data.{unsigned};
 ghost use Rattle.serde_json.specs.Read.{number_of};
 
-/// The byte at a place, or a space behind the last one.
+/// The byte at a place, or a space after the last one.
 #[inline(always)]
 pub(crate) fn byte_at(bytes: &[u8], at: usize) -> u8
     ensures { result ≡ get_or bytes.now at 32 }
@@ -41,7 +41,7 @@ fn is_space(byte: u8) -> bool
 }
 
 /// The first quote, backslash or control byte from a place on.
-// Inlined, it counts up what the caller does with the place beside it, at each byte.
+// If inlined, the loop would also count up, at each byte, what the caller computes from the place.
 #[inline(never)]
 fn plain_end(bytes: &[u8], from: usize) -> usize
     requires { from ≤ length bytes.now }
@@ -68,7 +68,7 @@ fn digits_end(bytes: &[u8], from: usize) -> usize
     at
 }
 
-/// The text at a place, where one is there without escapes, and the place behind it.
+/// The text at a place, if one without escapes is there, and the place after it.
 #[inline(always)]
 pub(crate) fn read_text<'a>(line: &'a str, quote: usize) -> Option<(&'a str, usize)>
     requires { quote ≤ length line.now }
@@ -86,7 +86,7 @@ pub(crate) fn read_text<'a>(line: &'a str, quote: usize) -> Option<(&'a str, usi
     Some((&line[quote + 1..end], end + 1))
 }
 
-/// The whole number at a place, where one is there, and the place behind it.
+/// The whole number at a place, if one is there, and the place after it.
 #[inline(always)]
 pub(crate) fn read_number(bytes: &[u8], at: usize) -> Option<(u64, usize)>
     requires { at ≤ length bytes.now }
@@ -108,7 +108,7 @@ fn ends_number(byte: u8) -> bool
     byte == b',' || byte == b'}' || byte == b' '
 }
 
-/// A zero stands before other digits.
+/// Whether a zero comes before other digits.
 #[inline(always)]
 fn is_padded(first: u8, digits: usize) -> bool
     ensures { result ≡ false → (first ≡ 48) → (digits ≤ 1) }
@@ -116,7 +116,7 @@ fn is_padded(first: u8, digits: usize) -> bool
     first == b'0' && digits > 1
 }
 
-/// The number that digits write, where it is below 2 ^ 64.
+/// The number that digits write, if it is below 2 ^ 64.
 #[inline(always)]
 fn whole(digits: &[u8]) -> Option<u64>
     requires some { 0 < length digits.now }

@@ -1,4 +1,4 @@
-//! From a reply, an answer, a cycle or a verdict to its line. The keys of a line rise.
+//! From a reply, an answer, a cycle or a verdict to its line. The keys of a line are in rising order.
 
 ghost use Rattle.std.specs.Prelude.{◌≡◌, IfOk, codes};
 ghost use Rattle.serde_json.specs.Data.{object, member, no_members, string, number, unsigned};
@@ -22,7 +22,7 @@ pub fn write_reply(alloc: Global, reply: &Reply) -> Result<Vec<u8>, AllocError>
     write_reply_in(&mut LineRoom::new(alloc), reply)
 }
 
-/// The same in room that is kept; where memory is refused, there is no room until a line comes back.
+/// The same in room that is kept; if memory runs out, there is no room until a line comes back.
 #[tactic(auto, unfolding(crate::specs::Replies::reply_line, crate::proofs::Literals::numbers_on_literals))]
 pub fn write_reply_in(room: &mut LineRoom, reply: &Reply) -> Result<Vec<u8>, AllocError>
     ensures { IfOk result (λ line. line.items ≡ reply_line reply.now) }
