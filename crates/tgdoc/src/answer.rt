@@ -20,7 +20,7 @@ pub(crate) struct Told {
     pub is_error: bool,
 }
 
-/// Reads a line, carries out its event or a cycle of the collector, and gives the answer's line.
+/// Reads a line, carries out its event or a cycle of the collector, and returns the answer's line.
 #[inline(always)]
 pub(crate) fn answer(alloc: Global, vault: &mut Vault, bytes: &[u8], room: &mut LineRoom) -> Told
     ensures { AnswersLine vault.old bytes.now vault.new (text_of result.text) (one_if result.is_error) }
@@ -35,7 +35,7 @@ pub(crate) fn answer(alloc: Global, vault: &mut Vault, bytes: &[u8], room: &mut 
     }
 }
 
-/// Carries out one event, and gives the answer's line.
+/// Carries out one event, and returns the answer's line.
 #[inline(always)]
 fn carry_out(vault: &mut Vault, event: Event, room: &mut LineRoom) -> Told
     ensures { (answer : Answer) × VaultStep vault.old event answer vault.new × TellsAnswer answer (text_of result.text) result.is_error }
@@ -44,7 +44,7 @@ fn carry_out(vault: &mut Vault, event: Event, room: &mut LineRoom) -> Told
     tell(room, &answer)
 }
 
-/// Carries out a cycle of the collector, and gives the line of what it did.
+/// Carries out a cycle of the collector, and returns the line of what it did.
 #[inline(always)]
 fn sweep(vault: &mut Vault, room: &mut LineRoom) -> Told
     ensures keeps { Keeps vault.old vault.new }

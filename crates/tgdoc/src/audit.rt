@@ -32,18 +32,18 @@ enum Ending {
     TooLong,
     /// A line comes after the millionth.
     TooMany,
-    /// A line is refused, or there is no memory.
+    /// A line is refused, or memory ran out.
     Refused(WireFault),
     /// The configuration is refused.
     Unsound(OpenFault),
 }
 
 /// Reads a configuration line, a goal line and step lines, and answers the verdict on the steps, which are carried out
-/// one after another from the graph of the configuration. Every line is read before a verdict is answered. A line that is
-/// refused ends the audit with its `error` line, and so do the end of the input where a configuration or a goal is wanted,
-/// which is read as an empty line and not counted, a line of more than 16,384 bytes, and the line after the millionth.
-/// Each verdict but `shared` counts as an error. Where there is no memory for the steps or for the verdict's line,
-/// `out of memory` is answered in its place; where there is none for the buffer of 32,768 bytes, no line is read.
+/// one after another from the graph of the configuration. Every line is read before a verdict is answered. A line that
+/// is refused ends the audit with its `error` line. So does the end of the input when a configuration or a goal is
+/// wanted, which is read as an empty line and not counted, a line of more than 16,384 bytes, and the line after the
+/// millionth. Each verdict but `shared` counts as an error. If there is no memory for the steps or for the verdict's
+/// line, `out of memory` is answered in its place; if there is none for the buffer of 32,768 bytes, no line is read.
 pub fn audit_lines<R: Read, W: Write + Drop>(
     alloc: Global,
     reader: &mut Watched<R>,
@@ -74,7 +74,7 @@ pub fn audit_lines<R: Read, W: Write + Drop>(
     }
 }
 
-/// Ends the audit without a verdict, after so many lines.
+/// Ends the audit without a verdict, after this many lines.
 fn end<W: Write + Drop>(writer: &mut Watched<BufWriter<W>>, lines: u64, ending: Ending) -> Finished
     requires { has_failed writer.old ≡ false }
     ensures lines { result.lines ≡ lines }
@@ -105,7 +105,7 @@ fn end<W: Write + Drop>(writer: &mut Watched<BufWriter<W>>, lines: u64, ending: 
     }
 }
 
-/// Answers the verdict, after so many lines.
+/// Answers the verdict, after this many lines.
 fn answer<W: Write + Drop>(
     alloc: Global,
     writer: &mut Watched<BufWriter<W>>,
@@ -196,7 +196,7 @@ fn take_goal<R: Read>(
     }
 }
 
-/// Takes all lines that are left, as steps.
+/// Takes all remaining lines, as steps.
 fn take_steps<R: Read>(
     alloc: Global,
     input: &mut InputLines,
@@ -260,7 +260,7 @@ fn take_wanted<R: Read>(input: &mut InputLines, reader: &mut Watched<R>) -> Resu
     }
 }
 
-/// Takes the next line; false where nothing is left.
+/// Takes the next line; false if nothing is left.
 fn take<R: Read>(input: &mut InputLines, reader: &mut Watched<R>) -> Result<bool, Ending>
     requires few { input.old.taken ≤ MOST_LINES }
     requires reads { has_failed reader.old ≡ false }

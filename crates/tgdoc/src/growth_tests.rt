@@ -1,5 +1,5 @@
-//! The command line where memory is refused: the error says so, and the words that are read again ask for what they do.
-//! tests/growths.py refuses each allocation of the test in turn.
+//! The command line if memory runs out: the error says so, and the words that are read again ask for what they do.
+//! tests/growths.py makes each allocation of the test fail in turn.
 
 use crate::{Mode, mode};
 use clap::Error;
@@ -36,7 +36,7 @@ fn is_the_server(found: &Result<Mode, Error>) -> bool {
     }
 }
 
-/// Whether the words are refused for want of memory.
+/// Whether the words are refused for lack of memory.
 fn is_in_want(found: &Result<Mode, Error>) -> bool {
     match found {
         Ok(_) => false,

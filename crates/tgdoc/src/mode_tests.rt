@@ -3,7 +3,7 @@
 use crate::{Mode, mode};
 use std::alloc::Global;
 
-/// The number of workers and of connections that words ask for; none where they ask for no server on this address.
+/// The number of workers and of connections that words ask for; none if they ask for no server on this address.
 fn numbers_of(alloc: Global, words: &[&str], address: &str) -> Option<(u64, u64)> {
     match mode(alloc, words) {
         Ok(
@@ -25,7 +25,7 @@ fn numbers_of(alloc: Global, words: &[&str], address: &str) -> Option<(u64, u64)
     }
 }
 
-/// The numbers where the words behind `tgdoc serve --listen 127.0.0.1:0` are these.
+/// The numbers if these words follow `tgdoc serve --listen 127.0.0.1:0`.
 fn served(alloc: Global, further: [&str; 4]) -> Option<(u64, u64)> {
     let [first, second, third, fourth] = further;
     let address = "127.0.0.1:0";

@@ -16,11 +16,11 @@ use tg_vault::{Vault, courses_have_the_headline, courses_join};
 use tg_wire::{LineRoom, WireFault, error_line, open_fault_line, read_config};
 
 /// Reads a configuration line and then event lines, and answers each. Answers to lines that came together are written
-/// together, and nothing is held back when more is read, nor in the end. A configuration line that is
-/// refused ends the run; an event line that is refused does not. No line at all is read as an empty one, which is not
-/// counted. The run ends at the end of the input, at a line of more than 16,384 bytes, at the line after the millionth,
-/// and where the reader or the writer fails. Where there is no memory for an answer's line, `out of memory` is answered
-/// in its place; where there is none for the buffer of 32,768 bytes, no line is read.
+/// together, and nothing is held back when more is read, nor in the end. A configuration line that is refused ends the
+/// run; an event line that is refused does not. No line at all is read as an empty one, which is not counted. The run
+/// ends at the end of the input, at a line of more than 16,384 bytes, at the line after the millionth, and when the
+/// reader or the writer fails. If there is no memory for an answer's line, `out of memory` is answered in its place; if
+/// there is none for the buffer of 32,768 bytes, no line is read.
 pub fn run_lines<R: Read, W: Write + Drop>(
     alloc: Global,
     reader: &mut Watched<R>,
@@ -85,7 +85,7 @@ pub(crate) fn open(alloc: Global, bytes: &[u8]) -> Result<Vault, &'static [u8]>
     }
 }
 
-/// Answers the lines behind the configuration.
+/// Answers the lines after the configuration.
 fn answer_lines<R: Read, W: Write + Drop>(
     alloc: Global,
     vault: Vault,

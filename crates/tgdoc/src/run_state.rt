@@ -14,7 +14,7 @@ use tg_talk::{InputLines, Next, TalkFault, Watched, send_line, too_many_line};
 use tg_vault::Vault;
 use tg_wire::{LineRoom, WireFault, error_line};
 
-/// What a turn comes to.
+/// The result of a turn.
 #[derive(Drop)]
 pub(crate) enum Turn {
     /// The run goes on.
@@ -31,7 +31,7 @@ pub(crate) struct RunState {
     pub room: LineRoom,
 }
 
-/// Writes the line of an answer, whose room comes back, or of a fault.
+/// Writes the line of an answer, whose room is taken back, or of a fault.
 fn send_text<W: Write + Drop>(
     writer: &mut Watched<BufWriter<W>>,
     text: Result<Vec<u8>, WireFault>,
@@ -49,7 +49,7 @@ fn send_text<W: Write + Drop>(
     }
 }
 
-/// How many `error` lines an answer is.
+/// How many `error` lines an answer counts as.
 fn count(is_error: bool) -> u64
     ensures { result ≡ one_if is_error }
 {

@@ -21,10 +21,10 @@ use tg_share::{Closed, Ended, Open, PARTS, Shared};
 use tg_talk::{Watched, buffered, send_line, talk};
 use tg_vault::Vault;
 
-/// What serving came to.
+/// The result of serving.
 #[derive(Clone, Copy, Debug, PartialEq, Eq)]
 pub struct Served {
-    /// The logs agree with the history, and every line of the server's own was written.
+    /// Whether the logs agree with the history, and every line of the server's own was written.
     pub settled: bool,
 }
 
@@ -33,11 +33,11 @@ pub struct Served {
 pub(crate) enum Found {
     Agreed,
     Differs { seat: u64, index: u64 },
-    /// A growth or a thread was refused.
+    /// An allocation or the start of a thread failed.
     NoMemory,
 }
 
-/// Collector steps between two rests, and between two looks at whether all is over.
+/// Collector steps between two rests, and between two looks at whether everything is over.
 const STEPS: u64 = 1_000;
 
 /// How long the collector rests, in microseconds, while its cycles free slots.
@@ -46,10 +46,12 @@ const SHORT_REST: u64 = 100;
 /// How long it rests after a cycle that freed nothing.
 const LONG_REST: u64 = 1_000;
 
-/// Serves so many connections, each in a talk of a worker on the worker's own seat, beside a collector, and settles the logs
-/// at the end. It writes the address before the first connection, and what settling found as the last line: `agreed`;
-/// `differs`, with the least seat whose log differs and the least index in it; or `no memory`, where a growth or a thread
-/// was refused. A connection that can't be accepted counts as one. Where the address can't be written, clients are served all
+/// Serves this many connections, each in a talk of a worker on the worker's own seat, while a collector runs, and
+/// settles the logs at the end. It writes the address before the first connection, and what settling found as the last
+/// line: `agreed`; `differs`, with the least seat whose log differs and the least index in it; or `no memory`, if an
+/// allocation or the start of a thread failed. A connection that cannot be accepted counts as one. If the address
+/// cannot be written, clients are served all the same, nothing more is written, and nothing is settled. `workers` is
+/// from 1 to 63.
 /// the same, nothing more is written, and nothing is settled. `workers` is from 1 to 63.
 pub fn serve_on<R: Threads + Wait + Clock + Sync, W: Write>(
     rt: &R,
@@ -81,7 +83,7 @@ pub fn serve_on<R: Threads + Wait + Clock + Sync, W: Write>(
     }
 }
 
-/// Writes the address that is listened on; whether that was done.
+/// Writes the address that is listened on; returns whether that was done.
 fn announce<W: Write>(writer: &mut Watched<W>, listener: &TcpListener) -> bool
     ensures unfailed { result ≡ true → has_failed writer.new ≡ false }
     ensures announced { result ≡ true → Announces (W.contents (device_of writer.old)) (W.contents (device_of writer.new)) }
@@ -119,7 +121,7 @@ pub(crate) fn tell<W: Write>(writer: &mut Watched<W>, found: Found) -> Served
     }
 }
 
-/// Writes at which index of which seat the logs first differ. Takes no memory.
+/// Writes at which index of which seat the logs first differ. Allocates nothing.
 fn tell_difference<W: Write>(writer: &mut Watched<W>, seat: u64, index: u64)
     requires { has_failed writer.old ≡ false }
     ensures { Sends (W.contents (device_of writer.old)) (W.contents (device_of writer.new)) (has_failed writer.new) (differs_line seat index) }
@@ -132,7 +134,7 @@ fn tell_difference<W: Write>(writer: &mut Watched<W>, seat: u64, index: u64)
     send_more(writer, b",\"settled\":\"differs\"}\n");
 }
 
-/// Writes bytes behind others of their line, unless the writer has failed.
+/// Writes further bytes of a line, unless the writer has failed.
 fn send_more<W: Write>(writer: &mut Watched<W>, bytes: &[u8])
     ensures { (start : Option (List ℕ)) (before : List ℕ) → Sends start (W.contents (device_of writer.old)) (has_failed writer.old) before
         → Sends start (W.contents (device_of writer.new)) (has_failed writer.new) (before ++ bytes.now) }
@@ -184,8 +186,8 @@ fn found_in<L: Ledger>(closed: Closed<L>) -> Found
     }
 }
 
-/// The workers and the collector, each in a thread of its own. What all connections left; none where a thread or a growth
-/// was refused.
+/// The workers and the collector, each in a thread of its own. Returns what all connections left; none if an allocation
+/// or the start of a thread failed.
 fn serve_in_threads<L: Ledger + Send + Sync, R: Threads + Wait + Clock + Sync>(
     rt: &R,
     alloc: Global,
@@ -225,7 +227,7 @@ fn serve_in_threads<L: Ledger + Send + Sync, R: Threads + Wait + Clock + Sync>(
     })
 }
 
-/// Collects until all is over. It rests between its steps, for longer where the last cycle freed nothing.
+/// Collects until everything is over. It rests between its steps, for longer if the last cycle freed nothing.
 fn collect_until<L: Ledger, R: Wait + Clock>(rt: &R, shared: &Shared<L>, is_over: &AtomicBool) {
     let mut has_freed = false;
     let mut rest = SHORT_REST;
@@ -243,7 +245,7 @@ fn collect_until<L: Ledger, R: Wait + Clock>(rt: &R, shared: &Shared<L>, is_over
     }
 }
 
-/// Serves connections one after the other, until none is left. What they left; none where a growth was refused.
+/// Serves connections one after the other, until none is left. Returns what they left; none if an allocation failed.
 fn work<L: Ledger, R: Wait + Clock>(
     rt: &R,
     alloc: Global,
@@ -265,7 +267,7 @@ fn work<L: Ledger, R: Wait + Clock>(
     Some(all)
 }
 
-/// Whether a connection was left; it is this worker's now.
+/// Whether a connection was left; it is now this worker's.
 fn take_one<R: Wait>(rt: &R, left: &Mutex<u64>) -> bool {
     let mut left = left.lock(rt);
     if *left == 0 {
@@ -275,7 +277,7 @@ fn take_one<R: Wait>(rt: &R, left: &Mutex<u64>) -> bool {
     true
 }
 
-/// One connection, in a talk on the seat, and what it leaves beside what others left.
+/// One connection, in a talk on the seat; what it leaves is added to what others left.
 fn serve_one<L: Ledger, R: Wait + Clock>(
     rt: &R,
     alloc: Global,

@@ -17,9 +17,10 @@ use tg_wire::{WireFault, error_line};
 
 const LISTEN: &[u8] = b"{\"error\":\"listen\"}\n";
 
-/// Reads the configuration line, listens on the address, and serves the vault. A configuration that is refused is answered
-/// as `run_lines` answers it, and no address is listened on; no line at all is read as an empty one. Then an address that is
-/// not of the loopback, or that can't be listened on, is answered `listen`. After a refusal nothing is settled.
+/// Reads the configuration line, listens on the address, and serves the vault. A configuration that is refused is
+/// answered as `run_lines` answers it, and no address is listened on; no line at all is read as an empty one. Then an
+/// address that is not of the loopback, or that cannot be listened on, is answered `listen`. After a refusal nothing is
+/// settled.
 pub fn serve_lines<
     N: Threads + Wait + Clock + Net<Listener = TcpListener, Stream = TcpStream> + Sync,
     R: Read,
@@ -56,7 +57,7 @@ fn refuse<W: Write>(writer: &mut Watched<W>, text: &[u8]) -> Served
     Served { settled: false }
 }
 
-/// The vault of the configuration line, or the line of its refusal, which is empty where the line can't be read.
+/// The vault of the configuration line, or the line of its refusal, which is empty if the line cannot be read.
 fn read_vault<R: Read>(alloc: Global, reader: &mut Watched<R>) -> Result<Vault, &'static [u8]>
     requires reads { has_failed reader.old ≡ false }
     ensures empty { IfOk result (λ vault. vault.history ≡ []) }

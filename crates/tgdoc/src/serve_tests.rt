@@ -26,7 +26,7 @@ const NOT_AN_OBJECT: &[u8] = b"{\"error\":\"not an object\"}\n";
 
 const LISTEN: &[u8] = b"{\"error\":\"listen\"}\n";
 
-/// Serves one connection by two workers; what came of it, and what was written.
+/// Serves one connection by two workers; returns the result, and what was written.
 fn serve_one_client<R: Threads + Wait + Clock + Sync>(
     rt: &R,
     alloc: Global,
@@ -53,7 +53,7 @@ fn ask<N: Net<Listener = TcpListener, Stream = TcpStream>>(
     Ok(answers)
 }
 
-/// A server and a client at once: what the server came to, and what the client was answered.
+/// A server and a client at once: the server's result, and the answers to the client.
 fn serve_and_ask<
     N: Threads + Wait + Clock + Net<Listener = TcpListener, Stream = TcpStream> + Sync,
 >(
@@ -84,7 +84,7 @@ fn one_client_over_the_loopback(rt: HostRuntime) -> io::Result<()> {
     Ok(())
 }
 
-/// What a server on the address writes, and what it comes to.
+/// What a server on the address writes, and its result.
 fn serve_at<N: Threads + Wait + Clock + Net<Listener = TcpListener, Stream = TcpStream> + Sync>(
     rt: &N,
     alloc: Global,
@@ -124,7 +124,7 @@ fn a_refused_configuration(rt: HostRuntime) {
     assert!(rt; out.as_slice() == NOT_AN_OBJECT);
 }
 
-/// What settling found, the line that tells it, and whether the server has settled.
+/// What settling found, the line that reports it, and whether the server has settled.
 const TOLD: &[(Found, &[u8], bool)] = &[
     (Found::Agreed, b"{\"settled\":\"agreed\"}\n", true),
     (
