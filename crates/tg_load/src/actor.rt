@@ -1,4 +1,4 @@
-//! A session that draws what it asks, and keeps in mind what it was told.
+//! A session that draws its commands, and remembers the replies.
 
 use crate::board::Board;
 use crate::draws::{Drawn, Draws};
@@ -12,7 +12,7 @@ use std::sync::ledger::Ledger;
 use tg_rights::{Cause, Reply, Rights, Rule};
 use tg_share::{Open, Session};
 
-/// What a session goes by.
+/// What a session draws its commands by.
 #[derive(Drop)]
 pub struct Actor {
     pub draws: Draws,
@@ -33,7 +33,7 @@ impl Actor {
         }
     }
 
-    /// Rights that are given up: the last that came.
+    /// Rights to give up: the last that came.
     fn given_up(&mut self) -> Drawn {
         let (over, rights) = match self.held.pop() {
             Some(found) => found,
@@ -47,7 +47,7 @@ impl Actor {
         }
     }
 
-    /// The next command, where someone's newest document is known.
+    /// The next command, given someone's newest document.
     fn draw(&mut self, newest: u64) -> Drawn {
         let rule = self.draws.rule();
         if rule == Rule::Remove || self.held.len() > 2 {
@@ -66,7 +66,7 @@ impl Actor {
         }
     }
 
-    /// What was told is kept in mind.
+    /// Remembers what the reply says.
     fn learn(&mut self, drawn: &Drawn, reply: &Reply, board: &Board) -> Result<(), AllocError> {
         match reply {
             Reply::Created(serial) => {
@@ -91,7 +91,7 @@ impl Actor {
     }
 }
 
-/// Asks the next command.
+/// Submits the next command.
 fn ask_one<L: Ledger, R: Wait + Clock>(
     rt: &R,
     alloc: Global,
@@ -110,7 +110,8 @@ fn ask_one<L: Ledger, R: Wait + Clock>(
     }
 }
 
-/// Asks all commands, half of them after the collector was waited for if that is wanted; whether each was entered.
+/// Submits all commands, half of them after waiting for the collector if that is wanted; returns whether each was
+/// entered.
 pub fn ask_all<L: Ledger, R: Wait + Clock>(
     rt: &R,
     alloc: Global,

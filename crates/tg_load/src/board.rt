@@ -1,4 +1,4 @@
-//! What the threads of a run tell one another.
+//! What the threads of a run report to one another.
 
 use std::rt::Clock;
 use std::sync::atomic::{AtomicBool, AtomicU64, Ordering};
@@ -32,7 +32,7 @@ impl Board {
         }
     }
 
-    /// Waits for what is to come, in turns that are counted; whether it has come.
+    /// Waits, in a limited number of turns, until it has come; returns whether it has.
     fn wait<R: Clock, F: Fn(&Board) -> bool>(&self, rt: &R, has_come: F) -> bool
         requires { F.IsAlwaysCallable has_come }
     {

@@ -1,4 +1,4 @@
-//! All sessions at once, each in a thread of its own, beside the collector.
+//! All sessions at once, each in a thread of its own, while the collector runs.
 
 use crate::actor::{Actor, ask_all};
 use crate::board::Board;
@@ -27,11 +27,11 @@ pub struct Acted<L: Ledger> {
     pub made: u64,
     /// The longest time that one of its commands took, in microseconds.
     pub longest: u64,
-    /// Each of its commands was entered.
+    /// Whether each of its commands was entered.
     pub is_whole: bool,
 }
 
-/// A whole session, which asks once all are given; none where it is refused.
+/// A whole session, which submits commands once all are given; none if it is refused.
 fn act<L: Ledger, R: Wait + Clock>(
     rt: &R,
     alloc: Global,
@@ -63,7 +63,7 @@ fn act<L: Ledger, R: Wait + Clock>(
     })
 }
 
-/// A session of the keeper, which makes documents; none where it is refused.
+/// A session of the keeper, which makes documents; none if it is refused.
 pub fn hold<L: Ledger, R: Wait + Clock>(
     rt: &R,
     alloc: Global,
@@ -112,13 +112,13 @@ pub struct Crowd<L: Ledger> {
     pub longest: u64,
     /// The time from the first thread to the end of the last session, in microseconds.
     pub micros: u64,
-    /// Each thread was started, each session given and each command entered.
+    /// Whether each thread was started, each session given and each command entered.
     pub is_whole: bool,
 }
 
 impl<L: Ledger> Crowd<L> {
-    /// Nothing yet, with room for what the sessions and the keeper's leave: an ended session that is let go is one whose log
-    /// the settle misses.
+    /// Nothing yet, with room for what the sessions and the keeper's leave: the settle would miss the log of an ended
+    /// session that is dropped.
     fn new(alloc: Global, load: Load) -> Option<Crowd<L>> {
         let sessions = usize::try_from(load.sessions).ok()?;
         Some(Crowd {
@@ -150,7 +150,7 @@ impl<L: Ledger> Crowd<L> {
     }
 }
 
-/// All sessions, each in a thread of its own, beside the collector. None where there is no room for what they leave.
+/// All sessions, each in a thread of its own, while the collector runs. None if there is no room for what they leave.
 pub fn act_at_once<L: Ledger + Send + Sync, R: Threads + Wait + Clock + Sync>(
     rt: &R,
     alloc: Global,

@@ -7,12 +7,12 @@ use std::time::Instant;
 
 const MICROS: u64 = 1_000_000;
 
-/// The time, if the clock tells it.
+/// The time, if the clock returns it.
 pub fn now<R: Clock>(rt: &R) -> Option<Instant> {
     Instant::now(rt).ok()
 }
 
-/// The microseconds since then; 0 where the clock did not tell them.
+/// The microseconds since then; 0 if the clock did not return the time.
 pub fn micros_since<R: Clock>(rt: &R, start: Option<Instant>) -> u64 {
     let Some(start) = start else {
         return 0;
@@ -26,7 +26,7 @@ pub fn micros_since<R: Clock>(rt: &R, start: Option<Instant>) -> u64 {
     }
 }
 
-/// Seconds with six digits behind the point.
+/// Seconds with six digits after the point.
 #[derive(Clone, Copy)]
 struct Seconds {
     micros: u64,

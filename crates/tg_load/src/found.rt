@@ -1,4 +1,4 @@
-//! What came of a run.
+//! The result of a run.
 
 use std::fmt;
 use std::fmt::{Display, Formatter};
@@ -15,12 +15,13 @@ pub enum Verdict {
     NoRoom,
 }
 
-/// What came of a run.
+/// The result of a run.
 #[derive(Clone, Copy, PartialEq, Eq)]
 pub enum Found {
     /// The logs were settled, and all sessions were counted or not.
     Settled { verdict: Verdict, counted: bool },
-    /// The logs agree, but a thread, a session or a command was refused, so there are fewer entries than were asked.
+    /// The logs agree, but a thread, a session or a command was refused, so there are fewer entries than were asked
+    /// for.
     Short,
     /// All is well, but no slot was used again.
     NotReused,

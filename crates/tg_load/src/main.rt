@@ -1,5 +1,5 @@
-//! `tg_load`, many sessions at once over one vault: whatever order the threads take, the logs of all of them agree with one
-//! legal history.
+//! `tg_load`, many sessions at once over one vault: whatever order the threads take, the logs of all of them agree with
+//! one legal history.
 #![tactic(auto)]
 
 mod actor;
@@ -36,7 +36,8 @@ fn texts<'w>(rt: &HostRuntime, words: &'w [String]) -> Result<Vec<&'w str>, Allo
     words.iter().map(|word| word.as_str()).collect(rt.alloc())
 }
 
-/// Makes all runs, each with a line of what came of it. Whether all of them came out as they should, and were told.
+/// Makes all runs, each with a line for its result. Returns whether all of them came out as they should, and were
+/// printed.
 fn run_all<R: Threads + Wait + Clock + Print + Eprint + Sync>(
     rt: &R,
     alloc: Global,

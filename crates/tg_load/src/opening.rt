@@ -20,7 +20,7 @@ pub fn name_of(seat: u64) -> &'static str {
 }
 
 /// A vault of 8 principals, each with the rights to take from the next one and to grant to it, and of the keeper. None
-/// where memory was refused.
+/// if memory ran out.
 pub fn opened(alloc: Global, slots: u64) -> Option<Vault>
     ensures { IfSome result (λ vault. vault.history ≡ []) }
 {

@@ -20,7 +20,7 @@ use tg_audit::Settled;
 use tg_share::{Closed, PARTS, Shared};
 use tg_vault::Vault;
 
-/// What closing comes to.
+/// The result of closing.
 #[derive(Clone, Copy)]
 struct Close {
     verdict: Verdict,
@@ -64,7 +64,7 @@ fn close_of<L: Ledger>(closed: &Closed<L>) -> Close {
     }
 }
 
-/// What came of the run, where the sessions made so many documents.
+/// The result of the run, if the sessions made this many documents.
 fn found_of(load: Load, close: Close, is_whole: bool, made: u64) -> Found {
     let Close {
         verdict,
@@ -85,7 +85,7 @@ fn found_of(load: Load, close: Close, is_whole: bool, made: u64) -> Found {
     }
 }
 
-/// What came of a run over a vault, and what was measured. None where there is no room for what the sessions leave.
+/// The result of a run over a vault, and what was measured. None if there is no room for what the sessions leave.
 fn run_one<L: Ledger + Send + Sync, R: Threads + Wait + Clock + Sync>(
     rt: &R,
     alloc: Global,
@@ -127,7 +127,7 @@ fn run_one<L: Ledger + Send + Sync, R: Threads + Wait + Clock + Sync>(
     Some((found_of(load, close, is_whole, made), figures))
 }
 
-/// Makes a run, and prints what came of it. Whether that is as it should be; an error where it can't be printed.
+/// Makes a run, and prints its result. Returns whether that is as it should be; an error if it cannot be printed.
 pub fn run_next<R: Threads + Wait + Clock + Print + Eprint + Sync>(
     rt: &R,
     alloc: Global,
