@@ -1,4 +1,4 @@
-//! What no clause says: that calls which take memory succeed, and what cases that were worked by hand come to.
+//! What no clause says: that calls which need memory succeed, and the results of cases that were worked by hand.
 use std::alloc::{AllocError, Global};
 use std::process::Abort;
 use tg_audit::{Exchange, SeatLog, Settled, check, replay, settle};
@@ -16,7 +16,7 @@ const TAKE: u8 = 4;
 
 const GRANT: u8 = 8;
 
-/// What a step or an entry asks. Rights are given by their bits.
+/// What a step or an entry asks for. Rights are given by their bits.
 #[derive(Clone, Copy)]
 pub enum Ask {
     /// These rights over the first, from the second.
@@ -28,20 +28,20 @@ pub enum Ask {
     Remove(u8, u64),
 }
 
-/// What a derivation is found to be.
+/// The verdict on a derivation.
 #[derive(Clone, Copy)]
 pub enum Finding {
     Shared,
     NoSubject(u64),
     NotDistinct(u64, Rule),
-    /// The step is denied, since the label of the first vertex to the second lacks these rights.
+    /// The step is denied: the label from the first vertex to the second lacks these rights.
     Lacks(u64, Rule, u64, u64, u8),
     Full(u64),
     /// The goal lacks these.
     Missing(u8),
 }
 
-/// Steps from the graph of some principals with these edges on, and a goal: rights of the first vertex over the other.
+/// Steps from the graph of some principals with these edges, and a goal: rights of the first vertex over the other.
 pub struct Derivation {
     pub names: &'static [&'static str],
     pub edges: &'static [(u64, u8, u64)],
@@ -65,7 +65,7 @@ const DERIVATIONS: &[Derivation] = &[
         goal: (1, READ, 3),
         finding: Finding::Shared,
     },
-    // without it the goal's right lacks
+    // without it the goal's right is missing
     Derivation {
         names: THREE,
         edges: TO_BOB,
@@ -74,7 +74,7 @@ const DERIVATIONS: &[Derivation] = &[
         goal: (1, READ, 3),
         finding: Finding::Missing(READ),
     },
-    // only what lacks of the goal's rights is named
+    // only the missing ones of the goal's rights are named
     Derivation {
         names: THREE,
         edges: TO_BOB,
@@ -83,7 +83,7 @@ const DERIVATIONS: &[Derivation] = &[
         goal: (1, READ | WRITE, 3),
         finding: Finding::Missing(WRITE),
     },
-    // two vertices of the step are one
+    // two vertices of the step are the same
     Derivation {
         names: THREE,
         edges: TO_BOB,
@@ -110,7 +110,7 @@ const DERIVATIONS: &[Derivation] = &[
         goal: (1, NONE, 1),
         finding: Finding::Full(0),
     },
-    // a goal without rights is met by every graph
+    // every graph meets a goal without rights
     Derivation {
         names: &["alice"],
         edges: &[],
@@ -133,7 +133,7 @@ const DERIVATIONS: &[Derivation] = &[
         goal: (4, READ, 3),
         finding: Finding::Missing(READ),
     },
-    // a document can't act
+    // a document cannot act
     Derivation {
         names: THREE,
         edges: TO_BOB,
@@ -142,7 +142,7 @@ const DERIVATIONS: &[Derivation] = &[
         goal: (1, NONE, 1),
         finding: Finding::NoSubject(1),
     },
-    // the first step that fails is named, also where the goal is met before it
+    // the first step that fails is named, even if the goal is met before it
     Derivation {
         names: THREE,
         edges: TO_BOB,
@@ -162,7 +162,7 @@ fn rights_of(bits: u8) -> Rights {
     Rights::from_bits(bits).unwrap_or(Rights::empty())
 }
 
-/// The command that is asked.
+/// The command that is asked for.
 fn command(ask: Ask) -> Command {
     match ask {
         Ask::Take(bits, over, from) => Command::Take {
@@ -190,7 +190,7 @@ fn command(ask: Ask) -> Command {
     }
 }
 
-/// The verdict that says so.
+/// The verdict for this finding.
 fn verdict(finding: Finding) -> Verdict {
     match finding {
         Finding::Shared => Verdict::Shared,
@@ -253,7 +253,7 @@ fn configuration(
     })
 }
 
-/// Whether the verdict says so.
+/// Whether the verdict is this finding.
 pub fn is_verdict(found: Verdict, finding: Finding) -> bool {
     found == verdict(finding)
 }
@@ -291,7 +291,7 @@ pub fn steps_of(alloc: Global, derivation: &Derivation) -> Result<Vec<Step>, All
         .collect(alloc)
 }
 
-/// What the derivation is to bring about.
+/// The derivation's goal.
 pub fn goal_of(derivation: &Derivation) -> Goal {
     Goal {
         from: derivation.goal.0,
@@ -320,7 +320,7 @@ fn each_derivation_has_the_verdict_worked_out(rt: HostRuntime) -> Result<(), All
     Ok(())
 }
 
-/// What is answered.
+/// A reply.
 #[derive(Clone, Copy)]
 pub enum Told {
     Done,
@@ -328,8 +328,8 @@ pub enum Told {
     Full(Which),
 }
 
-/// What alice asks at seat 0, and what she is told: in a vault of three slots a document is made and dropped, another one
-/// is refused, and after two cycles it is made.
+/// What alice asks for at seat 0, and the replies: in a vault of three slots a document is made and dropped, another
+/// one is refused, and after two cycles it is made.
 pub const ENTRIES: &[(Ask, Told)] = &[
     (Ask::Document(READ), Told::Created(3)),
     (Ask::Remove(READ, 3), Told::Done),
@@ -360,7 +360,7 @@ const ONE: &[(Ask, Told)] = &[(Ask::Document(READ), Told::Created(4))];
 /// Exchanges of a principal at a seat.
 pub type Log = (u64, u64, &'static [(Ask, Told)]);
 
-/// Logs, and the seat and the index at which they first differ from the history, where they do.
+/// Logs, and the seat and the index at which they first differ from the history, if they do.
 pub struct Settlement {
     pub logs: &'static [Log],
     pub place: Option<(u64, u64)>,
@@ -418,7 +418,7 @@ pub const SETTLEMENTS: &[Settlement] = &[
     },
 ];
 
-/// The reply that tells so.
+/// The reply that this denotes.
 fn reply(told: Told) -> Reply {
     match told {
         Told::Done => Reply::Done,
@@ -427,7 +427,7 @@ fn reply(told: Told) -> Reply {
     }
 }
 
-/// Whether the reply tells so.
+/// Whether the reply is the one that this denotes.
 pub fn tells(found: &Reply, told: Told) -> bool {
     match found {
         Reply::Done => matches!(told, Told::Done),
@@ -437,7 +437,7 @@ pub fn tells(found: &Reply, told: Told) -> bool {
     }
 }
 
-/// Alice asks at seat 0.
+/// Alice submits a command at seat 0.
 fn asks(rt: &impl Abort, vault: &mut Vault, asked: (Ask, Told)) -> Result<(), AllocError> {
     match vault.command(0, command(asked.0)) {
         Ok(entered) => assert!(rt; tells(&entered.1, asked.1)),
@@ -533,7 +533,7 @@ pub fn is_settled(settled: &Settled, settlement: &Settlement) -> bool {
     }
 }
 
-/// The vault, where there was memory to settle it.
+/// The vault, if there was memory to settle it.
 pub fn vault_of(settled: Settled) -> Result<Vault, AllocError> {
     match settled {
         Settled::Agreed(vault) => Ok(vault),

@@ -1,4 +1,4 @@
-//! Calls that are refused their memory and made again: tests/growths.py refuses each allocation of these tests in turn.
+//! Calls that lack memory and are made again: tests/growths.py makes each allocation of these tests fail in turn.
 use crate::audit::{
     Ask, Derivation, Finding, READ, SETTLEMENTS, Settlement, are_replies, goal_of, graph_of,
     is_found, is_settled, is_verdict, logs_of, opened, steps_of, vault_of,
@@ -9,7 +9,8 @@ use std::process::Abort;
 use tg_audit::{SeatLog, Settled, check, replay, settle};
 use tg_vault::Vault;
 
-/// Whether the derivation has the verdict that was worked out. Where memory is refused the graph is used up, and is made again.
+/// Whether the derivation has the verdict that was worked out. If memory runs out the graph is used up, and is made
+/// again.
 fn is_found_again(
     rt: &(impl Abort + Print),
     alloc: Global,
@@ -26,7 +27,7 @@ fn is_found_again(
     }
 }
 
-/// Alice makes a document, in a graph without edges: the first edge takes memory.
+/// Alice makes a document, in a graph without edges: the first edge needs memory.
 const FIRST_EDGE: &Derivation = &Derivation {
     names: &["alice"],
     edges: &[],
@@ -36,14 +37,14 @@ const FIRST_EDGE: &Derivation = &Derivation {
     finding: Finding::Shared,
 };
 
-/// A check that is refused has its verdict when it is made again.
+/// A check that lacks memory has its verdict when it is made again.
 #[test]
 fn growth_refused_in_a_check(rt: HostRuntime) -> Result<(), AllocError> {
     assert!(rt; is_found_again(&rt, rt.alloc(), FIRST_EDGE)?);
     Ok(())
 }
 
-/// A replay that is refused leaves the history.
+/// A replay that lacks memory leaves the history.
 #[test]
 fn growth_refused_in_a_replay(rt: HostRuntime) -> Result<(), AllocError> {
     let vault = opened(&rt, rt.alloc())?;
@@ -66,7 +67,7 @@ fn are_handed_back(logs: &[SeatLog], settlement: &Settlement) -> bool {
             && log.exchanges.len() == given.2.len())
 }
 
-/// Settles the logs, and hands the vault on. Where memory is refused vault and logs are handed back, and settled again.
+/// Settles the logs, and returns the vault. If memory runs out, vault and logs are returned, and settled again.
 fn settles_again(
     rt: &(impl Abort + Print),
     alloc: Global,
@@ -87,7 +88,7 @@ fn settles_again(
     vault_of(settled)
 }
 
-/// A settlement that is refused leaves the vault and the logs.
+/// A settlement that lacks memory leaves the vault and the logs.
 #[test]
 fn growth_refused_in_a_settlement(rt: HostRuntime) -> Result<(), AllocError> {
     let mut vault = opened(&rt, rt.alloc())?;

@@ -1,5 +1,5 @@
-//! Calls in want of memory: what they leave, and the same calls made again. tests/growths.py refuses each allocation of
-//! a test in turn.
+//! Calls whose allocations fail: what they leave, and the same calls made again. tests/growths.py makes each allocation
+//! of a test fail in turn.
 use crate::graph::{
     Ask, Case, Line, NAMES, Want, Written, command, config, is_reply, opened, played, plays,
     rights_of, rule_of,
@@ -23,7 +23,7 @@ fn has_labels(graph: &Graph, labels: &[(u64, &str, u64)]) -> bool {
     labels.iter().all(|label| graph.rights(label.0, label.2) == rights_of(label.1))
 }
 
-/// The vertex's command is answered so. In want of memory the labels are those from before it, and it is made again.
+/// The vertex's command gets this reply. If memory runs out, the labels are those from before it, and it is made again.
 fn asks_again(
     rt: &(impl Abort + Print),
     alloc: Global,
@@ -48,7 +48,7 @@ fn asks_again(
     Ok(())
 }
 
-/// Whether a path leads so, asked again in want of memory.
+/// Whether a path leads there, asked again if memory runs out.
 fn leads(rt: &impl Print, graph: &Graph, from: u64, to: u64) -> Result<bool, AllocError> {
     match graph.reaches(from, to) {
         Ok(found) => Ok(found),
@@ -59,7 +59,7 @@ fn leads(rt: &impl Print, graph: &Graph, from: u64, to: u64) -> Result<bool, All
     }
 }
 
-/// The configuration's graph, built again in want of memory.
+/// The configuration's graph, built again if memory runs out.
 fn built_again(rt: &impl Print, alloc: Global, config: &Config) -> Result<Graph, OpenFault> {
     match Graph::build(alloc, config) {
         Err(OpenFault::OutOfMemory) => {
@@ -77,7 +77,7 @@ fn is_audited(graph: &Graph) -> bool {
         && graph.kind(4).is_none()
 }
 
-/// A refused graph leaves the configuration, which is then opened.
+/// A graph that lacks memory leaves the configuration, which is then opened.
 #[test]
 fn growth_refused_in_a_graph_that_is_built(rt: HostRuntime) -> Result<(), AllocError> {
     let config = config(rt.alloc(), AUDITED)?;
@@ -88,7 +88,7 @@ fn growth_refused_in_a_graph_that_is_built(rt: HostRuntime) -> Result<(), AllocE
     Ok(())
 }
 
-/// A refused create leaves no vertex and no edge, and its serial is given to the next one.
+/// A create that lacks memory leaves no vertex and no edge, and its serial is given to the next one.
 #[test]
 fn growth_refused_in_a_create(rt: HostRuntime) -> Result<(), AllocError> {
     let mut graph = opened(&rt, rt.alloc(), NAMES, &[], 3)?;
@@ -107,7 +107,8 @@ fn growth_refused_in_a_create(rt: HostRuntime) -> Result<(), AllocError> {
     Ok(())
 }
 
-/// Alice may take from bob, who has made 14 documents: with one edge more the labels no longer fit one node of their map.
+/// Alice may take from bob, who has made 14 documents: with one edge more the labels no longer fit one node of their
+/// map.
 const FIFTEEN_EDGES: Case = Case {
     edges: &[(1, "t", 2)],
     next: 3,
@@ -129,7 +130,7 @@ const FIFTEEN_EDGES: Case = Case {
     ],
 };
 
-/// A refused take leaves the labels, and is then carried out.
+/// A take that lacks memory leaves the labels, and is then carried out.
 #[test]
 fn growth_refused_in_a_take(rt: HostRuntime) -> Result<(), AllocError> {
     let mut graph = played(&rt, rt.alloc(), &FIFTEEN_EDGES)?;
@@ -140,7 +141,7 @@ fn growth_refused_in_a_take(rt: HostRuntime) -> Result<(), AllocError> {
     Ok(())
 }
 
-/// Alice takes to read the document that bob has made.
+/// Alice takes the right to read the document that bob has made.
 const TAKEN: Case = Case {
     edges: &[(1, "tg", 2)],
     next: 3,
@@ -150,7 +151,7 @@ const TAKEN: Case = Case {
     ],
 };
 
-/// A refused look leaves the edges, which are then told.
+/// A look that lacks memory leaves the edges, which the next one lists.
 #[test]
 fn growth_refused_in_a_look(rt: HostRuntime) -> Result<(), AllocError> {
     let mut graph = played(&rt, rt.alloc(), &TAKEN)?;
@@ -169,7 +170,7 @@ const WRITTEN: Case = Case {
     ],
 };
 
-/// A refused read leaves the text, which is then told.
+/// A read that lacks memory leaves the text, which the next one returns.
 #[test]
 fn growth_refused_in_a_read(rt: HostRuntime) -> Result<(), AllocError> {
     let mut graph = played(&rt, rt.alloc(), &WRITTEN)?;
@@ -181,7 +182,7 @@ fn growth_refused_in_a_read(rt: HostRuntime) -> Result<(), AllocError> {
 /// Two vertices, and whether a path leads from the first to the second.
 const PATHS: &[(u64, u64, bool)] = &[(1, 3, true), (3, 1, false), (1, 1, true)];
 
-/// Whether paths lead so in the graph.
+/// Whether these paths are in the graph.
 fn lead_so(rt: &impl Print, graph: &Graph, paths: &[(u64, u64, bool)]) -> Result<bool, AllocError> {
     for (from, to, wanted) in paths {
         if leads(rt, graph, *from, *to)? != *wanted {
@@ -191,7 +192,7 @@ fn lead_so(rt: &impl Print, graph: &Graph, paths: &[(u64, u64, bool)]) -> Result
     Ok(true)
 }
 
-/// A refused search is made again.
+/// A search that lacks memory is made again.
 #[test]
 fn growth_refused_in_a_search(rt: HostRuntime) -> Result<(), AllocError> {
     let graph = opened(&rt, rt.alloc(), AUDITED.names, AUDITED.edges, AUDITED.next)?;
@@ -206,13 +207,13 @@ const CREATED: Case = Case {
     asks: &[(1, Ask::Document("r"), Want::Created(3))],
 };
 
-/// What is asked of the copy: alice drops the document, and makes one more.
+/// The commands on the copy: alice drops the document, and makes one more.
 const ON_A_COPY: &[Line] = &[
     (1, Ask::Remove("r", 3), Want::Done),
     (1, Ask::Document("r"), Want::Created(4)),
 ];
 
-/// The graph's copy, made again in want of memory.
+/// The graph's copy, made again if memory runs out.
 fn copied(rt: &impl Print, graph: &Graph) -> Result<Graph, AllocError> {
     match graph.copy() {
         Ok(copy) => Ok(copy),
@@ -223,7 +224,7 @@ fn copied(rt: &impl Print, graph: &Graph) -> Result<Graph, AllocError> {
     }
 }
 
-/// A refused copy leaves the graph, which is then copied, and stays as it was where the copy changes.
+/// A copy that lacks memory leaves the graph, which is then copied, and stays as it was when the copy changes.
 #[test]
 fn growth_refused_in_a_copy_of_a_graph(rt: HostRuntime) -> Result<(), AllocError> {
     let graph = played(&rt, rt.alloc(), &CREATED)?;

@@ -1,4 +1,4 @@
-//! Scripts of calls, and the lists that they must leave. The helpers stop a test where a call's condition is not met.
+//! Scripts of calls, and the lists that they must leave. The helpers stop a test if a call's condition is not met.
 ghost use Rattle.std.specs.Prelude.{◌≡◌, ◌≢◌, ◌<◌};
 ghost use Rattle.tg_slots.specs.Table.{Has, Free};
 ghost use Rattle.tg_heap.specs.Graph.{mark_at};
@@ -9,16 +9,17 @@ use tg_heap::{Dropped, Heap, HeapFull};
 use tg_rights::{Kind, Rights, Text};
 use tg_slots::Colour;
 
-/// One call of a script with its answer, or what must be seen after the calls before it. Rights are given by their bits.
+/// One call of a script with its result, or what must be seen after the calls before it. Rights are given by their
+/// bits.
 #[derive(Clone, Copy)]
 enum Act {
-    /// A white document of this serial comes into this slot.
+    /// A white document of this serial is put into this slot.
     Put(u64, u32),
     /// A vertex finds no free slot.
     NoSlot,
     /// An edge between two slots gains rights, and what is full.
     Add(u32, u32, u8, Option<HeapFull>),
-    /// An edge between two slots comes in where there is none.
+    /// An edge between two slots is added that was not there.
     First(u32, u32, u8),
     /// The edge from a slot to a serial loses rights, and whether it is gone.
     Lose(u32, u64, u8, bool),
@@ -76,7 +77,7 @@ const SCRIPTS: &[Script] = &[
             Free(0, 2),
         ],
     },
-    // an edge that was not there comes in front
+    // an edge that was not there is put in front
     Script {
         slots: 3,
         cells: 2,
@@ -92,7 +93,7 @@ const SCRIPTS: &[Script] = &[
             Edges(0, &[(2, 30, WRITE | GRANT), (1, 20, READ | TAKE)]),
         ],
     },
-    // an edge that keeps no right is gone
+    // an edge left with no right is gone
     Script {
         slots: 2,
         cells: 3,
@@ -109,7 +110,7 @@ const SCRIPTS: &[Script] = &[
             Free(0, 2),
         ],
     },
-    // shading takes white slots alone
+    // shading takes white slots only
     Script {
         slots: 4,
         cells: 1,
@@ -218,7 +219,7 @@ fn add(
     heap.add_rights(id, target, rights)
 }
 
-// Puts an edge in where there is none and a cell is free.
+// Adds an edge that is not there, while a cell is free.
 fn add_first(rt: &impl Abort, heap: &mut Heap, id: u32, target: u32, rights: Rights) {
     assert!(rt; !rights.is_empty());
     is_taken(rt, heap, id);
@@ -273,7 +274,7 @@ fn reads(text: &Text, content: &str) -> bool {
     text.get() == content
 }
 
-/// A vertex finds no free slot, and its text comes back.
+/// A vertex finds no free slot, and its text is returned.
 fn finds_no_slot(rt: &impl Abort, alloc: Global, heap: &mut Heap) {
     match heap.add_vertex(40, Kind::Document, Colour::White, Text::empty(alloc)) {
         Ok(_) => panic!(rt; "a slot too many"),
@@ -281,7 +282,7 @@ fn finds_no_slot(rt: &impl Abort, alloc: Global, heap: &mut Heap) {
     }
 }
 
-/// The edge loses the rights, and is gone or not; where it is, the edge after it is told.
+/// The edge loses the rights, and is gone or not; if it is, the edge after it is reported.
 fn loses(rt: &impl Abort, heap: &mut Heap, id: u32, serial: u64, rights: Rights, gone: bool) {
     match drop_from(rt, heap, id, serial, rights) {
         Dropped::Kept => assert!(rt; !gone),
@@ -408,7 +409,7 @@ fn as_many_slots_and_cells_as_there_may_be(rt: HostRuntime) -> Result<(), AllocE
     Ok(())
 }
 
-/// A document beside two principals fills three slots; the edge to it takes one cell, and gives it back.
+/// A document and two principals fill three slots; the edge to it takes one cell, and gives it back.
 const FILLED: &[Act] = &[
     Free(3, 4),
     Put(1, 0),
@@ -421,7 +422,7 @@ const FILLED: &[Act] = &[
     Free(0, 4),
 ];
 
-/// A refused heap is made again, with all of it free: tests/growths.py refuses each allocation in turn.
+/// A heap that lacks memory is made again, with all of it free: tests/growths.py makes each allocation fail in turn.
 #[test]
 fn growth_refused_in_a_new_heap(rt: HostRuntime) -> Result<(), AllocError> {
     let mut heap = match Heap::new(rt.alloc(), 3, 4) {

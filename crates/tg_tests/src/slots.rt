@@ -1,4 +1,4 @@
-//! Scripts of calls, and the lists that they must answer. The helpers stop a test where a call's condition is not met.
+//! Scripts of calls, and the lists that they must return. The helpers stop a test if a call's condition is not met.
 ghost use Rattle.std.specs.Prelude.{◌≡◌};
 ghost use Rattle.tg_slots.specs.Table.{Has, mark};
 
@@ -58,10 +58,10 @@ fn scan(rt: &impl Abort, slots: &mut Slots) -> u32 {
     }
 }
 
-/// One call of a script with its answer, or what must be seen after the calls before it.
+/// One call of a script with its result, or what must be seen after the calls before it.
 #[derive(Clone, Copy)]
 enum Act {
-    /// A white document comes into this slot.
+    /// A white document is put into this slot.
     Take(u32),
     /// A white slot is given back.
     Give(u32),
@@ -72,7 +72,7 @@ enum Act {
     NoneWaits,
     /// A black slot is made white.
     Whiten(u32),
-    /// So many slots are free.
+    /// This many slots are free.
     Free(u32),
 }
 
@@ -194,7 +194,7 @@ fn text(rt: &impl Abort, alloc: Global, content: &str) -> Result<Text, AllocErro
     }
 }
 
-/// No slot is free for a vertex with this text, which comes back.
+/// No slot is free for a vertex with this text, which is returned.
 fn hands_back(rt: &impl Abort, slots: &mut Slots, text: Text, content: &str) {
     match slots.take_free(2, Kind::Subject, Colour::Black, text) {
         Ok(_) => panic!(rt; "a second slot of one"),
@@ -273,7 +273,7 @@ fn a_text_is_replaced(rt: HostRuntime) -> Result<(), AllocError> {
     Ok(())
 }
 
-/// Takes so many slots, in the order of their numbers.
+/// Takes this many slots, in the order of their numbers.
 fn take_all(rt: &impl Abort, alloc: Global, slots: &mut Slots, count: u32) {
     for id in 0..count {
         assert!(rt; take(rt, alloc, slots, 10) == id);
@@ -287,7 +287,7 @@ fn whiten_and_give(rt: &impl Abort, slots: &mut Slots, id: u32) {
     give(rt, slots, id);
 }
 
-/// Shades so many slots, scans them from the last to the first, and gives them back.
+/// Shades this many slots, scans them from the last to the first, and gives them back.
 fn scan_all(rt: &impl Abort, slots: &mut Slots, count: u32) {
     for id in 0..count {
         shade(rt, slots, id);
@@ -310,7 +310,7 @@ fn as_many_slots_as_there_may_be(rt: HostRuntime) -> Result<(), AllocError> {
     Ok(())
 }
 
-/// New slots, made again in want of memory: tests/growths.py refuses each allocation in turn.
+/// New slots, made again if memory runs out: tests/growths.py makes each allocation fail in turn.
 fn made_again(rt: &impl Print, alloc: Global) -> Result<Slots, AllocError> {
     match Slots::new(alloc, 3) {
         Ok(slots) => Ok(slots),
@@ -321,7 +321,7 @@ fn made_again(rt: &impl Print, alloc: Global) -> Result<Slots, AllocError> {
     }
 }
 
-/// A refused table is made again, with its slots all free.
+/// A table that lacks memory is made again, with its slots all free.
 #[test]
 fn growth_refused_in_new_slots(rt: HostRuntime) -> Result<(), AllocError> {
     let mut slots = made_again(&rt, rt.alloc())?;

@@ -1,4 +1,4 @@
-//! What no clause says: that calls succeed when there is memory, and what worked cases answer, with every sum of the
+//! What no clause says: that calls succeed when there is memory, and the results of worked cases, with every sum of the
 //! collector's steps as it was worked out by hand.
 use std::alloc::{AllocError, Global};
 use std::process::Abort;
@@ -7,7 +7,7 @@ use tg_graph::{Config, OpenFault};
 use tg_rights::{Cause, Command, Kind, Outcome, Reply, Rights, Rule, Text, Which, Word};
 use tg_vault::{Answer, AskFault, Event, SeatFault, Swept, Vault};
 
-/// What a seat asks. Rights are given by their letters: r, w, t and g.
+/// What a seat asks for. Rights are given by their letters: r, w, t and g.
 #[derive(Clone, Copy)]
 pub enum Ask {
     Take(&'static str, u64, u64),
@@ -19,14 +19,14 @@ pub enum Ask {
     Look(u64),
 }
 
-/// What a command is answered.
+/// The reply to a command.
 #[derive(Clone, Copy)]
 pub enum Want {
     Done,
     Created(u64),
     Text(&'static str),
     Edges(&'static [(u64, &'static str)]),
-    /// Denied, since the label of the first vertex to the second lacks these rights.
+    /// Denied: the label from the first vertex to the second lacks these rights.
     Lacks(u64, u64, &'static str),
     Empty,
     NotDistinct,
@@ -45,7 +45,7 @@ pub enum Line {
     Shaded(u64, u64),
     Shade(u64, Result<Option<u64>, SeatFault>),
     Ask(u64, Ask, Want),
-    /// A cycle that frees so many slots in so many steps.
+    /// A cycle that frees this many slots in this many steps.
     Cycle(u64, u64),
     /// Collector steps, each with its note: m and s are the phase after it, f a step of the sweep that freed a slot, e
     /// the end of a cycle.
@@ -98,7 +98,7 @@ const CASES: &[Case] = &[
             Line::Shade(1, Ok(None)),
         ],
     },
-    // a take of an edge that is there leaves a target
+    // a take of an edge that is already there leaves a target
     Case {
         slots: 8,
         cells: 8,
@@ -114,7 +114,7 @@ const CASES: &[Case] = &[
             Line::Shaded(0, 3),
         ],
     },
-    // garbage needs two cycles, and a serial that was freed is denied like one that never was
+    // garbage needs two cycles, and a serial that was freed is denied like one that never existed
     Case {
         slots: 3,
         cells: 4,
@@ -184,7 +184,7 @@ const CASES: &[Case] = &[
             Line::Ask(0, Ask::Take("r", 3, 2), Want::Full(Which::Cells)),
         ],
     },
-    // a subject has no text to read, and a label is asked for first
+    // a subject has no text to read, and the label is checked first
     Case {
         slots: 4,
         cells: 4,
@@ -197,7 +197,7 @@ const CASES: &[Case] = &[
             Line::Ask(0, Ask::Read(1), Want::NotDistinct),
         ],
     },
-    // a denial names only the rights that lack
+    // a denial names only the missing rights
     Case {
         slots: 8,
         cells: 8,
@@ -242,7 +242,7 @@ const CASES: &[Case] = &[
             Line::Ask(0, Ask::Look(2), Want::Edges(&[(3, "rwg")])),
         ],
     },
-    // a look tells the edges by rising serial
+    // a look returns the edges by rising serial
     Case {
         slots: 8,
         cells: 8,
@@ -262,7 +262,7 @@ const CASES: &[Case] = &[
             ),
         ],
     },
-    // a look at another needs take; where there is no edge, none is told
+    // a look at another needs take; if there is no edge, the list is empty
     Case {
         slots: 8,
         cells: 8,
@@ -397,7 +397,7 @@ fn text(rt: &impl Abort, content: String) -> Text {
     }
 }
 
-/// The rule of what is asked.
+/// The rule of what is asked for.
 pub fn rule_of(ask: Ask) -> Rule {
     match ask {
         Ask::Take(..) => Rule::Take,
@@ -410,7 +410,7 @@ pub fn rule_of(ask: Ask) -> Rule {
     }
 }
 
-/// The command that is asked.
+/// The command that is asked for.
 pub fn command(rt: &impl Abort, alloc: Global, ask: Ask) -> Result<Command, AllocError> {
     Ok(match ask {
         Ask::Take(letters, over, from) => Command::Take {
@@ -440,7 +440,7 @@ pub fn command(rt: &impl Abort, alloc: Global, ask: Ask) -> Result<Command, Allo
     })
 }
 
-/// The edges told are these.
+/// Whether the edges returned are these.
 fn are_edges(found: &[(u64, Rights)], wanted: &[(u64, &str)]) -> bool {
     found.len() == wanted.len()
         && found.iter().zip(wanted.iter()).all(|(edge, want)| edge.0 == want.0
@@ -475,7 +475,7 @@ pub fn is_reply(reply: &Reply, rule: Rule, want: Want) -> bool {
     }
 }
 
-/// Whether the seat's command is answered so.
+/// Whether the seat's command gets this reply.
 fn asks(
     rt: &impl Abort,
     alloc: Global,
@@ -516,7 +516,7 @@ fn collects(vault: &mut Vault, wanted: &str) -> bool {
     true
 }
 
-/// Whether the line is answered so.
+/// Whether the line has this answer.
 pub fn answers(
     rt: &impl Abort,
     alloc: Global,
@@ -582,7 +582,7 @@ pub fn opened(rt: &impl Abort, alloc: Global, case: &Case) -> Result<Vault, Allo
     }
 }
 
-/// The lines are answered so, one after another.
+/// The lines have these answers, one after another.
 fn lines_are_answered(
     rt: &impl Abort,
     alloc: Global,
@@ -595,14 +595,14 @@ fn lines_are_answered(
     Ok(())
 }
 
-/// The vault with which a case ends: its lines are answered as it says.
+/// The vault with which a case ends: its lines have the answers that it says.
 pub fn played(rt: &impl Abort, alloc: Global, case: &Case) -> Result<Vault, AllocError> {
     let mut vault = opened(rt, alloc, case)?;
     lines_are_answered(rt, alloc, &mut vault, case.lines)?;
     Ok(vault)
 }
 
-/// The case's lines are answered as it says.
+/// The case's lines have the answers that it says.
 fn plays(rt: &impl Abort, alloc: Global, case: &Case) -> Result<(), AllocError> {
     let mut vault = opened(rt, alloc, case)?;
     lines_are_answered(rt, alloc, &mut vault, case.lines)
@@ -616,8 +616,8 @@ fn each_case_is_answered_as_worked_out(rt: HostRuntime) -> Result<(), AllocError
     Ok(())
 }
 
-/// Three rounds: alice makes two documents, links one to the other, and drops both; two cycles free them. Then she makes one
-/// more.
+/// Three rounds: alice makes two documents, links one to the other, and drops both; two cycles free them. Then she
+/// makes one more.
 const ROUNDS: Case = Case {
     slots: 4,
     cells: 3,
@@ -659,20 +659,21 @@ const ROUNDS: Case = Case {
     ],
 };
 
-/// After three rounds the graph that is never collected has three edges, as many as there are cells; all cells are free.
+/// After three rounds the graph that is never collected has three edges, as many as there are cells; all cells are
+/// free.
 #[test]
 fn cells_are_free_though_the_history_has_as_many_edges(rt: HostRuntime) -> Result<(), AllocError> {
     plays(&rt, rt.alloc(), &ROUNDS)
 }
 
-/// Configurations with two faults: their slots and edges, and the fault that is answered.
+/// Configurations with two faults: their slots and edges, and the fault that is returned.
 const REFUSED: &[(u64, &[(u64, &str, u64)], OpenFault)] = &[
     (1, &[(1, "t", 1)], OpenFault::SelfEdge),
     (1, &[], OpenFault::FewSlots),
     (8, &[(1, "", 2), (1, "t", 3)], OpenFault::EdgeEnd),
 ];
 
-/// Whether no vault of so many slots and these edges is opened, for this fault.
+/// Whether a vault with this many slots and these edges is refused for this fault.
 fn is_refused(
     alloc: Global,
     slots: u64,
@@ -719,7 +720,7 @@ fn has_the_denial(vault: &Vault) -> bool {
     }
 }
 
-/// Whether that is the vault's one entry, and the vault tells the graph with which it began.
+/// Whether that is the vault's one entry, and the vault returns the graph with which it began.
 fn has_its_history(vault: &Vault) -> bool {
     vault.count() == 1
         && has_the_denial(vault)
@@ -874,7 +875,7 @@ fn are_first_look(answers: &[Answer]) -> bool {
     }
 }
 
-/// Whether the vault answers those events so, with two entries.
+/// Whether the vault gives these answers, with two entries.
 fn answers_first_look(vault: Vault, events: &[Event]) -> bool {
     let ran = vault.run(events);
     are_first_look(&ran.answers) && ran.vault.count() == 2

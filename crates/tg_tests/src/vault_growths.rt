@@ -1,4 +1,4 @@
-//! Calls that are refused their memory and made again: tests/growths.py refuses each allocation of these tests in turn.
+//! Calls that lack memory and are made again: tests/growths.py makes each allocation of these tests fail in turn.
 use crate::vault::{
     ALICE, Ask, BOB, Case, Line, Step, Want, answers, command, events, is_reply, opened, played,
     rights_of, rule_of, words,
@@ -10,7 +10,7 @@ use tg_graph::{Config, OpenFault};
 use tg_rights::{Command, Kind, Reply};
 use tg_vault::{Answer, AskFault, Event, Ran, Vault};
 
-/// The configuration of alice alone, with the slots and the cells that it has where none are named.
+/// The configuration of alice alone, with the default numbers of slots and cells.
 fn alice_alone(alloc: Global) -> Result<Config, AllocError> {
     Ok(Config {
         principals: words(alloc, &["alice"])?,
@@ -21,7 +21,7 @@ fn alice_alone(alloc: Global) -> Result<Config, AllocError> {
     })
 }
 
-/// The vault of alice alone, opened again where memory is refused.
+/// The vault of alice alone, opened again if memory runs out.
 fn opened_again(rt: &(impl Abort + Print), alloc: Global) -> Result<Vault, AllocError> {
     match Vault::new(alloc, alice_alone(alloc)?) {
         Ok(vault) => Ok(vault),
@@ -41,7 +41,7 @@ fn has_alice_alone(vault: &Vault) -> bool {
         && vault.opening().kind(2).is_none()
 }
 
-/// After a refused opening the same configuration opens a vault: without entries, and with alice alone.
+/// After an opening that lacked memory the same configuration opens a vault: without entries, and with alice alone.
 #[test]
 fn growth_refused_in_an_opening(rt: HostRuntime) -> Result<(), AllocError> {
     let mut vault = opened_again(&rt, rt.alloc())?;
@@ -50,13 +50,13 @@ fn growth_refused_in_an_opening(rt: HostRuntime) -> Result<(), AllocError> {
     Ok(())
 }
 
-/// Whether nothing was entered since there were so many entries, and the seat has no target.
+/// Whether nothing was entered since there were this many entries, and the seat has no target.
 fn is_unchanged(vault: &mut Vault, seat: u64, entries: u64) -> bool {
     vault.count() == entries && vault.shade(seat) == Ok(None)
 }
 
-/// Whether the seat's command is answered so, as the next entry. Where memory is refused nothing is entered, no target is
-/// left, and it is answered so when it is asked again.
+/// Whether the seat's command gets this reply, as the next entry. If memory runs out nothing is entered, no target is
+/// left, and the same command gets this reply when it is submitted again.
 fn asks_again(
     rt: &(impl Abort + Print),
     alloc: Global,
@@ -79,7 +79,7 @@ fn asks_again(
     Ok(entered.0 == entries && is_reply(&entered.1, rule_of(ask), want))
 }
 
-/// Whether the line is answered so; a command that is refused its memory is asked again.
+/// Whether the line has this answer; a command that lacks memory is submitted again.
 fn answers_again(
     rt: &(impl Abort + Print),
     alloc: Global,
@@ -92,7 +92,7 @@ fn answers_again(
     }
 }
 
-/// The lines are answered so, one after another; each command that is refused its memory is asked again.
+/// The lines have these answers, one after another; each command that lacks memory is submitted again.
 fn lines_are_answered_again(
     rt: &(impl Abort + Print),
     alloc: Global,
@@ -105,7 +105,7 @@ fn lines_are_answered_again(
     Ok(())
 }
 
-/// The case's lines are answered so, again where memory is refused.
+/// The case's lines have the answers that it says, submitted again if memory runs out.
 fn plays_again(rt: &(impl Abort + Print), alloc: Global, case: &Case) -> Result<(), AllocError> {
     let mut vault = opened(rt, alloc, case)?;
     lines_are_answered_again(rt, alloc, &mut vault, case.lines)
@@ -125,13 +125,13 @@ const CREATED: Case = Case {
     ],
 };
 
-/// A create that is refused leaves no vertex and no target.
+/// A create that lacks memory leaves no vertex and no target.
 #[test]
 fn growth_refused_in_a_create(rt: HostRuntime) -> Result<(), AllocError> {
     plays_again(&rt, rt.alloc(), &CREATED)
 }
 
-/// Commands that take memory of their own: for the copy of a text, and for a list of edges.
+/// Commands that need memory of their own: for the copy of a text, and for a list of edges.
 const ON_A_TEXT: Case = Case {
     slots: 8,
     cells: 8,
@@ -147,7 +147,7 @@ const ON_A_TEXT: Case = Case {
     ],
 };
 
-/// A write that is refused leaves the text, a read and a look the vault.
+/// A write that lacks memory leaves the text, a read and a look the vault.
 #[test]
 fn growth_refused_in_commands_on_a_text(rt: HostRuntime) -> Result<(), AllocError> {
     plays_again(&rt, rt.alloc(), &ON_A_TEXT)
@@ -161,7 +161,7 @@ fn create() -> Event {
     Event::Ask { seat: 1, command }
 }
 
-/// What an event is answered.
+/// The answer to an event.
 #[derive(Clone, Copy)]
 enum Told {
     Hello(u64),
@@ -170,7 +170,7 @@ enum Told {
     Shaded(Option<u64>),
 }
 
-/// Whether the answer tells so.
+/// Whether the answer is this one.
 fn tells(answer: &Answer, told: Told) -> bool {
     match told {
         Told::Hello(wanted) => matches!(answer, Answer::Hello(serial) if *serial == wanted),
@@ -190,7 +190,7 @@ const SEATED: Case = Case {
     lines: &[BOB],
 };
 
-/// What bob's create is answered as an event; where memory is refused nothing is entered, and it comes again.
+/// The answer to bob's create as an event; if memory runs out nothing is entered, and it comes again.
 fn created_again(rt: &(impl Abort + Print), vault: &mut Vault) -> Answer {
     match vault.run_one(create()) {
         Answer::Ask(AskFault::OutOfMemory) => {
@@ -202,7 +202,7 @@ fn created_again(rt: &(impl Abort + Print), vault: &mut Vault) -> Answer {
     }
 }
 
-/// Whether the create is answered so and shaded, and is the one entry.
+/// Whether the create has this answer and is shaded, and is the one entry.
 fn is_created_again(rt: &(impl Abort + Print), vault: &mut Vault) -> bool {
     tells(&created_again(rt, vault), Told::Created(3))
         && tells(
@@ -212,7 +212,7 @@ fn is_created_again(rt: &(impl Abort + Print), vault: &mut Vault) -> bool {
         && vault.count() == 1
 }
 
-/// A create that is refused as an event leaves no entry, and is answered when it comes again.
+/// A create that lacks memory as an event leaves no entry, and is answered when it comes again.
 #[test]
 fn growth_refused_in_an_event(rt: HostRuntime) -> Result<(), AllocError> {
     let mut vault = played(&rt, rt.alloc(), &SEATED)?;
@@ -238,7 +238,7 @@ const CREATE_AND_SHADE: &[Step] = &[
     Step::Shade(1),
 ];
 
-/// What these events are answered.
+/// The answers to these events.
 const CREATED_AND_SHADED: [Told; 5] = [
     Told::Hello(1),
     Told::Hello(2),
@@ -247,7 +247,7 @@ const CREATED_AND_SHADED: [Told; 5] = [
     Told::Shaded(None),
 ];
 
-/// How many answers tell what they should, before the first that does not.
+/// How many answers are as they should be, before the first that is not.
 fn count_told(answers: &[Answer], wanted: &[Told]) -> usize {
     let other = answers
         .iter()
@@ -269,22 +269,22 @@ fn are_refused(answers: &[Answer]) -> bool {
     }
 }
 
-/// What is behind the first items.
+/// What follows the first items.
 fn rest<T>(items: &[T], done: usize) -> &[T] {
     items.get(done..).unwrap_or(&[])
 }
 
-/// Whether the run was refused memory behind the first answers, and carried out no more than those.
+/// Whether the run lacked memory after the first answers, and carried out no more than those.
 fn ends_at(ran: &Ran, done: usize) -> bool {
     are_refused(rest(&ran.answers, done)) && (ran.vault.count() == 1) == (done > 2)
 }
 
-/// Whether each answer tells what it should.
+/// Whether each answer is as it should be.
 fn are_told(answers: &[Answer], wanted: &[Told]) -> bool {
     answers.len() == wanted.len() && count_told(answers, wanted) == wanted.len()
 }
 
-/// The vault after the events. What a run in want of memory did not carry out is answered in a further run.
+/// The vault after the events. What a run that lacks memory did not carry out is answered in a further run.
 fn run_again(rt: &(impl Abort + Print), vault: Vault, events: &[Event]) -> Vault {
     let ran = vault.run(events);
     let done = count_told(&ran.answers, &CREATED_AND_SHADED);
@@ -305,8 +305,8 @@ fn count_again(rt: &(impl Abort + Print), alloc: Global) -> Result<u64, AllocErr
     Ok(run_again(rt, vault, &events).count())
 }
 
-/// A run that has no room for its answers carries out no event, and one that has none for a command goes on as though that were
-/// not asked. What was not carried out is answered in a further run.
+/// A run that has no room for its answers carries out no event, and one that has none for a command goes on as though
+/// that had not been submitted. What was not carried out is answered in a further run.
 #[test]
 fn growth_refused_in_a_run(rt: HostRuntime) -> Result<(), AllocError> {
     assert!(rt; count_again(&rt, rt.alloc())? == 1);
