@@ -10,7 +10,7 @@ use Rattle.tg_graph.specs.Rules.{Judged, is_create, reply_of}
 use Rattle.tg_vault.specs.declared.entry.Entry.{Entry}
 use Rattle.tg_vault.specs.Contents.{Contents, graph_now}
 
--- the rules give this outcome in the graph; one refused as full they allow
+-- the rules give this outcome in the graph; they allow a command that was refused as full
 abbrev pub JudgedAlike : Protection → ℕ → Command → Outcome → Type 0
 JudgedAlike H x c outcome.Allowed = Judged H x c outcome.Allowed
 JudgedAlike H x c (outcome.Denied rule cause) = Judged H x c (outcome.Denied rule cause)
@@ -22,7 +22,8 @@ IsOfGraph x c outcome.Allowed = is_create x c ≡ false
 IsOfGraph x c (outcome.Denied rule cause) = Unit {0}
 IsOfGraph x c (outcome.Full which) = ⊥
 
--- the outcome and the reply, Full and the new serial aside, are those of each graph that the actor cannot tell from the graph of the history
+-- the outcome and the reply, Full and the new serial aside, are those of each graph that the actor cannot tell from the
+-- graph of the history
 pub record SameForAgreeing (old new : Contents) (answer : Reply) : Type 0 where
   pub entry : Entry
   pub added : new.history ≡ old.history ++ entry ∷ []

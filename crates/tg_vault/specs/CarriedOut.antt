@@ -1,4 +1,4 @@
--- what a command does to a store that decides it by what it holds
+-- what a command does to a store, which decides it by what it holds
 use Rattle.std.specs.Prelude.{◌≡◌, ◌≢◌, ◌<◌, ◌≤◌, ℕ, ◌+◌, Bool, true, false, cond, [], Option, Some, None}
 use Rattle.tg_rights.specs.Letters.{Letters, joined, without}
 use Rattle.tg_rights.specs.declared.kind.Kind.{Kind}
@@ -26,13 +26,13 @@ IsUsedUp G free_slots free_cells d which.Serials = (is_new d ≡ true) × (last_
 IsUsedUp G free_slots free_cells d which.Slots = (is_new d ≡ true) × (G.next ≤ last_serial) × (free_slots ≡ 0)
 IsUsedUp G free_slots free_cells d which.Cells = NewEdge G d × (is_new d ≡ true → free_slots ≢ 0) × (free_cells ≡ 0)
 
--- how a command of x is decided: denied where the rules deny it, else full where something is used up, else allowed
+-- how a command of x is decided: denied if the rules deny it, else full if something is used up, else allowed
 abbrev pub Decided : Protection → (free_slots free_cells : ℕ) → ℕ → Command → Outcome → Type 0
 Decided G free_slots free_cells x c outcome.Allowed = Allowed G x c × ((w : Which) → IsUsedUp G free_slots free_cells (terms x c).does w → ⊥)
 Decided G free_slots free_cells x c (outcome.Denied rule cause) = Denied G x c rule cause
 Decided G free_slots free_cells x c (outcome.Full w) = Allowed G x c × IsUsedUp G free_slots free_cells (terms x c).does w
 
--- the serial that comes in with an effect, and with a command of x
+-- the new serial of an effect, and of a command of x
 abbrev pub serial_of : ℕ → Does → Option ℕ
 serial_of next d = cond (is_new d) (Some next) None
 
@@ -41,7 +41,7 @@ new_serial next x c outcome.Allowed = serial_of next (terms x c).does
 new_serial next x c (outcome.Denied rule cause) = None
 new_serial next x c (outcome.Full w) = None
 
--- free cells move by the edge that an effect of x makes or takes away
+-- the number of free cells changes by the edge that an effect of x makes or takes away
 abbrev pub EdgeMoves : Protection → (before after : ℕ) → ℕ → Does → Type 0
 EdgeMoves G before after x (effect.Joins from α to) = after + edges_at (joined (label G from to) α) ≡ before + edges_at (label G from to)
 EdgeMoves G before after x (effect.Makes k α) = before ≡ after + 1
@@ -55,7 +55,8 @@ CellsMoved G before after x c outcome.Allowed = EdgeMoves G before after x (term
 CellsMoved G before after x c (outcome.Denied rule cause) = after ≡ before
 CellsMoved G before after x c (outcome.Full w) = after ≡ before
 
--- whether an effect copies a text or a list of edges, and so may want memory; room for vertices and edges was made when the store was opened
+-- whether an effect copies a text or a list of edges, and so may need memory; room for vertices and edges was made when
+-- the store was opened
 abbrev pub copies : Does → Bool
 copies (effect.Joins from α to) = false
 copies (effect.Makes k α) = false
@@ -64,7 +65,7 @@ copies (effect.Rewrites over text) = true
 copies (effect.Tells over) = true
 copies (effect.Lists at) = true
 
--- the command of x, from the seat, was decided, carried out and answered in the store
+-- the command of x, from the seat, was decided and carried out in the store, with this reply
 pub record CarriedOut (s t : Stored) (next after seat x : ℕ) (c : Command) (answer : Reply) : Type 0 where
   pub outcome : Outcome
   pub decided : Decided (held s next) s.free_slots s.free_cells x c outcome
@@ -81,13 +82,13 @@ Joined v w seat x y rights reply.Done = EdgeStored v w seat x y rights × Acted 
 Joined v w seat x y rights (reply.Full which.Cells) = (w ≡ v) × (v.free_cells ≡ 0) × (IsEdgeIn v x y → ⊥)
 Joined v w seat x y rights _ = ⊥
 
--- what a new vertex wants first, and finds used up
+-- what a new vertex needs first and is used up
 abbrev pub NoRoom : Stored → ℕ → Which → Type 0
 NoRoom v next which.Serials = last_serial < next
 NoRoom v next which.Slots = (next ≤ last_serial) × (v.free_slots ≡ 0)
 NoRoom v next which.Cells = (next ≤ last_serial) × (v.free_slots ≢ 0) × (v.free_cells ≡ 0)
 
--- a vertex came in, with the rights of x over it, or there was no room for it
+-- a vertex was added, with the rights of x over it, or there was no room for it
 abbrev pub Made : (v w : Stored) → (next after seat x : ℕ) → Kind → Letters → Reply → Type 0
 Made v w next after seat x kind rights (reply.Created serial) =
     (serial ≡ next) × (next ≤ last_serial) × (after ≡ next + 1) × VertexStored v w seat x next kind [] rights × Acted v w (Some next) (Some next)

@@ -20,7 +20,7 @@ use Rattle.tg_vault.specs.History.{Legal, IsPrincipal, graph_of}
 use Rattle.tg_vault.specs.World.{Moment, Step, Run, at_seat}
 
 -- the opening graph, the principals' names, the numbers of slots and cells, who sits on each seat, what is stored, and
--- the history. The graph of the history is in definitions alone
+-- the history. The graph of the history exists in definitions only
 pub record Contents : Type 0 where
   pub opening : Protection
   pub names : List (List ℕ)
@@ -57,7 +57,7 @@ pub record Keeps (old new : Contents) : Type 0 where
   pub names : new.names ≡ old.names
   pub limits : new.limits ≡ old.limits
 
--- the event is answered so by the vault
+-- the vault gives the event this answer
 abbrev pub StepOf : Contents → Event → Answer → Contents → Type 0
 StepOf old e a new = Step old.limits old.names (moment old) e a (moment new)
 

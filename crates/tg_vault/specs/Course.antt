@@ -12,7 +12,7 @@ pub record IsCoherent (v : Contents) : Type 0 where
   pub ties : Ties v
   pub store : IsStore v.store
 
--- one event: its answer by the world, what it does to the store and says of it, and a coherent vault again whose store
+-- one event: its answer by the world, what it does to the store and says of it, and again a coherent vault whose store
 -- fits the graph of the history
 pub record VaultStep (old : Contents) (e : Event) (a : Answer) (new : Contents) : Type 0 where
   pub step : StepOf old e a new
@@ -22,14 +22,14 @@ pub record VaultStep (old : Contents) (e : Event) (a : Answer) (new : Contents) 
   pub fits : Fits new
   pub coherent : IsCoherent new
 
--- the events are answered so, one after another
+-- the events have these answers, one after another
 abbrev pub Course : Contents → List Event → List Answer → Contents → Type 0
 Course old [] [] new = new ≡ old
 Course old (e ∷ es) (a ∷ answers) new = (between : Contents) × VaultStep old e a between × Course between es answers new
 Course old [] (a ∷ answers) new = ⊥
 Course old (e ∷ es) [] new = ⊥
 
--- one course behind another is a course
+-- one course after another is a course
 abbrev pub CoursesJoin : Type 0
 CoursesJoin =
     (old between new : Contents) (es more : List Event) (answers later : List Answer) → Course old es answers between → Course between more later new →

@@ -46,14 +46,14 @@ pub record IsBetween (old : Contents) (es : List Event) (front rest : List Answe
   pub before : Run old.limits old.names (moment old) (take (length front) es) front m
   pub after : Run old.limits old.names m (drop (length front) es) rest (moment new)
 
--- where a cycle starts and two cycles end from then on, what has a slot at the end was live in the world before the
--- start, or has a serial not below the next one of then
+-- if a cycle starts and two cycles end from then on, what has a slot at the end was live in the world before the start,
+-- or has a serial that was not below the next one at that time
 abbrev pub IsComplete : Contents → List Event → List Answer → Contents → Type 0
 IsComplete old es answers new =
     (front back : List Answer) (note : Note) → answers ≡ front ++ answer.Noted note ∷ back → phase_after old.store.phase front ≡ Idle → 2 ≤ ended_in (answer.Noted note ∷ back) →
     (m : Moment) × IsBetween old es front (answer.Noted note ∷ back) new m × ((x : ℕ) → HasSlot new x → Live m.world.graph (IsRoot old.opening m.world) x ⊎ (m.world.graph.next ≤ x))
 
--- among as many collector steps in a row one ends a cycle
+-- among this many collector steps in a row one ends a cycle
 abbrev pub IsBounded : Contents → List Answer → Type 0
 IsBounded old answers =
     (front middle back : List Answer) → answers ≡ front ++ (middle ++ back) → cycle_bound old.limits.slots old.limits.cells ≤ length (notes_in middle) → 1 ≤ ended_in middle

@@ -8,8 +8,8 @@ use Rattle.tg_vault.specs.declared.entry.Entry.{Entry}
 use Rattle.tg_vault.specs.Contents.{Contents, graph_now}
 use Rattle.tg_vault.specs.CarriedOut.{IsUsedUp}
 
--- the command that is entered is full for a list exactly where the rules allow it and that list is the first that it
--- needs and that is used up
+-- the command that is entered is full for serials, slots or cells exactly if the rules allow it and these are the first
+-- that it needs and that are used up
 pub record IsExact (old new : Contents) : Type 0 where
   pub entry : Entry
   pub added : new.history ≡ old.history ++ entry ∷ []

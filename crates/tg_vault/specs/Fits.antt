@@ -36,15 +36,15 @@ pub record IsTied (v : Contents) (next : ℕ) : Type 0 where
   pub joins : Ties v
   pub serial : next ≡ (graph_now v).next
 
--- a vault has at most so many slots and cells
+-- a vault has at most this many slots and cells
 pub record IsSmall (v : Contents) : Type 0 where
   pub slots : v.limits.slots ≤ MAX_SLOTS
   pub cells : v.limits.cells ≤ MAX_CELLS
 
 -- the history is legal, and what is stored is what of its graph is still in use: each held vertex has the graph's kind,
 -- text and edges, which lead to held ones; what a root reaches is held; held and parked are apart, and vertices of the
--- graph; free slots are those that neither has; and the cells in use are at least the edges of what is held, and at most
--- those of the graph
+-- graph; free slots are those that neither has; and the cells in use are at least the edges of what is held, and at
+-- most those of the graph
 pub record Fits (v : Contents) : Type 0 where
   pub legal : Legal v.limits v.opening v.history (graph_now v)
   pub part : IsPart (graph_now v) (held_now v)

@@ -19,24 +19,26 @@ use Rattle.tg_vault.specs.Fits.{Fits}
 use Rattle.tg_vault.specs.Course.{Course}
 use Rattle.tg_vault.specs.Cycles.{IsComplete}
 
--- something holds of each entry, and of the graph that the entries before it leave, from which nothing is ever collected
+-- something holds of each entry, and of the graph that the entries before it leave, from which nothing is ever
+-- collected
 abbrev pub EachEntry : (Protection → Entry → Type 0) → Protection → List Entry → Type 0
 EachEntry P G [] = Unit {0}
 EachEntry P G (e ∷ es) = P G e × EachEntry P (next_graph G e.actor e.command e.outcome) es
 
--- an entry is carried out only where the rules allow it; where they do, it is, unless it is refused as full; and it is
--- refused as full only where the rules allow it and the world may be full
+-- an entry is carried out only if the rules allow it; if they do, it is, unless it is refused as full; and it is
+-- refused as full only if the rules allow it and it may be full
 pub record IsCarriedOutWhenAllowed (limits : Limits) (G : Protection) (e : Entry) : Type 0 where
   pub only : e.outcome ≡ outcome.Allowed → Allowed G e.actor e.command
   pub unless_full : Allowed G e.actor e.command → (e.outcome ≡ outcome.Allowed) ⊎ ((w : Which) × (e.outcome ≡ outcome.Full w))
   pub full : (w : Which) → e.outcome ≡ outcome.Full w → Allowed G e.actor e.command × MayBeFull limits G e.actor e.command w
 
--- an entry is denied exactly where the rules deny it, by the command's rule and for the first cause, with the rights that
--- lack
+-- an entry is denied exactly if the rules deny it, by the command's rule and for the first cause, with the missing
+-- rights
 abbrev pub IsDenialNamed : Protection → Entry → Type 0
 IsDenialNamed G e = (rule : Rule) (cause : Cause) → (e.outcome ≡ outcome.Denied rule cause) ↔ Denied G e.actor e.command rule cause
 
--- the four clauses of a run, whose answers are those of the world; what is kept is kept after each event on the way, too
+-- the four clauses of a run, whose answers are those of the world; what is kept is kept after each event on the way,
+-- too
 pub record Headline (old : Contents) (es : List Event) (answers : List Answer) (new : Contents) : Type 0 where
   pub run : RunOf old es answers new
   pub added : AddsAsked old answers new

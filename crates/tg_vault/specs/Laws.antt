@@ -1,4 +1,4 @@
--- what courses come to
+-- what holds of courses
 use Rattle.std.specs.Prelude.{List}
 use Rattle.tg_vault.specs.declared.event.Event.{Event}
 use Rattle.tg_vault.specs.declared.event.Answer.{Answer}

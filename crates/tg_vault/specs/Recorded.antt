@@ -8,14 +8,14 @@ use Rattle.tg_vault.specs.declared.entry.Decided.{Decided}
 use Rattle.tg_vault.specs.declared.entry.Decided.TheVariants.{Allowed, Full, Empty, NotDistinct, Missing, NotDocument}
 use Rattle.tg_vault.specs.declared.entry.Entry.TheInside.{Inside}
 
--- the seat, the principal for whom it was judged, what was asked, and how it was decided
+-- the seat, the principal for whom it was judged, the command, and how it was decided
 pub record Recorded : Type 0 where
   pub seat : ℕ
   pub actor : ℕ
   pub command : Command
   pub outcome : Outcome
 
--- the seat and the outcome that stand together in memory
+-- the seat and the outcome that lie together in memory
 abbrev pub seat_of : Decided → ℕ
 seat_of (Allowed seat) = seat
 seat_of (Full seat which) = seat

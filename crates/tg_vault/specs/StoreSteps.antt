@@ -10,7 +10,7 @@ use Rattle.tg_collect.specs.StoreRuns.{Acted}
 use Rattle.tg_vault.specs.Contents.{Contents, graph_now, held_now}
 use Rattle.tg_vault.specs.Exact.{IsExact}
 
--- a session step: a serial that comes in is the next one, and a target is live or new
+-- a session step: a new serial is the next one, and a target is live or new
 pub record SessionStep (old new : Contents) : Type 0 where
   pub came : Option ℕ
   pub target : Option ℕ
@@ -18,8 +18,8 @@ pub record SessionStep (old new : Contents) : Type 0 where
   pub next : (x : ℕ) → came ≡ Some x → (graph_now old).next ≤ x
   pub live : (x : ℕ) → target ≡ Some x → Live (held_now old) (IsRootIn old.store) x ⊎ ((graph_now old).next ≤ x)
 
--- what the answer says of the store besides: a command is full exactly where something is used up, hello and bye leave
--- the store, and a fault leaves the whole vault
+-- what the answer says of the store besides: a command is full exactly if something is used up, hello and bye leave the
+-- store, and a fault leaves the whole vault
 abbrev pub StoreAnswer : Contents → Event → Answer → Contents → Type 0
 StoreAnswer old (event.Hello seat name) (answer.Hello x) new = new.store ≡ old.store
 StoreAnswer old (event.Hello seat name) (answer.Seat fault) new = new ≡ old

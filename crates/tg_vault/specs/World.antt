@@ -1,4 +1,4 @@
--- worlds, and what each event may answer in one
+-- worlds, and the answers that each event may have in one
 use Rattle.std.specs.Prelude.{◌≡◌, ◌↔◌, ◌≤◌, ℕ, ◌+◌, Bool, true, cond, not, nat_lt, ◌==◌, List, [], ◌∷◌, ◌++◌, length, get_or, slice_set, Option, Some, None, is_some}
 use Rattle.std.specs.Option.{option_map}
 use Rattle.std.specs.List.{position}
@@ -39,7 +39,7 @@ pub record Moment : Type 0 where
   pub world : World
   pub history : List Entry
 
--- what a table of seats has for one of them
+-- the table's entry for a seat
 abbrev pub at_seat : List (Option ℕ) → ℕ → Option ℕ
 at_seat table seat = get_or table seat None
 
@@ -47,7 +47,7 @@ at_seat table seat = get_or table seat None
 abbrev pub principal_named : List (List ℕ) → List ℕ → Option ℕ
 principal_named names name = option_map (λ k. k + 1) (position (λ n. pointwise (λ a b. a == b) n name) names)
 
--- for whom the seat's next command is asked
+-- the principal of the seat's next command
 abbrev pub actor_at : World → ℕ → Option ℕ
 actor_at w seat = at_seat w.seats seat
 
@@ -82,7 +82,7 @@ module _ (w : World) (seat : ℕ) where
   IsAskFault ask_fault.Busy = ask_refusal ≡ Some ask_fault.Busy
   IsAskFault ask_fault.OutOfMemory = ask_refusal ≡ None
 
--- the pending target that an effect leaves, also where the edge was there
+-- the pending target that an effect leaves, even if the edge was there already
 abbrev pub new_target : Protection → Does → Option ℕ
 new_target G (effect.Joins from α to) = Some to
 new_target G (effect.Makes k α) = Some G.next
@@ -127,7 +127,7 @@ with_pending m pending = record m { world = record m.world { pending = pending }
 abbrev pub with_used : Moment → ℕ → Moment
 with_used m used = record m { world = record m.world { used = used } }
 
--- full for slots exactly where the rules allow a create, a serial is left for it and each slot is in use
+-- full for slots exactly if the rules allow a create, a serial is left for it and each slot is in use
 abbrev pub ExactSlots : Limits → World → ℕ → Command → Outcome → Type 0
 ExactSlots limits w x c o =
     (o ≡ outcome.Full which.Slots) ↔ ((is_create x c ≡ true) × Allowed w.graph x c × (w.graph.next ≤ last_serial) × (w.used ≡ limits.slots))
@@ -140,7 +140,7 @@ pub record Enters (limits : Limits) (m : Moment) (seat actor : ℕ) (c : Command
   pub replied : reply ≡ reply_of m.world.graph actor c outcome
   pub left : n ≡ entered m (record { seat = seat; actor = actor; command = c; outcome = outcome })
 
--- the event may be answered so, and lead from one moment to the next
+-- the event may have this answer, and lead from one moment to the next
 abbrev pub Step : Limits → List (List ℕ) → Moment → Event → Answer → Moment → Type 0
 Step limits names m (event.Hello seat name) (answer.Hello x) n =
     (hello_fault m.world seat names name ≡ None) × (principal_named names name ≡ Some x) × (n ≡ with_seats m (slice_set m.world.seats seat (Some x)))
@@ -157,7 +157,7 @@ Step limits names m (event.Shade seat) (answer.Seat fault) n = (shade_fault m.wo
 Step limits names m event.Collect (answer.Noted note) n = (used : ℕ) × (m.world.used ≡ used + note.freed) × (n ≡ with_used m used)
 Step limits names m _ _ n = ⊥
 
--- the events may be answered so, one after another
+-- the events may have these answers, one after another
 abbrev pub Run : Limits → List (List ℕ) → Moment → List Event → List Answer → Moment → Type 0
 Run limits names m [] [] n = n ≡ m
 Run limits names m (e ∷ es) (a ∷ answers) n = (between : Moment) × Step limits names m e a between × Run limits names between es answers n
