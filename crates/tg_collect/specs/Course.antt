@@ -1,4 +1,4 @@
--- the collector's progress that a tag and two words in memory stand for
+-- the collector's progress that a tag and two words in memory represent
 use Rattle.std.specs.Prelude.{None, Some}
 use Rattle.tg_collect.specs.declared.machine.Progress.{Progress}
 use Rattle.tg_collect.specs.declared.machine.Progress.TheVariants as progress

@@ -85,7 +85,7 @@ with_list h i r = record h { lists = set h.lists i r; free_cells = h.free_cells 
 abbrev pub with_vertex : HeapGraph → ℕ → Occupant → List ℕ → HeapGraph
 with_vertex h i o rest = record h { table = record h.table { slots = set h.table.slots i (Some o); free = rest } }
 
--- the colour of a vertex that comes in: white, but black where the sweep has yet to come
+-- the colour of a vertex that is added: white, but black if the sweep has yet to reach it
 abbrev pub has_passed : Progress → ℕ → Bool
 has_passed Idle i = false
 has_passed (Marking s) i = false

@@ -51,7 +51,7 @@ OpensFirst m n serial = (i : ℕ) × (m.heap.table.free ≡ i ∷ n.heap.table.f
 abbrev pub IsFreeFrom : ℕ → List ℕ → Type 0
 IsFreeFrom first free = free ≡ indices first (length free)
 
--- the graph's principals are there, and no edge
+-- the graph's principals are there, and no edge is
 pub record PrincipalsOpened (v w : Stored) (G : Protection) : Type 0 where
   pub count : ℕ
   pub vertices : G.vertices ≡ subjects count
@@ -62,11 +62,12 @@ pub record PrincipalsOpened (v w : Stored) (G : Protection) : Type 0 where
 pub record EdgeOpened (v w : Stored) (x y : ℕ) (rights : Letters) : Type 0 where
   pub is : w ≡ record v { triples = finset.union v.triples (edge x rights y); free_cells = w.free_cells; left = w.left }
 
--- the pair of a triple's ends comes before that of the principals with these indices, which are one less than their serials
+-- the pair of a triple's ends comes before that of the principals with these indices, which are one less than their
+-- serials
 abbrev pub Before : (from to : ℕ) → Triple → Type 0
 Before from to t = (t.from ≤ from) ⊎ ((t.from ≡ from + 1) × (t.to ≤ to))
 
--- all principals are there, and of the graph's edges those whose pairs come before
+-- all principals are there, and those of the graph's edges whose pairs come before
 pub record OpensEdges (v : Stored) (G : Protection) (count from to : ℕ) : Type 0 where
   pub vertices : G.vertices ≡ subjects count
   pub opens : Opens v count (length v.marks) v.cells

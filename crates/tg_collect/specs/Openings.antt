@@ -17,7 +17,7 @@ abbrev pub first_serials : ℕ → List ℕ
 first_serials zero = []
 first_serials (suc count) = first_serials count ++ suc count ∷ []
 
--- a graph that a store can open: at most 64 subjects with the serials from 1 on in a row, which fit with their edges
+-- a graph that a store can open: at most 64 subjects with consecutive serials from 1 on, which fit with their edges
 pub record IsOpening (G : Protection) (all_slots all_cells : ℕ) : Type 0 where
   pub count : ℕ
   pub few : count ≤ MAX_PRINCIPALS
@@ -47,7 +47,7 @@ pub record Opened (v : Stored) (G : Protection) (all_slots all_cells : ℕ) : Ty
   pub count : ℕ
   pub opens : Opens v count all_slots all_cells
 
--- a graph that a store of so many slots and cells can open, and these in their range
+-- a graph that a store with this many slots and cells can open, and these in their range
 pub record Fitted (G : Protection) (all_slots all_cells : ℕ) : Type 0 where
   pub low_slots : 1 ≤ all_slots
   pub high_slots : all_slots ≤ MAX_SLOTS

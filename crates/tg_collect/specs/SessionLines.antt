@@ -30,7 +30,7 @@ Adds m seat id target rights (Ok t) n = (o : Occupant) × (slot m.heap.table tar
     × (n ≡ record m { heap = n.heap; pending = n.pending })
 Adds m seat id target rights (Err e) n = (e ≡ full.Cells) × (o : Occupant) × (slot m.heap.table target.slot ≡ Some o) × HasNone (edges m.heap id) o.serial × (m.heap.free_cells ≡ 0) × (n ≡ m)
 
--- the same where no refusal can come
+-- the same when it cannot be refused
 abbrev pub Links : Machine → (seat id : ℕ) → Root → Letters → Machine → Type 0
 Links m seat id target rights n = Adds {U = Unit {0}} m seat id target rights (Ok tt) n
 
@@ -42,7 +42,7 @@ progress_dropped p id (Gone cell next) = progress_without p id cell next
 abbrev pub Removes : Machine → (id serial : ℕ) → Letters → Machine → Type 0
 Removes m id serial rights n = (d : Dropped) × IsDropped m.heap n.heap id serial rights d × (n ≡ record m { heap = n.heap; progress = progress_dropped m.progress id d })
 
--- the vertex that comes into a slot
+-- the vertex that is put into a slot
 abbrev pub newcomer : Progress → (i serial : ℕ) → Kind → List ℕ → Occupant
 newcomer p i serial kind text = record { serial = serial; kind = kind; colour = new_colour p i; text = text }
 

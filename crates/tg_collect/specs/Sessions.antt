@@ -29,7 +29,7 @@ shaded_mark (Has Black) = Has Black
 abbrev pub with_grey : Stored → ℕ → finset.FinSet nat_cmp
 with_grey v x = cond (finset.contains v.black x) v.grey (finset.insert v.grey x)
 
--- the shade step of a seat that answers its target, which is in some slot
+-- the shade step of a seat that returns its target, which is in some slot
 pub record TargetShaded (v w : Stored) (seat x : ℕ) : Type 0 where
   pub was : pending_of v seat ≡ Some x
   pub slot : ℕ
@@ -58,13 +58,14 @@ pub record EdgeStored (v w : Stored) (seat x y : ℕ) (rights : Letters) : Type 
     left = w.left;
   }
 
--- the black ones after a vertex of this colour came in
+-- the black ones after a vertex of this colour was added
 abbrev pub with_black : finset.FinSet nat_cmp → ℕ → Colour → finset.FinSet nat_cmp
 with_black black x White = black
 with_black black x Grey = black
 with_black black x Black = finset.insert black x
 
--- a new vertex, over which x has the rights, takes a free slot and a cell, and is the seat's target. It is white, or in the sweep perhaps black.
+-- a new vertex, over which x has the rights, takes a free slot and a cell, and is the seat's target. It is white, or in
+-- the sweep perhaps black.
 pub record VertexStored (v w : Stored) (seat x serial : ℕ) (kind : Kind) (text : List ℕ) (rights : Letters) : Type 0 where
   pub slot : ℕ
   pub colour : Colour
@@ -86,7 +87,7 @@ pub record VertexStored (v w : Stored) (seat x serial : ℕ) (kind : Kind) (text
     left = w.left;
   }
 
--- x loses rights over y. An edge that has none left gives its cell back.
+-- x loses rights over y. An edge left with none gives its cell back.
 pub record RightsRemoved (v w : Stored) (x y : ℕ) (rights : Letters) : Type 0 where
   pub kept : IsEdgeIn w x y → w.free_cells ≡ v.free_cells
   pub gone : (IsEdgeIn w x y → ⊥) → w.free_cells ≡ v.free_cells + 1

@@ -7,7 +7,7 @@ use Rattle.tg_collect.specs.Runs as runs
 use Rattle.tg_collect.specs.Stored.{Stored, held, cycle_bound}
 use Rattle.tg_collect.specs.Views.{InSet, IsHeldIn, IsEdgeIn, IsRootIn, IsStore, Collected}
 
--- one session step: the serial that comes in, if any, and the target that it sets, if any
+-- one session step: the new serial, if any, and the target that it sets, if any
 pub record Acted (v w : Stored) (new target : Option ℕ) : Type 0 where
   pub phase : w.phase ≡ v.phase
   pub principals : w.principals ≡ v.principals
@@ -34,8 +34,8 @@ seen v = record {
   left = v.left;
 }
 
--- a run of a store after a state: its last state, the cycles that ended and the collector steps since the last end.
--- New serials are not below `next`, and a target is live or new.
+-- a run of a store after a state: its last state, the cycles that ended and the collector steps since the last end. New
+-- serials are not below `next`, and a target is live or new.
 pub data StoreRun (next : ℕ) (first : Stored) : Stored → ℕ → ℕ → Type 0 where
   start : StoreRun next first first 0 0
   acts : (v w : Stored) (ended since : ℕ) (new target : Option ℕ) → StoreRun next first v ended since → Acted v w new target

@@ -48,7 +48,7 @@ pub record Stored : Type 0 where
 abbrev pub held : Stored → ℕ → Protection
 held s next = record { vertices = s.vertices; next = next; triples = s.triples }
 
--- the codes of the parts, by which a proof tells two stores apart
+-- the codes of the parts, by which a proof distinguishes two stores
 abbrev pub vertices_code : Coded (finmap.FinMap nat_cmp Vertex)
 vertices_code = finmap.code coded_ℕ vertex.the_row.coded
 
@@ -74,7 +74,7 @@ is_parked Idle i m = false
 is_parked (Marking s) i m = false
 is_parked (Sweeping k) i m = cond (nat_lt i k) false (white m)
 
--- what each slot gives, in the order of the slots from i on
+-- what each slot contributes, in the order of the slots from i on
 abbrev pub gather : {X : Type 0} → (ℕ → Option Occupant → List X) → ℕ → List (Option Occupant) → List X
 gather f i [] = []
 gather f i (o ∷ os) = f i o ++ gather f (suc i) os
@@ -84,7 +84,7 @@ abbrev pub total : (ℕ → Option Occupant → ℕ) → ℕ → List (Option Oc
 total f i [] = 0
 total f i (o ∷ os) = f i o + total f (suc i) os
 
--- what a slot gives by whether it is parked; `n` where it is free
+-- what a slot contributes by whether it is parked; `n` if it is free
 abbrev pub by_place : {X : Type 0} → List X → (List (List Edge) → Bool → ℕ → Occupant → List X) → Progress → List (List Edge) → ℕ → Option Occupant → List X
 by_place n f p ls i None = n
 by_place n f p ls i (Some o) = f ls (is_parked p i (Has o.colour)) i o
@@ -97,7 +97,8 @@ abbrev pub triples_from : ℕ → List Edge → List Triple
 triples_from x [] = []
 triples_from x (e ∷ es) = edge_list x e.rights e.serial ++ triples_from x es
 
--- an entry of the map of the held vertices, the triples of a held one, a serial of the parked ones, and the serial held in a slot
+-- an entry of the map of the held vertices, the triples of a held one, a serial of the parked ones, and the serial held
+-- in a slot
 abbrev pub vertex_entry : List (List Edge) → Bool → ℕ → Occupant → List (ℕ × Vertex)
 vertex_entry ls b i o = cond b [] ((o.serial, vertex_of o) ∷ [])
 

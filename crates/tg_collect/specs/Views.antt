@@ -32,7 +32,7 @@ IsEdgeIn v x y = (r : Right) × (finset.contains v.triples (record { from = x; r
 abbrev pub IsRootIn : Stored → ℕ → Type 0
 IsRootIn v x = Contains v.principals x ⊎ Contains v.pending (Some x)
 
--- the serial that a slot holds, where it holds one
+-- the serial that a slot holds, if it holds one
 abbrev pub place : Stored → ℕ → Option ℕ
 place v id = get_or v.places id None
 
@@ -81,7 +81,8 @@ abbrev pub Stays : Phase → Phase → Type 0
 Stays Mark Sweep = ⊥
 Stays _ _ = Unit {0}
 
--- the step into the sweep finds nothing grey. What is black stays in its slot, with its edges; what is not is parked, and was unreachable.
+-- the step into the sweep finds nothing grey. What is black stays in its slot, with its edges; what is not is parked,
+-- and was unreachable.
 pub record Parks (v w : Stored) : Type 0 where
   pub no_grey : (x : ℕ) → InSet v.grey x → ⊥
   pub vertices : (x : ℕ) → finmap.get w.vertices x ≡ cond (finset.contains v.black x) (finmap.get v.vertices x) None
@@ -91,7 +92,7 @@ pub record Parks (v w : Stored) : Type 0 where
   pub all : (x : ℕ) → IsHeldIn v x → (InSet v.black x → ⊥) → InSet w.parked x
   pub unreached : (next x : ℕ) → InSet w.parked x → Live (held v next) (IsRootIn v) x → ⊥
 
--- a slot that is freed was a parked one's
+-- a slot that is freed was a parked one
 abbrev pub Unparks : (v w : Stored) → ℕ → Type 0
 Unparks v w zero = w.parked ≡ v.parked
 Unparks v w (suc n) = (n ≡ 0) × (x : ℕ) × InSet v.parked x × (w.parked ≡ finset.remove v.parked x)
