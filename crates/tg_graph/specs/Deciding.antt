@@ -1,4 +1,4 @@
--- how code decides a command: by the terms that it reads off the command, and what it comes by on the way
+-- how code decides a command: by the terms that it reads off the command, and what it finds on the way
 use Rattle.std.specs.Prelude.{◌≡◌, ℕ, true, false, List, [], ◌∷◌, Option, Some, None, ◌⊎◌, ◌==◌}
 use Rattle.tg_rights.specs.Letters.{is_none}
 use Rattle.tg_graph.specs.declared.rules.Need.{Need}
@@ -82,14 +82,14 @@ Covers x t (effect.Rewrites over text) = t.document ≡ Some over
 Covers x t (effect.Tells over) = LeadTo t.needs over
 Covers x t (effect.Lists at) = IsNear x t.needs at
 
--- the terms of a command of x hang together
+-- the terms of a command of x are consistent
 pub record IsSound (x : ℕ) (t : Terms) : Type 0 where
   pub follows : Follows x t.needs
   pub some : names_rights t.names ≡ true → AskSome t.needs
   pub document : DocumentNear t.needs t.document
   pub covers : Covers x t t.does
 
--- what was read off a command of x is what its terms ask, and hangs together
+-- what was read off a command of x is what its terms ask, and is consistent
 pub record Asks (x : ℕ) (a : Asked) (t : Terms) : Type 0 where
   pub names : a.names ≡ t.names
   pub apart : a.apart ≡ t.apart

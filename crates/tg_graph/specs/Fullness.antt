@@ -23,7 +23,7 @@ vertex_count G = length (map.keys G.vertices)
 abbrev pub edge_count : Protection → ℕ
 edge_count G = sum_by (λ x. length (edges_of G x)) (map.keys G.vertices)
 
--- the edges that a label makes: one where it is not empty
+-- the edges that a label makes: one if it is not empty
 abbrev pub edges_at : Letters → ℕ
 edges_at l = cond (is_none l) 0 1
 
@@ -39,8 +39,8 @@ NewEdge G (effect.Lists at) = ⊥
 abbrev pub MakesEdge : Protection → ℕ → Command → Type 0
 MakesEdge G x c = NewEdge G (terms x c).does
 
--- the command of x may be refused as full. The graph doesn't show which slots and cells wait to be swept, so for
--- these it says only that there are enough vertices or edges to use them all up
+-- the command of x may be refused as full. The graph does not show which slots and cells wait to be swept, so for these
+-- it says only that there are enough vertices or edges to use them all up
 abbrev pub MayBeFull : Limits → Protection → ℕ → Command → Which → Type 0
 MayBeFull limits G x c which.Serials = (is_create x c ≡ true) × (last_serial < G.next)
 MayBeFull limits G x c which.Slots = (is_create x c ≡ true) × (G.next ≤ last_serial) × (limits.slots ≤ vertex_count G)

@@ -46,7 +46,7 @@ pub record Meets (G : Protection) (t : Terms) : Type 0 where
   pub met : AllMet G t.needs
   pub document : IsDocumentWhereAsked G t.document
 
--- a command is allowed exactly where all that its rule asks is there
+-- a command is allowed exactly if all that its rule asks is there
 abbrev pub AllowedIsMet : Type 0
 AllowedIsMet = (G : Protection) (x : ℕ) (c : Command) → Allowed G x c ↔ Meets G (terms x c)
 
@@ -61,13 +61,13 @@ DenialsAreFirst =
 abbrev pub OutcomesAgree : Type 0
 OutcomesAgree = (G H : Protection) (x : ℕ) (c : Command) (o : Outcome) → Agree G H x → Judged G x c o → Judged H x c o
 
--- an allowed command that makes no vertex is answered alike in graphs that agree for the actor
+-- an allowed command that makes no vertex has the same reply in graphs that agree for the actor
 abbrev pub RepliesAgree : Type 0
 RepliesAgree =
     (G H : Protection) (x : ℕ) (c : Command) → IsGraph G → IsGraph H → Agree G H x → Allowed G x c → is_create x c ≡ false → allowed_reply G x c ≡ allowed_reply H x c
 
 -- a subject's command, carried out or refused, has the same reply in each graph that agrees for it, but for a new
--- vertex's serial and for fullness; and graphs that agree for some subjects go on agreeing for them
+-- vertex's serial and for fullness; and graphs that agree for some subjects still agree for them afterwards
 abbrev pub AnswersAgree : Type 0
 AnswersAgree =
     (G K : Protection) (x : ℕ) (c : Command) (answer : Reply) → IsGraph G → Applies G x c answer K → IsRepliedAlike G x c answer × KeepsViewers G x c answer K
@@ -102,7 +102,7 @@ PartsStay =
     IsPart (after G x c) (after H x c)
 
 -- a configuration opens the graph of its list: the vertices are its principals, subjects of no text with the serials
--- from 1 on, and a triple is there exactly where some edge of the list has it
+-- from 1 on, and a triple is there exactly if some edge of the list has it
 pub record IsOpened (c : Config) : Type 0 where
   pub vertices : (v : ℕ) → IsVertex (opening c) v ↔ ((1 ≤ v) × (v ≤ principal_count c))
   pub subjects : (v : ℕ) → IsVertex (opening c) v → vertex (opening c) v ≡ Some (record { kind = kind.Subject; text = [] })
@@ -143,7 +143,7 @@ pub record OccursTwice {X : Type 0} (same : X → X → Bool) (xs : List X) : Ty
   pub is : xs ≡ before ++ first ∷ (between ++ again ∷ after)
   pub alike : IsTrue (same first again)
 
--- a pair of vertices, or a name, is found twice exactly where it occurs at two places of the list
+-- a pair of vertices, or a name, is found twice exactly if it occurs at two places of the list
 abbrev pub TwiceIsTwoPlaces : Type 0
 TwiceIsTwoPlaces =
     ((es : List Edge) → (has_twice same_pair es ≡ true) ↔ OccursTwice same_pair es)

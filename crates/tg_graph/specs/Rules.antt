@@ -1,4 +1,4 @@
--- the rules: when a command is allowed, why it is denied, what it changes and what it answers
+-- the rules: when a command is allowed, why it is denied, what it changes and what its reply is
 use Rattle.std.specs.Prelude.{◌≡◌, ◌<◌, ◌≤◌, ℕ, ◌+◌, Bool, true, false, cond, not, List, [], ◌∷◌, Option, Some, None}
 use Rattle.std.specs.Option.{option_map_or}
 use Rattle.std.specs.FinMap as map
@@ -53,7 +53,7 @@ module _ (G : Protection) where
   missing [] = None
   missing (n ∷ ns) = cond (is_met n) (missing ns) (Some (lack n))
 
-  -- the vertex that has to be a document, where it is none
+  -- the vertex that has to be a document, if it is none
   abbrev pub misfit : Option ℕ → Check
   misfit None = None
   misfit (Some v) = unless (is_document (kind_of G v)) (cause.NotDocument v)
@@ -90,7 +90,7 @@ module _ (G : Protection) where
   abbrev pub Denied : ℕ → Command → Rule → Cause → Type 0
   Denied x c rule why = (rule ≡ rule_of c) × (denial G x c ≡ Some why)
 
-  -- the rules alone decide so
+  -- the rules alone decide in this way
   abbrev pub Judged : ℕ → Command → Outcome → Type 0
   Judged x c outcome.Allowed = Allowed x c
   Judged x c (outcome.Denied rule why) = Denied x c rule why
@@ -103,7 +103,7 @@ last_serial = 18446744073709551614
 abbrev pub text_of : Protection → ℕ → List ℕ
 text_of G v = option_map_or (λ e. e.text) (vertex G v) []
 
--- the pairs of a vertex and its label, where the label is not empty
+-- the pairs of a vertex and its label, if the label is not empty
 abbrev pub labelled : (ℕ → Letters) → List ℕ → List (ℕ × Letters)
 labelled l [] = []
 labelled l (y ∷ ys) = cond (is_none (l y)) (labelled l ys) ((y, l y) ∷ labelled l ys)
@@ -112,7 +112,7 @@ labelled l (y ∷ ys) = cond (is_none (l y)) (labelled l ys) ((y, l y) ∷ label
 unfoldable pub edges_of : Protection → ℕ → List (ℕ × Letters)
 edges_of G z = labelled (label G z) (map.keys G.vertices)
 
--- the graph with this text in place of what the vertex v had, where v is a vertex
+-- the graph with this text in place of what the vertex v had, if v is a vertex
 abbrev pub with_text : Protection → ℕ → List ℕ → Option Vertex → Protection
 with_text G v text None = G
 with_text G v text (Some e) = record G { vertices = map.insert G.vertices v (record e { text = text }) }
@@ -130,7 +130,7 @@ done G x (effect.Rewrites over text) = with_text G over text (vertex G over)
 done G x (effect.Tells over) = G
 done G x (effect.Lists at) = G
 
--- what is answered
+-- the reply
 abbrev pub answered : Protection → Does → Reply
 answered G (effect.Joins from α to) = reply.Done
 answered G (effect.Makes k α) = reply.Created G.next
@@ -139,7 +139,7 @@ answered G (effect.Rewrites over text) = reply.Done
 answered G (effect.Tells over) = reply.Text (text_of G over)
 answered G (effect.Lists at) = reply.Edges (edges_of G at)
 
--- whether it brings a vertex
+-- whether it makes a vertex
 abbrev pub is_new : Does → Bool
 is_new (effect.Joins from α to) = false
 is_new (effect.Makes k α) = true
@@ -148,7 +148,7 @@ is_new (effect.Rewrites over text) = false
 is_new (effect.Tells over) = false
 is_new (effect.Lists at) = false
 
--- whether carrying it out may take memory: for a label, for a vertex, or for what is told. A text is moved
+-- whether carrying it out may need memory: for a label, for a vertex, or for the reply. A text is moved
 abbrev pub may_allocate : Does → Bool
 may_allocate (effect.Joins from α to) = true
 may_allocate (effect.Makes k α) = true
@@ -157,11 +157,11 @@ may_allocate (effect.Rewrites over text) = false
 may_allocate (effect.Tells over) = true
 may_allocate (effect.Lists at) = true
 
--- a command of x that may take memory
+-- a command of x that may need memory
 abbrev pub takes_memory : ℕ → Command → Bool
 takes_memory x c = may_allocate (terms x c).does
 
--- a command of x that brings a vertex
+-- a command of x that makes a vertex
 abbrev pub is_create : ℕ → Command → Bool
 is_create x c = is_new (terms x c).does
 

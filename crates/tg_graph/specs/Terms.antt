@@ -10,15 +10,15 @@ use Rattle.tg_graph.specs.declared.rules.Need.{Need}
 pub data Does : Type 0 where
   -- the edge from one vertex to another gains rights
   Joins : ℕ → Letters → ℕ → Does
-  -- a vertex of a kind comes in, over which x has rights
+  -- a vertex of a kind is made, over which x has rights
   Makes : Kind → Letters → Does
   -- the edge from x to a vertex loses rights
   Drops : Letters → ℕ → Does
   -- a vertex gets a text
   Rewrites : ℕ → List ℕ → Does
-  -- the text of a vertex is told
+  -- the reply is the text of a vertex
   Tells : ℕ → Does
-  -- the edges of a vertex are told
+  -- the reply is the edges of a vertex
   Lists : ℕ → Does
 
 pub record Terms : Type 0 where
