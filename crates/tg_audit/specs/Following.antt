@@ -1,4 +1,4 @@
--- how far the logs of a seat have been followed beside the history
+-- how far the logs of a seat have been followed along the history
 use Rattle.std.specs.Prelude.{◌≡◌, ◌≢◌, ◌<◌, ◌≤◌, ℕ, List, [], ◌∷◌, ◌++◌, Option, Some, None, length, drop, nat_eq, slice_get, if◌then◌else◌}
 use Rattle.tg_rights.specs.declared.limits.TheConstants.{SEATS}
 use Rattle.tg_rights.specs.declared.outcome.Reply.{Reply}
@@ -15,7 +15,7 @@ use Rattle.tg_audit.specs.Settling.{DifferAt, exchanges_of, joined}
 abbrev pub told : Entry → Reply → Exchange
 told e r = record { actor = e.actor; command = e.command; reply = r }
 
--- the entries of a seat with the replies that stand beside them
+-- the entries of a seat with the replies at their places
 abbrev pub picked : ℕ → List Entry → List Reply → List Exchange
 picked seat [] rs = []
 picked seat (e ∷ es) [] = []
@@ -25,7 +25,7 @@ picked seat (e ∷ es) (r ∷ rs) = (if nat_eq e.seat seat then told e r ∷ pic
 abbrev pub picked_from : ℕ → List Entry → List Reply → ℕ → List Exchange
 picked_from seat es rs number = picked seat (drop number es) (drop number rs)
 
--- the logs of a seat, without so many exchanges of the first one
+-- the logs of a seat, without this many exchanges of the first one
 abbrev pub joined_from : ℕ → ℕ → List SeatLog → List Exchange
 joined_from seat at [] = []
 joined_from seat at (log ∷ logs) = (if nat_eq log.seat seat then drop at log.exchanges.items ++ joined seat logs else joined seat logs)
@@ -56,7 +56,7 @@ abbrev pub followed : Progress → ℕ
 followed (progress.Beside position index) = index
 followed (progress.Apart index) = index
 
--- the least seat, of those that no entry has, whose logs are not empty; none where there is none
+-- the least seat, of those that no entry has, whose logs are not empty; none if there is none
 abbrev pub IsLeastAbove : List SeatLog → Option ℕ → Type 0
 IsLeastAbove logs None = (k : ℕ) → SEATS ≤ k → joined k logs ≡ []
 IsLeastAbove logs (Some seat) = (SEATS ≤ seat) × (joined seat logs ≢ []) × ((k : ℕ) → SEATS ≤ k → k < seat → joined k logs ≡ [])

@@ -19,6 +19,6 @@ abbrev pub ExactlyOnePlace : Type 0
 ExactlyOnePlace =
     (v : Contents) (logs : List SeatLog) → (p : Option (ℕ × ℕ)) × IsPlace v logs p × ((q : Option (ℕ × ℕ)) → IsPlace v logs q → q ≡ p)
 
--- where each seat agrees, the history has as many entries as the logs have exchanges
+-- if each seat agrees, the history has as many entries as the logs have exchanges
 abbrev pub AgreedCounts : Type 0
 AgreedCounts = (v : Contents) (logs : List SeatLog) → IsPlace v logs None → length v.history ≡ sum_by (λ l. length l.exchanges.items) logs

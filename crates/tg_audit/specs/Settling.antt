@@ -9,7 +9,7 @@ use Rattle.tg_audit.specs.declared.logs.SeatLog.{SeatLog}
 use Rattle.tg_audit.specs.declared.logs.Settled.{Settled}
 use Rattle.tg_audit.specs.declared.logs.Settled.TheVariants as settled
 
--- what the entry's actor asked, and the reply in the graph before it
+-- the command of the entry's actor, and the reply in the graph before it
 abbrev pub exchange_at : Protection → Entry → Exchange
 exchange_at G e = record { actor = e.actor; command = e.command; reply = reply_of G e.actor e.command e.outcome }
 
@@ -30,7 +30,7 @@ joined seat (log ∷ logs) = (if nat_eq log.seat seat then log.exchanges.items +
 abbrev pub Agrees : Contents → List SeatLog → ℕ → Type 0
 Agrees v logs seat = exchanges_of seat v.opening v.history ≡ joined seat logs
 
--- the lists are the same before the index, and not there: where one is longer, that is the shorter one's length
+-- the lists are the same before the index, and not there: if one is longer, that is the shorter one's length
 abbrev pub DifferAt : List Exchange → List Exchange → ℕ → Type 0
 DifferAt xs ys index = (take index xs ≡ take index ys) × (slice_get xs index ≡ slice_get ys index → ⊥)
 
@@ -39,12 +39,12 @@ pub record IsFirstDifference (v : Contents) (logs : List SeatLog) (seat index : 
   pub before : (k : ℕ) → k < seat → Agrees v logs k
   pub here : DifferAt (exchanges_of seat v.opening v.history) (joined seat logs) index
 
--- the place, a seat and an index, at which the logs first differ from the history; none where each seat agrees
+-- the place, a seat and an index, at which the logs first differ from the history; none if each seat agrees
 abbrev pub IsPlace : Contents → List SeatLog → Option (ℕ × ℕ) → Type 0
 IsPlace v logs None = (seat : ℕ) → Agrees v logs seat
 IsPlace v logs (Some p) = IsFirstDifference v logs p.0 p.1
 
--- the vault's history and the logs are settled so; vault and logs are handed back as they were
+-- this is the result of settling the vault's history and the logs; vault and logs are returned as they were
 abbrev pub SettledAs : Contents → List SeatLog → Settled → Type 0
 SettledAs v logs (settled.Agreed w) = (w ≡ v) × IsPlace v logs None
 SettledAs v logs (settled.Differs w back seat index) = (w ≡ v) × (back.items ≡ logs) × IsPlace v logs (Some (seat, index))

@@ -1,4 +1,4 @@
--- why a step cannot be carried out, as the code tells it
+-- why a step cannot be carried out, as the code reports it
 use Rattle.std.specs.Prelude.{ℕ}
 use Rattle.tg_graph.specs.declared.derivation.Step.{Step}
 use Rattle.tg_graph.specs.declared.derivation.Verdict.{Verdict}
@@ -8,7 +8,7 @@ use Rattle.tg_audit.specs.declared.derivations.Stop.{Stop}
 use Rattle.tg_audit.specs.declared.derivations.Stop.TheVariants as stop
 use Rattle.tg_audit.specs.Verdicts.{HasNoSubject, IsDenied, IsWithoutSerial}
 
--- the step stops the derivation for this
+-- the step stops the derivation for this reason
 abbrev pub StopsBy : Protection → Step → Stop → Type 0
 StopsBy G s stop.NoSubject = HasNoSubject G s
 StopsBy G s (stop.Denied rule cause) = IsDenied (rule, cause) G s

@@ -1,4 +1,5 @@
--- what an auditor says of a derivation: the first step that cannot be carried out, or what the goal lacks after all steps
+-- the auditor's verdict on a derivation: the first step that cannot be carried out, or what the goal lacks after all
+-- steps
 use Rattle.std.specs.Prelude.{◌≡◌, ◌<◌, ℕ, List, take, true, Some, slice_get}
 use Rattle.tg_rights.specs.Letters.{Letters, without}
 use Rattle.tg_rights.specs.declared.command.Rule.{Rule}
@@ -27,7 +28,7 @@ pub record IsWithoutSerial (G : Protection) (s : Step) : Type 0 where
   pub creates : is_create s.actor s.command ≡ true
   pub none_left : last_serial < G.next
 
--- the steps before this one are carried out, and of the graph as it then is and of the step this holds
+-- the steps before this one are carried out, and this holds of the step and of the graph as it then is
 pub record StopsAt (G : Protection) (steps : List Step) (index : ℕ) (Why : Protection → Step → Type 0) : Type 0 where
   pub reached : Protection
   pub step : Step
@@ -48,7 +49,7 @@ pub record Lacks (G : Protection) (steps : List Step) (goal : Goal) (lacking : L
   pub unmet : IsShared reached goal → ⊥
   pub rights : lacking ≡ without goal.rights (label reached goal.from goal.to)
 
--- the verdict on the steps, from the graph G on
+-- the verdict on the steps, starting from the graph G
 abbrev pub IsVerdict : Protection → List Step → Goal → Verdict → Type 0
 IsVerdict G steps goal verdict.Shared = IsMet G steps goal
 IsVerdict G steps goal (verdict.ActorNotSubject index) = StopsAt G steps index HasNoSubject
