@@ -1,4 +1,4 @@
--- what a shared vault is closed as
+-- what a shared vault leaves when it is closed
 use Rattle.std.specs.Prelude.{◌≡◌, ℕ, Bool, true, List, length, map, sum_by}
 use Rattle.tg_vault.specs.Contents.{Contents}
 use Rattle.tg_audit.specs.declared.logs.SeatLog.{SeatLog}
@@ -10,7 +10,7 @@ use Rattle.tg_share.specs.declared.closing.Closed.{Closed}
 use Rattle.tg_share.specs.declared.closing.Closed.TheVariants as closed
 use Rattle.tg_share.specs.Reached.{HasHeadline}
 
--- the vault that is handed back
+-- the vault that is returned
 abbrev pub vault_in : Settled → Contents
 vault_in (settled.Agreed v) = v
 vault_in (settled.Differs v logs seat index) = v
@@ -28,8 +28,8 @@ logs_of ended = map (λ e. e.log) ended
 abbrev pub exchange_count : {L : Type 0} → List (Ended L) → ℕ
 exchange_count ended = sum_by (λ e. length e.log.exchanges.items) ended
 
--- the vault's history is settled with the logs; where it agrees, and where all sessions were counted, it has as many entries
--- as the logs have exchanges; and the vault has the headline, of all the holds of the lock
+-- the vault's history is settled with the logs; if it agrees, and if all sessions were counted, it has as many entries
+-- as the logs have exchanges; and the vault has the headline, for all the holds of the lock
 pub record IsSettled {L : Type 0} (ended : List (Ended L)) (outcome : Settled) (all : Bool) : Type 0 where
   pub settled : SettledAs (vault_in outcome) (logs_of ended) outcome
   pub agreed : IsAgreed outcome → length (vault_in outcome).history ≡ exchange_count ended

@@ -1,4 +1,4 @@
--- vaults to which nothing but events has happened, and what they answer
+-- vaults to which nothing but events has happened, and their answers
 use Rattle.std.specs.Prelude.{◌≡◌, ℕ, List, [], length, Some, slice_get}
 use Rattle.std.specs.Option.{option_map}
 use Rattle.tg_vault.specs.declared.event.Event.{Event}
@@ -26,7 +26,7 @@ pub record HasHeadline (v : Contents) : Type 0 where
   pub headline : Headline opened events answers v
   pub bounded : IsBounded opened answers
 
--- the vault answers the event so, and some vault comes of it
+-- the vault gives the event this answer, and some vault follows
 pub record IsAnswered (v : Contents) (e : Event) (a : Answer) : Type 0 where
   pub after : Contents
   pub step : VaultStep v e a after

@@ -13,14 +13,14 @@ pub record Sitting : Type 0 where
   pub log : List Exchange
   pub counted : ℕ
 
--- the log has one exchange more, the share one entry more
+-- the log has one more exchange, the share one more entry
 abbrev pub with_exchange : Sitting → Command → Reply → Sitting
 with_exchange s command reply = record s { log = s.log ++ record { actor = s.actor; command = command; reply = reply } ∷ []; counted = s.counted + 1 }
 
--- the command was asked and told some reply
+-- the command was submitted and got some reply
 abbrev pub Grows : Sitting → Sitting → Command → Type 0
 Grows old new command = (reply : Reply) × (new ≡ with_exchange old command reply)
 
--- the command was asked and told the reply that is returned; or nothing has changed
+-- the command was submitted and got the reply that is returned; or nothing has changed
 abbrev pub HasAsked : Sitting → Command → Result (Bor Reply) AskFault → Sitting → Type 0
 HasAsked old command result new = MatchResult result (λ r. new ≡ with_exchange old command r.now) (λ _. new ≡ old)
