@@ -2,7 +2,7 @@
 use Rattle.std.specs.Prelude.{◌≡◌, ℕ, zero, suc, ◌<◌, List, [], ◌∷◌, cond, eqb}
 use Rattle.std.proofs.Common.{get_or}
 
--- the indices that the links lead to from a head, at most so many
+-- the indices that the links lead to from a head, at most this many
 abbrev pub walk : ℕ → List ℕ → ℕ → ℕ → List ℕ
 walk end links zero head = []
 walk end links (suc n) head = cond (eqb head end) [] (head ∷ walk end links n (get_or links head end))

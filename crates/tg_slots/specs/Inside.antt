@@ -19,12 +19,12 @@ occupants es = map (λ e. e.occupant) es
 abbrev pub listed : List Linked → ℕ → List ℕ
 listed es head = walk (length es) (links es) (length es) head
 
--- slots that nobody used so far, so many from an index on: each is free, and leads to the next one
+-- slots that were never used so far, this many from an index on: each is free, and leads to the next one
 abbrev pub unused : ℕ → ℕ → List Linked
 unused i zero = []
 unused i (suc n) = record { occupant = None; link = suc i } ∷ unused (suc i) n
 
--- so many slots, of which these were used so far
+-- this many slots, of which these were used so far
 abbrev pub filled : List Linked → ℕ → List Linked
 filled es n = es ++ unused (length es) (n - length es)
 
@@ -38,7 +38,7 @@ table_of es free grey = record { slots = occupants es; free = listed es free; gr
 abbrev pub table : Inside → Table
 table s = table_of (all s) s.free s.grey
 
--- the slots that nobody used so far are the last ones of the free list, in the order of their indices
+-- the slots that were never used so far are the last ones of the free list, in the order of their indices
 pub record IsBehind (used size : ℕ) (free : List ℕ) : Type 0 where
   pub before : List ℕ
   pub is : free ≡ before ++ indices used (size - used)
@@ -55,6 +55,6 @@ pub record IsInside (s : Inside) : Type 0 where
   pub room : s.size ≤ vec_capacity s.entries
   pub behind : IsBehind (length s.entries.items) s.size (table s).free
 
--- the slot of an index is among those that were used, where it is the next one
+-- the slot of an index is among those that were used, if it is the next one
 pub record IsProvided (es ds : List Linked) (id size : ℕ) : Type 0 where
   pub made : ds ≡ cond (ltb id size) (cond (eqb id (length es)) (es ++ record { occupant = None; link = id + 1 } ∷ []) es) es

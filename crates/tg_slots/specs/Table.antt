@@ -37,12 +37,12 @@ abbrev pub with_text : List ℕ → Option Occupant → Option Occupant
 with_text x None = None
 with_text x (Some o) = Some (record o { text = x })
 
--- a field of the vertex in a slot, where there is one
+-- a field of the vertex in a slot, if there is one
 abbrev pub in_slot : {X : Type 0} → (Occupant → X) → Option Occupant → Option X
 in_slot f None = None
 in_slot f (Some o) = Some (f o)
 
--- the slots after one of them has taken a colour
+-- the slots after the vertex in one of them has taken a colour
 abbrev pub recoloured : Table → ℕ → Colour → List (Option Occupant)
 recoloured t i c = set t.slots i (coloured c (slot t i))
 
@@ -60,7 +60,7 @@ grey_one (Has Black) = 0
 abbrev pub if_grey : Option Occupant → ℕ
 if_grey o = grey_one (mark_of o)
 
--- the free list has each free index once and no other, the grey list has grey ones alone, each once
+-- the free list has each free index once and no other, the grey list has only grey ones, each once
 pub record IsSound (t : Table) : Type 0 where
   pub free_listed : (i : ℕ) → i < length t.slots → mark t i ≡ Free → Contains t.free i
   pub listed_free : (i : ℕ) → Contains t.free i → (i < length t.slots) × (mark t i ≡ Free)
