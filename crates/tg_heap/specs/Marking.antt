@@ -1,11 +1,11 @@
--- the tricolour invariant, over the marks and the edges of slots alone
+-- the tricolour invariant, in terms of the marks and the edges of slots only
 use Rattle.std.specs.Prelude.{◌≡◌, ℕ, List, [], ◌∷◌, Option, Some, None, ◌⊎◌, cond, eqb}
 use Rattle.tg_slots.specs.Table.{Mark, Has}
 use Rattle.tg_rights.specs.Membership.{Contains}
 use Rattle.tg_slots.specs.declared.colour.Colour.TheVariants.{White, Grey, Black}
 use Rattle.tg_cells.specs.Lists.{Edge, first_cell}
 
--- the edges from the cursor on, and those before it. No cursor: all are passed.
+-- the edges from the cursor on, and those before it. Without a cursor, all are passed.
 abbrev pub remaining : Option ℕ → List Edge → List Edge
 remaining None es = []
 remaining (Some c) [] = []
@@ -30,14 +30,15 @@ IsScanned (Some s) i = i ≡ s.slot
 abbrev pub Covered : (ℕ → Mark) → (ℕ → Type 0) → List Edge → Type 0
 Covered colour Pending es = (e : Edge) → Contains es e → colour e.target ≡ Has White → Pending e.target
 
--- the slot under scan is grey and waits no longer, the cursor is at one of its cells or at the end, and what it has passed is covered
+-- the slot under scan is grey and waits no longer, the cursor is at one of its cells or at the end, and what it has
+-- passed is covered
 pub record ScanHolds (colour : ℕ → Mark) (out : ℕ → List Edge) (Waits Pending : ℕ → Type 0) (s : ScanAt) : Type 0 where
   pub grey : colour s.slot ≡ Has Grey
   pub taken : Waits s.slot → ⊥
   pub at : s.cursor ≡ first_cell (remaining s.cursor (out s.slot))
   pub behind : Covered colour Pending (passed s.cursor (out s.slot))
 
--- the same, where a slot is under scan
+-- the same, if a slot is under scan
 abbrev pub ScanFits : (colour : ℕ → Mark) (out : ℕ → List Edge) (Waits Pending : ℕ → Type 0) → Option ScanAt → Type 0
 ScanFits colour out Waits Pending None = Unit {0}
 ScanFits colour out Waits Pending (Some s) = ScanHolds colour out Waits Pending s
