@@ -11,7 +11,7 @@ use Rattle.tg_heap.specs.declared.heap.Dropped.TheVariants.{Kept, Gone}
 abbrev pub relabelled : (h : HeapGraph) (id serial : ℕ) → Found (edges h id) serial → Letters → HeapGraph
 relabelled h id serial f rights = record h { lists = set h.lists id (f.before ++ record f.edge { rights = rights } ∷ f.after) }
 
--- an edge loses rights; one left with none is gone, with its cell and the cell that followed it
+-- an edge loses rights; one left with none is gone, and its cell and the cell that followed it are named
 abbrev pub IsDropped : (h g : HeapGraph) (id serial : ℕ) → Letters → Dropped → Type 0
 IsDropped h g id serial rights Kept = (f : Found (edges h id) serial) × (without f.edge.rights rights ≢ none) × (g ≡ relabelled h id serial f (without f.edge.rights rights))
 IsDropped h g id serial rights (Gone cell next) = (f : Found (edges h id) serial) × (without f.edge.rights rights ≡ none) × (cell ≡ f.edge.cell) × (next ≡ first_cell f.after)

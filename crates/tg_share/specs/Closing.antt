@@ -28,7 +28,7 @@ logs_of ended = map (λ e. e.log) ended
 abbrev pub exchange_count : {L : Type 0} → List (Ended L) → ℕ
 exchange_count ended = sum_by (λ e. length e.log.exchanges.items) ended
 
--- the vault's history is settled with the logs; if it agrees, and if all sessions were counted, it has as many entries
+-- the vault's history is settled with the logs; if it agrees, or if all sessions were counted, it has as many entries
 -- as the logs have exchanges; and the vault has the headline, for all the holds of the lock
 pub record IsSettled {L : Type 0} (ended : List (Ended L)) (outcome : Settled) (all : Bool) : Type 0 where
   pub settled : SettledAs (vault_in outcome) (logs_of ended) outcome
