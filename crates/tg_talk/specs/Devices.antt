@@ -18,16 +18,16 @@ has_failed w = w.failed
 abbrev pub owed : {W : Type 0} → Watched (BufWriter W Global) → List ℕ
 owed w = writer_buffer (device_of w)
 
--- what a writer has got, and the answers that it holds back behind that
+-- what a writer has got, followed by the answers that it holds back
 abbrev pub promised : {W : Type 0} → (W → Option (List ℕ)) → Watched (BufWriter W Global) → Option (List ℕ)
 promised contents w = writer_contents contents (device_of w)
 
--- a write that answers an error, or takes 0 bytes of some
+-- a write that returns an error, or takes 0 bytes of some
 abbrev pub took_none : {E : Type 0} → Result ℕ E → List ℕ → Bool
 took_none (Ok n) buf = (n == 0) && nat_lt 0 (length buf)
 took_none (Err e) buf = true
 
--- what a writer holds after bytes were sent: all of them, or where it failed a prefix of them
+-- what a writer holds after bytes were sent: all of them, or, if it failed, a prefix of them
 pub record Sends (old new : Option (List ℕ)) (failed : Bool) (bytes : List ℕ) : Type 0 where
   pub done : List ℕ
   pub rest : List ℕ
@@ -35,7 +35,8 @@ pub record Sends (old new : Option (List ℕ)) (failed : Bool) (bytes : List ℕ
   pub appended : Appends old new done
   pub whole : failed ≡ false → rest ≡ []
 
--- what it holds after `before` and `last` were sent in turn: all of `before`, and of `last` all, or where it failed a prefix
+-- what it holds after `before` and `last` were sent in turn: all of `before`, and of `last` all, or, if it failed, a
+-- prefix
 pub record SendsLast (old new : Option (List ℕ)) (failed : Bool) (before last : List ℕ) : Type 0 where
   pub done : List ℕ
   pub rest : List ℕ

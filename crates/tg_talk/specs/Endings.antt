@@ -11,7 +11,7 @@ IsFault f ended = (ended ≡ Some f) ⊎ (ended ≡ Some talk.Writing)
 abbrev pub EndsThere : Option TalkFault → Type 0
 EndsThere ended = (ended ≡ None) ⊎ (ended ≡ Some talk.Writing)
 
--- the fault where an ending would have this one: it, or that the writer failed
+-- the fault of an ending that would have this one: this one, or that the writer failed
 abbrev pub EndsOnce : Option TalkFault → Bool → Option TalkFault → Type 0
 EndsOnce f true told = told ≡ Some talk.Writing
 EndsOnce f false told = told ≡ f

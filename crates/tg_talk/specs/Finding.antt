@@ -7,11 +7,12 @@ use Rattle.tg_talk.specs.declared.line_buffer.Found.TheVariants as found
 use Rattle.tg_talk.specs.declared.line_buffer.Filled.{Filled}
 use Rattle.tg_talk.specs.declared.line_buffer.Filled.TheVariants as filled
 
--- a line is at hand, or more bytes than a line may have: what is at the front is known with no read
+-- a line is at hand, or more bytes than a line may have: what is at the front is known without a read
 abbrev pub is_decided : List ℕ → Bool
 is_decided buffer = has_newline buffer || nat_lt 16384 (length buffer)
 
--- what was found at the front of the buffer, where the reader has these bytes left; a read failed only where no line was at hand
+-- what was found at the front of the buffer, if the reader has these bytes left; a read failed only if no line was at
+-- hand
 abbrev pub FindsLine : Found → List ℕ → Option (List ℕ) → Type 0
 FindsLine (found.Line n) buffer rest = IsFirstNewline buffer n × (n ≤ 16384)
 FindsLine found.Last buffer rest = (has_newline buffer ≡ false) × (0 < length buffer) × (length buffer ≤ 16384) × IsAtEnd rest

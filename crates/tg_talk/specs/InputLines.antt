@@ -9,7 +9,8 @@ is_newline x = x == 10
 abbrev pub has_newline : List ℕ → Bool
 has_newline xs = list_any is_newline xs
 
--- the lines of a text, each the bytes before a line feed; the last needs none, and a text that ends in one has no line behind it
+-- the lines of a text, each the bytes before a line feed; the last needs none, and a text that ends in one has no line
+-- after it
 unfoldable pub lines_of : List ℕ → List (List ℕ)
 lines_of [] = []
 lines_of (b ∷ bs) = if is_newline b then [] ∷ lines_of bs else onto_first b (lines_of bs)

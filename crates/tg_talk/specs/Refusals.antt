@@ -1,11 +1,11 @@
--- the lines of refusals that no line's value gives
+-- the lines of refusals that no value of a line has
 use Rattle.std.specs.Prelude.{ℕ, List, codes}
 use Rattle.tg_wire.specs.Faults.{line_text, error_data}
 
--- the line that is answered to the line after the millionth
+-- the line that answers the line after the millionth
 unfoldable pub too_many_line : List ℕ
 too_many_line = line_text (error_data (codes "too many lines"))
 
--- the line that is answered in a talk to a line of the shade or the collector
+-- the line that answers, in a talk, a line of the shade or the collector
 unfoldable pub not_for_a_session_line : List ℕ
 not_for_a_session_line = line_text (error_data (codes "not for a session"))

@@ -49,7 +49,7 @@ abbrev pub log_of : Option Sitting → List Exchange
 log_of None = []
 log_of (Some s) = s.log
 
--- what is left of whoever sits
+-- what is left of the one who sits
 abbrev pub Leaves : {L : Type 0} → Option Sitting → Option (Ended L) → Type 0
 Leaves None None = Unit {0}
 Leaves None (Some e) = ⊥
@@ -65,20 +65,20 @@ abbrev pub Seats : Option Sitting → List ℕ → ℕ → Type 0
 Seats None text seat = (f : SeatFault) × Tells (answer.Seat f) text
 Seats (Some s) text seat = (s.seat ≡ seat) × (s.log ≡ []) × Tells (answer.Hello s.actor) text
 
--- a command was asked: what is to be said, and the session then
+-- a command was submitted: the answer, and the session then
 abbrev pub Asks : Sitting → Command → Said → Sitting → Type 0
 Asks old command (said.Answer t) new =
     ((reply : Reply) × (new ≡ with_exchange old command reply) × (text_of t ≡ reply_line reply)) ⊎ ((f : AskFault) × (f ≢ ask_fault.NoSeat) × (new ≡ old) × Tells (answer.Ask f) (text_of t))
 Asks old command (said.Bye t) new = ⊥
 Asks old command said.Nothing new = (reply : Reply) × (new ≡ with_exchange old command reply)
 
--- what is to be said to a line, where these exchanges were entered for it
+-- the answer to a line, if these exchanges were entered for it
 abbrev pub Says : Said → Option ℕ → List ℕ → Option ℕ → List Exchange → Type 0
 Says (said.Answer t) sits line then log = LineTold sits line then log (text_of t)
 Says (said.Bye t) sits line then log = ByeTold sits line then log (text_of t)
 Says said.Nothing sits line then log = Untold sits line then log
 
--- what was done for a line of a session, and what is to be said to it
+-- what was done for a line of a session, and its answer
 pub record Hears (old : Sitting) (line : List ℕ) (said : Said) (new : Sitting) : Type 0 where
   pub log : List Exchange
   pub grown : new.log ≡ old.log ++ log
@@ -108,7 +108,8 @@ abbrev pub AnswersTaken : {L : Type 0} → Turn L → Option ℕ → List ℕ �
 AnswersTaken (turn.GoOn s) sits line log text = LineTold sits line (actor_of s) log text
 AnswersTaken (turn.Ended s f) sits line log text = Closes f sits line (actor_of s) log text
 
--- what the answer to a line that was taken comes to: the exchanges that were entered, the text, and what the writer then holds of it
+-- the result of answering a line that was taken: the exchanges that were entered, the text, and what the writer then
+-- holds of it
 pub record Answered {L : Type 0} (res : Turn L) (old : Option Sitting) (line : List ℕ) (was now : Option (List ℕ)) (failed : Bool) : Type 0 where
   pub log : List Exchange
   pub text : List ℕ
@@ -127,12 +128,13 @@ pub record Proceeds (sits : Option ℕ) (n : ℕ) (xs : List ℕ) (then : Option
   pub count : m ≡ n + 1
   pub told : LineTold sits line then log text
 
--- what a turn does to the bytes that are to come, and the text that it answers
+-- what a turn does to the bytes that are to come, and its answer
 abbrev pub Turns : {L : Type 0} → Turn L → Option ℕ → ℕ → List ℕ → ℕ → Option (List ℕ) → List Exchange → List ℕ → Type 0
 Turns (turn.GoOn s) sits n xs m left log text = Proceeds sits n xs (actor_of s) m left log text
 Turns (turn.Ended s f) sits n xs m left log text = TalkText n sits (lines_of xs) log (actor_of s) f m [] text
 
--- what a turn does where the bytes xs are to come: the exchanges that were entered, the text that it answers, and what the writer then holds of it
+-- what a turn does if the bytes xs are to come: the exchanges that were entered, the answer, and what the writer then
+-- holds of it
 pub record Turned {L : Type 0} (res : Turn L) (old : Option Sitting) (n m : ℕ) (left was now : Option (List ℕ)) (failed : Bool) (xs : List ℕ) : Type 0 where
   pub log : List Exchange
   pub text : List ℕ

@@ -42,8 +42,9 @@ is_for_no_session (Act (event.Shade seat)) = true
 is_for_no_session (Act event.Collect) = true
 is_for_no_session Cycle = true
 
--- A line is answered by a text, and the talk goes on. `sits` is the principal, once a hello has succeeded, `then` the one after the line; `log` is
--- the exchange that was entered for the line, if one was. A seat that a line names is not used.
+-- A line is answered by a text, and the talk goes on. `sits` is the principal, once a hello has succeeded, `then` the
+-- one after the line; `log` is the exchange that was entered for the line, if one was. A seat that a line names is not
+-- used.
 pub data LineTold (sits : Option ℕ) (line : List ℕ) (then : Option ℕ) (log : List Exchange) (text : List ℕ) : Type 0 where
   refused : (f : WireFault) → line_of line ≡ Err f → then ≡ sits → log ≡ [] → text ≡ fault_line f → LineTold sits line then log text
   -- before a hello has succeeded
@@ -62,7 +63,7 @@ pub data LineTold (sits : Option ℕ) (line : List ℕ) (then : Option ℕ) (log
   -- a hello has succeeded, and there was no memory to say so
   seated_untold : (seat : ℕ) (name : List ℕ) (actor : ℕ) → sits ≡ None → line_of line ≡ Ok (Act (event.Hello seat name)) → then ≡ Some actor → log ≡ [] → text ≡ fault_line wire.OutOfMemory → LineTold sits line then log text
 
--- the line ends the talk: a bye of whoever sits
+-- the line ends the talk: a bye of the one who sits
 pub record ByeTold (sits : Option ℕ) (line : List ℕ) (then : Option ℕ) (log : List Exchange) (text : List ℕ) : Type 0 where
   pub actor : ℕ
   pub seat : ℕ
@@ -83,8 +84,9 @@ pub record Untold (sits : Option ℕ) (line : List ℕ) (then : Option ℕ) (log
   pub stays : then ≡ sits
   pub entered : log ≡ record { actor = actor; command = command; reply = reply } ∷ []
 
--- After n lines, where `sits` sits: the lines that are left; the exchanges that are entered for them, in their order; who sits at the end; the
--- fault, and the lines taken in all; the text of the answers before the last one, and that of the last.
+-- After n lines, when `sits` sits: the lines that are left; the exchanges that are entered for them, in their order;
+-- who sits at the end; the fault, and the lines taken in all; the text of the answers before the last one, and that of
+-- the last.
 pub data TalkText : ℕ → Option ℕ → List (List ℕ) → List Exchange → Option ℕ → Option TalkFault → ℕ → List ℕ → List ℕ → Type 0 where
   -- no memory for the lines: none is taken
   no_buffer : {ls : List (List ℕ)} → TalkText 0 None ls [] None (Some talk.OutOfMemory) 0 [] []
@@ -108,7 +110,7 @@ pub data TalkText : ℕ → Option ℕ → List (List ℕ) → List Exchange →
       → n < 1000000 → length l ≤ 16384 → LineTold sits l next first text → TalkText (n + 1) next ls rest then f m before last
       → TalkText n sits (l ∷ ls) (first ++ rest) then f m (text ++ before) last
 
--- who sat at the end, and the exchanges of the log; none where no hello succeeded
+-- who sat at the end, and the exchanges of the log; none if no hello succeeded
 abbrev pub actor_left : {L : Type 0} → Option (Ended L) → Option ℕ
 actor_left left = option_map (λ e. e.actor) left
 
@@ -116,8 +118,9 @@ abbrev pub log_left : {L : Type 0} → Option (Ended L) → List Exchange
 log_left None = []
 log_left (Some e) = e.log.exchanges.items
 
--- what a whole talk does where the reader has the bytes input: its answers are those of a talk over the lines of the input whose exchanges are
--- those of the log, and the writer then holds all of the answers before the last one, and all of the last, or a prefix of it where it failed
+-- what a whole talk does if the reader has the bytes input: its answers are those of a talk over the lines of the input
+-- whose exchanges are those of the log, and the writer then holds all of the answers before the last one, and all of
+-- the last, or, if it failed, a prefix of it
 pub record HasTalked {L : Type 0} (lines : ℕ) (fault : Option TalkFault) (session : Option (Ended L)) (old new : Option (List ℕ)) (failed : Bool) (input : List ℕ) : Type 0 where
   pub before : List ℕ
   pub last : List ℕ
