@@ -18,7 +18,7 @@ abbrev pub plain_data : Plain → Data
 plain_data (Text s) = string s.now
 plain_data (Number n) = number (unsigned n)
 
--- the members put in one after another, so that of equal keys the last stands
+-- the members put in one after another, so that of equal keys the last one counts
 abbrev pub put_all : List Member → Members → Members
 put_all [] found = found
 put_all (m ∷ ms) found = put_all ms (put (key_text m.key) (plain_data m.value) found)
@@ -46,7 +46,7 @@ AreSpelled [] (m ∷ ms) = ⊥
 AreSpelled (k ∷ ks) [] = ⊥
 AreSpelled (k ∷ ks) (m ∷ ms) = (k.0 ≡ key_text m.key) × Spells k.1 m.value × AreSpelled ks ms
 
--- members, each with a comma behind it, and then the rest
+-- members, each with a comma after it, and then the rest
 abbrev pub member_lexemes : List (List ℕ × Token) → List Lexeme → List Lexeme
 member_lexemes [] rest = rest
 member_lexemes (k ∷ ks) rest = lex.token (token.string k.0) ∷ lex.colon ∷ lex.token k.1 ∷ lex.comma ∷ member_lexemes ks rest

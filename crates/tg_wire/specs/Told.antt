@@ -1,4 +1,4 @@
--- what the fields of a line that is written tell
+-- the values of the fields of a line that is written
 use Rattle.std.specs.Prelude.{ℕ, List, [], ◌∷◌, ◌++◌}
 use Rattle.std.specs.Borrow.{Bor}
 use Rattle.serde_json.specs.Data.{Data, null, boolean, string, number, unsigned, array, Members, no_members, member}
@@ -20,6 +20,6 @@ abbrev pub told_members : List (Bor (List ℕ) × Told) → Members
 told_members [] = no_members
 told_members (f ∷ fs) = member f.0.now (told_data f.1) (told_members fs)
 
--- the line of an object that begins so, and ends with this value
+-- the line of an object that begins with these bytes, and ends with this value
 abbrev pub led_text : List ℕ → Data → List ℕ
 led_text lead d = lead ++ ((compact_text d ++ 125 ∷ []) ++ 10 ∷ [])
