@@ -21,7 +21,7 @@ use Rattle.tgdoc.specs.Audits.{AuditRead, End, EndsAt, EndsEarly, EndsInSteps, I
 abbrev pub unread : Input → Option (List ℕ) → Option (List ℕ)
 unread input rest = prepend_known input.left rest
 
--- an ending after so many lines
+-- an ending after this many lines
 abbrev pub end_after : Ending → ℕ → End
 end_after ending.Failed n = record { lines = n; text = []; fault = Some talk.Reading }
 end_after ending.TooLong n = record { lines = n; text = fault_line wire.TooLong; fault = Some talk.TooLong }
@@ -70,6 +70,6 @@ pub record Judges (v : Verdict) (m : ℕ) (xs : List ℕ) : Type 0 where
   pub is : IsVerdict graph steps goal v
   pub count : m ≡ length (lines_of xs)
 
--- the text is the verdict's line, or that of `out of memory`, and counts so many errors
+-- the text is the verdict's line, or that of `out of memory`, and counts as this many errors
 abbrev pub TellsVerdict : Verdict → ℕ → List ℕ → Type 0
 TellsVerdict v errors text = ((errors ≡ verdict_errors v) × (text ≡ verdict_line v)) ⊎ ((errors ≡ 1) × (text ≡ fault_line wire.OutOfMemory))

@@ -29,8 +29,8 @@ pub record End : Type 0 where
   pub text : List ℕ
   pub fault : Option TalkFault
 
--- after n lines the audit ends at the next one, which is refused so; where a line is wanted, no line at all is read as an empty one, which
--- is no JSON, and it is not counted
+-- after n lines the audit ends at the next one, which is refused for this; if a line is wanted, no line at all is read
+-- as an empty one, which is not JSON, and it is not counted
 pub data EndsAt (Refuses : List ℕ → List ℕ → Type 0) (is_wanted : Bool) (n : ℕ) : List (List ℕ) → End → Type 0 where
   -- the reader failed
   stopped : {ls : List (List ℕ)} → EndsAt Refuses is_wanted n ls (record { lines = n; text = []; fault = Some talk.Reading })
@@ -40,7 +40,7 @@ pub data EndsAt (Refuses : List ℕ → List ℕ → Type 0) (is_wanted : Bool) 
   refused : {l text : List ℕ} {ls : List (List ℕ)} → n < 1000000 → length l ≤ 16384 → Refuses l text → EndsAt Refuses is_wanted n (l ∷ ls) (record { lines = n + 1; text = text; fault = None })
   no_line : is_wanted ≡ true → EndsAt Refuses is_wanted n [] (record { lines = n; text = fault_line wire.NotJson; fault = None })
 
--- a line that is read so is refused with this text
+-- a line that is read in this way is refused with this text
 pub data Misreads {A : Type 0} (read : List ℕ → Result A WireFault) (line text : List ℕ) : Type 0 where
   misread : (f : WireFault) → read line ≡ Err f → text ≡ fault_line f → Misreads read line text
   -- no memory to read the line, or to keep what it says
@@ -70,7 +70,7 @@ pub data StepsRead : ℕ → List (List ℕ) → List Step → Type 0 where
   none : {n : ℕ} → StepsRead n [] []
   step : {n : ℕ} {l : List ℕ} {ls : List (List ℕ)} {s : Step} {ss : List Step} → IsRead n l (SaysStep s) → StepsRead (n + 1) ls ss → StepsRead n (l ∷ ls) (s ∷ ss)
 
--- after n lines, some are steps, and the audit ends at the line behind them
+-- after n lines, some are steps, and the audit ends at the line after them
 pub data EndsInSteps : ℕ → List (List ℕ) → End → Type 0 where
   here : {n : ℕ} {ls : List (List ℕ)} {e : End} → EndsAt (Misreads step_of) false n ls e → EndsInSteps n ls e
   later : {n : ℕ} {l : List ℕ} {ls : List (List ℕ)} {s : Step} {e : End} → IsRead n l (SaysStep s) → EndsInSteps (n + 1) ls e → EndsInSteps n (l ∷ ls) e
@@ -101,12 +101,12 @@ verdict_errors (verdict.StepDenied index rule cause) = 1
 verdict_errors (verdict.StepFull index) = 1
 verdict_errors (verdict.GoalMissing rights) = 1
 
--- each end without a verdict answers an `error` line, but for a failed read, where nothing is answered
+-- each end without a verdict answers an `error` line, except after a failed read, when nothing is answered
 abbrev pub end_errors : Option TalkFault → ℕ
 end_errors (Some talk.Reading) = 0
 end_errors f = 1
 
--- an audit of the lines of its input: how it finishes where no write fails, and the text that it answers
+-- an audit of the lines of its input: how it finishes if no write fails, and the text that it answers
 pub data LinesAudited : List (List ℕ) → Finished → List ℕ → Type 0 where
   -- no memory for the lines: none is taken
   no_buffer : {ls : List (List ℕ)} → LinesAudited ls (record { lines = 0; errors = 0; fault = Some talk.OutOfMemory }) []
@@ -115,8 +115,8 @@ pub data LinesAudited : List (List ℕ) → Finished → List ℕ → Type 0 whe
   judged : {ls : List (List ℕ)} (G : Protection) (goal : Goal) (steps : List Step) (v : Verdict) → AuditRead ls G goal steps → IsVerdict G steps goal v
       → LinesAudited ls (record { lines = length ls; errors = verdict_errors v; fault = None }) (verdict_line v)
 
--- an audit where the reader has the bytes input: it finishes so but for a failed write, and the writer then holds all of the text, or a
--- prefix of it where it failed
+-- an audit if the reader has the bytes input: it finishes in this way, a failed write aside, and the writer then holds
+-- all of the text, or, if it failed, a prefix of it
 pub record BytesAudited (finished : Finished) (old new : Option (List ℕ)) (failed : Bool) (input : List ℕ) : Type 0 where
   pub whole : Finished
   pub text : List ℕ

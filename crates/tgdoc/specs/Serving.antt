@@ -19,15 +19,15 @@ use Rattle.tgdoc.specs.declared.serve.Found.TheVariants as found
 abbrev pub listening_line : List ℕ → List ℕ
 listening_line address = codes "{\"listening\":\"" ++ address ++ codes "\"}\n"
 
--- the last line, where the logs agree with the history
+-- the last line, if the logs agree with the history
 abbrev pub agreed_line : List ℕ
 agreed_line = codes "{\"settled\":\"agreed\"}\n"
 
--- the last line, where a log differs at this index of this seat
+-- the last line, if a log differs at this index of this seat
 abbrev pub differs_line : ℕ → ℕ → List ℕ
 differs_line seat index = codes "{\"index\":" ++ decimal index ++ codes ",\"seat\":" ++ decimal seat ++ codes ",\"settled\":\"differs\"}\n"
 
--- the last line, where a growth or a thread was refused
+-- the last line, if an allocation or the start of a thread failed
 abbrev pub no_memory_line : List ℕ
 no_memory_line = codes "{\"settled\":\"no memory\"}\n"
 
@@ -44,7 +44,8 @@ found_of (closed.Done (settled.Differs vault logs seat index) counted) = found.D
 found_of (closed.Done (settled.NoMemory vault logs) counted) = found.NoMemory
 found_of (closed.NoRoom shared ended) = found.NoMemory
 
--- what a server found: that of a vault that was closed with the sessions that ended, or that a growth or a thread was refused before
+-- what a server found: that of a vault that was closed with the sessions that ended, or that an allocation or the start
+-- of a thread failed before
 pub data IsFound (L : Type 0) (f : Found) : Type 0 where
   by_closing : (ended : List (Ended L)) (c : Closed L) → IsClosed ended c → f ≡ found_of c → IsFound L f
   by_refusal : f ≡ found.NoMemory → IsFound L f
@@ -68,7 +69,7 @@ pub record OpensInput (v : Contents) (lines : List (List ℕ)) : Type 0 where
   pub short : length first ≤ 16384
   pub opens : Opens first v
 
--- of these lines no configuration is taken, and this text is written
+-- no configuration is taken from these lines, and this text is written
 pub data RefusesInput (text : List ℕ) : List (List ℕ) → Type 0 where
   -- no memory for the lines: none is taken
   no_buffer : {ls : List (List ℕ)} → text ≡ fault_line wire.OutOfMemory → RefusesInput text ls
@@ -79,7 +80,7 @@ pub data RefusesInput (text : List ℕ) : List (List ℕ) → Type 0 where
   too_long : {l : List ℕ} {ls : List (List ℕ)} → 16384 < length l → text ≡ fault_line wire.TooLong → RefusesInput text (l ∷ ls)
   refused : {l : List ℕ} {ls : List (List ℕ)} → length l ≤ 16384 → RefusesOpening l text → RefusesInput text (l ∷ ls)
 
--- the same of the bytes of an input
+-- the same for the bytes of an input
 abbrev pub OpensBytes : Contents → List ℕ → Type 0
 OpensBytes v xs = OpensInput v (lines_of xs)
 
