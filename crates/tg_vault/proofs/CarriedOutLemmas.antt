@@ -82,7 +82,7 @@ module _ (s t : Stored) (next seat : ℕ) where
     had_room : (IsEdge H x y → ⊥) → s.free_cells ≡ 0 → ⊥
     had_room absent none = let new = stored.new (λ e. absent (in_edge s next x y e)) in absurd (omega arith)
 
-  -- an effect was carried out in the store, and answered
+  -- an effect was carried out in the store, with this reply
   pub record IsDone (after x : ℕ) (d : Does) (answer : Reply) : Type 0 where
     pub room : (w : Which) → IsUsedUp H s.free_slots s.free_cells d w → ⊥
     pub replied : answer ≡ answered H d
@@ -222,7 +222,7 @@ module _ (s t : Stored) (next seat : ℕ) where
       subst (CarriedOut s t next next seat x c) (sym is) (carried_by next x c (effect.Rewrites over text) reply.Done does a (rewrite_done x over text replaced.0 replaced.1 acted))
   rewrite_carried x over text c (Err fault) does a is replaced acted = tt
 
--- what is told or denied changes nothing
+-- reads, looks and denials change nothing
 module _ (s : Stored) (next seat x : ℕ) where
   pub tell_done : (over : ℕ) (answer : Reply) → answer ≡ reply.Text (text_of (held s next) over) → ByEffect s s next seat next x (effect.Tells over) answer
   tell_done over answer is = inl (record { room = room; replied = is; graph = refl; pending = refl; acted = acted_same s s refl; slots = omega arith; cells = refl }) where

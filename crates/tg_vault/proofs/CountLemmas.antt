@@ -18,7 +18,7 @@ use Rattle.tg_graph.proofs.VertexLemmas.{IsVertex-insert, with_text-document, wi
 use Rattle.tg_vault.specs.World.{new_target, slots_taken, target_of}
 use Rattle.tg_vault.specs.CarriedOut.{CellsMoved, EdgeMoves}
 
--- the next serial depends on the effect alone
+-- the next serial depends only on the effect
 done_next : (G H : Protection) (x : ℕ) (d : Does) → G.next ≡ H.next → (done G x d).next ≡ (done H x d).next
 done_next G H x (effect.Joins from α to) is = is
 done_next G H x (effect.Makes k α) is = ap (λ n. n + 1) is
@@ -45,7 +45,7 @@ next_grows G x c outcome.Allowed = done_grows G x (terms x c).does
 next_grows G x c (outcome.Denied rule cause) = omega arith
 next_grows G x c (outcome.Full w) = omega arith
 
--- a target is the same in graphs of the same next serial
+-- a target is the same in graphs with the same next serial
 new_target_same : (G H : Protection) (d : Does) → G.next ≡ H.next → new_target G d ≡ new_target H d
 new_target_same G H (effect.Joins from α to) is = refl
 new_target_same G H (effect.Makes k α) is = ap (λ n. Some n) is
@@ -83,7 +83,7 @@ module _ (G : Protection) (g : IsGraph G) (x : ℕ) (x_in : IsVertex G x) where
   vertex_stays c (outcome.Denied rule cause) a v is = is
   vertex_stays c (outcome.Full w) a v is = is
 
-  -- a create brings one vertex
+  -- a create adds one vertex
   done_vertices : (d : Does) → Given d → vertex_count (done G x d) ≡ vertex_count G + cond (is_new d) 1 0
   done_vertices (effect.Joins from α to) h = omega arith
   done_vertices (effect.Makes k α) h = vertex_count-new G (record { kind = k; text = [] }) g

@@ -1,4 +1,4 @@
--- Courses with one event more, and what they make of a run.
+-- Courses with one more event, and the run that they make.
 use Rattle.std.proofs.Common.{◌≡◌, ℕ, ◌+◌, ◌<◌, List, [], ◌∷◌, ◌++◌, length, take, get_or, length-append, refl, sym, ap, subst, ◌∙◌}
 use Rattle.std.proofs.lemmas.List.{take_more}
 use Rattle.tg_vault.specs.declared.event.Event.{Event}
@@ -27,7 +27,7 @@ course_longer old mid new es answers longer k e a course goes within is more =
 pub one_more : (answers : List Answer) (a : Answer) → length (answers ++ a ∷ []) ≡ length answers + 1
 one_more answers a = length-append answers (a ∷ [])
 
--- one course behind another
+-- one course after another
 pub course_append : (u v w : Contents) (es fs : List Event) (answers more : List Answer) → Course u es answers v → Course v fs more w → Course u (es ++ fs) (answers ++ more) w
 course_append u v w [] fs [] more first then = subst (λ k. Course k fs more w) first then
 course_append u v w (e ∷ es) fs (a ∷ answers) more first then = (first.0, first.1, course_append first.0 v w es fs answers more first.2 then)

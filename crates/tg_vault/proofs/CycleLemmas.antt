@@ -167,7 +167,7 @@ split v (e ∷ es) (a ∷ front) rest w course =
     record { mid = s.mid; before = (course.0, course.1, s.before); from = s.from }
 split v [] (a ∷ front) rest w course = absurd course
 
--- the phase that the answers tell
+-- the phase that the answers report
 goes_phase : (v : Contents) (e : Event) (a : Answer) (u : Contents) → VaultStep v e a u → u.store.phase ≡ phase_after v.store.phase (a ∷ [])
 goes_phase v (event.Hello seat name) (answer.Hello x) u g = g.stored.acted.phase
 goes_phase v (event.Hello seat name) (answer.Seat fault) u g = g.stored.acted.phase

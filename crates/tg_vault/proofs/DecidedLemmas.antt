@@ -115,7 +115,7 @@ module _ (v : Contents) (j : Ties v) (store : IsStore v.store) where
 
     pub replied_so : (c : Command) (o : Outcome) → Judged H x c outcome.Allowed ⊎ ((o ≡ outcome.Allowed) → ⊥) → reply_of H x c o ≡ reply_of G x c o
     replied_so c outcome.Allowed (inl a) = by (is_create x c) refl where
-      -- the new serial is that of the graph; what else is told, the actor can tell in both
+      -- the new serial is that of the graph; the rest of a reply the actor can see in both
       made : (d : Does) → is_new d ≡ true → answered H d ≡ answered G d
       made (effect.Joins from α to) new = absurd (cc new)
       made (effect.Makes k α) new = refl
@@ -139,7 +139,7 @@ judged_once G x c o p a d = verdict-Judged G x c p d ∙ sym (verdict-Judged G x
 pub not_both : (G : Protection) (x : ℕ) (c : Command) (o : Outcome) → Judged G x c outcome.Allowed → Judged G x c o → o ≡ outcome.Allowed
 not_both G x c o a d = judged_once G x c outcome.Allowed o a d
 
--- a history permits what is decided so
+-- a history permits what is decided in this way
 pub decided_permitted : (limits : Limits) (G : Protection) (f g x : ℕ) (c : Command) (o : Outcome) → limits.slots ≤ f + vertex_count G → limits.cells ≤ g + edge_count G →
     Decided G f g x c o → Permitted limits G x c o
 decided_permitted limits G f g x c outcome.Allowed slots cells d = (d.0, λ create. let left : last_serial < G.next → ⊥ = λ above. d.1 which.Serials (create, above) in omega arith)
@@ -173,7 +173,7 @@ no_serial G f g (effect.Rewrites over text) a b = cc a.0
 no_serial G f g (effect.Tells over) a b = cc a.0
 no_serial G f g (effect.Lists at) a b = cc a.0
 
--- full exactly where something is used up
+-- full exactly if something is used up
 pub exact_full : (G : Protection) (f g x : ℕ) (c : Command) (o : Outcome) (w : Which) → Decided G f g x c o → (o ≡ outcome.Full w) ↔ (Allowed G x c × IsUsedUp G f g (terms x c).does w)
 exact_full G f g x c o w d = (to o d, back o d) where
   to : (o : Outcome) → Decided G f g x c o → o ≡ outcome.Full w → Allowed G x c × IsUsedUp G f g (terms x c).does w

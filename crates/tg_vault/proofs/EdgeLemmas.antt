@@ -9,7 +9,7 @@ use Rattle.tg_graph.proofs.LabelLemmas.{difference-Relabels}
 use Rattle.tg_graph.proofs.PartsStayLemmas.{label-relabelled}
 use Rattle.tg_collect.specs.Stored.{Stored, held}
 
--- labels don't depend on the next serial
+-- labels do not depend on the next serial
 pub label_next : (s : Stored) (n m x y : ℕ) → label (held s n) x y ≡ label (held s m) x y
 unfolding label
 label_next s n m x y = refl

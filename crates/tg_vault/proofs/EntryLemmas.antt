@@ -1,4 +1,4 @@
--- A vault with one entry more.
+-- A vault with one more entry.
 use Rattle.std.proofs.Common.{◌≡◌, ℕ, ◌+◌, ◌-◌, ◌<◌, ◌≤◌, List, [], ◌∷◌, ◌++◌, refl, sym, ap, subst, ◌∙◌, ◌⊎◌, inl, inr, Some, None, Bool, true, false, cond, arith}
 use Rattle.std.specs.Prelude.{◌↔◌}
 use Rattle.std.proofs.lemmas.List.Elements.{All-append, All-cons, All-nil}
@@ -298,6 +298,6 @@ module _ (v : Contents) (next seat x : ℕ) (c : Command) (answer : Reply) (t : 
   pub pushed_acts : SessionStep v (record v { store = t; history = history })
   pushed_acts = subst (λ (w : Contents). SessionStep v w) pushed_is (serving_acts v seat x c answer t after serving)
 
--- the next serial is nobody's, also not of one that waits to be swept
+-- no vertex that waits to be swept has the next serial
 pub next_unparked : (v : Contents) → Ties v → IsStore v.store → InSet v.store.parked (graph_now v).next → ⊥
 next_unparked v j store h = let below : (graph_now v).next < (graph_now v).next = (graph_is v j store).below_next (graph_now v).next (j.parked (graph_now v).next h) in absurd (omega arith)

@@ -1,4 +1,4 @@
--- A decision has come by each vertex that the effect works on, and has met what the effect takes for granted.
+-- A decision has passed each vertex that the effect works on, and has met what the effect takes for granted.
 use Rattle.std.proofs.Common.{◌≡◌, ◌≢◌, ℕ, false, sym, subst, ◌∙◌, inl, inr}
 use Rattle.tg_rights.specs.Letters.{Letters, is_none}
 use Rattle.tg_rights.specs.declared.command.Command.{Command}

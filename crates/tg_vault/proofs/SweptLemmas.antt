@@ -34,7 +34,7 @@ pub record SoFar (v w : Contents) (freed steps : ℕ) : Type 0 where
   pub coherent : IsCoherent w
   pub small : IsSmall w
 
--- one step more
+-- one more step
 module _ (v w u : Contents) (freed steps : ℕ) (note : Note) (s : SoFar v w freed steps) (g : VaultStep w event.Collect (answer.Noted note) u) where
   abbrev notes : List Note
   notes = s.notes ++ note ∷ []

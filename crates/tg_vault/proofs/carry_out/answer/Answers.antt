@@ -93,7 +93,7 @@ returns-in-Lists-clause-carried c =
     (list_done c.args.store.now c.args.next.now c.args.seat c.args.actor c.in-Lists.at answer (is c.args.next.now ∙ ap (λ v. reply.Edges (edges_of (held c.args.store.now c.args.next.now) v)) at)))
     c.list.ensures
 
--- what is true whatever comes of it
+-- what is true whatever the result
 whatever : {A E P : Type 0} (r : Result A E) → P → OnErr r P
 whatever (Ok x) p = tt
 whatever (Err e) p = p
