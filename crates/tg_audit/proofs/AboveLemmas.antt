@@ -17,7 +17,7 @@ behind : (b : Bool) (xs ys zs more : List Exchange) → more ≡ ys ++ zs → (i
 behind true xs ys zs more e = ap (λ l. xs ++ l) e ∙ sym (append_assoc xs ys zs)
 behind false xs ys zs more e = e
 
--- one log more
+-- one more log
 joined_same : (k : ℕ) (before : List SeatLog) (log : SeatLog) → log.seat ≡ k → joined k (before ++ log ∷ []) ≡ joined k before ++ (log.exchanges.items ++ [])
 joined_same k [] log is = let test : nat_eq log.seat k ≡ true = grind (arith, nat_tests) in rw test refl
 joined_same k (l ∷ before) log is = behind (nat_eq l.seat k) l.exchanges.items (joined k before) (log.exchanges.items ++ []) (joined k (before ++ log ∷ [])) (joined_same k before log is)
@@ -62,7 +62,7 @@ empty_kept k (l ∷ before) log empty = behind (nat_eq l.seat k) l.exchanges.ite
 pub least_empty : (before : List SeatLog) (log : SeatLog) (least : Option ℕ) → log.exchanges.items ≡ [] → IsLeastAbove before least → IsLeastAbove (before ++ log ∷ []) least
 least_empty before log least empty is = least_same before (before ++ log ∷ []) least (λ k above. empty_kept k before log empty ∙ append_end (joined k before)) is
 
--- a log with an exchange, of a seat below which there is none
+-- a log with an exchange, of a seat with none below it
 pub least_new : (before : List SeatLog) (log : SeatLog) → SEATS ≤ log.seat → log.exchanges.items ≢ [] → ((k : ℕ) → SEATS ≤ k → k < log.seat → joined k before ≡ []) → IsLeastAbove (before ++ log ∷ []) (Some log.seat)
 least_new before log above some none = (
   above,

@@ -1,4 +1,4 @@
--- Where each seat agrees, the history has as many entries as the logs have exchanges.
+-- If each seat agrees, the history has as many entries as the logs have exchanges.
 use Rattle.std.proofs.Common.{◌≡◌, ℕ, zero, suc, ◌+◌, ◌<◌, ◌≤◌, List, [], ◌∷◌, ◌++◌, length, refl, sym, ap, ◌∙◌, arith, nat_eq, Bool, true, false, if◌then◌else◌, sum_by, length-append}
 use Rattle.std.proofs.lemmas.Bool.Decides.{nat_tests}
 use Rattle.std.proofs.lemmas.List.Sums.{sum_by-cons}

@@ -1,4 +1,4 @@
--- The logs of a seat, followed exchange by exchange beside its entries.
+-- The logs of a seat, followed exchange by exchange along its entries.
 use Rattle.std.proofs.Common.{◌≡◌, ℕ, zero, suc, ◌+◌, ◌≤◌, List, [], ◌∷◌, ◌++◌, length, drop, refl, sym, ap, ◌∙◌, subst, arith, nat_eq, true, false, slice_get, Some, append_assoc, length-append}
 use Rattle.std.proofs.lemmas.Option.{none-some, same_Some}
 use Rattle.std.proofs.lemmas.Grind.{common_steps}
@@ -37,7 +37,7 @@ joined_from_other seat at logs n log is other =
     let next : n + 1 ≡ suc n = omega arith in
     rw (joined_from_start seat (drop (n + 1) logs), drop_some logs n log is, test, next) refl
 
--- an exchange of the log that has further ones behind it
+-- an exchange of the log that has further ones after it
 pub joined_from_next : (seat at : ℕ) (logs : List SeatLog) (n : ℕ) (log : SeatLog) (x : Exchange) → slice_get logs n ≡ Some log → log.seat ≡ seat → slice_get log.exchanges.items at ≡ Some x →
     joined_from seat at (drop n logs) ≡ x ∷ joined_from seat (at + 1) (drop n logs)
 joined_from_next seat at logs n log x is same here =
@@ -53,7 +53,7 @@ joined_from_past seat at logs n log is same past =
 pub joined_from_end : (seat at : ℕ) (logs : List SeatLog) (n : ℕ) → length logs ≤ n → joined_from seat at (drop n logs) ≡ []
 joined_from_end seat at logs n past = rw (drop_past logs n past) refl
 
--- lists that differ at once, behind what is common
+-- lists that differ at once, after what is common
 differ_behind : (common xs ys : List Exchange) (i : ℕ) → length common ≡ i → DifferAt xs ys 0 → DifferAt (common ++ xs) (common ++ ys) i
 differ_behind [] xs ys i count differ = subst (DifferAt xs ys) count differ
 differ_behind (c ∷ common) xs ys zero count differ = absurd (omega arith)

@@ -22,7 +22,7 @@ use Rattle.tg_audit.specs.Stops.{StopsBy, verdict_at}
 use Rattle.tg_audit.specs.Verdicts.{IsVerdict, StopsAt}
 use Rattle.tg_audit.proofs.VerdictLemmas.{derives_more, end_verdict, stop_verdict, take_all}
 
--- what becomes of a step: it is carried out, or stops the derivation
+-- the result of a step: it is carried out, or stops the derivation
 abbrev Fate : Protection → Step → Type 0
 Fate G s = CarriesOut G s (after G s.actor s.command) ⊎ ((why : Stop) × StopsBy G s why)
 
@@ -74,7 +74,7 @@ derives_same G (s ∷ ss) H K a b =
     let D : Protection → Type 0 = λ F. Derives F ss K in
     derives_same a.0 ss H K a.2 (subst D same b.2)
 
--- where some steps are carried out, none of them stops
+-- if some steps are carried out, none of them stops
 none_stops : (G : Protection) (steps : List Step) (m n : ℕ) (K H : Protection) (s : Step) (why : Stop) → n < m → Derives G (take m steps) K → slice_get steps n ≡ Some s → Derives G (take n steps) H → StopsBy H s why → ⊥
 none_stops G [] m n K H s why lt a at b stops = none-some s at
 none_stops G (t ∷ ts) zero n K H s why lt a at b stops = omega arith
@@ -132,7 +132,7 @@ whole_stops G steps H n why derived stops =
     none_stops G steps (length steps) n H stops.reached stops.step why (slice_get_within steps n stops.step stops.at)
     (subst D (sym (take_all steps (length steps) (omega arith))) derived) stops.at stops.derived stops.why
 
--- two steps that stop are one, for one reason
+-- two steps that stop are the same, for the same reason
 stops_once : (G : Protection) (steps : List Step) (n m : ℕ) (why other : Stop) → n ≤ m → StopsAt G steps n (λ K s. StopsBy K s why) → StopsAt G steps m (λ K s. StopsBy K s other) → verdict_at n why ≡ verdict_at m other
 stops_once G steps n m why other le a b = elim (eq-or-lt_of_le le) as (λ _. verdict_at n why ≡ verdict_at m other) [
   | inl same ↦

@@ -19,7 +19,7 @@ use Rattle.tg_vault.proofs.HistoryLemmas.{turn_keeps}
 use Rattle.tg_audit.specs.Replies.{beyond, replies_of}
 use Rattle.tg_audit.proofs.FollowingLemmas.{drop_some}
 
--- what the plain graph decides, where it can, is what a history permits
+-- what the plain graph decides, if it can, is what a history permits
 decided_as_permitted : (limits : Limits) (G : Protection) (x : ℕ) (c : Command) (o p : Outcome) → Permitted limits G x c o → beyond o ≡ None → PlainlyDecided G x c p → p ≡ o
 decided_as_permitted limits G x c outcome.Allowed outcome.Allowed permitted plain decided = refl
 decided_as_permitted limits G x c outcome.Allowed (outcome.Denied rule why) permitted plain decided = absurd (none-some why (sym permitted.0 ∙ decided.1))
@@ -62,7 +62,7 @@ drop_rest [] (suc k) = refl
 drop_rest (x ∷ xs) zero = refl
 drop_rest (x ∷ xs) (suc k) = drop_rest xs k
 
--- one element more of the first ones
+-- one more of the first elements
 pub take_more : {X : Type 0} (xs : List X) (k : ℕ) (x : X) → slice_get xs k ≡ Some x → take k xs ++ x ∷ [] ≡ take (suc k) xs
 take_more [] k x at = absurd (none-some x at)
 take_more (y ∷ xs) zero x at = ap (λ z. z ∷ []) (sym (same_Some y x at))
@@ -71,7 +71,7 @@ take_more (y ∷ xs) (suc k) x at = ap (λ zs. y ∷ zs) (take_more xs k x at)
 pub take_past : {X : Type 0} (xs : List X) (k : ℕ) → length xs ≤ k → take k xs ≡ xs
 take_past xs k past = grind (arith, common_steps)
 
--- what is left of a legal history, from a graph on: each entry's outcome is permitted, and its actor is a subject
+-- what is left of a legal history, starting from a graph: each entry's outcome is permitted, and its actor is a subject
 pub record IsLeft (limits : Limits) (first G : Protection) (es : List Entry) : Type 0 where
   pub ends : Protection
   pub run : EntryRun limits G es ends

@@ -1,4 +1,4 @@
--- The progress of all seats beside the history.
+-- The progress of all seats along the history.
 use Rattle.std.proofs.Common.{◌≡◌, ◌≢◌, ℕ, zero, suc, ◌+◌, ◌<◌, ◌≤◌, List, [], ◌∷◌, length, refl, sym, ap, ◌∙◌, subst, arith, nat_eq, true, false, slice_get, Option, Some, None}
 use Rattle.std.specs.Prelude.{All}
 use Rattle.std.proofs.lemmas.Option.{get_or_from_slice_get, none-some, same_Some, slice_get_within}
@@ -89,7 +89,7 @@ followed_fresh v logs = record {
   few = λ seat below p at. (let same = fresh_start SEATS seat p at in omega (arith, ap followed same));
 }
 
--- one entry more
+-- one more entry
 pub followed_more : (v : Contents) (logs : List SeatLog) (replies : List Reply) (n : ℕ) (table : List Progress) (e : Entry) (r : Reply) (p q : Progress) →
     FollowedTo v logs replies n table → slice_get v.history n ≡ Some e → slice_get replies n ≡ Some r → e.seat < SEATS → slice_get table e.seat ≡ Some p →
     ((entries rest : List Exchange) → Follows e.seat logs entries (told e r ∷ rest) p → Follows e.seat logs entries rest q) → followed q ≤ followed p + 1 →
@@ -128,7 +128,7 @@ followed_end v logs replies n table so_far past = λ seat below p at.
 pub all_at : {X : Type 0} (P : X → Type 0) (xs : List X) (k : ℕ) (x : X) → All P xs → slice_get xs k ≡ Some x → P x
 all_at P xs k x all at = subst P (get_or_from_slice_get xs k x x at) (all k x (slice_get_within xs k x at))
 
--- no entry is of a seat above those that there are
+-- no entry is of a seat above the existing ones
 pub none_above : (seat : ℕ) (G : Protection) (es : List Entry) → SEATS ≤ seat → All (λ e. e.seat < SEATS) es → exchanges_of seat G es ≡ []
 none_above seat G [] above all = refl
 none_above seat G (e ∷ es) above all =
@@ -136,7 +136,7 @@ none_above seat G (e ∷ es) above all =
     let test : nat_eq e.seat seat ≡ false = grind (arith, nat_tests) in
     rw test (none_above seat (next_graph G e.actor e.command e.outcome) es above (All-tail (λ (x : Entry). x.seat < SEATS) e es all))
 
--- the place where no seat that there is differs
+-- the place if no existing seat differs
 pub place_above : (v : Contents) (logs : List SeatLog) (least : Option ℕ) → All (λ e. e.seat < SEATS) v.history → ((k : ℕ) → k < SEATS → Agrees v logs k) → IsLeastAbove logs least → IsPlace v logs (option_map (λ seat. (seat, 0)) least)
 place_above v logs None sat below none = λ seat. agrees seat where
   agrees : (seat : ℕ) → Agrees v logs seat

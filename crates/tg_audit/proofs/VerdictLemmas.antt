@@ -13,7 +13,7 @@ use Rattle.tg_audit.specs.declared.derivations.Stop.TheVariants as stop
 use Rattle.tg_audit.specs.Stops.{StopsBy, verdict_at}
 use Rattle.tg_audit.specs.Verdicts.{IsMet, IsVerdict}
 
--- one step more is carried out
+-- one more step is carried out
 pub derives_more : (G : Protection) (steps : List Step) (n : ℕ) (s : Step) (H K : Protection) → slice_get steps n ≡ Some s → Derives G (take n steps) H → CarriesOut H s K → Derives G (take (suc n) steps) K
 derives_more G [] n s H K at derived step = absurd (none-some s at)
 derives_more G (t ∷ steps) zero s H K at derived step =
@@ -27,13 +27,13 @@ take_all [] (suc n) past = refl
 take_all (x ∷ xs) zero past = absurd (omega arith)
 take_all (x ∷ xs) (suc n) past = ap (λ ys. x ∷ ys) (take_all xs n (omega arith))
 
--- a step that stops gives the verdict
+-- a step that stops determines the verdict
 pub stop_verdict : (G : Protection) (steps : List Step) (goal : Goal) (n : ℕ) (s : Step) (H : Protection) (why : Stop) → Derives G (take n steps) H → slice_get steps n ≡ Some s → StopsBy H s why → IsVerdict G steps goal (verdict_at n why)
 stop_verdict G steps goal n s H stop.NoSubject derived at stops = record { reached = H; step = s; derived = derived; at = at; why = stops }
 stop_verdict G steps goal n s H (stop.Denied rule cause) derived at stops = record { reached = H; step = s; derived = derived; at = at; why = stops }
 stop_verdict G steps goal n s H stop.NoSerial derived at stops = record { reached = H; step = s; derived = derived; at = at; why = stops }
 
--- the verdict on no steps, behind steps that are carried out
+-- the verdict on no steps, after steps that are carried out
 pub end_verdict : (G : Protection) (steps : List Step) (goal : Goal) (H : Protection) (v : Verdict) → Derives G steps H → IsVerdict H [] goal v → IsVerdict G steps goal v
 end_verdict G steps goal H verdict.Shared derived is = record { reached = H; derived = derived; shared = (let S : Protection → Type 0 = λ F. IsShared F goal in subst S is.derived is.shared) }
 end_verdict G steps goal H (verdict.GoalMissing rights) derived is =
