@@ -64,7 +64,7 @@ joins_label t c d i p r e a is new j =
     joins_set t c d i (p ++ record e { rights = a } ∷ r) new (owner_occupied t c i p r e j is) (owner_within t c i p r e j is)
     (within_label (length t.slots) p r e a (subst (λ (l : List Edge). Within (length t.slots) l) is (j.targets i))) j
 
--- A label is empty where the test says so.
+-- A label is empty if the test says so.
 pub none_true : (l : Letters) → is_none l ≡ true → l ≡ none
 none_true l e = tested l.read l.write l.take l.grant e where
   tested : (r w t g : Bool) → not r && not w && not t && not g ≡ true → record { read = r; write = w; take = t; grant = g } ≡ none

@@ -1,4 +1,4 @@
--- What the tricolour invariant gives, and what keeps it.
+-- What follows from the tricolour invariant, and what keeps it.
 use Rattle.std.proofs.Common.{◌≡◌, ◌≢◌, ℕ, List, Option, Some, None, ◌⊎◌, inl, inr, sym, ◌∙◌, subst, refl}
 use Rattle.tg_slots.specs.Table.{Mark, Free, Has}
 use Rattle.tg_rights.specs.Membership.{Contains}
@@ -30,7 +30,7 @@ reached_black colour out Waits Root Pending t none done placed inside _ (along i
       | Has Black ↦ λ b. b
     ] refl
 
--- A white target that was covered stays so where only the slot i turns grey.
+-- A white target that was covered stays so if only the slot i turns grey.
 covered-shade : (colour colour' : ℕ → Mark) (Waits Waits' Pending : ℕ → Type 0) (i : ℕ) (es : List Edge)
     → Shades colour colour' Waits Waits' i → Covered colour Pending es → Covered colour' Pending es
 covered-shade colour colour' Waits Waits' Pending i es s c e h w =
