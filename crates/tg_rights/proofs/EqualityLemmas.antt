@@ -1,4 +1,4 @@
--- Commands and replies compare as equal exactly where they are the same.
+-- Commands and replies compare as equal exactly if they are the same.
 use Rattle.std.proofs.Common.{◌≡◌, ℕ, List, [], ◌∷◌, Bool, true, refl, ap, subst, nat_eq, Decides, arith}
 use Rattle.std.proofs.lemmas.Bool.{and_parts, false≢true}
 use Rattle.std.proofs.lemmas.Bool.Decides.{nat_tests}
@@ -22,7 +22,7 @@ use Rattle.tg_rights.specs.contracts.outcome.ReplyPartialEq.TheImpl as replies
 same_letters : (a b : Letters) → nat_eq (number a) (number b) ≡ true → a ≡ b
 same_letters a b e = grind (arith, nat_tests)
 
--- lists are the same where a test under which elements are the same holds of them in turn
+-- lists are the same if a test under which elements are the same holds of them in turn
 same_lists : {X : Type 0} (E : X → X → Bool) → ((x y : X) → E x y ≡ true → x ≡ y) → (xs ys : List X) → pointwise E xs ys ≡ true → xs ≡ ys
 same_lists E each [] [] e = refl
 same_lists E each [] (y ∷ ys) e = absurd (false≢true e)
