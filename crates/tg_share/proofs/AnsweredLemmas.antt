@@ -1,4 +1,4 @@
--- An event under a hold of the lock, answered.
+-- An event under a hold of the lock, and its answer.
 use Rattle.std.proofs.Common.{◌≡◌, Result, Ok, Err, MatchResult, length, subst}
 use Rattle.tg_rights.specs.declared.outcome.Reply.{Reply}
 use Rattle.tg_vault.specs.declared.event.Event.{Event}
@@ -16,6 +16,6 @@ pub answered_by : {A F : Type 0} (result : Result A F) (told : A → Answer) (re
 answered_by (Ok x) told refused v u w e same step = answered_on v u w e (told x) same step
 answered_by (Err f) told refused v u w e same step = answered_on v u w e (refused f) same step
 
--- the same of a command that was entered, which is told its number too
+-- the same for a command that was entered, whose answer has its number too
 pub answered_entry : (v u w : Contents) (e : Event) (reply : Reply) → u ≡ v → VaultStep u e (answer.Asked (length u.history) reply) w → IsAnswered v e (answer.Asked (length v.history) reply)
 answered_entry v u w e reply same step = record { after = w; step = subst (λ x. VaultStep x e (answer.Asked (length x.history) reply) w) same step }
