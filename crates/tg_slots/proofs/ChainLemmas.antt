@@ -26,7 +26,7 @@ chain_set end links i x head (j ∷ l) n c =
     let same : get_or (set links i x) j end ≡ get_or links j end = get_or-set_other links i j x end other in
     (c.0, c.1, subst (λ (o : ℕ). Chain end (set links i x) o l) (sym same) (chain_set end links i x (get_or links j end) l (λ h. n (inr h)) c.2))
 
--- A slot outside the chain goes in front.
+-- A slot outside the chain is put in front.
 pub chain_push : (end : ℕ) (links : List ℕ) (i head : ℕ) (l : List ℕ) → i < length links → i < end → (Contains l i → ⊥) → Chain end links head l → Chain end (set links i head) i (i ∷ l)
 chain_push end links i head l w b n c =
     (refl, b, subst (λ (o : ℕ). Chain end (set links i head) o l) (sym (get_or-set_same links i head end w)) (chain_set end links i head head l n c))
@@ -42,7 +42,7 @@ chain_first end links i [] w c = absurd (let is : i ≡ end = c in omega arith)
 chain_first end links i (j ∷ l) w c =
     record { rest = l; is = ap (λ (k : ℕ). k ∷ l) (sym c.0); chain = subst (λ (k : ℕ). Chain end links (get_or links k end) l) (sym c.0) c.2 }
 
--- Where each link leads to the next slot, a chain goes up to the end.
+-- If each link leads to the next slot, a chain goes up to the end.
 pub chain_up : (end : ℕ) (links : List ℕ) (i n : ℕ) → i + n ≡ end → ((j : ℕ) → j < end → get_or links j end ≡ suc j) → Chain end links i (indices i n)
 chain_up end links i zero e up = omega (arith, e)
 chain_up end links i (suc n) e up =

@@ -59,7 +59,7 @@ indices_get_or i zero j d w = absurd (omega arith)
 indices_get_or i (suc n) zero d w = omega arith
 indices_get_or i (suc n) (suc j) d w = let rest = indices_get_or (suc i) n j d (omega arith) in omega (arith, rest)
 
--- Slots that nobody used are free, and lead to the next ones.
+-- Slots that were never used are free, and lead to the next ones.
 pub unused_length : (i n : ℕ) → length (unused i n) ≡ n
 unused_length i zero = refl
 unused_length i (suc n) = let r = unused_length (suc i) n in omega (arith, r)

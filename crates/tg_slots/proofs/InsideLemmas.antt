@@ -25,7 +25,7 @@ grey_fits t s =
     let some = grey_at_most t.grey t.slots s.grey_once (λ j h. (s.listed_grey j h).1) in
     omega (arith, most, some)
 
--- These fields, with so many slots, show the table t: its lists are the chains from both heads.
+-- These fields, with this many slots, show the table t: its lists are the chains from both heads.
 pub record Shows (end : ℕ) (s : Inside) (t : Table) : Type 0 where
   pub size : length (all s) ≡ end
   pub slots : occupants (all s) ≡ t.slots

@@ -1,4 +1,4 @@
--- What each call makes of linked slots: the invariant holds of them, and the table that they show is the one promised.
+-- What each call does to linked slots: the invariant holds of them, and the table that they show is the one promised.
 use Rattle.std.proofs.Common.{◌≡◌, ◌≢◌, ℕ, zero, suc, ◌+◌, ◌-◌, ◌<◌, ◌≤◌, List, [], ◌∷◌, ◌++◌, length, Option, Some, None, ◌⊎◌, inl, inr, sym, ◌∙◌, subst, ap, refl, set, get_or, arith, length-set, length-append, eqb, ltb, true, false, eq-eqb, Global, vec_capacity}
 use Rattle.std.proofs.lemmas.Bool.{cases_eq, cases_lt, ne_eqb, lt-ltb, le-ltb}
 use Rattle.std.proofs.Math.Seq.{map-set_same}
@@ -184,7 +184,7 @@ none_grey s k past = none (table s).grey k.grey_ends (λ j h. entry_within s j G
   none [] chain used = refl
   none (j ∷ l) chain used = absurd (let first : s.grey ≡ j = chain.0 in let within = used j (inl refl) in omega arith)
 
--- No slot is free where the head of the free list is past the slots that were used, and isn't the next one.
+-- No slot is free if the head of the free list is past the slots that were used, and is not the next one.
 none_free : (s : Inside) → IsInside s → length s.entries.items ≤ s.free → (s.free ≡ length s.entries.items → s.size ≤ s.free) → (table s).free ≡ []
 none_free s k past last = none (table s).free k.free_ends k.behind.before k.behind.is k.behind.within where
   unlike : (n : ℕ) (l : List ℕ) → s.size - length s.entries.items ≡ n → s.free ∷ l ≡ indices (length s.entries.items) n → ⊥
@@ -289,7 +289,7 @@ takes s v old o k used read pale ev room =
       slots = ap (λ (t : Table). t.slots) a.shows;
     }
 
--- Slots of which none was used so far.
+-- Slots that were never used so far.
 pub leaves-new : (s : Inside) → s.entries.items ≡ [] → s.free ≡ 0 → s.grey ≡ s.size → s.free_count ≡ s.size → s.size ≤ 65536 → s.size ≤ vec_capacity s.entries → Leaves s (fresh s.size)
 leaves-new s none free grey count most room =
     let less : s.size - 0 ≡ s.size = omega arith in

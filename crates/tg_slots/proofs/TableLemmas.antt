@@ -29,7 +29,7 @@ mark_here xs i x h = ap mark_of (get_or-set_same xs i x None h)
 pub mark_there : (xs : List (Option Occupant)) (i j : ℕ) (x : Option Occupant) → j ≢ i → mark_of (get_or (set xs i x) j None) ≡ mark_of (get_or xs j None)
 mark_there xs i j x h = ap mark_of (get_or-set_other xs i j x None h)
 
--- What each slot adds at most one to is at most the number of slots.
+-- The sum of what each slot adds is at most the number of slots, if each adds at most one.
 pub at_most_length : (f : Option Occupant → ℕ) → ((o : Option Occupant) → f o ≤ 1) → (xs : List (Option Occupant)) → sum_by f xs ≤ length xs
 at_most_length f one [] = omega arith
 at_most_length f one (x ∷ xs) = rw sum_by-cons (let rest = at_most_length f one xs in let here = one x in omega (arith, rest, here))

@@ -1,4 +1,4 @@
--- The slots that were used so far, and behind them those that were not.
+-- The slots that were used so far, followed by those that were not.
 use Rattle.std.proofs.Common.{◌≡◌, ℕ, zero, suc, ◌+◌, ◌-◌, ◌<◌, ◌≤◌, List, [], ◌∷◌, ◌++◌, length, None, inl, inr, sym, ◌∙◌, ap, refl, set, get_or, arith, length-set, length-append, append_assoc, Global}
 use Rattle.std.proofs.lemmas.List.{set-append_left, get_or_append_left}
 use Rattle.std.specs.declared.vec.Vec.{Vec}
@@ -58,7 +58,7 @@ behind_taken used size x free rest k e w = taken k.before (sym e ∙ k.is) k.wit
   taken [] is within = absurd (unlike (size - used) is)
   taken (b ∷ bs) is within = record { before = bs; is = cc; within = λ i h. within i (inr h) }
 
--- The next slot is put behind those that were used: all slots stay as they are.
+-- The next slot is appended to those that were used: all slots stay as they are.
 pub filled_more : (es : List Linked) (size : ℕ) → length es < size → filled (es ++ record { occupant = None; link = length es + 1 } ∷ []) size ≡ filled es size
 filled_more es size w =
     let more : Linked = record { occupant = None; link = length es + 1 } in
