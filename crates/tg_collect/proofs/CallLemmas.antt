@@ -121,7 +121,7 @@ edge_shown m id y f ok w at =
       λ next. label_edge m id y next f.edge ok w at owned f.here,
     )
 
--- An edge that shows is found, with the rights of its label.
+-- An edge that is visible is found, with the rights of its label.
 pub found_edge : (m : Machine) (id y : ℕ) (rights : Letters) → IsHeap m.heap → Whole m → is_some (place (stored m) id) ≡ true → IsEdgeIn (stored m) (serial_at (stored m) id) y
     → includes (label (held (stored m) 0) (serial_at (stored m) id) y) rights ≡ true → (f : Found (edges m.heap id) y) × (includes f.edge.rights rights ≡ true)
 found_edge m id y rights ok w at t i =
@@ -163,7 +163,7 @@ no_principal m x d none h = go m.principals.items none h where
   go (r ∷ rs) n (inl e) = n 0 (omega arith) (sym e)
   go (r ∷ rs) n (inr h) = go rs (λ k b. n (suc k) (omega (arith, b))) h
 
--- After a vertex has come in, the other slots show what they showed.
+-- After a vertex was added, the other slots show what they showed.
 pub still_placed : (v w : Stored) (serial : ℕ) (kind : Kind) (text : List ℕ) (i id : ℕ) → VertexPlaced v w serial kind text i → id ≢ i → place w id ≡ place v id
 still_placed v w serial kind text i id a n = ap (λ (z : Stored). place z id) a.is ∙ get_or-set_other v.places i id (Some serial) None n
 
@@ -189,7 +189,7 @@ vertex_call m n k seat id serial kind text rights i ok w at unheld a b =
     vertex_stored (stored m) (stored n) (stored k) seat (serial_at (stored m) id) serial kind text rights i a
     (subst (λ (x : ℕ). EdgeStored (stored n) (stored k) seat x serial rights) same b) (no_edge_to m (serial_at (stored m) id) serial ok w unheld)
 
--- What follows where a call is Ok.
+-- What follows if a call is Ok.
 pub on_ok : {T E : Type 0} (r : Result T E) (P Q : Type 0) → (P → Q) → OnOk r P → OnOk r Q
 on_ok (Ok t) P Q f h = f h
 on_ok (Err e) P Q f h = h

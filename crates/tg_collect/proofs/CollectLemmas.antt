@@ -43,7 +43,7 @@ use Rattle.tg_collect.proofs.LeftLemmas.{line_left}
 use Rattle.tg_collect.proofs.NameLines.{line_names, named_back, named_forth, one_name, names_slim}
 use Rattle.tg_collect.proofs.ColourLines.{line_grey, line_black, line_black_stays, line_greys_stay}
 
--- Where each value found in one is found in the other, they find the same.
+-- If each value found in one is found in the other, they find the same.
 pub same_found : {X : Type 0} (a b : Option X) → ((w : X) → a ≡ Some w → b ≡ Some w) → ((w : X) → b ≡ Some w → a ≡ Some w) → a ≡ b
 same_found None None f g = refl
 same_found None (Some w) f g = g w refl
@@ -108,7 +108,7 @@ live_slot m kept n _ (edge_lives x y l e) =
     let owned : Contains (edges m.heap here.0) s.edge = subst (λ (k : ℕ). Contains (edges m.heap k) s.edge) at s.owned in
     (s.edge.target, subst (IsNamed m.heap s.edge.target) (sym s.to) (n.edge here.0 s.edge here.3 owned), along here.0 s.edge here.2 owned, kept.closed here.0 s.edge here.3 owned)
 
--- A grey slot that isn't parked shows an edge.
+-- A grey slot is held: it is never parked.
 pub held_of_mark : (h : HeapGraph) (p : Progress) (i : ℕ) → mark_at h i ≡ Has Grey → HeldAt h p i
 held_of_mark h p i g = ((λ f. let u : Free ≡ Has Grey = sym f ∙ g in cc), by p) where
   by : (q : Progress) → ParkedAt q h i → ⊥
@@ -122,7 +122,7 @@ occupant_of h i c e = by (slot h.table i) refl where
   by None f = absurd (let u : Free ≡ Has c = sym (ap mark_of f) ∙ e in cc)
   by (Some o) f = (o, f)
 
--- An edge of a held slot shows as an edge.
+-- An edge of a held slot is visible as an edge.
 pub shows_edge : (m : Machine) → Names m.heap m.progress (IsRootOf m) → (i : ℕ) (e : Edge) → IsHeld m i → Contains (edges m.heap i) e → (r : Right) → has e.rights r ≡ true
     → (o : Occupant) → slot m.heap.table i ≡ Some o → IsEdgeIn (stored m) o.serial e.serial
 shows_edge m n i e held owned r y o is = (
@@ -254,7 +254,7 @@ line_starts_sweep P U h _ _ _ _ _ (finishes at l) a b = absurd (cc)
 same_steps : (m n : Machine) (h : HeapGraph) (q : Progress) → n.heap ≡ h → n.progress ≡ q → n.principals ≡ m.principals → n.pending ≡ m.pending → n ≡ record m { heap = h; progress = q }
 same_steps m n h q a b c d = rw (sym a, sym b, sym c, sym d) refl
 
--- Slots are freed in the sweep alone.
+-- Slots are freed only in the sweep.
 line_freed : (P : List Root) (U : List (Option Root)) (h h' : HeapGraph) (p q : Progress) (c : ℕ) (e : Bool) → Line P U h p h' q c e → (phase_of p ≡ phase.Sweep) ⊎ (c ≡ 0)
 line_freed P U h _ _ _ _ _ (starts few) = inr refl
 line_freed P U h _ _ _ _ _ (scans i cursor y e x w at) = inr refl

@@ -21,7 +21,7 @@ use Rattle.tg_collect.specs.StoreRuns.{seen, Acted, StoreRun, IsComplete, IsBoun
 use Rattle.tg_collect.proofs.PathLemmas.{live_in, in_live}
 use Rattle.tg_collect.proofs.RunLemmas.{complete, steps_bounded}
 
--- A step stays with what is held, or goes into the sweep.
+-- A step leaves what is held, or is the one into the sweep.
 stays_or : (p q : Phase) (e : Bool) → runs.Follows p q e → Stays p q ⊎ ((p ≡ phase.Mark) × (q ≡ phase.Sweep))
 stays_or phase.Idle q e f = inl tt
 stays_or phase.Mark phase.Idle e f = inl tt

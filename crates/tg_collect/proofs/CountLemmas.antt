@@ -69,7 +69,7 @@ other_once : (b : Bool) (x : ℕ) → Distinct (cond b (x ∷ []) [])
 other_once true x = (λ h. h, tt)
 other_once false x = tt
 
--- What a slot gives names it.
+-- What a slot contributes names it.
 serial_named : (h : HeapGraph) (p : Progress) (k : ℕ) (v : Option Occupant) (x : ℕ) → slot h.table k ≡ v → Contains (by_place [] serial_entry p h.lists k v) x → IsNamed h k x × HeldAt h p k
 serial_named h p k None x e m = absurd m
 serial_named h p k (Some o) x e m = by (is_parked p k (Has o.colour)) refl m where
@@ -151,7 +151,7 @@ slots_counted m ok w next =
     let size = length-map m.heap.table.slots mark_of in
     omega (arith, all, free, vertices, parked, size)
 
--- Sums over what slots give.
+-- Sums over what slots contribute.
 sum_gather : (g : ℕ → ℕ) (f : ℕ → Option Occupant → List ℕ) (i : ℕ) (os : List (Option Occupant)) → sum_by g (gather f i os) ≡ total (λ k v. sum_by g (f k v)) i os
 sum_gather g f i [] = refl
 sum_gather g f i (o ∷ os) = let a = sum_by-append g (f i o) (gather f (suc i) os) in let b = sum_gather g f (suc i) os in omega (arith, a, b)
@@ -252,7 +252,7 @@ free_dark h Idle k f c = c
 free_dark h (Marking s) k f c = c
 free_dark h (Sweeping n) k f c = let w = c.1 in let u : Free ≡ Has White = sym f ∙ w in cc
 
--- Where nothing is parked, no cell is a parked vertex's.
+-- If nothing is parked, no cell is a parked vertex's.
 pub none_parked : (m : Machine) → ((x : ℕ) → InSet (stored m).parked x → ⊥) → total (parked_cells_at m.progress m.heap.lists) 0 m.heap.table.slots ≡ 0
 none_parked m none =
     let zeros = total_most (parked_cells_at m.progress m.heap.lists) (λ k v. 0) m.heap.table.slots m.heap.table.slots refl (λ k b. each k (slot m.heap.table k) refl) in

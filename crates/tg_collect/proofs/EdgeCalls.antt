@@ -53,7 +53,7 @@ whole_changed m id l n q u w within far old seats targets kept = record {
   ]) (names_far m.heap m.progress q (IsRootOf m) far w.names);
 }
 
--- What contracts see of it, but for the triples, the targets, the free cells and what is left.
+-- What contracts see of it, except the triples, the targets, the free cells and what is left.
 pub shown_changed : (m : Machine) (id : ℕ) (l : List Edge) (n : ℕ) (q : Progress) (u : Vec (Option Root) Global) (S : _) (us : List (Option ℕ)) → AsFar m.progress q
     → triples_of q (relisted m.heap (set m.heap.lists id l) n) ≡ S → targets_of u.items ≡ us
     → stored (changed m id l n q u) ≡ record (stored m) { triples = S; pending = us; free_cells = n; left = (stored (changed m id l n q u)).left }
@@ -96,7 +96,7 @@ roots_after m u seat q e named j x h = elim (set_only m.pending.items seat q (re
   | inr new ↦ inr (subst (λ (r : Root). IsNamed m.heap r.slot r.serial) (sym new) named)
 ]
 
--- An edge of a held slot's list shows, and one that shows is in the list.
+-- An edge of a held slot's list is visible, and a visible one is in the list.
 pub list_edge : (m : Machine) (id : ℕ) (o : Occupant) (e : Edge) → IsHeap m.heap → IsHeld m id → slot m.heap.table id ≡ Some o → Contains (edges m.heap id) e → IsEdgeIn (stored m) o.serial e.serial
 list_edge m id o e ok held is owned =
     let r = some_right e.rights (ok.cells.labelled id e owned) in
@@ -186,7 +186,7 @@ after_adds m n seat id q rights t ok ok' w kept oi is held named apart some a = 
       omega (arith, k))
       (λ i. absurd (let f = edge_listed m id q.serial oi w is i in new.1 f.0 f.1 (f.2 ∙ sym serial))) (λ no. new.6)
 
--- Where no cell is free and the edge is new, it shows as none.
+-- If no cell is free and the edge is new, it is not visible.
 pub not_edge : (m : Machine) (id y : ℕ) (o : Occupant) → Whole m → slot m.heap.table id ≡ Some o → HasNone (edges m.heap id) y → IsEdgeIn (stored m) o.serial y → ⊥
 not_edge m id y o w is n t = let f = edge_listed m id y o w is t in n f.0 f.1 f.2
 

@@ -64,7 +64,7 @@ names_far h p q R f k = record {
   no_loop = λ i e g o. k.no_loop i e (far_held h p q i f g) o;
 }
 
--- Lists are not looked at for whether a slot is held.
+-- Whether a slot is held does not depend on the lists.
 pub held_relisted : (h : HeapGraph) (ls : List (List Edge)) (n : ℕ) (q : Progress) (j : ℕ) → HeldAt h q j → HeldAt (relisted h ls n) q j
 held_relisted h ls n Idle j g = g
 held_relisted h ls n (Marking s) j g = g
@@ -75,7 +75,7 @@ relisted_held h ls n Idle j g = g
 relisted_held h ls n (Marking s) j g = g
 relisted_held h ls n (Sweeping k) j g = g
 
--- What a slot gives without its list stays.
+-- What a slot contributes without its list stays.
 listless : {X : Type 0} (n : List X) (f : List (List Edge) → Bool → ℕ → Occupant → List X) → ((ls ls' : List (List Edge)) (b : Bool) (i : ℕ) (o : Occupant) → f ls b i o ≡ f ls' b i o)
     → (p q : Progress) (ls ls' : List (List Edge)) (os : List (Option Occupant)) → AsFar p q → gather (by_place n f q ls') 0 os ≡ gather (by_place n f p ls) 0 os
 listless n f same p q ls ls' os far = gather_same (by_place n f q ls') (by_place n f p ls) os os refl (λ k b. by k (get_or os k None)) where

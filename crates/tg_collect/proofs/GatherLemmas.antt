@@ -7,7 +7,7 @@ use Rattle.tg_rights.proofs.MembershipLemmas.{contains_append, contains_left, co
 use Rattle.tg_slots.specs.declared.slots.Occupant.{Occupant}
 use Rattle.tg_collect.specs.Stored.{gather, total}
 
--- Where each slot gives the same, the lists are the same.
+-- If each slot contributes the same, the lists are the same.
 from_same : {X : Type 0} (f g : ℕ → Option Occupant → List X) (i : ℕ) (os ps : List (Option Occupant)) → length os ≡ length ps
     → ((k : ℕ) → k < length os → f (i + k) (get_or os k None) ≡ g (i + k) (get_or ps k None)) → gather f i os ≡ gather g i ps
 from_same f g i [] [] l e = refl
@@ -25,7 +25,7 @@ pub gather_same : {X : Type 0} (f g : ℕ → Option Occupant → List X) (os ps
     → ((k : ℕ) → k < length os → f k (get_or os k None) ≡ g k (get_or ps k None)) → gather f 0 os ≡ gather g 0 ps
 gather_same f g os ps l e = from_same f g 0 os ps l (λ k h. let stay : k ≡ 0 + k = omega arith in subst (λ (n : ℕ). f n (get_or os k None) ≡ g n (get_or ps k None)) stay (e k h))
 
--- One slot is set to a value that gives the same, the others give the same.
+-- One slot is set to a value that contributes the same, and so do the others.
 pub gather_set : {X : Type 0} (f g : ℕ → Option Occupant → List X) (os : List (Option Occupant)) (k : ℕ) (v : Option Occupant)
     → f k v ≡ g k (get_or os k None) → ((j : ℕ) → j < length os → j ≢ k → f j (get_or os j None) ≡ g j (get_or os j None)) → gather f 0 (set os k v) ≡ gather g 0 os
 gather_set f g os k v here there = gather_same f g (set os k v) os (length-set os k v) (λ j h.
@@ -72,7 +72,7 @@ pub contains_gather : {X : Type 0} (f : ℕ → Option Occupant → List X) (os 
     → Contains (f k (get_or os k None)) x → Contains (gather f 0 os) x
 contains_gather f os x k b h = let stay : k ≡ 0 + k = omega arith in contains_from f 0 os x k b (subst (λ (n : ℕ). Contains (f n (get_or os k None)) x) stay h)
 
--- Where no slot counts more, the sum is no more.
+-- If no slot counts more, the sum is no more.
 from_most : (f g : ℕ → Option Occupant → ℕ) (i : ℕ) (os ps : List (Option Occupant)) → length os ≡ length ps
     → ((k : ℕ) → k < length os → f (i + k) (get_or os k None) ≤ g (i + k) (get_or ps k None)) → total f i os ≤ total g i ps
 from_most f g i [] ps l e = omega arith
@@ -89,7 +89,7 @@ pub total_most : (f g : ℕ → Option Occupant → ℕ) (os ps : List (Option O
     → ((k : ℕ) → k < length os → f k (get_or os k None) ≤ g k (get_or ps k None)) → total f 0 os ≤ total g 0 ps
 total_most f g os ps l e = from_most f g 0 os ps l (λ k h. let stay : k ≡ 0 + k = omega arith in subst (λ (n : ℕ). f n (get_or os k None) ≤ g n (get_or ps k None)) stay (e k h))
 
--- Where one slot counts less besides, the sum is less.
+-- If, besides, one slot counts less, the sum is less.
 from_less : (f g : ℕ → Option Occupant → ℕ) (i : ℕ) (os ps : List (Option Occupant)) (j : ℕ) → length os ≡ length ps → j < length os
     → f (i + j) (get_or os j None) < g (i + j) (get_or ps j None)
     → ((k : ℕ) → k < length os → f (i + k) (get_or os k None) ≤ g (i + k) (get_or ps k None)) → total f i os < total g i ps

@@ -64,7 +64,7 @@ fewer_than n i l h d below out =
     let sum = ones_sum n in
     omega (arith, all, sum)
 
--- A slot that isn't under scan weighs the same whatever the scan.
+-- A slot that is not under scan weighs the same whatever the scan.
 pub unscanned : (size i : ℕ) (s : Scan) (m : Mark) (es : List Edge) → i ≢ s.slot → slot_weight size (Some s) i m es ≡ slot_weight size None i m es
 unscanned size i s Free es n = refl
 unscanned size i s (Has White) es n = refl
@@ -239,7 +239,7 @@ left_starts_sweep h ok =
     let all = listed (parked_cells_at (Sweeping 0) h.lists) h.lists 0 h.table.slots (λ k o. parked_some (Sweeping 0) h.lists k o) in
     omega (arith, all, whole)
 
--- The sweep: the index moves on and the parked slots keep their cells, or the index stays and a cell goes.
+-- The sweep: the index moves on and the parked slots keep their cells, or the index stays and a cell is freed.
 next_cells : (at j : ℕ) (ls : List (List Edge)) (v : Option Occupant) → j ≢ at → parked_cells_at (Sweeping (at + 1)) ls j v ≡ parked_cells_at (Sweeping at) ls j v
 next_cells at j ls v n = ap (λ (b : Bool). cond b (length (get_or ls j [])) 0) (parked_next at j (mark_of v) n)
 
@@ -325,7 +325,7 @@ line_left P U h _ _ _ _ (whitens at l m) ok slim kept = left_moves h (record h {
 line_left P U h _ _ _ _ (strips at e r l m w) ok slim kept = left_strips h at e r l m w ok.owners
 line_left P U h _ _ _ _ (frees at l m w) ok slim kept = left_moves h (without_slot h at) at l (length-set h.table.slots at None) refl (λ j n. get_or-set_other h.table.slots at j None None n)
 
--- What is left is at least 1 and at most a whole cycle's.
+-- What is left is at least 1, and what a slot weighs is bounded.
 pub left_some : (p : Progress) (h : HeapGraph) → 1 ≤ left_of p h
 left_some Idle h = omega arith
 left_some (Marking s) h = omega arith
@@ -351,7 +351,7 @@ weight_most size i (Some s) m es b = elim (cases_eq i s.slot) [
   grey (Has Black) is = omega arith
   grey (Has Grey) is = (let e = scanned_weight size i s (Has Grey) es is refl in let r = shorter s.cursor es in omega (arith, e, r, b))
 
--- Each slot's list is no longer than the number of slots; what a slot has that is free is nothing.
+-- What is left is at most a whole cycle's, if each grey slot's list is no longer than the number of slots.
 pub left_most : (p : Progress) (h : HeapGraph) → IsHeap h → ((i : ℕ) → length (get_or h.lists i []) ≤ length h.table.slots ⊎ (mark_at h i ≢ Has Grey)) → left_of p h ≤ cycle_bound (length h.table.slots) h.cell_count
 left_most Idle h ok few = omega arith
 left_most (Marking s) h ok few =
@@ -375,7 +375,7 @@ left_most (Sweeping k) h ok few =
     let all = listed (parked_cells_at (Sweeping k) h.lists) h.lists 0 h.table.slots (λ j o. parked_some (Sweeping k) h.lists j o) in
     omega (arith, all, whole)
 
--- Shading by a session: a slot that isn't parked.
+-- Shading by a session: a slot that is not parked.
 pub left_shade : (p : Progress) (h : HeapGraph) (i : ℕ) → i < length h.table.slots → (ParkedAt p h i → ⊥)
     → ((s : Scan) → p ≡ Marking (Some s) → mark_at h s.slot ≡ Has Grey) → left_of p (record h { table = shaded h.table i }) ≤ left_of p h
 left_shade Idle h i w n g = let same = shaded_length h.table i in rw same (omega arith)

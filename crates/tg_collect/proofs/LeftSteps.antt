@@ -1,4 +1,4 @@
--- What is left of a cycle does not rise where a slot's list changes.
+-- What is left of a cycle does not rise when a slot's list changes.
 use Rattle.std.proofs.Common.{◌≡◌, ◌≢◌, ℕ, ◌+◌, ◌<◌, ◌≤◌, List, [], ◌∷◌, ◌++◌, length, Option, Some, None, inl, inr, sym, ◌∙◌, subst, ap, refl, arith, set, get_or, get_or-set_same, get_or-set_other, Bool, true, false, cond, eqb, eqb-true, eq-eqb, ◌&&◌}
 use Rattle.std.proofs.lemmas.Bool.{cases_eq}
 use Rattle.tg_rights.specs.Membership.{Contains, Distinct}
@@ -120,7 +120,7 @@ remaining_less (Some c) (y ∷ p) r x n = by (eqb y.cell c) (remaining_less (Som
   by true h k = omega (arith, k)
   by false h k = h
 
--- A cell goes, and a cursor at it moves on.
+-- A cell is freed, and a cursor at it moves on.
 pub left_dropped : (p : Progress) (h : HeapGraph) (i c n : ℕ) (before after : List Edge) (x : Edge) → i < length h.lists → HeldAt h p i → edges h i ≡ before ++ x ∷ after → x.cell ≡ c
     → Distinct (cells (edges h i)) → Distinct (cells (before ++ after)) → left_of (progress_without p i c (first_cell after)) (relisted h (set h.lists i (before ++ after)) n) ≤ left_of p h
 left_dropped Idle h i c n before after x within held was at once once' = left_relisted Idle h i n (before ++ after) within held (λ s e. absurd (cc))

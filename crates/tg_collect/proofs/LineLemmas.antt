@@ -49,7 +49,8 @@ line_phases P U h _ _ _ _ _ (strips at e r l m w) = tt
 line_phases P U h _ _ _ _ _ (frees at l m w) = tt
 line_phases P U h _ _ _ _ _ (finishes at l) = tt
 
--- Lists by place stay where no slot changes its place: on each line but the one that starts the sweep, and where a free slot gives what a parked one gives.
+-- Lists by place stay if no slot changes its place: on each line but the one that starts the sweep, and provided a free
+-- slot contributes what a parked one does.
 abbrev pub Stays : Progress → Progress → Type 0
 Stays p q = views.Stays (phase_of p) (phase_of q)
 
@@ -100,7 +101,7 @@ line_place n f laws P U h _ _ _ _ _ (frees at l m w) y (inr none_given) = gather
 line_place n f laws P U h _ _ _ _ _ (finishes at l) y z = gather_same _ _ h.table.slots h.table.slots refl
     (λ j b. moved n f Idle (Sweeping at) h.lists j (get_or h.table.slots j None) (sym (parked_passed at j (mark_at h j) (omega (arith, b, l)))))
 
--- Only the line that parks changes what is held, and where.
+-- Only the line that parks changes what is held, and in which slots.
 pub line_vertices : (P : List Root) (U : List (Option Root)) (h h' : HeapGraph) (p q : Progress) (c : ℕ) (e : Bool) → Line P U h p h' q c e → Stays p q → vertices_of q h' ≡ vertices_of p h
 line_vertices P U h h' p q c e l y = ap (λ (es : List (ℕ × Vertex)). finmap.from_entries {R = nat_cmp} es) (line_place [] vertex_entry vertex_by_place P U h h' p q c e l y (inr (λ ls i o. refl)))
 
@@ -110,7 +111,7 @@ line_triples P U h h' p q c e l y = ap (λ (es : List Triple). finset.from_list 
 pub line_places : (P : List Root) (U : List (Option Root)) (h h' : HeapGraph) (p q : Progress) (c : ℕ) (e : Bool) → Line P U h p h' q c e → Stays p q → places_of q h' ≡ places_of p h
 line_places P U h h' p q c e l y = line_place (None ∷ []) place_entry place_by_place P U h h' p q c e l y (inr (λ ls i o. refl))
 
--- What is parked stays where no slot is freed.
+-- What is parked stays if no slot is freed.
 pub line_parked : (P : List Root) (U : List (Option Root)) (h h' : HeapGraph) (p q : Progress) (e : Bool) → Line P U h p h' q 0 e → Stays p q → parked_of q h' ≡ parked_of p h
 line_parked P U h h' p q e l y = ap (λ (es : List ℕ). finset.from_list {R = nat_cmp} es) (line_place [] parked_entry parked_by_place P U h h' p q 0 e l y (inl refl))
 

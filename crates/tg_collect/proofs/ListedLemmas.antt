@@ -90,7 +90,7 @@ once_keyed (e ∷ es) f = (
 pub keys_permuted : (xs ys : Pairs) → IsPermutation xs ys → Distinct (map (λ (e : ℕ × Letters). e.0) xs) → Distinct (map (λ (e : ℕ × Letters). e.0) ys)
 keys_permuted xs ys p d = once_keyed ys (λ y. let s = sum_by-IsPermutation (keyed y) xs ys p in let o = keyed_once xs y d in omega (arith, s, o))
 
--- A list whose keys don't fall and occur once is in order.
+-- A list whose keys do not fall and occur once is in order.
 both : (a b : Bool) → T a → T b → T (a && b)
 both true b p q = q
 both false b p q = p
@@ -110,7 +110,7 @@ in_order (e ∷ es) f d = both _ _
     (below_rest e.0 es (λ k b. f 0 (suc k) (0, record { read = false; write = false; take = false; grant = false }) (omega arith) (omega (arith, b))) d.0)
     (in_order es (λ i j v a b. f (suc i) (suc j) v (omega (arith, a)) (omega (arith, b))) d.1)
 
--- Where keys occur once, a pair of the list is what is found.
+-- If keys occur once, a pair of the list is what is found.
 contains_find : (es : Pairs) (q : ℕ) (w : Letters) → Distinct (map (λ (e : ℕ × Letters). e.0) es) → Contains {X = ℕ × Letters} es (q, w) → find nat_cmp q es ≡ Some w
 contains_find [] q w d h = absurd h
 contains_find ((k, v) ∷ es) q w d (inl is) =
@@ -177,7 +177,7 @@ permuted xs ys x p h = from (Contains-permutation xs ys x p (to h)) where
   from : IsElement ys x → Contains ys x
   from c = index_contains ys x x c.0 c.1 c.2
 
--- Two lists in order with the same pairs are one.
+-- Two lists in order with the same pairs are equal.
 same_order : (xs ys : Pairs) → T (finmap.is_sorted nat_cmp xs) → T (finmap.is_sorted nat_cmp ys) → ((q : ℕ) → find nat_cmp q xs ≡ find nat_cmp q ys) → xs ≡ ys
 same_order xs ys s t f =
     sym (entries-from_sorted nat_cmp xs s)

@@ -195,7 +195,7 @@ parked_to m p i e c = subst (λ (q : Progress). ParkedAt q m.heap i) e c
 parked_from : (m : Machine) (p : Progress) (i : ℕ) → m.progress ≡ p → ParkedAt p m.heap i → ParkedAt m.progress m.heap i
 parked_from m p i e c = subst (λ (q : Progress). ParkedAt q m.heap i) (sym e) c
 
--- One slot changes its place in the sweep: what was held stays, and nothing else comes in.
+-- One slot changes its place in the sweep: what was held stays, and nothing else is added.
 pub record Sweeps (h h' : HeapGraph) (at : ℕ) : Type 0 where
   pub others : (j : ℕ) → j ≢ at → mark_at h' j ≡ mark_at h j
   pub lists : h'.lists ≡ h.lists
@@ -203,7 +203,7 @@ pub record Sweeps (h h' : HeapGraph) (at : ℕ) : Type 0 where
   pub not_grey : mark_at h' at ≢ Has Grey
   pub not_black : mark_at h' at ≢ Has Black
 
--- A held slot is held after the step, the slot swept being so in both or in neither.
+-- Held slots stay held, if the slot swept is held after the step exactly when it was before.
 pub kept-sweep : (m : Machine) (h' : HeapGraph) (at : ℕ) → m.progress ≡ Sweeping at → Sweeps m.heap h' at
     → (IsHeld m at → mark_at h' at ≢ Free) → (mark_at h' at ≢ Free → IsHeld m at)
     → Invariant m → Invariant (record m { heap = h'; progress = Sweeping (at + 1) })
@@ -330,7 +330,8 @@ phase-shade h (Marking s) Root Root' Unf Unf' i w n old fewer less =
     (λ j u. elim (less j u) [ inl is ↦ inl is | inr here ↦ inr (λ b. change.done (subst (λ (q : ℕ). mark (shaded h.table i) q ≡ Has White) here b)) ]) fewer
     (tricolour-shade (mark h.table) (mark (shaded h.table i)) (edges h) (Contains h.table.grey) (Contains (shaded h.table i).grey) Root Unf (scan_of s) i change old)
 
--- One more slot is shaded, in any phase; roots do not come in, and a target is no longer pending only where it is that slot.
+-- One more slot is shaded, in any phase; there are no new roots, and a target is no longer pending only if it is that
+-- slot.
 pub sound-shade : (h : HeapGraph) (p : Progress) (Root Root' Unf Unf' : ℕ → Type 0) (i : ℕ) → i < length h.table.slots → HeldAt h p i → Sound h p Root Unf
     → ((j : ℕ) → Root' j → Root j) → ((j : ℕ) → Unf j → Unf' j ⊎ (j ≡ i)) → Sound (record h { table = shaded h.table i }) p Root' Unf'
 sound-shade h p Root Root' Unf Unf' i w held kept fewer less = record {
@@ -361,7 +362,7 @@ pub each_pending : (m : Machine) (P : ℕ → Type 0) → ((k : ℕ) (r : Root) 
     → (i : ℕ) → IsPending m i → P i
 each_pending m P all i u = let at = contains_index m.pending.items (Some (record { serial = u.0; slot = i })) None u.1 in all at.0 (record { serial = u.0; slot = i }) at.1 at.2
 
--- In range the default does not count.
+-- In range, the default does not matter.
 pub any_default : {X : Type 0} (xs : List X) (k : ℕ) (d e : X) → k < length xs → get_or xs k d ≡ get_or xs k e
 any_default [] k d e h = absurd (omega arith)
 any_default (x ∷ xs) zero d e h = refl

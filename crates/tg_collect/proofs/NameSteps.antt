@@ -12,7 +12,7 @@ use Rattle.tg_collect.specs.Machine.{HeldAt, with_vertex}
 use Rattle.tg_collect.specs.Names.{IsNamed, Names}
 use Rattle.tg_collect.proofs.EdgeSteps.{relisted}
 
--- One list changes: each of its edges is an old one, or names its target, which isn't the owner.
+-- One list changes: each of its edges is an old one, or names its target, which is not the owner.
 pub names_relisted : (h : HeapGraph) (p : Progress) (R R' : ℕ → ℕ → Type 0) (i n : ℕ) (l : List Edge) → i < length h.lists
     → ((e : Edge) → Contains l e → Contains (edges h i) e ⊎ (IsNamed h e.target e.serial × (e.target ≢ i))) → ((j x : ℕ) → R' j x → R j x ⊎ IsNamed h j x)
     → Names h p R → Names (relisted h (set h.lists i l) n) p R'
@@ -42,7 +42,7 @@ names_relisted h p R R' i n l within old roots k = record {
   from (Marking s) j g = g
   from (Sweeping m) j g = g
 
--- A vertex of a new serial comes into a free slot.
+-- A vertex with a new serial is put into a free slot.
 pub names_vertex : (h : HeapGraph) (p : Progress) (R : ℕ → ℕ → Type 0) (i : ℕ) (o : Occupant) (rest : List ℕ) → i < length h.table.slots → mark_at h i ≡ Free → edges h i ≡ []
     → ((j : ℕ) → IsNamed h j o.serial → ⊥) → ((j : ℕ) → j ≢ i → HeldAt (with_vertex h i o rest) p j → HeldAt h p j) → Names h p R → Names (with_vertex h i o rest) p R
 names_vertex h p R i o rest within free bare fresh back k = record {

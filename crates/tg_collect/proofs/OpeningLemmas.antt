@@ -141,7 +141,7 @@ subject_after : (count x : ℕ) → count < x → finmap.get (subjects count) x 
 subject_after zero x a = get-empty nat_cmp x
 subject_after (suc n) x a = get-insert nat_cmp_total (subjects n) (suc n) _ x ∙ ap (λ (c : Bool). cond c (Some (record { kind = Subject; text = [] })) (finmap.get (subjects n) x)) (not_key x (suc n) (λ e. omega (arith, a, e))) ∙ subject_after n x (omega (arith, a))
 
--- What is a subject has a serial of the row, from 1 on.
+-- What is a subject has one of the consecutive serials from 1 on.
 subject_low : (count x : ℕ) → finmap.contains_key (subjects count) x ≡ true → (1 ≤ x) × (x ≤ count)
 subject_low zero x t = absurd (let e = ap is_some (get-empty nat_cmp x) in let u : true ≡ false = sym t ∙ e in cc)
 subject_low (suc n) x t = elim (cases_eq x (suc n)) [
@@ -226,7 +226,7 @@ principal_opened u m ps i x idle a there e = record {
   principals : stored (with_principals m ps) ≡ record (stored m) { principals = u.principals ++ x ∷ [] }
   principals = ap (λ (l : List ℕ). record (stored m) { principals = l }) (ap principals_of e ∙ map_append (λ (r : Root). r.serial) m.principals.items (record { serial = x; slot = i } ∷ []) ∙ ap (λ (l : List ℕ). l ++ x ∷ []) old_principals)
 
--- One more of the row.
+-- One more of the consecutive serials.
 pub opens_more : (v w : Stored) (k slots cells : ℕ) → Opens v k slots cells → PrincipalOpened v w (suc k) k → Opens w (suc k) slots cells
 opens_more v w k slots cells o p = record {
   vertices = ap (λ (z : Stored). z.vertices) p.is ∙ ap (λ (m : finmap.FinMap nat_cmp Vertex). finmap.insert m (suc k) (record { kind = Subject; text = [] })) o.vertices;
@@ -248,7 +248,8 @@ opens_more v w k slots cells o p = record {
   cells = ap (λ (z : Stored). z.cells) p.is ∙ o.cells;
 }
 
--- How far the loop over the serials has come: all of those so far that there are, and the slots from there on are free.
+-- How far the loop over the serials has come: all existing principals so far are there, and the slots from there on are
+-- free.
 pub record SoFar (v : Stored) (free : List ℕ) (S : Triples) (count serial slots cells : ℕ) : Type 0 where
   pub opened : ℕ
   pub first : IsFreeFrom opened free
@@ -286,7 +287,7 @@ cleared_whole m n idle w eh ep er eu = record {
   back j (inl p) = inl (p.0, subst (λ (v : Vec Root Global). Contains v.items (record { serial = p.0; slot = j })) er p.1)
   back j (inr u) = inr (u.0, cleared_before m.pending.items 0 (record { serial = u.0; slot = j }) (subst (λ (l : List (Option Root)). Contains l (Some (record { serial = u.0; slot = j }))) eu u.1))
 
--- The edge that went by way of the seat.
+-- The edge that was added through the seat.
 pub edge_opened : (v : Stored) (m n : Machine) (x y : ℕ) (rights : Letters) → pending_of v 0 ≡ None → EdgeStored v (stored m) 0 x y rights
     → n.heap ≡ m.heap → n.progress ≡ m.progress → n.principals ≡ m.principals → n.pending.items ≡ set m.pending.items 0 None → EdgeOpened v (stored n) x y rights
 edge_opened v m n x y rights idle s eh ep er eu = record {
@@ -610,7 +611,7 @@ kind_none G count serial e t one = elim (below_or count serial) [
   below_or (suc c) zero = inl (omega arith)
   below_or (suc c) (suc s) = elim (below_or c s) [ inl b ↦ inl (omega (arith, b)) | inr b ↦ inr (omega (arith, b)) ]
 
--- The next serial is the row's next.
+-- The next serial is the next of the consecutive ones.
 pub next_serial : (v : Stored) (free : List ℕ) (S : Triples) (G : Protection) (count serial slots cells : ℕ) (s : SoFar v free S count serial slots cells) → G.vertices ≡ subjects count
     → is_some (option_map (λ e. e.kind) (finmap.get G.vertices serial)) ≡ true → 1 ≤ serial → (s.opened + 1 ≡ serial) × (serial ≤ count)
 next_serial v free S G count serial slots cells s e t one =

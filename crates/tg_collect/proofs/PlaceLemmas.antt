@@ -1,4 +1,4 @@
--- What a slot gives to the parts of the value that contracts see.
+-- What a slot contributes to the parts of the value that contracts see.
 use Rattle.std.proofs.Common.{◌≡◌, ◌≢◌, ℕ, ◌+◌, ◌<◌, List, [], ◌∷◌, length, Option, Some, None, inl, inr, sym, ◌∙◌, ap, refl, arith, set, get_or, get_or-set_other, Bool, true, false, cond, nat_lt, eqb-true}
 use Rattle.std.specs.Ordering.{nat_cmp, eq_by_cmp}
 use Rattle.std.specs.Cmp.{nat_cmp_total, unsigned_tied}
@@ -86,7 +86,7 @@ parked_next k i m n = elim (nat_lt i k) as (λ b. nat_lt i k ≡ b → cond (nat
   | false ↦ λ t. (let l = ltb-false i k t in rw (t, le-ltb i (k + 1) (omega (arith, l, n))) refl)
 ] refl
 
--- What a slot gives looks at its place and not at its colour, and a parked slot's edges are not looked at.
+-- What a slot contributes depends on its place and not on its colour, and not on a parked slot's edges.
 pub record IsByPlace {X : Type 0} (n : List X) (f : List (List Edge) → Bool → ℕ → Occupant → List X) : Type 0 where
   pub colour : (ls : List (List Edge)) (b : Bool) (i : ℕ) (o : Occupant) (c : Colour) → f ls b i (record o { colour = c }) ≡ f ls b i o
   pub other : (ls : List (List Edge)) (b : Bool) (i k : ℕ) (r : List Edge) (o : Occupant) → i ≢ k → f (set ls k r) b i o ≡ f ls b i o
@@ -102,7 +102,7 @@ pub moved : {X : Type 0} (n : List X) (f : List (List Edge) → Bool → ℕ →
 moved n f p q ls i None e = refl
 moved n f p q ls i (Some o) e = ap (λ (b : Bool). f ls b i o) e
 
--- A slot that is coloured and stays at its place.
+-- A slot that is coloured and stays in its place.
 pub painted_place : {X : Type 0} (n : List X) (f : List (List Edge) → Bool → ℕ → Occupant → List X) → IsByPlace n f → (p q : Progress) (ls : List (List Edge)) (os : List (Option Occupant)) (k : ℕ) (c : Colour)
     → is_parked p k (mark_of (coloured c (get_or os k None))) ≡ is_parked q k (mark_of (get_or os k None))
     → ((j : ℕ) → j < length os → j ≢ k → is_parked p j (mark_of (get_or os j None)) ≡ is_parked q j (mark_of (get_or os j None)))

@@ -144,7 +144,7 @@ gains m n k q h none er eu = record {
   there : (r : Root) → Contains (set m.pending.items k (Some q)) (Some r) → Contains n.pending.items (Some r)
   there r u = subst (λ (l : List (Option Root)). Contains l (Some r)) (sym eu) u
 
--- An edge gains rights, or a new one comes in.
+-- An edge gains rights, or a new one is added.
 pub kept-adds : (m n : Machine) (k id serial : ℕ) (q : Root) (rights : Letters) → IsHeap m.heap → IsHeap n.heap → Invariant m → IsHeld m id → IsHeld m q.slot
     → k < length m.pending.items → get_or m.pending.items k None ≡ None → IsAdded m.heap n.heap id q.slot serial rights
     → n.pending.items ≡ set m.pending.items k (Some q) → n ≡ record m { heap = n.heap; pending = n.pending } → Invariant n
@@ -201,7 +201,7 @@ kept-removes m g id serial rights (Gone cell next) ok ok' within d kept =
     subst (λ (c : Option ℕ). Invariant (record m { heap = g; progress = progress_without m.progress id cell c })) (sym d.3)
     (kept-remove m id cell (m.heap.free_cells + 1) f.before f.after f.edge g ok ok' within stands d.4 kept)
 
--- A vertex comes into a free slot.
+-- A vertex is put into a free slot.
 fits_new : (p : Progress) (i : ℕ) → NewColour p i (new_colour p i)
 fits_new Idle i = refl
 fits_new (Marking s) i = refl
@@ -217,7 +217,7 @@ kept-places m i serial kind text rest ok free kept =
     let s = sound-vertex m.heap m.progress (IsRoot m) (IsPending m) i (newcomer m.progress i serial kind text) rest listed.0 listed.1 (ok.free_bare i listed.1) (fits_new m.progress i) (to_sound m kept) in
     (of_sound (record m { heap = with_vertex m.heap i (newcomer m.progress i serial kind text) rest }) s.0, s.1)
 
--- The slots stay as they are but for what no mark shows.
+-- The slots stay as they are, except for what no mark shows.
 pub kept-rewrites : (m : Machine) (slots : List (Option Occupant)) → ((j : ℕ) → mark_of (get_or slots j None) ≡ mark_at m.heap j) → Invariant m
     → Invariant (record m { heap = record m.heap { table = record m.heap.table { slots = slots } } })
 kept-rewrites m slots same kept =

@@ -229,7 +229,7 @@ stands_get h p once x w s =
     some_same : {a b : Occupant} → Some a ≡ Some b → a ≡ b
     some_same e = cc
 
--- A serial is held where some slot holds it.
+-- A serial is held if some slot holds it.
 pub contains_stands : (h : HeapGraph) (p : Progress) (x : ℕ) → finmap.contains_key (vertices_of p h) x ≡ true → (w : Vertex) × Stands h p x w
 contains_stands h p x t = by (finmap.get (vertices_of p h) x) refl t where
   by : (v : Option Vertex) → finmap.get (vertices_of p h) x ≡ v → is_some v ≡ true → (w : Vertex) × Stands h p x w

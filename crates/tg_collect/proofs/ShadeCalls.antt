@@ -32,7 +32,7 @@ use Rattle.tg_collect.proofs.ColourLines.{shaded_black, black_shaded}
 use Rattle.tg_collect.proofs.NameLines.{shaded_slots, recolours_back, recolours_forth, one_name}
 use Rattle.tg_collect.proofs.CollectLemmas.{both_true}
 
--- A slot is shaded and some roots go.
+-- A slot is shaded and some roots are removed.
 pub names_shaded : (h : HeapGraph) (p : Progress) (R R' : ℕ → ℕ → Type 0) (i : ℕ) → i < length h.table.slots → HeldAt h p i → ((j x : ℕ) → R' j x → R j x) → Names h p R → Names (record h { table = shaded h.table i }) p R'
 names_shaded h p R R' i w held fewer k = record {
   once = λ a b x m n. k.once a b x (before a x m) (before b x n);
@@ -84,7 +84,7 @@ shaded_marks t i = by (mark t i) refl ∙ ap (λ (m : Mark). set (map mark_of t.
   by (Has Grey) e = same (Has Grey) e ∙ ap (λ (k : Mark). set (map mark_of t.slots) i (shaded_mark k)) (sym e)
   by (Has Black) e = same (Has Black) e ∙ ap (λ (k : Mark). set (map mark_of t.slots) i (shaded_mark k)) (sym e)
 
--- The grey list has the shaded slot's free indices as before.
+-- A seat's pending target in the slot i, and the heap after that slot was shaded.
 module _ (m : Machine) (seat x i : ℕ) (u : Vec (Option Root) Global) (b : seat < length m.pending.items) (at : get_or m.pending.items seat None ≡ Some (record { serial = x; slot = i }))
     (eu : u.items ≡ set m.pending.items seat None) (w : Whole m) where
   h' : HeapGraph

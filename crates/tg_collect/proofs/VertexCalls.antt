@@ -43,7 +43,7 @@ use Rattle.tg_collect.proofs.NameSteps.{names_vertex}
 use Rattle.tg_collect.proofs.SessionLemmas.{kept-places}
 use Rattle.tg_collect.proofs.CollectLemmas.{same_found, both_true}
 
--- The vertex of one serial comes in or changes.
+-- The vertex of one serial is added or changes.
 pub vertices_changed : (p q : Progress) (h k : HeapGraph) (x : ℕ) (w : Vertex) → ((i j y : ℕ) → IsNamed h i y → IsNamed h j y → i ≡ j) → ((i j y : ℕ) → IsNamed k i y → IsNamed k j y → i ≡ j)
     → Stands k q x w → ((y : ℕ) (u : Vertex) → y ≢ x → Stands h p y u → Stands k q y u) → ((y : ℕ) (u : Vertex) → y ≢ x → Stands k q y u → Stands h p y u)
     → vertices_of q k ≡ finmap.insert (vertices_of p h) x w
@@ -62,7 +62,7 @@ abbrev serial_in : Option Occupant → ℕ
 serial_in None = 0
 serial_in (Some y) = y.serial
 
--- A slot's entries where it turns from free to held, and gives what a free one gives.
+-- A slot's entries when it turns from free to held, and contributes what a free one does.
 filled : {X : Type 0} (f : List (List Edge) → Bool → ℕ → Occupant → List X) (h : HeapGraph) (p : Progress) (i : ℕ) (o : Occupant) → mark_at h i ≡ Free → is_parked p i (Has o.colour) ≡ false
     → f h.lists false i o ≡ [] → gather (by_place [] f p h.lists) 0 (set h.table.slots i (Some o)) ≡ gather (by_place [] f p h.lists) 0 h.table.slots
 filled f h p i o free dark nothing = gather_set (by_place [] f p h.lists) (by_place [] f p h.lists) h.table.slots i (Some o)
@@ -135,7 +135,7 @@ left_vertex (Sweeping k) h i o rest free dark white within =
     ]) in
     rw same (omega (arith, all))
 
--- A vertex without edges has come in.
+-- A vertex without edges was added.
 pub record VertexPlaced (v w : Stored) (serial : ℕ) (kind : Kind) (text : List ℕ) (slot : ℕ) : Type 0 where
   pub colour : Colour
   pub within : slot < length v.marks
@@ -168,7 +168,7 @@ white_marking (Sweeping k) i s e = absurd (cc)
 not_grey : (p : Progress) (i : ℕ) → is_colour Grey (new_colour p i) ≡ false
 not_grey p i = elim (new_coloured p i) [ inl w ↦ ap (is_colour Grey) w | inr b ↦ ap (is_colour Grey) b.0 ]
 
--- The serial is in no slot where it is neither held nor parked.
+-- The serial is in no slot if it is neither held nor parked.
 pub fresh_name : (m : Machine) → Whole m → (x : ℕ) → (IsHeldIn (stored m) x → ⊥) → (InSet (stored m).parked x → ⊥) → (j : ℕ) → IsNamed m.heap j x → ⊥
 fresh_name m w x unheld unparked j n = by (is_parked m.progress j (mark_at m.heap j)) refl where
   by : (b : Bool) → is_parked m.progress j (mark_at m.heap j) ≡ b → ⊥
@@ -412,7 +412,7 @@ after_rewrites m n id text answer w kept held x named a = subst Result (sym a.3)
   whole : Whole n'
   whole = record { seats = w.seats; few = w.few; kept = subst Invariant a.3 kept; names = record { once = names.once; edge = names.edge; root = names.root; no_loop = names.no_loop } }
 
-  -- what a slot gives that does not look at its text
+  -- what a slot contributes that does not depend on its text
   textless : {X : Type 0} (n : List X) (f : List (List Edge) → Bool → ℕ → Occupant → List X) → (f m.heap.lists (is_parked p id (Has a.0.colour)) id o ≡ f m.heap.lists (is_parked p id (Has a.0.colour)) id a.0)
       → gather (by_place n f p m.heap.lists) 0 slots ≡ gather (by_place n f p m.heap.lists) 0 m.heap.table.slots
   textless n f e = gather_set (by_place n f p m.heap.lists) (by_place n f p m.heap.lists) m.heap.table.slots id (Some o)
@@ -477,7 +477,7 @@ after_rewrites m n id text answer w kept held x named a = subst Result (sym a.3)
     };
   }
 
--- A vertex that came in, and the edge to it, which is new.
+-- A vertex that was added, and the edge to it, which is new.
 pub vertex_stored : (u v w : Stored) (seat x serial : ℕ) (kind : Kind) (text : List ℕ) (rights : Letters) (slot : ℕ) → VertexPlaced u v serial kind text slot → EdgeStored v w seat x serial rights
     → (IsEdgeIn u x serial → ⊥) → VertexStored u w seat x serial kind text rights
 vertex_stored u v w seat x serial kind text rights slot a b none = record {

@@ -1,4 +1,4 @@
--- A vertex that comes in.
+-- A vertex that is added.
 use Rattle.std.proofs.Common.{◌≡◌, ◌≢◌, ℕ, ◌<◌, ◌≤◌, List, [], length, Option, Some, None, ◌⊎◌, inl, inr, sym, ◌∙◌, subst, ap, arith}
 use Rattle.std.proofs.lemmas.Bool.{cases_eq}
 use Rattle.tg_rights.specs.Membership.{Contains}
@@ -17,7 +17,7 @@ use Rattle.tg_collect.specs.declared.machine.Progress.{Progress}
 use Rattle.tg_collect.specs.declared.machine.Progress.TheVariants.{Idle, Marking, Sweeping}
 use Rattle.tg_collect.specs.Machine.{ParkedAt, scan_of, HeldAt, PhaseAt, Sound, with_vertex}
 
--- The colour of a new vertex: white, but black where the sweep has yet to come.
+-- The colour of a new vertex: white, but black if the sweep has yet to reach it.
 abbrev pub NewColour : Progress → ℕ → Colour → Type 0
 NewColour Idle i c = c ≡ White
 NewColour (Marking s) i c = c ≡ White
