@@ -1,4 +1,4 @@
--- What it says that no check fails, and that one is the first to fail.
+-- What it means that no check fails, and that one is the first to fail.
 use Rattle.std.proofs.Common.{◌≡◌, ℕ, ◌∷◌, [], ◌++◌, List, Bool, true, false, cond, refl, ap, ◌∙◌, Some, None}
 use Rattle.std.specs.Prelude.{Option}
 use Rattle.tg_rights.specs.declared.kind.Kind.{Kind}

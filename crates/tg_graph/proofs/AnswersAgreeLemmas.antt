@@ -1,4 +1,4 @@
--- Two graphs that agree for some subjects: a command is answered alike in both, and they stay so.
+-- Two graphs that agree for some subjects: a command has the same reply in both, and they still agree.
 use Rattle.std.proofs.Common.{◌≡◌, ℕ, ◌+◌, ◌<◌, ◌≤◌, true, refl, sym, ap, ◌∙◌, subst, arith}
 use Rattle.std.specs.Ordering.{nat_cmp}
 use Rattle.std.specs.FinSet as set
@@ -128,7 +128,7 @@ module _ (G H : Protection) (viewers : set.FinSet nat_cmp) (x : ℕ) (in_G : IsG
   alike c (outcome.Full which.Slots) p d e = absurd d
   alike c (outcome.Full which.Cells) p d e = absurd d
 
--- graphs that some subjects can't tell apart stay so after a command of one of them, which is answered alike
+-- graphs that some subjects cannot tell apart stay so after a command of one of them, which has the same reply
 pub keeps_viewers : (G K : Protection) (x : ℕ) (c : Command) (r : Reply) → IsGraph G → Applies G x c r K → KeepsViewers G x c r K
 keeps_viewers G K x c r in_G (o, d, is_r, is_K) = λ H L q viewers in_H next known agree. λ (p, e, is_q, is_L).
     let both = alike G H viewers x in_G in_H next known agree c o p d e in

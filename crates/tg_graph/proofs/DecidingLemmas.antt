@@ -1,4 +1,4 @@
--- The terms of each command hang together.
+-- The terms of each command are consistent.
 use Rattle.std.proofs.Common.{◌≡◌, ℕ, ◌∷◌, [], Bool, true, false, cond, ◌==◌, refl, sym, inl, inr}
 use Rattle.std.proofs.lemmas.Bool.{not-true, and_parts, eqb-true, eq-eqb}
 use Rattle.tg_rights.specs.Letters.{take_alone}

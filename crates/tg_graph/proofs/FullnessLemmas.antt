@@ -53,7 +53,7 @@ same_keys m n same =
     ∙ ap (λ o. cond (is_some o) (Some 0) None) (map.get-entries n q) ∙ sym (find-marked q (map.entries n))))
     ∙ keys-marked (map.entries n)
 
--- a vertex that gets another text is no further key
+-- a vertex that gets another text adds no key
 pub keys-again : (G : Protection) (v : ℕ) (e : Vertex) → IsVertex G v → map.keys (map.insert G.vertices v e) ≡ map.keys G.vertices
 keys-again G v e v_in = same_keys (map.insert G.vertices v e) G.vertices (λ q. IsVertex-insert G.vertices v e q ∙ by q (q == v) refl) where
   by : (q : ℕ) (b : Bool) → (q == v) ≡ b → (b || map.contains_key G.vertices q) ≡ map.contains_key G.vertices q

@@ -45,7 +45,7 @@ at_most_one l = by (is_none l) where
   by true = omega arith
   by false = omega arith
 
--- each edge of a list brings at most one
+-- each edge of a list adds at most one
 with_edges-count : (count next : ℕ) (T : Triples) (es : List Edge) → list_all (λ e. is_principal count e.0 && is_principal count e.2) es ≡ true →
     edge_count (record { vertices = subjects count; next = next; triples = with_edges T es }) ≤ edge_count (record { vertices = subjects count; next = next; triples = T }) + length es
 with_edges-count count next T [] ends = omega arith

@@ -126,7 +126,7 @@ no_edge_from G z g = λ i. record { read = absent read i; write = absent write i
     either false e = refl
 
 module _ (G H : Protection) (Known : ℕ → Type 0) (alike : Alike G H Known) (x : ℕ) (x_known : Known x) (x_in : IsVertex G x) (in_G : IsGraph G) where
-  -- nobody is at x but x
+  -- a greater serial is not x
   not_here : (n : ℕ) → x < n → (b : Bool) → (x == n) ≡ b → b ≡ false
   not_here n below true e = let is : x ≡ n = eqb-true x n e in absurd (omega arith)
   not_here n below false e = refl

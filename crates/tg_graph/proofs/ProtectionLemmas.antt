@@ -1,4 +1,5 @@
--- What an allowed command may take for granted: the ends of its edges are vertices, and its needs lead on from the actor.
+-- What an allowed command may take for granted: the ends of its edges are vertices, and its needs lead on from the
+-- actor.
 use Rattle.std.proofs.Common.{◌≡◌, ◌≢◌, ℕ, ◌∷◌, [], List, Bool, true, false, not, sym, ap, subst, ◌∙◌, ◌&&◌, ◌||◌, inl, inr, Some, None, arith}
 use Rattle.std.proofs.lemmas.Bool.{not-true, eq-eqb}
 use Rattle.std.specs.FinSet as set

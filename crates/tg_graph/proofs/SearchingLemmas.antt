@@ -19,12 +19,12 @@ counts true b h = let e = h refl in rw e (omega arith)
 counts false true h = omega arith
 counts false false h = omega arith
 
--- where more is seen, no more is unseen
+-- if more is seen, no more is unseen
 unseen-le : (f g : ℕ → Bool) → ((q : ℕ) → f q ≡ true → g q ≡ true) → (vs : List ℕ) → unseen g vs ≤ unseen f vs
 unseen-le f g more [] = omega arith
 unseen-le f g more (v ∷ vs) = omega (arith, counts (f v) (g v) (more v), unseen-le f g more vs)
 
--- and where one of the vertices is seen that was not, less is
+-- and if a vertex is seen that was not before, less is
 unseen-lt : (f g : ℕ → Bool) (z : ℕ) → ((q : ℕ) → f q ≡ true → g q ≡ true) → f z ≡ false → g z ≡ true → (vs : List ℕ) → Contains vs z → unseen g vs + 1 ≤ unseen f vs
 unseen-lt f g z more was is [] h = absurd h
 unseen-lt f g z more was is (v ∷ vs) (inl e) =
@@ -33,7 +33,7 @@ unseen-lt f g z more was is (v ∷ vs) (inl e) =
     omega (arith, new, old, unseen-le f g more vs)
 unseen-lt f g z more was is (v ∷ vs) (inr h) = omega (arith, counts (f v) (g v) (more v), unseen-lt f g z more was is vs h)
 
--- while a search goes on along the edges es of v, of which those of `rest` are left; s0 is the search without v
+-- while a search continues along the edges es of v, of which those of `rest` are left; s0 is the search without v
 pub record Spreading (G : Protection) (s0 s : Search) (v : ℕ) (es rest : List (ℕ × Letters)) : Type 0 where
   pub from : s.from ≡ s0.from
   pub begun : has_seen s s.from ≡ true
@@ -142,7 +142,7 @@ module _ (G : Protection) (g : IsGraph G) (s0 s t : Search) (v : ℕ) (es rest :
     work = omega (arith, less_work, spreading.work);
   }
 
--- all edges of v were gone along
+-- all edges of v were followed
 pub spread : (G : Protection) → IsGraph G → (s0 s : Search) (v : ℕ) → Spreading G s0 s v (edges_of G v) [] → IsSearching G s
 spread G g s0 s v spreading = record {
   begun = spreading.begun;
