@@ -33,7 +33,7 @@ newline_at [] n h is = absurd (omega arith)
 newline_at (x ∷ xs) zero h is = ap (λ y. y ∷ xs) (eqb-true x 10 is)
 newline_at (x ∷ xs) (suc n) h is = ap (λ l. x ∷ l) (newline_at xs n (omega arith) is) ∙ rw (add-one, add-one) refl
 
--- the same behind `from`
+-- the same after `from`
 pub none_from : (xs : List ℕ) (from n : ℕ) → has_newline (take from xs) ≡ false → has_newline (take n (drop from xs)) ≡ false → has_newline (take (from + n) xs) ≡ false
 none_from xs from n front back = rw (take-add from n xs, list_any-append is_newline (take from xs) (take n (drop from xs)), front) back
 

@@ -16,18 +16,18 @@ sends_nothing (Some o) failed = record { done = []; rest = []; split = refl; app
 pub sends_last : (old new : Option (List ℕ)) (failed : Bool) (text : List ℕ) → Sends old new failed text → SendsLast old new failed [] text
 sends_last old new failed text sent = record { done = sent.done; rest = sent.rest; split = sent.split; appended = sent.appended; whole = sent.whole }
 
--- a text that was sent behind others, as the last one
+-- a text that was sent after others, as the last one
 pub sends_behind : (old now new : Option (List ℕ)) (failed : Bool) (before text : List ℕ) → Appends old now before → Sends now new failed text → SendsLast old new failed before text
 sends_behind old now new failed before text written sent =
     record { done = sent.done; rest = sent.rest; split = sent.split; appended = Appends-more old now new before sent.done written sent.appended; whole = sent.whole }
 
--- where the writer did not fail, all of the text is written
+-- if the writer did not fail, all of the text is written
 pub sent_whole : (old new : Option (List ℕ)) (failed : Bool) (text : List ℕ) → failed ≡ false → Sends old new failed text → Appends old new text
 sent_whole old new failed text ok sent =
     let all : text ≡ sent.done = sent.split ∙ ap (λ r. sent.done ++ r) (sent.whole ok) ∙ append-nil sent.done in
     subst (Appends old new) (sym all) sent.appended
 
--- nothing was sent where what is there stays
+-- nothing was sent if what is there stays
 pub sends_keeps : (old new : Option (List ℕ)) (failed : Bool) → Keeps old new → Sends old new failed []
 sends_keeps old new failed kept = record { done = []; rest = []; split = refl; appended = Appends-keeps old old new [] (Appends-none old) kept; whole = λ _. refl }
 
@@ -41,7 +41,7 @@ pub sends_paid : (old now new : Option (List ℕ)) (failed again : Bool) (text :
 sends_paid old now new failed again text ok sent kept =
     record { done = sent.done; rest = sent.rest; split = sent.split; appended = Appends-keeps old now new sent.done sent.appended kept; whole = λ _. sent.whole ok }
 
--- bytes that were sent behind others, as one text
+-- bytes that were sent after others, as one text
 pub sends_more : (old now new : Option (List ℕ)) (was failed : Bool) (before bytes : List ℕ) → was ≡ false → Sends old now was before → Sends now new failed bytes → Sends old new failed (before ++ bytes)
 sends_more old now new was failed before bytes ok first then = record {
   done = before ++ then.done;
@@ -51,7 +51,7 @@ sends_more old now new was failed before bytes ok first then = record {
   whole = then.whole;
 }
 
--- bytes that were not sent any more, where the writer had failed
+-- bytes that were not sent any more, since the writer had failed
 pub sends_no_more : (old new : Option (List ℕ)) (failed : Bool) (before bytes : List ℕ) → failed ≡ true → Sends old new failed before → Sends old new failed (before ++ bytes)
 sends_no_more old new failed before bytes has sent = record {
   done = sent.done;

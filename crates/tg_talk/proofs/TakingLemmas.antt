@@ -1,4 +1,4 @@
--- Lines taken one after another: what the bytes at the front come to.
+-- Lines taken one after another: what is known of the bytes at the front.
 use Rattle.std.proofs.Common.{◌≡◌, ℕ, ◌+◌, ◌<◌, ◌≤◌, List, [], ◌∷◌, ◌++◌, length, Option, None, Some, ◌⊎◌, inl, inr, subst, IfSome, refl, sym, ap, ◌∙◌, append-nil, append_assoc, take, drop, take_all, drop_of_length-le, le_refl, arith, false}
 use Rattle.std.proofs.Math.Nat.{eq-or-lt_of_le}
 use Rattle.std.specs.Io.KnownBytes.{Keeps, IsAtEnd, prepend_known}
@@ -35,12 +35,12 @@ pub splits : (o : Option (List ℕ)) (buffer : List ℕ) (rest : Option (List �
 splits None buffer rest k = tt
 splits (Some xs) buffer rest k = splits_some xs buffer rest k
 
--- what holds wherever the bytes split so, holds of the bytes that were to come
+-- what holds whenever the bytes split in this way, holds of the bytes that were to come
 pub by_split : (o : Option (List ℕ)) (buffer : List ℕ) (rest : Option (List ℕ)) (Q : List ℕ → Type 0) → Keeps o (prepend_known buffer rest)
     → ((xs r : List ℕ) → rest ≡ Some r → xs ≡ buffer ++ r → Q xs) → IfSome o Q
 by_split o buffer rest Q kept f = weaker o (SplitsAt buffer rest) Q (splits o buffer rest kept) (λ xs (r, is, split). f xs r is split)
 
--- the bytes that were to come, where an empty front stood before them
+-- the bytes that were to come, with an empty front before them
 pub by_drop : (o : Option (List ℕ)) (front buffer : List ℕ) (rest : Option (List ℕ)) (Q : List ℕ → Type 0) (left : List ℕ) → front ≡ left → Keeps (prepend_known front o) (prepend_known buffer rest)
     → ((xs r : List ℕ) → rest ≡ Some r → xs ≡ buffer ++ r → Q xs) → IfSome (prepend_known left o) Q
 by_drop o front buffer rest Q left same kept f = subst (λ l. IfSome (prepend_known l o) Q) same (by_split (prepend_known front o) buffer rest Q kept f)

@@ -23,7 +23,7 @@ use Rattle.tg_talk.proofs.KnownBytesLemmas.{Appends-more, Appends-none}
 use Rattle.tg_talk.proofs.SendsLemmas.{sends_behind, sends_keeps, sends_kept, sent_whole}
 use Rattle.tg_talk.proofs.TakingLemmas.{told_at}
 
--- ---- what a turn comes to
+-- ---- the result of a turn
 
 turns_line : {L : Type 0} → (res : Turn L) (sits : Option ℕ) (n : ℕ) (xs : List ℕ) (m : ℕ) (left : Option (List ℕ)) (log : List Exchange) (text line : List ℕ)
     → n < 1000000 → length line ≤ 16384 → m ≡ n + 1 → TakesLine line xs left → AnswersTaken res sits line log text → Turns res sits n xs m left log text
@@ -69,7 +69,7 @@ told_unpaid sits n xs m count = rw count unpaid
 pub told_stopped : (sits : Option ℕ) (n : ℕ) (xs : List ℕ) (m : ℕ) → m ≡ n → TalkText n sits (lines_of xs) [] sits (Some talk.Reading) m [] []
 told_stopped sits n xs m count = rw count stopped
 
--- ---- what the answer to a line comes to
+-- ---- the result of answering a line
 
 cut_fault : (failed : Bool) (f : TalkFault) → EndsOnce None failed (Some f) → Some f ≡ Some talk.Writing
 cut_fault true f h = h

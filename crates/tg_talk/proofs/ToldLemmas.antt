@@ -1,4 +1,4 @@
--- What a line of a talk is answered.
+-- The answer to a line of a talk.
 use Rattle.std.proofs.Common.{◌≡◌, ◌≢◌, ℕ, List, [], ◌∷◌, Option, None, Some, Ok, Err, inl, inr, refl, sym, ap, ◌∙◌, append-nil, true, false}
 use Rattle.tg_rights.specs.declared.command.Command.{Command}
 use Rattle.tg_vault.specs.declared.event.Event.TheVariants as event
@@ -31,7 +31,7 @@ told_refused sits line wire.UnknownField h = refused wire.UnknownField h refl re
 told_refused sits line wire.TooLong h = refused wire.TooLong h refl refl refl
 told_refused sits line wire.OutOfMemory h = no_memory refl refl refl
 
--- ---- a line of one who has not said hello with success
+-- ---- a line from a client whose hello has not succeeded yet
 
 pub stranger_refused : (line : List ℕ) (f : WireFault) → reading.Answers {A = Line} (Err f) (line_of line) → LineTold None line None [] (fault_line f)
 stranger_refused line f h = told_refused None line f h
