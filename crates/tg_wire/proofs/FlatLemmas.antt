@@ -31,7 +31,7 @@ pub some_weaker : {A : Type 0} (o : Option A) (P Q : A → Type 0) → ((a : A) 
 some_weaker None P Q f h = tt
 some_weaker (Some a) P Q f h = f a h
 
--- ---- one member more
+-- ---- one more member
 
 pub spelled_more : (ks : List (List ℕ × Token)) (ms : List Member) (k : List ℕ) (t : Token) (m : Member) → AreSpelled ks ms → k ≡ key_text m.key → Spells t m.value → AreSpelled (ks ++ (k, t) ∷ []) (ms ++ m ∷ [])
 spelled_more [] [] k t m h same is = (same, is, tt)
@@ -138,7 +138,7 @@ values_of (k ∷ ks) (m ∷ ms) found h =
 abbrev whole : Option (json.Json × List Token) → Option Data
 whole o = option_and_then of_json (option_and_then (λ p. json.if_last p.0 p.1) o)
 
--- the whole line, where its members are read and nothing follows
+-- the whole line, if its members are read and nothing follows
 pub line_read : (line : List ℕ) (from after : ℕ) (ms : List Member) → lex.lex lex.between line ≡ lex.token token.begin_object ∷ lex.lex lex.between (drop from line)
     → ReadsMembers line from after ms → lex.lex lex.between (drop after line) ≡ [] → read line ≡ Some (flat_data ms)
 line_read line from after ms opens found over =
@@ -170,7 +170,7 @@ found_either : (b : Bool) (ms : List Member) (m : Member) (name : List ℕ) (bef
 found_either true ms m name before is so = sym (found_here ms m name ((bytes_eq-Decides (key_text m.key) name).0 is))
 found_either false ms m name before is so = so ∙ sym (found_before ms m name (λ same. true≢false (sym ((bytes_eq-Decides (key_text m.key) name).1 same) ∙ is)))
 
--- one member more is looked at
+-- one more member is looked at
 pub found_later : (ms : List Member) (m : Member) (name : List ℕ) (before : Option Plain)
     → option_map plain_data before ≡ get_member name (put_all ms no_members) → option_map plain_data (if bytes_eq (key_text m.key) name then Some m.value else before) ≡ get_member name (put_all (ms ++ m ∷ []) no_members)
 found_later ms m name before so = found_either (bytes_eq (key_text m.key) name) ms m name before refl so
@@ -240,6 +240,6 @@ all_either : (a b : List Key) (ms : List Member) → list_all (λ m. is_among (k
 all_either a b [] = refl
 all_either a b (m ∷ ms) = ap (λ x. x && list_all (λ m. is_among (key_texts a ++ key_texts b) (key_text m.key)) ms) (among_either a b (key_text m.key)) ∙ ap (λ x. is_listed_in_either a b (key_text m.key) && x) (all_either a b ms)
 
--- the keys of a flat object are known where those of its members are
+-- the keys of a flat object are known if those of its members are
 pub flat_known : (a b : List Key) (ms : List Member) → knows_all (key_texts a ++ key_texts b) (flat_data ms) ≡ list_all (λ m. is_listed_in_either a b (key_text m.key)) ms
 flat_known a b ms = keys_put_all (is_among (key_texts a ++ key_texts b)) ms no_members ∙ and_true _ ∙ all_either a b ms

@@ -1,4 +1,4 @@
--- What JSON's lexer gives at a place of a line.
+-- What JSON's lexer finds at a place of a line.
 use Rattle.std.proofs.Common.{◌≡◌, ℕ, suc, ◌+◌, ◌-◌, ◌<◌, ◌≤◌, Bool, true, false, cond, ◌||◌, ◌==◌, List, [], ◌∷◌, ◌++◌, length, take, drop, get_or, nat_lt, Option, Some, None, option_and_then, refl, sym, ap, ◌∙◌, arith, add-zero, lt_of_not-le}
 use Rattle.std.proofs.lemmas.List.{drop_more, drop-drop, append-nil, append_assoc, get_or-drop, get_or_past, length-drop}
 use Rattle.std.proofs.lemmas.Bool.{cond-false, cond-true, true_from_ne_false, eqb-true, ne_eqb, or_parts, not-true, false≢true}
@@ -14,7 +14,7 @@ use Rattle.json.specs.Lex.{Lexeme, token, quote, backslash, operator, space, oth
 
 -- ---- one byte
 
--- a byte that is no space stands in the line
+-- a byte that is not a space is in the line
 pub within : (d : List ℕ) (i x : ℕ) → get_or d i 32 ≡ x → ¬ (x ≡ 32) → i < length d
 within d i x e no_space = lt_of_not-le (λ past. no_space (sym e ∙ get_or_past d i 32 past))
 
@@ -61,7 +61,7 @@ passes true blank x xs k = refl
 passes false true x xs k = refl
 passes false false x xs k = refl
 
--- a plain byte is no quote, no backslash and no control byte
+-- a plain byte is not a quote, a backslash or a control byte
 plain_parts : (x : ℕ) → is_plain x ≡ true → ((x == 34) ≡ false) × ((x == 92) ≡ false) × (nat_lt x 32 ≡ false)
 plain_parts x e =
     let none = or_parts ((x == 34) || (x == 92)) (nat_lt x 32) (not-true _ e) in

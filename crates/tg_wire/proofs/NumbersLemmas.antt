@@ -8,7 +8,7 @@ use Rattle.fast_float.proofs.Writing.{scan-text_of}
 use Rattle.serde_json.specs.Data.{unsigned}
 use Rattle.serde_json.specs.Read.{number_of, number_from}
 
--- digits alone, as the parts of a numeral
+-- only digits, as the parts of a numeral
 abbrev digits : List ℕ → Parts
 digits ds = record { whole = ds; point = false; fraction = []; exponent_negative = false; exponent = []; len = length (ds ++ []) }
 
