@@ -1,4 +1,4 @@
--- An audit: what each line that is taken comes to.
+-- An audit: the result of each line that is taken.
 use Rattle.std.proofs.Common.{◌≡◌, ℕ, suc, ◌+◌, ◌<◌, ◌≤◌, List, [], ◌∷◌, ◌++◌, length, Bool, true, false, Option, None, Some, IfSome, Result, Ok, Err, IfErr, IsErrAnd, true≢false, inl, inr, refl, sym, ap, ◌∙◌, subst, arith, append_assoc, append-nil}
 use Rattle.tg_graph.specs.declared.derivation.Goal.{Goal}
 use Rattle.tg_graph.specs.declared.derivation.Step.{Step}
@@ -36,7 +36,7 @@ then_left (Some xs) left P Q R h k f =
     let (rest, is, go) = f xs h in
     go (subst (λ o. IfSome o Q) is k)
 
--- what answers Ok has not failed
+-- what returns Ok has not failed
 pub unfailed : {T E : Type 0} (b : Bool) (x : T) (e : E) → (b ≡ true → Ok x ≡ Err e) → b ≡ false
 unfailed true x e h = let same = h refl in absurd (cc)
 unfailed false x e h = refl
@@ -98,7 +98,7 @@ takes_read Says n m line left xs count most short takes says = record { line = l
 
 -- ---- steps
 
--- after so many lines, these steps are read of the bytes xs, whatever the lines that are left come to
+-- after this many lines, these steps are read from the bytes xs, whatever the lines that are left say
 pub record StepsSoFar (start now : ℕ) (steps : List Step) (left : Option (List ℕ)) (xs : List ℕ) : Type 0 where
   pub rest : List ℕ
   pub is : left ≡ Some rest
@@ -135,7 +135,7 @@ steps_all start n steps left xs m same so over = record {
 pub steps_end : (start n : ℕ) (steps : List Step) (left : Option (List ℕ)) (xs : List ℕ) (e : End) → (so : StepsSoFar start n steps left xs) → EndsAt (Misreads step_of) false n (lines_of so.rest) e → EndsInSteps start (lines_of xs) e
 steps_end start n steps left xs e so end = so.ends e (here end)
 
--- ---- what a step of the loop comes to
+-- ---- the result of a step of the loop
 
 abbrev SoFars : ℕ → ℕ → List Step → Option (List ℕ) → Option (List ℕ) → Type 0
 SoFars start n steps o left = IfSome o (StepsSoFar start n steps left)
@@ -195,7 +195,7 @@ pub wanted_is_refused : (Refuses : List ℕ → List ℕ → Type 0) (n m : ℕ)
 wanted_is_refused Refuses n m line text o left count most short h refuses =
     weaker o (Advances true line left) (EndsBytes Refuses true n (record { lines = m; text = text; fault = None })) h (λ xs takes. ends_refused Refuses true n m xs line text left count most short takes refuses)
 
--- an ending by the refusal of a line, after so many
+-- an ending by the refusal of a line, after this many
 refusal_after : (e : Ending) (n : ℕ) → (end_after e n).fault ≡ None → record { lines = n; text = (end_after e n).text; fault = None } ≡ end_after e n
 refusal_after ending.Failed n is = absurd (cc)
 refusal_after ending.TooLong n is = absurd (cc)
@@ -259,7 +259,7 @@ ends_third o left last n m k G goal e first one two h j i =
     (audit_then (λ ls. EndsInSteps 2 ls e) o left last n m G goal first one h j (weaker last (EndsStepBytes k e) (OverLines (λ ls. EndsInSteps 2 ls e)) i (λ xs end. rw three at end)))
     (λ xs a. rw a.are (in_steps G goal a.opens a.aims a.holds))
 
--- the other lines are these steps, and so many lines were taken in all
+-- the other lines are these steps, and this many lines were taken in all
 abbrev AreSteps : List Step → ℕ → List (List ℕ) → Type 0
 AreSteps steps m ls = StepsRead 2 ls steps × (m ≡ 2 + length ls)
 

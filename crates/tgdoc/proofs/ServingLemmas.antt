@@ -48,7 +48,7 @@ bytes_refused text xs line left takes short refuses = rw takes.taken (refused sh
 bytes_opened : (v : Contents) (xs line : List ℕ) (left : Option (List ℕ)) → TakesLine line xs left → length line ≤ 16384 → Opens line v → OpensBytes v xs
 bytes_opened v xs line left takes short opens = record { first = line; others = lines_of takes.rest; are = takes.taken; short = short; opens = opens }
 
--- ---- what opening the first line comes to
+-- ---- the result of opening the first line
 
 pub line_opens : (r : Result Contents (Bor (List ℕ))) (o : Option (List ℕ)) (bytes line : List ℕ) (left : Option (List ℕ)) → bytes ≡ line → length line ≤ 16384 → IfSome o (λ xs. TakesLine line xs left)
     → IfOk r (Opens bytes) → IfOk r (λ v. IfSome o (OpensBytes v))
