@@ -1,8 +1,8 @@
 #!/usr/bin/env python3
-"""What `tgdoc run` takes: lines a second and peak memory on generated input, one owner's edges, cycles of the collector; and what
-`tgdoc audit` takes on a long derivation.
+"""How fast `tgdoc run` is: lines a second and peak memory on generated input, one owner's edges, cycles of the collector; and how
+fast `tgdoc audit` is on a long derivation.
 
-`bench/lines.py PROGRAM` takes another program than crates/tgdoc/out/tgdoc. Each run ends within a minute.
+`bench/lines.py PROGRAM` measures another program than crates/tgdoc/out/tgdoc. Each run ends within a minute.
 """
 
 import os
@@ -80,7 +80,7 @@ def collected():
 
 
 def owner(edges, commands):
-    """Alice has so many edges, and reads and writes over each in turn."""
+    """Alice has this many edges, and reads and writes over each in turn."""
     yield from opening(slots=edges + 2, cells=edges + 2)
     for _ in range(edges):
         yield from create()
@@ -120,7 +120,7 @@ def written(name, rows):
 
 
 def measure(program, name, rows, runs=RUNS, word="run"):
-    """Runs the program, or another of its commands, on the lines, and prints how long it took and how much memory it had at most."""
+    """Runs the program, or another of its commands, on the lines, and prints how long it took and its peak memory."""
     place = written(name, rows)
     with open(place, "rb") as file:
         count = sum(1 for _ in file)
@@ -139,7 +139,7 @@ def measure(program, name, rows, runs=RUNS, word="run"):
 
 
 def ask(talk, rows):
-    """Sends the lines and answers the last one's answer; the first line of a talk has none."""
+    """Sends the lines and returns the last one's answer; the first line of a talk has none."""
     sender = threading.Thread(target=lambda: (talk.stdin.write("".join(row + "\n" for row in rows).encode()), talk.stdin.flush()))
     sender.start()
     answer = b""

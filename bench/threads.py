@@ -1,7 +1,7 @@
 #!/usr/bin/env python3
-"""What sessions on threads take: submits a second and the longest submit, with the collector and without, and the settle.
+"""How fast sessions on threads are: submits a second and the longest submit, with the collector and without, and the settle.
 
-`bench/threads.py PROGRAM` takes another program than crates/tg_load/out/tg_load. Each row of the table is one run.
+`bench/threads.py PROGRAM` measures another program than crates/tg_load/out/tg_load. Each row of the table is one run.
 """
 
 import json
@@ -27,7 +27,7 @@ ROWS = [
 
 
 def figures(program, words):
-    """What the program measured; it stops here where the run did not come out as it should."""
+    """What the program measured; it stops here if the run did not come out as it should."""
     words = [str(program), *[str(word) for word in words], "--figures"]
     ran = subprocess.run(words, capture_output=True, text=True, timeout=SECONDS)
     if ran.returncode != 0:

@@ -6,7 +6,7 @@
         alice.write(document, "hi")
 
 `line` is the first line that the server writes. The lines that are sent and answered are those of docs/PROTOCOL.md. A client is for
-one thread at a time; it needs Python's standard library alone.
+one thread at a time; it needs only Python's standard library.
 """
 
 import json
@@ -27,7 +27,7 @@ class Denied(Refused):
     """The take-grant rules deny the command; `rule` is its name, and `cause` what is wrong: `empty`, `not distinct`, `missing` or
     `not document`.
 
-    Where rights are missing, the label from `source` to `target` lacks the letters `missing`. Where a vertex is no document, it is
+    If rights are missing, the label from `source` to `target` lacks the letters `missing`. If a vertex is not a document, it is
     `vertex`. What the cause does not have is None.
     """
 
@@ -49,7 +49,7 @@ class Denied(Refused):
 class Full(Refused):
     """The rules allow the command, and there is no room for it: no more `what`, which is `slots`, `cells` or `serials`.
 
-    Slots and cells come back as the collector frees what was dropped, so the command may be asked again.
+    Slots and cells come back as the collector frees what was dropped, so the command may be sent again.
     """
 
     def __init__(self, answer):
@@ -130,7 +130,8 @@ class Client:
         return answer
 
     def _wait(self, events, limit):
-        """Waits up to the limit for the events or for answers, which are kept; whether it was more than answers that came."""
+        """Waits up to the limit for the events or for answers, which are kept; returns whether anything but answers
+        came."""
         poll = select.poll()
         poll.register(self.socket, events if self.is_ended else events | select.POLLIN)
         found = poll.poll(max(0.0, limit - time.monotonic()) * 1000)
@@ -148,7 +149,8 @@ class Client:
         return self.receive()
 
     def hello(self, name):
-        """Begins the session of the principal of this name; its serial. There is no password: the server believes the name."""
+        """Begins the session of the principal of this name, and returns its serial. There is no password: the server
+        believes the name."""
         return self.ask(op="hello", name=name)["vertex"]
 
     def bye(self):
@@ -164,7 +166,8 @@ class Client:
         self.ask(op="grant", rights=rights, over=over, to=to)
 
     def create(self, kind, rights):
-        """Makes a vertex, a `subject` or a `document`, over which the principal has these rights; its serial."""
+        """Makes a vertex, a `subject` or a `document`, over which the principal has these rights, and returns its
+        serial."""
         return self.ask(op="create", kind=kind, rights=rights)["vertex"]
 
     def remove(self, rights, over):

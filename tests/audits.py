@@ -1,7 +1,7 @@
 """Audits of what random runs did: the run's own answers say what each verdict has to be.
 
 The seed is printed; SEED names another. Each command that a run carried out is a step of its actor, in the order of the run. A command that was
-refused as full for slots or cells is none, since a derivation asks for neither.
+refused as full for slots or cells is none, since a derivation needs neither.
 """
 
 import json
@@ -21,7 +21,7 @@ def text_of(rows):
 
 
 def answered(program, word, rows):
-    """What the program answers to these lines, as values, and its status."""
+    """The program's answers to these lines, as values, and its status."""
     ran = subprocess.run([str(program), word], input=text_of(rows), capture_output=True, timeout=SECONDS)
     return [json.loads(row) for row in ran.stdout.splitlines()], ran.returncode
 
@@ -85,7 +85,8 @@ def asked(program, source):
 
 
 def trials(source, count, steps):
-    """Goals and steps with the verdict that the run's answers ask for; the last answers say what each of so many principals has in the end."""
+    """Goals and steps with the verdict that the run's answers imply; the last answers say what each of this many
+    principals has in the end."""
     done = [step for step, answer in steps if "ok" in answer]
     for step, answer in steps[-count:]:
         labels = dict(answer["edges"])
@@ -111,7 +112,7 @@ def trials(source, count, steps):
 
 
 def runs(program):
-    """Each verdict is the one that the run's answers ask for."""
+    """Each verdict is the one that the run's answers imply."""
     seed = int(os.environ.get("SEED", "1"))
     source = random.Random(seed)
     print("  seed %d" % seed)

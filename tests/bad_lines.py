@@ -1,8 +1,8 @@
 """Bad lines, answered as docs/PROTOCOL.md says.
 
-The lines come from line_faults.py. What each is read as, and what is wrong with it, says reading.py; lines that are valid after all are answered as
-storage.py says, so that a refused line which changed something would show. Half of the lines come from a fixed seed and half from one of the
-clock, both printed; SEED names one for all.
+The lines come from line_faults.py. reading.py says what each is read as, and what is wrong with it; lines that are valid
+after all are answered as storage.py says, so that a refused line which changed something would show. Half of the lines come from a fixed
+seed and half from one of the clock, both printed; SEED names one for all.
 """
 
 import random
@@ -26,7 +26,7 @@ BEGIN = [
     b'{"op":"shade"}',
     b'{"op":"write","over":3,"text":"kept"}',
 ]
-# Asked again and again between the bad lines: what they answer would tell of a change.
+# Sent again and again between the bad lines: their answers would show a change.
 PROBES = [b'{"op":"hello","name":"alice"}', b'{"op":"shade"}', b'{"op":"look","at":1}', b'{"op":"read","over":3}', b'{"op":"look","at":2,"seat":1}']
 
 
@@ -45,7 +45,8 @@ def answer_wanted(read, line):
 
 
 def lines_of_a_run(source):
-    """The lines of one run, which a line that is too long ends; behind that one come a few more, which are not answered."""
+    """The lines of one run, which a line that is too long ends; after that one come a few more, which are not
+    answered."""
     lines, count = list(BEGIN), 0
     while count < LINES_OF_A_RUN:
         line = with_faults(source, fields_of(source, source.choice(list(EVENTS))))
@@ -66,7 +67,8 @@ def problem_of(run, line, answer):
 
 
 def difference(config, lines, written, status):
-    """What is wrong with what a run wrote: the line, what is wanted and what was answered; nothing where all is right."""
+    """What is wrong with what a run wrote: the line, the answer that is wanted and the one that came; nothing if all is
+    right."""
     answers = written.split(b"\n")
     wanted_status = int(b'{"error":' in written)
     opened, refusal = answer_wanted(read_config, config)
@@ -131,7 +133,8 @@ def audit_is_right(program, source, where):
 
 
 def lines_are_right(program, seed, count):
-    """Whether so many lines of a seed are answered as they should be; every twentieth is a configuration, every hundredth an audit."""
+    """Whether this many lines of a seed are answered as they should be; every twentieth is a configuration, every
+    hundredth an audit."""
     made, number = 0, 0
     while made < count:
         number += 1
@@ -149,7 +152,7 @@ def lines_are_right(program, seed, count):
 
 
 def bad_lines(count):
-    """So many bad lines, half of them of each seed."""
+    """This many bad lines, half of them of each seed."""
 
     def test(program):
         for seed in seeds():

@@ -54,7 +54,7 @@ def serial(source, graph):
 
 
 def at_random(source, graph, op):
-    """A command of this op, as often denied as allowed or more."""
+    """A command of this op, about as often denied as allowed, or more often."""
     fields = {
         "rights": some(source) if source.random() < 0.95 else "",
         "kind": source.choice(["subject", "document"]),
@@ -67,10 +67,10 @@ def at_random(source, graph, op):
 
 
 def aimed(source, graph, actor, event):
-    """The command with ends and rights that are likely to be allowed, where there are such."""
+    """The command with ends and rights that are likely to be allowed, if there are any."""
 
     def end_of(edges, letter="", but=()):
-        """An edge with this right, not to these; none with no rights where there is none."""
+        """An edge with this right, not to these; none with no rights if there is none."""
         return source.choice([edge for edge in edges if letter in edge[1] and edge[0] not in but] or [[event.get("over", actor), ""]])
 
     op, own = event["op"], graph.edges(actor)
@@ -143,7 +143,8 @@ def row_of(source, event):
 
 
 def talked(program, source, config, told, seen):
-    """What is wrong with the answers of a run, or with its end; nothing where all is right. What is said goes to the list."""
+    """What is wrong with the answers of a run, or with its end; nothing if all is right. Lines and answers go to the
+    list."""
     run, errors = Run(read_config(config)), 0
     with talk(program, "run") as process:
         process.stdin.write(config + b"\n")
@@ -182,7 +183,7 @@ def run_is_right(program, seed, index, seen):
 
 
 def random_runs(count):
-    """So many random runs of each seed, every answer checked."""
+    """This many random runs of each seed, every answer checked."""
 
     def test(program):
         seen = {}
@@ -238,7 +239,7 @@ def derivation_is_right(program, seed, index, seen):
 
 
 def derivations(count):
-    """So many random derivations, half of them of each seed."""
+    """This many random derivations, half of them of each seed."""
 
     def test(program):
         seen = {}

@@ -13,7 +13,7 @@ from typing import NamedTuple
 ROOT = Path(__file__).resolve().parent.parent
 SECONDS = 60
 
-# Runs at once, and how many are begun before it is asked whether the fault still happens.
+# Runs at once, and how many are begun before it is checked whether the fault still happens.
 WORKERS = 2
 BLOCK = 16
 
@@ -22,8 +22,9 @@ WITHOUT_END = 1 << 62
 
 
 class Fault(NamedTuple):
-    """What goes wrong: the calls of a kind from the first to the last; the bytes that they move where they read or write; the most that any does; and whose
-    calls count, those of the program's first thread, those of its others, or of all."""
+    """What goes wrong: the calls of a kind from the first to the last; the bytes that they move if they read or write;
+    the most that any does; and whose calls count, those of the program's first thread, those of its others, or of
+    all."""
 
     kind: str = ""
     first: int = 0
@@ -60,7 +61,7 @@ def library():
 
 @contextlib.contextmanager
 def at_fault(fault):
-    """The environment of a program at which this goes wrong, and the file to which each call that did is told."""
+    """The environment in which this goes wrong for a program, and the file in which each call that did is recorded."""
     with tempfile.TemporaryFile() as told:
         numbers = {"FIRST": fault.first, "LAST": fault.last, "MOVES": fault.moves, "MOST": fault.most, "TOLD": told.fileno()}
         given = {name: str(number) for name, number in numbers.items()}
@@ -91,7 +92,8 @@ def runs(program, words, given):
 
 
 def each(attempt, fault, to_the_end=False):
-    """What the attempt comes to where the call 1, 2, .. goes wrong, or all calls from it on, until none of that number is made."""
+    """The results of the attempt if the call 1, 2, .. goes wrong, or all calls from it on, until none of that number is
+    made."""
     library()
     with ThreadPoolExecutor(WORKERS) as pool:
         for start in itertools.count(1, BLOCK):

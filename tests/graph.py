@@ -66,7 +66,7 @@ class Graph:
         return self.reached({*self.names.values(), *self.pending.values()})
 
     def denial(self, actor, event):
-        """Why the rules deny a command, the first cause that holds; nothing where they allow it."""
+        """Why the rules deny a command, the first cause that holds; nothing if they allow it."""
         op = event["op"]
         if event.get("rights") == "":
             return {"cause": "empty", "denied": op}
@@ -94,7 +94,8 @@ class Graph:
         return "busy" if op != "shade" and seat in self.pending else None
 
     def judged(self, event):
-        """The answer to an event that changes nothing, refused or denied; nothing where it is to be carried out. No event of the collector."""
+        """The answer to an event that changes nothing, refused or denied; nothing if it is to be carried out. No event
+        of the collector."""
         refusal = self.refusal(event)
         if refusal:
             return {"error": refusal}

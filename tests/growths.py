@@ -1,7 +1,7 @@
-"""Refused growths of single calls: each allocation of a test of a crate is refused in turn, and the test looks at what the call left.
+"""Failed allocations of single calls: each allocation of a test of a crate fails in turn, and the test looks at what the call left.
 
-The tests are those of the crates whose names begin with `growth_refused_`, in the programs crates/NAME/out/NAME_tests. Such a test makes a call; where
-memory is refused it prints `no memory`, looks at what is left, and makes the call again. A test whose preparations are refused ends with AllocError.
+The tests are those of the crates whose names begin with `growth_refused_`, in the programs crates/NAME/out/NAME_tests. Such a test makes a call; if
+memory runs out it prints `no memory`, looks at what is left, and makes the call again. A test whose preparations lack memory ends with AllocError.
 """
 
 import subprocess
@@ -22,14 +22,14 @@ def programs():
 
 
 def names_of(program):
-    """The tests of a program that are about refused growths."""
+    """The tests of a program that are about failed allocations."""
     listed = subprocess.run([str(program), "--list"], capture_output=True, timeout=faults.SECONDS, check=True).stdout.decode()
     names = [row.removesuffix(": test") for row in listed.splitlines()]
     return [name for name in names if name.rpartition("::")[2].startswith("growth_refused_")]
 
 
 def kind_of(found):
-    """What a test at a refused allocation came to; None where it may not."""
+    """The result of a test with a failed allocation; None if it is not allowed."""
     ends = {(OK, 0): "went on", (b"no memory\n" + OK, 0): AGAIN}
     if found.status == 101 and found.output == b"":
         return "not prepared"
@@ -37,7 +37,7 @@ def kind_of(found):
 
 
 def growth_refused(name):
-    """Whichever allocation of the test is refused, the call leaves what it should, and one of them is its own."""
+    """Whichever allocation of the test fails, the call leaves what it should, and one of them is its own."""
 
     def test(program):
         attempt = faults.runs(program, [name], b"")

@@ -1,4 +1,4 @@
-"""A server under hostile clients for a while, beside ten that behave: for tests/soak.
+"""A server under hostile clients for a while, with ten others that behave: for tests/soak.
 
 The hostile ones leave within a line, wait within one, flood without reading, reset their connections and send bad lines, each as long as the
 time lasts. Those that behave have each answer checked by the model of owners.py. In the end the server settles as agreed; its memory and its
@@ -36,7 +36,8 @@ BYTES_A_LINE = 1024
 
 
 class Siege:
-    """A server that is used for a while: how many connections may still be made, how many lines were sent, and what it took at most."""
+    """A server that is used for a while: how many connections may still be made, how many lines were sent, and the most
+    that it used."""
 
     def __init__(self, server, seconds):
         self.server = server
@@ -61,7 +62,7 @@ class Siege:
             self.lines += count
 
     def look(self):
-        """Looks at what the server takes, until the time is over."""
+        """Looks at what the server uses, until the time is over."""
         process = Path("/proc/%d" % self.server.process.pid)
         while not self.is_over():
             rows = (process / "status").read_text().splitlines()
@@ -111,7 +112,7 @@ def resets(siege, source, one, number):
 
 
 def answer_to(line):
-    """The answer to a line of one who has not said hello; None where it may be a hello that succeeds."""
+    """The answer to a line from a client that has not said hello; None if it may be a hello that succeeds."""
     try:
         return b'{"error":"no actor"}\n' if read_event(line)["op"] != "hello" else None
     except Refused as refused:
@@ -138,7 +139,7 @@ ROUGH = [leaves, waits, floods, resets, misspeaks]
 
 
 def besieges(siege, seed, number):
-    """One hostile client after the other; how many there were."""
+    """One hostile client after the other; returns how many there were."""
     source = random.Random("%s/%d" % (seed, number))
     for count in itertools.count():
         one = siege.connection()
@@ -152,7 +153,8 @@ def besieges(siege, seed, number):
 
 
 def behaves(siege, seed, number):
-    """A client that behaves, for as long as the time lasts; how many commands it asked, and the longest wait for an answer."""
+    """A client that behaves, for as long as the time lasts; returns how many commands it sent, and the longest wait for
+    an answer."""
     source, longest = random.Random("%s/%d" % (seed, number)), 0.0
     with siege.server.client() as client:
         owner = owners.Owner(client.hello(NAMES[number]))
@@ -168,7 +170,7 @@ def behaves(siege, seed, number):
 
 
 def withstood(seconds):
-    """A server that is besieged for so long."""
+    """A server that is besieged for this long."""
 
     def test(program):
         seed = seeds()[-1]

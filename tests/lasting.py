@@ -1,7 +1,7 @@
 """A server whose one client makes documents and drops each at once, for a while: for tests/soak.
 
-The server has room for few, so its collector has to free what was dropped over and over, for as long as the server lasts. That it is full
-for a moment is no fault; that it stays full is one. (Beside a collector that ends after 10,000 rounds it is full for 83 of the 90 seconds.)
+The server has room for few, so its collector has to free what was dropped over and over, for as long as the server lasts. To be full
+for a moment is no fault; to stay full is one. (With a collector that ends after 10,000 rounds it is full for 83 of the 90 seconds.)
 """
 
 import time
@@ -21,7 +21,7 @@ MOST_FULL = 5.0
 
 
 def makes_and_drops(client, seconds):
-    """Makes documents and drops them; how many there were, and for how long at most none could be made."""
+    """Makes documents and drops them; returns how many there were, and for how long at most none could be made."""
     made, longest, last = 0, 0.0, time.monotonic()
     until = last + seconds
     while time.monotonic() < until:
@@ -35,7 +35,7 @@ def makes_and_drops(client, seconds):
 
 
 def lasted(seconds):
-    """A server that is used so for so long."""
+    """A server that is used in this way for this long."""
 
     def test(program):
         with served(program, 1, 1, CONFIG, seconds + 60) as server:

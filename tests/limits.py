@@ -1,5 +1,5 @@
 """Every limit at once: a run, a server with its settling, and an audit, each with the greatest configuration, lines of 16,384 bytes, texts of 4,096 bytes,
-an owner of an edge for each slot, and 63 sessions, 64 seats or 100,000 steps. Nobody may be told of want of memory.
+an owner of an edge for each slot, and 63 sessions, 64 seats or 100,000 steps. No answer may be `out of memory`.
 
 Each answer is built here by the rules of docs/PROTOCOL.md, the steps of the cycle by docs/COLLECTOR.md. Each test takes the program's path and answers
 whether it passed.
@@ -55,7 +55,7 @@ def asked(seat):
 
 
 def is_as_wanted(found, wanted):
-    """Whether these are the lines that are wanted, of which none is of want of memory; the first other is printed."""
+    """Whether these are the lines that are wanted, none of which is `out of memory`; the first other is printed."""
     pairs = list(zip(found.splitlines(), wanted.splitlines()))
     for place, (row, other) in enumerate(pairs):
         if row != other:
@@ -94,7 +94,7 @@ def greeted(connection, seat):
 
 
 def talked(connection, seat):
-    """Whether the principal of a seat is answered as wanted, up to the bye; no line waits for an answer."""
+    """Whether the principal of a seat has the answers that are wanted, up to the bye; no line waits for an answer."""
     rows = [(line, answer) for line, answer, _ in asked(seat)] + [(alone(b"bye"), BYE)]
     with ThreadPoolExecutor() as pool:
         poured = pool.submit(connection.sendall, joined(*[line for line, _ in rows]))
@@ -104,7 +104,8 @@ def talked(connection, seat):
 
 
 def talks_at_every_limit(program):
-    """63 sessions at once. Settling goes over all that was made, written, looked at and read, and over what was full: it finds that all agrees."""
+    """63 sessions at once. Settling goes over all that was made, written, looked at and read, and over what was full:
+    it finds that everything agrees."""
     with served(program, SESSIONS, SESSIONS, OPENING + b"\n") as server, contextlib.ExitStack() as stack:
         clients = [stack.enter_context(server.connection()) for _ in range(SESSIONS)]
         good = all([greeted(client, seat) for seat, client in enumerate(clients)])
@@ -123,8 +124,8 @@ def step(actor, line):
 
 
 def audit_at_every_limit(program):
-    """As many documents as in the run; what is owned is looked at, each text is written and read, the last one again and again; and all take from the first,
-    the last of them what is the goal."""
+    """As many documents as in the run; what is owned is looked at, each text is written and read, the last one again
+    and again; and all take from the first, the last of them what the goal asks for."""
     steps = [step(1, create(b"rw"))] * len(DOCUMENTS) + [step(1, look(1))]
     for given in TEXTS:
         steps += [step(1, write(FIRST, given)), longest(step(1, read(FIRST, 0)))]

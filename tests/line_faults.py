@@ -41,7 +41,7 @@ GOOD = {
 }
 SERIALS = ["1", "2", "3", "4", "99"]
 
-# Values at and beyond what a field may have; where a field is not named, those of numbers.
+# Values at and beyond what a field may have; if a field is not named, those of numbers.
 SIXTY_FOUR = ",".join('"%s"' % ("a" * (number % 26 + 1) + "b" * (number // 26)) for number in range(64))
 AT_A_LIMIT = {
     "rights": ['"%s"' % word for word in LETTERS_OF_RIGHTS],
@@ -104,7 +104,7 @@ def renamed(source, fields, at):
 
 
 def doubled(source, fields, at):
-    """A key once more, before or behind, with the same value or another."""
+    """A key once more, before or after, with the same value or another."""
     fields.insert(source.randrange(len(fields) + 1), (fields[at][0], source.choice([fields[at][1], value(source)])))
 
 
@@ -120,7 +120,7 @@ def escaped_value(source, fields, at):
 
 
 def removed(source, fields, at):
-    """A field less."""
+    """One field fewer."""
     del fields[at]
 
 
@@ -137,7 +137,7 @@ def at_a_limit(source, fields, at):
 
 
 def wrapped(source, fields, at):
-    """A value inside another, or with a little before or behind it."""
+    """A value inside another, or with a little before or after it."""
     name, given = fields[at]
     fields[at] = (name, source.choice(["[%s]", '{"a":%s}', '"%s"', "[%s,1]", " %s ", "-%s", "%s.0", "%se0"]) % given)
 
@@ -148,7 +148,7 @@ def moved_inside(source, fields, at):
 
 
 def added(source, fields, at):
-    """A field more, which may be one of another op."""
+    """One more field, which may be one of another op."""
     fields.insert(at, (source.choice(KEYS), value(source)))
 
 
@@ -173,7 +173,7 @@ def marked(source, line):
 
 
 def trailed(source, line):
-    """Something behind the line, white space or not."""
+    """Something after the line, white space or not."""
     return line + source.choice([b",", b"}", b"]", b"{}", b"null", b"x", b"\0", b"\r", b" \t\r", b"\x0b", b"\x0c", b"\xc2\xa0", b"//", b"/**/", b"#", line])
 
 

@@ -68,7 +68,7 @@ def line_of(op, but=(), extra=()):
 
 
 def after_hello(name, *pairs):
-    """A run of alice's session: lines with their answers. The status is 1 where one is an error."""
+    """A run of alice's session: lines with their answers. The status is 1 if one is an error."""
     given = joined(CONFIG, HELLO, *[line for line, _ in pairs])
     answers = [answer for _, answer in pairs]
     return name, ["run"], given, joined(WELCOME, *answers), int(any(b'"error"' in answer for answer in answers))
@@ -134,7 +134,7 @@ def refusals():
     yield after_hello("missing-before-a-bad-seat", (b'{"op":"read","seat":null}', MISSING))
     yield after_hello("bad-before-unknown", (b'{"op":"read","over":-1,"x":1}', BAD))
     yield after_hello("bad-seat-before-unknown", (b'{"op":"bye","seat":-1,"x":1}', BAD))
-    # A field that the op does not have is unknown, whatever its value; the op's own fields alone are asked for their values.
+    # A field that the op does not have is unknown, whatever its value; only the op's own fields have their values checked.
     yield after_hello("bad-value-of-another-ops-field", (b'{"op":"read","over":3,"rights":"rr"}', UNKNOWN_FIELD))
     yield after_hello("null-in-another-ops-field", (b'{"op":"read","over":3,"text":null}', UNKNOWN_FIELD))
     yield after_hello("good-field-of-another-op", (b'{"op":"look","at":1,"over":3}', UNKNOWN_FIELD))
@@ -196,7 +196,7 @@ def ends():
     yield "last-line-too-long-without-a-line-feed", ["run"], joined(CONFIG, HELLO) + b"x" * 100000, joined(WELCOME, TOO_LONG), 1
     yield "configuration-of-16385-bytes", ["run"], joined(CONFIG + b" " * (16385 - len(CONFIG)), HELLO), joined(TOO_LONG), 1
     yield "configuration-of-16384-bytes", ["run"], joined(CONFIG + b" " * (16384 - len(CONFIG)), HELLO), joined(WELCOME), 0
-    # The configuration line counts, so that the line after the millionth is the millionth behind it.
+    # The configuration line counts, so that the line after the millionth is the millionth after it.
     yield "a-million-lines", ["run"], joined(CONFIG) + b"\n" * 999999, (NOT_JSON + b"\n") * 999999, 1
     yield "the-line-after-the-millionth", ["run"], joined(CONFIG) + b"\n" * 1000000, (NOT_JSON + b"\n") * 999999 + joined(TOO_MANY), 1
     yield "a-long-line-after-the-millionth", ["run"], joined(CONFIG) + b"\n" * 999999 + b"x" * 20000, (NOT_JSON + b"\n") * 999999 + joined(TOO_MANY), 1
@@ -318,8 +318,8 @@ def answers():
 
 
 def collector():
-    """Collector steps and cycles. Over one principal alone a cycle has six steps: it shades her, takes her slot under scan, makes it black, goes to
-    the sweep, makes the slot white, and goes back to idle."""
+    """Collector steps and cycles. Over only one principal a cycle has six steps: it shades her, takes her slot under
+    scan, makes it black, goes to the sweep, makes the slot white, and goes back to idle."""
     one = b'{"cells":1,"principals":["alice"],"slots":1}'
     collect = b'{"op":"collect"}'
     cycle = b'{"op":"cycle"}'
@@ -352,7 +352,7 @@ COMMANDS = ["take", "grant", "create", "remove", "read", "write", "look"]
 
 
 def audited(name, answer, *rows):
-    """An audit of these lines and its answer. The status is 0 for the verdict `shared` alone."""
+    """An audit of these lines and its answer. The status is 0 only for the verdict `shared`."""
     return "audit-" + name, ["audit"], joined(*rows), joined(answer), int(answer != SHARED)
 
 
@@ -416,7 +416,7 @@ def audit_refusals():
     yield audited("step-of-16384-bytes", SHARED, THREE, GOAL, STEP + b" " * (16384 - len(STEP)))
     yield "audit-last-line-without-a-line-feed", ["audit"], joined(THREE, GOAL) + STEP, joined(SHARED), 0
     yield "audit-cut-in-a-step", ["audit"], joined(THREE, GOAL, STEP) + STEP[:20], joined(NOT_JSON), 1
-    # The configuration and the goal count, so that the line after the millionth is the 999,999th behind them.
+    # The configuration and the goal count, so that the line after the millionth is the 999,999th after them.
     most = joined(THREE, GOAL) + joined(b'{"actor":1,"at":1,"op":"look"}') * 999998
     yield "audit-of-a-line-after-the-millionth", ["audit"], most + joined(STEP), joined(TOO_MANY), 1
 
@@ -453,7 +453,7 @@ def verdicts():
     yield audited("actor-that-is-a-document", stopped(2, b"actor not subject"), alone, over_3, subject, document, step_of("look", actor="3", at="3"))
     yield audited("actor-before-the-rules", stopped(0, b"actor not subject"), alone, over_3, step_of("create", actor="9", kind='"document"', rights='""'))
     yield audited("next-given", SHARED, b'{"next":7,"principals":["alice"]}', b'{"from":1,"rights":"r","to":7}', create)
-    # No slots and no cells are asked in a derivation, and no target is pending.
+    # A derivation needs no slots and no cells, and no target is pending.
     few = b'{"cells":1,"principals":["alice"],"slots":1}'
     yield audited("asks-no-slots-and-cells", SHARED, few, b'{"from":1,"rights":"w","to":3}', create, create)
     last = b'{"next":18446744073709551614,"principals":["alice"]}'

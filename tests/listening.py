@@ -1,4 +1,4 @@
-"""How a server starts: its command line, configuration and address. Each test takes the program's path and answers whether it passed."""
+"""How a server starts: its command line, configuration and address. Each test takes the program's path and returns whether it passed."""
 
 import os
 import socket
@@ -22,7 +22,7 @@ def listening_at_once(program):
 
 
 def one_line_is_read(program):
-    """The configuration is one line: what comes behind it on the input is not looked at."""
+    """The configuration is one line: what comes after it on the input is not looked at."""
     with served(program, 1, 1, CONFIG + b'{"op":"cycle"}\nno line at all') as server:
         good = greet(server)
         ended = server.end()
@@ -62,7 +62,7 @@ def has_loopback_of_ipv6():
 
 
 def started(program, given, *words):
-    """What a server writes that does not come to listen, and its status."""
+    """What a server writes that never listens, and its status."""
     ran = subprocess.run([str(program), "serve", *words], input=given, stdout=subprocess.PIPE, timeout=10)
     return ran.stdout, ran.returncode
 

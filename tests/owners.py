@@ -1,4 +1,4 @@
-"""A model of one principal and of all that it makes, which nobody else reaches: it says what each command is answered.
+"""A model of one principal and of all that it makes, which nobody else reaches: it gives the answer to each command.
 
 Its methods are those of examples/tgdoc_client.py, by the rules of take and grant; nothing is collected. Commands are a method's name and
 its arguments.
@@ -10,7 +10,7 @@ MOST_HELD = 8
 
 
 def lacking(wanted, had):
-    """The rights that are wanted and not had, in the order in which they are written."""
+    """The missing ones of the rights that are wanted, in the order in which they are written."""
     return "".join(letter for letter in LETTERS if letter in wanted and letter not in had)
 
 
@@ -33,7 +33,8 @@ class Owner:
             del self.edges[source][target]
 
     def denial(self, rule, needs, ends):
-        """The denial of a command that needs rights over targets, in this order, and has these ends; None where it is allowed."""
+        """The denial of a command that needs rights over targets, in this order, and has these ends; None if it is
+        allowed."""
         if len(set(ends)) < len(ends):
             return {"cause": "not distinct", "denied": rule}
         for source, rights, target in needs:
@@ -61,7 +62,7 @@ class Owner:
         return denial
 
     def create(self, _kind, rights):
-        """The denial alone: the serial of the new vertex is the server's to choose, and `created` is told it."""
+        """Only the denial: the server chooses the serial of the new vertex, and `created` receives it."""
         return self.rewriting("create", rights, [], [])
 
     def created(self, serial, kind, rights):
@@ -113,12 +114,12 @@ def rights_from(source):
 
 
 def command(source, owner):
-    """A random command; where much is held, all rights over a vertex are given up."""
+    """A random command; if much is held, all rights over a vertex are given up."""
     held = owner.held()
     if len(owner.reached()) > MOST_HELD:
         over = source.choice(held)
         return "remove", (owner.label(owner.serial, over), over)
-    # Mostly what is held; now and then the principal itself, a vertex that was dropped, or one that never was or is another's.
+    # Mostly what is held; now and then the principal itself, a vertex that was dropped, or one that never existed or is another's.
     serials = held * 5 + list(owner.kinds) + [source.randint(1, 5000)]
     over, other, rights = source.choice(serials), source.choice(serials), rights_from(source)
     name = source.choice(["create", "create", "create", "take", "grant", "grant", "remove", "read", "read", "write", "write", "look"])

@@ -1,15 +1,15 @@
 """What tests/planted does: many planted bugs of a crate judged in one check, and the others one by one.
 
-An edit in the body of a function is made in a copy of the function, which stands beside it under a name of its own, with its contract and
-a copy of its written proofs. Nothing calls a copy, and a copy calls what the function calls; so no edit can change what becomes of another,
-and one check, which is asked for the copies alone, judges many. A copy with no edit, the control, stands beside the others of its function.
-An edit is refused where in that check the control is proved, nothing but copies is refused, and of the edited copy a goal fails, or a
+An edit in the body of a function is made in a copy of the function, placed next to it under a name of its own, with its contract and
+a copy of its written proofs. Nothing calls a copy, and a copy calls what the function calls; so no edit can change the result of another,
+and one check, which is asked only for the copies, judges many. A copy with no edit, the control, is placed next to the others of its function.
+An edit is refused if in that check the control is proved, nothing but copies is refused, and of the edited copy a goal fails, or a
 written proof no longer fits it.
 
 All else is tried alone: what a check of copies does not clearly refuse, and each edit of anything but a body, of a trait's method, of a
-method at chosen type arguments and of a cycle of calls. It is first tried on the functions that it is about, and where those do not refuse
+method at chosen type arguments and of a cycle of calls. It is first tried on the functions that it is about, and if those do not refuse
 it, by the toolchain's own rule, over what the crate's checks have kept and then from nothing. So only that rule ever says that an edit is
-not refused, or can't be made. An edit that is refused only because a written proof names what it took away shows little of the contract;
+not refused, or cannot be made. An edit that is refused only because a written proof names what it took away shows little of the contract;
 it counts as failed.
 """
 
@@ -74,7 +74,8 @@ def shape(row):
 
 
 def can_stand_twice(f):
-    """Whether a copy of the function can stand beside it: it is no trait's, in no cycle, and its impl is of no chosen type arguments."""
+    """Whether a copy of the function can be placed next to it: it is no trait's, in no cycle, and its impl is of no
+    chosen type arguments."""
     if f.in_trait or f.in_cycle or not f.has_body:
         return False
     words = f.block.ty[1:] if f.block else []
@@ -102,7 +103,8 @@ def edits_of(crate, parts):
 
 
 def ran(words, folder):
-    """What a check said, its status, and the seconds until each function's proof had ended behind the one before it."""
+    """The output of a check, its status, and the seconds until each function's proof had ended after the one before
+    it."""
     how = {"cwd": folder, "stdin": subprocess.DEVNULL, "stdout": subprocess.PIPE, "stderr": subprocess.STDOUT, "errors": "replace"}
     begun = last = time.monotonic()
     said, seconds = [], {}
@@ -174,7 +176,7 @@ class Report:
 
 
 def refusal(ran, texts):
-    """What refuses the edited texts in a check that was asked for some functions, or None where that is not clear."""
+    """What refuses the edited texts in a check that was asked for some functions, or None if that is not clear."""
     lines = ran.stdout.rstrip("\n").split("\n")
     if ran.returncode != 1 or not lines[-1].startswith("only=") or rtlib.STALE.search(ran.stdout):
         return None
@@ -190,7 +192,7 @@ class Closed(Exception):
 
 
 class Turns:
-    """Lets so many run at once, and of those that wait the one that ranks first."""
+    """Lets this many run at once, and of those that wait the one that ranks first."""
 
     def __init__(self, count, before=()):
         self.free, self.before, self.is_closed = count, before, False
@@ -217,7 +219,7 @@ class Turns:
                 self.changed.notify_all()
 
     def grow(self, more, before=()):
-        """Lets so many more run at once, with these words before each command."""
+        """Lets this many more run at once, with these words before each command."""
         with self.changed:
             self.free, self.before = self.free + more, before
             self.changed.notify_all()
@@ -230,7 +232,8 @@ class Turns:
 
 
 class Trial:
-    """The planted bugs of a crate, tried. Those that are tried alone, which take less time each, come behind all checks of copies."""
+    """The planted bugs of a crate, tried. Those that are tried alone, which take less time each, come after all checks
+    of copies."""
 
     def __init__(self, crate, edits, turns, rank, seeds, log=None):
         self.crate, self.edits, self.turns, self.rank, self.log, self.checks = crate, edits, turns, rank, log, 0
@@ -334,7 +337,8 @@ class Trial:
                     edit.result = True, f"refused: {own[0][:160]}"
 
     def about(self, edit):
-        """The functions that an edit is about: the laws where it changes a definition, else those of the modules that it changes."""
+        """The functions that an edit is about: the laws if it changes a definition, else those of the modules that it
+        changes."""
         if any(not it.startswith("src/") for it in edit.texts):
             laws = [f for f in self.source.functions if not f.block and not f.params and not f.body]
             return ["::".join(self.path(f)) for f in laws]
@@ -386,12 +390,12 @@ class Trial:
 
 
 class Planting:
-    """The planted bugs of crates that come one after another, tried beside one another."""
+    """The planted bugs of crates that come one after another, several crates tried at once."""
 
     def __init__(self, crates, parts, turns, seeds=None, log=None):
         # (its first call sets a signal's handler, which only the main thread may)
         rtlib.guarded()
-        # (the dearest crates stand last in the list, and have the first turns)
+        # (the dearest crates are last in the list, and have the first turns)
         self.ranks = {it.name: -at for at, it in enumerate(crates)}
         self.edits = {it.name: edits_of(it, parts) for it in crates}
         self.turns, self.seeds, self.log, self.begun, self.running = turns, seeds, log, {}, {}
@@ -411,7 +415,7 @@ class Planting:
         self.pool.shutdown()
 
     def end(self):
-        """Tells of each bug, as soon as its crate's have been tried, and returns whether all were refused."""
+        """Reports each bug, as soon as its crate's have been tried, and returns whether all were refused."""
         for ended in as_completed(self.running):
             ended.result()
             for edit in self.running[ended].edits:

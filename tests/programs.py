@@ -1,4 +1,4 @@
-"""Runs that are more than an input and an output: each test takes the program's path and answers whether it passed."""
+"""Runs that are more than an input and an output: each test takes the program's path and returns whether it passed."""
 
 import contextlib
 import itertools
@@ -11,7 +11,7 @@ from pathlib import Path
 
 ROOT = Path(__file__).resolve().parent.parent
 
-# Each program is killed after so many seconds, so that no test hangs.
+# Each program is killed after this many seconds, so that no test hangs.
 SECONDS = 60
 CONFIG = b'{"principals":["alice"]}\n'
 HELLO = b'{"name":"alice","op":"hello"}\n'
@@ -22,7 +22,8 @@ SHARED = b'{"verdict":"shared"}\n'
 
 @contextlib.contextmanager
 def talk(program, *words, room=-1):
-    """A program that runs while it is talked to, over pipes with so many bytes of room. It is killed in the end, or when its time is over: a read from it then finds no more bytes."""
+    """A program that runs while a test talks to it, over pipes with this many bytes of room. It is killed in the end,
+    or when its time is over: a read from it then finds no more bytes."""
     with subprocess.Popen([str(program), *words], stdin=subprocess.PIPE, stdout=subprocess.PIPE, pipesize=room) as process:
         limit = threading.Timer(SECONDS, process.kill)
         limit.start()
@@ -114,7 +115,7 @@ def refused_line_is_answered_at_once(program):
 
 
 def verdict_that_cannot_be_written(program):
-    """A verdict that is lost is status 1, also where it is `shared`."""
+    """A verdict that is lost is status 1, even if it is `shared`."""
     with open("/dev/full", "wb") as full:
         ran = subprocess.run([str(program), "audit"], input=DERIVATION, stdout=full, stderr=subprocess.PIPE, timeout=SECONDS)
     return ran.returncode == 1
@@ -128,7 +129,7 @@ def output_that_cannot_be_written(program):
 
 
 def nothing_to_write(program):
-    """An output that cannot be written does no harm where there is no answer."""
+    """An output that cannot be written does no harm if there is no answer."""
     with open("/dev/full", "wb") as full:
         ran = subprocess.run([str(program), "run"], input=CONFIG, stdout=full, stderr=subprocess.PIPE, timeout=SECONDS)
     return ran.returncode == 0
@@ -155,7 +156,8 @@ def accepted(given, answer, *words):
 
 
 def example_of(program, named, *words):
-    """The words of the one example that ends a help text; none where the text is not as wanted or does not have the words that it is to name."""
+    """The words of the one example that ends a help text; none if the text is not as wanted or does not have the words
+    that it is to name."""
     ran = subprocess.run([str(program), *words], input=b"", capture_output=True, timeout=SECONDS)
     before, mark, example = ran.stdout.decode().partition("\nExample:\n")
     good = ran.returncode == 0 and all(word in before for word in named) and ran.stderr == b"" and example.count("\n") == 1
@@ -210,7 +212,7 @@ def readme_example(program):
 
 
 def demo_of_an_audit(program):
-    """The demo of a derivation prints its lines, and the verdict behind them."""
+    """The demo of a derivation prints its lines, and the verdict after them."""
     given = ROOT / "examples" / "derivation.jsonl"
     return demo_of(program, str(given)) == given.read_text() + SHARED.decode()
 

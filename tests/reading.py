@@ -55,14 +55,14 @@ def no_constant(_):
 
 
 def is_broken(value):
-    """Whether a text has half a surrogate pair, which Python would read; the members of objects were asked before."""
+    """Whether a text has half a surrogate pair, which Python would read; the members of objects were checked before."""
     if isinstance(value, list):
         return any(map(is_broken, value))
     return isinstance(value, str) and bool(HALF_A_PAIR.search(value))
 
 
 def members(pairs):
-    """An object; of equal keys the last stands."""
+    """An object; of equal keys the last one counts."""
     if any(is_broken(part) for pair in pairs for part in pair):
         raise Refused("not json")
     return dict(pairs)
@@ -158,7 +158,7 @@ def read_goal(line):
 
 
 def config_fault(names, edges, after, slots, cells):
-    """The first fault of a configuration, 0 where it has none."""
+    """The first fault of a configuration, 0 if it has none."""
     pairs = [(edge[0], edge[2]) for edge in edges]
     faults = [
         not 1 <= len(names) <= 64,

@@ -1,8 +1,8 @@
-"""Refused memory, failing devices and cut inputs: each allocation, read and write of the program goes wrong in turn, and each answer is looked at.
+"""Failed allocations, failing devices and cut inputs: each allocation, read and write of the program goes wrong in turn, and each answer is checked.
 
 A line that is answered as out of memory is one that nobody sent, or one that was carried out all the same: what comes after it is what the
 program, with all its memory, answers to the lines without it, or with it. All other answers are in tests/scripts.py. Each test takes the
-program's path, answers whether it passed, and prints how many calls went wrong.
+program's path, returns whether it passed, and prints how many calls went wrong.
 """
 
 import os
@@ -39,7 +39,8 @@ def print_counts(what, counts):
 
 
 class References:
-    """What a program with all its memory answers to the lines of a script that were carried out, asked once for each set of them."""
+    """The answers of a program with all its memory to the lines of a script that were carried out, asked once for each
+    set of them."""
 
     def __init__(self, ask):
         self.ask = ask
@@ -51,7 +52,8 @@ class References:
         return self.known[carried_out]
 
     def kind(self, answers):
-        """What the answers, None for a line without one, come to: as if the lines in want of memory were not sent, or the first of them carried out."""
+        """The result that the answers, None for a line without one, show: as if the lines that lacked memory were not
+        sent, or the first of them carried out."""
         wanting = [place for place, answer in enumerate(answers) if answer in (None, NO_MEMORY)]
         heard = [place for place, answer in enumerate(answers) if answer not in (None, NO_MEMORY)]
         kinds = {"not sent": heard, "carried out": sorted(heard + wanting[:1])}
@@ -77,7 +79,7 @@ def references_of(program, script):
 
 
 def kind_of_run(references, script, found):
-    """What a run without some memory came to; None where it may not."""
+    """The result of a run that lacked some memory; None if it is not allowed."""
     answers = found.output.splitlines()
     if not answers:
         return {1: "no line read", 2: "command line refused"}.get(found.status)
@@ -89,7 +91,7 @@ def kind_of_run(references, script, found):
 
 
 class Wrong:
-    """The runs that may not be; the first few are printed."""
+    """The runs that are not allowed; the first few are printed."""
 
     def __init__(self):
         self.count = 0
@@ -103,7 +105,7 @@ class Wrong:
 
 
 def memory_refused(script, to_the_end):
-    """Each allocation of a run is refused, alone or with all behind it."""
+    """Each allocation of a run fails, alone or with all after it."""
 
     def test(program):
         references = references_of(program, script)
@@ -123,7 +125,7 @@ def memory_refused(script, to_the_end):
 
 
 def memory_of_one_answer_refused(word, cases):
-    """Each allocation is refused of runs that have one answer: this, or the want of memory."""
+    """Each allocation of runs that have one answer fails: the answer is this, or `out of memory`."""
 
     def test(program):
         counts, wrong, good = Counter(), Wrong(), True
@@ -144,7 +146,7 @@ def memory_of_one_answer_refused(word, cases):
 
 
 def answers_to(script, given):
-    """The answers to a script that is cut behind these bytes; whatever ends within a line is no JSON."""
+    """The answers to a script that is cut after these bytes; whatever ends within a line is not JSON."""
     rows = given.splitlines()
     known = [(script.opening, None), *script.pairs]
     answers = [answer if row == line else NOT_JSON for row, (line, answer) in zip(rows, known)]
@@ -152,7 +154,8 @@ def answers_to(script, given):
 
 
 def memory_of_texts_refused(program):
-    """Each allocation is refused where a text is asked for, or a command line is refused: it is the same text, or none and status 2."""
+    """Each allocation fails when a text is asked for, or a command line is refused: it is the same text, or none and
+    status 2."""
     counts, wrong = Counter(), Wrong()
     for words in (["--help"], ["run", "--help"], ["--version"], [], ["steal"]):
         attempt = faults.runs(program, words, b"")
@@ -166,13 +169,14 @@ def memory_of_texts_refused(program):
 
 
 def end_of_run(script, given):
-    """The output and status of a run on a script that is cut behind these bytes."""
+    """The output and status of a run on a script that is cut after these bytes."""
     answers = answers_to(script, given)
     return joined(answers), status_of(answers)
 
 
 def end_of_audit(audit, given):
-    """The output and status of an audit that is cut behind these bytes: the goal is reached by the last step but two, and not before."""
+    """The output and status of an audit that is cut after these bytes: the goal is reached by the last step but two,
+    and not before."""
     rows = given.splitlines()
     if len(rows) < 2 or rows != audit.lines[: len(rows)]:
         return joined([NOT_JSON]), 1
@@ -182,12 +186,12 @@ def end_of_audit(audit, given):
 
 
 def end_of_unread(given):
-    """What is whole in front of a read that fails."""
+    """What is whole before a read that fails."""
     return given[: given.rfind(b"\n") + 1]
 
 
 def compare(what, attempt, fault, wanted, to_the_end=False):
-    """How many of the calls went wrong, each with the output and status that are wanted; -1 where one had others."""
+    """How many of the calls went wrong, each with the output and status that are wanted; -1 if one had others."""
     count, wrong = 0, Wrong()
     for number, found in faults.each(attempt, fault, to_the_end):
         count += 1
@@ -198,7 +202,8 @@ def compare(what, attempt, fault, wanted, to_the_end=False):
 
 
 def reads_gone_wrong(word, given, moves, wanted):
-    """Each read of few bytes fails, or moves one byte, or it and all behind it find the end; `wanted` has the output and status from the bytes read."""
+    """Each read of few bytes fails, or moves one byte, or it and all after it find the end; `wanted` has the output and
+    status from the bytes read."""
 
     def test(program):
         def wanted_at(number):
@@ -211,7 +216,8 @@ def reads_gone_wrong(word, given, moves, wanted):
 
 
 def writes_of(given, answers_to_lines):
-    """What a run writes after each read, by reads and writes of few bytes: the answers to the lines that are whole then, and not yet answered."""
+    """What a run writes after each read, with reads and writes of few bytes: the answers to the lines that are whole
+    then, and not yet answered."""
     ends = [*range(FEW, len(given), FEW), len(given)]
     texts = [joined(answers_to_lines(given[:end])) for end in ends]
     pieces = [text[len(before) :] for before, text in zip([b"", *texts], texts)]
@@ -221,7 +227,7 @@ def writes_of(given, answers_to_lines):
 def writes_gone_wrong(word, given, moves, answers_to_lines, to_the_end=False):
     """Each write fails, or takes none or one of its bytes. One byte changes nothing; else the run ends with status 1, and what is written is a prefix.
 
-    The writer tries once more, as it is dropped, what it holds: where only one write goes wrong, the rest of that piece is there too.
+    As the writer is dropped, it tries once more to write what it holds: if only one write goes wrong, the rest of that piece is there too.
     """
 
     def test(program):
@@ -245,7 +251,8 @@ def writes_gone_wrong(word, given, moves, answers_to_lines, to_the_end=False):
 
 
 def answers_in_one_write(word, given, answers):
-    """Answers to lines that came together are written together: where the first write fails there is none, and no run makes a second write."""
+    """Answers to lines that came together are written together: if the first write fails there is none, and no run
+    makes a second write."""
 
     def test(program):
         attempt = faults.runs(program, [word], given)
@@ -256,7 +263,7 @@ def answers_in_one_write(word, given, answers):
 
 
 def cut_inputs(word, given, wanted):
-    """An input that ends behind each of its bytes is answered line by line, and a cut line is no JSON."""
+    """An input that ends after each of its bytes is answered line by line, and a cut line is not JSON."""
 
     def test(program):
         wrong = Wrong()

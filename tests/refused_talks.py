@@ -1,8 +1,8 @@
-"""Refused memory, threads, reads and writes of a server: each goes wrong in turn while two clients talk to it, one after the other.
+"""Allocations, threads, reads and writes of a server: each goes wrong in turn while two clients talk to it, one after the other.
 
 A client sends a line when it has the answer to the one before, and the first comes when all threads of the server wait. So the calls of the
-server's own thread come in one order, and those of its workers too, and it is said of each to which end it has to lead. What a client is not told, since
-its talk ends, was carried out or not sent, as in tests/refused.py. Each test takes the program's path, answers whether it passed, and prints how
+server's own thread come in one order, and those of its workers too, and the test says of each to which end it has to lead. What gets no answer, since
+the client's talk ends, was carried out or not sent, as in tests/refused.py. Each test takes the program's path, returns whether it passed, and prints how
 many calls went wrong.
 """
 
@@ -51,7 +51,7 @@ def free_port():
 
 
 def connected(process, port):
-    """A connection, as soon as the server listens; None where it ends before."""
+    """A connection, as soon as the server listens; None if it ends before."""
     while process.poll() is None:
         try:
             return socket.create_connection(("127.0.0.1", port), timeout=SECONDS)
@@ -61,7 +61,8 @@ def connected(process, port):
 
 
 def talk(connection, lines):
-    """The answers to lines, each sent behind the answer to the one before; None from the line on at which the talk ends."""
+    """The answers to lines, each sent after the answer to the one before; None from the line on at which the talk
+    ends."""
     answers = []
     try:
         with connection, connection.makefile("rb") as source:
@@ -99,7 +100,7 @@ def wait_for_threads(process):
 
 
 def serve(program, talks, fault, workers=2):
-    """A server with so many workers, and a client after the other for each of these talks."""
+    """A server with this many workers, and for each of these talks a client, one after the other."""
     port = free_port()
     words = [str(program), "serve", "--listen", "127.0.0.1:%d" % port, "--workers", str(workers), "--connections", str(len(talks))]
     with faults.source_of(scripts.OPENING + b"\n") as source, faults.at_fault(fault) as (environment, told):
@@ -136,7 +137,7 @@ def all_answers():
 
 
 def end_of(found):
-    """How a server ended, by all that it wrote and its status; None where it may not have."""
+    """How a server ended, by all that it wrote and its status; None if that is not allowed."""
     whole = b'{"listening":"127.0.0.1:%d"}\n' % found.port
     ends = {
         (b"", 2): "command line refused",
@@ -152,7 +153,7 @@ def end_of(found):
 
 
 class Tried(NamedTuple):
-    """A server at fault: its end, what its clients' answers come to, and all that was seen."""
+    """A server at fault: its end, the result that its clients' answers show, and all that was seen."""
 
     end: str
     told: str
@@ -211,21 +212,21 @@ def gone_wrong(fault, claims_of, to_the_end=False, workers=2):
 
 @functools.cache
 def openings_refused(program):
-    """How many of the allocations of `run` end it with its opening refused."""
+    """How many failed allocations of `run` end it with its opening refused."""
     attempt = faults.runs(program, ["run"], joined([scripts.OPENING]))
     return sum(found[:2] == (joined([NO_MEMORY]), 1) for _, found in faults.each(attempt, Fault("memory")))
 
 
-# The growths of the server's own thread behind the last talk. One is of the list into which the lists of all workers are moved: two sessions fit into
-# its first room. One is of the list of logs. Then settling copies the opening graph, whose vertices are one node of a map and whose edges another; and it
-# carries the commands out once more, of which these take memory: the write, whose text is copied, the read of a text that is not empty, and the two looks.
+# The allocations of the server's own thread after the last talk. One is for the list into which the lists of all workers are moved: two sessions fit into
+# its first room. One is for the list of logs. Then settling copies the opening graph, whose vertices are one node of a map and whose edges another; and it
+# carries the commands out once more, of which these need memory: the write, whose text is copied, the read of a text that is not empty, and the two looks.
 LAST_GROWTHS = 1 + 1 + 2 + (1 + 1 + 2)
 
 
 def stages(program, tried):
-    """The servers by what was refused: the words of the command line, the opening, and the server from there on.
+    """The servers by what failed: the words of the command line, the opening, and the server from there on.
 
-    The opening takes what that of a run takes, and before it the buffer of lines, without which a run says nothing.
+    The opening needs what that of a run needs, and before it the buffer of lines, without which a run writes nothing.
     """
     start = ends_of(tried).index("opening refused")
     stop = start + 1 + openings_refused(program)
@@ -233,7 +234,7 @@ def stages(program, tried):
 
 
 def own_memory_refused(program, tried):
-    """Where one allocation of the server's own thread is refused, which never serves a client."""
+    """One allocation of the server's own thread fails, which never serves a client."""
     words, opening, server = stages(program, tried)
     unharmed = [one for one in words if one.end != "command line refused"]
     return {
@@ -246,8 +247,8 @@ def own_memory_refused(program, tried):
 
 
 def workers_memory_refused(_, tried):
-    """Where one allocation of a worker is refused. Each of the two takes two that are no part of its talk: the buffer of answers, before it, and the list of
-    what connections left, behind it."""
+    """One allocation of a worker fails. Each of the two workers makes two that are no part of its talk: the buffer of
+    answers, before it, and the list of what connections left, after it."""
     outside = [place for place, one in enumerate(tried) if one.end == NOT_SETTLED]
     inside = [one for one in tried if one.end != NOT_SETTLED]
     return {
@@ -258,7 +259,7 @@ def workers_memory_refused(_, tried):
 
 
 def memory_refused_from_then_on(program, tried):
-    """Where an allocation and all behind it are refused. Settling takes memory, so nothing is agreed."""
+    """An allocation and all after it fail. Settling needs memory, so nothing is agreed."""
     words, opening, server = stages(program, tried)
     return {
         "the command line is refused": all_end(words, "command line refused"),
@@ -267,12 +268,12 @@ def memory_refused_from_then_on(program, tried):
     }
 
 
-# The workers of the servers to which threads are refused, more than the clients.
+# The workers of the servers that cannot start some thread, more than the clients.
 WORKERS = 5
 
 
 def threads_refused(_, tried):
-    """Where a thread is refused: the collector's, which is the first, or a worker's."""
+    """A thread cannot be started: the collector's, which is the first, or a worker's."""
     return {
         "no server settles of which a thread was refused": ends_of(tried) == [NOT_SETTLED] * (1 + WORKERS),
         "nobody is served where no worker was started": not any(answer for one in tried[:2] for answer in one.found.answers),
@@ -280,7 +281,8 @@ def threads_refused(_, tried):
 
 
 def reads_wrong(opening):
-    """Where a read fails, or finds the end: that of the configuration, or one of a talk, which takes one for each line, and the second one for its end."""
+    """A read fails, or finds the end: that of the configuration, or one of a talk, which makes one for each line, and
+    the second one for its end."""
 
     def claims_of(_, tried):
         return {
@@ -293,8 +295,8 @@ def reads_wrong(opening):
 
 
 def writes_wrong(_, tried):
-    """Where a write fails, or takes no byte. Without its address, which takes some writes, a server serves all the same and writes nothing more. Each answer is
-    one write, and so is the last line."""
+    """A write fails, or takes no byte. Without its address, which takes some writes, a server serves all the same and
+    writes nothing more. Each answer is one write, and so is the last line."""
     address = len(tried) - len(all_answers()) - 1
     return {
         "first come the writes of the address": address > 0 and all_end(tried[:address], "nothing written", "part of the address"),
@@ -305,18 +307,19 @@ def writes_wrong(_, tried):
 
 
 def one_byte(_, tried):
-    """Where a read or a write moves one byte, which is as good as many."""
+    """A read or a write moves one byte, which is as good as many."""
     return {"nothing changes": len(tried) > len(all_answers()) and all_end(tried, "agreed") and all_heard(tried)}
 
 
-# With a hello and a bye a connection takes four growths, of its two buffers, the name, and the room of answers, and now and then one of the list of what
+# With a hello and a bye a connection makes four allocations, for its two buffers, the name, and the room of answers, and now and then one for the list of what
 # connections left. So this one is late.
 GREETING = [scripts.hello(b"alice"), scripts.alone(b"bye")]
 LATE = 4 * 80
 
 
 def memory_refused_late(program):
-    """A server of 101 connections is refused all memory when most were served: it takes no further one, and does not settle."""
+    """A server of 101 connections has no more memory once most were served: it takes no further one, and does not
+    settle."""
     found = serve(program, [GREETING] * 101, Fault("memory", LATE, faults.WITHOUT_END, whose="others"), workers=1)
     greeted = sum(answer == scripts.welcome(1) for answer in found.answers)
     print("  %d of 101 clients were greeted" % greeted)
@@ -324,7 +327,7 @@ def memory_refused_late(program):
 
 
 def thread_refused_of_many(program):
-    """A server of 101 connections is refused a thread: it does not settle."""
+    """A server of 101 connections cannot start a thread: it does not settle."""
     found = serve(program, [GREETING] * 101, Fault("thread", 1, 1))
     return end_of(found) == NOT_SETTLED and not any(found.answers)
 

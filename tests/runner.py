@@ -1,5 +1,5 @@
-"""What the runners say: that of planted bugs, of a crate of three lines, can fail, and credits no bug with another's refusal; tests/run, given
-names, runs the tests of these names, and fails where a name is no test's."""
+"""What the runners report: that of planted bugs, of a crate of three lines, can fail, and credits no bug with another's refusal; tests/run, given
+names, runs the tests of these names, and fails if a name is no test's."""
 
 import subprocess
 import sys
@@ -91,7 +91,7 @@ EDITS = [
 
 
 def said(line):
-    """The edit's name and what became of it, of a line of the runner."""
+    """The edit's name and its result, from a line of the runner."""
     name, _, result = line.removeprefix("planted tiny/").partition(": ")
     return name, result
 

@@ -121,7 +121,7 @@ SEATS = [
     (hello(b"bob", 1), welcome(2)),
 ]
 
-# Document 3 is given up, outlives one cycle, and is freed in the next, step by step: 4 comes into its slot behind the sweep, 5 ahead of it.
+# Document 3 is given up, outlives one cycle, and is freed in the next, step by step: 4 is put into its slot behind the sweep, 5 ahead of it.
 COLLECTING = [
     (create(b"r"), created(3)),
     (read(3), BUSY),

@@ -43,7 +43,8 @@ class Server:
 
 @contextlib.contextmanager
 def running(program, *words, config=CONFIG, seconds=SECONDS):
-    """A program that serves a configuration. Its input stays open. It is killed in the end, or when its time is over."""
+    """A program that serves a configuration. Its input stays open. It is killed in the end, or when its time is
+    over."""
     with subprocess.Popen([str(program), "serve", *words], stdin=subprocess.PIPE, stdout=subprocess.PIPE) as process:
         limit = threading.Timer(seconds, process.kill)
         limit.start()
@@ -91,7 +92,7 @@ def is_silent(one, seconds=0.3):
 
 
 def exchange(server, *pieces):
-    """Sends the pieces over a connection, each by itself, then that no more comes, and reads all that is answered."""
+    """Sends the pieces over a connection, each by itself, then that no more comes, and reads all answers."""
     with server.connection() as one:
         for piece in pieces:
             one.sendall(piece)
@@ -100,7 +101,7 @@ def exchange(server, *pieces):
 
 
 def greet(server, name="alice"):
-    """A client says hello and bye; whether it was answered."""
+    """A client says hello and bye; returns whether it was answered."""
     with server.client() as one:
         serial = one.hello(name)
         one.bye()

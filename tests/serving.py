@@ -1,4 +1,4 @@
-"""Runs of `tgdoc serve` with clients on real connections: each test takes the program's path and answers whether it passed.
+"""Runs of `tgdoc serve` with clients on real connections: each test takes the program's path and returns whether it passed.
 
 A well-behaved client is that of examples/tgdoc_client.py; the others send bytes. How a server starts is tested in tests/listening.py.
 """
@@ -21,7 +21,7 @@ from servers import AGREED, CONFIG, NOT_JSON, SECONDS, Server, exchange, greet, 
 from tgdoc_client import Denied, Fault, Full, Refused
 
 ROOT = Path(__file__).resolve().parent.parent
-# A well-behaved client is answered within so many seconds, whatever others do.
+# A well-behaved client is answered within this many seconds, whatever others do.
 SOON = 1.0
 
 ROOMY = b'{"edges":[[1,"t",2]],"principals":["alice","bob"]}\n'
@@ -39,7 +39,7 @@ SEEN = b'{"edges":[[2,"t"]],"ok":"edges"}\n'
 
 
 def one_talk(config, *pieces_and_answer):
-    """A server of one connection, over which the pieces are sent; the last argument is all that is answered."""
+    """A server of one connection, over which the pieces are sent; the last argument is the whole of the answers."""
     *pieces, answer = pieces_and_answer
 
     def test(program):
@@ -53,7 +53,7 @@ def one_talk(config, *pieces_and_answer):
     return test
 
 
-# The lines of a short talk, and what is answered.
+# The lines of a short talk, and their answers.
 SHORT_TALK = [
     (b'{"op":"read","over":3}\n', b'{"error":"no actor"}\n'),
     (HELLO, WELCOME),
@@ -189,7 +189,8 @@ def line_in_many_segments(program):
 
 
 def after_bye(program):
-    """The connection ends with the answer to bye, though the client does not end it; lines behind the bye are not answered."""
+    """The connection ends with the answer to bye, though the client does not end it; lines after the bye are not
+    answered."""
     with served(program, 1, 1) as server, server.connection() as one:
         one.sendall(HELLO + BYE + HELLO)
         found = read_all(one)
@@ -227,7 +228,7 @@ def million_lines(program):
 
 
 def answers_to(given, serial):
-    """What is answered to the short talk, cut so; its document gets this serial."""
+    """The answers to the short talk, cut in this way; its document gets this serial."""
     answers = []
     for line, (whole, answer) in zip(given.splitlines(), SHORT_TALK):
         answer = answer % serial if b"%" in answer else answer
@@ -285,7 +286,7 @@ def more_clients_than_workers(program):
 
 
 def waits_for_a_seat(workers, *words):
-    """So many clients are served at once; one more is answered when the first of them has left."""
+    """This many clients are served at once; one more is answered when the first of them has left."""
 
     def test(program):
         with running(program, "--listen", "127.0.0.1:0", "--connections", str(workers + 1), *words) as process:
@@ -307,7 +308,8 @@ def waits_for_a_seat(workers, *words):
 
 
 def answer_of(client, name, arguments, may_be_full):
-    """What a command is answered: a value, or the answer that refuses it. Where it may be full, it is asked again, for a time."""
+    """The answer to a command: a value, or the answer that refuses it. If it may be full, it is sent again, for a
+    time."""
     limit = time.monotonic() + 20
     while True:
         try:
@@ -321,7 +323,8 @@ def answer_of(client, name, arguments, may_be_full):
 
 
 def one_more(source, client, owner, made):
-    """One command of a client, answered as the model of what it owns has it; a serial that it gets is put to what it made, the principals' before it."""
+    """One command of a client, answered as the model of what it owns says; a serial that it gets is added to what it
+    made, the principals' before it."""
     name, arguments = owners.command(source, owner)
     wanted = getattr(owner, name)(*arguments)
     needs_room = name in ("create", "take", "grant") and wanted is None
@@ -336,7 +339,7 @@ def one_more(source, client, owner, made):
 
 
 def live(server, number, count):
-    """So many commands of one client; the serials of what it made."""
+    """This many commands of one client; returns the serials of what it made."""
     source = random.Random(number)
     with server.client() as client:
         owner = owners.Owner(client.hello(NAMES[number]))
@@ -365,7 +368,8 @@ def sixteen_clients(program):
 
 
 def behave(bob, document, is_over):
-    """Writes and reads until all is over, and thirty times at least; the longest wait for an answer, and whether each was right."""
+    """Writes and reads until everything is over, and thirty times at least; returns the longest wait for an answer, and
+    whether each was right."""
     longest, good, number = 0.0, True, 0
     while number < 30 or not is_over.is_set():
         for wanted, ask, arguments in [(None, bob.write, ("text %d" % number,)), ("text %d" % number, bob.read, ())]:
@@ -379,7 +383,8 @@ def behave(bob, document, is_over):
 
 
 def beside(rough, connections):
-    """A client that behaves is answered soon, whatever another one does on so many connections; the other's seat is free afterwards."""
+    """A client that behaves is answered soon, whatever another one does on this many connections; the other's seat is
+    free afterwards."""
 
     def test(program):
         is_over = threading.Event()
@@ -429,7 +434,8 @@ def leaves_in_a_line(server):
 
 
 def resets(server):
-    """Resets its connections, which tells the server that they failed: with answers unread, with half a line sent, with none."""
+    """Resets its connections, so that they fail for the server: with answers unread, with half a line sent, with
+    none."""
     good = True
     for turn in range(20):
         with server.connection() as one:
@@ -467,7 +473,7 @@ def slots_come_back(program):
 
 
 def example_of_two_clients(program):
-    """The example ends well, and says so."""
+    """The example ends well, and reports it."""
     words = [str(ROOT / "examples" / "two-clients")]
     ran = subprocess.run(words, env={**os.environ, "TGDOC": str(program)}, capture_output=True, text=True, timeout=2 * SECONDS)
     wanted = ["bob reads: We meet at noon.", "carol made and dropped 200 documents", "its one history agree."]
@@ -475,7 +481,7 @@ def example_of_two_clients(program):
 
 
 def tests_of_talks():
-    """What one client is answered."""
+    """What one client gets."""
     short = column(SHORT_TALK, 0), column(SHORT_TALK, 1) % 3
     yield "short-talk", one_talk(CONFIG, *short)
     yield "short-talk-line-by-line", one_talk(CONFIG, *[row[0] for row in SHORT_TALK], short[1])
@@ -495,7 +501,7 @@ def tests_of_talks():
     yield "cut-after-each-byte", cut_after_each_byte
     yield "dropped-after-each-byte", dropped_after_each_byte
     yield "slots-come-back", slots_come_back
-    # What was refused as full stands in the history, with nothing made, and the server settles.
+    # What was refused as full is in the history, with nothing made, and the server settles.
     for which, config in [("slots", NARROW), ("cells", FEW_CELLS)]:
         full = b'{"full":"%s"}\n' % which.encode()
         yield "create-that-is-full-for-" + which, one_talk(config, HELLO + CREATE * 2 + BYE, WELCOME + MADE + full + PARTED)

@@ -1,4 +1,4 @@
-"""Runs of `tg_load`, many sessions at once over one vault: each test takes the program's path and answers whether it passed."""
+"""Runs of `tg_load`, many sessions at once over one vault: each test takes the program's path and returns whether it passed."""
 
 import faults
 
@@ -10,7 +10,8 @@ SHORT = b'{"error":"a thread, a session or a command was refused"}\n'
 
 
 def allocations_refused(program):
-    """Whichever allocation is refused, the run ends by itself and says so, and no logs differ; one run has no room to close."""
+    """Whichever allocation fails, the run ends by itself and reports it, and no logs differ; one run has no room to
+    close."""
     words = ["--sessions", "1", "--commands", "10", "--no-collector"]
     attempt = faults.runs(program, words, b"")
     found = {(ran.output, ran.status) for _, ran in faults.each(attempt, faults.Fault("memory"))}
@@ -23,7 +24,8 @@ def allocations_refused(program):
 
 
 def threads_refused(program):
-    """Whichever thread is refused, of three sessions' and the collector's, the run ends by itself and says so."""
+    """Whichever thread cannot be started, of three sessions' and the collector's, the run ends by itself and reports
+    it."""
     attempt = faults.runs(program, ["--sessions", "3", "--commands", "10"], b"")
     found = [(ran.output, ran.status) for _, ran in faults.each(attempt, faults.Fault("thread"))]
     return found == [(SHORT, 1)] * 4

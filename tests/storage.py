@@ -1,6 +1,6 @@
-"""A run as its answers tell it: the graph that is never collected, and beside it how many slots and cells may be in use.
+"""A run as its answers describe it: the graph that is never collected, and how many slots and cells may be in use.
 
-What is in use is known by count alone: slots by the creates and the slots that collector steps freed, cells between the edges of what is
+Only the number in use is known: slots by the creates and the slots that collector steps freed, cells between the edges of what is
 live and those of what may still have a slot. docs/COLLECTOR.md has what a collector step does.
 """
 
@@ -24,11 +24,11 @@ class Run:
         self.phase, self.steps = "idle", 0
         # What was unreachable when this cycle started, what was so when the one before it did, and what has no slot any more.
         self.doomed, self.ripe, self.gone = set(), set(), set()
-        # Whether sessions changed nothing since this cycle started, and how many cycles before it went so one after another.
+        # Whether sessions changed nothing since this cycle started, and how many cycles in a row before it were like that.
         self.is_alone, self.quiet = True, 0
 
     def problem(self, event, answer):
-        """What is wrong with the answer to an event; nothing where it is right."""
+        """What is wrong with the answer to an event; nothing if it is right."""
         if event["op"] in ("collect", "cycle"):
             return self.noted(event["op"], answer)
         wanted = self.graph.judged(event)
@@ -51,7 +51,8 @@ class Run:
         return sum(start in live for start, _ in pairs), sum(start not in self.gone for start, _ in pairs)
 
     def full(self, event, answer):
-        """What an event that the rules allow is refused for: what has to be used up, or may be and is so answered."""
+        """Why an event that the rules allow is refused as full: what has to be used up, or what may be and is reported
+        as such."""
         graph, op = self.graph, event["op"]
         if op == "create" and graph.next == NONE_LEFT:
             return "serials"
@@ -101,7 +102,7 @@ class Run:
         return None
 
     def shaded_late(self):
-        """How many pending targets a cycle shades for their seats, where sessions wait."""
+        """How many pending targets a cycle shades for their seats, when sessions wait."""
         found, late = self.graph.reached(self.graph.names.values()), 0
         for _, target in sorted(self.graph.pending.items()):
             if target not in found:

@@ -1,7 +1,7 @@
 """A look at the sources: no body makes a want of memory of its own.
 
 Want of memory may always be the answer, so no contract refuses a body that makes one up. Here each place at which such a fault is made is found, and has to
-stand right where the refusal of a call is handed on: in the arm `Err(_) =>` of a match on the call, in the block of a `let Ok(..) = .. else` or of an `if ..
+be exactly where the refusal of a call is handed on: in the arm `Err(_) =>` of a match on the call, in the block of a `let Ok(..) = .. else` or of an `if ..
 .is_err()`, in a `map_err`, or in the arm of another such fault. And it has to be in the list below, by its file and function, by the call or the fault that is
 handed on, and by the fault that is made of it. What `?` hands on is made nowhere. Modules of tests are left out.
 
@@ -14,7 +14,7 @@ from pathlib import Path
 
 ROOT = Path(__file__).resolve().parent.parent
 
-# What says that memory was refused, where it is a value and no type.
+# What says that memory ran out, if it is a value and not a type.
 WANT = re.compile(r"\b(?:\w+::(?:OutOfMemory|NoMemory|NoRoom)|Said::Nothing)\b|(?<!: )\bAllocError\b(?!>)")
 NONE = re.compile(r"\bNone\b")
 
@@ -42,11 +42,11 @@ LISTED = {
     ("tg_vault/src/vault.rt", "new", "empty_seats", "OpenFault::OutOfMemory"): 1,
     ("tg_vault/src/vault.rt", "command", "self.enter", "AskFault::OutOfMemory"): 1,
     ("tg_vault/src/vault.rt", "command_copy", "command.copy", "AskFault::OutOfMemory"): 1,
-    # A session asks nothing without room in its log and a copy of the command.
+    # A session submits nothing without room in its log and a copy of the command.
     ("tg_share/src/session.rt", "carry_out", "self.log.try_reserve", "AskFault::OutOfMemory"): 1,
     ("tg_share/src/session.rt", "carry_out", "command.copy", "AskFault::OutOfMemory"): 1,
     ("tg_share/src/closing.rt", "close", "Vec::with_capacity", "Closed::NoRoom"): 1,
-    # Lines: each refusal of memory is one fault, and the parser says of its own errors which are for want of memory.
+    # Lines: each lack of memory is one fault, and the parser says of its own errors which are for want of memory.
     ("tg_wire/src/fault.rt", "from", "AllocError", "WireFault::OutOfMemory"): 1,
     ("tg_wire/src/fault.rt", "from", "AllocFailed", "WireFault::OutOfMemory"): 1,
     ("tg_wire/src/object.rt", "json", "e.is_memory", "WireFault::OutOfMemory"): 1,
@@ -79,15 +79,15 @@ LISTED = {
 
 FUNCTION = re.compile(r"\bfn (\w+)")
 CONVERSION = re.compile(r"fn from\(_\w*: (Alloc\w+)")
-# What stands behind a pattern: the rest of it, and the arrow of its arm, another pattern, or the value that it is matched with.
+# What follows a pattern: the rest of it, and the arrow of its arm, another pattern, or the value that it is matched with.
 BEHIND_A_PATTERN = re.compile(r"(?:\s*(?:\{[^{}]*\}|\([^()]*\)))?\)*\s*(?:=>|\||=[^=])")
 PATTERN = re.compile(r"[\w:]+(?:\([^()]*\)|\s\{[^{}]*\})?$")
-# The name in front of the fields of a value.
+# The name before the fields of a value.
 NAME = re.compile(r"(?:^|[\s(>])(?:\w+::)*[A-Z]\w*$")
 
 
 def code_of(text):
-    """The code alone, without comments, texts, characters and imports."""
+    """The code without comments, texts, characters and imports."""
     bare = re.sub(r'//[^\n]*|b?"(?:[^"\\]|\\.)*"|b?\'(?:[^\'\\]|\\.)\'', "", text, flags=re.DOTALL)
     return re.sub(r"^\s*(?:pub |ghost )*use [^;]*;", "", bare, flags=re.MULTILINE)
 
@@ -112,17 +112,17 @@ def called(text):
 
 
 def by_none(call):
-    """The call, if it says by `None` that memory was refused."""
+    """The call, if it reports by `None` that memory ran out."""
     return call if call in SAY_IT_BY_NONE else None
 
 
 def head_of(before):
-    """The last statement in front of a block, as far as it goes."""
+    """The last statement before a block, as far as it goes."""
     return re.split(r"[;{}]", before)[-1].strip()
 
 
 def handed_on_in_block(head):
-    """The call whose refusal the block behind this is about; None for any other block."""
+    """The call whose refusal the block after this is about; None for any other block."""
     if head in (f"if {FLAG}", "if e.is_memory()"):
         return head.removeprefix("if ").removesuffix("()")
     found = re.search(r"let (Ok|Some)\(.*\) = (.*) else$|if (.*)\.is_err\(\)$", head, re.DOTALL)
@@ -143,7 +143,8 @@ def handed_on_in_arm(pattern, matched):
 
 
 def handed_on(code, start, at):
-    """The refusal that is handed on at a place of the function that starts there: the call, or the fault; None where there is none."""
+    """The refusal that is handed on at a place of the function that starts there: the call, or the fault; None if there
+    is none."""
     conversion = CONVERSION.match(code, start)
     if conversion:
         return conversion[1]
@@ -184,7 +185,8 @@ def sources(crates):
 
 
 def every_want_is_handed_on(crates):
-    """Each place hands on a refusal and is listed, each one that is listed is there, and the flag is named where it was."""
+    """Each place hands on a refusal and is listed, each one that is listed is there, and the flag is named where it
+    was."""
     texts = dict(sources(crates))
     found = Counter(place for file, text in texts.items() for place in places_in(file, text))
     for place in found:
@@ -237,7 +239,8 @@ NONE_MADE = [
 
 
 def looks_can_fail(_):
-    """What bodies of a line come to: those that hand a refusal on, those that make a want up, and those that make none."""
+    """The results for bodies of a line: those that hand a refusal on, those that make a want up, and those that make
+    none."""
 
     def seen(body):
         return [place[2:] for place in places_in("x.rt", "use std::alloc::{AllocError, Global};\n\nfn work(alloc: Global) -> Option<Told> {\n%s\n}\n" % body)]
