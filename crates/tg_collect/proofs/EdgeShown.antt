@@ -195,7 +195,7 @@ not_true false n = refl
 other_edge : (x : ℕ) (rights : Letters) (y : ℕ) (t : Triple) → t.from ≢ x → finset.contains (edge x rights y) t ≡ false
 other_edge x rights y t n = not_true (finset.contains (edge x rights y) t) (λ c. n (edge_parts x rights y t c).0)
 
--- A list that says what the old one said, or that the rights are had over y.
+-- A list that says what the old one said, plus the rights over y.
 pub record Gives (before after : List Edge) (y : ℕ) (rights : Letters) : Type 0 where
   pub from : (z : ℕ) (r : Right) → Says after z r → Says before z r ⊎ ((z ≡ y) × (has rights r ≡ true))
   pub old : (z : ℕ) (r : Right) → Says before z r → Says after z r
@@ -220,7 +220,7 @@ triples_given p q h i n o l y rights far once within is held g =
     or-false true = refl
     or-false false = refl
 
--- A list that says what the old one said, but not that the rights are had over y.
+-- A list that says what the old one said, minus the rights over y.
 pub record Takes (before after : List Edge) (y : ℕ) (rights : Letters) : Type 0 where
   pub from : (z : ℕ) (r : Right) → Says after z r → Says before z r
   pub less : (r : Right) → Says after y r → has rights r ≡ true → ⊥

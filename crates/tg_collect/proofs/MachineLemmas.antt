@@ -126,7 +126,7 @@ stands_here h slot cursor s = record { is = s.whole; here = s.here }
 pub owned_here : (es : List Edge) (cursor : ℕ) (s : Split es cursor) → Contains es s.edge
 owned_here es cursor s = subst (λ (l : List Edge). Contains l s.edge) (sym s.whole) (contains_right s.before (s.edge ∷ s.after) s.edge (inl refl))
 
--- The mark of each slot where one was painted.
+-- The mark of each slot after one was painted.
 pub painted_other : (t : Table) (i j : ℕ) (c : Colour) → j ≢ i → mark (painted t i c) j ≡ mark t j
 painted_other t i j c n = mark_there t.slots i j _ n
 

@@ -121,7 +121,7 @@ pub record IsEdgeList (G : Protection) (z : ℕ) : Type 0 where
 abbrev pub EdgesAreListed : Type 0
 EdgesAreListed = (G : Protection) (z : ℕ) → IsGraph G → IsEdgeList G z
 
--- the number of edges changes by the one edge whose label changes; a new vertex brings one
+-- the number of edges changes by the one edge whose label changes; a new vertex adds one
 pub record CountsEdges (G : Protection) (x : ℕ) (α : Letters) : Type 0 where
   pub joined : (y : ℕ) → IsVertex G y →
       edge_count (record G { triples = set.union G.triples (edge x α y) }) + edges_at (label G x y) ≡ edge_count G + edges_at (joined_rights (label G x y) α)

@@ -114,8 +114,8 @@ impl Graph {
         let _ = &self.next;
     }
 
-    /// The label from one vertex to another: the rights that `from` has over `to`. It is empty if there is no edge,
-    /// also if one of the serials is no vertex's.
+    /// The label from one vertex to another: the rights that `from` has over `to`. It is empty if there is no edge, or
+    /// if one of the serials is no vertex's.
     pub fn rights(&self, from: u64, to: u64) -> Rights
         ensures { result ≡ label self.now from to }
     {

@@ -84,7 +84,7 @@ pub fn edges_are_listed()
     ensures { EdgesAreListed }
 {}
 
-/// The number of edges changes by the one edge whose label changes; a new vertex brings one.
+/// The number of edges changes by the one edge whose label changes; a new vertex adds one.
 pub fn edges_are_counted()
     ensures { EdgesAreCounted }
 {}

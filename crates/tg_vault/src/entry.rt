@@ -82,7 +82,7 @@ impl Entry {
         self.actor
     }
 
-    /// What was asked.
+    /// The command.
     pub fn command(&self) -> &Command
         ensures { result.now ≡ self.now.command }
     {
