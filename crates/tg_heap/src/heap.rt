@@ -15,7 +15,7 @@ use tg_cells::Cells;
 use tg_rights::{Kind, Rights, Text};
 use tg_slots::{Colour, Slots};
 
-/// Which of the heap's two stores a refused call has used up.
+/// Which of the heap's two stores a refused call found used up.
 #[derive(Clone, Copy, PartialEq, Eq, Debug, Drop)]
 pub enum HeapFull {
     Slots,

@@ -5,7 +5,7 @@ ghost use Rattle.tg_talk.specs.InputLines.{has_newline, IsFirstNewline};
 
 use memchr::memchr;
 
-/// The first line feed, if there is none before `from`.
+/// The first line feed, given that there is none before `from`.
 pub(crate) fn newline_from(bytes: &[u8], from: usize) -> Option<usize>
     requires within { from ≤ length bytes.now }
     requires none { has_newline (take from bytes.now) ≡ false }

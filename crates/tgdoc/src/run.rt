@@ -16,7 +16,7 @@ use tg_vault::{Vault, courses_have_the_headline, courses_join};
 use tg_wire::{LineRoom, WireFault, error_line, open_fault_line, read_config};
 
 /// Reads a configuration line and then event lines, and answers each. Answers to lines that came together are written
-/// together, and nothing is held back when more is read, nor in the end. A configuration line that is refused ends the
+/// together, and nothing is held back when more is read, nor at the end. A configuration line that is refused ends the
 /// run; an event line that is refused does not. No line at all is read as an empty one, which is not counted. The run
 /// ends at the end of the input, at a line of more than 16,384 bytes, at the line after the millionth, and when the
 /// reader or the writer fails. If there is no memory for an answer's line, `out of memory` is answered in its place; if
