@@ -1,0 +1,25 @@
+//! The key that tells in which bucket of the index an edge lies.
+ghost use Rattle.std.specs.Prelude.{◌≡◌, ◌<◌, ◌≤◌};
+ghost use Rattle.tg_cells.specs.Index.{bucket_of};
+
+/// The key of an index. Two odd numbers whose bits are well mixed spread edges evenly; where nobody can guess them, nobody can choose edges
+/// that all lie in one bucket.
+#[derive(Clone, Copy)]
+pub struct Key {
+    pub owner: u64,
+    pub serial: u64,
+}
+
+// The bucket of an edge, among so many, a power of two. Of one owner the edges to 64 vertices made one after another lie side by side in
+// the heads, so that they share lines of the processor's cache, and never two of them in one bucket. Where each such block begins, and
+// each owner's, is the key's.
+#[tactic(auto, unfolding(crate::specs::Index::bucket_of))]
+pub(crate) fn bucket_of(key: Key, owner: u32, serial: u64, buckets: usize) -> usize
+    requires { 1 ≤ buckets }
+    ensures is { result ≡ bucket_of key buckets owner serial }
+    ensures within { result < buckets }
+{
+    let block = (serial >> 6).wrapping_mul(key.serial);
+    let mixed = block.wrapping_add((owner as u64).wrapping_mul(key.owner));
+    (serial.wrapping_add(mixed >> 32) as usize) & (buckets - 1)
+}
