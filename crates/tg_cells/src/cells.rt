@@ -140,7 +140,7 @@ fn set_head(heads: &mut [u32], owner: u32, is_first: bool, next: u32)
 // The key of an index where none is given.
 const KEY: Key = Key {
     owner: 0x9E37_79B9_7F4A_7C15,
-    serial: 0xBF58_476D_1CE4_E5B9,
+    serial: 0x9FB2_1C65_1E98_DF25,
 };
 
 impl Cells {

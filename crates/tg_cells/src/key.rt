@@ -10,9 +10,9 @@ pub struct Key {
     pub serial: u64,
 }
 
-// The bucket of an edge, among so many, a power of two. Of one owner the edges to 64 vertices made one after another lie side by side in
-// the heads, so that they share lines of the processor's cache, and never two of them in one bucket. Where each such block begins, and
-// each owner's, is the key's.
+// The bucket of an edge, among so many, a power of two. One owner's edges to 64 vertices made one after another lie side by side in the
+// heads, so that they share lines of the processor's cache, and among 64 buckets or more no two of them lie in one. Where each such block
+// begins, for each owner, the key tells.
 #[tactic(auto, unfolding(crate::specs::Index::bucket_of))]
 pub(crate) fn bucket_of(key: Key, owner: u32, serial: u64, buckets: usize) -> usize
     requires { 1 ≤ buckets }
