@@ -137,15 +137,9 @@ fn set_head(heads: &mut [u32], owner: u32, is_first: bool, next: u32)
     }
 }
 
-// The key of an index where none is given.
-const KEY: Key = Key {
-    owner: 0x9E37_79B9_7F4A_7C15,
-    serial: 0x9FB2_1C65_1E98_DF25,
-};
-
 impl Cells {
-    /// Empty lists for that many owners, 1 to 65,536, and that many free cells, 1 to 1,048,576. The only error is that
-    /// an allocation failed.
+    /// Empty lists for that many owners, 1 to 65,536, and that many free cells, 1 to 1,048,576, under the key that
+    /// everybody can read. The only error is that an allocation failed.
     pub fn new(alloc: Global, owners: u32, count: u32) -> Result<Cells, AllocError>
         requires low_owners { 1 ≤ owners }
         requires high_owners { owners ≤ MAX_SLOTS }
@@ -153,10 +147,11 @@ impl Cells {
         requires high { count ≤ MAX_CELLS }
         ensures { IfOk result (λ c. (length c.lists ≡ owners) × (c.free ≡ count) × (c.size ≡ count) × ((i : ℕ) → owned c.lists i ≡ [])) }
     {
-        Cells::with_key(alloc, KEY, owners, count)
+        Cells::with_key(alloc, Key::FIXED, owners, count)
     }
 
-    /// The same, with edges in the buckets that the key tells.
+    /// The same under a key of the caller's, which tells the bucket of each edge. The only error is that an allocation
+    /// failed.
     pub fn with_key(alloc: Global, key: Key, owners: u32, count: u32) -> Result<Cells, AllocError>
         requires low_owners { 1 ≤ owners }
         requires high_owners { owners ≤ MAX_SLOTS }
