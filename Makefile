@@ -28,10 +28,12 @@ soak: all load
 	crates/tg_load/out/tg_load --sessions 63 --commands 15874 --reuse --figures
 	tests/soak
 
-# Lines per second and peak memory on generated input, and what sessions on threads take; no test, and no part of one.
+# Lines per second and peak memory on generated input, what sessions on threads take, and edges piled up in the index; no test, and no part
+# of one.
 bench: all load
 	bench/lines.py
 	bench/threads.py
+	bench/piling.py
 
 # The edit loop, over what earlier runs left: `make check tg_cells` proves that crate and its tests, tries its planted bugs and proves
 # the crates that stand on it; `make check` proves every crate, and no more.

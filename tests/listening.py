@@ -5,10 +5,13 @@ import socket
 import subprocess
 import time
 
+import faults
+from faults import Fault
 from servers import AGREED, CONFIG, NOT_JSON, SECONDS, Server, greet, running, served
 from tgdoc_client import Client
 
 LISTEN = b'{"error":"listen"}\n'
+RANDOM = b'{"error":"random"}\n'
 
 
 def listening_at_once(program):
@@ -92,6 +95,13 @@ def input_that_cannot_be_read(program):
     finally:
         os.close(folder)
     return (ran.stdout, ran.returncode) == (b"", 1)
+
+
+def no_random_numbers(program):
+    """A server that gets no random numbers says so and ends with status 1, whatever its configuration; one that gets them asks once."""
+    words = ["serve", "--listen", "nonsense", "--connections", "1"]
+    attempts = [(CONFIG, 1, (RANDOM, 1, 1)), (b"[]\n", 1, (RANDOM, 1, 1)), (CONFIG, 2, (LISTEN, 1, 0))]
+    return all(faults.ran(program, words, given, Fault("entropy", number, number)) == ended for given, number, ended in attempts)
 
 
 def patient_client(address):
@@ -180,6 +190,7 @@ def tests_of_listening():
     yield "configuration-with-a-fault", no_vault(b'{"principals":["alice","alice"]}\n', b'{"error":"config","fault":2}\n')
     yield "configuration-before-address", no_vault(b"[]\n", b'{"error":"not an object"}\n', "nonsense")
     yield "configuration-without-line-feed", configuration_without_line_feed
+    yield "server-without-random-numbers", no_random_numbers
     yield "server-whose-input-cannot-be-read", input_that_cannot_be_read
     yield "server-whose-output-cannot-be-written", output_that_cannot_be_written
 
