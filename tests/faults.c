@@ -1,7 +1,7 @@
 /* Preloaded into a program, lets some of its calls go wrong, from outside.
 
-   FAULT says which: `memory`, `thread`, `read` or `write`. The calls of that kind count from 1, and those from FIRST to LAST go wrong:
-   memory and threads are refused, and a read or a write moves MOVES bytes, or fails with EIO where that is negative. For each
+   FAULT says which: `memory`, `thread`, `entropy`, `read` or `write`. The calls of that kind count from 1, and those from FIRST to LAST go
+   wrong: memory, threads and random numbers are refused, and a read or a write moves MOVES bytes, or fails with EIO where that is negative. For each
    one byte is written to the descriptor TOLD. No read or write moves more than MOST bytes, where MOST is given. Where WHOSE is given,
    only calls of the program's first thread count (`first`), or only those of its other threads (`others`).
 
@@ -85,6 +85,17 @@ int pthread_create(void *thread, const void *attributes, void *(*body)(void *), 
 {
     creator *create = (creator *)dlsym((void *)-1, "pthread_create");
     return goes_wrong('t') ? TRY_AGAIN : create(thread, attributes, body, argument);
+}
+
+typedef int entropy(void *, size);
+
+int getentropy(void *bytes, size count)
+{
+    entropy *draw = (entropy *)dlsym((void *)-1, "getentropy");
+    if (!goes_wrong('e'))
+        return draw(bytes, count);
+    *__errno_location() = INPUT_OUTPUT;
+    return -1;
 }
 
 /* How many of so many bytes the call moves, or -1 where it fails. */

@@ -5,6 +5,8 @@ import socket
 import subprocess
 import time
 
+import faults
+from faults import Fault
 from servers import AGREED, CONFIG, NOT_JSON, SECONDS, Server, greet, running, served
 from tgdoc_client import Client
 
@@ -94,6 +96,13 @@ def input_that_cannot_be_read(program):
     return (ran.stdout, ran.returncode) == (b"", 1)
 
 
+def no_random_numbers(program):
+    """A server asks for random numbers once, and goes on without them."""
+    words = ["serve", "--listen", "nonsense", "--connections", "1"]
+    ended = [faults.ran(program, words, CONFIG, Fault("entropy", number, number)) for number in (1, 2)]
+    return ended == [(LISTEN, 1, 1), (LISTEN, 1, 0)]
+
+
 def patient_client(address):
     """A client of a server that begins to listen within ten seconds."""
     limit = time.monotonic() + 10
@@ -180,6 +189,7 @@ def tests_of_listening():
     yield "configuration-with-a-fault", no_vault(b'{"principals":["alice","alice"]}\n', b'{"error":"config","fault":2}\n')
     yield "configuration-before-address", no_vault(b"[]\n", b'{"error":"not an object"}\n', "nonsense")
     yield "configuration-without-line-feed", configuration_without_line_feed
+    yield "server-without-random-numbers", no_random_numbers
     yield "server-whose-input-cannot-be-read", input_that_cannot_be_read
     yield "server-whose-output-cannot-be-written", output_that_cannot_be_written
 

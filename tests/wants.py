@@ -38,8 +38,8 @@ LISTED = {
     # The faults of the lower crates are the refusals of lists, maps and texts.
     ("tg_audit/src/settling.rt", "settle", "first_difference", "Settled::NoMemory"): 1,
     ("tg_graph/src/graph.rt", "build", "Graph::open", "OpenFault::OutOfMemory"): 1,
-    ("tg_vault/src/vault.rt", "new", "Store::new", "OpenFault::OutOfMemory"): 1,
-    ("tg_vault/src/vault.rt", "new", "empty_seats", "OpenFault::OutOfMemory"): 1,
+    ("tg_vault/src/vault.rt", "with_key", "Store::with_key", "OpenFault::OutOfMemory"): 1,
+    ("tg_vault/src/vault.rt", "with_key", "empty_seats", "OpenFault::OutOfMemory"): 1,
     ("tg_vault/src/vault.rt", "command", "self.enter", "AskFault::OutOfMemory"): 1,
     ("tg_vault/src/vault.rt", "command_copy", "command.copy", "AskFault::OutOfMemory"): 1,
     # A session asks nothing without room in its log and a copy of the command.

@@ -3,7 +3,7 @@ use Rattle.tg_rights.specs.Membership.{Contains}
 use Rattle.tg_slots.specs.Table.{Table}
 use Rattle.tg_slots.proofs.FreshLemmas.{nones_length}
 use Rattle.tg_cells.specs.Lists.{Edge}
-use Rattle.tg_heap.proofs.heap.Heap.new.Goals as goal
+use Rattle.tg_heap.proofs.heap.Heap.with_key.Goals as goal
 
 pub invariant_of-result : goal.invariant_of-result
 invariant_of-result c =
