@@ -4,7 +4,7 @@ Faults are made in the fields (keys renamed, doubled, moved and removed, values 
 bytes (cut, spoilt, invalid UTF-8, a byte order mark, lengths about the longest). What is wrong with a line, if anything, is not said here.
 """
 
-from reading import EVENTS, LONGEST_LINE, MOST_LEVELS
+from models.reading import EVENTS, LONGEST_LINE, MOST_LEVELS
 
 NUMBERS = """0 1 2 3 4 63 64 65 65536 65537 1048576 1048577 -1 -0 -3 -18446744073709551616 4294967296 9223372036854775807 9223372036854775808
 18446744073709551614 18446744073709551615 18446744073709551616 99999999999999999999 100000000000000000000 1.0 3.5 -0.0 1e0 3E0 1e+0 1e-0 0e0 0.3e1

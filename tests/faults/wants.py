@@ -12,7 +12,7 @@ import re
 from collections import Counter
 from pathlib import Path
 
-ROOT = Path(__file__).resolve().parent.parent
+ROOT = Path(__file__).resolve().parents[2]
 
 # What says that memory was refused, where it is a value and no type.
 WANT = re.compile(r"\b(?:\w+::(?:OutOfMemory|NoMemory|NoRoom)|Said::Nothing)\b|(?<!: )\bAllocError\b(?!>)")

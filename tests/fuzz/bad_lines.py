@@ -1,19 +1,22 @@
 """Bad lines, answered as docs/PROTOCOL.md says.
 
-The lines come from line_faults.py. What each is read as, and what is wrong with it, says reading.py; lines that are valid after all are answered as
-storage.py says, so that a refused line which changed something would show. Half of the lines come from a fixed seed and half from one of the
-clock, both printed; SEED names one for all.
+The lines come from faults/line_faults.py. What each is read as, and what is wrong with it, models/reading.py says;
+lines that are valid after all are answered as models/storage.py says, so that a refused line which changed something
+would show. Half of the lines come from a fixed seed and half from one of the clock, both printed; SEED names one for
+all.
 """
 
 import random
 import subprocess
 
-from differential import seeds
-from line_faults import GOOD, fields_of, joined, with_faults
-from graph import verdict
-from programs import SECONDS
-from reading import COMMANDS, EVENTS, LONGEST_LINE, Refused, line_of, read_config, read_event, read_goal, read_step
-from storage import Run
+from faults.line_faults import GOOD, fields_of, joined, with_faults
+from fuzz.differential import seeds
+from models.graph import verdict
+from models.reading import (
+    COMMANDS, EVENTS, LONGEST_LINE, Refused, line_of, read_config, read_event, read_goal, read_step,
+)
+from models.storage import Run
+from program.programs import SECONDS
 
 LINES = 20000
 LINES_OF_A_RUN = 500

@@ -1,5 +1,6 @@
-"""Lines with their answers for tests/refused.py: each command, cause, fault and kind of answer at least once. The answers are written by
-hand from docs/PROTOCOL.md, the steps of cycles from the table of docs/COLLECTOR.md.
+"""Lines with their answers for refused.py: each command, cause, fault and kind of answer at least once.
+
+The answers are written by hand from docs/PROTOCOL.md, the steps of cycles from the table of docs/COLLECTOR.md.
 """
 
 from typing import NamedTuple

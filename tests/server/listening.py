@@ -5,7 +5,7 @@ import socket
 import subprocess
 import time
 
-from servers import AGREED, CONFIG, NOT_JSON, SECONDS, Server, greet, running, served
+from server.servers import AGREED, CONFIG, NOT_JSON, SECONDS, Server, greet, running, served
 from tgdoc_client import Client
 
 LISTEN = b'{"error":"listen"}\n'

@@ -1,9 +1,10 @@
-"""Refused memory, threads, reads and writes of a server: each goes wrong in turn while two clients talk to it, one after the other.
+"""Refused memory, threads, reads and writes of a server: each goes wrong in turn while two clients talk to it, one
+after the other.
 
-A client sends a line when it has the answer to the one before, and the first comes when all threads of the server wait. So the calls of the
-server's own thread come in one order, and those of its workers too, and it is said of each to which end it has to lead. What a client is not told, since
-its talk ends, was carried out or not sent, as in tests/refused.py. Each test takes the program's path, answers whether it passed, and prints how
-many calls went wrong.
+A client sends a line when it has the answer to the one before, and the first comes when all threads of the server wait.
+So the calls of the server's own thread come in one order, and those of its workers too, and it is said of each to which
+end it has to lead. If a client is not answered, since its talk ends, its line was carried out or not sent, as in
+refused.py. Each test takes the program's path, returns whether it passed, and prints how many calls went wrong.
 """
 
 import functools
@@ -17,10 +18,9 @@ from collections import Counter
 from pathlib import Path
 from typing import NamedTuple
 
-import faults
-import scripts
-from faults import Fault
-from refused import NO_MEMORY, NOT_JSON, References, joined, print_counts
+from faults import faults, scripts
+from faults.faults import Fault
+from faults.refused import NO_MEMORY, NOT_JSON, References, joined, print_counts
 
 SECONDS = 30
 AGREED = b'{"settled":"agreed"}\n'

@@ -1,17 +1,17 @@
-"""Refused memory, failing devices and cut inputs: each allocation, read and write of the program goes wrong in turn, and each answer is looked at.
+"""Refused memory, failing devices and cut inputs: each allocation, read and write of the program goes wrong in turn,
+and each answer is looked at.
 
-A line that is answered as out of memory is one that nobody sent, or one that was carried out all the same: what comes after it is what the
-program, with all its memory, answers to the lines without it, or with it. All other answers are in tests/scripts.py. Each test takes the
-program's path, answers whether it passed, and prints how many calls went wrong.
+A line that is answered as out of memory is one that nobody sent, or one that was carried out all the same: what comes
+after it is what the program, with all its memory, answers to the lines without it, or with it. All other answers are in
+scripts.py. Each test takes the program's path, returns whether it passed, and prints how many calls went wrong.
 """
 
 import os
 import subprocess
 from collections import Counter
 
-import faults
-import scripts
-from faults import Fault, ran
+from faults import faults, scripts
+from faults.faults import Fault, ran
 
 NO_MEMORY = b'{"error":"out of memory"}'
 NOT_JSON = scripts.NOT_JSON

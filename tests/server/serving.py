@@ -1,6 +1,8 @@
-"""Runs of `tgdoc serve` with clients on real connections: each test takes the program's path and answers whether it passed.
+"""Runs of `tgdoc serve` with clients on real connections: each test takes the program's path and returns whether it
+passed.
 
-A well-behaved client is that of examples/tgdoc_client.py; the others send bytes. How a server starts is tested in tests/listening.py.
+A well-behaved client is that of examples/tgdoc_client.py; the others send bytes. How a server starts is tested in
+listening.py.
 """
 
 import contextlib
@@ -15,12 +17,14 @@ import time
 from concurrent.futures import ThreadPoolExecutor
 from pathlib import Path
 
-import listening
-import owners
-from servers import AGREED, CONFIG, NOT_JSON, SECONDS, Server, exchange, greet, is_silent, read_all, read_line, running, served
+from models import owners
+from server import listening
+from server.servers import (
+    AGREED, CONFIG, NOT_JSON, SECONDS, Server, exchange, greet, is_silent, read_all, read_line, running, served,
+)
 from tgdoc_client import Denied, Fault, Full, Refused
 
-ROOT = Path(__file__).resolve().parent.parent
+ROOT = Path(__file__).resolve().parents[2]
 # A well-behaved client is answered within so many seconds, whatever others do.
 SOON = 1.0
 

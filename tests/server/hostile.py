@@ -1,8 +1,8 @@
 """A server under hostile clients for a while, beside ten that behave: for tests/soak.
 
-The hostile ones leave within a line, wait within one, flood without reading, reset their connections and send bad lines, each as long as the
-time lasts. Those that behave have each answer checked by the model of owners.py. In the end the server settles as agreed; its memory and its
-open files stayed within bounds, and are printed.
+The hostile ones leave within a line, wait within one, flood without reading, reset their connections and send bad
+lines, each as long as the time lasts. Those that behave have each answer checked by models/owners.py. In the end the
+server settles as agreed; its memory and its open files stayed within bounds, and are printed.
 """
 
 import itertools
@@ -14,12 +14,12 @@ import time
 from concurrent.futures import ThreadPoolExecutor
 from pathlib import Path
 
-import owners
-from differential import seeds
-from line_faults import fields_of, with_faults
-from reading import EVENTS, Refused, line_of, read_event
-from servers import AGREED, read_line, served
-from serving import one_more
+from faults.line_faults import fields_of, with_faults
+from fuzz.differential import seeds
+from models import owners
+from models.reading import EVENTS, Refused, line_of, read_event
+from server.servers import AGREED, read_line, served
+from server.serving import one_more
 
 SECONDS = 60
 WORKERS = 63

@@ -9,10 +9,10 @@ import subprocess
 from collections import Counter
 from pathlib import Path
 
-import faults
-from faults import Fault, ran
+from faults import faults
+from faults.faults import Fault
 
-ROOT = Path(__file__).resolve().parent.parent
+ROOT = Path(__file__).resolve().parents[2]
 OK = b"\ntest result: ok\n"
 AGAIN = "no memory, and then the answer"
 

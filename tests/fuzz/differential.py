@@ -11,10 +11,10 @@ import random
 import subprocess
 import time
 
-from graph import NONE_LEFT, Graph, verdict
-from programs import SECONDS, talk
-from reading import LETTERS, line_of, read_config, read_event, read_goal, read_step
-from storage import Run
+from models.graph import NONE_LEFT, Graph, verdict
+from models.reading import LETTERS, line_of, read_config, read_event, read_goal, read_step
+from models.storage import Run
+from program.programs import SECONDS, talk
 
 RUNS = 200
 DERIVATIONS = 200

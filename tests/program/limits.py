@@ -10,11 +10,13 @@ import json
 import subprocess
 from concurrent.futures import ThreadPoolExecutor
 
-from lines import joined
-from reading import LONGEST_LINE, LONGEST_TEXT
-from refused import NO_MEMORY
-from scripts import BYE, DONE, SHARED, alone, create, created, edges, goal, hello, look, shaded, swept, take, text, welcome, write
-from servers import AGREED, SECONDS, read_all, read_line, served
+from faults.refused import NO_MEMORY
+from faults.scripts import (
+    BYE, DONE, SHARED, alone, create, created, edges, goal, hello, look, shaded, swept, take, text, welcome, write,
+)
+from models.reading import LONGEST_LINE, LONGEST_TEXT
+from program.lines import joined
+from server.servers import AGREED, SECONDS, read_all, read_line, served
 
 SLOTS, CELLS = 65_536, 1_048_576
 NAMES = [x + y for x in "abcdefgh" for y in "abcdefgh"]

@@ -6,8 +6,8 @@ for a moment is no fault; that it stays full is one. (Beside a collector that en
 
 import time
 
-from reading import line_of
-from servers import AGREED, served
+from models.reading import line_of
+from server.servers import AGREED, served
 from tgdoc_client import Full
 
 # More than a minute, so that a collector that gives up after a count of steps or of rests is seen.

@@ -1,6 +1,6 @@
 """The rules of docs/PROTOCOL.md over a graph that is never collected: triples, texts and serials, with no slots, no cells and no collector."""
 
-from reading import COMMANDS, LETTERS
+from models.reading import COMMANDS, LETTERS
 
 # The next serial at which none is left.
 NONE_LEFT = 2**64 - 1

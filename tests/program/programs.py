@@ -9,7 +9,7 @@ import subprocess
 import threading
 from pathlib import Path
 
-ROOT = Path(__file__).resolve().parent.parent
+ROOT = Path(__file__).resolve().parents[2]
 
 # Each program is killed after so many seconds, so that no test hangs.
 SECONDS = 60

@@ -1,6 +1,6 @@
 """Runs of `tg_load`, many sessions at once over one vault: each test takes the program's path and answers whether it passed."""
 
-import faults
+from faults import faults
 
 AGREED = b'{"settled":"agreed","counted":true}\n'
 NO_ROOM = b'{"settled":"no room","counted":false}\n'

@@ -1,4 +1,4 @@
-"""Faults from outside: tests/faults.c is built and loaded before a program, and some of its calls go wrong."""
+"""Faults from outside: faults.c is built and loaded before a program, and some of its calls go wrong."""
 
 import contextlib
 import functools
@@ -10,7 +10,7 @@ from concurrent.futures import ThreadPoolExecutor
 from pathlib import Path
 from typing import NamedTuple
 
-ROOT = Path(__file__).resolve().parent.parent
+SOURCE = Path(__file__).resolve().with_name("faults.c")
 SECONDS = 60
 
 # Runs at once, and how many are begun before it is asked whether the fault still happens.
@@ -53,7 +53,7 @@ def library():
     page = subprocess.run(["rt", "doc"], capture_output=True, text=True, timeout=SECONDS, check=True).stdout.strip()
     tools = Path(page).parent / "toolchain" / "bin"
     code, built = Path(folder().name) / "faults.o", Path(folder().name) / "faults.so"
-    subprocess.run([tools / "clang", "-O1", "-fPIC", "-c", ROOT / "tests" / "faults.c", "-o", code], timeout=SECONDS, check=True)
+    subprocess.run([tools / "clang", "-O1", "-fPIC", "-c", SOURCE, "-o", code], timeout=SECONDS, check=True)
     subprocess.run([tools / "ld.lld", "-shared", code, "-o", built], timeout=SECONDS, check=True)
     return built
 

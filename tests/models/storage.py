@@ -6,8 +6,8 @@ live and those of what may still have a slot. docs/COLLECTOR.md has what a colle
 
 import re
 
-from graph import NONE_LEFT, Graph, gained
-from reading import line_of
+from models.graph import NONE_LEFT, Graph, gained
+from models.reading import line_of
 
 NOTE = re.compile(rb'\{"ended":(true|false),"freed":([01]),"phase":"(idle|mark|sweep)"\}')
 SWEPT = re.compile(rb'\{"freed":(0|[1-9][0-9]*),"steps":([1-9][0-9]*)\}')
