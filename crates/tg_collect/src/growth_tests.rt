@@ -1,5 +1,5 @@
-//! Calls in want of memory: what they leave, and the same calls made again. tests/growths.py refuses each allocation of
-//! a test in turn.
+//! Calls in want of memory: what they leave, and the same calls made again. tests/faults/growths.py refuses each
+//! allocation of a test in turn.
 use crate::Store;
 use crate::tests::Act::{Create, End, FreeCells, FreeSlots, Join, Mark, Remove, Shade, Sweep};
 use crate::tests::{GRANT, READ, Script, TAKE, TWO, WRITE, at, graph, open, play, rights};

@@ -1,4 +1,5 @@
-//! Calls that are refused their memory and made again: tests/growths.py refuses each allocation of these tests in turn.
+//! Calls that are refused their memory and made again: tests/faults/growths.py refuses each allocation of these tests
+//! in turn.
 //! A session that is told otherwise ends a test like preparations that are refused; where memory was refused before, that shows.
 ghost use Rattle.std.specs.Prelude.{◌≡◌, []};
 ghost use Rattle.tg_share.specs.declared.locked.TheConstants.{PARTS};

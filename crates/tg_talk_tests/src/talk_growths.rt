@@ -1,5 +1,5 @@
 //! A talk where memory is refused: the lines that it took are answered, the logs agree, and a talk of its own has all answers.
-//! tests/growths.py refuses each allocation of the test in turn.
+//! tests/faults/growths.py refuses each allocation of the test in turn.
 use crate::talk::{ANSWERS, Came, LINES, talk_over};
 use std::alloc::{AllocError, Global};
 use std::io::Print;

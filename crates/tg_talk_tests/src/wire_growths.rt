@@ -1,5 +1,6 @@
 //! Each call that takes memory, where it is refused: the call says so, and made again it answers as the protocol has it.
-//! tests/growths.py refuses each allocation of a test in turn. A line that is read as a flat list of members takes none.
+//! tests/faults/growths.py refuses each allocation of a test in turn. A line that is read as a flat list of members
+//! takes none.
 use std::alloc::Global;
 use tg_graph::Verdict;
 use tg_rights::{Cause, Command, Reply, Rights, Rule};
@@ -124,7 +125,7 @@ fn fault_of<T>(found: &Result<T, WireFault>) -> Option<WireFault> {
 }
 
 /// A reader that read each line as a tree would keep its contract; it would be slow. A tree takes memory, a flat line none:
-/// tests/growths.py wants that this test makes no allocation.
+/// tests/faults/growths.py wants that this test makes no allocation.
 #[test]
 fn no_growth_in_flat_lines(rt: HostRuntime) {
     for (line, fault) in FLAT {

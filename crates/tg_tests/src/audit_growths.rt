@@ -1,4 +1,5 @@
-//! Calls that are refused their memory and made again: tests/growths.py refuses each allocation of these tests in turn.
+//! Calls that are refused their memory and made again: tests/faults/growths.py refuses each allocation of these tests
+//! in turn.
 use crate::audit::{
     Ask, Derivation, Finding, READ, SETTLEMENTS, Settlement, are_replies, goal_of, graph_of,
     is_found, is_settled, is_verdict, logs_of, opened, steps_of, vault_of,

@@ -1,5 +1,5 @@
-//! Calls in want of memory: what they leave, and the same calls made again. tests/growths.py refuses each allocation of
-//! a test in turn.
+//! Calls in want of memory: what they leave, and the same calls made again. tests/faults/growths.py refuses each
+//! allocation of a test in turn.
 use crate::graph::{
     Ask, Case, Line, NAMES, Want, Written, command, config, is_reply, opened, played, plays,
     rights_of, rule_of,

@@ -421,7 +421,7 @@ const FILLED: &[Act] = &[
     Free(0, 4),
 ];
 
-/// A refused heap is made again, with all of it free: tests/growths.py refuses each allocation in turn.
+/// A refused heap is made again, with all of it free: tests/faults/growths.py refuses each allocation in turn.
 #[test]
 fn growth_refused_in_a_new_heap(rt: HostRuntime) -> Result<(), AllocError> {
     let mut heap = match Heap::new(rt.alloc(), 3, 4) {

@@ -189,7 +189,7 @@ fn numbers_come_and_go(rt: HostRuntime) -> Result<(), AllocError> {
     Ok(())
 }
 
-/// Four buckets for 8 numbers, made again in want of memory: tests/growths.py refuses each allocation in turn.
+/// Four buckets for 8 numbers, made again in want of memory: tests/faults/growths.py refuses each allocation in turn.
 fn made_again(rt: &impl Print, alloc: Global) -> Result<Buckets, AllocError>
     ensures { IfOk result (λ r. (r.used ≡ 0) × (r.size ≡ 8)) }
 {

@@ -1,4 +1,5 @@
-//! Calls that are refused their memory and made again: tests/growths.py refuses each allocation of these tests in turn.
+//! Calls that are refused their memory and made again: tests/faults/growths.py refuses each allocation of these tests
+//! in turn.
 use crate::vault::{
     ALICE, Ask, BOB, Case, Line, Step, Want, answers, command, events, is_reply, opened, played,
     rights_of, rule_of, words,

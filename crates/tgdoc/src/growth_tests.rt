@@ -1,5 +1,5 @@
 //! The command line where memory is refused: the error says so, and the words that are read again ask for what they do.
-//! tests/growths.py refuses each allocation of the test in turn.
+//! tests/faults/growths.py refuses each allocation of the test in turn.
 
 use crate::{Mode, mode};
 use clap::Error;
