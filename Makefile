@@ -31,9 +31,10 @@ soak: all load ## run at length: a million commands of 63 sessions, a million ba
 	crates/tg_load/out/tg_load --sessions 63 --commands 15874 --reuse --figures
 	tests/soak
 
-bench: all load ## measure lines per second, peak memory, and sessions on threads; tests nothing
+bench: all load ## measure lines per second, peak memory, sessions on threads, and edges piled up; tests nothing
 	bench/lines.py
 	bench/threads.py
+	bench/piling.py
 
 # The edit loop, over what earlier runs left: `make check tg_cells` proves that crate and its tests, tries its planted
 # bugs and proves the crates that stand on it; `make check` proves every crate, and no more.

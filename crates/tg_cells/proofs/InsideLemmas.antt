@@ -1,11 +1,10 @@
 -- The lists that linked cells show, and where a linked cell is.
-use Rattle.std.proofs.Common.{◌≡◌, ◌≢◌, ℕ, ◌<◌, ◌≤◌, List, [], ◌∷◌, ◌++◌, length, Some, None, inl, inr, sym, ◌∙◌, subst, ap, refl, map, get_or, arith, cond, true, false, ltb, append_assoc, append-nil, vec_capacity}
+use Rattle.std.proofs.Common.{◌≡◌, ℕ, ◌<◌, ◌≤◌, List, [], ◌∷◌, length, Some, None, sym, ◌∙◌, subst, ap, refl, map, get_or, arith, cond, true, false, ltb, vec_capacity}
 use Rattle.std.proofs.lemmas.Bool.{lt-ltb, le-ltb}
 use Rattle.std.proofs.lemmas.List.{ext_get_or, get_or-map, get_or_default}
-use Rattle.tg_rights.proofs.MembershipLemmas.{contains_append}
 use Rattle.tg_cells.specs.declared.cells.Cell.{Cell}
 use Rattle.tg_cells.specs.declared.cells.Cells.TheInside.{Inside}
-use Rattle.tg_cells.specs.Lists.{Edge, CellLists, owned, first_cell, Stands, HasNone, Found}
+use Rattle.tg_cells.specs.Lists.{Edge, CellLists, owned, first_cell, Stands}
 use Rattle.tg_cells.specs.Chain.{cell_at, edge_of, walk, Chain}
 use Rattle.tg_cells.specs.Inside.{Shows, view_of, IsInside}
 use Rattle.tg_cells.proofs.ListLemmas.{owned_fits, owner_within}
@@ -110,90 +109,6 @@ read_next s v n i p r e c is k read st =
     let same : c ≡ cell_at s.cells.items n = read ∙ get_or_default s.cells.items n c _ within in
     ap (λ (x : Cell). cond (ltb x.next (length s.cells.items)) (Some x.next) None) (same ∙ ap (cell_at s.cells.items) (sym st.here))
     ∙ chain_head v.size s.cells.items i e.cell (cell_at s.cells.items e.cell).next r shown.used at.parts.rest
-
--- The search for a serial in an owner's list: those passed don't have it, and the others are the chain from here.
-pub record Searching (end : ℕ) (cs : List Cell) (lists : List (List Edge)) (i serial head : ℕ) : Type 0 where
-  pub passed : List Edge
-  pub rest : List Edge
-  pub before : ℕ
-  pub is : owned lists i ≡ passed ++ rest
-  pub none : HasNone passed serial
-  pub chain : Chain end cs i before head rest
-  pub fits : length rest ≤ end
-  pub used : length cs ≤ end
-
-pub search_start : (s : Inside) (v : CellLists) (i serial h : ℕ) → view_of s ≡ v → IsInside s → i < length v.lists → h ≡ get_or s.heads.items i h → Searching s.size s.cells.items v.lists i serial h
-search_start s v i serial h is k w read =
-    let shown = (seen s v is k).shown in
-    let heads = shown.heads in
-    let size = shown.size in
-    let fits = owned_fits v i w shown.sound in
-    let within : i < length s.heads.items = omega arith in
-    let same : h ≡ get_or s.heads.items i v.size = read ∙ get_or_default s.heads.items i h v.size within in
-    record {
-      passed = [];
-      rest = owned v.lists i;
-      before = v.size;
-      is = refl;
-      none = λ e h. absurd h;
-      chain = subst (λ (n : ℕ). Chain n s.cells.items i v.size h (owned v.lists i)) (sym size) (subst (λ (n : ℕ). Chain v.size s.cells.items i v.size n (owned v.lists i)) (sym same) (shown.chains i w));
-      fits = omega arith;
-      used = (let used = shown.used in omega arith);
-    }
-
--- The cell at the head of what is left.
-pub search_found : (end : ℕ) (cs : List Cell) (lists : List (List Edge)) (i serial head : ℕ) (c : Cell) → Searching end cs lists i serial head → head < length cs → c ≡ get_or cs head c → c.serial ≡ serial
-    → (f : Found (owned lists i) serial) × (head ≡ f.edge.cell)
-search_found end cs lists i serial head c k w read named = found k.rest k.is k.chain where
-  found : (rest : List Edge) → owned lists i ≡ k.passed ++ rest → Chain end cs i k.before head rest → (f : Found (owned lists i) serial) × (head ≡ f.edge.cell)
-  found [] is chain = absurd (let used = k.used in omega (arith, chain))
-  found (e ∷ es) is chain =
-      let same : c ≡ cell_at cs head = read ∙ get_or_default cs head c _ w in (
-        record { before = k.passed; edge = e; after = es; is = is; here = sym (ap (λ (x : Edge). x.serial) chain.0.edge) ∙ ap (λ (x : Cell). x.serial) (sym same) ∙ named },
-        ap (λ (x : Edge). x.cell) chain.0.edge,
-      )
-
--- One cell on; the walk from there is shorter.
-pub record Passes (end : ℕ) (cs : List Cell) (lists : List (List Edge)) (i serial head next : ℕ) : Type 0 where
-  pub searching : Searching end cs lists i serial next
-  pub smaller : length (walk end cs end next) < length (walk end cs end head)
-
-pub search_on : (end : ℕ) (cs : List Cell) (lists : List (List Edge)) (i serial head : ℕ) (c : Cell) → Searching end cs lists i serial head → head < length cs → c ≡ get_or cs head c → c.serial ≢ serial
-    → Passes end cs lists i serial head c.next
-search_on end cs lists i serial head c k w read other = passes k.rest k.is k.chain k.fits where
-  passes : (rest : List Edge) → owned lists i ≡ k.passed ++ rest → Chain end cs i k.before head rest → length rest ≤ end → Passes end cs lists i serial head c.next
-  passes [] is chain fits = absurd (let used = k.used in omega (arith, chain))
-  passes (e ∷ es) is chain fits =
-      let same : c ≡ cell_at cs head = read ∙ get_or_default cs head c _ w in
-      let on : Chain end cs i head c.next es = subst (λ (x : Cell). Chain end cs i head x.next es) (sym same) chain.1 in
-      let short : length es ≤ end = omega (arith, fits) in
-      let here = ap length (walk_chain end cs i k.before end head (e ∷ es) k.used chain fits) in
-      let there = ap length (walk_chain end cs i head end c.next es k.used on short) in
-      record {
-        searching = record {
-          passed = k.passed ++ e ∷ [];
-          rest = es;
-          before = head;
-          is = is ∙ sym (append_assoc k.passed (e ∷ []) es);
-          none = λ x h. elim (contains_append k.passed (e ∷ []) x h) [
-            | inl old ↦ k.none x old
-            | inr new ↦ elim new [
-              | inl this ↦ λ n. other (ap (λ (y : Cell). y.serial) same ∙ ap (λ (y : Edge). y.serial) (chain.0.edge ∙ sym this) ∙ n)
-              | inr never ↦ absurd never
-            ]
-          ];
-          chain = on;
-          fits = short;
-          used = k.used;
-        };
-        smaller = omega (arith, here, there);
-      }
-
-pub search_end : (end : ℕ) (cs : List Cell) (lists : List (List Edge)) (i serial head : ℕ) → Searching end cs lists i serial head → length cs ≤ head → HasNone (owned lists i) serial
-search_end end cs lists i serial head k past = ended k.rest k.is k.chain where
-  ended : (rest : List Edge) → owned lists i ≡ k.passed ++ rest → Chain end cs i k.before head rest → HasNone (owned lists i) serial
-  ended [] is chain = subst (λ (l : List Edge). HasNone l serial) (sym (is ∙ append-nil k.passed)) k.none
-  ended (e ∷ es) is chain = absurd (let within = chain.0.within in omega arith)
 
 -- The owner of a linked cell has a head.
 pub owner_fits : (s : Inside) (v : CellLists) (n i : ℕ) (p r : List Edge) (e : Edge) → view_of s ≡ v → IsInside s → Stands v.lists n i p e r → i < length s.heads.items

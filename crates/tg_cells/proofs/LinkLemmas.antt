@@ -7,6 +7,7 @@ use Rattle.std.specs.declared.vec.Vec.{Vec}
 use Rattle.tg_rights.specs.Membership.{Contains, Distinct}
 use Rattle.tg_rights.specs.Letters.{Letters, is_none}
 use Rattle.tg_rights.proofs.MembershipLemmas.{contains_map}
+use Rattle.tg_index.specs.Rows.{Rows}
 use Rattle.tg_cells.specs.declared.cells.Cell.{Cell}
 use Rattle.tg_cells.specs.declared.cells.Cells.TheInside.{Inside}
 use Rattle.tg_cells.specs.Lists.{Edge, CellLists, owned, cells, HasNone, IsFresh}
@@ -211,13 +212,14 @@ pub record LinksIn (s after : Inside) (v : CellLists) (i : ℕ) (e : Edge) : Typ
   pub kept : IsInside after
   pub fresh : IsFresh v.lists e.cell
   pub fewer : v.free ≡ s.free_count - 1 + 1
+  pub same : length after.cells.items ≡ length s.cells.items
   pub shows : view_of after ≡ record v { lists = set v.lists i (e ∷ owned v.lists i); free = s.free_count - 1 }
 
-pub links_in : (s : Inside) (v : CellLists) (w : Vec Cell Global) (g : Vec ℕ Global) (i next : ℕ) (c : Cell) → view_of s ≡ v → IsInside s → i < length v.lists → HasNone (owned v.lists i) c.serial → is_none c.rights ≡ false
+pub links_in : (s : Inside) (v : CellLists) (w : Vec Cell Global) (g : Vec ℕ Global) (x : Rows) (i next : ℕ) (c : Cell) → view_of s ≡ v → IsInside s → i < length v.lists → HasNone (owned v.lists i) c.serial → is_none c.rights ≡ false
     → s.free < length s.cells.items → c.owner ≡ i → c.previous ≡ v.size → c.next ≡ get_or s.heads.items i v.size → next ≡ (cell_at s.cells.items s.free).next
     → s.size ≤ vec_capacity w → w.items ≡ linked s.cells.items s.free c → g.items ≡ set s.heads.items i s.free
-    → LinksIn s (record { cells = w; heads = g; free = next; free_count = s.free_count - 1; size = s.size }) v i (edge_of s.free c)
-links_in s v w g i next c is inside own none some within mine first after next_is room ev gv =
+    → LinksIn s (record { cells = w; heads = g; free = next; free_count = s.free_count - 1; size = s.size; index = x; key = s.key }) v i (edge_of s.free c)
+links_in s v w g x i next c is inside own none some within mine first after next_is room ev gv =
     let seen = seen s v is inside in
     let shown = seen.shown in
     let most_owners = seen.most_owners in
@@ -247,8 +249,8 @@ links_in s v w g i next c is inside own none some within mine first after next_i
     let free : IsFree v.size (linked s.cells.items s.free c) (length v.lists) next (v.free - 1) =
     subst (λ (h : ℕ). IsFree v.size (linked s.cells.items s.free c) (length v.lists) h (v.free - 1)) (sym next_is)
     (linked_free v.size s.cells.items (length v.lists) s.free i v.free c (owned v.lists i) k f) in
-    let left : Leaves (record { cells = w; heads = g; free = next; free_count = s.free_count - 1; size = s.size }) (record v { lists = set v.lists i (edge_of s.free c ∷ owned v.lists i); free = v.free - 1 }) =
-    leaves (record { cells = w; heads = g; free = next; free_count = s.free_count - 1; size = s.size }) (record v { lists = set v.lists i (edge_of s.free c ∷ owned v.lists i); free = v.free - 1 }) (record {
+    let left : Leaves (record { cells = w; heads = g; free = next; free_count = s.free_count - 1; size = s.size; index = x; key = s.key }) (record v { lists = set v.lists i (edge_of s.free c ∷ owned v.lists i); free = v.free - 1 }) =
+    leaves (record { cells = w; heads = g; free = next; free_count = s.free_count - 1; size = s.size; index = x; key = s.key }) (record v { lists = set v.lists i (edge_of s.free c ∷ owned v.lists i); free = v.free - 1 }) (record {
       size = shown.size;
       used = (let same = ap length ev ∙ moved.size ∙ written.size in omega arith);
       heads = ap length gv ∙ length-set s.heads.items i s.free ∙ shown.heads ∙ sym lists;
@@ -266,6 +268,7 @@ links_in s v w g i next c is inside own none some within mine first after next_i
       kept = left.kept;
       fresh = fresh;
       fewer = omega arith;
+      same = ap length ev ∙ moved.size ∙ written.size;
       shows = left.shows ∙ ap (λ (m : ℕ). record v { lists = set v.lists i (edge_of s.free c ∷ owned v.lists i); free = m - 1 }) (sym count);
     }
 
@@ -273,7 +276,7 @@ abbrev pub entered : ℕ → ℕ → ℕ → ℕ → ℕ → Letters → Cell
 entered i end head target serial rights = record { owner = i; previous = end; next = head; target = target; serial = serial; rights = rights }
 
 -- The same from the steps of the code, one after another.
-pub links : (s : Inside) (v : CellLists) (xs : List Cell) (i end head target serial : ℕ) (rights : Letters) (old : Cell) → view_of s ≡ v → IsInside s → i < length v.lists → HasNone (owned v.lists i) serial → is_none rights ≡ false
+pub links : (s : Inside) (v : CellLists) (xs : List Cell) (x : Rows) (i end head target serial : ℕ) (rights : Letters) (old : Cell) → view_of s ≡ v → IsInside s → i < length v.lists → HasNone (owned v.lists i) serial → is_none rights ≡ false
     → end ≡ s.size → head ≡ get_or s.heads.items i head → s.free < length s.cells.items → old ≡ get_or s.cells.items s.free old
     → xs ≡ with_previous (set s.cells.items s.free (entered i end head target serial rights)) head s.free
     → LinksIn s (record {
@@ -282,13 +285,15 @@ pub links : (s : Inside) (v : CellLists) (xs : List Cell) (i end head target ser
       free = old.next;
       free_count = s.free_count - 1;
       size = s.size;
+      index = x;
+      key = s.key;
     }) v i (record { cell = s.free; target = target; serial = serial; rights = rights })
-links s v xs i end head target serial rights old is inside own none some last read within met ex =
+links s v xs x i end head target serial rights old is inside own none some last read within met ex =
     let shown = (seen s v is inside).shown in
     let heads = shown.heads in
     let one : length xs ≡ length (set s.cells.items s.free (entered i end head target serial rights)) = ap length ex ∙ length-set _ head _ in
     let two : length (set s.cells.items s.free (entered i end head target serial rights)) ≡ length s.cells.items = length-set s.cells.items s.free _ in
-    links_in s v (with_items (with_item s.cells s.free (entered i end head target serial rights)) xs) (with_item s.heads i s.free) i old.next
+    links_in s v (with_items (with_item s.cells s.free (entered i end head target serial rights)) xs) (with_item s.heads i s.free) x i old.next
     (entered i end head target serial rights) is inside own none some within refl (last ∙ shown.size)
     (read ∙ get_or_default s.heads.items i head v.size (omega arith)) (ap (λ (x : Cell). x.next) (met ∙ get_or_default s.cells.items s.free old _ within)) inside.room
     (with_items_is (with_item s.cells s.free (entered i end head target serial rights)) xs (omega arith) ∙ ex) refl

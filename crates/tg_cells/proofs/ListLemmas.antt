@@ -1,11 +1,12 @@
 -- One owner's list is replaced: what is promised of all lists stays.
-use Rattle.std.proofs.Common.{◌≡◌, ◌≢◌, ℕ, ◌+◌, ◌-◌, ◌<◌, ◌≤◌, List, [], ◌∷◌, ◌++◌, length, ◌⊎◌, inl, inr, sym, ◌∙◌, subst, ap, refl, set, arith, length-append, get_or-set_same, get_or-set_other, sum_by, false}
+use Rattle.std.proofs.Common.{◌≡◌, ◌≢◌, ℕ, ◌+◌, ◌-◌, ◌<◌, ◌≤◌, List, [], ◌∷◌, ◌++◌, length, inl, inr, sym, ◌∙◌, subst, ap, refl, set, arith, length-append, get_or-set_same, get_or-set_other, sum_by, false}
 use Rattle.std.proofs.lemmas.Bool.{cases_eq, cases_lt}
 use Rattle.std.proofs.lemmas.List.{get_or_past}
 use Rattle.std.proofs.lemmas.List.Sums.{sum_by-set}
 use Rattle.tg_rights.specs.Membership.{Contains, Distinct}
 use Rattle.tg_rights.specs.Letters.{Letters, is_none}
-use Rattle.tg_rights.proofs.MembershipLemmas.{contains_append, contains_left, contains_right, contains_middle, contains_around, map_append, distinct_around}
+use Rattle.tg_rights.proofs.MembershipLemmas.{contains_middle, contains_around, map_append, distinct_around}
+use Rattle.tg_index.proofs.ListsLemmas.{contains_apart}
 use Rattle.tg_cells.specs.Lists.{Edge, CellLists, owned, cells, serials, Stands, HasNone, IsCells, IsFresh}
 
 -- No list is longer than all together, and so than the number of cells.
@@ -21,13 +22,6 @@ contains_within v i e h = elim (cases_lt i (length v.lists)) [
 
 pub owner_within : (v : CellLists) (n i : ℕ) (p r : List Edge) (e : Edge) → Stands v.lists n i p e r → i < length v.lists
 owner_within v n i p r e st = contains_within v i e (subst (λ (l : List Edge). Contains l e) (sym st.is) (contains_middle p r e))
-
--- An element is the one in the middle, or of the rest.
-contains_apart : {X : Type 0} (p r : List X) (y x : X) → Contains (p ++ y ∷ r) x → (x ≡ y) ⊎ Contains (p ++ r) x
-contains_apart p r y x h = elim (contains_append p (y ∷ r) x h) [
-  | inl a ↦ inr (contains_left p r x a)
-  | inr b ↦ elim b [ inl is ↦ inl is | inr c ↦ inr (contains_right p r x c) ]
-]
 
 -- What has to hold of a list that takes the place of another, with so many cells free then.
 record Replaces (v : CellLists) (i : ℕ) (es : List Edge) (count : ℕ) : Type 0 where

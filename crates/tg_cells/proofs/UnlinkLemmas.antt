@@ -1,10 +1,12 @@
 -- A cell leaves its list: its neighbours are joined, and it goes to the front of the free cells.
-use Rattle.std.proofs.Common.{◌≡◌, ◌≢◌, ℕ, ◌+◌, ◌<◌, ◌≤◌, List, [], ◌∷◌, ◌++◌, length, ◌⊎◌, inl, inr, sym, ◌∙◌, subst, ap, refl, set, get_or, arith, cond, eqb, eq-eqb, length-set, get_or-set_same, get_or-set_other, Global, vec_capacity}
-use Rattle.std.proofs.lemmas.Bool.{cases_Bool, ne_eqb, cond-true, cond-false}
+use Rattle.std.proofs.Common.{◌≡◌, ◌≢◌, ℕ, ◌+◌, ◌<◌, ◌≤◌, List, [], ◌∷◌, ◌++◌, length, ◌⊎◌, inl, inr, sym, ◌∙◌, subst, ap, refl, set, get_or, arith, cond, eqb, eq-eqb, length-set, Global, vec_capacity}
+use Rattle.std.proofs.lemmas.Bool.{ne_eqb, cond-true, cond-false}
 use Rattle.std.proofs.lemmas.List.{get_or_default, with_items_is}
 use Rattle.std.specs.Vec.{with_items, with_item}
 use Rattle.std.specs.declared.vec.Vec.{Vec}
 use Rattle.tg_rights.specs.Membership.{Contains}
+use Rattle.tg_index.specs.Rows.{Rows}
+use Rattle.tg_index.proofs.LinksLemmas.{head_own, head_other, heads_size}
 use Rattle.tg_cells.specs.declared.cells.Cell.{Cell}
 use Rattle.tg_cells.specs.declared.cells.Cells.TheInside.{Inside}
 use Rattle.tg_cells.specs.Lists.{Edge, CellLists, owned, cells, Stands}
@@ -124,30 +126,11 @@ freed end cs i n a b owners free count p r k other f =
       counted = omega arith;
     }
 
--- The heads after the head of owner i has moved on, if the cell had none before it.
-head_own : (hs : List ℕ) (i a b end : ℕ) → i < length hs → get_or (cond (eqb a end) (set hs i b) hs) i end ≡ cond (eqb a end) b (get_or hs i end)
-head_own hs i a b end w = elim (cases_Bool (eqb a end)) [
-  | inl on ↦ rw on (get_or-set_same hs i b end w)
-  | inr off ↦ rw off refl
-]
-
-head_other : (hs : List ℕ) (i a b end j : ℕ) → j ≢ i → get_or (cond (eqb a end) (set hs i b) hs) j end ≡ get_or hs j end
-head_other hs i a b end j o = elim (cases_Bool (eqb a end)) [
-  | inl on ↦ rw on (get_or-set_other hs i j b end o)
-  | inr off ↦ rw off refl
-]
-
-heads_size : (hs : List ℕ) (i a b end : ℕ) → length (cond (eqb a end) (set hs i b) hs) ≡ length hs
-heads_size hs i a b end = elim (cases_Bool (eqb a end)) [
-  | inl on ↦ rw on (length-set hs i b)
-  | inr off ↦ rw off refl
-]
-
-leaves-joined : (s : Inside) (v : CellLists) (w : Vec Cell Global) (g : Vec ℕ Global) (n i owners a b : ℕ) (p r : List Edge) (e : Edge) → view_of s ≡ v → IsInside s → Stands v.lists n i p e r → i < length v.lists
+leaves-joined : (s : Inside) (v : CellLists) (w : Vec Cell Global) (g : Vec ℕ Global) (x : Rows) (n i owners a b : ℕ) (p r : List Edge) (e : Edge) → view_of s ≡ v → IsInside s → Stands v.lists n i p e r → i < length v.lists
     → Neighbours v.size s.cells.items i n a b (cells p) (cells r) → Path s.cells.items i v.size (get_or s.heads.items i v.size) p a n → Chain v.size s.cells.items i n b r → owners ≡ length v.lists
     → s.size ≤ vec_capacity w → w.items ≡ unlinked s.cells.items n a b owners s.free → g.items ≡ cond (eqb a v.size) (set s.heads.items i b) s.heads.items
-    → Leaves (record { cells = w; heads = g; free = n; free_count = s.free_count + 1; size = s.size }) (record v { lists = set v.lists i (p ++ r); free = v.free + 1 })
-leaves-joined s v w g n i owners a b p r e is inside st own k path rest total room ev gv =
+    → Leaves (record { cells = w; heads = g; free = n; free_count = s.free_count + 1; size = s.size; index = x; key = s.key }) (record v { lists = set v.lists i (p ++ r); free = v.free + 1 })
+leaves-joined s v w g x n i owners a b p r e is inside st own k path rest total room ev gv =
     let seen = seen s v is inside in
     let shown = seen.shown in
     let heads = shown.heads in
@@ -161,7 +144,7 @@ leaves-joined s v w g n i owners a b p r e is inside st own k path rest total ro
     (front_path v.size s.cells.items i (get_or s.heads.items i v.size) n a b owners s.free p (cells r) k path)
     (back_chain v.size s.cells.items i n a b owners s.free (cells p) r k rest)) in
     let free : IsFree v.size s.cells.items owners s.free v.free = subst (λ (m : ℕ). IsFree v.size s.cells.items m s.free v.free) (sym total) shown.free in
-    leaves (record { cells = w; heads = g; free = n; free_count = s.free_count + 1; size = s.size }) (record v { lists = set v.lists i (p ++ r); free = v.free + 1 }) (record {
+    leaves (record { cells = w; heads = g; free = n; free_count = s.free_count + 1; size = s.size; index = x; key = s.key }) (record v { lists = set v.lists i (p ++ r); free = v.free + 1 }) (record {
       size = shown.size;
       used = (let used = shown.used in let same = ap length ev in let size = only.size in omega arith);
       heads = ap length gv ∙ heads_size s.heads.items i a b v.size ∙ shown.heads ∙ sym lists;
@@ -175,11 +158,11 @@ leaves-joined s v w g n i owners a b p r e is inside st own k path rest total ro
       sound = sound-unlink v n i p r e shown.sound st;
     }) seen.most (omega arith) room
 
-pub leaves-unlink : (s : Inside) (v : CellLists) (w : Vec Cell Global) (g : Vec ℕ Global) (n i owners : ℕ) (p r : List Edge) (e : Edge) → view_of s ≡ v → IsInside s → Stands v.lists n i p e r → owners ≡ length s.heads.items → s.size ≤ vec_capacity w
+pub leaves-unlink : (s : Inside) (v : CellLists) (w : Vec Cell Global) (g : Vec ℕ Global) (x : Rows) (n i owners : ℕ) (p r : List Edge) (e : Edge) → view_of s ≡ v → IsInside s → Stands v.lists n i p e r → owners ≡ length s.heads.items → s.size ≤ vec_capacity w
     → w.items ≡ unlinked s.cells.items n (cell_at s.cells.items n).previous (cell_at s.cells.items n).next owners s.free
     → g.items ≡ cond (eqb (cell_at s.cells.items n).previous s.size) (set s.heads.items i (cell_at s.cells.items n).next) s.heads.items
-    → Leaves (record { cells = w; heads = g; free = n; free_count = s.free_count + 1; size = s.size }) (record v { lists = set v.lists i (p ++ r); free = v.free + 1 })
-leaves-unlink s v w g n i owners p r e is inside st every room ev gv =
+    → Leaves (record { cells = w; heads = g; free = n; free_count = s.free_count + 1; size = s.size; index = x; key = s.key }) (record v { lists = set v.lists i (p ++ r); free = v.free + 1 })
+leaves-unlink s v w g x n i owners p r e is inside st every room ev gv =
     let shown = (seen s v is inside).shown in
     let at = locate s v n i p r e shown st in
     let k : Neighbours v.size s.cells.items i n (cell_at s.cells.items n).previous (cell_at s.cells.items n).next (cells p) (cells r) =
@@ -188,7 +171,7 @@ leaves-unlink s v w g n i owners p r e is inside st every room ev gv =
     let path : Path s.cells.items i v.size (get_or s.heads.items i v.size) p (cell_at s.cells.items n).previous n =
     subst (λ (m : ℕ). Path s.cells.items i v.size (get_or s.heads.items i v.size) p (cell_at s.cells.items m).previous m) st.here at.parts.path in
     let rest : Chain v.size s.cells.items i n (cell_at s.cells.items n).next r = subst (λ (m : ℕ). Chain v.size s.cells.items i m (cell_at s.cells.items m).next r) st.here at.parts.rest in
-    leaves-joined s v w g n i owners (cell_at s.cells.items n).previous (cell_at s.cells.items n).next p r e is inside st at.within k path rest (every ∙ shown.heads) room ev
+    leaves-joined s v w g x n i owners (cell_at s.cells.items n).previous (cell_at s.cells.items n).next p r e is inside st at.within k path rest (every ∙ shown.heads) room ev
     (gv ∙ ap (λ (m : ℕ). cond (eqb (cell_at s.cells.items n).previous m) (set s.heads.items i (cell_at s.cells.items n).next) s.heads.items) shown.size)
 
 -- What the writes one after another make of the cells.
@@ -209,20 +192,25 @@ unlinked_items v xs ys n a b owners free old new w ex ey read ev =
     read ∙ ap (λ (l : List Cell). get_or l n old) is ∙ get_or_default (joined v.items a b) n old _ (omega arith) in
     ap (λ (l : List Cell). set l n new) is ∙ ap (λ (c : Cell). set (joined v.items a b) n c) (ev ∙ ap (λ (c : Cell). record c { owner = owners; next = free }) same)
 
+pub unlinked_length : (v : Vec Cell Global) (xs ys : List Cell) (n a b owners free : ℕ) (old new : Cell) → n < length v.items → xs ≡ with_next v.items a b → ys ≡ with_previous (with_items v xs).items b a
+    → old ≡ get_or (with_items (with_items v xs) ys).items n old → new ≡ record old { owner = owners; next = free } → length v.items ≡ length (with_item (with_items (with_items v xs) ys) n new).items
+unlinked_length v xs ys n a b owners free old new w ex ey read ev =
+    sym (ap length (unlinked_items v xs ys n a b owners free old new w ex ey read ev) ∙ length-set (joined v.items a b) n _ ∙ length-set (with_next v.items a b) b _ ∙ length-set v.items a _)
+
 -- The same from the steps of the code, one after another.
-pub unlinks : (s : Inside) (v : CellLists) (xs ys : List Cell) (gs : List ℕ) (n i end owners : ℕ) (p r : List Edge) (e : Edge) (before after old new : Cell) → view_of s ≡ v → IsInside s → Stands v.lists n i p e r
+pub unlinks : (s : Inside) (v : CellLists) (xs ys : List Cell) (gs : List ℕ) (x : Rows) (n i end owners : ℕ) (p r : List Edge) (e : Edge) (before after old new : Cell) → view_of s ≡ v → IsInside s → Stands v.lists n i p e r
     → end ≡ s.size → owners ≡ length s.heads.items → before ≡ get_or s.cells.items n before → after ≡ get_or s.cells.items n after
     → gs ≡ cond (eqb before.previous end) (set s.heads.items i after.next) s.heads.items → xs ≡ with_next s.cells.items before.previous after.next
     → ys ≡ with_previous (with_items s.cells xs).items after.next before.previous → old ≡ get_or (with_items (with_items s.cells xs) ys).items n old → new ≡ record old { owner = owners; next = s.free }
-    → Leaves (record { cells = with_item (with_items (with_items s.cells xs) ys) n new; heads = with_items s.heads gs; free = n; free_count = s.free_count + 1; size = s.size })
+    → Leaves (record { cells = with_item (with_items (with_items s.cells xs) ys) n new; heads = with_items s.heads gs; free = n; free_count = s.free_count + 1; size = s.size; index = x; key = s.key })
     (record v { lists = set v.lists i (p ++ r); free = v.free + 1 })
-unlinks s v xs ys gs n i end owners p r e before after old new is inside st last every read read' eg ex ey freed en =
+unlinks s v xs ys gs x n i end owners p r e before after old new is inside st last every read read' eg ex ey freed en =
     let within : n < length s.cells.items = linked_within s v n i p r e is inside st in
     let a : before.previous ≡ (cell_at s.cells.items n).previous = ap (λ (x : Cell). x.previous) (read ∙ get_or_default s.cells.items n before _ within) in
     let b : after.next ≡ (cell_at s.cells.items n).next = ap (λ (x : Cell). x.next) (read' ∙ get_or_default s.cells.items n after _ within) in
     let made = unlinked_items s.cells xs ys n before.previous after.next owners s.free old new within ex ey freed en in
     let heads : length gs ≡ length s.heads.items = ap length eg ∙ heads_size s.heads.items i before.previous after.next end in
-    leaves-unlink s v (with_item (with_items (with_items s.cells xs) ys) n new) (with_items s.heads gs) n i owners p r e is inside st every inside.room
+    leaves-unlink s v (with_item (with_items (with_items s.cells xs) ys) n new) (with_items s.heads gs) x n i owners p r e is inside st every inside.room
     (made ∙ ap (λ (k : ℕ). unlinked s.cells.items n k after.next owners s.free) a ∙ ap (λ (k : ℕ). unlinked s.cells.items n (cell_at s.cells.items n).previous k owners s.free) b)
     (with_items_is s.heads gs (omega arith) ∙ eg ∙ ap (λ (k : ℕ). cond (eqb k end) (set s.heads.items i after.next) s.heads.items) a
     ∙ ap (λ (k : ℕ). cond (eqb (cell_at s.cells.items n).previous end) (set s.heads.items i k) s.heads.items) b

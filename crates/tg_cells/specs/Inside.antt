@@ -1,4 +1,4 @@
--- the lists that linked cells represent: one chain from each owner's head, and one row of free cells among those used so far
+-- the lists that linked cells represent: one chain from each owner's head, one row of free cells among those used so far, and an index of the edges
 use Rattle.std.specs.Prelude.{◌≡◌, ℕ, ◌+◌, ◌<◌, ◌≤◌, List, length, map}
 use Rattle.std.specs.Vec.{vec_capacity}
 use Rattle.std.proofs.Common.{get_or}
@@ -6,8 +6,9 @@ use Rattle.tg_rights.specs.declared.limits.TheConstants.{MAX_CELLS, MAX_SLOTS}
 use Rattle.tg_rights.specs.Membership.{Distinct}
 use Rattle.tg_cells.specs.declared.cells.Cell.{Cell}
 use Rattle.tg_cells.specs.declared.cells.Cells.TheInside.{Inside}
-use Rattle.tg_cells.specs.Lists.{CellLists, owned, IsCells}
+use Rattle.tg_cells.specs.Lists.{Edge, CellLists, owned, IsCells}
 use Rattle.tg_cells.specs.Chain.{walk, Chain, Row}
+use Rattle.tg_cells.specs.Index.{bucket_of, IsIndexed}
 
 -- the row of the free ones of the cells that were used so far; with those that were not, they are so many
 pub record IsFree (end : ℕ) (cs : List Cell) (owners head count : ℕ) : Type 0 where
@@ -35,3 +36,18 @@ pub record IsInside (s : Inside) : Type 0 where
   pub most : s.size ≤ MAX_CELLS
   pub most_owners : length s.heads.items ≤ MAX_SLOTS
   pub room : s.size ≤ vec_capacity s.cells
+
+-- the bucket of an owner and a serial in the index
+abbrev pub place_in : Inside → ℕ → ℕ → ℕ
+place_in s = bucket_of s.key (length s.index.lists)
+
+-- the index has these lists' edges, and as many numbers as cells were used
+pub record Indexes (s : Inside) (lists : List (List Edge)) : Type 0 where
+  pub some : 1 ≤ length s.index.lists
+  pub used : s.index.used ≡ length s.cells.items
+  pub size : s.index.size ≡ s.size
+  pub edges : IsIndexed (place_in s) s.index.lists lists
+
+pub record IsKept (s : Inside) : Type 0 where
+  pub inside : IsInside s
+  pub index : Indexes s (view_of s).lists

@@ -1,13 +1,15 @@
 //! The cells: arrays of numbers, and a list through them for each owner.
-ghost use Rattle.std.specs.Prelude.{◌≡◌, ℕ, ◌+◌, ◌<◌, ◌≤◌, List, [], ◌∷◌, ◌++◌, length, MatchOption, MatchBool, IfOk, Some, None, cond, ltb, set, false};
+ghost use Rattle.std.specs.Prelude.{◌≡◌, ℕ, ◌+◌, ◌<◌, ◌≤◌, List, [], ◌∷◌, ◌++◌, length, MatchOption, MatchBool, IfOk, Some, None, cond, ltb, eqb, ◌&&◌, set, false};
 ghost use Rattle.std.specs.Vec.{vec_capacity};
 ghost use Rattle.tg_rights.specs.declared.limits.TheConstants.{MAX_CELLS, MAX_SLOTS};
 ghost use Rattle.tg_rights.specs.Letters.{is_none};
 ghost use Rattle.tg_cells.specs.Lists.{CellLists, Edge, owned, first_cell, Stands, IsLinked, IsLinkedBy, HasNone, IsFresh, Found, IsCells};
 ghost use Rattle.tg_cells.specs.Chain.{edge_of, with_previous, with_next, IsProvided};
 
+use crate::key::{Key, bucket_of};
 use std::alloc::{AllocError, Global};
 use std::marker::Model;
+use tg_index::Buckets;
 use tg_rights::Rights;
 
 // A cell, and its neighbours in its list. A free cell has the number of owners as its owner. What a walk reads comes first, in 16 bytes:
@@ -30,6 +32,13 @@ impl Cell {
         self.owner = owners;
         self.next = next;
     }
+
+    // The cell is the owner's, with that serial.
+    fn is_of(&self, owner: u32, serial: u64) -> bool
+        ensures { result ≡ (eqb self.now.serial serial && eqb self.now.owner owner) }
+    {
+        self.serial == serial && self.owner == owner
+    }
 }
 
 /// One list of cells for each owner, and the free cells.
@@ -44,6 +53,10 @@ pub struct Cells {
     free_count: u32,
     // The number of all cells, which is no cell's number and ends each list.
     size: u32,
+    // The linked cells, each in the bucket of its owner and its serial.
+    index: Buckets,
+    // What tells that bucket.
+    key: Key,
 }
 
 impl Model for Cells {
@@ -51,11 +64,11 @@ impl Model for Cells {
 
     ghost Value = { CellLists };
 
-    ghost use Rattle.tg_cells.specs.Inside.{view_of, IsInside};
+    ghost use Rattle.tg_cells.specs.Inside.{view_of, IsKept};
 
     ghost view = { view_of };
 
-    ghost invariant = { IsInside };
+    ghost invariant = { IsKept };
 }
 
 // The cell of that number, if it is one.
@@ -125,9 +138,21 @@ fn set_head(heads: &mut [u32], owner: u32, is_first: bool, next: u32)
 }
 
 impl Cells {
-    /// Empty lists for that many owners, 1 to 65,536, and that many free cells, 1 to 1,048,576. The only error is that
-    /// an allocation failed.
+    /// Empty lists for that many owners, 1 to 65,536, and that many free cells, 1 to 1,048,576, under the key that
+    /// everybody can read. The only error is that an allocation failed.
     pub fn new(alloc: Global, owners: u32, count: u32) -> Result<Cells, AllocError>
+        requires low_owners { 1 ≤ owners }
+        requires high_owners { owners ≤ MAX_SLOTS }
+        requires low { 1 ≤ count }
+        requires high { count ≤ MAX_CELLS }
+        ensures { IfOk result (λ c. (length c.lists ≡ owners) × (c.free ≡ count) × (c.size ≡ count) × ((i : ℕ) → owned c.lists i ≡ [])) }
+    {
+        Cells::with_key(alloc, Key::FIXED, owners, count)
+    }
+
+    /// The same under a key of the caller's, which tells the bucket of each edge. The only error is that an allocation
+    /// failed.
+    pub fn with_key(alloc: Global, key: Key, owners: u32, count: u32) -> Result<Cells, AllocError>
         requires low_owners { 1 ≤ owners }
         requires high_owners { owners ≤ MAX_SLOTS }
         requires low { 1 ≤ count }
@@ -136,12 +161,15 @@ impl Cells {
     {
         let heads = vec![in alloc; count; owners as usize]?;
         let cells = Vec::with_capacity(alloc, count as usize)?;
+        let index = Buckets::new(alloc, count.next_power_of_two(), count)?;
         Ok(Cells {
             cells,
             heads,
             free: count,
             free_count: count,
             size: count,
+            index,
+            key,
         })
     }
 
@@ -192,6 +220,8 @@ impl Cells {
         };
         self.heads[owner as usize] = number;
         set_previous(&mut self.cells, head, number);
+        let bucket = bucket_of(self.key, owner, serial, self.index.buckets());
+        self.index.put(bucket, number);
         true
     }
 
@@ -205,6 +235,10 @@ impl Cells {
         let owners = self.heads.len() as u32;
         let previous = self.cells[cell as usize].previous;
         let next = self.cells[cell as usize].next;
+        let serial = self.cells[cell as usize].serial;
+        self.index.soundness();
+        let bucket = bucket_of(self.key, owner, serial, self.index.buckets());
+        self.index.take(bucket, cell);
         set_head(&mut self.heads, owner, previous == end, next);
         set_next(&mut self.cells, previous, next);
         set_previous(&mut self.cells, next, previous);
@@ -218,12 +252,14 @@ impl Cells {
         requires { owner < length self.now.lists }
         ensures { MatchOption result (HasNone (owned self.now.lists owner) serial) (λ c. (f : Found (owned self.now.lists owner) serial) × (c ≡ f.edge.cell)) }
     {
-        let mut number = self.heads[owner as usize];
-        while let Some(cell) = self.cells.get(number as usize) {
-            if cell.serial == serial {
+        self.index.soundness();
+        let bucket = bucket_of(self.key, owner, serial, self.index.buckets());
+        let mut cursor = self.index.first(bucket);
+        while let Some(number) = cursor {
+            if self.cells[number as usize].is_of(owner, serial) {
                 return Some(number);
             }
-            number = cell.next;
+            cursor = self.index.next(number);
         }
         None
     }

@@ -1,5 +1,5 @@
-//! Calls whose allocations fail: what they leave, and the same calls made again. tests/growths.py makes each allocation
-//! of a test fail in turn.
+//! Calls whose allocations fail: what they leave, and the same calls made again. tests/faults/growths.py makes each
+//! allocation of a test fail in turn.
 use crate::Store;
 use crate::tests::Act::{Create, End, FreeCells, FreeSlots, Join, Mark, Remove, Shade, Sweep};
 use crate::tests::{GRANT, READ, Script, TAKE, TWO, WRITE, at, graph, open, play, rights};

@@ -18,4 +18,4 @@ mod tests;
 pub use laws::{openings_can_be_stored, runs_are_complete_and_bounded};
 pub use note::{Note, Phase};
 pub use store::Store;
-pub use tg_heap::HeapFull;
+pub use tg_heap::{HeapFull, Key};

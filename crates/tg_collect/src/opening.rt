@@ -15,13 +15,19 @@ use crate::course::Course;
 use crate::machine::{Machine, Progress, Root};
 use std::alloc::{AllocError, Global};
 use tg_graph::Graph;
-use tg_heap::Heap;
+use tg_heap::{Heap, Key};
 use tg_rights::{Kind, MAX_PRINCIPALS, Rights, SEATS, Text};
 
 impl Machine {
     /// The machine of a graph: its vertices, which are the principals, and then its edges by rising pairs of their
     /// ends.
-    pub fn open(alloc: Global, graph: &Graph, slots: u32, cells: u32) -> Result<Machine, AllocError>
+    pub fn open(
+        alloc: Global,
+        key: Key,
+        graph: &Graph,
+        slots: u32,
+        cells: u32,
+    ) -> Result<Machine, AllocError>
         requires low_slots { 1 ≤ slots }
         requires high_slots { slots ≤ MAX_SLOTS }
         requires low_cells { 1 ≤ cells }
@@ -31,14 +37,14 @@ impl Machine {
         ensures opened { IfOk result (λ m. Opened (stored m) graph.now slots cells) }
     {
         graph.soundness();
-        let mut machine = Machine::blank(alloc, slots, cells)?;
+        let mut machine = Machine::blank(alloc, key, slots, cells)?;
         machine.open_principals(alloc, graph)?;
         machine.open_edges(graph);
         Ok(machine)
     }
 
     /// Free slots and free cells, with no principal and no target, and room for 64 of each.
-    fn blank(alloc: Global, slots: u32, cells: u32) -> Result<Machine, AllocError>
+    fn blank(alloc: Global, key: Key, slots: u32, cells: u32) -> Result<Machine, AllocError>
         requires low_slots { 1 ≤ slots }
         requires high_slots { slots ≤ MAX_SLOTS }
         requires low_cells { 1 ≤ cells }
@@ -50,7 +56,7 @@ impl Machine {
         ensures free { IfOk result (λ m. IsFreeFrom 0 m.heap.table.free) }
     {
         let progress = Course::of(Progress::Idle);
-        let heap = Heap::new(alloc, slots, cells)?;
+        let heap = Heap::with_key(alloc, key, slots, cells)?;
         heap.soundness();
         let principals = Vec::with_capacity(alloc, MAX_PRINCIPALS as usize)?;
         let pending = empty_seats(alloc)?;

@@ -19,7 +19,7 @@ use crate::note::{Note, Phase};
 use std::alloc::{AllocError, Global};
 use std::marker::Model;
 use tg_graph::Graph;
-use tg_heap::HeapFull;
+use tg_heap::{HeapFull, Key};
 use tg_rights::{Kind, Rights, Text};
 
 /// Vertices with their labelled edges in slots and cells, the principals, one pending target per seat, and their
@@ -49,7 +49,8 @@ impl Model for Store {
 impl Store {
     /// The store of a graph of at most 64 subjects, with consecutive serials from 1 on, which fit with their edges: its
     /// principals. They are in the first slots, white, in the order of their serials; their edges are added by rising
-    /// pairs of their ends. All memory is allocated here; the only error is that an allocation failed.
+    /// pairs of their ends. All memory is allocated here; the only error is that an allocation failed. Edges are found
+    /// under the key that everybody can read.
     pub fn new(alloc: Global, graph: &Graph, slots: u32, cells: u32) -> Result<Store, AllocError>
         requires low_slots { 1 ≤ slots }
         requires high_slots { slots ≤ MAX_SLOTS }
@@ -58,7 +59,25 @@ impl Store {
         requires opening { IsOpening graph.now slots cells }
         ensures { IfOk result (λ store. Opened store graph.now slots cells) }
     {
-        let machine = Machine::open(alloc, graph, slots, cells)?;
+        Store::with_key(alloc, Key::FIXED, graph, slots, cells)
+    }
+
+    /// The same under a key of the caller's, by which edges are found. The only error is that an allocation failed.
+    pub fn with_key(
+        alloc: Global,
+        key: Key,
+        graph: &Graph,
+        slots: u32,
+        cells: u32,
+    ) -> Result<Store, AllocError>
+        requires low_slots { 1 ≤ slots }
+        requires high_slots { slots ≤ MAX_SLOTS }
+        requires low_cells { 1 ≤ cells }
+        requires high_cells { cells ≤ MAX_CELLS }
+        requires opening { IsOpening graph.now slots cells }
+        ensures { IfOk result (λ store. Opened store graph.now slots cells) }
+    {
+        let machine = Machine::open(alloc, key, graph, slots, cells)?;
         Ok(Store { machine })
     }
 

@@ -11,7 +11,7 @@ ghost use Rattle.tg_heap.specs.Calls.{IsAdded, IsDropped};
 
 use std::alloc::{AllocError, Global};
 use std::marker::Model;
-use tg_cells::Cells;
+use tg_cells::{Cells, Key};
 use tg_rights::{Kind, Rights, Text};
 use tg_slots::{Colour, Slots};
 
@@ -50,7 +50,8 @@ impl Model for Heap {
 }
 
 impl Heap {
-    /// That many free slots, 1 to 65,536, and free cells, 1 to 1,048,576. The only error is that an allocation failed.
+    /// That many free slots, 1 to 65,536, and free cells, 1 to 1,048,576, under the key that everybody can read. The
+    /// only error is that an allocation failed.
     pub fn new(alloc: Global, slots: u32, cells: u32) -> Result<Heap, AllocError>
         requires low_slots { 1 ≤ slots }
         requires high_slots { slots ≤ MAX_SLOTS }
@@ -58,8 +59,19 @@ impl Heap {
         requires high_cells { cells ≤ MAX_CELLS }
         ensures { IfOk result (λ h. (h.table ≡ fresh slots) × (h.free_cells ≡ cells) × (h.cell_count ≡ cells) × ((i : ℕ) → edges h i ≡ [])) }
     {
+        Heap::with_key(alloc, Key::FIXED, slots, cells)
+    }
+
+    /// The same under a key of the caller's, by which edges are found. The only error is that an allocation failed.
+    pub fn with_key(alloc: Global, key: Key, slots: u32, cells: u32) -> Result<Heap, AllocError>
+        requires low_slots { 1 ≤ slots }
+        requires high_slots { slots ≤ MAX_SLOTS }
+        requires low_cells { 1 ≤ cells }
+        requires high_cells { cells ≤ MAX_CELLS }
+        ensures { IfOk result (λ h. (h.table ≡ fresh slots) × (h.free_cells ≡ cells) × (h.cell_count ≡ cells) × ((i : ℕ) → edges h i ≡ [])) }
+    {
         let table = Slots::new(alloc, slots)?;
-        let cells = Cells::new(alloc, slots, cells)?;
+        let cells = Cells::with_key(alloc, key, slots, cells)?;
         Ok(Heap {
             slots: table,
             cells,

@@ -4,16 +4,10 @@
 
 mod closing;
 mod gate;
-#[cfg(test)]
-mod growth_tests;
 mod hold;
 mod locked;
-#[cfg(test)]
-mod race_tests;
 mod running;
 mod session;
-#[cfg(test)]
-mod tests;
 
 pub use closing::Closed;
 pub use gate::{Gate, Open, Place};

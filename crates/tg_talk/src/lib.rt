@@ -3,18 +3,12 @@
 
 mod failing;
 mod fault;
-#[cfg(test)]
-mod growth_tests;
 mod input_lines;
 mod line_buffer;
 mod newline;
 mod refusal;
-#[cfg(test)]
-mod talk_tests;
 mod talking;
 mod telling;
-#[cfg(test)]
-mod tests;
 mod watched;
 mod write_line;
 

@@ -1,4 +1,5 @@
-//! Calls that lack memory and are made again: tests/growths.py makes each allocation of these tests fail in turn.
+//! Calls that lack memory and are made again: tests/faults/growths.py makes each allocation of these tests fail in
+//! turn.
 use crate::audit::{
     Ask, Derivation, Finding, READ, SETTLEMENTS, Settlement, are_replies, goal_of, graph_of,
     is_found, is_settled, is_verdict, logs_of, opened, steps_of, vault_of,

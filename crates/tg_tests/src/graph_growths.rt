@@ -1,5 +1,5 @@
-//! Calls whose allocations fail: what they leave, and the same calls made again. tests/growths.py makes each allocation
-//! of a test fail in turn.
+//! Calls whose allocations fail: what they leave, and the same calls made again. tests/faults/growths.py makes each
+//! allocation of a test fail in turn.
 use crate::graph::{
     Ask, Case, Line, NAMES, Want, Written, command, config, is_reply, opened, played, plays,
     rights_of, rule_of,

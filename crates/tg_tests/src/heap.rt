@@ -422,7 +422,8 @@ const FILLED: &[Act] = &[
     Free(0, 4),
 ];
 
-/// A heap that lacks memory is made again, with all of it free: tests/growths.py makes each allocation fail in turn.
+/// A heap that lacks memory is made again, with all of it free: tests/faults/growths.py makes each allocation fail in
+/// turn.
 #[test]
 fn growth_refused_in_a_new_heap(rt: HostRuntime) -> Result<(), AllocError> {
     let mut heap = match Heap::new(rt.alloc(), 3, 4) {

@@ -17,6 +17,8 @@ mod graph_growths;
 #[cfg(test)]
 mod heap;
 #[cfg(test)]
+mod index;
+#[cfg(test)]
 mod rights;
 #[cfg(test)]
 mod slots;

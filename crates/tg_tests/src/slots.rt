@@ -310,7 +310,7 @@ fn as_many_slots_as_there_may_be(rt: HostRuntime) -> Result<(), AllocError> {
     Ok(())
 }
 
-/// New slots, made again if memory runs out: tests/growths.py makes each allocation fail in turn.
+/// New slots, made again if memory runs out: tests/faults/growths.py makes each allocation fail in turn.
 fn made_again(rt: &impl Print, alloc: Global) -> Result<Slots, AllocError> {
     match Slots::new(alloc, 3) {
         Ok(slots) => Ok(slots),

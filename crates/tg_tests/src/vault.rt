@@ -5,7 +5,7 @@ use std::process::Abort;
 use tg_collect::{Note, Phase};
 use tg_graph::{Config, OpenFault};
 use tg_rights::{Cause, Command, Kind, Outcome, Reply, Rights, Rule, Text, Which, Word};
-use tg_vault::{Answer, AskFault, Event, SeatFault, Swept, Vault};
+use tg_vault::{Answer, AskFault, Event, Key, SeatFault, Swept, Vault};
 
 /// What a seat asks for. Rights are given by their letters: r, w, t and g.
 #[derive(Clone, Copy)]
@@ -612,6 +612,28 @@ fn plays(rt: &impl Abort, alloc: Global, case: &Case) -> Result<(), AllocError> 
 fn each_case_is_answered_as_worked_out(rt: HostRuntime) -> Result<(), AllocError> {
     for case in CASES {
         plays(&rt, rt.alloc(), case)?;
+    }
+    Ok(())
+}
+
+/// Under this key all edges to one serial lie in one bucket of the index.
+const ONE_BUCKET: Key = Key {
+    owner: 0,
+    serial: 0,
+};
+
+/// The case's lines have the answers that it says, under this key too.
+fn plays_under(rt: &impl Abort, alloc: Global, key: Key, case: &Case) -> Result<(), AllocError> {
+    match Vault::with_key(alloc, key, configuration(alloc, case)?) {
+        Ok(mut vault) => lines_are_answered(rt, alloc, &mut vault, case.lines),
+        Err(_) => panic!(rt; "refused"),
+    }
+}
+
+#[test]
+fn each_case_is_answered_alike_under_another_key(rt: HostRuntime) -> Result<(), AllocError> {
+    for case in CASES {
+        plays_under(&rt, rt.alloc(), ONE_BUCKET, case)?;
     }
     Ok(())
 }

@@ -1,4 +1,5 @@
-//! Calls that lack memory and are made again: tests/growths.py makes each allocation of these tests fail in turn.
+//! Calls that lack memory and are made again: tests/faults/growths.py makes each allocation of these tests fail in
+//! turn.
 use crate::vault::{
     ALICE, Ask, BOB, Case, Line, Step, Want, answers, command, events, is_reply, opened, played,
     rights_of, rule_of, words,

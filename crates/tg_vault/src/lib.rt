@@ -10,4 +10,5 @@ mod vault;
 pub use entry::Entry;
 pub use event::{Answer, AskFault, Event, SeatFault};
 pub use laws::{courses_have_the_headline, courses_join};
+pub use tg_collect::Key;
 pub use vault::{Ran, Swept, Vault};

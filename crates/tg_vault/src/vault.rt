@@ -27,7 +27,7 @@ use crate::event::{Answer, AskFault, Event, SeatFault};
 use crate::laws::courses_have_the_headline;
 use std::alloc::{AllocError, Global};
 use std::marker::Model;
-use tg_collect::{Note, Store};
+use tg_collect::{Key, Note, Store};
 use tg_graph::{Config, Graph, OpenFault};
 use tg_rights::{Command, Outcome, Reply, SEATS, Word};
 
@@ -143,14 +143,32 @@ fn entry_of(seat: u64, actor: u64, command: Command, reply: &Reply) -> Entry
 impl Vault {
     /// A vault over the graph that the configuration opens: no entries, no seat in use, the configuration's names, and
     /// the graph in the store. Otherwise the first fault of the configuration, as `Graph::build` returns it;
-    /// `OutOfMemory` only if there is no other.
+    /// `OutOfMemory` only if there is no other. Edges are found under the key that everybody can read, so use this only
+    /// if it does no harm that whoever sends commands can slow the vault down; otherwise, see `with_key`.
     pub fn new(alloc: Global, config: Config) -> Result<Vault, OpenFault>
         ensures ok { IfOk result (λ vault. IsFresh config vault) }
         ensures sound { IfOk result (λ _. first_fault config ≡ None) }
         ensures err { IfErr result (λ fault. IsRefusal config fault) }
     {
+        Vault::with_key(alloc, Key::FIXED, config)
+    }
+
+    /// The same under a key of the caller's. It changes no answer; under one that nobody can guess, nobody can choose
+    /// edges that are slow to find. Errors are those of `new`, in the same order: the first fault of the configuration,
+    /// and `OutOfMemory` only if there is no other.
+    pub fn with_key(alloc: Global, key: Key, config: Config) -> Result<Vault, OpenFault>
+        ensures ok { IfOk result (λ vault. IsFresh config vault) }
+        ensures sound { IfOk result (λ _. first_fault config ≡ None) }
+        ensures err { IfErr result (λ fault. IsRefusal config fault) }
+    {
         let opening = Graph::build(alloc, &config)?;
-        let Ok(store) = Store::new(alloc, &opening, config.slots as u32, config.cells as u32) else {
+        let Ok(store) = Store::with_key(
+            alloc,
+            key,
+            &opening,
+            config.slots as u32,
+            config.cells as u32,
+        ) else {
             return Err(OpenFault::OutOfMemory);
         };
         store.soundness();

@@ -5,8 +5,6 @@ mod config;
 mod fault;
 mod field;
 mod flat;
-#[cfg(test)]
-mod growth_tests;
 mod key;
 mod laws;
 mod line;
@@ -17,8 +15,6 @@ mod op;
 mod read;
 mod refusal;
 mod scan;
-#[cfg(test)]
-mod tests;
 mod write;
 
 pub use config::{read_config, read_goal};

@@ -1,5 +1,5 @@
 //! The command line if memory runs out: the error says so, and the words that are read again ask for what they do.
-//! tests/growths.py makes each allocation of the test fail in turn.
+//! tests/faults/growths.py makes each allocation of the test fail in turn.
 
 use crate::{Mode, mode};
 use clap::Error;

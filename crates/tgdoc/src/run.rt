@@ -12,7 +12,7 @@ use crate::run_state::{RunState, Turn};
 use std::alloc::Global;
 use std::io::{BufWriter, Read, Write};
 use tg_talk::{InputLines, Next, TalkFault, Watched};
-use tg_vault::{Vault, courses_have_the_headline, courses_join};
+use tg_vault::{Key, Vault, courses_have_the_headline, courses_join};
 use tg_wire::{LineRoom, WireFault, error_line, open_fault_line, read_config};
 
 /// Reads a configuration line and then event lines, and answers each. Answers to lines that came together are written
@@ -61,21 +61,21 @@ pub fn run_lines<R: Read, W: Write + Drop>(
             Some(TalkFault::TooLong),
         ),
         Next::TooMany => unreachable!(),
-        Next::Line => match open(alloc, input.line()) {
+        Next::Line => match open(alloc, Key::FIXED, input.line()) {
             Err(text) => finish(writer, 1, 1, text, None),
             Ok(vault) => answer_lines(alloc, vault, input, reader, writer),
         },
     }
 }
 
-/// The vault that a configuration line opens, or the line of its refusal.
-pub(crate) fn open(alloc: Global, bytes: &[u8]) -> Result<Vault, &'static [u8]>
+/// The vault that a configuration line opens, under the key, or the line of its refusal.
+pub(crate) fn open(alloc: Global, key: Key, bytes: &[u8]) -> Result<Vault, &'static [u8]>
     ensures ok { IfOk result (Opens bytes.now) }
     ensures err { IfErr result (λ text. RefusesOpening bytes.now text.now) }
 {
     match read_config(alloc, bytes) {
         Err(fault) => Err(error_line(fault)),
-        Ok(config) => match Vault::new(alloc, config) {
+        Ok(config) => match Vault::with_key(alloc, key, config) {
             Err(fault) => Err(open_fault_line(fault)),
             Ok(vault) => {
                 vault.soundness();

@@ -3,26 +3,34 @@ ghost use Rattle.std.specs.Prelude.{◌≡◌, ◌↔◌, [], IfErr, IfOk, IfSom
 ghost use Rattle.tg_talk.specs.Devices.{Sends, device_of, has_failed};
 ghost use Rattle.tgdoc.specs.Serving.{IsServed, OpensBytes, RefusesBytes};
 
+use crate::draw::drawn_key;
 use crate::run::open;
 use crate::serve::{Served, serve_on};
 use std::alloc::Global;
 use std::io::{Read, Write};
 use std::net::{Net, SocketAddr, TcpListener, TcpStream};
+use std::random::RandomSource;
 use std::rt::Clock;
 use std::sync::Wait;
 use std::thread::Threads;
 use tg_talk::{InputLines, Next, Watched, send_line};
-use tg_vault::Vault;
+use tg_vault::{Key, Vault};
 use tg_wire::{WireFault, error_line};
 
 const LISTEN: &[u8] = b"{\"error\":\"listen\"}\n";
 
-/// Reads the configuration line, listens on the address, and serves the vault. A configuration that is refused is
-/// answered as `run_lines` answers it, and no address is listened on; no line at all is read as an empty one. Then an
-/// address that is not of the loopback, or that cannot be listened on, is answered `listen`. After a refusal nothing is
-/// settled.
+/// Reads the configuration line, listens on the address, and serves the vault, in which edges are found under a key
+/// that is drawn; if the runtime draws none, under the fixed one, since a key changes no answer. A configuration that
+/// is refused is answered as `run_lines` answers it, and no address is listened on; no line at all is read as an empty
+/// one. Then an address that is not of the loopback, or that cannot be listened on, is answered `listen`. After a
+/// refusal nothing is settled.
 pub fn serve_lines<
-    N: Threads + Wait + Clock + Net<Listener = TcpListener, Stream = TcpStream> + Sync,
+    N: Threads
+        + Wait
+        + Clock
+        + RandomSource
+        + Net<Listener = TcpListener, Stream = TcpStream>
+        + Sync,
     R: Read,
     W: Write,
 >(
@@ -38,7 +46,8 @@ pub fn serve_lines<
     requires writes { has_failed writer.old ≡ false }
     ensures { result.settled ≡ true → IsServed (W.contents (device_of writer.old)) (W.contents (device_of writer.new)) (has_failed writer.new) }
 {
-    match read_vault(alloc, reader) {
+    let key = drawn_key(rt).unwrap_or(Key::FIXED);
+    match read_vault(alloc, key, reader) {
         Err(text) => refuse(writer, text),
         Ok(vault) => match listener_on(rt, listen) {
             None => refuse(writer, LISTEN),
@@ -57,8 +66,13 @@ fn refuse<W: Write>(writer: &mut Watched<W>, text: &[u8]) -> Served
     Served { settled: false }
 }
 
-/// The vault of the configuration line, or the line of its refusal, which is empty if the line cannot be read.
-fn read_vault<R: Read>(alloc: Global, reader: &mut Watched<R>) -> Result<Vault, &'static [u8]>
+/// The vault of the configuration line, under the key, or the line of its refusal, which is empty if the line cannot be
+/// read.
+fn read_vault<R: Read>(
+    alloc: Global,
+    key: Key,
+    reader: &mut Watched<R>,
+) -> Result<Vault, &'static [u8]>
     requires reads { has_failed reader.old ≡ false }
     ensures empty { IfOk result (λ vault. vault.history ≡ []) }
     ensures opened { IfOk result (λ vault. IfSome (R.remaining (device_of reader.old)) (OpensBytes vault)) }
@@ -69,7 +83,7 @@ fn read_vault<R: Read>(alloc: Global, reader: &mut Watched<R>) -> Result<Vault, 
         return Err(error_line(WireFault::OutOfMemory));
     };
     match input.next(reader) {
-        Next::Line => open(alloc, input.line()),
+        Next::Line => open(alloc, key, input.line()),
         Next::End => Err(error_line(WireFault::NotJson)),
         Next::TooLong => Err(error_line(WireFault::TooLong)),
         Next::TooMany => unreachable!(),

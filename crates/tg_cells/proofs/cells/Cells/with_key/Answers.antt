@@ -1,0 +1,26 @@
+use Rattle.std.proofs.Common.{◌∙◌, List, [], refl, ap, length, arith}
+use Rattle.std.proofs.lemmas.List.{length-replicate}
+use Rattle.tg_cells.specs.Lists.{Edge, CellLists, owned}
+use Rattle.tg_cells.proofs.FreshLemmas.{empty_at, empty, leaves-new}
+use Rattle.tg_cells.proofs.IndexLemmas.{stays, indexes-new}
+use Rattle.tg_cells.proofs.cells.Cells.with_key.Goals as goal
+
+pub invariant_of-result : goal.invariant_of-result
+invariant_of-result c =
+    let some = c.in_ok-index.ensures.0 in
+    let least = c.next_power_of_two.ensures.lower_bound in
+    (stays (record { cells = c.in_ok-cells.cells; heads = c.in_ok-heads.heads; free = c.args.count; free_count = c.args.count; size = c.args.count; index = c.in_ok-index.index; key = c.args.key }) (empty c.args.owners c.args.count)
+    (leaves-new (record { cells = c.in_ok-cells.cells; heads = c.in_ok-heads.heads; free = c.args.count; free_count = c.args.count; size = c.args.count; index = c.in_ok-index.index; key = c.args.key }) c.args.owners
+    (c.in_ok-heads.ensures.items_if_clones_equal (λ y e. e)) c.in_ok-cells.ensures.items refl refl c.requires.high_owners c.requires.high c.in_ok-cells.ensures.capacity)
+    (indexes-new (record { cells = c.in_ok-cells.cells; heads = c.in_ok-heads.heads; free = c.args.count; free_count = c.args.count; size = c.args.count; index = c.in_ok-index.index; key = c.args.key }) c.args.owners c.in_ok-cells.ensures.items
+    (omega arith) c.in_ok-index.ensures.1 c.in_ok-index.ensures.2 c.in_ok-index.ensures.3 (λ i. empty_at c.args.owners i))).kept
+
+pub returns : goal.returns
+returns c =
+    let shows = (leaves-new (record { cells = c.in_ok-cells.cells; heads = c.in_ok-heads.heads; free = c.args.count; free_count = c.args.count; size = c.args.count; index = c.in_ok-index.index; key = c.args.key }) c.args.owners
+    (c.in_ok-heads.ensures.items_if_clones_equal (λ y e. e)) c.in_ok-cells.ensures.items refl refl c.requires.high_owners c.requires.high c.in_ok-cells.ensures.capacity).shows in (
+      ap (λ (v : CellLists). length v.lists) shows ∙ length-replicate {A = List Edge} c.args.owners [],
+      refl,
+      refl,
+      λ i. ap (λ (v : CellLists). owned v.lists i) shows ∙ empty_at c.args.owners i,
+    )

@@ -1,0 +1,4 @@
+pub mod ListsLemmas
+pub mod RowLemmas
+pub mod LinksLemmas
+pub mod StepLemmas

@@ -1,0 +1,69 @@
+-- Lists of which one gets an element in front, or loses one, and what is in them then.
+use Rattle.std.proofs.Common.{◌≡◌, ◌≢◌, ℕ, ◌<◌, List, [], ◌∷◌, ◌++◌, length, ◌⊎◌, inl, inr, sym, ◌∙◌, subst, ap, refl, set, get_or, arith, length-set, get_or-set_same, get_or-set_other}
+use Rattle.std.proofs.lemmas.Bool.{cases_eq}
+use Rattle.tg_rights.specs.Membership.{Contains}
+use Rattle.tg_rights.proofs.MembershipLemmas.{contains_append, contains_left, contains_right, contains_around}
+
+-- An element is the one in the middle, or of the rest.
+pub contains_apart : {X : Type 0} (p r : List X) (y x : X) → Contains (p ++ y ∷ r) x → (x ≡ y) ⊎ Contains (p ++ r) x
+contains_apart p r y x h = elim (contains_append p (y ∷ r) x h) [
+  | inl a ↦ inr (contains_left p r x a)
+  | inr b ↦ elim b [ inl is ↦ inl is | inr c ↦ inr (contains_right p r x c) ]
+]
+
+-- One of the lists has got an element in front.
+pub added : {X : Type 0} (lists : List (List X)) (b : ℕ) (x : X) (a : ℕ) (y : X) → b < length lists → Contains (get_or (set lists b (x ∷ get_or lists b [])) a []) y → ((a ≡ b) × (y ≡ x)) ⊎ Contains (get_or lists a []) y
+added lists b x a y w h = elim (cases_eq a b) [
+  | inl is ↦ (
+      let all : get_or (set lists b (x ∷ get_or lists b [])) a [] ≡ x ∷ get_or lists b [] = ap (λ (k : ℕ). get_or (set lists b (x ∷ get_or lists b [])) k []) is ∙ get_or-set_same lists b (x ∷ get_or lists b []) [] w in
+      elim (subst (λ (l : List _). Contains l y) all h) [ inl e ↦ inl (is, e) | inr old ↦ inr (subst (λ (k : ℕ). Contains (get_or lists k []) y) (sym is) old) ]
+      )
+  | inr o ↦ inr (subst (λ (l : List _). Contains l y) (get_or-set_other lists b a (x ∷ get_or lists b []) [] o) h)
+]
+
+pub in_front : {X : Type 0} (lists : List (List X)) (b : ℕ) (x : X) → b < length lists → Contains (get_or (set lists b (x ∷ get_or lists b [])) b []) x
+in_front lists b x w = subst (λ (l : List _). Contains l x) (sym (get_or-set_same lists b (x ∷ get_or lists b []) [] w)) (inl refl)
+
+pub grown : {X : Type 0} (lists : List (List X)) (b : ℕ) (x : X) (a : ℕ) (y : X) → b < length lists → Contains (get_or lists a []) y → Contains (get_or (set lists b (x ∷ get_or lists b [])) a []) y
+grown lists b x a y w h = elim (cases_eq a b) [
+  | inl is ↦ subst (λ (k : ℕ). Contains (get_or (set lists b (x ∷ get_or lists b [])) k []) y) (sym is)
+      (subst (λ (l : List _). Contains l y) (sym (get_or-set_same lists b (x ∷ get_or lists b []) [] w)) (inr (subst (λ (k : ℕ). Contains (get_or lists k []) y) is h)))
+  | inr o ↦ subst (λ (l : List _). Contains l y) (sym (get_or-set_other lists b a (x ∷ get_or lists b []) [] o)) h
+]
+
+-- One of the lists has lost an element.
+pub lost : {X : Type 0} (lists : List (List X)) (b : ℕ) (x : X) (p r : List X) (a : ℕ) (y : X) → b < length lists → get_or lists b [] ≡ p ++ x ∷ r → Contains (get_or (set lists b (p ++ r)) a []) y → Contains (get_or lists a []) y
+lost lists b x p r a y w is h = elim (cases_eq a b) [
+  | inl e ↦ (
+      let all : get_or (set lists b (p ++ r)) a [] ≡ p ++ r = ap (λ (k : ℕ). get_or (set lists b (p ++ r)) k []) e ∙ get_or-set_same lists b (p ++ r) [] w in
+      let here : get_or lists a [] ≡ p ++ x ∷ r = ap (λ (k : ℕ). get_or lists k []) e ∙ is in
+      subst (λ (l : List _). Contains l y) (sym here) (contains_around p r x y (subst (λ (l : List _). Contains l y) all h))
+      )
+  | inr o ↦ subst (λ (l : List _). Contains l y) (get_or-set_other lists b a (p ++ r) [] o) h
+]
+
+pub kept : {X : Type 0} (lists : List (List X)) (b : ℕ) (x : X) (p r : List X) (a : ℕ) (y : X) → b < length lists → get_or lists b [] ≡ p ++ x ∷ r → y ≢ x → Contains (get_or lists a []) y → Contains (get_or (set lists b (p ++ r)) a []) y
+kept lists b x p r a y w is other h = elim (cases_eq a b) [
+  | inl e ↦ (
+      let all : get_or (set lists b (p ++ r)) a [] ≡ p ++ r = ap (λ (k : ℕ). get_or (set lists b (p ++ r)) k []) e ∙ get_or-set_same lists b (p ++ r) [] w in
+      let here : get_or lists a [] ≡ p ++ x ∷ r = ap (λ (k : ℕ). get_or lists k []) e ∙ is in
+      elim (contains_apart p r x y (subst (λ (l : List _). Contains l y) here h)) [
+        | inl same ↦ absurd (other same)
+        | inr rest ↦ subst (λ (l : List _). Contains l y) (sym all) rest
+      ]
+      )
+  | inr o ↦ subst (λ (l : List _). Contains l y) (sym (get_or-set_other lists b a (p ++ r) [] o)) h
+]
+
+-- What holds of each list and its head stays so, where one list was replaced and no other head changed.
+pub each_set : {X : Type 0} (P : ℕ → ℕ → List X → Type 0) (end : ℕ) (hs gs : List ℕ) (lists : List (List X)) (b : ℕ) (xs : List X) → b < length lists → P b (get_or gs b end) xs → ((a : ℕ) → a ≢ b → get_or gs a end ≡ get_or hs a end)
+    → ((a : ℕ) → a < length lists → a ≢ b → P a (get_or hs a end) (get_or lists a [])) → (a : ℕ) → a < length (set lists b xs) → P a (get_or gs a end) (get_or (set lists b xs) a [])
+each_set P end hs gs lists b xs within now heads others a w = elim (cases_eq a b) [
+  | inl is ↦ subst (λ (k : ℕ). P k (get_or gs k end) (get_or (set lists b xs) k [])) (sym is)
+      (subst (λ (l : List _). P b (get_or gs b end) l) (sym (get_or-set_same lists b xs [] within)) now)
+  | inr o ↦ (
+      let size : length (set lists b xs) ≡ length lists = length-set lists b xs in
+      subst (λ (l : List _). P a (get_or gs a end) l) (sym (get_or-set_other lists b a xs [] o))
+      (subst (λ (h : ℕ). P a h (get_or lists a [])) (sym (heads a o)) (others a (omega arith) o))
+      )
+]

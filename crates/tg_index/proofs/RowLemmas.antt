@@ -1,0 +1,149 @@
+-- Lists of numbers, and rows of them that are sound.
+use Rattle.std.proofs.Common.{◌≡◌, ◌≢◌, ℕ, zero, suc, ◌+◌, ◌<◌, ◌≤◌, List, [], ◌∷◌, ◌++◌, length, Option, Some, None, ◌⊎◌, inl, inr, sym, ◌∙◌, subst, ap, refl, set, cond, ltb, true, false, eqb, eq-eqb, arith, length-append, get_or-set_same, get_or-set_other, append_assoc}
+use Rattle.std.proofs.lemmas.Bool.{cases_eq, cases_lt, ne_eqb, lt-ltb, le-ltb}
+use Rattle.tg_rights.specs.Membership.{Contains, Distinct}
+use Rattle.tg_rights.proofs.MembershipLemmas.{contains_around, contains_middle, distinct_around, split_at}
+use Rattle.tg_index.specs.Rows.{Rows, row, first_of, IsUnheld, AreRows}
+use Rattle.tg_index.proofs.ListsLemmas.{added, lost}
+
+-- A number is in a list or not.
+has : (ns : List ℕ) (m : ℕ) → Contains ns m ⊎ (Contains ns m → ⊥)
+has [] m = inr (λ h. h)
+has (n ∷ ns) m = elim (cases_eq m n) [
+  | inl e ↦ inl (inl e)
+  | inr o ↦ elim (has ns m) [ inl h ↦ inl (inr h) | inr lacks ↦ inr (λ h. elim h [ inl e ↦ o e | inr k ↦ lacks k ]) ]
+]
+
+-- Numbers below m, each once, are at most m.
+pub few : (m : ℕ) (ns : List ℕ) → Distinct ns → ((n : ℕ) → Contains ns n → n < m) → length ns ≤ m
+few zero [] d w = omega arith
+few zero (n ∷ ns) d w = absurd (let none = w n (inl refl) in omega arith)
+few (suc m) ns d w = elim (has ns m) [
+  | inl h ↦ (
+      let s = split_at ns m h in
+      let all : Distinct (s.before ++ m ∷ s.after) = subst (λ (l : List ℕ). Distinct l) s.is d in
+      let rest = distinct_around s.before s.after m all in
+      let fits = few m (s.before ++ s.after) rest.0 (λ n k.
+      let old : Contains ns n = subst (λ (l : List ℕ). Contains l n) (sym s.is) (contains_around s.before s.after m n k) in
+      let below = w n old in
+      let other : n ≢ m = λ e. rest.1 (subst (λ (x : ℕ). Contains (s.before ++ s.after) x) e k) in
+      omega arith) in
+      let is = ap length s.is in
+      omega (arith, is, length-append s.before (m ∷ s.after), length-append s.before s.after)
+      )
+  | inr lacks ↦ (
+      let fits = few m ns d (λ n k.
+      let below = w n k in
+      let other : n ≢ m = λ e. lacks (subst (λ (x : ℕ). Contains ns x) e k) in
+      omega arith) in
+      omega arith
+      )
+]
+
+-- The numbers of a list from one of them on.
+abbrev pub from : List ℕ → ℕ → List ℕ
+from [] n = []
+from (m ∷ ms) n = cond (eqb m n) (m ∷ ms) (from ms n)
+
+-- What is left of a row at a cursor.
+abbrev pub left : List ℕ → Option ℕ → List ℕ
+left ns None = []
+left ns (Some n) = from ns n
+
+from_at : (p : List ℕ) (n : ℕ) (r : List ℕ) → Distinct (p ++ n ∷ r) → from (p ++ n ∷ r) n ≡ n ∷ r
+from_at [] n r d = let test : eqb n n ≡ true = eq-eqb n n refl in rw test refl
+from_at (m ∷ p) n r d =
+    let other : m ≢ n = λ e. d.0 (subst (λ (x : ℕ). Contains (p ++ n ∷ r) x) (sym e) (contains_middle p r n)) in
+    let test : eqb m n ≡ false = ne_eqb m n other in
+    rw test (from_at p n r d.1)
+
+-- The first number of a list.
+record First (ns : List ℕ) (n : ℕ) : Type 0 where
+  after : List ℕ
+  is : ns ≡ n ∷ after
+
+first_is : (ns : List ℕ) (n : ℕ) → Some n ≡ first_of ns → First ns n
+first_is [] n e = absurd (cc)
+first_is (m ∷ ns) n e = record { after = ns; is = (cc) }
+
+pub none_left : (ns : List ℕ) → None ≡ first_of ns → ns ≡ []
+none_left [] e = refl
+none_left (n ∷ ns) e = absurd (cc)
+
+-- A walk over a row: some numbers were passed, and the cursor is at the first of the others.
+pub record Walked (ns : List ℕ) (cursor : Option ℕ) : Type 0 where
+  pub passed : List ℕ
+  pub rest : List ℕ
+  pub is : ns ≡ passed ++ rest
+  pub at : cursor ≡ first_of rest
+
+-- The number at the cursor, and the walk after it, which has less left.
+pub record WalkStep (ns passed : List ℕ) (n : ℕ) : Type 0 where
+  pub after : List ℕ
+  pub is : ns ≡ passed ++ n ∷ after
+  pub on : ns ≡ (passed ++ n ∷ []) ++ after
+  pub less : length (left ns (first_of after)) < length (left ns (Some n))
+
+left_after : (p r : List ℕ) → Distinct (p ++ r) → length (left (p ++ r) (first_of r)) ≤ length r
+left_after p [] d = omega arith
+left_after p (n ∷ r) d = let is = ap length (from_at p n r d) in omega (arith, is)
+
+pub walk_step : (ns : List ℕ) (n : ℕ) (w : Walked ns (Some n)) → Distinct ns → WalkStep ns w.passed n
+walk_step ns n w d =
+    let f = first_is w.rest n w.at in
+    let is : ns ≡ w.passed ++ n ∷ f.after = w.is ∙ ap (λ (l : List ℕ). w.passed ++ l) f.is in
+    let on : ns ≡ (w.passed ++ n ∷ []) ++ f.after = is ∙ sym (append_assoc w.passed (n ∷ []) f.after) in
+    let here : from ns n ≡ n ∷ f.after = ap (λ (l : List ℕ). from l n) is ∙ from_at w.passed n f.after (subst (λ (l : List ℕ). Distinct l) is d) in
+    let size = ap length here in
+    let rest = left_after (w.passed ++ n ∷ []) f.after (subst (λ (l : List ℕ). Distinct l) on d) in
+    let same = ap (λ (l : List ℕ). length (left l (first_of f.after))) on in
+    record { after = f.after; is = is; on = on; less = omega (arith, size, rest, same) }
+
+-- The number at the cursor is in the row.
+pub at_cursor : (ns : List ℕ) (n : ℕ) → Walked ns (Some n) → Contains ns n
+at_cursor ns n w =
+    let f = first_is w.rest n w.at in
+    subst (λ (l : List ℕ). Contains l n) (sym (w.is ∙ ap (λ (l : List ℕ). w.passed ++ l) f.is)) (contains_middle w.passed f.after n)
+
+-- A row that was replaced, and the others.
+row_same : (lists : List (List ℕ)) (b : ℕ) (ns : List ℕ) → b < length lists → row (set lists b ns) b ≡ ns
+row_same lists b ns w = get_or-set_same lists b ns [] w
+
+row_other : (lists : List (List ℕ)) (a b : ℕ) (ns : List ℕ) → a ≢ b → row (set lists b ns) a ≡ row lists a
+row_other lists a b ns o = get_or-set_other lists b a ns [] o
+
+pub sound-put : (r : Rows) (b n : ℕ) → b < length r.lists → IsUnheld r.lists n → n ≤ r.used → n < r.size → AreRows r
+    → AreRows (record r { lists = set r.lists b (n ∷ row r.lists b); used = cond (ltb n r.used) r.used (r.used + 1) })
+sound-put r b n w unheld fits within k = record {
+  once = λ a. elim (cases_eq a b) [
+    | inl is ↦ subst (λ (c : ℕ). Distinct (row (set r.lists b (n ∷ row r.lists b)) c)) (sym is) (subst (λ (l : List ℕ). Distinct l) (sym (row_same r.lists b (n ∷ row r.lists b) w)) (unheld b, k.once b))
+    | inr o ↦ subst (λ (l : List ℕ). Distinct l) (sym (row_other r.lists a b (n ∷ row r.lists b) o)) (k.once a)
+  ];
+  one_row = λ a c m h g. elim (added r.lists b n a m w h) [
+    | inl new ↦ elim (added r.lists b n c m w g) [ inl new' ↦ new.0 ∙ sym new'.0 | inr old ↦ absurd (unheld c (subst (λ (x : ℕ). Contains (row r.lists c) x) new.1 old)) ]
+    | inr old ↦ elim (added r.lists b n c m w g) [ inl new ↦ absurd (unheld a (subst (λ (x : ℕ). Contains (row r.lists a) x) new.1 old)) | inr old' ↦ k.one_row a c m old old' ]
+  ];
+  used = λ a m h. elim (added r.lists b n a m w h) [
+    | inl new ↦ (let is = new.1 in elim (cases_lt n r.used) [ inl less ↦ rw (lt-ltb n r.used less) (omega arith) | inr past ↦ rw (le-ltb n r.used past) (omega arith) ])
+    | inr old ↦ (let below = k.used a m old in elim (cases_lt n r.used) [ inl less ↦ rw (lt-ltb n r.used less) (omega arith) | inr past ↦ rw (le-ltb n r.used past) (omega arith) ])
+  ];
+  room = (let room = k.room in elim (cases_lt n r.used) [ inl less ↦ rw (lt-ltb n r.used less) (omega arith) | inr past ↦ rw (le-ltb n r.used past) (omega arith) ]);
+}
+
+pub sound-take : (v : Rows) (b n : ℕ) (p r : List ℕ) → b < length v.lists → row v.lists b ≡ p ++ n ∷ r → AreRows v → AreRows (record v { lists = set v.lists b (p ++ r) })
+sound-take v b n p r w is k = record {
+  once = λ a. elim (cases_eq a b) [
+    | inl e ↦ subst (λ (c : ℕ). Distinct (row (set v.lists b (p ++ r)) c)) (sym e)
+        (subst (λ (l : List ℕ). Distinct l) (sym (row_same v.lists b (p ++ r) w)) (distinct_around p r n (subst (λ (l : List ℕ). Distinct l) is (k.once b))).0)
+    | inr o ↦ subst (λ (l : List ℕ). Distinct l) (sym (row_other v.lists a b (p ++ r) o)) (k.once a)
+  ];
+  one_row = λ a c m h g. k.one_row a c m (lost v.lists b n p r a m w is h) (lost v.lists b n p r c m w is g);
+  used = λ a m h. k.used a m (lost v.lists b n p r a m w is h);
+  room = k.room;
+}
+
+-- A row with a number in it is one of the rows.
+pub held_within : (lists : List (List ℕ)) (b n : ℕ) → Contains (row lists b) n → b < length lists
+held_within [] b n h = absurd h
+held_within (l ∷ lists) zero n h = omega arith
+held_within (l ∷ lists) (suc b) n h = let rest = held_within lists b n h in omega arith

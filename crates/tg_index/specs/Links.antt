@@ -1,0 +1,34 @@
+-- rows of numbers that are linked both ways; `end`, the number of all numbers, ends each
+use Rattle.std.specs.Prelude.{◌≡◌, ℕ, zero, suc, ◌<◌, List, [], ◌∷◌, ◌++◌, length, cond, eqb, ltb, set}
+use Rattle.std.proofs.Common.{get_or}
+use Rattle.tg_index.specs.declared.buckets.Link.{Link}
+
+-- the link of a number; past the last, one that nothing reads
+abbrev pub link_at : List Link → ℕ → Link
+link_at ls n = get_or ls n (record { next = 0; previous = 0 })
+
+-- the links after one of them, if it is one, has another neighbour
+abbrev pub with_previous : List Link → ℕ → ℕ → List Link
+with_previous ls n previous = set ls n (record (link_at ls n) { previous = previous })
+
+abbrev pub with_next : List Link → ℕ → ℕ → List Link
+with_next ls n next = set ls n (record (link_at ls n) { next = next })
+
+-- the numbers that the links lead to from a head, at most so many
+abbrev pub walk : ℕ → List Link → ℕ → ℕ → List ℕ
+walk end ls zero head = []
+walk end ls (suc n) head = cond (eqb head end) [] (head ∷ walk end ls n (link_at ls head).next)
+
+-- the links lead from the head over these numbers, each linked back to the one before it, and end there; `before` is
+-- the number before the head
+abbrev pub Links : ℕ → List Link → ℕ → ℕ → List ℕ → Type 0
+Links end ls before head [] = head ≡ end
+Links end ls before head (n ∷ ns) = (head ≡ n) × (n < length ls) × ((link_at ls n).previous ≡ before) × Links end ls n (link_at ls n).next ns
+
+-- the link of the first number of a row, with another after it
+abbrev pub first_link : ℕ → ℕ → Link
+first_link next end = record { next = next; previous = end }
+
+-- the links after that of a number was written, the next one that was not used before among them
+abbrev pub written : List Link → ℕ → Link → List Link
+written ls n l = cond (ltb n (length ls)) (set ls n l) (ls ++ l ∷ [])

@@ -1,4 +1,0 @@
-use Rattle.tg_share.proofs.growth_tests.growth_refused_in_a_close.Given as goal
-
-abbrev pub ghosts-close_again : goal.ghosts-close_again
-ghosts-close_again g a = record { name = a.blank.name; parts = a.blank.parts }

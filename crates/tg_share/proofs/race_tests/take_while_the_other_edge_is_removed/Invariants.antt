@@ -1,4 +1,0 @@
-use Rattle.tg_share.proofs.race_tests.take_while_the_other_edge_is_removed.Given as goal
-
-abbrev pub ghosts-race : goal.ghosts-race
-ghosts-race g a = record { name = a.blank.name; parts = a.blank.parts }

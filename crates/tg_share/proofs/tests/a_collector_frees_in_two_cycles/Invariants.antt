@@ -1,4 +1,0 @@
-use Rattle.tg_share.proofs.tests.a_collector_frees_in_two_cycles.Given as goal
-
-abbrev pub ghosts-collect_after : goal.ghosts-collect_after
-ghosts-collect_after g a = record { name = a.blank.name; parts = a.blank.parts }

@@ -1,4 +1,0 @@
-use Rattle.tg_share.proofs.tests.logs_are_settled_as_handed_in.Given as goal
-
-abbrev pub ghosts-close_two : goal.ghosts-close_two
-ghosts-close_two g a = record { name = a.blank.name; parts = a.blank.parts }

@@ -1,4 +1,0 @@
-use Rattle.tg_talk.proofs.talk_tests.talk_over.Given as goal
-
-abbrev pub ghosts-talk_alone : goal.ghosts-talk_alone
-ghosts-talk_alone g a = record { name = a.blank.name; parts = a.blank.parts }

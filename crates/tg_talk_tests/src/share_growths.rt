@@ -1,0 +1,184 @@
+//! Calls that are refused their memory and made again: tests/faults/growths.py refuses each allocation of these tests
+//! in turn.
+//! A session that is told otherwise ends a test like preparations that are refused; where memory was refused before, that shows.
+ghost use Rattle.std.specs.Prelude.{◌≡◌, []};
+ghost use Rattle.tg_share.specs.declared.locked.TheConstants.{PARTS};
+
+use crate::share::{
+    ALONE, Ask, CREATED, TAKE, Tally, Told, agreed, both, command, count_in, is_told, one, opened,
+    play, tells,
+};
+use std::alloc::{AllocError, Global};
+use std::io::Print;
+use std::marker::Brand;
+use std::rt::Clock;
+use std::sync::Wait;
+use std::sync::ledger::{Blank, Ledger};
+use tg_audit::{SeatLog, Settled, settle};
+use tg_share::{Closed, Ended, Gate, Open, PARTS, Session, Shared};
+use tg_vault::{AskFault, Vault};
+
+/// Whether the session asks so and is told so; none where memory is refused.
+fn is_told_at_once<L: Ledger, R: Wait + Clock, G: Gate>(
+    rt: &R,
+    alloc: Global,
+    session: &mut Session<'_, L>,
+    ask: Ask,
+    told: Told,
+    gate: &G,
+) -> Result<Option<bool>, AllocError> {
+    let command = command(alloc, ask)?;
+    let rule = command.rule();
+    Ok(match session.submit(rt, command, gate) {
+        Ok(found) => Some(tells(found, rule, told)),
+        Err(AskFault::OutOfMemory) => None,
+        Err(_) => Some(false),
+    })
+}
+
+/// Whether the session is told so, line by line. Where memory is refused it asks again.
+fn are_told_again<L: Ledger, R: Wait + Clock + Print, G: Gate>(
+    rt: &R,
+    alloc: Global,
+    session: &mut Session<'_, L>,
+    lines: &[(Ask, Told)],
+    gate: &G,
+) -> Result<bool, AllocError> {
+    for (ask, told) in lines {
+        let is_good = match is_told_at_once(rt, alloc, session, *ask, *told, gate)? {
+            Some(is_good) => is_good,
+            None => {
+                let _ = rt.println("no memory");
+                is_told(rt, alloc, session, *ask, *told, gate)?
+            }
+        };
+        if !is_good {
+            return Ok(false);
+        }
+    }
+    Ok(true)
+}
+
+/// How many entries there are after a session of alice, who asks again where memory is refused, and how many times she
+/// paused after a store and between steps.
+fn play_again<L: Ledger, R: Wait + Clock + Print>(
+    rt: &R,
+    alloc: Global,
+    blank: Blank,
+    vault: Vault,
+) -> Option<(u64, (u64, u64))>
+    requires name { blank.name ≡ L.name }
+    requires parts { blank.parts ≡ L.parts }
+    requires all { blank.parts ≡ PARTS }
+    requires empty { vault.history ≡ [] }
+{
+    let shared = Shared::<L>::new(alloc, blank, vault);
+    let Ok(mut alice) = shared.session(rt, alloc, 0, "alice") else {
+        return None;
+    };
+    let gate = Tally::new();
+    let told = are_told_again(rt, alloc, &mut alice, ALONE, &gate);
+    let alice = alice.end(rt);
+    let alice = matches!(told, Ok(true)).then_some(alice);
+    agreed(shared, one(alloc, alice)).zip(Some(gate.pauses()))
+}
+
+/// A submit that is refused enters nothing, in the history or in the log, and does not pause: in the end they agree, with
+/// one entry and one pause for each line.
+#[test]
+fn growth_refused_in_a_submit(rt: HostRuntime) -> Result<(), AllocError> {
+    let vault = opened(&rt, rt.alloc(), 8, 8, &[(1, TAKE, 2)])?;
+    let done = play_again::<Brand, _>(&rt, rt.alloc(), Blank::new(PARTS), vault);
+    assert_eq!(rt; done.ok_or(AllocError)?, (8, (8, 0)));
+    Ok(())
+}
+
+/// Whether these are the ends of a session of alice and one of bob, with one exchange each.
+fn are_both<L: Ledger>(ended: &[Ended<L>]) -> bool {
+    match ended {
+        [alice, bob] => {
+            let one_each = alice.log.exchanges.len() == 1 && bob.log.exchanges.len() == 1;
+            (alice.actor, bob.actor) == (1, 2) && one_each
+        }
+        _ => false,
+    }
+}
+
+/// Whether these are their logs, beside a vault with the two entries.
+fn are_their_logs(vault: &Vault, logs: &[SeatLog]) -> bool {
+    match logs {
+        [alice, bob] => {
+            let one_each = alice.exchanges.len() == 1 && bob.exchanges.len() == 1;
+            (alice.seat, bob.seat) == (0, 1) && one_each && vault.count() == 2
+        }
+        _ => false,
+    }
+}
+
+/// What settling comes to. Where memory is refused vault and logs are handed back, and settled again.
+fn settled_again<R: Print>(rt: &R, alloc: Global, settled: Settled) -> Settled {
+    match settled {
+        Settled::NoMemory { vault, logs } => {
+            let _ = rt.println("no memory");
+            if are_their_logs(&vault, &logs) {
+                settle(alloc, vault, logs)
+            } else {
+                Settled::NoMemory { vault, logs }
+            }
+        }
+        settled => settled,
+    }
+}
+
+/// How many entries there are, where the logs agree and all sessions were counted. Where there is no room for the list of
+/// logs, all is handed back, and closed again.
+fn closed_again<L: Ledger, R: Print>(
+    rt: &R,
+    alloc: Global,
+    shared: Shared<L>,
+    ended: Vec<Ended<L>>,
+) -> Option<u64>
+    requires { L.parts ≡ PARTS }
+{
+    match shared.close(ended) {
+        Closed::Done { settled, counted } => {
+            let settled = settled_again(rt, alloc, settled);
+            if counted { count_in(&settled) } else { None }
+        }
+        Closed::NoRoom { shared, ended } => {
+            let _ = rt.println("no memory");
+            let ended = are_both(&ended).then_some(ended);
+            agreed(shared, ended)
+        }
+    }
+}
+
+const LOOKED: (Ask, Told) = (Ask::Look(2), Told::Edges(&[]));
+
+/// How many entries there are after a session of alice, who creates a document, and one of bob, who looks at himself.
+fn close_again<L: Ledger, R: Wait + Clock + Print>(
+    rt: &R,
+    alloc: Global,
+    blank: Blank,
+    vault: Vault,
+) -> Option<u64>
+    requires name { blank.name ≡ L.name }
+    requires parts { blank.parts ≡ L.parts }
+    requires all { blank.parts ≡ PARTS }
+    requires empty { vault.history ≡ [] }
+{
+    let shared = Shared::<L>::new(alloc, blank, vault);
+    let alice = play(rt, alloc, &shared, 0, "alice", &[CREATED], &Open);
+    let bob = play(rt, alloc, &shared, 1, "bob", &[LOOKED], &Open);
+    let ended = both(alloc, alice, bob)?;
+    closed_again(rt, alloc, shared, ended)
+}
+
+/// A close that is refused hands back the vault and the ends, or the logs.
+#[test]
+fn growth_refused_in_a_close(rt: HostRuntime) -> Result<(), AllocError> {
+    let vault = opened(&rt, rt.alloc(), 8, 8, &[(1, TAKE, 2)])?;
+    let count = close_again::<Brand, _>(&rt, rt.alloc(), Blank::new(PARTS), vault);
+    assert_eq!(rt; count.ok_or(AllocError)?, 2);
+    Ok(())
+}

@@ -1,0 +1,149 @@
+//! A take beside the removal of the edge that it went by, in the midst of a marking.
+ghost use Rattle.std.specs.Prelude.{◌≡◌, []};
+ghost use Rattle.tg_share.specs.declared.locked.TheConstants.{PARTS};
+
+use crate::share::{
+    Ask, Board, GRANT, Holds, READ, TAKE, Told, WRITE, agreed, are_told, both, is_told, opened,
+    play,
+};
+use std::alloc::{AllocError, Global};
+use std::marker::Brand;
+use std::rt::Clock;
+use std::sync::Wait;
+use std::sync::atomic::Ordering;
+use std::sync::ledger::{Blank, Ledger};
+use std::thread;
+use std::thread::Threads;
+use tg_share::{Ended, Gate, Open, PARTS, Place, Shared, Worked};
+use tg_vault::Vault;
+
+/// Counts the collector's pauses, and holds it at the first until it is released.
+#[derive(Drop)]
+struct HoldsFirst<'a> {
+    board: &'a Board,
+}
+
+impl Gate for HoldsFirst<'_> {
+    fn pause<R: Wait + Clock>(&self, rt: &R, _place: Place) {
+        if self.board.pauses.fetch_add(1, Ordering::SeqCst) == 0 {
+            self.board
+                .wait(rt, |board| board.is_released.load(Ordering::SeqCst));
+        }
+    }
+}
+
+const MADE: &[(Ask, Told)] = &[
+    (Ask::Document(READ | WRITE), Told::Created(3)),
+    (Ask::Write(3, "hi"), Told::Done),
+];
+
+const TAKEN: &[(Ask, Told)] = &[
+    (Ask::Take(READ, 3, 2), Told::Done),
+    (Ask::Read(3), Told::Text("hi")),
+];
+
+/// Alice takes the right to read bob's document, is held with it until the collector has paused 101 times, and reads it.
+fn take_held<L: Ledger, R: Wait + Clock>(
+    rt: &R,
+    alloc: Global,
+    shared: &Shared<L>,
+    board: &Board,
+) -> Option<Ended<L>> {
+    board.wait(rt, |board| board.is_prepared.load(Ordering::SeqCst));
+    let gate = Holds { board, pauses: 101 };
+    play(rt, alloc, shared, 0, "alice", TAKEN, &gate)
+}
+
+/// Bob creates his document, and the collector goes through a cycle and on until alice is black. Once the collector is held
+/// again, with its cursor at bob's edge to the document, he removes that. Beside his end, what the collector did at first.
+fn remove_meanwhile<L: Ledger, R: Wait + Clock>(
+    rt: &R,
+    alloc: Global,
+    shared: &Shared<L>,
+    board: &Board,
+) -> Option<(Ended<L>, Worked)> {
+    let Ok(mut bob) = shared.session(rt, alloc, 1, "bob") else {
+        return None;
+    };
+    let made = are_told(rt, alloc, &mut bob, MADE, &Open);
+    let worked = shared.collector(rt, 18, &Open);
+    board.is_prepared.store(true, Ordering::SeqCst);
+    board.wait(rt, |board| board.pauses.load(Ordering::SeqCst) > 0);
+    let removed = is_told(
+        rt,
+        alloc,
+        &mut bob,
+        Ask::Remove(READ | WRITE, 3),
+        Told::Done,
+        &Open,
+    );
+    board.is_released.store(true, Ordering::SeqCst);
+    let ended = bob.end(rt);
+    if matches!(made, Ok(true)) && matches!(removed, Ok(true)) {
+        Some((ended, worked))
+    } else {
+        None
+    }
+}
+
+/// Once alice is held, the collector goes on through the rest of its cycle and further ones.
+fn collect_on<L: Ledger, R: Wait + Clock>(rt: &R, shared: &Shared<L>, board: &Board) -> Worked {
+    board.wait(rt, |board| board.is_held.load(Ordering::SeqCst));
+    shared.collector(rt, 102, &HoldsFirst { board })
+}
+
+fn take_and_remove<L: Ledger + Send + Sync, R: Threads + Wait + Clock + Sync>(
+    rt: &R,
+    alloc: Global,
+    shared: &Shared<L>,
+    board: &Board,
+) -> (Option<Ended<L>>, Option<(Ended<L>, Worked)>) {
+    thread::join(
+        rt,
+        || take_held(rt, alloc, shared, board),
+        || remove_meanwhile(rt, alloc, shared, board),
+    )
+}
+
+fn take_remove_and_collect<L: Ledger + Send + Sync, R: Threads + Wait + Clock + Sync>(
+    rt: &R,
+    alloc: Global,
+    shared: &Shared<L>,
+    board: &Board,
+) -> ((Option<Ended<L>>, Option<(Ended<L>, Worked)>), Worked) {
+    thread::join(
+        rt,
+        || take_and_remove(rt, alloc, shared, board),
+        || collect_on(rt, shared, board),
+    )
+}
+
+/// What the collector did at first, and how many entries there are in the end, where all was told as worked out.
+fn race<L: Ledger + Send + Sync, R: Threads + Wait + Clock + Sync>(
+    rt: &R,
+    alloc: Global,
+    blank: Blank,
+    vault: Vault,
+) -> (Option<Worked>, Option<u64>)
+    requires name { blank.name ≡ L.name }
+    requires parts { blank.parts ≡ L.parts }
+    requires all { blank.parts ≡ PARTS }
+    requires empty { vault.history ≡ [] }
+{
+    let shared = Shared::<L>::new(alloc, blank, vault);
+    let board = Board::new();
+    let ((alice, bob), _) = take_remove_and_collect(rt, alloc, &shared, &board);
+    let (bob, worked) = bob.unzip();
+    let ended = board.in_time(both(alloc, alice, bob));
+    (worked, agreed(shared, ended))
+}
+
+/// When the collector has scanned alice and not yet bob, alice takes a right over a white document of his, and before she
+/// has shaded it bob removes the only other edge to it: she can read it when that cycle and further ones have ended.
+#[test]
+fn take_while_the_other_edge_is_removed(rt: HostRuntime) -> Result<(), AllocError> {
+    let vault = opened(&rt, rt.alloc(), 3, 8, &[(1, TAKE | GRANT, 2)])?;
+    let done = race::<Brand, _>(&rt, rt.alloc(), Blank::new(PARTS), vault);
+    assert_eq!(rt; done, (Some(Worked { freed: 0, ended: 1 }), Some(5)));
+    Ok(())
+}

@@ -1,0 +1,229 @@
+//! Talks over memory: what is answered, what the logs come to, and a reader and a writer that fail at each of their calls.
+ghost use Rattle.std.specs.Prelude.{◌≡◌, [], IfOk, IfSome, false};
+ghost use Rattle.tg_share.specs.declared.locked.TheConstants.{PARTS};
+ghost use Rattle.tg_talk.specs.Devices.{has_failed, owed};
+
+use crate::talk_lines::FAILURES;
+use std::alloc::{AllocError, Global};
+use std::io::{BufWriter, Read, Write};
+use std::marker::Brand;
+use std::rt::Clock;
+use std::sync::Wait;
+use std::sync::ledger::{Blank, Ledger};
+use tg_audit::Settled;
+use tg_share::{Closed, Ended, Open, PARTS, Shared};
+use tg_talk::{FailingReader, FailingWriter, Failure, TalkFault, Talked, Watched, buffered, talk};
+use tg_vault::Vault;
+use tg_wire::read_config;
+
+const CONFIG: &[u8] =
+    b"{\"cells\":8,\"edges\":[[1,\"t\",2]],\"principals\":[\"alice\",\"bob\"],\"slots\":8}";
+
+pub const LINES: &[u8] =
+    b"{\"op\":\"read\",\"over\":3}\n{\"name\":\"alice\",\"op\":\"hello\"}\n{\"kind\":\"document\",\"op\":\"create\",\"rights\":\"rw\"}\n{\"op\":\"read\",\"over\":3}\n{\"op\":\"shade\"}\n{\"op\":\"bye\"}\n";
+
+pub const ANSWERS: &[u8] =
+    b"{\"error\":\"no actor\"}\n{\"ok\":\"hello\",\"vertex\":1}\n{\"ok\":\"created\",\"vertex\":3}\n{\"ok\":\"text\",\"text\":\"\"}\n{\"error\":\"not for a session\"}\n{\"ok\":\"bye\"}\n";
+
+/// The vault of the configuration.
+pub fn opened(alloc: Global) -> Option<Vault>
+    ensures { IfSome result (λ vault. vault.history ≡ []) }
+{
+    let config = read_config(alloc, CONFIG).ok()?;
+    Vault::new(alloc, config).ok()
+}
+
+/// What a talk over these devices comes to.
+#[derive(Clone, Copy, Debug, PartialEq, Eq)]
+pub struct Came {
+    pub lines: u64,
+    pub fault: Option<TalkFault>,
+    /// How many entries there are, where logs and history agree and each session is counted.
+    pub entries: Option<u64>,
+}
+
+/// How many entries there are, where the logs agree with the history, and each session is counted.
+fn entries_of<L: Ledger>(closed: Closed<L>) -> Option<u64> {
+    match closed {
+        Closed::Done { settled, counted } => match settled {
+            Settled::Agreed(vault) => { if counted { Some(vault.count()) } else { None } }
+            Settled::Differs { .. } => None,
+            Settled::NoMemory { .. } => None,
+        },
+        Closed::NoRoom { .. } => None,
+    }
+}
+
+/// The list of the session's end, if it was given; empty where there is no memory.
+fn list_of<L: Ledger>(alloc: Global, ended: Option<Ended<L>>) -> Vec<Ended<L>> {
+    match ended {
+        Some(ended) => vec![in alloc; ended].unwrap_or(Vec::new(alloc)),
+        None => Vec::new(alloc),
+    }
+}
+
+/// A talk on seat 0 over a vault of its own, and the settle of its log.
+pub fn talk_alone<L: Ledger, D: Read, W: Write + Drop, R: Wait + Clock>(
+    rt: &R,
+    alloc: Global,
+    reader: &mut Watched<D>,
+    writer: &mut Watched<BufWriter<W>>,
+    blank: Blank,
+    vault: Vault,
+) -> Came
+    requires name { blank.name ≡ L.name }
+    requires parts { blank.parts ≡ L.parts }
+    requires all { blank.parts ≡ PARTS }
+    requires empty { vault.history ≡ [] }
+    requires reads { has_failed reader.old ≡ false }
+    requires writes { has_failed writer.old ≡ false }
+    requires paid { owed writer.old ≡ [] }
+{
+    let shared = Shared::<L>::new(alloc, blank, vault);
+    let Talked {
+        lines,
+        fault,
+        ended,
+    } = talk(rt, alloc, reader, writer, &shared, 0, &Open);
+    let closed = shared.close(list_of(alloc, ended));
+    Came {
+        lines,
+        fault,
+        entries: entries_of(closed),
+    }
+}
+
+/// A talk over these devices, on a vault of its own; where there is memory for it.
+pub fn talk_over<D: Read + Drop, W: Write + Drop, R: Wait + Clock>(
+    rt: &R,
+    alloc: Global,
+    reader: D,
+    writer: W,
+) -> Result<Came, AllocError> {
+    let mut reader = Watched::new(reader);
+    let vault = opened(alloc).ok_or(AllocError)?;
+    let mut writer = buffered(alloc, writer)?;
+    let blank = Blank::new(PARTS);
+    Ok(talk_alone::<Brand, _, _, _>(rt, alloc, &mut reader, &mut writer, blank, vault))
+}
+
+/// What a whole talk over the lines comes to.
+const WHOLE: Came = Came {
+    lines: 6,
+    fault: None,
+    entries: Some(2),
+};
+
+#[test]
+fn talk_over_memory(rt: HostRuntime) -> Result<(), AllocError> {
+    let mut out = Vec::new(rt.alloc());
+    let came = talk_over(&rt, rt.alloc(), LINES, &mut out)?;
+    assert!(rt; out.as_slice() == ANSWERS);
+    assert_eq!(rt; came, WHOLE);
+    Ok(())
+}
+
+/// A talk over the lines, with a reader and a writer of single bytes, the former for so many reads and the latter for so
+/// many writes. What is written is put behind `out`.
+fn talk_by_bytes<R: Wait + Clock>(
+    rt: &R,
+    alloc: Global,
+    reads: usize,
+    writes: usize,
+    how: Failure,
+    out: &mut Vec<u8>,
+) -> Result<Came, AllocError> {
+    let bytes = LINES;
+    let failing = FailingWriter {
+        bytes: out,
+        writes,
+        how,
+    };
+    talk_over(rt, alloc, FailingReader { bytes, reads }, failing)
+}
+
+/// Whether the talk ended by this fault, its logs agree with the history, and the answers begin with what was written.
+fn ended_by(came: Came, fault: TalkFault, out: &[u8]) -> bool {
+    came.fault == Some(fault) && came.entries.is_some() && ANSWERS.starts_with(out)
+}
+
+#[test]
+fn each_read_of_a_talk_fails_in_turn(rt: HostRuntime) -> Result<(), AllocError> {
+    for reads in 0..LINES.len() {
+        let mut out = Vec::new(rt.alloc());
+        let came = talk_by_bytes(&rt, rt.alloc(), reads, 1000, Failure::Error, &mut out)?;
+        assert!(rt; ended_by(came, TalkFault::Reading, &out));
+    }
+    Ok(())
+}
+
+/// Whether each write fails in turn as it should, where writes fail so: all bytes before it are there.
+fn fails_at_each_write<R: Wait + Clock>(
+    rt: &R,
+    alloc: Global,
+    how: Failure,
+) -> Result<bool, AllocError> {
+    for writes in 0..ANSWERS.len() {
+        let mut out = Vec::new(alloc);
+        let came = talk_by_bytes(rt, alloc, 1000, writes, how, &mut out)?;
+        if !ended_by(came, TalkFault::Writing, &out) || out.len() != writes {
+            return Ok(false);
+        }
+    }
+    Ok(true)
+}
+
+#[test]
+fn each_write_of_a_talk_fails_in_turn(rt: HostRuntime) -> Result<(), AllocError> {
+    for how in FAILURES {
+        assert!(rt; fails_at_each_write(&rt, rt.alloc(), *how)?);
+    }
+    Ok(())
+}
+
+#[test]
+fn a_talk_over_single_bytes_is_whole(rt: HostRuntime) -> Result<(), AllocError> {
+    let mut out = Vec::new(rt.alloc());
+    let came = talk_by_bytes(&rt, rt.alloc(), 1000, 1000, Failure::Error, &mut out)?;
+    assert!(rt; out.as_slice() == ANSWERS);
+    assert_eq!(rt; came, WHOLE);
+    Ok(())
+}
+
+/// A line that writes a text begins so, ends so, and is read back behind it.
+const WRITE: &[u8] =
+    b"{\"name\":\"alice\",\"op\":\"hello\"}\n{\"kind\":\"document\",\"op\":\"create\",\"rights\":\"rw\"}\n{\"op\":\"write\",\"over\":3,\"text\":\"";
+
+const READ: &[u8] = b"\"}\n{\"op\":\"read\",\"over\":3}\n";
+
+/// The answers begin and end so.
+const WRITTEN: &[u8] =
+    b"{\"ok\":\"hello\",\"vertex\":1}\n{\"ok\":\"created\",\"vertex\":3}\n{\"ok\":\"done\"}\n{\"ok\":\"text\",\"text\":\"";
+
+const WRITTEN_END: &[u8] = b"\"}\n";
+
+/// A text of the greatest length, 4,096 bytes, between these.
+fn round_a_text(alloc: Global, before: &[u8], behind: &[u8]) -> Result<Vec<u8>, AllocError> {
+    let mut bytes = Vec::from_slice(alloc, before)?;
+    for _ in 0..512u32 {
+        bytes.extend_from_slice(b"longtext")?;
+    }
+    bytes.extend_from_slice(behind)?;
+    Ok(bytes)
+}
+
+#[test]
+fn the_longest_text_is_written_and_read_back(rt: HostRuntime) -> Result<(), AllocError> {
+    let lines = round_a_text(rt.alloc(), WRITE, READ)?;
+    let answers = round_a_text(rt.alloc(), WRITTEN, WRITTEN_END)?;
+    let mut out = Vec::new(rt.alloc());
+    let came = talk_over(&rt, rt.alloc(), lines.as_slice(), &mut out)?;
+    assert!(rt; out.as_slice() == answers.as_slice());
+    let whole = Came {
+        lines: 4,
+        fault: None,
+        entries: Some(3),
+    };
+    assert_eq!(rt; came, whole);
+    Ok(())
+}

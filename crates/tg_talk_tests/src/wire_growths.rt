@@ -1,0 +1,252 @@
+//! Each call that takes memory, where it is refused: the call says so, and made again it answers as the protocol has it.
+//! tests/faults/growths.py refuses each allocation of a test in turn. A line that is read as a flat list of members
+//! takes none.
+use std::alloc::Global;
+use tg_graph::Verdict;
+use tg_rights::{Cause, Command, Reply, Rights, Rule};
+use tg_vault::{Answer, Event, Swept};
+use tg_wire::{
+    Line, LineRoom, WireFault, read_config, read_goal, read_line, read_step, write_answer,
+    write_reply, write_reply_in, write_swept, write_verdict,
+};
+
+/// What the call answers, made again where memory is refused.
+fn answered<F: Fn(Global) -> Result<bool, WireFault>>(
+    rt: &HostRuntime,
+    call: F,
+) -> Result<bool, WireFault>
+    requires { F.IsAlwaysCallable call }
+{
+    match call(rt.alloc()) {
+        Ok(answer) => Ok(answer),
+        Err(WireFault::OutOfMemory) => {
+            let _ = rt.println("no memory");
+            call(rt.alloc())
+        }
+        Err(fault) => Err(fault),
+    }
+}
+
+/// The configuration of an audit is read as it stands, with what it leaves out.
+fn the_configuration_is_read(alloc: Global) -> Result<bool, WireFault> {
+    let config = read_config(
+        alloc,
+        b"{\"edges\":[[1,\"t\",2],[2,\"r\",3]],\"principals\":[\"alice\",\"bob\",\"carol\"]}",
+    )?;
+    let edges = [(1, Rights::take(), 2), (2, Rights::read(), 3)];
+    Ok(
+        (config.next, config.slots, config.cells) == (4, 1_024, 16_384)
+            && config.principals.len() == 3
+            && config.edges.as_slice() == edges.as_slice(),
+    )
+}
+
+#[test]
+fn growth_refused_in_read_config(rt: HostRuntime) {
+    assert!(rt; matches!(&answered(&rt, the_configuration_is_read), Ok(true)));
+}
+
+fn the_goal_is_read(alloc: Global) -> Result<bool, WireFault> {
+    let goal = read_goal(alloc, b"{\"from\":1,\"rights\":\"r\",\"to\":3}")?;
+    Ok(goal.from == 1 && goal.to == 3 && goal.rights == Rights::read())
+}
+
+#[test]
+fn growth_refused_in_read_goal(rt: HostRuntime) {
+    assert!(rt; matches!(&answered(&rt, the_goal_is_read), Ok(true)));
+}
+
+/// The step of a derivation, its op with an escape: without one it takes no memory.
+fn the_step_is_read(alloc: Global) -> Result<bool, WireFault> {
+    let step = read_step(
+        alloc,
+        b"{\"actor\":1,\"from\":2,\"op\":\"t\\u0061ke\",\"over\":3,\"rights\":\"r\"}",
+    )?;
+    match &step.command {
+        Command::Take { rights, over, from } => {
+            Ok(step.actor == 1 && *rights == Rights::read() && *over == 3 && *from == 2)
+        }
+        _ => Ok(false),
+    }
+}
+
+#[test]
+fn growth_refused_in_read_step(rt: HostRuntime) {
+    assert!(rt; matches!(&answered(&rt, the_step_is_read), Ok(true)));
+}
+
+fn the_hello_is_read(alloc: Global) -> Result<bool, WireFault> {
+    let line = read_line(alloc, b"{\"name\":\"alice\",\"op\":\"hello\",\"seat\":0}")?;
+    match &line {
+        Line::Act(Event::Hello { seat, name }) => Ok(*seat == 0 && name.get() == "alice"),
+        _ => Ok(false),
+    }
+}
+
+#[test]
+fn growth_refused_in_read_line(rt: HostRuntime) {
+    assert!(rt; matches!(&answered(&rt, the_hello_is_read), Ok(true)));
+}
+
+/// Lines that are flat, each with its fault, if it has one: each kind of value, the least and the greatest number, spaces at
+/// every place, and as many members as there may be. None has a name or a text that its command keeps.
+const FLAT: &[(&[u8], Option<WireFault>)] = &[
+    (b"{\"op\":\"read\",\"over\":3,\"seat\":0}", None),
+    (b"{\"over\":18446744073709551615}", Some(WireFault::NoOp)),
+    (
+        b" {\t\"op\" :\r\"write\" , \"text\": \"\", \"over\":10 ,\"seat\": 63 } ",
+        None,
+    ),
+    (
+        b"{\"text\":\"\xc3\xa9t\xc3\xa9\",\"op\":\"read\",\"over\":100}",
+        Some(WireFault::UnknownField),
+    ),
+    (
+        b"{\"from\":1,\"op\":\"take\",\"over\":3,\"rights\":\"r\",\"seat\":2}",
+        None,
+    ),
+];
+
+/// The same, of steps.
+const FLAT_STEPS: &[(&[u8], Option<WireFault>)] = &[
+    (
+        b"{\"actor\":1,\"from\":2,\"op\":\"take\",\"over\":3,\"rights\":\"r\"}",
+        None,
+    ),
+    (b"{\"op\":\"look\",\"at\":3}", Some(WireFault::MissingField)),
+];
+
+/// The fault of what was read.
+fn fault_of<T>(found: &Result<T, WireFault>) -> Option<WireFault> {
+    match found {
+        Ok(_) => None,
+        Err(fault) => Some(*fault),
+    }
+}
+
+/// A reader that read each line as a tree would keep its contract; it would be slow. A tree takes memory, a flat line none:
+/// tests/faults/growths.py wants that this test makes no allocation.
+#[test]
+fn no_growth_in_flat_lines(rt: HostRuntime) {
+    for (line, fault) in FLAT {
+        assert!(rt; fault_of(&read_line(rt.alloc(), line)) == *fault);
+    }
+    for (line, fault) in FLAT_STEPS {
+        assert!(rt; fault_of(&read_step(rt.alloc(), line)) == *fault);
+    }
+}
+
+/// The line has this fault, where there is memory to see it.
+fn is_refused(alloc: Global, line: &[u8], wanted: WireFault) -> Result<bool, WireFault> {
+    match read_line(alloc, line) {
+        Ok(_) => Ok(false),
+        Err(WireFault::OutOfMemory) => Err(WireFault::OutOfMemory),
+        Err(fault) => Ok(fault == wanted),
+    }
+}
+
+/// Lines that are refused, with their faults.
+const REFUSED: &[(&[u8], WireFault)] = &[
+    (b"{\"op\":\"take\"", WireFault::NotJson),
+    (b"[]", WireFault::NotObject),
+    (b"{\"op\":\"steal\"}", WireFault::NoOp),
+    (b"{\"op\":\"read\"}", WireFault::MissingField),
+    (b"{\"op\":\"read\",\"over\":1.5}", WireFault::BadField),
+    (
+        b"{\"op\":\"read\",\"over\":3,\"x\":1}",
+        WireFault::UnknownField,
+    ),
+];
+
+fn all_are_refused(alloc: Global) -> Result<bool, WireFault> {
+    for (line, fault) in REFUSED {
+        if !is_refused(alloc, line, *fault)? {
+            return Ok(false);
+        }
+    }
+    Ok(true)
+}
+
+/// A line that has a fault is answered with it, or with the want of memory.
+#[test]
+fn growth_refused_in_lines_that_are_refused(rt: HostRuntime) {
+    assert!(rt; matches!(&answered(&rt, all_are_refused), Ok(true)));
+}
+
+fn the_reply_is_written(alloc: Global) -> Result<bool, WireFault> {
+    let line = write_reply(alloc, &Reply::Created(3))?;
+    Ok(line.as_slice() == b"{\"ok\":\"created\",\"vertex\":3}\n".as_slice())
+}
+
+#[test]
+fn growth_refused_in_write_reply(rt: HostRuntime) {
+    assert!(rt; matches!(&answered(&rt, the_reply_is_written), Ok(true)));
+}
+
+/// The reply of a create is written in the room, which then comes back; once more where memory is refused.
+fn is_written_in(rt: &HostRuntime, room: &mut LineRoom, vertex: u64, wanted: &[u8]) -> bool {
+    let reply = Reply::Created(vertex);
+    let line = match write_reply_in(room, &reply) {
+        Ok(line) => line,
+        Err(_) => {
+            let _ = rt.println("no memory");
+            let Ok(line) = write_reply_in(room, &reply) else {
+                return false;
+            };
+            line
+        }
+    };
+    let same = line.as_slice() == wanted;
+    room.take_back(line);
+    same
+}
+
+/// Room that could not be taken is taken with the next line, and kept for the one behind it.
+#[test]
+fn growth_refused_in_write_reply_in(rt: HostRuntime) {
+    let room = &mut LineRoom::new(rt.alloc());
+    assert!(rt; is_written_in(&rt, room, 3, b"{\"ok\":\"created\",\"vertex\":3}\n"));
+    assert!(rt; is_written_in(&rt, room, 4, b"{\"ok\":\"created\",\"vertex\":4}\n"));
+}
+
+fn the_answer_is_written(alloc: Global) -> Result<bool, WireFault> {
+    let line = write_answer(alloc, &Answer::Shaded(Some(3)))?;
+    Ok(line.as_slice() == b"{\"shaded\":3}\n".as_slice())
+}
+
+#[test]
+fn growth_refused_in_write_answer(rt: HostRuntime) {
+    assert!(rt; matches!(&answered(&rt, the_answer_is_written), Ok(true)));
+}
+
+fn the_cycle_is_written(alloc: Global) -> Result<bool, WireFault> {
+    let swept = Swept {
+        freed: 1,
+        steps: 10,
+    };
+    let line = write_swept(alloc, swept)?;
+    Ok(line.as_slice() == b"{\"freed\":1,\"steps\":10}\n".as_slice())
+}
+
+#[test]
+fn growth_refused_in_write_swept(rt: HostRuntime) {
+    assert!(rt; matches!(&answered(&rt, the_cycle_is_written), Ok(true)));
+}
+
+fn the_verdict_is_written(alloc: Global) -> Result<bool, WireFault> {
+    let denied = Verdict::StepDenied {
+        index: 0,
+        rule: Rule::Take,
+        cause: Cause::NotDistinct,
+    };
+    let line = write_verdict(alloc, &denied)?;
+    Ok(
+        line.as_slice()
+            == b"{\"cause\":\"not distinct\",\"denied\":\"take\",\"step\":0,\"verdict\":\"step denied\"}\n".as_slice(),
+    )
+}
+
+#[test]
+fn growth_refused_in_write_verdict(rt: HostRuntime) {
+    assert!(rt; matches!(&answered(&rt, the_verdict_is_written), Ok(true)));
+}

@@ -1,0 +1,54 @@
+use Rattle.std.proofs.Common.{◌≤◌, sym, subst, arith}
+use Rattle.tg_rights.specs.declared.limits.TheConstants.{MAX_CELLS, MAX_SLOTS}
+use Rattle.tg_collect.proofs.FitLemmas.{openings_can_be_stored}
+use Rattle.tg_vault.specs.Contents.{Contents, IsFresh}
+use Rattle.tg_vault.specs.Fits.{IsTied}
+use Rattle.tg_vault.proofs.FreshLemmas.{opening_fits, fresh_joined, fresh_is}
+use Rattle.tg_vault.proofs.vault.Vault.with_key.Goals as goal
+
+pub overflow_cast-config : goal.overflow_cast-config
+overflow_cast-config c = let high : c.args.config.slots ≤ MAX_SLOTS = (openings_can_be_stored c.args.config c.in_ok-opening.ensures.sound).high_slots in omega arith
+
+pub overflow_cast-config-2 : goal.overflow_cast-config-2
+overflow_cast-config-2 c = let high : c.args.config.cells ≤ MAX_CELLS = (openings_can_be_stored c.args.config c.in_ok-opening.ensures.sound).high_cells in omega arith
+
+pub with_key-requires-clause-low_slots : goal.with_key-requires-clause-low_slots
+with_key-requires-clause-low_slots c = (openings_can_be_stored c.args.config c.in_ok-opening.ensures.sound).low_slots
+
+pub with_key-requires-clause-high_slots : goal.with_key-requires-clause-high_slots
+with_key-requires-clause-high_slots c = (openings_can_be_stored c.args.config c.in_ok-opening.ensures.sound).high_slots
+
+pub with_key-requires-clause-low_cells : goal.with_key-requires-clause-low_cells
+with_key-requires-clause-low_cells c = (openings_can_be_stored c.args.config c.in_ok-opening.ensures.sound).low_cells
+
+pub with_key-requires-clause-high_cells : goal.with_key-requires-clause-high_cells
+with_key-requires-clause-high_cells c = (openings_can_be_stored c.args.config c.in_ok-opening.ensures.sound).high_cells
+
+pub with_key-requires-clause-opening : goal.with_key-requires-clause-opening
+with_key-requires-clause-opening c = opening_fits c.args.config c.in_ok-opening.opening c.in_ok-opening.ensures.ok c.in_ok-opening.ensures.sound
+
+pub invariant_of-result : goal.invariant_of-result
+invariant_of-result c =
+    subst (λ (w : Contents). IsTied w c.args.config.next)
+    (λ i. record {
+      opening = c.in_ok-opening.opening;
+      names = c.args.config.principals.items;
+      limits = record { slots = c.args.config.slots; cells = c.args.config.cells };
+      seats = sym c.in-Ok-empty_seats.ensures i;
+      store = c.in-Ok.store;
+      history = sym c.new.ensures.items i;
+    })
+    (fresh_joined c.args.config c.in_ok-opening.opening c.in-Ok.store c.in_ok-opening.ensures.ok c.in_ok-opening.ensures.sound c.in_ok-opening.ensures.graph c.soundness.ensures.sound c.in-Ok.ensures)
+
+pub returns-clause-ok : goal.returns-clause-ok
+returns-clause-ok c =
+    subst (λ (w : Contents). IsFresh c.args.config w)
+    (λ i. record {
+      opening = c.in_ok-opening.opening;
+      names = c.args.config.principals.items;
+      limits = record { slots = c.args.config.slots; cells = c.args.config.cells };
+      seats = sym c.in-Ok-empty_seats.ensures i;
+      store = c.in-Ok.store;
+      history = sym c.new.ensures.items i;
+    })
+    (fresh_is c.args.config c.in_ok-opening.opening c.in-Ok.store c.in_ok-opening.ensures.ok c.in_ok-opening.ensures.sound c.in_ok-opening.ensures.graph c.soundness.ensures.sound c.in-Ok.ensures)

@@ -1,0 +1,242 @@
+"""Lines with faults, drawn at random: each form of a line with one or two of them.
+
+Faults are made in the fields (keys renamed, doubled, moved and removed, values of other types, values at and beyond each limit, escapes) and in the
+bytes (cut, spoilt, invalid UTF-8, a byte order mark, lengths about the longest). What is wrong with a line, if anything, is not said here.
+"""
+
+from models.reading import EVENTS, LONGEST_LINE, MOST_LEVELS
+
+NUMBERS = """0 1 2 3 4 63 64 65 65536 65537 1048576 1048577 -1 -0 -3 -18446744073709551616 4294967296 9223372036854775807 9223372036854775808
+18446744073709551614 18446744073709551615 18446744073709551616 99999999999999999999 100000000000000000000 1.0 3.5 -0.0 1e0 3E0 1e+0 1e-0 0e0 0.3e1
+0e400 1e-400 1e308 -1e308 1.7976931348623158e308 1e-999999999999999999999 18446744073709551616.0 -18446744073709551616e0""".split()
+# The greatest whole number that is nearer to a float than to what is beyond the range is among them; the next one is not JSON.
+LIMIT = 2**1024 - 2**970
+NUMBERS += ["9" * 19, "9" * 21, "9" * 308, "-" + "9" * 308, "%d" % (LIMIT - 1), "0." + "0" * 5000 + "1"]
+NO_NUMBERS = """1e400 -1e400 1e309 1.7976931348623159e308 1E999999999999999999999 01 00 +1 .5 1. 1e 1e+ 0x10 1_0 - -- NaN Infinity -Infinity nan ١ ３""".split()
+NO_NUMBERS += ["%d" % LIMIT, "-%d" % LIMIT, "9" * 309, "1" + "0" * 5000, "-" + "9" * 400]
+OTHER_VALUES = """null true false [] {} [1] [[]] [null] {"a":1} [{}] [[1,"tg",2]] ["alice"] [1.5] {"a":{"a":1}} "" "a" "1" "null" """.split()
+NO_VALUES = """True None nul 'a' a undefined [1,] [,1] {"a"} {"a":} {a:1} {1:1} {"a":1,} [1 "a""".split()
+LETTERS_OF_RIGHTS = ["rr", "ww", "tt", "gg", "gwg", "rwtgr", "R", "x", "r w", " r", "r\\n", "\\u0072", "\\u0072r", "ŕ", "rwtg", "gtwr", "", "g", "tw", "\\u0000"]
+WORDS = ["Subject", "document ", "object", "documen", "DOCUMENT", "\\u0064ocument", "alice\\u0000", "Alice", "bob", "carol", "hell\\u006f", "look", "LOOK", "bye"]
+ESCAPES = ["\\u0061", "\\u00E9", "\\u00e9", "\\uD83D\\uDE00", "\\ud83d\\ude00", "\\ud83d", "\\ude00", "\\ude00\\ud83d", "\\ud83d\\u0061", "\\ud83d\\ud83d\\ude00"]
+ESCAPES += ["\\uD800\\uDC00", "\\uDBFF\\uDFFF", "\\udbff", "\\udfffx", "\\ud83d \\ude00", "\\uffff", "\\u0000", "\\u001F", "\\/", "\\\\", '\\"', "\\b\\f\\n\\r\\t"]
+ESCAPES += ["\\x61", "\\u61", "\\u006", "\\u00g1", "\\U0061", "\\u{61}", "\\a", "\\'", "\\0", "\\", "\\u", "\\u+061", "\\u 061"]
+BROKEN = [b"\x80", b"\xff", b"\xfe\xff", b"\xc0\xaf", b"\xc1\xbf", b"\xe0\x80\xaf", b"\xed\xa0\x80", b"\xed\xbf\xbf", b"\xf0\x80\x80\xaf", b"\xf4\x90\x80\x80"]
+BROKEN += [b"\xc3", b"\xe2\x82", b"\xf0\x9f\x98", b"\xf8\x88\x80\x80\x80", b"\xc3\x28"]
+WHOLE = ["é", "😀", "\u2028", "\ufeff", "\ufffd", "\uffff", "\U0010ffff", "\x7f", "\x80", "\xa0"]
+CONTROLS = [bytes([byte]) for byte in range(32) if byte != 10]
+KEYS = ["x", "Seat", "OP", "op ", "", "\\u0000", "actor", "next", "slots", "edges", "principals", "кey", "over", "from", "to", "at", "seat", "name", "text", "kind"]
+GOOD = {
+    "name": ['"alice"', '"bob"', '"carol"'],
+    "rights": ['"r"', '"tg"', '"rwtg"', '"w"'],
+    "kind": ['"document"', '"subject"'],
+    "text": ['"hi"', '""', '"é😀"'],
+    "principals": ['["alice","bob"]', '["alice","bob","carol"]', '["alice","bob"]', '["alice"]'],
+    "edges": ['[[1,"tg",2]]', '[[1,"r",2],[2,"w",1]]', '[[2,"",1],[1,"t",2]]', "[]"],
+    "slots": ["64", "8"],
+    "cells": ["64", "8"],
+    "next": ["9", "3"],
+    "actor": ["1", "2"],
+    "seat": ["0", "0", "1", "2"],
+}
+SERIALS = ["1", "2", "3", "4", "99"]
+
+# Values at and beyond what a field may have; if a field is not named, those of numbers.
+SIXTY_FOUR = ",".join('"%s"' % ("a" * (number % 26 + 1) + "b" * (number // 26)) for number in range(64))
+AT_A_LIMIT = {
+    "rights": ['"%s"' % word for word in LETTERS_OF_RIGHTS],
+    **dict.fromkeys(["kind", "op", "name"], ['"%s"' % word for word in ["", *WORDS]]),
+    "slots": ["0", "1", "2", "3", "65536", "65537"],
+    "cells": ["0", "1", "1", "2", "1048576", "1048577"],
+    "next": ["0", "1", "2", "3", "18446744073709551614", "18446744073709551615"],
+    "principals": ["[]", "[%s]" % SIXTY_FOUR, '[%s,"z"]' % SIXTY_FOUR, '["%s"]' % ("z" * 32), '["%s"]' % ("z" * 33), '["alice","alice"]', '["alice",null]']
+    + ['["%s","bob"]' % word for word in ["", "Alice", "al ice", "alice1", "ali\\u0063e", "bo\\u0062", "é", "alice\\n"]],
+    "edges": ["[%s]" % pair for pair in """[1,"t",3] [0,"t",1] [1,"t",1] [1,"",2] [1,"t",2],[1,"r",2] [2,"t",1],[1,"t",2]""".split() * 3]
+    + ["[%s]" % pair for pair in """[1,"tt",2] [1,"t",2,3] [1,"t"] [1.0,"t",2] [1,"t",2e0] [-1,"t",2] 1,"t",2 [1,"t",2],null ["1","t","2"] [1,null,2]
+        [1,["t"],2] [2,"x",2]""".split()],
+}
+
+
+def text_of_bytes(source):
+    """A text about the longest, in letters of one to four bytes, some as escapes."""
+    letter, width, escaped = source.choice([("a", 1, "\\u0061"), ("é", 2, "\\u00e9"), ("€", 3, "\\u20AC"), ("😀", 4, "\\ud83d\\ude00")])
+    size = source.choice([4092, 4095, 4096, 4097, 4100, 8192])
+    count, rest = divmod(size, width)
+    escapes = source.randint(0, 900)
+    return '"%s%s%s"' % (escaped * escapes, letter * (count - escapes), "b" * rest)
+
+
+def nested(source):
+    """A value that is nested about as deeply as it may be, one level being that of the line."""
+    depth = source.choice([1, 2, MOST_LEVELS - 2, MOST_LEVELS - 1, MOST_LEVELS, MOST_LEVELS + 1, 1000, 5000])
+    if source.random() < 0.5:
+        return "[" * depth + "]" * depth
+    return '{"a":' * (depth - 1) + "{}" + "}" * (depth - 1)
+
+
+def text(source):
+    """A text with something odd in it."""
+    kind = source.randrange(5)
+    if kind == 0:
+        return text_of_bytes(source)
+    inside = source.choice([ESCAPES, WHOLE, LETTERS_OF_RIGHTS, WORDS][kind - 1])
+    return '"%s"' % (inside if source.random() < 0.7 else "ab" + inside + "c")
+
+
+def value(source):
+    """Any value, as JSON or nearly so."""
+    kind = source.randrange(10)
+    if kind == 0:
+        return source.choice([*NO_NUMBERS, *NO_VALUES])
+    if kind == 1:
+        return nested(source)
+    return text(source) if kind < 5 else source.choice(NUMBERS if kind < 8 else OTHER_VALUES)
+
+
+def rewritten(source, word):
+    """The text of a key or a value, some of its letters as escapes; nothing else is changed by that."""
+    return "".join(source.choice(["\\u%04x", "\\u%04X"]) % ord(letter) if source.random() < 0.5 else letter for letter in word)
+
+
+def renamed(source, fields, at):
+    """Another key in place of one."""
+    fields[at] = (source.choice([source.choice(KEYS), fields[at][0].upper(), fields[at][0] + "s", fields[at][0][1:]]), fields[at][1])
+
+
+def doubled(source, fields, at):
+    """A key once more, before or after, with the same value or another."""
+    fields.insert(source.randrange(len(fields) + 1), (fields[at][0], source.choice([fields[at][1], value(source)])))
+
+
+def escaped_key(source, fields, at):
+    """A key with escapes for some of its letters."""
+    fields[at] = (rewritten(source, fields[at][0]), fields[at][1])
+
+
+def escaped_value(source, fields, at):
+    """A text with escapes for some of its letters."""
+    name, given = fields[at]
+    fields[at] = (name, '"%s"' % rewritten(source, given[1:-1]) if given[:1] == '"' and "\\" not in given else given)
+
+
+def removed(source, fields, at):
+    """One field fewer."""
+    del fields[at]
+
+
+def replaced(source, fields, at):
+    """Any other value."""
+    fields[at] = (fields[at][0], value(source))
+
+
+def at_a_limit(source, fields, at):
+    """A value at or beyond a limit of the field."""
+    name = fields[at][0]
+    near = [text_of_bytes(source)] if name == "text" else AT_A_LIMIT.get(name, NUMBERS if source.random() < 0.8 else NO_NUMBERS)
+    fields[at] = (name, source.choice(near))
+
+
+def wrapped(source, fields, at):
+    """A value inside another, or with a little before or after it."""
+    name, given = fields[at]
+    fields[at] = (name, source.choice(["[%s]", '{"a":%s}', '"%s"', "[%s,1]", " %s ", "-%s", "%s.0", "%se0"]) % given)
+
+
+def moved_inside(source, fields, at):
+    """A field inside the value of another."""
+    fields[at] = (source.choice(KEYS), '{"%s":%s}' % fields[at])
+
+
+def added(source, fields, at):
+    """One more field, which may be one of another op."""
+    fields.insert(at, (source.choice(KEYS), value(source)))
+
+
+IN_FIELDS = [renamed, doubled, escaped_key, escaped_value, removed, replaced, at_a_limit, at_a_limit, at_a_limit, wrapped, moved_inside, added]
+
+
+def cut(source, line):
+    """The line up to some byte."""
+    return line[: source.randrange(len(line) + 1)]
+
+
+def spoilt(source, line):
+    """Some bytes put in, or in place of others."""
+    at, end = source.randrange(len(line) + 1), source.randint(0, 2)
+    odd = source.choice([source.choice(BROKEN), source.choice(CONTROLS), source.choice(WHOLE).encode(), bytes([source.choice([*range(10), *range(11, 256)])])])
+    return line[:at] + odd + line[at + end :]
+
+
+def marked(source, line):
+    """A byte order mark before the line, or what may pass for one."""
+    return source.choice([b"\xef\xbb\xbf", b"\xfe\xff", b"\xff\xfe", b"\0"]) + line
+
+
+def trailed(source, line):
+    """Something after the line, white space or not."""
+    return line + source.choice([b",", b"}", b"]", b"{}", b"null", b"x", b"\0", b"\r", b" \t\r", b"\x0b", b"\x0c", b"\xc2\xa0", b"//", b"/**/", b"#", line])
+
+
+def spaced(source, line):
+    """White space at a mark of the line, or what looks like it."""
+    mark = source.choice([b",", b":", b"{", b"}"])
+    space = source.choice([b" ", b"\t", b"\r", b"  \t\r ", b"\x0c", b"\x0b", b"\xc2\xa0", b"\xe2\x80\xa8", b"/* */"])
+    return line.replace(mark, source.choice([mark + space, space + mark]))
+
+
+def enclosed(source, line):
+    """The line inside something else."""
+    return source.choice([b"[%s]", b'{"a":%s}', b'"%s"', b"(%s)", b" %s ", b"[%s", b"%s]"]) % line
+
+
+def misspelt(source, line):
+    """Some marks of the line in another form, or none in their place."""
+    return line.replace(*source.choice([(b'"', b"'"), (b":", b"="), (b",", b";"), (b",", b""), (b'"', b""), (b"}", b",}"), (b"{", b"{,")]), source.randint(1, 3))
+
+
+def turned(source, line):
+    """One bit turned."""
+    at = source.randrange(len(line)) if line else 0
+    return line[:at] + bytes([line[at] ^ 1 << source.randrange(8)]) + line[at + 1 :] if line else line
+
+
+def lengthened(source, line):
+    """White space up to the longest line, or a byte more, which ends a run."""
+    size = source.choice([LONGEST_LINE - 1] * 4 + [LONGEST_LINE] * 4 + [LONGEST_LINE + 1])
+    return line + b" " * (size - len(line)) if source.random() < 0.5 else b"\t" * (size - len(line)) + line
+
+
+IN_BYTES = [cut, spoilt, spoilt, spoilt, marked, trailed, spaced, enclosed, misspelt, turned, turned]
+
+
+def fields_of(source, form):
+    """The fields of a form, each with its value as JSON, in any order. The values are good, but for some of a configuration, whose faults are many."""
+    names = {"config": ["principals"], "goal": ["from", "to", "rights"]}.get(form) or EVENTS[form]
+    others = ["edges", "slots", "cells", "next"] if form == "config" else ["seat"] if form in EVENTS else []
+    names = [*names, *[name for name in others if source.random() < 0.5]]
+    values = [AT_A_LIMIT if form == "config" and source.random() < 0.3 else GOOD for _ in names]
+    fields = [(name, source.choice(given.get(name, SERIALS))) for name, given in zip(names, values)]
+    fields += [("op", '"%s"' % form)] if form in EVENTS else []
+    source.shuffle(fields)
+    return fields
+
+
+def joined(fields):
+    """The line of these fields."""
+    return ("{%s}" % ",".join('"%s":%s' % field for field in fields)).encode()
+
+
+def with_faults(source, fields):
+    """A line with one or two faults; perhaps with none that matters."""
+    in_fields, in_bytes = source.choice([(1, 0), (1, 0), (2, 0), (2, 0), (2, 0), (0, 1), (0, 2), (1, 1)])
+    for _ in range(in_fields):
+        # The fields besides the op are the more often at fault, since an unknown op hides what is wrong with them.
+        places = [at for at, field in enumerate(fields) if field[0] != "op" or source.random() < 0.2]
+        if places:
+            source.choice(IN_FIELDS)(source, fields, source.choice(places))
+    line = joined(fields)
+    for _ in range(in_bytes):
+        line = source.choice(IN_BYTES)(source, line)
+    if source.random() < 0.02:
+        line = lengthened(source, line)
+    return line.replace(b"\n", b"\r")

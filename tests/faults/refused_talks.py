@@ -1,0 +1,348 @@
+"""Allocations, threads, reads and writes of a server: each goes wrong in turn while two clients talk to it, one after
+the other.
+
+A client sends a line when it has the answer to the one before, and the first comes when all threads of the server wait.
+So the calls of the server's own thread come in one order, and those of its workers too, and the test says of each to
+which end it has to lead. If a client is not answered, since its talk ends, its line was carried out or not sent, as in
+refused.py. Each test takes the program's path, returns whether it passed, and prints how many calls went wrong.
+"""
+
+import functools
+import itertools
+import os
+import socket
+import subprocess
+import threading
+import time
+from collections import Counter
+from pathlib import Path
+from typing import NamedTuple
+
+from faults import faults, scripts
+from faults.faults import Fault
+from faults.refused import NO_MEMORY, NOT_JSON, References, joined, print_counts
+
+SECONDS = 30
+AGREED = b'{"settled":"agreed"}\n'
+SHORT = b'{"settled":"no memory"}\n'
+NOT_SETTLED = "not settled"
+HEARD = "no line in want"
+
+# Ports below those that the system gives to clients.
+PORTS = itertools.count(20000 + os.getpid() % 10000)
+
+
+class Served(NamedTuple):
+    """The answers to all lines in order, None for a line without one; what the server wrote, its status, and how many calls went wrong."""
+
+    answers: list
+    output: bytes
+    status: int
+    wrong: int
+    port: int
+
+
+def free_port():
+    """A port on which nobody listens."""
+    for port in PORTS:
+        with socket.socket() as trial:
+            if trial.connect_ex(("127.0.0.1", port)) != 0:
+                return port
+
+
+def connected(process, port):
+    """A connection, as soon as the server listens; None if it ends before."""
+    while process.poll() is None:
+        try:
+            return socket.create_connection(("127.0.0.1", port), timeout=SECONDS)
+        except (ConnectionRefusedError, ConnectionResetError):
+            time.sleep(0.002)
+    return None
+
+
+def talk(connection, lines):
+    """The answers to lines, each sent after the answer to the one before; None from the line on at which the talk
+    ends."""
+    answers = []
+    try:
+        with connection, connection.makefile("rb") as source:
+            for line in lines:
+                connection.sendall(line + b"\n")
+                answers.append(source.readline().removesuffix(b"\n"))
+                if not answers[-1]:
+                    break
+            connection.shutdown(socket.SHUT_WR)
+            rest = source.read()
+            assert not rest, "more than was asked for: %r" % rest
+    except (ConnectionResetError, BrokenPipeError):
+        pass
+    except OSError as error:
+        # Closed by both sides at once.
+        assert not isinstance(error, TimeoutError), "a talk does not end"
+    return [answer or None for answer in answers] + [None] * (len(lines) - len(answers))
+
+
+def is_at_rest(task):
+    """Whether a thread waits, or has ended."""
+    try:
+        return (task / "stat").read_text().rpartition(")")[2].split()[0] not in "RD"
+    except OSError:
+        return True
+
+
+def wait_for_threads(process):
+    """Returns when each thread of a server waits, or the server has ended. Its own thread waits for the first time when it has started all others."""
+    own = Path("/proc/%d/task/%d" % (process.pid, process.pid))
+    for tasks in (lambda: [own], own.parent.iterdir):
+        for task in tasks():
+            while not is_at_rest(task):
+                time.sleep(0.0005)
+
+
+def serve(program, talks, fault, workers=2):
+    """A server with this many workers, and for each of these talks a client, one after the other."""
+    port = free_port()
+    words = [str(program), "serve", "--listen", "127.0.0.1:%d" % port, "--workers", str(workers), "--connections", str(len(talks))]
+    with faults.source_of(scripts.OPENING + b"\n") as source, faults.at_fault(fault) as (environment, told):
+        devices = {"stdin": source, "stdout": subprocess.PIPE, "stderr": subprocess.DEVNULL, "pass_fds": [told.fileno()]}
+        with subprocess.Popen(words, env=environment, **devices) as process:
+            limit = threading.Timer(SECONDS, process.kill)
+            limit.start()
+            try:
+                answers = []
+                wait_for_threads(process)
+                for lines in talks:
+                    connection = connected(process, port)
+                    answers += talk(connection, lines) if connection else [None] * len(lines)
+                output = process.stdout.read()
+                status = process.wait(SECONDS)
+            finally:
+                limit.cancel()
+                process.kill()
+        return Served(answers, output, status, os.fstat(told.fileno()).st_size, port)
+
+
+def lines_at(places):
+    """The lines of the script at these places, a list for each client."""
+    talks, before = [], 0
+    for pairs in scripts.TALKS:
+        talks.append([line for place, (line, _) in enumerate(pairs, before) if place in places])
+        before += len(pairs)
+    return talks
+
+
+def all_answers():
+    """The answers to all lines."""
+    return [answer for pairs in scripts.TALKS for _, answer in pairs]
+
+
+def end_of(found):
+    """How a server ended, by all that it wrote and its status; None if that is not allowed."""
+    whole = b'{"listening":"127.0.0.1:%d"}\n' % found.port
+    ends = {
+        (b"", 2): "command line refused",
+        (joined([NO_MEMORY]), 1): "opening refused",
+        (joined([NOT_JSON]), 1): "no opening",
+        (b"", 1): "nothing written",
+        (whole, 1): "no last line",
+        (whole + AGREED, 0): "agreed",
+        (whole + SHORT, 1): NOT_SETTLED,
+    }
+    is_cut = found.status == 1 and whole.startswith(found.output)
+    return ends.get((found.output, found.status)) or ("part of the address" if is_cut else None)
+
+
+class Tried(NamedTuple):
+    """A server at fault: its end, the result that its clients' answers show, and all that was seen."""
+
+    end: str
+    told: str
+    found: Served
+
+
+def ends_of(tried):
+    """How servers ended, in the order of the calls that went wrong."""
+    return [one.end for one in tried]
+
+
+def all_end(tried, *ends):
+    """Whether each of these servers ended in one of these ways."""
+    return all(one.end in ends for one in tried)
+
+
+def all_heard(tried):
+    """Whether the clients of all these servers had every answer."""
+    return all(one.told == HEARD for one in tried)
+
+
+def tried_each(program, fault, to_the_end, workers):
+    """A server for each call of a kind, which goes wrong."""
+    references = References(lambda places: serve(program, lines_at(places), Fault()).answers)
+    everything = lines_at(range(len(all_answers())))
+    found = [one for _, one in faults.each(lambda at: serve(program, everything, at, workers), fault, to_the_end)]
+    return [Tried(end_of(one), references.kind(one.answers), one) for one in found]
+
+
+def print_failed(claims, tried):
+    """The claims that do not hold, and how the servers ended, in order."""
+    for claim in [claim for claim, holds in claims.items() if not holds]:
+        print("  not so: %s" % claim)
+    for row, group in itertools.groupby("%s, %s" % (one.end, one.told) for one in tried):
+        print("    %d %s" % (len(list(group)), row))
+
+
+def gone_wrong(fault, claims_of, to_the_end=False, workers=2):
+    """Calls of a kind go wrong, each in turn. `claims_of` has what has to hold of the servers, each claim by its text."""
+
+    def test(program):
+        tried = tried_each(program, fault, to_the_end, workers)
+        print_counts(("calls of the kind %s %s" % (fault.kind, fault.whose)).rstrip(), Counter("%s, %s" % (one.end, one.told) for one in tried))
+        whole = serve(program, lines_at(range(len(all_answers()))), Fault(), workers)
+        claims = {
+            "without a fault all is answered, and settled as agreed": (whole.answers, end_of(whole)) == (all_answers(), "agreed"),
+            "clients are told what they may be": all(one.told for one in tried),
+            **claims_of(program, tried),
+        }
+        if not all(claims.values()):
+            print_failed(claims, tried)
+        return all(claims.values())
+
+    return test
+
+
+@functools.cache
+def openings_refused(program):
+    """How many failed allocations of `run` end it with its opening refused."""
+    attempt = faults.runs(program, ["run"], joined([scripts.OPENING]))
+    return sum(found[:2] == (joined([NO_MEMORY]), 1) for _, found in faults.each(attempt, Fault("memory")))
+
+
+# The allocations of the server's own thread after the last talk. One is for the list into which the lists of all workers are moved: two sessions fit into
+# its first room. One is for the list of logs. Then settling copies the opening graph, whose vertices are one node of a map and whose edges another; and it
+# carries the commands out once more, of which these need memory: the write, whose text is copied, the read of a text that is not empty, and the two looks.
+LAST_GROWTHS = 1 + 1 + 2 + (1 + 1 + 2)
+
+
+def stages(program, tried):
+    """The servers by what failed: the words of the command line, the opening, and the server from there on.
+
+    The opening needs what that of a run needs, and before it the buffer of lines, without which a run writes nothing.
+    """
+    start = ends_of(tried).index("opening refused")
+    stop = start + 1 + openings_refused(program)
+    return tried[:start], tried[start:stop], tried[stop:]
+
+
+def own_memory_refused(program, tried):
+    """One allocation of the server's own thread fails, which never serves a client."""
+    words, opening, server = stages(program, tried)
+    unharmed = [one for one in words if one.end != "command line refused"]
+    return {
+        "one growth for words changes nothing, each other refuses the command line": len(unharmed) <= 1 and all_end(unharmed, "agreed") and all_heard(unharmed),
+        "each growth for the opening refuses it": all_end(opening, "opening refused"),
+        "no server settles whose own thread is refused a growth": all_end(server, NOT_SETTLED),
+        "three threads and the list of workers take one growth at least, before all is answered": sum(one.told != HEARD for one in server) >= 4,
+        "the list of what connections left, that of logs, and settling take %d" % LAST_GROWTHS: [one.told == HEARD for one in server[-LAST_GROWTHS - 1 :]] == [False] + [True] * LAST_GROWTHS,
+    }
+
+
+def workers_memory_refused(_, tried):
+    """One allocation of a worker fails. Each of the two workers makes two that are no part of its talk: the buffer of
+    answers, before it, and the list of what connections left, after it."""
+    outside = [place for place, one in enumerate(tried) if one.end == NOT_SETTLED]
+    inside = [one for one in tried if one.end != NOT_SETTLED]
+    return {
+        "no server settles of which a worker is refused its buffer or its list": [tried[place].told == HEARD for place in outside] == [False, True] * 2,
+        "these are the first and the last growth of each": outside == [0, *outside[1:2], *[place + 1 for place in outside[1:2]], len(tried) - 1],
+        "a growth of a talk is told to its client, and the server settles": all_end(inside, "agreed") and not any(one.told == HEARD for one in inside),
+    }
+
+
+def memory_refused_from_then_on(program, tried):
+    """An allocation and all after it fail. Settling needs memory, so nothing is agreed."""
+    words, opening, server = stages(program, tried)
+    return {
+        "the command line is refused": all_end(words, "command line refused"),
+        "then the opening": all_end(opening, "opening refused"),
+        "and then no server settles": all_end(server, NOT_SETTLED) and len(server) > LAST_GROWTHS,
+    }
+
+
+# The workers of the servers that cannot start some thread, more than the clients.
+WORKERS = 5
+
+
+def threads_refused(_, tried):
+    """A thread cannot be started: the collector's, which is the first, or a worker's."""
+    return {
+        "no server settles of which a thread was refused": ends_of(tried) == [NOT_SETTLED] * (1 + WORKERS),
+        "nobody is served where no worker was started": not any(answer for one in tried[:2] for answer in one.found.answers),
+    }
+
+
+def reads_wrong(opening):
+    """A read fails, or finds the end: that of the configuration, or one of a talk, which makes one for each line, and
+    the second one for its end."""
+
+    def claims_of(_, tried):
+        return {
+            "the first read is that of the configuration": ends_of(tried[:1]) == [opening],
+            "behind it each server settles": all_end(tried[1:], "agreed") and len(tried[1:]) > len(all_answers()),
+            "a line that was not read was not carried out": not any(one.told == "carried out" for one in tried),
+        }
+
+    return claims_of
+
+
+def writes_wrong(_, tried):
+    """A write fails, or takes no byte. Without its address, which takes some writes, a server serves all the same and
+    writes nothing more. Each answer is one write, and so is the last line."""
+    address = len(tried) - len(all_answers()) - 1
+    return {
+        "first come the writes of the address": address > 0 and all_end(tried[:address], "nothing written", "part of the address"),
+        "whose clients are answered all the same": all_heard(tried[:address]),
+        "then those of the answers, and each server settles": all_end(tried[address:-1], "agreed"),
+        "the last is that of the last line": ends_of(tried[-1:]) == ["no last line"] and all_heard(tried[-1:]),
+    }
+
+
+def one_byte(_, tried):
+    """A read or a write moves one byte, which is as good as many."""
+    return {"nothing changes": len(tried) > len(all_answers()) and all_end(tried, "agreed") and all_heard(tried)}
+
+
+# With a hello and a bye a connection makes four allocations, for its two buffers, the name, and the room of answers, and now and then one for the list of what
+# connections left. So this one is late.
+GREETING = [scripts.hello(b"alice"), scripts.alone(b"bye")]
+LATE = 4 * 80
+
+
+def memory_refused_late(program):
+    """A server of 101 connections has no more memory once most were served: it takes no further one, and does not
+    settle."""
+    found = serve(program, [GREETING] * 101, Fault("memory", LATE, faults.WITHOUT_END, whose="others"), workers=1)
+    greeted = sum(answer == scripts.welcome(1) for answer in found.answers)
+    print("  %d of 101 clients were greeted" % greeted)
+    return 60 < greeted < 101 and end_of(found) == NOT_SETTLED
+
+
+def thread_refused_of_many(program):
+    """A server of 101 connections cannot start a thread: it does not settle."""
+    found = serve(program, [GREETING] * 101, Fault("thread", 1, 1))
+    return end_of(found) == NOT_SETTLED and not any(found.answers)
+
+
+def tests():
+    """All tests by their names."""
+    yield "memory-of-a-server-itself-refused-once", gone_wrong(Fault("memory", whose="first"), own_memory_refused)
+    yield "memory-of-workers-refused-once", gone_wrong(Fault("memory", whose="others"), workers_memory_refused)
+    yield "memory-of-a-server-refused-from-then-on", gone_wrong(Fault("memory"), memory_refused_from_then_on, to_the_end=True)
+    yield "memory-of-a-server-of-101-connections-refused-late", memory_refused_late
+    yield "threads-of-a-server-refused-once", gone_wrong(Fault("thread"), threads_refused, workers=WORKERS)
+    yield "thread-of-a-server-of-101-connections-refused", thread_refused_of_many
+    yield "reads-of-a-server-that-fail", gone_wrong(Fault("read"), reads_wrong("nothing written"))
+    yield "reads-of-a-server-that-find-the-end", gone_wrong(Fault("read", moves=0), reads_wrong("no opening"))
+    yield "writes-of-a-server-that-fail", gone_wrong(Fault("write"), writes_wrong)
+    yield "writes-of-a-server-that-take-no-byte", gone_wrong(Fault("write", moves=0), writes_wrong)
+    for kind in ("read", "write"):
+        yield kind + "s-of-a-server-that-move-one-byte", gone_wrong(Fault(kind, moves=1), one_byte)

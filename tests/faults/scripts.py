@@ -1,0 +1,324 @@
+"""Lines with their answers for refused.py: each command, cause, fault and kind of answer at least once.
+
+The answers are written by hand from docs/PROTOCOL.md, the steps of cycles from the table of docs/COLLECTOR.md.
+"""
+
+from typing import NamedTuple
+
+LAST_SERIAL = 18446744073709551614
+
+NO_ACTOR = b'{"error":"no actor"}'
+BUSY = b'{"error":"busy"}'
+BOUND = b'{"error":"bound"}'
+NO_PRINCIPAL = b'{"error":"no principal"}'
+NOT_JSON = b'{"error":"not json"}'
+NOT_FOR_A_SESSION = b'{"error":"not for a session"}'
+DONE = b'{"ok":"done"}'
+BYE = b'{"ok":"bye"}'
+MARK = b'{"ended":false,"freed":0,"phase":"mark"}'
+SWEEP = b'{"ended":false,"freed":0,"phase":"sweep"}'
+
+
+class Script(NamedTuple):
+    """An opening, and lines with their answers."""
+
+    opening: bytes
+    pairs: list
+
+    def lines(self):
+        return [line for line, _ in self.pairs]
+
+    def answers(self):
+        return [answer for _, answer in self.pairs]
+
+
+def take(rights, over, source, seat=0):
+    return b'{"from":%d,"op":"take","over":%d,"rights":"%s","seat":%d}' % (source, over, rights, seat)
+
+
+def grant(rights, over, to, seat=0):
+    return b'{"op":"grant","over":%d,"rights":"%s","seat":%d,"to":%d}' % (over, rights, seat, to)
+
+
+def create(rights, kind=b"document", seat=0):
+    return b'{"kind":"%s","op":"create","rights":"%s","seat":%d}' % (kind, rights, seat)
+
+
+def remove(rights, over):
+    return b'{"op":"remove","over":%d,"rights":"%s"}' % (over, rights)
+
+
+def read(over):
+    return b'{"op":"read","over":%d}' % over
+
+
+def write(over, text):
+    return b'{"op":"write","over":%d,"text":"%s"}' % (over, text)
+
+
+def look(at, seat=0):
+    return b'{"at":%d,"op":"look","seat":%d}' % (at, seat)
+
+
+def hello(name, seat=0):
+    return b'{"name":"%s","op":"hello","seat":%d}' % (name, seat)
+
+
+def alone(op, seat=0):
+    """The line of an op that has no field of its own."""
+    return b'{"op":"%s","seat":%d}' % (op, seat)
+
+
+def welcome(vertex):
+    return b'{"ok":"hello","vertex":%d}' % vertex
+
+
+def created(vertex):
+    return b'{"ok":"created","vertex":%d}' % vertex
+
+
+def shaded(vertex):
+    return b'{"shaded":%d}' % vertex
+
+
+def swept(freed, steps):
+    return b'{"freed":%d,"steps":%d}' % (freed, steps)
+
+
+def text(written):
+    return b'{"ok":"text","text":"%s"}' % written
+
+
+def edges(listed):
+    return b'{"edges":[%s],"ok":"edges"}' % listed
+
+
+def missing(rule, source, rights, to):
+    return b'{"denied":"%s","from":%d,"missing":"%s","to":%d}' % (rule, source, rights, to)
+
+
+def caused(rule, cause):
+    return b'{"cause":"%s","denied":"%s"}' % (cause, rule)
+
+
+def no_document(rule, vertex):
+    return b'{"cause":"not document","denied":"%s","vertex":%d}' % (rule, vertex)
+
+
+def error(fault):
+    return b'{"error":"%s"}' % fault
+
+
+OPENING = b'{"cells":5,"edges":[[1,"tg",2]],"principals":["alice","bob"],"slots":5}'
+
+SEATS = [
+    (read(3), NO_ACTOR),
+    (alone(b"bye"), NO_ACTOR),
+    (alone(b"shade"), NO_ACTOR),
+    (hello(b"alice", 64), error(b"no seat")),
+    (hello(b"carol"), NO_PRINCIPAL),
+    (hello(b"alice"), welcome(1)),
+    (hello(b"bob"), BOUND),
+    (hello(b"bob", 1), welcome(2)),
+]
+
+# Document 3 is given up, outlives one cycle, and is freed in the next, step by step: 4 is put into its slot behind the sweep, 5 ahead of it.
+COLLECTING = [
+    (create(b"r"), created(3)),
+    (read(3), BUSY),
+    (alone(b"bye"), BUSY),
+    (alone(b"shade"), shaded(3)),
+    (alone(b"shade"), b'{"shaded":null}'),
+    (remove(b"r", 3), DONE),
+    (alone(b"cycle"), swept(0, 15)),
+    *[(alone(b"collect"), MARK)] * 6,
+    *[(alone(b"collect"), SWEEP)] * 3,
+    (alone(b"collect"), b'{"ended":false,"freed":1,"phase":"sweep"}'),
+    (create(b"rw"), created(4)),
+    (alone(b"shade"), shaded(4)),
+    (create(b"r"), created(5)),
+    *[(alone(b"collect"), SWEEP)] * 2,
+    (alone(b"collect"), b'{"ended":true,"freed":0,"phase":"idle"}'),
+    (alone(b"shade"), shaded(5)),
+    (read(4), text(b"")),
+    (alone(b"cycle"), swept(0, 19)),
+]
+
+# Vertex 6 takes the last slot, and bob's edge to 4 the last cell.
+COMMANDS = [
+    (create(b"rw", b"subject"), created(6)),
+    (alone(b"shade"), shaded(6)),
+    (create(b"r"), b'{"full":"slots"}'),
+    (look(1), edges(b'[2,"tg"],[4,"rw"],[5,"r"],[6,"rw"]')),
+    (look(2), edges(b"")),
+    (write(4, b"one\\ntwo"), DONE),
+    (read(4), text(b"one\\ntwo")),
+    (grant(b"rw", 4, 2), DONE),
+    (alone(b"shade"), shaded(4)),
+    (grant(b"r", 5, 2), b'{"full":"cells"}'),
+    (take(b"r", 4, 2), DONE),
+    (look(1), BUSY),
+    (alone(b"shade"), shaded(4)),
+    (look(2, 1), edges(b'[4,"rw"]')),
+]
+
+DENIALS = [
+    (take(b"", 4, 2), caused(b"take", b"empty")),
+    (take(b"r", 2, 2), caused(b"take", b"not distinct")),
+    (take(b"r", 4, 1, 1), missing(b"take", 2, b"t", 1)),
+    (take(b"rwtg", 4, 2), missing(b"take", 2, b"tg", 4)),
+    (grant(b"", 4, 2), caused(b"grant", b"empty")),
+    (grant(b"r", 1, 2), caused(b"grant", b"not distinct")),
+    (grant(b"r", 4, 1, 1), missing(b"grant", 2, b"g", 1)),
+    (grant(b"wt", 5, 2), missing(b"grant", 1, b"wt", 5)),
+    (create(b""), caused(b"create", b"empty")),
+    (remove(b"", 4), caused(b"remove", b"empty")),
+    (remove(b"r", 1), caused(b"remove", b"not distinct")),
+    (remove(b"wt", 4), missing(b"remove", 1, b"t", 4)),
+    (read(1), caused(b"read", b"not distinct")),
+    (read(99), missing(b"read", 1, b"r", 99)),
+    (read(6), no_document(b"read", 6)),
+    (write(1, b""), caused(b"write", b"not distinct")),
+    (write(5, b"x"), missing(b"write", 1, b"w", 5)),
+    (write(6, b"x"), no_document(b"write", 6)),
+    (look(1, 1), missing(b"look", 2, b"t", 1)),
+]
+
+REFUSED_LINES = [
+    (b'{"op":"take"', NOT_JSON),
+    (b"", NOT_JSON),
+    (b"\xff\xfe", NOT_JSON),
+    (b"[" * 128 + b"]" * 128, NOT_JSON),
+    (b"[" * 127 + b"]" * 127, error(b"not an object")),
+    (b'{"op":"steal"}', error(b"unknown op")),
+    (b'{"op":"read"}', error(b"missing field")),
+    (b'{"op":"read","over":1.5}', error(b"bad field")),
+    (b'{"op":"read","over":3,"x":1}', error(b"unknown field")),
+]
+
+LONG_TEXTS = [
+    (write(4, b"a" * 4096), DONE),
+    (read(4), text(b"a" * 4096)),
+    (write(4, b"a" * 4097), error(b"bad field")),
+    (write(4, b"two\\n" * 512), DONE),
+    (read(4), text(b"two\\n" * 512)),
+]
+
+# 5 was not shaded since the last cycle, and 6 was: they are freed by one cycle and by two.
+FREEING = [
+    (remove(b"r", 5), DONE),
+    (remove(b"rw", 6), DONE),
+    (alone(b"cycle"), swept(1, 19)),
+    (alone(b"cycle"), swept(1, 17)),
+    (create(b"t"), created(7)),
+    (alone(b"shade"), shaded(7)),
+    (look(1), edges(b'[2,"tg"],[4,"rw"],[7,"t"]')),
+    (alone(b"bye"), BYE),
+    (alone(b"bye", 1), BYE),
+]
+
+TOO_LONG = [(b"x" * 16385, error(b"line too long"))]
+
+# Each command, cause, fault and answer but `{"full":"serials"}`, which the second script has, and `too many lines`.
+RUN = Script(OPENING, SEATS + COLLECTING + COMMANDS + DENIALS + REFUSED_LINES + LONG_TEXTS + FREEING + TOO_LONG)
+WITHOUT_ERRORS = Script(
+    b'{"next":%d,"principals":["alice"]}' % LAST_SERIAL,
+    [(hello(b"alice"), welcome(1)), (create(b"r"), created(LAST_SERIAL)), (alone(b"shade"), shaded(LAST_SERIAL)), (create(b"r"), b'{"full":"serials"}')],
+)
+# The same without what is long, for reads and writes of few bytes.
+PLAIN = Script(OPENING, SEATS + COLLECTING + COMMANDS + DENIALS + REFUSED_LINES + FREEING)
+# Some hundred bytes, for a cut at each of them.
+SHORT = Script(OPENING, [SEATS[0], SEATS[5], COLLECTING[0], COLLECTING[3], (write(3, b"hi"), missing(b"write", 1, b"w", 3)), (look(1), edges(b'[2,"tg"],[3,"r"]')), (alone(b"cycle"), swept(0, 16))])
+
+REFUSED_OPENINGS = [
+    (b'{"principals":[]}', 1),
+    (b'{"principals":["alice","alice"]}', 2),
+    (b'{"edges":[[1,"t",3]],"principals":["alice","bob"]}', 3),
+    (b'{"edges":[[1,"t",1]],"principals":["alice","bob"]}', 4),
+    (b'{"edges":[[1,"",2]],"principals":["alice","bob"]}', 5),
+    (b'{"edges":[[1,"t",2],[1,"r",2]],"principals":["alice","bob"]}', 6),
+    (b'{"next":2,"principals":["alice","bob"]}', 7),
+    (b'{"principals":["alice","bob"],"slots":1}', 8),
+    (b'{"cells":1,"edges":[[1,"t",2],[2,"t",1]],"principals":["alice","bob"]}', 9),
+    (b'{"principals":["alice"],"slots":65537}', 10),
+]
+
+# Alice may not take from bob; bob and carol help her by a vertex that she creates, as in README.md. Each of the seven commands is a step.
+DERIVED = b'{"edges":[[2,"t",1],[3,"g",2]],"principals":["alice","bob","carol"]}'
+STEPS = [
+    b'{"actor":3,"kind":"document","op":"create","rights":"rw"}',
+    b'{"actor":3,"op":"write","over":4,"text":"hi"}',
+    b'{"actor":3,"op":"grant","over":4,"rights":"r","to":2}',
+    b'{"actor":2,"op":"read","over":4}',
+    b'{"actor":1,"kind":"document","op":"create","rights":"tg"}',
+    b'{"actor":2,"from":1,"op":"take","over":5,"rights":"g"}',
+    b'{"actor":2,"op":"grant","over":4,"rights":"r","to":5}',
+    b'{"actor":1,"from":5,"op":"take","over":4,"rights":"r"}',
+    b'{"actor":1,"op":"look","at":1}',
+    b'{"actor":1,"op":"remove","over":5,"rights":"t"}',
+]
+SHARED = b'{"verdict":"shared"}'
+
+
+def goal(source, rights, to):
+    return b'{"from":%d,"rights":"%s","to":%d}' % (source, rights, to)
+
+
+def goal_missing(rights):
+    return b'{"missing":"%s","verdict":"goal missing"}' % rights
+
+
+class Audit(NamedTuple):
+    """The lines of an audit and its one answer."""
+
+    lines: list
+    answer: bytes
+
+
+AUDITS = [
+    Audit([DERIVED, goal(1, b"r", 4), *STEPS], SHARED),
+    Audit([DERIVED, goal(1, b"wr", 4), *STEPS], goal_missing(b"w")),
+    Audit([DERIVED, goal(1, b"", 4), *STEPS[:2], b'{"actor":4,"op":"look","at":4}'], b'{"step":2,"verdict":"actor not subject"}'),
+    Audit([DERIVED, goal(1, b"r", 4), *STEPS[:1], STEPS[7]], b'{"denied":"take","from":1,"missing":"t","step":1,"to":5,"verdict":"step denied"}'),
+    Audit([DERIVED, goal(1, b"r", 4), b'{"actor":1,"kind":"subject","op":"create","rights":""}'], b'{"cause":"empty","denied":"create","step":0,"verdict":"step denied"}'),
+    Audit([DERIVED, goal(1, b"r", 4), b'{"actor":1,"op":"read","over":1}'], b'{"cause":"not distinct","denied":"read","step":0,"verdict":"step denied"}'),
+    Audit(
+        [DERIVED, goal(1, b"r", 4), b'{"actor":1,"kind":"subject","op":"create","rights":"r"}', b'{"actor":1,"op":"read","over":4}'],
+        b'{"cause":"not document","denied":"read","step":1,"verdict":"step denied","vertex":4}',
+    ),
+    Audit([b'{"next":18446744073709551615,"principals":["alice"]}', goal(1, b"", 1), b'{"actor":1,"kind":"document","op":"create","rights":"r"}'], b'{"step":0,"verdict":"step full"}'),
+    Audit([DERIVED, goal(1, b"r", 4), b'{"actor":1,"op":"hello"}'], error(b"unknown op")),
+    Audit([DERIVED, b'{"from":1}'], error(b"missing field")),
+    Audit([b'{"principals":[]}', goal(1, b"r", 4)], b'{"error":"config","fault":1}'),
+]
+
+# Two clients of a server, one after the other. A talk shades by itself; `seat` is read and not used.
+TALKS = [
+    [
+        (read(3), NO_ACTOR),
+        (hello(b"carol"), NO_PRINCIPAL),
+        (b'{"op":"steal"}', error(b"unknown op")),
+        (hello(b"alice"), welcome(1)),
+        (hello(b"alice"), BOUND),
+        (create(b"rw"), created(3)),
+        (read(3), text(b"")),
+        (write(3, b"hi"), DONE),
+        (look(1), edges(b'[2,"tg"],[3,"rw"]')),
+        (grant(b"r", 3, 2), DONE),
+        (take(b"g", 3, 2), missing(b"take", 2, b"g", 3)),
+        (alone(b"shade"), NOT_FOR_A_SESSION),
+        (alone(b"collect"), NOT_FOR_A_SESSION),
+        (alone(b"cycle"), NOT_FOR_A_SESSION),
+        (create(b""), caused(b"create", b"empty")),
+        (b'{"op":"read"}', error(b"missing field")),
+        (remove(b"w", 3), DONE),
+        (alone(b"bye"), BYE),
+    ],
+    [
+        (hello(b"bob"), welcome(2)),
+        (read(3), text(b"hi")),
+        (look(1), missing(b"look", 2, b"t", 1)),
+        (create(b"r", b"subject"), created(4)),
+        (look(2), edges(b'[3,"r"],[4,"r"]')),
+    ],
+]

@@ -1,0 +1,259 @@
+"""A look at the sources: no body makes a want of memory of its own.
+
+Want of memory may always be the answer, so no contract refuses a body that makes one up. Here each place at which such a fault is made is found, and has to
+be exactly where the refusal of a call is handed on: in the arm `Err(_) =>` of a match on the call, in the block of a `let Ok(..) = .. else` or of an `if ..
+.is_err()`, in a `map_err`, or in the arm of another such fault. And it has to be in the list below, by its file and function, by the call or the fault that is
+handed on, and by the fault that is made of it. What `?` hands on is made nowhere. Modules of tests are left out.
+
+The sources are read as text, laid out as `rt fmt` does it.
+"""
+
+import re
+from collections import Counter
+from pathlib import Path
+
+ROOT = Path(__file__).resolve().parents[2]
+
+# What says that memory ran out, if it is a value and not a type.
+WANT = re.compile(r"\b(?:\w+::(?:OutOfMemory|NoMemory|NoRoom)|Said::Nothing)\b|(?<!: )\bAllocError\b(?!>)")
+NONE = re.compile(r"\bNone\b")
+
+# Functions, and the results of two, whose `None` says so too.
+SAY_IT_BY_NONE = {"work", "serve_in_threads", "opened", "run_one", "ran"}
+
+# A flag that says so, and each line that names it.
+FLAG = "is_short"
+FLAG_LINES = [
+    "let mut is_short = scope",
+    "if is_short {",
+    "is_short = match scope.spawn(move || work(rt, alloc, listener, shared, left, seat)) {",
+    "if is_short {",
+    "Some(mut ended) => is_short = is_short || all.append(&mut ended).is_err(),",
+    "None => is_short = true,",
+    "if is_short { None } else { Some(all) }",
+]
+
+# Each place, by file, function, what is handed on, and what is made of it; and how often.
+LISTED = {
+    # The faults of the lower crates are the refusals of lists, maps and texts.
+    ("tg_audit/src/settling.rt", "settle", "first_difference", "Settled::NoMemory"): 1,
+    ("tg_graph/src/graph.rt", "build", "Graph::open", "OpenFault::OutOfMemory"): 1,
+    ("tg_vault/src/vault.rt", "with_key", "Store::with_key", "OpenFault::OutOfMemory"): 1,
+    ("tg_vault/src/vault.rt", "with_key", "empty_seats", "OpenFault::OutOfMemory"): 1,
+    ("tg_vault/src/vault.rt", "command", "self.enter", "AskFault::OutOfMemory"): 1,
+    ("tg_vault/src/vault.rt", "command_copy", "command.copy", "AskFault::OutOfMemory"): 1,
+    # A session submits nothing without room in its log and a copy of the command.
+    ("tg_share/src/session.rt", "carry_out", "self.log.try_reserve", "AskFault::OutOfMemory"): 1,
+    ("tg_share/src/session.rt", "carry_out", "command.copy", "AskFault::OutOfMemory"): 1,
+    ("tg_share/src/closing.rt", "close", "Vec::with_capacity", "Closed::NoRoom"): 1,
+    # Lines: each lack of memory is one fault, and the parser says of its own errors which are for want of memory.
+    ("tg_wire/src/fault.rt", "from", "AllocError", "WireFault::OutOfMemory"): 1,
+    ("tg_wire/src/fault.rt", "from", "AllocFailed", "WireFault::OutOfMemory"): 1,
+    ("tg_wire/src/object.rt", "json", "e.is_memory", "WireFault::OutOfMemory"): 1,
+    # A talk, a run and an audit have buffers, and a line in place of each answer that has no room.
+    ("tg_talk/src/write_line.rt", "buffered", "BufWriter::with_capacity", "AllocError"): 1,
+    ("tg_talk/src/telling.rt", "text_of_answer", "write_answer_in", "WireFault::OutOfMemory"): 1,
+    ("tg_talk/src/telling.rt", "ask", "write_reply_in", "Said::Nothing"): 1,
+    ("tg_talk/src/talking.rt", "talk", "InputLines::new", "TalkFault::OutOfMemory"): 1,
+    ("tg_talk/src/talking.rt", "answer_session", "Said::Nothing", "TalkFault::OutOfMemory"): 1,
+    ("tgdoc/src/answer.rt", "tell", "write_answer_in", "WireFault::OutOfMemory"): 1,
+    ("tgdoc/src/answer.rt", "tell_swept", "write_swept_in", "WireFault::OutOfMemory"): 1,
+    ("tgdoc/src/run.rt", "run_lines", "InputLines::new", "TalkFault::OutOfMemory"): 1,
+    ("tgdoc/src/audit.rt", "audit_lines", "InputLines::new", "TalkFault::OutOfMemory"): 1,
+    ("tgdoc/src/audit.rt", "answer", "write_verdict", "WireFault::OutOfMemory"): 1,
+    ("tgdoc/src/audit.rt", "judge", "check", "WireFault::OutOfMemory"): 1,
+    ("tgdoc/src/audit.rt", "take_steps", "steps.push", "WireFault::OutOfMemory"): 1,
+    # A server: its buffer of lines; what a worker was refused, and what the server itself was, threads among it; settling.
+    ("tgdoc/src/serve_lines.rt", "read_vault", "InputLines::new", "WireFault::OutOfMemory"): 1,
+    ("tgdoc/src/serve.rt", "work", "serve_one", "None"): 1,
+    ("tgdoc/src/serve.rt", "serve_in_threads", FLAG, "None"): 1,
+    ("tgdoc/src/serve.rt", "serve_by", "serve_in_threads", "Found::NoMemory"): 1,
+    ("tgdoc/src/serve.rt", "found_in", "Settled::NoMemory", "Found::NoMemory"): 1,
+    ("tgdoc/src/serve.rt", "found_in", "Closed::NoRoom", "Found::NoMemory"): 1,
+    # The program of many sessions says what it found.
+    ("tg_load/src/run.rt", "verdict_of", "Settled::NoMemory", "Verdict::NoMemory"): 1,
+    ("tg_load/src/run.rt", "close_of", "Closed::NoRoom", "Verdict::NoRoom"): 1,
+    ("tg_load/src/run.rt", "run_next", "opened", "Found::NoMemory"): 1,
+    ("tg_load/src/run.rt", "run_next", "ran", "Found::NoMemory"): 1,
+}
+
+FUNCTION = re.compile(r"\bfn (\w+)")
+CONVERSION = re.compile(r"fn from\(_\w*: (Alloc\w+)")
+# What follows a pattern: the rest of it, and the arrow of its arm, another pattern, or the value that it is matched with.
+BEHIND_A_PATTERN = re.compile(r"(?:\s*(?:\{[^{}]*\}|\([^()]*\)))?\)*\s*(?:=>|\||=[^=])")
+PATTERN = re.compile(r"[\w:]+(?:\([^()]*\)|\s\{[^{}]*\})?$")
+# The name before the fields of a value.
+NAME = re.compile(r"(?:^|[\s(>])(?:\w+::)*[A-Z]\w*$")
+
+
+def code_of(text):
+    """The code without comments, texts, characters and imports."""
+    bare = re.sub(r'//[^\n]*|b?"(?:[^"\\]|\\.)*"|b?\'(?:[^\'\\]|\\.)\'', "", text, flags=re.DOTALL)
+    return re.sub(r"^\s*(?:pub |ghost )*use [^;]*;", "", bare, flags=re.MULTILINE)
+
+
+def openings(code, start, at):
+    """What a place is in, from the inside: the places of open brackets, and of the arrows of arms at the same depth, back to the start."""
+    depth = 0
+    for place in range(at - 1, start - 1, -1):
+        if code[place] in ")]}":
+            depth += 1
+        elif depth == 0 and (code[place] in "([{" or code.startswith("=>", place)):
+            yield place
+        elif code[place] in "([{":
+            depth -= 1
+
+
+def called(text):
+    """The path of the one call, or of the value, that a text is; None for any other text."""
+    flat = re.sub(r"\s*\n\s*", "", text.strip())
+    path = flat[: next(openings(flat, 0, len(flat) - 1), 0)] if flat.endswith(")") else flat
+    return path if re.fullmatch(r"[\w.:]+", path) else None
+
+
+def by_none(call):
+    """The call, if it reports by `None` that memory ran out."""
+    return call if call in SAY_IT_BY_NONE else None
+
+
+def head_of(before):
+    """The last statement before a block, as far as it goes."""
+    return re.split(r"[;{}]", before)[-1].strip()
+
+
+def handed_on_in_block(head):
+    """The call whose refusal the block after this is about; None for any other block."""
+    if head in (f"if {FLAG}", "if e.is_memory()"):
+        return head.removeprefix("if ").removesuffix("()")
+    found = re.search(r"let (Ok|Some)\(.*\) = (.*) else$|if (.*)\.is_err\(\)$", head, re.DOTALL)
+    if not found:
+        return None
+    call = called(found[2] or found[3])
+    return by_none(call) if found[1] == "Some" else call
+
+
+def handed_on_in_arm(pattern, matched):
+    """The call whose refusal an arm of a match on it is about, or the fault that is the arm's pattern; None for any other arm."""
+    call = called(matched.rpartition("match ")[2])
+    if WANT.search(pattern):
+        return pattern.split()[0]
+    if re.fullmatch(r"Err\(\w+\)", pattern):
+        return call
+    return by_none(call) if pattern == "None" else None
+
+
+def handed_on(code, start, at):
+    """The refusal that is handed on at a place of the function that starts there: the call, or the fault; None if there
+    is none."""
+    conversion = CONVERSION.match(code, start)
+    if conversion:
+        return conversion[1]
+    places = openings(code, start, at)
+    for place in places:
+        before = code[start:place].rstrip()
+        if code.startswith("=>", place):
+            pattern = PATTERN.search(before)
+            matched = next((code[start:other].rstrip() for other in places if code[other] == "{"), "")
+            return handed_on_in_arm(pattern[0] if pattern else "", head_of(matched))
+        if code[place] == "{" and not before.endswith("=>") and not NAME.search(before):
+            return handed_on_in_block(head_of(before))
+        if before.endswith(".map_err"):
+            return called(re.split(r"[;{}=]|\breturn\b", before.removesuffix(".map_err"))[-1])
+    return None
+
+
+def places_in(file, text):
+    """The places of a source at which a want of memory is made: file, function, what is handed on, and what is made."""
+    code = code_of(text)
+    functions = list(FUNCTION.finditer(code))
+    for function, following in zip(functions, [*functions[1:], None]):
+        start, end = function.start(), following.start() if following else len(code)
+        words = [WANT, NONE] if function[1] in SAY_IT_BY_NONE else [WANT]
+        for found in (found for word in words for found in word.finditer(code, start, end)):
+            if not BEHIND_A_PATTERN.match(code, found.end()):
+                yield file, function[1], handed_on(code, start, found.start()), found[0]
+
+
+def sources(crates):
+    """The sources of all crates by their names, without the modules of tests."""
+    for crate in sorted(crates.iterdir()):
+        files = sorted((crate / "src").rglob("*.rt"))
+        tests = {name for file in files for name in re.findall(r"#\[cfg\(test\)\]\s*mod (\w+);", file.read_text())}
+        for file in files:
+            if file.stem not in tests:
+                yield str(file.relative_to(crates)), file.read_text()
+
+
+def every_want_is_handed_on(crates):
+    """Each place hands on a refusal and is listed, each one that is listed is there, and the flag is named where it
+    was."""
+    texts = dict(sources(crates))
+    found = Counter(place for file, text in texts.items() for place in places_in(file, text))
+    for place in found:
+        if place[2] is None:
+            print("  made of no refusal: %s, %s: %s" % (place[0], place[1], place[3]))
+    for place in found.keys() | LISTED.keys():
+        if found[place] != LISTED.get(place, 0):
+            print("  %d times, listed %d times: %s" % (found[place], LISTED.get(place, 0), place))
+    flag = [line.strip() for text in texts.values() for line in text.splitlines() if FLAG in line]
+    if flag != FLAG_LINES:
+        print("  %s is named otherwise: %s" % (FLAG, flag))
+    print("  %d places" % sum(found.values()))
+    return found == LISTED and all(place[2] for place in found) and flag == FLAG_LINES
+
+
+# Functions that hand on what they were refused, with the call or the fault.
+HANDED_ON = {
+    "let Ok(room) = Vec::with_capacity(alloc, 9) else { return Err(AllocError); }; Ok(room)": "Vec::with_capacity",
+    "match self\n.enter(seat) {\nOk(reply) => Ok(reply),\nErr(_) => Err(AskFault::OutOfMemory),\n}": "self.enter",
+    "match settle(logs) { Err(_) => Settled::NoMemory { vault, logs }, Ok(()) => Settled::Agreed(vault) }": "settle",
+    "match write(room) {\nOk(line) => Told { text: Ok(line) },\nErr(_) => Told {\ntext: Err(WireFault::OutOfMemory),\n},\n}": "write",
+    "match close(ended) { Closed::Done { .. } => Found::Agreed, Closed::NoRoom { .. } => Found::NoMemory }": "Closed::NoRoom",
+    "if all.push(one).is_err() { return Err(AllocError); } Ok(())": "all.push",
+    "all.push(one).map_err(|_| AllocError)": "all.push",
+    "match serve_in_threads(rt) { Some(ended) => Found::Agreed, None => Found::NoMemory }": "serve_in_threads",
+}
+
+# Functions that make a want of memory up.
+MADE_UP = [
+    "if steps.len() > 9 { return Err(AllocError); } Ok(())",
+    "if steps.len() > 9 {\nreturn Err(AllocError);\n}\nOk(())",
+    "if logs.len() < usize::MAX { return Settled::NoMemory { vault, logs }; } settle(logs)",
+    "if connections > 9 { Found::NoMemory } else { found }",
+    "let Some(first) = list.first() else { return Err(AllocError); }; Ok(first)",
+    "match store.join(edge) { Ok(()) => Ok(Reply::Done), Err(HeapFull::Cells) => Err(AskFault::OutOfMemory) }",
+    "match list.first() { Some(one) => Ok(one), None => Err(AllocError) }",
+    "match all.push(one) { Ok(()) => Err(AllocError), Err(_) => unreachable!() }",
+    "if text.len() > 9 || all.push(one).is_err() { return Err(AllocError); } Ok(())",
+    "let fault = AllocError; Err(fault)",
+    "Err(WireFault::OutOfMemory)",
+    "if all.len() > 9 { return None; } Some(all)",
+]
+
+# Functions that make none: a type, a pattern, a refusal that `?` hands on.
+NONE_MADE = [
+    "let room: Result<Vec<u8>, AllocError> = Vec::with_capacity(alloc, 9); Ok(room?)",
+    "match fault { AskFault::OutOfMemory => 1, AskFault::Busy | AskFault::NoSeat => 2 }",
+    "// Err(AllocError)\nlet text = \"AllocError\"; all.push(text)?; Ok(())",
+]
+
+
+def looks_can_fail(_):
+    """The results for bodies of a line: those that hand a refusal on, those that make a want up, and those that make
+    none."""
+
+    def seen(body):
+        return [place[2:] for place in places_in("x.rt", "use std::alloc::{AllocError, Global};\n\nfn work(alloc: Global) -> Option<Told> {\n%s\n}\n" % body)]
+
+    wrong = [body for body, refusal in HANDED_ON.items() if [handed for handed, made in seen(body) if made != "None"] != [refusal]]
+    wrong += [body for body in MADE_UP if [handed for handed, _ in seen(body)] != [None]]
+    wrong += [body for body in NONE_MADE if seen(body)]
+    for body in wrong:
+        print("  not seen as it is: %s: %s" % (body, seen(body)))
+    return not wrong
+
+
+def tests():
+    """All tests by their names; they take the folder of the crates."""
+    yield "every-want-of-memory-is-handed-on", every_want_is_handed_on
+    yield "wants-that-are-made-up-are-seen", looks_can_fail

@@ -1,0 +1,154 @@
+"""The rules of docs/PROTOCOL.md over a graph that is never collected: triples, texts and serials, with no slots, no cells and no collector."""
+
+from models.reading import COMMANDS, LETTERS
+
+# The next serial at which none is left.
+NONE_LEFT = 2**64 - 1
+SEATS = 64
+
+
+def needs(actor, event):
+    """The labels that a command asks for, in their order: from, to, rights."""
+    op, over, rights = event["op"], event.get("over"), event.get("rights")
+    if op == "take":
+        return [(actor, event["from"], "t"), (event["from"], over, rights)]
+    if op == "grant":
+        return [(actor, event["to"], "g"), (actor, over, rights)]
+    if op == "look":
+        return [(actor, event["at"], "t")] if event["at"] != actor else []
+    letters = {"create": "", "remove": rights, "read": "r", "write": "w"}[op]
+    return [(actor, over, letters)]
+
+
+def gained(actor, event):
+    """The edge that a take or grant adds rights to."""
+    return (actor, event["over"]) if event["op"] == "take" else (event["to"], event["over"])
+
+
+class Graph:
+    """The graph of a configuration and of all that was carried out since, with who sits where and the pending targets."""
+
+    def __init__(self, config):
+        self.names = {name: serial for serial, name in enumerate(config["principals"], 1)}
+        self.kinds = {serial: "subject" for serial in self.names.values()}
+        self.texts = {}
+        self.triples = {(start, end, right) for start, rights, end in config["edges"] for right in rights}
+        self.next = config["next"]
+        self.seats = {}
+        self.pending = {}
+
+    def label(self, start, end):
+        """The rights that one vertex has over another."""
+        return "".join(right for right in LETTERS if (start, end, right) in self.triples)
+
+    def edges(self, start):
+        """The edges of a vertex by rising serial."""
+        return [[end, self.label(start, end)] for end in sorted({end for owner, end, _ in self.triples if owner == start})]
+
+    def pairs(self):
+        """The ends of all edges."""
+        return {(start, end) for start, end, _ in self.triples}
+
+    def reached(self, roots):
+        """The vertices at the ends of paths from these."""
+        ends = {}
+        for start, end in self.pairs():
+            ends.setdefault(start, []).append(end)
+        found, waiting = set(roots), list(roots)
+        while waiting:
+            new = set(ends.get(waiting.pop(), ())) - found
+            found |= new
+            waiting.extend(new)
+        return found
+
+    def live(self):
+        """What the principals and the pending targets reach."""
+        return self.reached({*self.names.values(), *self.pending.values()})
+
+    def denial(self, actor, event):
+        """Why the rules deny a command, the first cause that holds; nothing if they allow it."""
+        op = event["op"]
+        if event.get("rights") == "":
+            return {"cause": "empty", "denied": op}
+        apart = [actor, *[event[name] for name in ("over", "from", "to") if name in event]]
+        if len(set(apart)) < len(apart):
+            return {"cause": "not distinct", "denied": op}
+        for start, end, rights in needs(actor, event):
+            label = self.label(start, end)
+            missing = "".join(right for right in LETTERS if right in rights and right not in label)
+            if missing:
+                return {"denied": op, "from": start, "missing": missing, "to": end}
+        if op in ("read", "write") and self.kinds[event["over"]] != "document":
+            return {"cause": "not document", "denied": op, "vertex": event["over"]}
+        return None
+
+    def refusal(self, event):
+        """Why the seat of an event refuses it."""
+        op, seat = event["op"], event["seat"]
+        if seat >= SEATS:
+            return "no seat"
+        if op == "hello":
+            return "bound" if seat in self.seats else None if event["name"] in self.names else "no principal"
+        if seat not in self.seats:
+            return "no actor"
+        return "busy" if op != "shade" and seat in self.pending else None
+
+    def judged(self, event):
+        """The answer to an event that changes nothing, refused or denied; nothing if it is to be carried out. No event
+        of the collector."""
+        refusal = self.refusal(event)
+        if refusal:
+            return {"error": refusal}
+        return self.denial(self.seats[event["seat"]], event) if event["op"] in COMMANDS else None
+
+    def carried_out(self, event):
+        """The answer to an event that is neither refused nor denied, and the change that it makes."""
+        seat = event["seat"]
+        if event["op"] == "hello":
+            self.seats[seat] = self.names[event["name"]]
+            return {"ok": "hello", "vertex": self.seats[seat]}
+        if event["op"] == "bye":
+            del self.seats[seat]
+            return {"ok": "bye"}
+        if event["op"] == "shade":
+            return {"shaded": self.pending.pop(seat, None)}
+        answer, target = self.done(self.seats[seat], event)
+        if target is not None:
+            self.pending[seat] = target
+        return answer
+
+    def done(self, actor, event):
+        """The answer to a command that is allowed, and the target that it leaves."""
+        op, over, rights = event["op"], event.get("over"), event.get("rights")
+        if op == "create":
+            new, self.next = self.next, self.next + 1
+            self.kinds[new] = event["kind"]
+            self.triples |= {(actor, new, right) for right in rights}
+            return {"ok": "created", "vertex": new}, new
+        if op == "read":
+            return {"ok": "text", "text": self.texts.get(over, "")}, None
+        if op == "look":
+            return {"edges": self.edges(event["at"]), "ok": "edges"}, None
+        if op == "write":
+            self.texts[over] = event["text"]
+        elif op == "remove":
+            self.triples -= {(actor, over, right) for right in rights}
+        else:
+            self.triples |= {(*gained(actor, event), right) for right in rights}
+        return {"ok": "done"}, over if op in ("take", "grant") else None
+
+
+def verdict(config, goal, steps):
+    """The verdict on a derivation."""
+    graph = Graph(config)
+    for index, step in enumerate(steps):
+        if graph.kinds.get(step["actor"]) != "subject":
+            return {"step": index, "verdict": "actor not subject"}
+        denial = graph.denial(step["actor"], step)
+        if denial:
+            return {**denial, "step": index, "verdict": "step denied"}
+        if step["op"] == "create" and graph.next == NONE_LEFT:
+            return {"step": index, "verdict": "step full"}
+        graph.done(step["actor"], step)
+    missing = [right for right in LETTERS if right in goal["rights"] and (goal["from"], goal["to"], right) not in graph.triples]
+    return {"missing": "".join(missing), "verdict": "goal missing"} if missing else {"verdict": "shared"}

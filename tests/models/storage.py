@@ -1,0 +1,110 @@
+"""A run as its answers describe it: the graph that is never collected, and how many slots and cells may be in use.
+
+Only the number in use is known: slots by the creates and the slots that collector steps freed, cells between the edges of what is
+live and those of what may still have a slot. docs/COLLECTOR.md has what a collector step does.
+"""
+
+import re
+
+from models.graph import NONE_LEFT, Graph, gained
+from models.reading import line_of
+
+NOTE = re.compile(rb'\{"ended":(true|false),"freed":([01]),"phase":"(idle|mark|sweep)"\}')
+SWEPT = re.compile(rb'\{"freed":(0|[1-9][0-9]*),"steps":([1-9][0-9]*)\}')
+FOLLOWS = {"idle": ["mark"], "mark": ["mark", "sweep"], "sweep": ["sweep", "idle"]}
+
+
+class Run:
+    """A run so far. `problem` takes each event in turn with the line that answered it."""
+
+    def __init__(self, config):
+        self.graph = Graph(config)
+        self.slots, self.cells = config["slots"], config["cells"]
+        self.used = len(self.graph.names)
+        self.phase, self.steps = "idle", 0
+        # What was unreachable when this cycle started, what was so when the one before it did, and what has no slot any more.
+        self.doomed, self.ripe, self.gone = set(), set(), set()
+        # Whether sessions changed nothing since this cycle started, and how many cycles in a row before it were like that.
+        self.is_alone, self.quiet = True, 0
+
+    def problem(self, event, answer):
+        """What is wrong with the answer to an event; nothing if it is right."""
+        if event["op"] in ("collect", "cycle"):
+            return self.noted(event["op"], answer)
+        wanted = self.graph.judged(event)
+        if wanted is None:
+            full = self.full(event, answer)
+            wanted = {"full": full} if full else self.carried_out(event)
+        return None if answer == line_of(wanted) else "wanted " + line_of(wanted).decode()
+
+    def carried_out(self, event):
+        """The answer to an event that is carried out; what it changes ends the quiet."""
+        answer = self.graph.carried_out(event)
+        self.used += event["op"] == "create"
+        if event["op"] in ("take", "grant", "create", "remove") or answer.get("shaded"):
+            self.is_alone, self.quiet = False, 0
+        return answer
+
+    def cells_in_use(self):
+        """The fewest and the most cells that may be in use: the edges of what is live, and those of what may have a slot."""
+        live, pairs = self.graph.live(), self.graph.pairs()
+        return sum(start in live for start, _ in pairs), sum(start not in self.gone for start, _ in pairs)
+
+    def full(self, event, answer):
+        """Why an event that the rules allow is refused as full: what has to be used up, or what may be and is reported
+        as such."""
+        graph, op = self.graph, event["op"]
+        if op == "create" and graph.next == NONE_LEFT:
+            return "serials"
+        if op == "create" and self.used == self.slots:
+            return "slots"
+        if op == "create" or (op in ("take", "grant") and not graph.label(*gained(graph.seats[event["seat"]], event))):
+            fewest, most = self.cells_in_use()
+            if fewest >= self.cells or (most >= self.cells and answer == b'{"full":"cells"}'):
+                return "cells"
+        return None
+
+    def noted(self, op, answer):
+        """What is wrong with the answer to a line for the collector."""
+        told = (NOTE if op == "collect" else SWEPT).fullmatch(answer)
+        if not told:
+            return "no answer to " + op
+        if self.phase == "idle":
+            self.steps, self.is_alone = 0, True
+            self.doomed = set(self.graph.kinds) - self.graph.live()
+        if op == "collect":
+            ended, freed, phase = told[1] == b"true", int(told[2]), told[3].decode()
+            if phase not in FOLLOWS[self.phase] or ended != (phase == "idle") or (freed and (self.phase, phase) != ("sweep", "sweep")):
+                return "a step that does not follow the phase " + self.phase
+            self.phase, self.steps, self.used = phase, self.steps + 1, self.used - freed
+        else:
+            ended, self.phase, self.steps, self.used = True, "idle", self.steps + int(told[2]), self.used - int(told[1])
+        if told[2 if op == "collect" else 1] != b"0" and self.used < len(self.graph.live()):
+            return "fewer slots in use than live vertices"
+        if self.steps > self.slots**2 + 3 * self.slots + self.cells + 3:
+            return "more steps than a cycle has"
+        return self.ended() if ended else None
+
+    def ended(self):
+        """What is wrong at the end of a cycle."""
+        if self.is_alone:
+            fewest, most = self.cells_in_use()
+            late = self.shaded_late()
+            # A start, an end of marking and an end of the sweep; a step for each slot; two for each slot that is kept, one for each cell.
+            cells = self.steps - 3 - self.slots - 2 * self.used
+            if not fewest + (late if self.quiet else 0) <= cells <= most + late:
+                return "%d steps, where the cells are %d to %d and %d targets are shaded" % (self.steps, fewest, most, late)
+            self.quiet += 1
+        self.gone |= self.ripe
+        self.ripe = self.doomed
+        if self.used > len(self.graph.kinds) - len(self.gone):
+            return "more slots in use than may be after two cycles"
+        return None
+
+    def shaded_late(self):
+        """How many pending targets a cycle shades for their seats, when sessions wait."""
+        found, late = self.graph.reached(self.graph.names.values()), 0
+        for _, target in sorted(self.graph.pending.items()):
+            if target not in found:
+                found, late = found | self.graph.reached([target]), late + 1
+        return late

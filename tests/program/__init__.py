@@ -1,0 +1,1 @@
+"""Runs of the program whose answers are worked out by hand."""

@@ -1,0 +1,145 @@
+"""Every limit at once: a run, a server with its settling, and an audit, each with the greatest configuration, lines of 16,384 bytes, texts of 4,096 bytes,
+an owner of an edge for each slot, and 63 sessions, 64 seats or 100,000 steps. No answer may be `out of memory`.
+
+Each answer is built here by the rules of docs/PROTOCOL.md, the steps of the cycle by docs/COLLECTOR.md. Each test takes the program's path and answers
+whether it passed.
+"""
+
+import contextlib
+import json
+import subprocess
+from concurrent.futures import ThreadPoolExecutor
+
+from faults.refused import NO_MEMORY
+from faults.scripts import (
+    BYE, DONE, SHARED, alone, create, created, edges, goal, hello, look, shaded, swept, take, text, welcome, write,
+)
+from models.reading import LONGEST_LINE, LONGEST_TEXT
+from program.lines import joined
+from server.servers import AGREED, SECONDS, read_all, read_line, served
+
+SLOTS, CELLS = 65_536, 1_048_576
+NAMES = [x + y for x in "abcdefgh" for y in "abcdefgh"]
+SESSIONS = 63
+STEPS = 100_000
+
+# Each principal may take from the first, who makes documents until no slot is left.
+CONFIG = {"cells": CELLS, "edges": [[serial, "t", 1] for serial in range(2, len(NAMES) + 1)], "principals": NAMES, "slots": SLOTS}
+DOCUMENTS = range(len(NAMES) + 1, SLOTS + 1)
+FIRST = DOCUMENTS[0]
+OWNED = edges(b",".join(b'[%d,"rw"]' % serial for serial in DOCUMENTS))
+
+# The second is written by escapes, which make a line of three times its bytes.
+TEXTS = {b"a" * LONGEST_TEXT: b"a" * LONGEST_TEXT, b"\\u00e9" * (LONGEST_TEXT // 2): "é".encode() * (LONGEST_TEXT // 2)}
+
+
+def longest(line):
+    """The line with white space up to the limit."""
+    return line.ljust(LONGEST_LINE)
+
+
+OPENING = longest(json.dumps(CONFIG).encode())
+
+
+def read(over, seat):
+    return b'{"op":"read","over":%d,"seat":%d}' % (over, seat)
+
+
+def asked(seat):
+    """The commands of the principal of a seat, each with its answer and the target that it leaves. The first principal's come before all others'."""
+    if seat > 0:
+        return [(take(b"r", FIRST, 1, seat), DONE, FIRST), (longest(read(FIRST, seat)), text(list(TEXTS.values())[-1]), None)]
+    made = [(create(b"rw"), created(serial), serial) for serial in DOCUMENTS]
+    told = [(create(b"r"), b'{"full":"slots"}', None), (longest(look(1)), OWNED, None)]
+    for given, kept in TEXTS.items():
+        told += [(longest(write(FIRST, given)), DONE, None), (longest(read(FIRST, 0)), text(kept), None)]
+    return made + told
+
+
+def is_as_wanted(found, wanted):
+    """Whether these are the lines that are wanted, none of which is `out of memory`; the first other is printed."""
+    pairs = list(zip(found.splitlines(), wanted.splitlines()))
+    for place, (row, other) in enumerate(pairs):
+        if row != other:
+            print("  answer %d: wanted %r, found %r" % (place, other[:200], row[:200]))
+            break
+    return NO_MEMORY not in found and found == wanted
+
+
+def lines_of_run():
+    """The lines of a run, with their answers; the opening has none. A cycle starts, ends its marking and ends its sweep, goes over each slot once, and has two
+    steps for each that is kept, which all are, and one for each edge."""
+    yield OPENING, None
+    for seat, name in enumerate(NAMES):
+        yield longest(hello(name.encode(), seat)), welcome(seat + 1)
+    for seat in range(len(NAMES)):
+        for line, answer, target in asked(seat):
+            yield line, answer
+            if target:
+                yield alone(b"shade", seat), shaded(target)
+    held = len(CONFIG["edges"]) + len(DOCUMENTS) + len(NAMES) - 1
+    yield alone(b"cycle"), swept(0, 3 + 3 * SLOTS + held)
+
+
+def run_at_every_limit(program):
+    """64 principals, each on a seat. No answer is an error."""
+    rows = list(lines_of_run())
+    given = joined(*[line for line, _ in rows])
+    ran = subprocess.run([str(program), "run"], input=given, stdout=subprocess.PIPE, timeout=SECONDS)
+    return is_as_wanted(ran.stdout, joined(*[answer for _, answer in rows if answer])) and ran.returncode == 0
+
+
+def greeted(connection, seat):
+    """Whether the client of a connection is greeted as the principal of a seat."""
+    connection.sendall(longest(hello(NAMES[seat].encode())) + b"\n")
+    return read_line(connection) == welcome(seat + 1) + b"\n"
+
+
+def talked(connection, seat):
+    """Whether the principal of a seat has the answers that are wanted, up to the bye; no line waits for an answer."""
+    rows = [(line, answer) for line, answer, _ in asked(seat)] + [(alone(b"bye"), BYE)]
+    with ThreadPoolExecutor() as pool:
+        poured = pool.submit(connection.sendall, joined(*[line for line, _ in rows]))
+        found = read_all(connection)
+        poured.result(SECONDS)
+    return is_as_wanted(found, joined(*[answer for _, answer in rows]))
+
+
+def talks_at_every_limit(program):
+    """63 sessions at once. Settling goes over all that was made, written, looked at and read, and over what was full:
+    it finds that everything agrees."""
+    with served(program, SESSIONS, SESSIONS, OPENING + b"\n") as server, contextlib.ExitStack() as stack:
+        clients = [stack.enter_context(server.connection()) for _ in range(SESSIONS)]
+        good = all([greeted(client, seat) for seat, client in enumerate(clients)])
+        good = good and talked(clients[0], 0)
+        with ThreadPoolExecutor(SESSIONS) as pool:
+            good = good and all(pool.map(talked, clients[1:], range(1, SESSIONS)))
+        stack.close()
+        ended = server.end()
+    return good and ended == AGREED
+
+
+def step(actor, line):
+    """The step that a line of a run is, of this actor."""
+    fields = {name: value for name, value in json.loads(line).items() if name != "seat"}
+    return json.dumps({"actor": actor, **fields}).encode()
+
+
+def audit_at_every_limit(program):
+    """As many documents as in the run; what is owned is looked at, each text is written and read, the last one again
+    and again; and all take from the first, the last of them what the goal asks for."""
+    steps = [step(1, create(b"rw"))] * len(DOCUMENTS) + [step(1, look(1))]
+    for given in TEXTS:
+        steps += [step(1, write(FIRST, given)), longest(step(1, read(FIRST, 0)))]
+    steps += [step(1, read(FIRST, 0))] * (STEPS - len(steps) - (len(NAMES) - 1))
+    steps += [step(serial, take(b"r", FIRST, 1)) for serial in range(2, len(NAMES) + 1)]
+    given = joined(OPENING, longest(goal(len(NAMES), b"r", FIRST)), *steps)
+    ran = subprocess.run([str(program), "audit"], input=given, stdout=subprocess.PIPE, timeout=SECONDS)
+    return len(steps) == STEPS and is_as_wanted(ran.stdout, joined(SHARED)) and ran.returncode == 0
+
+
+def tests():
+    """All tests by their names."""
+    yield "run-at-every-limit", run_at_every_limit
+    yield "talks-at-every-limit", talks_at_every_limit
+    yield "audit-at-every-limit", audit_at_every_limit
