@@ -32,7 +32,7 @@ def shift(owner, block):
 
 
 def in_bucket(owner, block, bucket):
-    """The serial of the block to which an owner's edge lies in the bucket, as `bucket_of` has it; None where there is none."""
+    """The serial of the block to which an owner's edge lies in the bucket, as `bucket_of` has it; None if there is none."""
     place = (bucket - shift(owner, block) - BLOCK * block) % CELLS
     return BLOCK * block + place if place < BLOCK else None
 
@@ -92,7 +92,7 @@ def asked(talk, over):
 
 
 def figures(name, talk, edges, shade):
-    """Piles the edges up, and prints what a command takes in the bucket and beside it."""
+    """Piles the edges up, and prints how long a command takes in the bucket and outside it."""
     behind = ['{"op":"shade"}'] * shade
     lines = ['{"name":"alice","op":"hello"}']
     for _ in range(VERTICES):

@@ -11,7 +11,7 @@ use tg_index::Buckets;
 /// One call of a script, or what must be seen after the calls before it. A bucket comes first.
 #[derive(Clone, Copy)]
 enum Act {
-    /// A number comes in front of the row.
+    /// A number is put in front of the row.
     Put(usize, u32),
     /// A number leaves the row.
     Take(usize, u32),
@@ -133,7 +133,7 @@ fn play_all(rt: &impl Abort, index: &mut Buckets, acts: &[Act])
 }
 
 /// The first number of a row leaves it, one in the middle, the last and the only one; then they come back in another
-/// order, and others leave. In all this rows that are not named stay.
+/// order, and others leave. Meanwhile rows that are not named stay.
 const COME_AND_GO: &[Act] = &[
     Put(1, 0),
     Put(1, 1),
@@ -204,7 +204,7 @@ fn made_again(rt: &impl Print, alloc: Global) -> Result<Buckets, AllocError>
     }
 }
 
-/// All rows are empty after a refusal too, and one is filled and emptied.
+/// All rows are empty after a failed allocation too, and one is filled and emptied.
 const ALL_EMPTY: &[Act] = &[
     Row(0, &[]),
     Row(3, &[]),

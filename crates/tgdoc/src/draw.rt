@@ -4,7 +4,7 @@ ghost use Rattle.std.specs.Prelude.{◌≡◌, ◌%◌, ◌/◌, ◌^◌, bit_or
 use std::random::RandomSource;
 use tg_vault::Key;
 
-/// A key of random numbers; none where the source gives none. That nobody can guess them is the source's promise.
+/// A key of random numbers; none if the source returns none. The source promises that nobody can guess them.
 pub(crate) fn drawn_key<S: RandomSource>(source: &S) -> Option<Key> {
     let mut bytes = [0; 16];
     source.fill_bytes(&mut bytes).ok()?;

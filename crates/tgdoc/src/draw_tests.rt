@@ -1,11 +1,11 @@
-//! Keys of sources that give what is known, or nothing.
+//! Keys from sources that return what is known, or nothing.
 
 use crate::draw::drawn_key;
 use std::io;
 use std::io::ErrorKind;
 use std::random::RandomSource;
 
-/// Gives the bytes 0, 1, 2 and so on.
+/// Returns the bytes 0, 1, 2 and so on.
 #[derive(Clone, Copy)]
 struct Counting;
 
@@ -20,7 +20,7 @@ impl RandomSource for Counting {
     }
 }
 
-/// Gives nothing.
+/// Returns nothing.
 #[derive(Clone, Copy)]
 struct Broken;
 
