@@ -399,12 +399,69 @@ fn vault_after<L: Ledger>(closed: &Closed<L>) -> Option<&Vault> {
     }
 }
 
-/// How many entries there are, where the logs agree and all sessions were counted.
+/// Whether the graph has the principals alone, and the right to take of alice over bob.
+fn is_opening(vault: &Vault) -> bool {
+    let graph = vault.opening();
+    let subject = Some(Kind::Subject);
+    graph.kind(1) == subject
+        && graph.kind(2) == subject
+        && graph.kind(0).is_none()
+        && graph.kind(3).is_none()
+        && graph.rights(1, 2) == Rights::take()
+        && graph.rights(2, 1).is_empty()
+}
+
+/// Where the logs differ from the history, if they do, and whether all sessions were counted.
+fn found_in<L: Ledger>(closed: &Closed<L>) -> Option<(Option<(u64, u64)>, bool)> {
+    match closed {
+        Closed::Done { settled, counted } => match settled {
+            Settled::Agreed(_) => Some((None, *counted)),
+            Settled::Differs { seat, index, .. } => Some((Some((*seat, *index)), *counted)),
+            Settled::NoMemory { .. } => None,
+        },
+        Closed::NoRoom { .. } => None,
+    }
+}
+
+/// What is seen of an answer of `close`.
+#[derive(Clone, Copy)]
+struct Seen {
+    /// How many entries there are, and whether the opening graph is that of alice and bob, where the logs agree and all
+    /// sessions were counted.
+    agreed: Option<(u64, bool)>,
+    /// Where the logs differ from the history, if they do, and whether all sessions were counted.
+    found: Option<(Option<(u64, u64)>, bool)>,
+}
+
+/// How many entries there are, and whether the opening graph is as it was, where the logs agree and all sessions were counted.
+fn count_and_opening<L: Ledger>(closed: &Closed<L>) -> Option<(u64, bool)> {
+    let vault = vault_after(closed)?;
+    Some((vault.count(), is_opening(vault)))
+}
+
+fn look_at<L: Ledger>(closed: &Closed<L>) -> Seen {
+    Seen {
+        agreed: count_and_opening(closed),
+        found: found_in(closed),
+    }
+}
+
+/// Closes. No other function lets go of what that answers, as that costs most of its proof.
+fn close<L: Ledger>(shared: Shared<L>, ended: Vec<Ended<L>>) -> Seen
+    requires { L.parts ≡ PARTS }
+{
+    let closed = closed(shared, ended);
+    look_at(&closed)
+}
+
+/// How many entries there are, where there are ends to close with, the logs agree and all sessions were counted.
 pub fn agreed<L: Ledger>(shared: Shared<L>, ended: Option<Vec<Ended<L>>>) -> Option<u64>
     requires { L.parts ≡ PARTS }
 {
-    let closed = closed(shared, ended?);
-    Some(vault_after(&closed)?.count())
+    match ended {
+        Some(ended) => Some(close(shared, ended).agreed?.0),
+        None => None,
+    }
 }
 
 /// Alice creates a document on the seat, and is held with it.
@@ -501,18 +558,6 @@ fn held_create(rt: HostRuntime) -> Result<(), AllocError> {
     Ok(())
 }
 
-/// Whether the graph has the principals alone, and the right to take of alice over bob.
-fn is_opening(vault: &Vault) -> bool {
-    let graph = vault.opening();
-    let subject = Some(Kind::Subject);
-    graph.kind(1) == subject
-        && graph.kind(2) == subject
-        && graph.kind(0).is_none()
-        && graph.kind(3).is_none()
-        && graph.rights(1, 2) == Rights::take()
-        && graph.rights(2, 1).is_empty()
-}
-
 pub const ALONE: &[(Ask, Told)] = &[
     (Ask::Document(READ | WRITE), Told::Created(3)),
     (Ask::Write(3, "hi"), Told::Done),
@@ -538,9 +583,10 @@ fn play_alone<L: Ledger, R: Wait + Clock>(
 {
     let shared = Shared::<L>::new(alloc, blank, vault);
     let alice = play(rt, alloc, &shared, 0, "alice", ALONE, &Open);
-    let closed = closed(shared, one(alloc, alice)?);
-    let vault = vault_after(&closed)?;
-    Some((vault.count(), is_opening(vault)))
+    match one(alloc, alice) {
+        Some(ended) => close(shared, ended).agreed,
+        None => None,
+    }
 }
 
 #[test]
@@ -820,18 +866,6 @@ fn play_two<L: Ledger, R: Wait + Clock>(
     both(alloc, first, second)
 }
 
-/// Where the logs differ from the history, if they do, and whether all sessions were counted.
-fn found_in<L: Ledger>(closed: Closed<L>) -> Option<(Option<(u64, u64)>, bool)> {
-    match closed {
-        Closed::Done { settled, counted } => match settled {
-            Settled::Agreed(_) => Some((None, counted)),
-            Settled::Differs { seat, index, .. } => Some((Some((seat, index)), counted)),
-            Settled::NoMemory { .. } => None,
-        },
-        Closed::NoRoom { .. } => None,
-    }
-}
-
 /// Where the logs differ from the history, if they do, and whether all sessions were counted, where alice sits twice on
 /// a seat, one session after the other.
 fn close_two<L: Ledger, R: Wait + Clock>(
@@ -847,9 +881,13 @@ fn close_two<L: Ledger, R: Wait + Clock>(
     requires empty { vault.history ≡ [] }
 {
     let shared = Shared::<L>::new(alloc, blank, vault);
-    let mut ended = play_two(rt, alloc, &shared)?;
-    hand_in(&mut ended, order);
-    found_in(closed(shared, ended))
+    match play_two(rt, alloc, &shared) {
+        Some(mut ended) => {
+            hand_in(&mut ended, order);
+            close(shared, ended).found
+        }
+        None => None,
+    }
 }
 
 /// The logs of a seat are joined in the order in which they are handed in; a session that is kept back is not counted.

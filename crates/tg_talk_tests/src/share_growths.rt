@@ -130,6 +130,30 @@ fn settled_again<R: Print>(rt: &R, alloc: Global, settled: Settled) -> Settled {
     }
 }
 
+/// How many entries there are, where the logs agree and all sessions were counted.
+fn count_of(settled: &Settled, counted: bool) -> Option<u64> {
+    if counted { count_in(settled) } else { None }
+}
+
+/// The same, where what is settled may be settled again.
+fn count_after<R: Print>(rt: &R, alloc: Global, settled: Settled, counted: bool) -> Option<u64> {
+    let settled = settled_again(rt, alloc, settled);
+    count_of(&settled, counted)
+}
+
+/// The same of a vault that is closed again, where all was handed back.
+fn closed_at_last<L: Ledger, R: Print>(
+    rt: &R,
+    shared: Shared<L>,
+    ended: Vec<Ended<L>>,
+) -> Option<u64>
+    requires { L.parts ≡ PARTS }
+{
+    let _ = rt.println("no memory");
+    let ended = are_both(&ended).then_some(ended);
+    agreed(shared, ended)
+}
+
 /// How many entries there are, where the logs agree and all sessions were counted. Where there is no room for the list of
 /// logs, all is handed back, and closed again.
 fn closed_again<L: Ledger, R: Print>(
@@ -141,15 +165,8 @@ fn closed_again<L: Ledger, R: Print>(
     requires { L.parts ≡ PARTS }
 {
     match shared.close(ended) {
-        Closed::Done { settled, counted } => {
-            let settled = settled_again(rt, alloc, settled);
-            if counted { count_in(&settled) } else { None }
-        }
-        Closed::NoRoom { shared, ended } => {
-            let _ = rt.println("no memory");
-            let ended = are_both(&ended).then_some(ended);
-            agreed(shared, ended)
-        }
+        Closed::Done { settled, counted } => count_after(rt, alloc, settled, counted),
+        Closed::NoRoom { shared, ended } => closed_at_last(rt, shared, ended),
     }
 }
 

@@ -3,6 +3,7 @@ ghost use Rattle.std.specs.Prelude.{◌≡◌, [], IfOk, IfSome, false};
 ghost use Rattle.tg_share.specs.declared.locked.TheConstants.{PARTS};
 ghost use Rattle.tg_talk.specs.Devices.{has_failed, owed};
 
+use crate::share::agreed;
 use crate::talk_lines::FAILURES;
 use std::alloc::{AllocError, Global};
 use std::io::{BufWriter, Read, Write};
@@ -10,8 +11,7 @@ use std::marker::Brand;
 use std::rt::Clock;
 use std::sync::Wait;
 use std::sync::ledger::{Blank, Ledger};
-use tg_audit::Settled;
-use tg_share::{Closed, Ended, Open, PARTS, Shared};
+use tg_share::{Ended, Open, PARTS, Shared};
 use tg_talk::{FailingReader, FailingWriter, Failure, TalkFault, Talked, Watched, buffered, talk};
 use tg_vault::Vault;
 use tg_wire::read_config;
@@ -40,18 +40,6 @@ pub struct Came {
     pub fault: Option<TalkFault>,
     /// How many entries there are, where logs and history agree and each session is counted.
     pub entries: Option<u64>,
-}
-
-/// How many entries there are, where the logs agree with the history, and each session is counted.
-fn entries_of<L: Ledger>(closed: Closed<L>) -> Option<u64> {
-    match closed {
-        Closed::Done { settled, counted } => match settled {
-            Settled::Agreed(vault) => { if counted { Some(vault.count()) } else { None } }
-            Settled::Differs { .. } => None,
-            Settled::NoMemory { .. } => None,
-        },
-        Closed::NoRoom { .. } => None,
-    }
 }
 
 /// The list of the session's end, if it was given; empty where there is no memory.
@@ -85,11 +73,10 @@ pub fn talk_alone<L: Ledger, D: Read, W: Write + Drop, R: Wait + Clock>(
         fault,
         ended,
     } = talk(rt, alloc, reader, writer, &shared, 0, &Open);
-    let closed = shared.close(list_of(alloc, ended));
     Came {
         lines,
         fault,
-        entries: entries_of(closed),
+        entries: agreed(shared, Some(list_of(alloc, ended))),
     }
 }
 

@@ -306,31 +306,49 @@ fn no_reader_takes_a_long_line(rt: HostRuntime) -> Result<(), AllocError> {
     Ok(())
 }
 
+fn is_reply(alloc: Global, reply: Reply, line: &[u8]) -> Result<bool, AllocError> {
+    Ok(write_reply(alloc, &reply)?.as_slice() == line)
+}
+
+fn is_answer(alloc: Global, answer: Answer, line: &[u8]) -> Result<bool, AllocError> {
+    Ok(write_answer(alloc, &answer)?.as_slice() == line)
+}
+
+fn is_swept(alloc: Global, swept: Swept, line: &[u8]) -> Result<bool, AllocError> {
+    Ok(write_swept(alloc, swept)?.as_slice() == line)
+}
+
 #[test]
 fn replies_and_answers_are_written(rt: HostRuntime) -> Result<(), AllocError> {
-    let created = write_reply(rt.alloc(), &Reply::Created(18_446_744_073_709_551_614))?;
+    let alloc = rt.alloc();
+    let created = Reply::Created(18_446_744_073_709_551_614);
     assert!(rt;
-        created.as_slice() == b"{\"ok\":\"created\",\"vertex\":18446744073709551614}\n".as_slice()
+        is_reply(
+            alloc,
+            created,
+            b"{\"ok\":\"created\",\"vertex\":18446744073709551614}\n"
+        )?
     );
-    let shaded = write_answer(rt.alloc(), &Answer::Shaded(None))?;
-    assert!(rt; shaded.as_slice() == b"{\"shaded\":null}\n".as_slice());
-    let refused = write_answer(rt.alloc(), &Answer::Seat(SeatFault::NoPrincipal))?;
-    assert!(rt; refused.as_slice() == b"{\"error\":\"no principal\"}\n".as_slice());
-    let note = Note {
+    assert!(rt; is_answer(alloc, Answer::Shaded(None), b"{\"shaded\":null}\n")?);
+    let refused = Answer::Seat(SeatFault::NoPrincipal);
+    assert!(rt; is_answer(alloc, refused, b"{\"error\":\"no principal\"}\n")?);
+    let noted = Answer::Noted(Note {
         phase: Phase::Sweep,
         freed: 1,
         ended: false,
-    };
-    let noted = write_answer(rt.alloc(), &Answer::Noted(note))?;
+    });
     assert!(rt;
-        noted.as_slice() == b"{\"ended\":false,\"freed\":1,\"phase\":\"sweep\"}\n".as_slice()
+        is_answer(
+            alloc,
+            noted,
+            b"{\"ended\":false,\"freed\":1,\"phase\":\"sweep\"}\n"
+        )?
     );
     let swept = Swept {
         freed: 1,
         steps: 10,
     };
-    let cycle = write_swept(rt.alloc(), swept)?;
-    assert!(rt; cycle.as_slice() == b"{\"freed\":1,\"steps\":10}\n".as_slice());
+    assert!(rt; is_swept(alloc, swept, b"{\"freed\":1,\"steps\":10}\n")?);
     Ok(())
 }
 
