@@ -1,4 +1,4 @@
--- The index of the edges: what a cell that is linked, freed or relabelled leaves of it, and the search in a bucket.
+-- The index of the edges: what becomes of it when a cell is linked, freed or relabelled, and the search in a bucket.
 use Rattle.std.proofs.Common.{◌≡◌, ◌≢◌, ℕ, ◌+◌, ◌<◌, ◌≤◌, List, [], ◌∷◌, ◌++◌, length, Option, Some, None, inl, inr, sym, ◌∙◌, subst, ap, refl, set, get_or, replicate, cond, ltb, Bool, true, false, eqb, eq-eqb, ◌&&◌, arith, length-set, length-append, get_or-set_same, get_or-set_other}
 use Rattle.std.proofs.lemmas.Bool.{cases_eq, cases_lt, ne_eqb, lt-ltb, le-ltb}
 use Rattle.std.proofs.lemmas.List.{get_or_default}
@@ -112,7 +112,7 @@ index-rights place rows v i n p r e w x st = record {
   here : owned (set v.lists i (p ++ record e { rights = w } ∷ r)) i ≡ p ++ record e { rights = w } ∷ r
   here = get_or-set_same v.lists i (p ++ record e { rights = w } ∷ r) [] (owner_within v n i p r e st)
 
--- A cell in nobody's list is in no bucket, and a linked one in that of its edge.
+-- A cell in nobody's list is in no bucket, and a linked one is in that of its edge.
 pub fresh_unheld : (place : ℕ → ℕ → ℕ) (rows : List (List ℕ)) (lists : List (List Edge)) (n : ℕ) → IsIndexed place rows lists → IsFresh lists n → IsUnheld rows n
 fresh_unheld place rows lists n x fresh b h = let was = x.sound b n h in fresh was.owner was.edge was.held was.here
 
@@ -132,7 +132,7 @@ stays s v l x = record { kept = record { inside = l.kept; index = subst (λ (u :
 pub index_seen : (s : Inside) (v : CellLists) → view_of s ≡ v → IsKept s → Indexes s v.lists
 index_seen s v is k = subst (λ (u : CellLists). Indexes s u.lists) is k.index
 
--- A cell that was provided: it comes to be used in its order.
+-- A cell that was provided: it was used before, or is the next one to be used; `size` counts the used ones with it.
 pub record IsNext (used number size : ℕ) : Type 0 where
   pub fits : number ≤ used
   pub grows : cond (ltb number used) used (used + 1) ≡ size
@@ -168,7 +168,7 @@ provided_next cs ds free end owners number used k within same = elim (cases_lt f
       )
 ]
 
--- Where none is free, none was put behind the others.
+-- If none is free, none was appended to the others.
 pub provided_none : (cs ds : List Cell) (free end owners number : ℕ) → IsProvided cs ds free end owners number → length ds ≤ number → length cs ≡ length ds
 provided_none cs ds free end owners number k past = elim (cases_lt free (length cs)) [
   | inl less ↦ (
@@ -226,7 +226,7 @@ both false b e = absurd (cc)
 eqb_is : (a b : ℕ) → eqb a b ≡ true → a ≡ b
 eqb_is a b e = elim (cases_eq a b) [ inl is ↦ is | inr o ↦ absurd (let other : eqb a b ≡ false = ne_eqb a b o in (cc)) ]
 
--- The cell at the cursor is the one.
+-- The cell at the cursor is the one sought.
 pub seeks_found : (s : Inside) (v : CellLists) (b i serial n : ℕ) (c : Cell) → view_of s ≡ v → IsKept s → Seeks (row s.index.lists b) s.cells.items i serial (Some n) → c ≡ get_or s.cells.items n c → (eqb c.serial serial && eqb c.owner i) ≡ true
     → (f : Found (owned v.lists i) serial) × (n ≡ f.edge.cell)
 seeks_found s v b i serial n c is k l read test =
@@ -283,11 +283,11 @@ seeks_end s v b i serial is k at l e h named =
       | inr new ↦ subst (λ (m : List ℕ). Contains m e.cell) rest new
     ]
 
--- Where key and number of buckets stay, so do the buckets of edges.
+-- If the key and the number of buckets stay, so do the buckets of edges.
 same_place : (s after : Inside) → after.key ≡ s.key → length after.index.lists ≡ length s.index.lists → place_in after ≡ place_in s
 same_place s after keys size = ap (λ (k : Key). bucket_of k (length after.index.lists)) keys ∙ ap (λ (n : ℕ). bucket_of s.key n) size
 
--- The index of the fields that a call leaves, where it did not touch it.
+-- The index of the fields that a call leaves, if the call did not touch the index.
 pub indexes-same : (s after : Inside) (lists now : List (List Edge)) → Indexes s lists → after.index ≡ s.index → after.key ≡ s.key → length s.cells.items ≡ length after.cells.items → s.size ≡ after.size → IsIndexed (place_in s) s.index.lists now → Indexes after now
 indexes-same s after lists now x is keys cells_size size edges = record {
   some = subst (λ (i : Rows). 1 ≤ length i.lists) (sym is) x.some;
@@ -297,7 +297,7 @@ indexes-same s after lists now x is keys cells_size size edges = record {
       (subst (λ (i : Rows). IsIndexed (place_in s) i.lists now) (sym is) edges);
 }
 
--- Where it put a cell into it.
+-- If it put a cell into it.
 pub indexes-link : (s after : Inside) (lists : List (List Edge)) (i b : ℕ) (e : Edge) → Indexes s lists → i < length lists → b ≡ place_in s i e.serial → b < length s.index.lists
     → after.index ≡ record s.index { lists = set s.index.lists b (e.cell ∷ row s.index.lists b); used = cond (ltb e.cell s.index.used) s.index.used (s.index.used + 1) } → after.key ≡ s.key
     → cond (ltb e.cell s.index.used) s.index.used (s.index.used + 1) ≡ length after.cells.items → s.size ≡ after.size → Indexes after (set lists i (e ∷ owned lists i))
@@ -312,7 +312,7 @@ indexes-link s after lists i b e x own at within is keys grows size =
           (subst (λ (l : List (List ℕ)). IsIndexed (place_in s) l (set lists i (e ∷ owned lists i))) (sym (ap (λ (r : Rows). r.lists) is)) (index-link (place_in s) s.index.lists lists i b e x.edges own at within));
     }
 
--- Where it took a cell out of it.
+-- If it took a cell out of it.
 pub indexes-unlink : (s after : Inside) (v : CellLists) (i n b serial : ℕ) (p r : List Edge) (e : Edge) → Indexes s v.lists → IsCells v → AreRows s.index → Stands v.lists n i p e r → serial ≡ e.serial → b ≡ place_in s i serial → b < length s.index.lists
     → ((q t : List ℕ) → row s.index.lists b ≡ q ++ n ∷ t → after.index ≡ record s.index { lists = set s.index.lists b (q ++ t) }) → after.key ≡ s.key → length s.cells.items ≡ length after.cells.items → s.size ≡ after.size
     → Indexes after (set v.lists i (p ++ r))
@@ -331,7 +331,7 @@ indexes-unlink s after v i n b serial p r e x sound rows st named at within take
           (index-unlink (place_in s) s.index.lists v i n b p r e split.before split.after x.edges sound st within split.is (rows.once b) (λ a h. rows.one_row a b n h held)));
     }
 
--- Where there is nothing in it.
+-- If there is nothing in it.
 pub indexes-new : (s : Inside) (owners : ℕ) → s.cells.items ≡ [] → 1 ≤ length s.index.lists → s.index.used ≡ 0 → s.index.size ≡ s.size → ((b : ℕ) → row s.index.lists b ≡ []) → ((i : ℕ) → owned (replicate owners []) i ≡ []) → Indexes s (replicate owners [])
 indexes-new s owners none some used size rows lists = record {
   some = some;

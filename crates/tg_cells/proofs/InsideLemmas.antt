@@ -14,7 +14,7 @@ pub length_map : {X Y : Type 0} (f : X → Y) (xs : List X) → length (map f xs
 length_map f [] = refl
 length_map f (x ∷ xs) = let rest = length_map f xs in omega (arith, rest)
 
--- What is shown is what the walks give.
+-- What is shown is what the walks return.
 pub shows_view : (s : Inside) (v : CellLists) → Shows s v → view_of s ≡ v
 shows_view s v k =
     let size : s.size ≡ v.size = k.size in

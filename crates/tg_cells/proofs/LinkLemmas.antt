@@ -40,7 +40,7 @@ first_free end cs owners head count size w k = first k.numbers k.once k.row k.co
         counted = omega (arith, counted);
       }
 
--- A row whose head is past the cells has none.
+-- A row whose head is past the cells is empty.
 row_past : (end : ℕ) (cs : List Cell) (owners head : ℕ) (ns : List ℕ) → length cs ≤ head → Row end cs owners head ns → (length ns ≡ 0) × (head ≡ end)
 row_past end cs owners head [] past row = (refl, row)
 row_past end cs owners head (n ∷ ns) past row = absurd (let first : head ≡ n = row.0 in let within : n < length cs = row.1 in omega arith)

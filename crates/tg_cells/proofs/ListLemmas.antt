@@ -1,4 +1,4 @@
--- One owner's list is replaced: what is promised of all lists stays.
+-- One owner's list is replaced: what is promised of all lists still holds.
 use Rattle.std.proofs.Common.{◌≡◌, ◌≢◌, ℕ, ◌+◌, ◌-◌, ◌<◌, ◌≤◌, List, [], ◌∷◌, ◌++◌, length, inl, inr, sym, ◌∙◌, subst, ap, refl, set, arith, length-append, get_or-set_same, get_or-set_other, sum_by, false}
 use Rattle.std.proofs.lemmas.Bool.{cases_eq, cases_lt}
 use Rattle.std.proofs.lemmas.List.{get_or_past}
@@ -9,11 +9,11 @@ use Rattle.tg_rights.proofs.MembershipLemmas.{contains_middle, contains_around, 
 use Rattle.tg_index.proofs.ListsLemmas.{contains_apart}
 use Rattle.tg_cells.specs.Lists.{Edge, CellLists, owned, cells, serials, Stands, HasNone, IsCells, IsFresh}
 
--- No list is longer than all together, and so than the number of cells.
+-- No list is longer than all of them together, so none is longer than the number of cells.
 pub owned_fits : (v : CellLists) (i : ℕ) → i < length v.lists → IsCells v → length (owned v.lists i) ≤ v.size
 owned_fits v i w k = let change = sum_by-set length v.lists i [] [] w in let all = k.whole in omega (arith, change, all)
 
--- An owner of an edge is one of them.
+-- An owner of an edge is one of the owners.
 pub contains_within : (v : CellLists) (i : ℕ) (e : Edge) → Contains (owned v.lists i) e → i < length v.lists
 contains_within v i e h = elim (cases_lt i (length v.lists)) [
   | inl w ↦ w
@@ -23,7 +23,7 @@ contains_within v i e h = elim (cases_lt i (length v.lists)) [
 pub owner_within : (v : CellLists) (n i : ℕ) (p r : List Edge) (e : Edge) → Stands v.lists n i p e r → i < length v.lists
 owner_within v n i p r e st = contains_within v i e (subst (λ (l : List Edge). Contains l e) (sym st.is) (contains_middle p r e))
 
--- What has to hold of a list that takes the place of another, with so many cells free then.
+-- What has to hold of a list that takes the place of another, with this many cells free then.
 record Replaces (v : CellLists) (i : ℕ) (es : List Edge) (count : ℕ) : Type 0 where
   within : i < length v.lists
   cell_once : Distinct (cells es)
@@ -58,7 +58,7 @@ sound-replaced v i es count k r = record {
   each : (j : ℕ) (P : List Edge → Type 0) → P es → P (owned v.lists j) → P (owned (set v.lists i es) j)
   each j P new old = elim (cases_eq j i) [ inl a ↦ subst P (sym (same_here j a)) new | inr o ↦ subst P (sym (same_there j o)) old ]
 
--- A serial, and a cell, that no edge has is none of the list's.
+-- A serial, or a cell, that no edge has is none of the list's.
 has_none : (es : List Edge) (n : ℕ) → HasNone es n → Contains (serials es) n → ⊥
 has_none [] n h m = m
 has_none (e ∷ es) n h m = elim m [ inl is ↦ h e (inl refl) (sym is) | inr rest ↦ has_none es n (λ x y. h x (inr y)) rest ]
@@ -67,7 +67,7 @@ has_no_cell : (es : List Edge) (n : ℕ) → ((e : Edge) → Contains es e → e
 has_no_cell [] n h m = m
 has_no_cell (e ∷ es) n h m = elim m [ inl is ↦ h e (inl refl) (sym is) | inr rest ↦ has_no_cell es n (λ x y. h x (inr y)) rest ]
 
--- A free cell comes in front.
+-- A free cell is put in front.
 pub sound-link : (v : CellLists) (i : ℕ) (e : Edge) → IsCells v → i < length v.lists → IsFresh v.lists e.cell → HasNone (owned v.lists i) e.serial → is_none e.rights ≡ false → 1 ≤ v.free
     → IsCells (record v { lists = set v.lists i (e ∷ owned v.lists i); free = v.free - 1 })
 sound-link v i e k w fresh none some more = sound-replaced v i (e ∷ owned v.lists i) (v.free - 1) k (record {

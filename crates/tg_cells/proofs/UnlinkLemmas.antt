@@ -24,7 +24,7 @@ joined cs a b = with_previous (with_next cs a b) b a
 abbrev pub unlinked : List Cell → ℕ → ℕ → ℕ → ℕ → ℕ → List Cell
 unlinked cs n a b owners free = set (joined cs a b) n (record (cell_at (joined cs a b) n) { owner = owners; next = free })
 
--- A neighbour that is a cell is one of the list's, and the other end of the list doesn't have it.
+-- A neighbour that is a cell is one of the list's, and the part on the other side does not have it.
 record Neighbours (end : ℕ) (cs : List Cell) (i n a b : ℕ) (p r : List ℕ) : Type 0 where
   size : length cs ≤ end
   apart : Apart p n r
@@ -174,7 +174,7 @@ leaves-unlink s v w g x n i owners p r e is inside st every room ev gv =
     leaves-joined s v w g x n i owners (cell_at s.cells.items n).previous (cell_at s.cells.items n).next p r e is inside st at.within k path rest (every ∙ shown.heads) room ev
     (gv ∙ ap (λ (m : ℕ). cond (eqb (cell_at s.cells.items n).previous m) (set s.heads.items i (cell_at s.cells.items n).next) s.heads.items) shown.size)
 
--- What the writes one after another make of the cells.
+-- What the writes, one after another, do to the cells.
 pub unlinked_items : (v : Vec Cell Global) (xs ys : List Cell) (n a b owners free : ℕ) (old new : Cell) → n < length v.items → xs ≡ with_next v.items a b → ys ≡ with_previous (with_items v xs).items b a
     → old ≡ get_or (with_items (with_items v xs) ys).items n old → new ≡ record old { owner = owners; next = free }
     → (with_item (with_items (with_items v xs) ys) n new).items ≡ unlinked v.items n a b owners free

@@ -5,12 +5,12 @@ use Rattle.tg_index.specs.Rows.{row}
 use Rattle.tg_cells.specs.declared.key.Key.{Key}
 use Rattle.tg_cells.specs.Lists.{Edge, owned}
 
--- the bucket of an owner and a serial, among so many
+-- the bucket of an owner and a serial, among this many
 unfoldable pub bucket_of : Key → ℕ → ℕ → ℕ → ℕ
 bucket_of key buckets owner serial =
     bit_and ((serial + (serial / 2 ^ 6 * key.serial % 2 ^ 64 + owner * key.owner % 2 ^ 64) % 2 ^ 64 / 2 ^ 32) % 2 ^ 64) (buckets - 1)
 
--- a cell is in a bucket for this edge; `place` tells the bucket of an owner and a serial
+-- a cell is in a bucket for this edge; `place` returns the bucket of an owner and a serial
 pub record Entered (place : ℕ → ℕ → ℕ) (lists : List (List Edge)) (b n : ℕ) : Type 0 where
   pub owner : ℕ
   pub edge : Edge

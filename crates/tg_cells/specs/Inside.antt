@@ -1,4 +1,5 @@
--- the lists that linked cells represent: one chain from each owner's head, one row of free cells among those used so far, and an index of the edges
+-- the lists that linked cells represent: one chain from each owner's head, one row of free cells among those used so
+-- far, and an index of the edges
 use Rattle.std.specs.Prelude.{◌≡◌, ℕ, ◌+◌, ◌<◌, ◌≤◌, List, length, map}
 use Rattle.std.specs.Vec.{vec_capacity}
 use Rattle.std.proofs.Common.{get_or}
@@ -10,7 +11,7 @@ use Rattle.tg_cells.specs.Lists.{Edge, CellLists, owned, IsCells}
 use Rattle.tg_cells.specs.Chain.{walk, Chain, Row}
 use Rattle.tg_cells.specs.Index.{bucket_of, IsIndexed}
 
--- the row of the free ones of the cells that were used so far; with those that were not, they are so many
+-- the row of the free ones of the cells that were used so far; together with those never used they are `count`
 pub record IsFree (end : ℕ) (cs : List Cell) (owners head count : ℕ) : Type 0 where
   pub numbers : List ℕ
   pub once : Distinct numbers
@@ -27,7 +28,7 @@ pub record Shows (s : Inside) (v : CellLists) : Type 0 where
   pub count : s.free_count ≡ v.free
   pub sound : IsCells v
 
--- what the walks from all heads give. No list is longer than the number of cells.
+-- what the walks from all heads return. No list is longer than the number of cells.
 abbrev pub view_of : Inside → CellLists
 view_of s = record { lists = map (λ h. walk s.size s.cells.items s.size h) s.heads.items; free = s.free_count; size = s.size }
 
@@ -41,7 +42,7 @@ pub record IsInside (s : Inside) : Type 0 where
 abbrev pub place_in : Inside → ℕ → ℕ → ℕ
 place_in s = bucket_of s.key (length s.index.lists)
 
--- the index has these lists' edges, and as many numbers as cells were used
+-- the index has these lists' edges, and as many used numbers as there are used cells
 pub record Indexes (s : Inside) (lists : List (List Edge)) : Type 0 where
   pub some : 1 ≤ length s.index.lists
   pub used : s.index.used ≡ length s.cells.items

@@ -12,8 +12,8 @@ use std::marker::Model;
 use tg_index::Buckets;
 use tg_rights::Rights;
 
-// A cell, and its neighbours in its list. A free cell has the number of owners as its owner. What a walk reads comes first, in 16 bytes:
-// memory begins at a multiple of 16, so these never lie in two lines of the processor's cache.
+// A cell, and its neighbours in its list. A free cell has the number of owners as its owner. What a walk reads comes
+// first, in 16 bytes: memory begins at a multiple of 16, so these never lie in two lines of the processor's cache.
 #[derive(Drop)]
 struct Cell {
     next: u32,
@@ -33,7 +33,7 @@ impl Cell {
         self.next = next;
     }
 
-    // The cell is the owner's, with that serial.
+    // Whether the cell is the owner's, with that serial.
     fn is_of(&self, owner: u32, serial: u64) -> bool
         ensures { result ≡ (eqb self.now.serial serial && eqb self.now.owner owner) }
     {
@@ -44,7 +44,7 @@ impl Cell {
 /// One list of cells for each owner, and the free cells.
 #[derive(Drop)]
 pub struct Cells {
-    // The cells that were used so far, by number, in room for all: a cell that nobody used is not written.
+    // The cells that were used so far, by number, with room for all: a cell that was never used is not written.
     cells: Vec<Cell>,
     // The first cell of each owner's list, its newest.
     heads: Vec<u32>,
@@ -55,7 +55,7 @@ pub struct Cells {
     size: u32,
     // The linked cells, each in the bucket of its owner and its serial.
     index: Buckets,
-    // What tells that bucket.
+    // The key that determines that bucket.
     key: Key,
 }
 
@@ -71,7 +71,7 @@ impl Model for Cells {
     ghost invariant = { IsKept };
 }
 
-// The cell of that number, if it is one.
+// The number, if it is that of a cell that was used so far.
 fn cell_or_none(cells: &[Cell], number: u32) -> Option<u32>
     ensures { result ≡ cond (ltb number (length cells.now)) (Some number) None }
 {
@@ -82,7 +82,7 @@ fn cell_or_none(cells: &[Cell], number: u32) -> Option<u32>
     }
 }
 
-// The cell of that number, if it is one, has another before it.
+// Links the cell of that number, if there is one, back to another.
 fn set_previous(cells: &mut [Cell], number: u32, previous: u32)
     ensures { cells.new ≡ with_previous cells.old number previous }
 {
@@ -91,7 +91,7 @@ fn set_previous(cells: &mut [Cell], number: u32, previous: u32)
     }
 }
 
-// The cell of that number, if it is one, has another after it.
+// Links the cell of that number, if there is one, on to another.
 fn set_next(cells: &mut [Cell], number: u32, next: u32)
     ensures { cells.new ≡ with_next cells.old number next }
 {
@@ -100,8 +100,8 @@ fn set_next(cells: &mut [Cell], number: u32, next: u32)
     }
 }
 
-// The number of the first free cell; that of all cells, if none is free. Where none of the cells used so far is free,
-// the next one is put behind them.
+// The number of the first free cell; if none is free, the number of all cells. If none of the cells used so far is
+// free, the next one is appended to them.
 fn provide(cells: &mut Vec<Cell>, free: u32, size: u32, owners: u32) -> u32
     requires used { length cells.old.items ≤ size }
     requires room { size ≤ vec_capacity cells.old }
@@ -127,7 +127,7 @@ fn provide(cells: &mut Vec<Cell>, free: u32, size: u32, owners: u32) -> u32
     used
 }
 
-// Where a list has lost its first cell, which had none before it, its head is the next one.
+// If a list has lost its first cell, which had none before it, its head is the next one.
 fn set_head(heads: &mut [u32], owner: u32, is_first: bool, next: u32)
     requires { owner < length heads.old }
     ensures { heads.new ≡ cond is_first (set heads.old owner next) heads.old }
@@ -150,7 +150,7 @@ impl Cells {
         Cells::with_key(alloc, Key::FIXED, owners, count)
     }
 
-    /// The same under a key of the caller's, which tells the bucket of each edge. The only error is that an allocation
+    /// The same under the caller's key, which determines the bucket of each edge. The only error is that an allocation
     /// failed.
     pub fn with_key(alloc: Global, key: Key, owners: u32, count: u32) -> Result<Cells, AllocError>
         requires low_owners { 1 ≤ owners }
@@ -190,7 +190,8 @@ impl Cells {
     }
 
     /// Puts a free cell in front of the owner's list, which has none of that serial, for an edge to the vertex of the
-    /// serial in slot `target`, with rights that are not empty. False, and all as before, only where no cell is free.
+    /// serial in slot `target`, with rights that are not empty. False, and everything as before, only if no cell is
+    /// free.
     pub fn link(&mut self, owner: u32, target: u32, serial: u64, rights: Rights) -> bool
         requires owner { owner < length self.old.lists }
         requires none { HasNone (owned self.old.lists owner) serial }
@@ -247,7 +248,7 @@ impl Cells {
         self.free_count += 1;
     }
 
-    /// The cell of that serial in the owner's list; none where no cell of the list has it.
+    /// The cell of that serial in the owner's list; none if no cell of the list has it.
     pub fn find(&self, owner: u32, serial: u64) -> Option<u32>
         requires { owner < length self.now.lists }
         ensures { MatchOption result (HasNone (owned self.now.lists owner) serial) (λ c. (f : Found (owned self.now.lists owner) serial) × (c ≡ f.edge.cell)) }
@@ -264,7 +265,7 @@ impl Cells {
         None
     }
 
-    /// The first cell of the owner's list; none where it is empty.
+    /// The first cell of the owner's list; none if it is empty.
     pub fn first(&self, owner: u32) -> Option<u32>
         requires { owner < length self.now.lists }
         ensures { result ≡ first_cell (owned self.now.lists owner) }
@@ -280,7 +281,7 @@ impl Cells {
         cell_or_none(&self.cells, self.cells[cell as usize].next)
     }
 
-    // The cell of that number, in whosever list it stands.
+    // The cell of that number, whichever list it is in.
     fn cell(&self, number: u32) -> &Cell
         requires { IsLinked self.now.lists number }
         ensures { (i : ℕ) (p : List Edge) (e : Edge) (r : List Edge) → Stands self.now.lists number i p e r → edge_of number result.now ≡ e }

@@ -1,9 +1,9 @@
-//! The key that tells in which bucket of the index an edge lies.
+//! The key that determines in which bucket of the index an edge lies.
 ghost use Rattle.std.specs.Prelude.{◌≡◌, ◌<◌, ◌≤◌};
 ghost use Rattle.tg_cells.specs.Index.{bucket_of};
 
-/// The key of an index. Any two numbers do, and no answer depends on them. Two odd ones whose bits are well mixed spread edges evenly; where
-/// nobody can guess them, nobody can choose edges that all lie in one bucket.
+/// The key of an index. Any two numbers will do, and no answer depends on them. Two odd ones whose bits are well mixed
+/// spread edges evenly; if nobody can guess them, nobody can choose edges that all lie in one bucket.
 #[derive(Clone, Copy)]
 pub struct Key {
     /// What an edge's owner is multiplied by.
@@ -13,16 +13,17 @@ pub struct Key {
 }
 
 impl Key {
-    /// The key where none is given. Everybody can read it here, and with it choose edges that all lie in one bucket.
+    /// The key that is used if none is given. Everybody can read it here, and with it choose edges that all lie in one
+    /// bucket.
     pub const FIXED: Key = Key {
         owner: 0x9E37_79B9_7F4A_7C15,
         serial: 0x9FB2_1C65_1E98_DF25,
     };
 }
 
-// The bucket of an edge, among so many, a power of two. One owner's edges to 64 vertices made one after another lie side by side in the
-// heads, so that they share lines of the processor's cache, and among 64 buckets or more no two of them lie in one. Where each such block
-// begins, for each owner, the key tells.
+// The bucket of an edge, among this many, a power of two. One owner's edges to a block of 64 serials, which differ only
+// in their lowest six bits, lie side by side in the heads, so that they share lines of the processor's cache, and among
+// 64 buckets or more no two of them lie in one. The key determines where each block begins, for each owner.
 #[tactic(auto, unfolding(crate::specs::Index::bucket_of))]
 pub(crate) fn bucket_of(key: Key, owner: u32, serial: u64, buckets: usize) -> usize
     requires { 1 ≤ buckets }
