@@ -1,4 +1,4 @@
--- Rows over linked numbers, and what changed links leave of them.
+-- Rows over linked numbers, and what becomes of them when links change.
 use Rattle.std.proofs.Common.{◌≡◌, ◌≢◌, ℕ, zero, suc, ◌+◌, ◌<◌, ◌≤◌, List, [], ◌∷◌, ◌++◌, length, Some, None, ◌⊎◌, inl, inr, sym, ◌∙◌, subst, ap, refl, set, get_or, cond, ltb, true, false, eqb, eq-eqb, arith, length-set, length-append, get_or-set_same, get_or-set_other}
 use Rattle.std.proofs.lemmas.Bool.{cases_lt, cases_Bool, ne_eqb, lt-ltb, le-ltb, cond-true, cond-false}
 use Rattle.std.proofs.lemmas.List.{get_or_append_left, get_or_push}
@@ -15,7 +15,7 @@ at_same ls n l w = get_or-set_same ls n l _ w
 at_other : (ls : List Link) (n m : ℕ) (l : Link) → m ≢ n → link_at (set ls n l) m ≡ link_at ls m
 at_other ls n m l o = get_or-set_other ls n m l _ o
 
--- A row that is not longer than the fuel is what the walk gives.
+-- A row that is not longer than the fuel is what the walk returns.
 pub walk_links : (end : ℕ) (ls : List Link) (fuel before head : ℕ) (ns : List ℕ) → length ls ≤ end → Links end ls before head ns → length ns ≤ fuel → walk end ls fuel head ≡ ns
 walk_links end ls zero before head [] size c h = refl
 walk_links end ls (suc n) before head [] size c h = let test : eqb head end ≡ true = eq-eqb head end c in rw test refl
@@ -40,7 +40,7 @@ links_same end ls ms before head (n ∷ ns) size keeps c =
       subst (λ (l : Link). Links end ms n l.next ns) (sym same) (links_same end ls ms n (link_at ls n).next ns size (λ m w h. keeps m w (inr h)) c.3),
     )
 
--- The first number of a row has another before it.
+-- The first number of a row gets another before it.
 links_front : (end : ℕ) (ls : List Link) (before new head : ℕ) (ns : List ℕ) → Distinct ns → Links end ls before head ns → Links end (with_previous ls head new) new head ns
 links_front end ls before new head [] once c = c
 links_front end ls before new head (n ∷ ns) once c =
@@ -68,7 +68,7 @@ links_own end ls before head (m ∷ ns) n c h = elim h [
   | inr rest ↦ links_own end ls m (link_at ls m).next ns n c.3 rest
 ]
 
--- The number at the head of a row, and the one before a number, is one of the row's or what stands where it has none.
+-- The head of a row, and what is before a number, is one of the row's, or what takes its place if there is none.
 pub links_after : (end : ℕ) (ls : List Link) (before head : ℕ) (ns : List ℕ) → Links end ls before head ns → (head ≡ end) ⊎ Contains ns head
 links_after end ls before head [] c = inl c
 links_after end ls before head (n ∷ ns) c = inr (inl c.0)
@@ -90,7 +90,7 @@ links_head end ls before head (n ∷ ns) size c =
     let test : ltb head (length ls) ≡ true = lt-ltb head (length ls) (omega arith) in
     rw test (ap (λ (k : ℕ). Some k) is)
 
--- The links after one was written, or the next one was put behind them.
+-- The links after one was written, or the next one was appended.
 written-length : (ls : List Link) (n : ℕ) (l : Link) → n ≤ length ls → length (written ls n l) ≡ cond (ltb n (length ls)) (length ls) (length ls + 1)
 written-length ls n l w = elim (cases_lt n (length ls)) [
   | inl less ↦ (let test : ltb n (length ls) ≡ true = lt-ltb n (length ls) less in rw test (length-set ls n l))
@@ -122,7 +122,7 @@ written_other ls n l m w o = elim (cases_lt n (length ls)) [
   | inr past ↦ (let test : ltb n (length ls) ≡ false = le-ltb n (length ls) past in rw test (get_or_append_left ls (l ∷ []) _ m w))
 ]
 
--- The links after number n has come in front of the row that began at `head`.
+-- The links after number n was put in front of the row that began at `head`.
 abbrev pub led : List Link → ℕ → ℕ → ℕ → List Link
 led ls n head end = with_previous (written ls n (first_link head end)) head n
 
@@ -209,7 +209,7 @@ links_out end ls before head (m ∷ p) n r size once apart c =
           (links_out end ls m (link_at ls m).next p n r size once.1 (λ h. once.0 (contains_right p (n ∷ r) m (inr h))) c.3),
     )
 
--- The row's head moves on where the number had none before it.
+-- The row's head moves on if the number had none before it.
 pub head_moves : (end : ℕ) (ls : List Link) (head : ℕ) (p : List ℕ) (n : ℕ) (r : List ℕ) → length ls ≤ end → Links end ls end head (p ++ n ∷ r) → cond (eqb (link_at ls n).previous end) (link_at ls n).next head ≡ head_after p head (link_at ls n).next
 head_moves end ls head [] n r size c = cond-true (eqb (link_at ls n).previous end) (link_at ls n).next head (eq-eqb (link_at ls n).previous end c.2)
 head_moves end ls head (m ∷ p) n r size c =

@@ -4,7 +4,7 @@ use Rattle.std.proofs.lemmas.Bool.{cases_eq}
 use Rattle.tg_rights.specs.Membership.{Contains}
 use Rattle.tg_rights.proofs.MembershipLemmas.{contains_append, contains_left, contains_right, contains_around}
 
--- An element is the one in the middle, or of the rest.
+-- An element is the one in the middle, or one of the rest.
 pub contains_apart : {X : Type 0} (p r : List X) (y x : X) → Contains (p ++ y ∷ r) x → (x ≡ y) ⊎ Contains (p ++ r) x
 contains_apart p r y x h = elim (contains_append p (y ∷ r) x h) [
   | inl a ↦ inr (contains_left p r x a)
@@ -55,7 +55,7 @@ kept lists b x p r a y w is other h = elim (cases_eq a b) [
   | inr o ↦ subst (λ (l : List _). Contains l y) (sym (get_or-set_other lists b a (p ++ r) [] o)) h
 ]
 
--- What holds of each list and its head stays so, where one list was replaced and no other head changed.
+-- What holds of each list and its head still does if one list was replaced and no other head changed.
 pub each_set : {X : Type 0} (P : ℕ → ℕ → List X → Type 0) (end : ℕ) (hs gs : List ℕ) (lists : List (List X)) (b : ℕ) (xs : List X) → b < length lists → P b (get_or gs b end) xs → ((a : ℕ) → a ≢ b → get_or gs a end ≡ get_or hs a end)
     → ((a : ℕ) → a < length lists → a ≢ b → P a (get_or hs a end) (get_or lists a [])) → (a : ℕ) → a < length (set lists b xs) → P a (get_or gs a end) (get_or (set lists b xs) a [])
 each_set P end hs gs lists b xs within now heads others a w = elim (cases_eq a b) [

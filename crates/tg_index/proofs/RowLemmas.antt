@@ -14,7 +14,7 @@ has (n ∷ ns) m = elim (cases_eq m n) [
   | inr o ↦ elim (has ns m) [ inl h ↦ inl (inr h) | inr lacks ↦ inr (λ h. elim h [ inl e ↦ o e | inr k ↦ lacks k ]) ]
 ]
 
--- Numbers below m, each once, are at most m.
+-- A list of numbers below m, each there once, has at most m of them.
 pub few : (m : ℕ) (ns : List ℕ) → Distinct ns → ((n : ℕ) → Contains ns n → n < m) → length ns ≤ m
 few zero [] d w = omega arith
 few zero (n ∷ ns) d w = absurd (let none = w n (inl refl) in omega arith)

@@ -1,4 +1,4 @@
--- What each call makes of linked rows: the invariant holds of them, and the rows that they show are the ones promised.
+-- What each call does to linked rows: the invariant holds of them, and the rows that they show are the ones promised.
 use Rattle.std.proofs.Common.{◌≡◌, ◌≢◌, ℕ, ◌+◌, ◌<◌, ◌≤◌, List, [], ◌∷◌, ◌++◌, length, Some, None, inl, inr, sym, ◌∙◌, subst, ap, refl, set, get_or, map, cond, ltb, eqb, arith, length-set, replicate, get_or-set_same, get_or-set_other, Global, vec_capacity}
 use Rattle.std.proofs.lemmas.Bool.{cases_lt}
 use Rattle.std.proofs.lemmas.List.{ext_get_or, get_or-map, get_or_default, get_or-replicate, get_or_past, length-replicate, length-map, with_items_is}
@@ -15,7 +15,7 @@ use Rattle.tg_index.proofs.ListsLemmas.{each_set}
 use Rattle.tg_index.proofs.RowLemmas.{few, sound-put, sound-take, held_within}
 use Rattle.tg_index.proofs.LinksLemmas.{walk_links, links_from, links_before, links_after, links_head, led, led-length, led_row, led_other, joined, joined-length, joined_other, head_after, links_out, head_moves, head_own, head_other, heads_size}
 
--- What is shown is what the walks give.
+-- What is shown is what the walks return.
 pub shows_view : (s : Inside) (v : Rows) → Shows s v → view_of s ≡ v
 shows_view s v k =
     let size : s.size ≡ v.size = k.size in
@@ -108,7 +108,7 @@ read_next s v b n x p r is inside read at =
     let same : x ≡ link_at s.links.items n = read ∙ get_or_default s.links.items n x _ l.within in
     ap (λ (y : Link). cond (ltb y.next (length s.links.items)) (Some y.next) None) same ∙ links_head v.size s.links.items n (link_at s.links.items n).next r l.fits l.rest
 
--- A number comes in front of a row.
+-- A number is put in front of a row.
 leaves-put : (s : Inside) (v : Rows) (w : Vec Link Global) (g : Vec ℕ Global) (b n head : ℕ) → view_of s ≡ v → IsInside s → b < length v.lists → IsUnheld v.lists n → n ≤ v.used → n < v.size → head ≡ get_or s.heads.items b head → s.size ≤ vec_capacity w
     → w.items ≡ led s.links.items n head s.size → g.items ≡ set s.heads.items b n
     → Leaves (record { heads = g; links = w; size = s.size }) (record v { lists = set v.lists b (n ∷ row v.lists b); used = cond (ltb n v.used) v.used (v.used + 1) })

@@ -14,7 +14,7 @@ pub record Shows (s : Inside) (v : Rows) : Type 0 where
   pub rows : (b : ℕ) → b < length v.lists → Links v.size s.links.items v.size (get_or s.heads.items b v.size) (row v.lists b)
   pub sound : AreRows v
 
--- what the walks from all heads give. No row is longer than the numbers that were used.
+-- what the walks from all heads return. No row has more numbers than were used.
 abbrev pub view_of : Inside → Rows
 view_of s = record { lists = map (λ h. walk s.size s.links.items (length s.links.items) h) s.heads.items; used = length s.links.items; size = s.size }
 

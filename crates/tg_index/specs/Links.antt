@@ -7,14 +7,14 @@ use Rattle.tg_index.specs.declared.buckets.Link.{Link}
 abbrev pub link_at : List Link → ℕ → Link
 link_at ls n = get_or ls n (record { next = 0; previous = 0 })
 
--- the links after one of them, if it is one, has another neighbour
+-- the links once the one of a number, if there is one, has another neighbour
 abbrev pub with_previous : List Link → ℕ → ℕ → List Link
 with_previous ls n previous = set ls n (record (link_at ls n) { previous = previous })
 
 abbrev pub with_next : List Link → ℕ → ℕ → List Link
 with_next ls n next = set ls n (record (link_at ls n) { next = next })
 
--- the numbers that the links lead to from a head, at most so many
+-- the numbers that the links lead to from a head, at most this many
 abbrev pub walk : ℕ → List Link → ℕ → ℕ → List ℕ
 walk end ls zero head = []
 walk end ls (suc n) head = cond (eqb head end) [] (head ∷ walk end ls n (link_at ls head).next)
@@ -29,6 +29,6 @@ Links end ls before head (n ∷ ns) = (head ≡ n) × (n < length ls) × ((link_
 abbrev pub first_link : ℕ → ℕ → Link
 first_link next end = record { next = next; previous = end }
 
--- the links after that of a number was written, the next one that was not used before among them
+-- the links after that of a number was written, or appended if the number was not used before
 abbrev pub written : List Link → ℕ → Link → List Link
 written ls n l = cond (ltb n (length ls)) (set ls n l) (ls ++ l ∷ [])

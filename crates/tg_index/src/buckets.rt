@@ -8,7 +8,7 @@ ghost use Rattle.tg_index.specs.Links.{with_previous, with_next, first_link, wri
 use std::alloc::{AllocError, Global};
 use std::marker::Model;
 
-// The neighbours of a number in its row. They lie together, in 8 bytes: to take a number out reads both.
+// The neighbours of a number in its row. They lie together, in 8 bytes: taking a number out reads both.
 #[derive(Drop)]
 struct Link {
     next: u32,
@@ -20,10 +20,10 @@ struct Link {
 pub struct Buckets {
     // The first number of each bucket's row, its newest.
     heads: Vec<u32>,
-    // The links of the numbers that were used so far, by number, in room for all: that of a number that nobody used is
-    // not written.
+    // The links of the numbers that were used so far, by number, with room for all: that of a number that was never
+    // used is not written.
     links: Vec<Link>,
-    // The number of all numbers, which is none of them and ends each row.
+    // How many numbers there are, which is none of them and ends each row.
     size: u32,
 }
 
@@ -50,7 +50,7 @@ fn number_or_none(links: &[Link], number: u32) -> Option<u32>
     }
 }
 
-// The number, if it is one of those that were used, has another before it.
+// Links the number, if it is one of those that were used, back to another.
 fn set_previous(links: &mut [Link], number: u32, previous: u32)
     ensures { links.new ≡ with_previous links.old number previous }
 {
@@ -59,7 +59,7 @@ fn set_previous(links: &mut [Link], number: u32, previous: u32)
     }
 }
 
-// The number, if it is one of those that were used, has another after it.
+// Links the number, if it is one of those that were used, on to another.
 fn set_next(links: &mut [Link], number: u32, next: u32)
     ensures { links.new ≡ with_next links.old number next }
 {
@@ -68,7 +68,7 @@ fn set_next(links: &mut [Link], number: u32, next: u32)
     }
 }
 
-// Where a row has lost its first number, which had none before it, its head is the next one.
+// If a row has lost its first number, which had none before it, its head is the next one.
 fn set_head(heads: &mut [u32], bucket: usize, is_first: bool, next: u32)
     requires { bucket < length heads.old }
     ensures { heads.new ≡ cond is_first (set heads.old bucket next) heads.old }
@@ -78,7 +78,7 @@ fn set_head(heads: &mut [u32], bucket: usize, is_first: bool, next: u32)
     }
 }
 
-// The number is the first of a row from now on, with `next` after it.
+// Makes the number the first of a row, with `next` after it.
 fn write(links: &mut Vec<Link>, number: u32, next: u32, size: u32)
     requires used { number ≤ length links.old.items }
     requires within { number < size }
@@ -100,7 +100,7 @@ fn write(links: &mut Vec<Link>, number: u32, next: u32, size: u32)
 }
 
 impl Buckets {
-    /// Empty rows for that many buckets, and so many numbers from 0 on. The only error is that an allocation failed.
+    /// Empty rows for that many buckets, and that many numbers from 0 on. The only error is that an allocation failed.
     pub fn new(alloc: Global, buckets: u32, size: u32) -> Result<Buckets, AllocError>
         ensures { IfOk result (λ r. (length r.lists ≡ buckets) × (r.used ≡ 0) × (r.size ≡ size) × ((b : ℕ) → row r.lists b ≡ [])) }
     {
@@ -123,7 +123,7 @@ impl Buckets {
         self.heads.len()
     }
 
-    /// The first number of the bucket's row; none where it is empty.
+    /// The first number of the bucket's row; none if it is empty.
     pub fn first(&self, bucket: usize) -> Option<u32>
         requires { bucket < length self.now.lists }
         ensures { result ≡ first_of (row self.now.lists bucket) }
@@ -139,7 +139,7 @@ impl Buckets {
         number_or_none(&self.links, self.links[number as usize].next)
     }
 
-    /// Puts a number that is in no row in front of the bucket's row. The numbers come to be used in their order.
+    /// Puts a number that is in no row in front of the bucket's row. Numbers are first used in their order.
     pub fn put(&mut self, bucket: usize, number: u32)
         requires bucket { bucket < length self.old.lists }
         requires unheld { IsUnheld self.old.lists number }
