@@ -1,5 +1,5 @@
-//! The tests of tg_share, tg_wire and tg_talk, each in a module whose name begins with its crate's; those of calls in want of memory
-//! are in one that ends in `_growths`. They stand in one crate for the reason that those of tg_tests do.
+//! The tests of tg_share, tg_wire and tg_talk, each in a module whose name begins with its crate's; those of calls that
+//! lack memory are in one that ends in `_growths`. They are in one crate for the reason that those of tg_tests are.
 #![tactic(auto)]
 
 #[cfg(test)]

@@ -1,6 +1,6 @@
-//! What no clause says: that sessions are given and their commands entered, that the lock is free where it is said to be,
-//! and what cases that were worked by hand come to. Wherever a thread has to be at some point it is waited for in turns of
-//! 10 microseconds, which are counted; a test fails where they are used up.
+//! What no clause says: that sessions are given and their commands entered, that the lock is free where it is said to
+//! be, and the results of cases that were worked by hand. A thread that has to be at some point is waited for in turns
+//! of 10 microseconds, which are counted; a test fails if they are used up.
 ghost use Rattle.std.specs.Prelude.{◌≡◌, [], IfOk};
 ghost use Rattle.tg_share.specs.declared.locked.TheConstants.{PARTS};
 
@@ -28,7 +28,7 @@ pub const TAKE: u8 = 4;
 
 pub const GRANT: u8 = 8;
 
-/// What a session asks. Rights are given by their bits.
+/// What a session asks for. Rights are given by their bits.
 #[derive(Clone, Copy)]
 pub enum Ask {
     Take(u8, u64, u64),
@@ -40,14 +40,14 @@ pub enum Ask {
     Look(u64),
 }
 
-/// What it is told.
+/// The reply that it gets.
 #[derive(Clone, Copy)]
 pub enum Told {
     Done,
     Created(u64),
     Text(&'static str),
     Edges(&'static [(u64, u8)]),
-    /// Denied, since the label of the first vertex to the second lacks these rights.
+    /// Denied: the label from the first vertex to the second lacks these rights.
     Lacks(u64, u64, u8),
 }
 
@@ -61,7 +61,7 @@ fn text(alloc: Global, content: &str) -> Result<Text, AllocError> {
     Text::new(String::from_str(alloc, content)?).map_err(|_| AllocError)
 }
 
-/// The command that is asked.
+/// The command that is asked for.
 pub fn command(alloc: Global, ask: Ask) -> Result<Command, AllocError> {
     Ok(match ask {
         Ask::Take(bits, over, from) => Command::Take {
@@ -91,14 +91,14 @@ pub fn command(alloc: Global, ask: Ask) -> Result<Command, AllocError> {
     })
 }
 
-/// Whether the list is of these edges.
+/// Whether the edges found are these.
 fn are_edges(found: &[(u64, Rights)], listed: &[(u64, u8)]) -> bool {
     found.len() == listed.len()
         && found.iter().zip(listed.iter()).all(|(edge, wanted)| edge.0 == wanted.0
             && edge.1.bits() == wanted.1)
 }
 
-/// Whether the cause is that the label of the first vertex to the second lacks these rights.
+/// Whether the cause is that the label from the first vertex to the second lacks these rights.
 fn is_lack(cause: Cause, from: u64, to: u64, bits: u8) -> bool {
     cause
         == Cause::Missing {
@@ -108,7 +108,7 @@ fn is_lack(cause: Cause, from: u64, to: u64, bits: u8) -> bool {
         }
 }
 
-/// Whether the reply to a command of this rule tells so.
+/// Whether the reply to a command of this rule is the one that is wanted.
 pub fn tells(found: &Reply, rule: Rule, told: Told) -> bool {
     match told {
         Told::Done => matches!(found, Reply::Done),
@@ -177,7 +177,7 @@ pub fn opened(
 
 const TURNS: u32 = 1_000_000;
 
-/// What the threads of a case tell one another.
+/// What the threads of a case signal to one another.
 #[derive(Drop)]
 pub struct Board {
     /// What comes before a session's command has been done.
@@ -216,7 +216,7 @@ impl Board {
         self.is_late.store(true, Ordering::SeqCst);
     }
 
-    /// What came of a case in which no wait used up its turns.
+    /// The result of a case, if no wait used up its turns.
     pub fn in_time<T: Drop>(&self, found: Option<T>) -> Option<T> {
         if self.is_late.load(Ordering::SeqCst) {
             None
@@ -226,7 +226,7 @@ impl Board {
     }
 }
 
-/// Holds a session until it is released and the collector has paused so many times.
+/// Holds a session until it is released and the collector has paused this many times.
 #[derive(Drop)]
 pub struct Holds<'a> {
     pub board: &'a Board,
@@ -287,7 +287,7 @@ impl Gate for Tally {
     }
 }
 
-/// Whether the session asks so and is told so.
+/// Whether the session's command gets this reply.
 pub fn is_told<L: Ledger, R: Wait + Clock, G: Gate>(
     rt: &R,
     alloc: Global,
@@ -304,7 +304,7 @@ pub fn is_told<L: Ledger, R: Wait + Clock, G: Gate>(
     })
 }
 
-/// Whether the session is told so, line by line.
+/// Whether the session's commands get these replies, line by line.
 pub fn are_told<L: Ledger, R: Wait + Clock, G: Gate>(
     rt: &R,
     alloc: Global,
@@ -320,7 +320,7 @@ pub fn are_told<L: Ledger, R: Wait + Clock, G: Gate>(
     Ok(true)
 }
 
-/// A whole session; none where a line is told otherwise.
+/// A whole session; none if it is refused or a command does not get its reply.
 pub fn play<L: Ledger, R: Wait + Clock, G: Gate>(
     rt: &R,
     alloc: Global,
@@ -357,7 +357,7 @@ pub fn both<L: Ledger>(
     vec![in alloc; first, second].ok()
 }
 
-/// The list with one end more.
+/// The list with one more end.
 fn with_one<L: Ledger>(
     ended: Option<Vec<Ended<L>>>,
     one: Option<Ended<L>>,
@@ -367,7 +367,7 @@ fn with_one<L: Ledger>(
     Some(ended)
 }
 
-/// Closes, and once more where there was no room.
+/// Closes, and once more if there was no room.
 fn closed<L: Ledger>(shared: Shared<L>, ended: Vec<Ended<L>>) -> Closed<L>
     requires { L.parts ≡ PARTS }
 {
@@ -377,7 +377,7 @@ fn closed<L: Ledger>(shared: Shared<L>, ended: Vec<Ended<L>>) -> Closed<L>
     }
 }
 
-/// The vault, where the logs agree.
+/// The vault, if the logs agree.
 fn vault_in(settled: &Settled) -> Option<&Vault> {
     match settled {
         Settled::Agreed(vault) => Some(vault),
@@ -386,12 +386,12 @@ fn vault_in(settled: &Settled) -> Option<&Vault> {
     }
 }
 
-/// How many entries there are, where the logs agree.
+/// How many entries there are, if the logs agree.
 pub fn count_in(settled: &Settled) -> Option<u64> {
     Some(vault_in(settled)?.count())
 }
 
-/// The vault, where the logs agree and all sessions were counted.
+/// The vault, if the logs agree and all sessions were counted.
 fn vault_after<L: Ledger>(closed: &Closed<L>) -> Option<&Vault> {
     match closed {
         Closed::Done { settled, counted } => { if *counted { vault_in(settled) } else { None } }
@@ -399,7 +399,7 @@ fn vault_after<L: Ledger>(closed: &Closed<L>) -> Option<&Vault> {
     }
 }
 
-/// Whether the graph has the principals alone, and the right to take of alice over bob.
+/// Whether the graph has only the principals, and alice's right to take from bob.
 fn is_opening(vault: &Vault) -> bool {
     let graph = vault.opening();
     let subject = Some(Kind::Subject);
@@ -423,17 +423,18 @@ fn found_in<L: Ledger>(closed: &Closed<L>) -> Option<(Option<(u64, u64)>, bool)>
     }
 }
 
-/// What is seen of an answer of `close`.
+/// What is seen of the result of `Shared::close`.
 #[derive(Clone, Copy)]
 struct Seen {
-    /// How many entries there are, and whether the opening graph is that of alice and bob, where the logs agree and all
+    /// How many entries there are, and whether the opening graph is that of alice and bob, if the logs agree and all
     /// sessions were counted.
     agreed: Option<(u64, bool)>,
     /// Where the logs differ from the history, if they do, and whether all sessions were counted.
     found: Option<(Option<(u64, u64)>, bool)>,
 }
 
-/// How many entries there are, and whether the opening graph is as it was, where the logs agree and all sessions were counted.
+/// How many entries there are, and whether the opening graph is as it was, if the logs agree and all sessions were
+/// counted.
 fn count_and_opening<L: Ledger>(closed: &Closed<L>) -> Option<(u64, bool)> {
     let vault = vault_after(closed)?;
     Some((vault.count(), is_opening(vault)))
@@ -446,7 +447,7 @@ fn look_at<L: Ledger>(closed: &Closed<L>) -> Seen {
     }
 }
 
-/// Closes. No other function lets go of what that answers, as that costs most of its proof.
+/// Closes. No other function drops a `Closed`, as the drop costs most of the proof.
 fn close<L: Ledger>(shared: Shared<L>, ended: Vec<Ended<L>>) -> Seen
     requires { L.parts ≡ PARTS }
 {
@@ -454,7 +455,7 @@ fn close<L: Ledger>(shared: Shared<L>, ended: Vec<Ended<L>>) -> Seen
     look_at(&closed)
 }
 
-/// How many entries there are, where there are ends to close with, the logs agree and all sessions were counted.
+/// How many entries there are, if there are ends to close with, the logs agree and all sessions were counted.
 pub fn agreed<L: Ledger>(shared: Shared<L>, ended: Option<Vec<Ended<L>>>) -> Option<u64>
     requires { L.parts ≡ PARTS }
 {
@@ -528,7 +529,7 @@ fn create_look_and_collect<L: Ledger + Send + Sync, R: Threads + Wait + Clock + 
     )
 }
 
-/// How many entries there are in the end, where all was told as worked out, and how many times the collector paused.
+/// How many entries there are in the end, if all replies are as worked out, and how many times the collector paused.
 fn hold_a_create<L: Ledger + Send + Sync, R: Threads + Wait + Clock + Sync>(
     rt: &R,
     alloc: Global,
@@ -548,8 +549,8 @@ fn hold_a_create<L: Ledger + Send + Sync, R: Threads + Wait + Clock + Sync>(
     (agreed(shared, ended), pauses)
 }
 
-/// Alice is held between the store and the shade until bob was answered and the collector has made 100 steps: so the lock
-/// is free. The collector pauses after each of its 101 steps but the last.
+/// Alice is held between the store and the shade until bob has his reply and the collector has made 100 steps: so the
+/// lock is free. The collector pauses after each of its 101 steps but the last.
 #[test]
 fn held_create(rt: HostRuntime) -> Result<(), AllocError> {
     let vault = opened(&rt, rt.alloc(), 8, 8, &[(1, TAKE, 2)])?;
@@ -627,7 +628,7 @@ fn a_collector_frees_in_two_cycles(rt: HostRuntime) -> Result<(), AllocError> {
     Ok(())
 }
 
-/// A session of alice over a vault of so many slots and no edges, and then two calls of the collector.
+/// A session of alice over a vault of this many slots and no edges, and then two calls of the collector.
 struct Tour {
     slots: u64,
     lines: &'static [(Ask, Told)],
@@ -652,8 +653,8 @@ const THREE: &[(Ask, Told)] = &[
     (Ask::Remove(READ, 5), Told::Done),
 ];
 
-/// A cycle shades alice and bob in one step, takes each grey vertex under scan and makes it black in two, as none has an
-/// edge any more, goes to the sweep in one, sweeps each slot in one and ends in one.
+/// A cycle shades alice and bob in one step, takes each grey vertex under scan and makes it black in two, as none has
+/// an edge any more, goes to the sweep in one, sweeps each slot in one and ends in one.
 const TOURS: &[Tour] = &[
     Tour {
         slots: 3,
@@ -681,8 +682,8 @@ const TOURS: &[Tour] = &[
         worked: NOTHING,
         last: A_CYCLE,
     },
-    // With three such documents 1 + 5 * 2 + 1 + 8 + 1 = 21 steps. The second cycle frees them in 1 + 2 * 2 + 1 + 8 + 1 = 15,
-    // and of 15 are the others too: 330 in 4,950 steps. Then 14 steps are left, and the next ends a cycle.
+    // With three such documents 1 + 5 * 2 + 1 + 8 + 1 = 21 steps. The second cycle frees them in 1 + 2 * 2 + 1 + 8 + 1
+    // = 15, and the others have 15 too: 330 in 4,950 steps. Then 14 steps are left, and the next ends a cycle.
     Tour {
         slots: 8,
         lines: THREE,
@@ -696,8 +697,8 @@ const TOURS: &[Tour] = &[
     },
 ];
 
-/// Whether the collector's calls do what they should, alice pauses once for each line, after its store, and the collector so
-/// many times between its steps.
+/// Whether the collector's calls do what they should, alice pauses once for each line, after its store, and the
+/// collector as many times as the tour says, between its steps.
 fn is_as_counted<L: Ledger, R: Wait + Clock>(
     rt: &R,
     alloc: Global,
@@ -721,7 +722,7 @@ fn is_as_counted<L: Ledger, R: Wait + Clock>(
         && collected.pauses() == (0, tour.pauses)
 }
 
-/// No step of the collector is made but by its own calls, and these make as many as they should.
+/// Only the collector's own calls make steps of it, and they make as many as they should.
 #[test]
 fn steps_and_pauses_are_counted(rt: HostRuntime) -> Result<(), AllocError> {
     for tour in TOURS {
@@ -731,7 +732,7 @@ fn steps_and_pauses_are_counted(rt: HostRuntime) -> Result<(), AllocError> {
     Ok(())
 }
 
-/// The seat of a session that is held with its target. The seats below `others` but that one have a session meanwhile.
+/// The seat of a session that is held with its target. The other seats below `others` have a session meanwhile.
 #[derive(Clone, Copy)]
 struct Seats {
     held: u64,
@@ -740,7 +741,7 @@ struct Seats {
 
 const LOOKED: (Ask, Told) = (Ask::Look(1), Told::Edges(&[]));
 
-/// Alice, who has no edges, looks at herself on each of the other seats in turn. None where she is told otherwise.
+/// Alice, who has no edges, looks at herself on each of the other seats in turn. None if she gets another reply.
 fn look_from_others<L: Ledger, R: Wait + Clock>(
     rt: &R,
     alloc: Global,
@@ -770,8 +771,8 @@ fn remove_and_look<L: Ledger, R: Wait + Clock>(
     Some(ended)
 }
 
-/// Once the first session of alice is held with its document, her other ones have their turns, and the collector ends two
-/// cycles.
+/// Once the first session of alice is held with its document, her other ones have their turns, and the collector ends
+/// two cycles.
 fn remove_meanwhile<L: Ledger, R: Wait + Clock>(
     rt: &R,
     alloc: Global,
@@ -820,8 +821,8 @@ fn hold_a_target<L: Ledger + Send + Sync, R: Threads + Wait + Clock + Sync>(
     (worked, agreed(shared, ended))
 }
 
-/// A target that is not yet shaded keeps its slot through two cycles, though no edge leads to it; so it does though each of
-/// the 63 other seats has a session meanwhile, which shades what it has itself.
+/// A target that is not yet shaded keeps its slot through two cycles, though no edge leads to it; it does so even if
+/// each of the 63 other seats has a session meanwhile, which shades what it has itself.
 #[test]
 fn target_held_through_two_cycles(rt: HostRuntime) -> Result<(), AllocError> {
     for (held, others, entries) in [(0, 0, 2), (31, 64, 65)] {
@@ -833,7 +834,7 @@ fn target_held_through_two_cycles(rt: HostRuntime) -> Result<(), AllocError> {
     Ok(())
 }
 
-/// Which of two sessions' ends are handed in, in which order.
+/// Which of two sessions' ends are handed in, and in which order.
 #[derive(Clone, Copy)]
 enum HandedIn {
     InOrder,
@@ -842,7 +843,7 @@ enum HandedIn {
     SecondAlone,
 }
 
-/// Leaves of two sessions' ends those that are handed in.
+/// Keeps those of two sessions' ends that are handed in.
 fn hand_in<L: Ledger>(ended: &mut Vec<Ended<L>>, order: HandedIn) {
     match order {
         HandedIn::InOrder => {}
@@ -866,8 +867,8 @@ fn play_two<L: Ledger, R: Wait + Clock>(
     both(alloc, first, second)
 }
 
-/// Where the logs differ from the history, if they do, and whether all sessions were counted, where alice sits twice on
-/// a seat, one session after the other.
+/// Where the logs differ from the history, if they do, and whether all sessions were counted, after two sessions of
+/// alice on a seat, one after the other.
 fn close_two<L: Ledger, R: Wait + Clock>(
     rt: &R,
     alloc: Global,
@@ -906,7 +907,7 @@ fn logs_are_settled_as_handed_in(rt: HostRuntime) -> Result<(), AllocError> {
     Ok(())
 }
 
-/// The fault of a session; none where it is given, and ended at once.
+/// The fault of a session; none if it is given, and ended at once.
 fn fault<L: Ledger, R: Wait>(
     rt: &R,
     alloc: Global,
@@ -923,7 +924,7 @@ fn fault<L: Ledger, R: Wait>(
     }
 }
 
-/// The faults of sessions beside one of alice on seat 0, and of one on that seat once she has left.
+/// The faults of sessions while alice has one on seat 0, and of one on that seat once she has left.
 fn faults<L: Ledger, R: Wait>(
     rt: &R,
     alloc: Global,

@@ -1,6 +1,6 @@
-//! Calls that are refused their memory and made again: tests/faults/growths.py refuses each allocation of these tests
-//! in turn.
-//! A session that is told otherwise ends a test like preparations that are refused; where memory was refused before, that shows.
+//! Calls that lack memory and are made again: tests/faults/growths.py makes each allocation of these tests fail in
+//! turn. A session that gets another reply ends a test like preparations that lack memory; if memory ran out before,
+//! that shows.
 ghost use Rattle.std.specs.Prelude.{◌≡◌, []};
 ghost use Rattle.tg_share.specs.declared.locked.TheConstants.{PARTS};
 
@@ -18,7 +18,7 @@ use tg_audit::{SeatLog, Settled, settle};
 use tg_share::{Closed, Ended, Gate, Open, PARTS, Session, Shared};
 use tg_vault::{AskFault, Vault};
 
-/// Whether the session asks so and is told so; none where memory is refused.
+/// Whether the session's command gets this reply; none if memory runs out.
 fn is_told_at_once<L: Ledger, R: Wait + Clock, G: Gate>(
     rt: &R,
     alloc: Global,
@@ -36,7 +36,7 @@ fn is_told_at_once<L: Ledger, R: Wait + Clock, G: Gate>(
     })
 }
 
-/// Whether the session is told so, line by line. Where memory is refused it asks again.
+/// Whether the session's commands get these replies, line by line. If memory runs out it asks again.
 fn are_told_again<L: Ledger, R: Wait + Clock + Print, G: Gate>(
     rt: &R,
     alloc: Global,
@@ -59,7 +59,7 @@ fn are_told_again<L: Ledger, R: Wait + Clock + Print, G: Gate>(
     Ok(true)
 }
 
-/// How many entries there are after a session of alice, who asks again where memory is refused, and how many times she
+/// How many entries there are after a session of alice, who asks again if memory runs out, and how many times she
 /// paused after a store and between steps.
 fn play_again<L: Ledger, R: Wait + Clock + Print>(
     rt: &R,
@@ -83,8 +83,8 @@ fn play_again<L: Ledger, R: Wait + Clock + Print>(
     agreed(shared, one(alloc, alice)).zip(Some(gate.pauses()))
 }
 
-/// A submit that is refused enters nothing, in the history or in the log, and does not pause: in the end they agree, with
-/// one entry and one pause for each line.
+/// A submit that lacks memory enters nothing, in the history or in the log, and does not pause: in the end they agree,
+/// with one entry and one pause for each line.
 #[test]
 fn growth_refused_in_a_submit(rt: HostRuntime) -> Result<(), AllocError> {
     let vault = opened(&rt, rt.alloc(), 8, 8, &[(1, TAKE, 2)])?;
@@ -104,7 +104,7 @@ fn are_both<L: Ledger>(ended: &[Ended<L>]) -> bool {
     }
 }
 
-/// Whether these are their logs, beside a vault with the two entries.
+/// Whether these are their logs, and the vault has the two entries.
 fn are_their_logs(vault: &Vault, logs: &[SeatLog]) -> bool {
     match logs {
         [alice, bob] => {
@@ -115,7 +115,7 @@ fn are_their_logs(vault: &Vault, logs: &[SeatLog]) -> bool {
     }
 }
 
-/// What settling comes to. Where memory is refused vault and logs are handed back, and settled again.
+/// The result of settling. If memory runs out, vault and logs are returned, and settled again.
 fn settled_again<R: Print>(rt: &R, alloc: Global, settled: Settled) -> Settled {
     match settled {
         Settled::NoMemory { vault, logs } => {
@@ -130,18 +130,18 @@ fn settled_again<R: Print>(rt: &R, alloc: Global, settled: Settled) -> Settled {
     }
 }
 
-/// How many entries there are, where the logs agree and all sessions were counted.
+/// How many entries there are, if the logs agree and all sessions were counted.
 fn count_of(settled: &Settled, counted: bool) -> Option<u64> {
     if counted { count_in(settled) } else { None }
 }
 
-/// The same, where what is settled may be settled again.
+/// The same, settled again if memory ran out.
 fn count_after<R: Print>(rt: &R, alloc: Global, settled: Settled, counted: bool) -> Option<u64> {
     let settled = settled_again(rt, alloc, settled);
     count_of(&settled, counted)
 }
 
-/// The same of a vault that is closed again, where all was handed back.
+/// The same for a vault that is closed again, if both ends were returned.
 fn closed_at_last<L: Ledger, R: Print>(
     rt: &R,
     shared: Shared<L>,
@@ -154,8 +154,8 @@ fn closed_at_last<L: Ledger, R: Print>(
     agreed(shared, ended)
 }
 
-/// How many entries there are, where the logs agree and all sessions were counted. Where there is no room for the list of
-/// logs, all is handed back, and closed again.
+/// How many entries there are, if the logs agree and all sessions were counted. If there is no room for the list of
+/// logs, everything is returned, and closed again.
 fn closed_again<L: Ledger, R: Print>(
     rt: &R,
     alloc: Global,
@@ -191,7 +191,7 @@ fn close_again<L: Ledger, R: Wait + Clock + Print>(
     closed_again(rt, alloc, shared, ended)
 }
 
-/// A close that is refused hands back the vault and the ends, or the logs.
+/// A close that lacks memory returns the vault with the ends or with the logs.
 #[test]
 fn growth_refused_in_a_close(rt: HostRuntime) -> Result<(), AllocError> {
     let vault = opened(&rt, rt.alloc(), 8, 8, &[(1, TAKE, 2)])?;

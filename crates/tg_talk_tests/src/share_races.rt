@@ -1,4 +1,4 @@
-//! A take beside the removal of the edge that it went by, in the midst of a marking.
+//! A take, while the edge that it went by is removed, in the middle of a marking.
 ghost use Rattle.std.specs.Prelude.{◌≡◌, []};
 ghost use Rattle.tg_share.specs.declared.locked.TheConstants.{PARTS};
 
@@ -42,7 +42,8 @@ const TAKEN: &[(Ask, Told)] = &[
     (Ask::Read(3), Told::Text("hi")),
 ];
 
-/// Alice takes the right to read bob's document, is held with it until the collector has paused 101 times, and reads it.
+/// Alice takes the right to read bob's document, is held with it until the collector has paused 101 times, and reads
+/// it.
 fn take_held<L: Ledger, R: Wait + Clock>(
     rt: &R,
     alloc: Global,
@@ -54,8 +55,9 @@ fn take_held<L: Ledger, R: Wait + Clock>(
     play(rt, alloc, shared, 0, "alice", TAKEN, &gate)
 }
 
-/// Bob creates his document, and the collector goes through a cycle and on until alice is black. Once the collector is held
-/// again, with its cursor at bob's edge to the document, he removes that. Beside his end, what the collector did at first.
+/// Bob creates his document, and the collector goes through a cycle and on until alice is black. Once the collector has
+/// gone on and is held, with its cursor at bob's edge to the document, he removes that edge. Returns his end, and what
+/// the collector did at first.
 fn remove_meanwhile<L: Ledger, R: Wait + Clock>(
     rt: &R,
     alloc: Global,
@@ -118,7 +120,7 @@ fn take_remove_and_collect<L: Ledger + Send + Sync, R: Threads + Wait + Clock + 
     )
 }
 
-/// What the collector did at first, and how many entries there are in the end, where all was told as worked out.
+/// What the collector did at first, and how many entries there are in the end, if all replies are as worked out.
 fn race<L: Ledger + Send + Sync, R: Threads + Wait + Clock + Sync>(
     rt: &R,
     alloc: Global,
@@ -138,8 +140,8 @@ fn race<L: Ledger + Send + Sync, R: Threads + Wait + Clock + Sync>(
     (worked, agreed(shared, ended))
 }
 
-/// When the collector has scanned alice and not yet bob, alice takes a right over a white document of his, and before she
-/// has shaded it bob removes the only other edge to it: she can read it when that cycle and further ones have ended.
+/// When the collector has scanned alice and not yet bob, she takes a right over a white document of his, and he removes
+/// the only other edge to it before she has shaded it: she can read it when that cycle and further ones have ended.
 #[test]
 fn take_while_the_other_edge_is_removed(rt: HostRuntime) -> Result<(), AllocError> {
     let vault = opened(&rt, rt.alloc(), 3, 8, &[(1, TAKE | GRANT, 2)])?;

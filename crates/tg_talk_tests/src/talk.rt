@@ -1,4 +1,4 @@
-//! Talks over memory: what is answered, what the logs come to, and a reader and a writer that fail at each of their calls.
+//! Talks over memory: the answers, how the logs settle, and a reader and a writer that fail at each of their calls.
 ghost use Rattle.std.specs.Prelude.{◌≡◌, [], IfOk, IfSome, false};
 ghost use Rattle.tg_share.specs.declared.locked.TheConstants.{PARTS};
 ghost use Rattle.tg_talk.specs.Devices.{has_failed, owed};
@@ -33,16 +33,16 @@ pub fn opened(alloc: Global) -> Option<Vault>
     Vault::new(alloc, config).ok()
 }
 
-/// What a talk over these devices comes to.
+/// The result of a talk.
 #[derive(Clone, Copy, Debug, PartialEq, Eq)]
 pub struct Came {
     pub lines: u64,
     pub fault: Option<TalkFault>,
-    /// How many entries there are, where logs and history agree and each session is counted.
+    /// How many entries there are, if logs and history agree and each session is counted.
     pub entries: Option<u64>,
 }
 
-/// The list of the session's end, if it was given; empty where there is no memory.
+/// The list of the session's end, if it was given; empty if memory runs out.
 fn list_of<L: Ledger>(alloc: Global, ended: Option<Ended<L>>) -> Vec<Ended<L>> {
     match ended {
         Some(ended) => vec![in alloc; ended].unwrap_or(Vec::new(alloc)),
@@ -50,7 +50,7 @@ fn list_of<L: Ledger>(alloc: Global, ended: Option<Ended<L>>) -> Vec<Ended<L>> {
     }
 }
 
-/// A talk on seat 0 over a vault of its own, and the settle of its log.
+/// A talk on seat 0 over a vault of its own, and the settlement of its log.
 pub fn talk_alone<L: Ledger, D: Read, W: Write + Drop, R: Wait + Clock>(
     rt: &R,
     alloc: Global,
@@ -80,7 +80,7 @@ pub fn talk_alone<L: Ledger, D: Read, W: Write + Drop, R: Wait + Clock>(
     }
 }
 
-/// A talk over these devices, on a vault of its own; where there is memory for it.
+/// A talk over these devices, on a vault of its own; if there is memory for it.
 pub fn talk_over<D: Read + Drop, W: Write + Drop, R: Wait + Clock>(
     rt: &R,
     alloc: Global,
@@ -94,7 +94,7 @@ pub fn talk_over<D: Read + Drop, W: Write + Drop, R: Wait + Clock>(
     Ok(talk_alone::<Brand, _, _, _>(rt, alloc, &mut reader, &mut writer, blank, vault))
 }
 
-/// What a whole talk over the lines comes to.
+/// The result of a whole talk over the lines.
 const WHOLE: Came = Came {
     lines: 6,
     fault: None,
@@ -110,8 +110,8 @@ fn talk_over_memory(rt: HostRuntime) -> Result<(), AllocError> {
     Ok(())
 }
 
-/// A talk over the lines, with a reader and a writer of single bytes, the former for so many reads and the latter for so
-/// many writes. What is written is put behind `out`.
+/// A talk over the lines, with a reader and a writer of single bytes, the former for this many reads and the latter for
+/// this many writes. What is written is appended to `out`.
 fn talk_by_bytes<R: Wait + Clock>(
     rt: &R,
     alloc: Global,
@@ -144,7 +144,7 @@ fn each_read_of_a_talk_fails_in_turn(rt: HostRuntime) -> Result<(), AllocError> 
     Ok(())
 }
 
-/// Whether each write fails in turn as it should, where writes fail so: all bytes before it are there.
+/// Whether each write fails in turn as it should, if writes fail in this way: all bytes before it are there.
 fn fails_at_each_write<R: Wait + Clock>(
     rt: &R,
     alloc: Global,
@@ -177,13 +177,13 @@ fn a_talk_over_single_bytes_is_whole(rt: HostRuntime) -> Result<(), AllocError> 
     Ok(())
 }
 
-/// A line that writes a text begins so, ends so, and is read back behind it.
+/// The lines up to a text that one of them writes; then those after it, the last of which reads it back.
 const WRITE: &[u8] =
     b"{\"name\":\"alice\",\"op\":\"hello\"}\n{\"kind\":\"document\",\"op\":\"create\",\"rights\":\"rw\"}\n{\"op\":\"write\",\"over\":3,\"text\":\"";
 
 const READ: &[u8] = b"\"}\n{\"op\":\"read\",\"over\":3}\n";
 
-/// The answers begin and end so.
+/// The answers up to that text; then what comes after it.
 const WRITTEN: &[u8] =
     b"{\"ok\":\"hello\",\"vertex\":1}\n{\"ok\":\"created\",\"vertex\":3}\n{\"ok\":\"done\"}\n{\"ok\":\"text\",\"text\":\"";
 

@@ -1,5 +1,5 @@
-//! A talk where memory is refused: the lines that it took are answered, the logs agree, and a talk of its own has all answers.
-//! tests/faults/growths.py refuses each allocation of the test in turn.
+//! A talk that lacks memory: the lines that it took are answered, all but perhaps the last, the logs agree, and a
+//! second talk has all answers. tests/faults/growths.py makes each allocation of the test fail in turn.
 use crate::talk::{ANSWERS, Came, LINES, talk_over};
 use std::alloc::{AllocError, Global};
 use std::io::Print;
@@ -20,7 +20,7 @@ fn says_no_memory(out: &[u8]) -> bool {
     out.windows(REFUSAL.len()).any(|found| found == REFUSAL)
 }
 
-/// Each line that was taken has an answer, but for a last one whose reply found no memory, and the logs agree.
+/// Whether each line that was taken has an answer, but for a last one whose reply lacked memory, and the logs agree.
 fn is_left_whole(came: Came, out: &[u8]) -> bool {
     let answers = answers_in(out);
     let told = match came.fault {
@@ -32,12 +32,12 @@ fn is_left_whole(came: Came, out: &[u8]) -> bool {
     told && came.entries.is_some()
 }
 
-/// All lines are answered as they are with memory, and the two commands are entered.
+/// Whether all lines are answered as they are with ample memory, and the two commands are entered.
 fn is_answered(came: Came, out: &[u8]) -> bool {
     came.lines == 6 && came.fault.is_none() && came.entries == Some(2) && out == ANSWERS
 }
 
-/// A talk over the lines, and once more where memory was refused.
+/// A talk over the lines, and once more if memory ran out.
 fn talk_again<R: Abort + Clock + Print + Wait>(
     rt: &R,
     alloc: Global,
@@ -53,13 +53,13 @@ fn talk_again<R: Abort + Clock + Print + Wait>(
     talk_over(rt, alloc, LINES, &mut *out)
 }
 
-/// A talk that is refused memory leaves all that it did in the logs; one that is not answers each line.
+/// A talk that lacks memory leaves all that it did in the logs; one with enough answers each line.
 #[test]
 fn growth_refused_in_talk(rt: HostRuntime) -> Result<(), AllocError> {
     let mut out = Vec::with_capacity(rt.alloc(), 1_024)?;
     let came = talk_again(&rt, rt.alloc(), &mut out)?;
     if came.entries.is_none() {
-        // The logs found no memory.
+        // There was no memory for the logs.
         return Err(AllocError);
     }
     assert!(rt; is_answered(came, &out));

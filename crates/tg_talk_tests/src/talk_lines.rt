@@ -43,7 +43,8 @@ fn no_bytes_are_the_end(rt: HostRuntime) -> Result<(), AllocError> {
     Ok(())
 }
 
-/// What is written of a line through a writer of single bytes, for so many writes; and whether it has failed.
+/// What is written of a line through a writer of single bytes that works for this many writes; and whether it has
+/// failed.
 fn sent(alloc: Global, how: Failure, writes: usize) -> (Vec<u8>, bool) {
     let mut bytes = Vec::new(alloc);
     let mut writer = Watched::new(FailingWriter {

@@ -10,7 +10,7 @@ use tg_wire::{
     write_swept_in, write_verdict,
 };
 
-/// An event line, and what it asks for: the op, or of a hello the name, and the seat.
+/// An event line, and what it asks for: the op, or the name of a hello, and the seat.
 struct EventCase {
     line: &'static [u8],
     word: &'static str,
@@ -83,8 +83,8 @@ fn each_kind_of_event_line_is_read(rt: HostRuntime) {
     }
 }
 
-/// A step line of actor 1, and its command: the rule, the bits of the rights, and the vertices in the order in which the
-/// command has them.
+/// A step line of actor 1, and its command: the rule, the bits of the rights, and the vertices in the order in which
+/// the command has them.
 struct StepCase {
     line: &'static [u8],
     rule: Rule,
@@ -352,7 +352,7 @@ fn replies_and_answers_are_written(rt: HostRuntime) -> Result<(), AllocError> {
     Ok(())
 }
 
-/// The line is this one; its room comes back.
+/// Whether the line is this one; its room comes back.
 fn was(room: &mut LineRoom, line: Vec<u8>, wanted: &[u8]) -> bool {
     let same = line.as_slice() == wanted;
     room.take_back(line);

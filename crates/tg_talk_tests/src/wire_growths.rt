@@ -1,6 +1,6 @@
-//! Each call that takes memory, where it is refused: the call says so, and made again it answers as the protocol has it.
-//! tests/faults/growths.py refuses each allocation of a test in turn. A line that is read as a flat list of members
-//! takes none.
+//! Each call that allocates, if an allocation fails: the call says so, and made again it returns what the protocol
+//! says. tests/faults/growths.py makes each allocation of a test fail in turn. A line that is read as a flat list of
+//! members allocates only for a name or a text that its command keeps.
 use std::alloc::Global;
 use tg_graph::Verdict;
 use tg_rights::{Cause, Command, Reply, Rights, Rule};
@@ -10,7 +10,7 @@ use tg_wire::{
     write_reply, write_reply_in, write_swept, write_verdict,
 };
 
-/// What the call answers, made again where memory is refused.
+/// What the call returns, made again if memory runs out.
 fn answered<F: Fn(Global) -> Result<bool, WireFault>>(
     rt: &HostRuntime,
     call: F,
@@ -27,7 +27,7 @@ fn answered<F: Fn(Global) -> Result<bool, WireFault>>(
     }
 }
 
-/// The configuration of an audit is read as it stands, with what it leaves out.
+/// The configuration of an audit is read as it is written, with defaults for what it leaves out.
 fn the_configuration_is_read(alloc: Global) -> Result<bool, WireFault> {
     let config = read_config(
         alloc,
@@ -56,7 +56,7 @@ fn growth_refused_in_read_goal(rt: HostRuntime) {
     assert!(rt; matches!(&answered(&rt, the_goal_is_read), Ok(true)));
 }
 
-/// The step of a derivation, its op with an escape: without one it takes no memory.
+/// The step of a derivation, its op with an escape: without one it allocates nothing.
 fn the_step_is_read(alloc: Global) -> Result<bool, WireFault> {
     let step = read_step(
         alloc,
@@ -88,8 +88,9 @@ fn growth_refused_in_read_line(rt: HostRuntime) {
     assert!(rt; matches!(&answered(&rt, the_hello_is_read), Ok(true)));
 }
 
-/// Lines that are flat, each with its fault, if it has one: each kind of value, the least and the greatest number, spaces at
-/// every place, and as many members as there may be. None has a name or a text that its command keeps.
+/// Lines that are flat, each with its fault, if it has one: each kind of value, the least and the greatest number,
+/// spaces at every place, and as many members as there may be. None has a name or a text that its command keeps, but
+/// for an empty text.
 const FLAT: &[(&[u8], Option<WireFault>)] = &[
     (b"{\"op\":\"read\",\"over\":3,\"seat\":0}", None),
     (b"{\"over\":18446744073709551615}", Some(WireFault::NoOp)),
@@ -124,8 +125,8 @@ fn fault_of<T>(found: &Result<T, WireFault>) -> Option<WireFault> {
     }
 }
 
-/// A reader that read each line as a tree would keep its contract; it would be slow. A tree takes memory, a flat line none:
-/// tests/faults/growths.py wants that this test makes no allocation.
+/// A reader that read each line as a tree would keep its contract, but be slow. A tree takes memory, a flat line none:
+/// tests/faults/growths.py checks that this test makes no allocation.
 #[test]
 fn no_growth_in_flat_lines(rt: HostRuntime) {
     for (line, fault) in FLAT {
@@ -136,7 +137,7 @@ fn no_growth_in_flat_lines(rt: HostRuntime) {
     }
 }
 
-/// The line has this fault, where there is memory to see it.
+/// Whether the line has this fault, if there is memory to see it.
 fn is_refused(alloc: Global, line: &[u8], wanted: WireFault) -> Result<bool, WireFault> {
     match read_line(alloc, line) {
         Ok(_) => Ok(false),
@@ -167,7 +168,7 @@ fn all_are_refused(alloc: Global) -> Result<bool, WireFault> {
     Ok(true)
 }
 
-/// A line that has a fault is answered with it, or with the want of memory.
+/// A line that has a fault is refused for it, or for lack of memory.
 #[test]
 fn growth_refused_in_lines_that_are_refused(rt: HostRuntime) {
     assert!(rt; matches!(&answered(&rt, all_are_refused), Ok(true)));
@@ -183,7 +184,7 @@ fn growth_refused_in_write_reply(rt: HostRuntime) {
     assert!(rt; matches!(&answered(&rt, the_reply_is_written), Ok(true)));
 }
 
-/// The reply of a create is written in the room, which then comes back; once more where memory is refused.
+/// Whether the reply of a create is written in the room, which then comes back; written again if memory runs out.
 fn is_written_in(rt: &HostRuntime, room: &mut LineRoom, vertex: u64, wanted: &[u8]) -> bool {
     let reply = Reply::Created(vertex);
     let line = match write_reply_in(room, &reply) {
@@ -201,7 +202,7 @@ fn is_written_in(rt: &HostRuntime, room: &mut LineRoom, vertex: u64, wanted: &[u
     same
 }
 
-/// Room that could not be taken is taken with the next line, and kept for the one behind it.
+/// Room that could not be allocated is allocated with the next line, and kept for the one after it.
 #[test]
 fn growth_refused_in_write_reply_in(rt: HostRuntime) {
     let room = &mut LineRoom::new(rt.alloc());
