@@ -16,7 +16,6 @@ it counts as failed.
 import heapq
 import os
 import re
-import resource
 import shutil
 import subprocess
 import sys
@@ -32,6 +31,7 @@ from pathlib import Path
 FLAGS, MOST = ["--jobs", "1"], 24
 # Words of items and contracts, with which an edit may change more than a body.
 ITEMS = re.compile(r"\b(?:fn|impl|struct|enum|trait|mod|use|const|static|extern|macro_rules|ghost|requires|ensures|prove)\b|#\s*!?\[")
+CONSTANT = re.compile(rb"\s*(?:pub(?:\([a-z]+\))? )?const (\w+):")
 # What a report says of a written proof that names what an edit took away, and what the toolchain's rule says of such an edit.
 NAMES = re.compile(r"has no field|is not in scope|has no `|was not admitted")
 BY_FORM = "only because a proof file names what the edit took away"
@@ -336,12 +336,24 @@ class Trial:
                 if own and self.symbol(f, 0) in report.proved and self.symbol(f, number) not in report.proved:
                     edit.result = True, f"refused: {own[0][:160]}"
 
+    def constants(self, edit):
+        """The constants whose lines an edit changes; none if it changes anything else."""
+        found = []
+        for file, text in edit.texts.items():
+            for was, row in zip(self.source.data.get(file, b"").split(b"\n"), text.encode().split(b"\n")):
+                found += [CONSTANT.match(was)] if was != row else []
+        return [it[1] for it in found] if all(found) else []
+
     def about(self, edit):
-        """The functions that an edit is about: the laws if it changes a definition, else those of the modules that it
-        changes."""
+        """The functions that an edit is about: the laws if it changes a definition, those that name a constant that it changes, or else
+        those of the modules that it changes."""
         if any(not it.startswith("src/") for it in edit.texts):
             laws = [f for f in self.source.functions if not f.block and not f.params and not f.body]
             return ["::".join(self.path(f)) for f in laws]
+        named = [re.compile(rb"\b%s\b" % it) for it in self.constants(edit)]
+        users = [f for f in self.source.functions if any(it.search(self.source.data[f.file], f.first, f.end) for it in named)]
+        if users:
+            return sorted({"::".join(self.path(f)) for f in users})
         modules = {f.module for f in self.source.functions if f.file in edit.texts}
         return [] if () in modules else ["::".join(it) for it in sorted(modules)]
 
@@ -423,9 +435,7 @@ class Planting:
         edits = [edit for trial in self.begun.values() for edit in trial.edits]
         dearest = sorted(edits, key=lambda it: -it.seconds)[:10]
         print("planted: dearest, in seconds: " + ", ".join(f"{it.name} {it.seconds:.0f}" for it in dearest))
-        used = resource.getrusage(resource.RUSAGE_CHILDREN)
-        checks = sum(it.checks for it in self.begun.values())
-        print(f"planted: {checks} checks, {(used.ru_utime + used.ru_stime) / 60:.1f} minutes of processor time")
+        print(f"planted: {sum(it.checks for it in self.begun.values())} checks")
         passed = sum(it.result[0] for it in edits)
         print(f"{passed} passed, {len(edits) - passed} failed", flush=True)
         return passed == len(edits)
