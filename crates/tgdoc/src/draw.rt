@@ -1,4 +1,4 @@
-//! The key of a server's vault, which nobody can guess.
+//! The key of a server's vault, drawn at random.
 ghost use Rattle.std.specs.Prelude.{◌≡◌, ◌%◌, ◌/◌, ◌^◌, bit_or};
 
 use std::random::RandomSource;
