@@ -53,8 +53,9 @@ rtlib = rt.rtlib
 
 
 def linked(kept, to):
-    """A copy of the work that checks have kept, by links: a check puts new files in the place of old ones, and writes into none."""
-    shutil.copytree(kept, to, copy_function=os.link)
+    """A copy of the work that checks have kept. What was proved is copied by links, since a check puts new files in its place; into the few
+    other files it writes, so these get a copy each."""
+    shutil.copytree(kept, to, copy_function=lambda one, other: (os.link if one.endswith(".oantt") else shutil.copy2)(one, other))
 
 
 def tried(crate, path, kept):
