@@ -24,7 +24,7 @@ import threading
 import time
 import types
 from concurrent.futures import ThreadPoolExecutor, as_completed
-from contextlib import contextmanager
+from contextlib import contextmanager, suppress
 from importlib.machinery import SourceFileLoader
 from pathlib import Path
 
@@ -103,13 +103,13 @@ def edits_of(crate, parts):
     return [Edit(crate, it) for it in files if it.endswith(".edit")]
 
 
-def ran(words, folder):
+def ran(words, folder, turns):
     """The output of a check, its status, and the seconds until each function's proof had ended after the one before
     it."""
     how = {"cwd": folder, "stdin": subprocess.DEVNULL, "stdout": subprocess.PIPE, "stderr": subprocess.STDOUT, "errors": "replace"}
     begun = last = time.monotonic()
     said, seconds = [], {}
-    with subprocess.Popen([*rtlib.guarded(), *words, "--progress"], **how) as process:
+    with subprocess.Popen([*rtlib.guarded(), *words, "--progress"], **how) as process, turns.minded(process.pid):
         for line in process.stdout:
             ended = re.match(r"checked (\S+), \d+ of \d+$", line)
             if ended:
@@ -118,6 +118,13 @@ def ran(words, folder):
                 said.append(line)
     last = time.monotonic()
     return types.SimpleNamespace(stdout="".join(said), returncode=process.returncode, seconds=seconds, elapsed=last - begun)
+
+
+def set_niceness(process, niceness):
+    """Gives the threads of a process this niceness, as far as it may be given."""
+    for thread in Path(f"/proc/{process}/task").glob("[0-9]*"):
+        with suppress(OSError):
+            os.setpriority(os.PRIO_PROCESS, int(thread.name), niceness)
 
 
 class Edit:
@@ -193,15 +200,15 @@ class Closed(Exception):
 
 
 class Turns:
-    """Lets this many run at once, and of those that wait the one that ranks first."""
+    """Lets this many run at once, with this niceness, and of those that wait the one that ranks first."""
 
-    def __init__(self, count, before=()):
-        self.free, self.before, self.is_closed = count, before, False
-        self.asked, self.waiting, self.changed = 0, [], threading.Condition()
+    def __init__(self, count, niceness=0):
+        self.free, self.niceness, self.is_closed = count, niceness, False
+        self.asked, self.waiting, self.processes, self.changed = 0, [], set(), threading.Condition()
 
     @contextmanager
     def turn(self, rank):
-        """Waits for a turn, and gives the words to put before a command that is run in it."""
+        """Waits for a turn, and holds it."""
         with self.changed:
             self.asked += 1
             own = rank, self.asked
@@ -213,16 +220,30 @@ class Turns:
             self.free -= 1
             self.changed.notify_all()
         try:
-            yield self.before
+            yield
         finally:
             with self.changed:
                 self.free += 1
                 self.changed.notify_all()
 
-    def grow(self, more, before=()):
-        """Lets this many more run at once, with these words before each command."""
+    @contextmanager
+    def minded(self, process):
+        """Runs the process with the niceness that those who run now have, until it ends."""
         with self.changed:
-            self.free, self.before = self.free + more, before
+            self.processes.add(process)
+            set_niceness(process, os.nice(0) + self.niceness)
+        try:
+            yield
+        finally:
+            with self.changed:
+                self.processes.discard(process)
+
+    def grow(self, more):
+        """Lets this many more run at once, and all of them, those that run already too, as fast as they can."""
+        with self.changed:
+            self.free, self.niceness = self.free + more, 0
+            for process in self.processes:
+                set_niceness(process, os.nice(0))
             self.changed.notify_all()
 
     def close(self):
@@ -293,7 +314,7 @@ class Trial:
 
     def check(self, texts, only, is_alone=False):
         """What a check says of these functions of the crate with these texts, over what the crate's checks have kept."""
-        with self.turns.turn((is_alone, self.rank)) as before, tempfile.TemporaryDirectory(prefix="planted-") as room:
+        with self.turns.turn((is_alone, self.rank)), tempfile.TemporaryDirectory(prefix="planted-") as room:
             for part in filter(os.path.isdir, (f"{self.crate.folder}/{it}" for it in rtlib.PARTS)):
                 shutil.copytree(part, f"{room}/{os.path.basename(part)}")
             for path, text in texts.items():
@@ -302,8 +323,8 @@ class Trial:
             is_first = not os.path.isdir(self.kept)
             is_first or linked(self.kept, f"{room}/kept")
             asked = [word for it in only for word in ("--only", it)]
-            words = [*before, rtlib.RATTLE, "check", *self.crate.words(FLAGS, keeps=False), *asked, "--incremental", f"{room}/kept"]
-            done = ran(words, room)
+            words = [rtlib.RATTLE, "check", *self.crate.words(FLAGS, keeps=False), *asked, "--incremental", f"{room}/kept"]
+            done = ran(words, room, self.turns)
             if is_first and os.path.isdir(f"{room}/kept"):
                 shutil.move(f"{room}/kept", self.kept)
         self.checks += 1
