@@ -5,7 +5,8 @@ use Rattle.std.proofs.lemmas.Bool.{cases_eq}
 use Rattle.tg_rights.specs.Membership.{Contains, Distinct}
 use Rattle.tg_slots.specs.declared.slots.Occupant.{Occupant}
 use Rattle.tg_slots.specs.Table.{Free, mark_of, IsSound, if_free, nones, indices, fresh}
-use Rattle.tg_slots.specs.Inside.{links, occupants, unused}
+use Rattle.tg_slots.specs.Inside.{links, unused}
+use Rattle.tg_slots.specs.Linked.{occupants}
 
 pub nones_length : (n : ℕ) → length (nones n) ≡ n
 nones_length zero = refl

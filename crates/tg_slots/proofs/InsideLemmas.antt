@@ -1,13 +1,12 @@
 -- The invariant of linked slots, and the table that they show.
-use Rattle.std.proofs.Common.{◌≡◌, ℕ, ◌<◌, ◌≤◌, List, [], ◌∷◌, length, Option, None, sym, ◌∙◌, subst, ap, refl, set, get_or, arith, map, vec_capacity, Global}
+use Rattle.std.proofs.Common.{◌≡◌, ℕ, ◌<◌, ◌≤◌, List, [], ◌∷◌, length, Option, None, sym, ◌∙◌, subst, ap, refl, set, get_or, arith, map}
 use Rattle.std.proofs.lemmas.List.{map-set, get_or-map}
-use Rattle.std.specs.declared.vec.Vec.{Vec}
-use Rattle.tg_slots.specs.Linked.{Linked}
+use Rattle.tg_slots.specs.Linked.{Linked, Shelved, occupants}
 use Rattle.tg_slots.specs.declared.slots.Occupant.{Occupant}
 use Rattle.tg_slots.specs.declared.slots.Slots.TheInside.{Inside}
 use Rattle.tg_slots.specs.Table.{Table, IsSound, if_free, if_grey}
 use Rattle.tg_slots.specs.Chain.{walk, Chain}
-use Rattle.tg_slots.specs.Inside.{links, occupants, listed, all, table, IsBehind, IsInside}
+use Rattle.tg_slots.specs.Inside.{links, listed, all, table, IsBehind, IsInside}
 use Rattle.tg_slots.proofs.TableLemmas.{at_most_length, grey_at_most, free_one-le, grey_one-le}
 use Rattle.tg_slots.proofs.ChainLemmas.{walk_chain}
 
@@ -51,9 +50,9 @@ shows_table end s t k =
     ∙ ap (λ (l : List ℕ). record { slots = t.slots; free = t.free; grey = l }) grey
 
 -- What holds of the slots that were used so far, and of those that were not.
-pub record Rests (entries : Vec Linked Global) (size : ℕ) (free : List ℕ) : Type 0 where
+pub record Rests (entries : Shelved) (size : ℕ) (free : List ℕ) : Type 0 where
   pub used : length entries.items ≤ size
-  pub room : size ≤ vec_capacity entries
+  pub room : size ≤ entries.room
   pub behind : IsBehind (length entries.items) size free
 
 pub shows_inside : (end : ℕ) (s : Inside) (t : Table) → Shows end s t → s.free_count ≡ length t.free → end ≤ 65536 → Rests s.entries s.size t.free → IsInside s

@@ -1,4 +1,5 @@
 pub mod TableLemmas
+pub mod ShelfLemmas
 pub mod FreshLemmas
 pub mod ChainLemmas
 pub mod InsideLemmas

@@ -1,17 +1,17 @@
 -- What each call does to linked slots: the invariant holds of them, and the table that they show is the one promised.
-use Rattle.std.proofs.Common.{◌≡◌, ◌≢◌, ℕ, zero, suc, ◌+◌, ◌-◌, ◌<◌, ◌≤◌, List, [], ◌∷◌, ◌++◌, length, Option, Some, None, ◌⊎◌, inl, inr, sym, ◌∙◌, subst, ap, refl, set, get_or, arith, length-set, length-append, eqb, ltb, true, false, eq-eqb, Global, vec_capacity}
+use Rattle.std.proofs.Common.{◌≡◌, ◌≢◌, ℕ, zero, suc, ◌+◌, ◌-◌, ◌<◌, ◌≤◌, List, [], ◌∷◌, ◌++◌, length, Option, Some, None, ◌⊎◌, inl, inr, sym, ◌∙◌, subst, ap, refl, set, get_or, arith, length-set, length-append, eqb, ltb, true, false, eq-eqb, Bor, IfSome, MatchOption}
+use Rattle.std.specs.Option.{option_map}
 use Rattle.std.proofs.lemmas.Bool.{cases_eq, cases_lt, ne_eqb, lt-ltb, le-ltb}
 use Rattle.std.proofs.Math.Seq.{map-set_same}
 use Rattle.tg_rights.specs.Membership.{Contains}
-use Rattle.tg_slots.specs.Linked.{Linked}
+use Rattle.tg_slots.specs.Linked.{Linked, Shelved, at, occupant_at, occupants}
 use Rattle.tg_slots.specs.declared.slots.Occupant.{Occupant}
 use Rattle.tg_slots.specs.declared.slots.Slots.TheInside.{Inside}
 use Rattle.tg_slots.specs.declared.colour.Colour.{Colour}
 use Rattle.tg_slots.specs.declared.colour.Colour.TheVariants.{White, Grey, Black}
-use Rattle.std.specs.declared.vec.Vec.{Vec}
-use Rattle.tg_slots.specs.Table.{Table, mark, mark_of, Has, Free, IsSound, slot, coloured, recoloured, with_text, grey_one, fresh, indices}
+use Rattle.tg_slots.specs.Table.{Table, mark, mark_of, Has, Free, IsSound, in_slot, slot, coloured, recoloured, with_text, grey_one, fresh, indices}
 use Rattle.tg_slots.specs.Chain.{Chain}
-use Rattle.tg_slots.specs.Inside.{links, occupants, unused, filled, all, table, IsBehind, IsInside, IsProvided}
+use Rattle.tg_slots.specs.Inside.{links, unused, filled, all, table, IsBehind, IsInside, IsProvided}
 use Rattle.tg_slots.proofs.TableLemmas.{within_table, sound-push_grey, sound-pop_grey, sound-take_free, sound-give_back, sound-painted, sound-set_text}
 use Rattle.tg_slots.proofs.FreshLemmas.{indices_length, indices_get_or, fresh_sound, unused_length, unused_slots, unused_links}
 use Rattle.tg_slots.proofs.ChainLemmas.{chain_set, chain_push, chain_first, chain_up}
@@ -26,7 +26,7 @@ leaves : (end : ℕ) (s : Inside) (t : Table) → Shows end s t → s.free_count
 leaves end s t k count most rests = record { kept = shows_inside end s t k count most rests; shows = shows_table end s t k }
 
 -- As many slots were used as before.
-rests : (s : Inside) (v : Vec Linked Global) → length v.items ≡ length s.entries.items → s.size ≤ vec_capacity v → IsInside s → Rests v s.size (table s).free
+rests : (s : Inside) (v : Shelved) → length v.items ≡ length s.entries.items → s.size ≤ v.room → IsInside s → Rests v s.size (table s).free
 rests s v same room k = record { used = (let used = k.used in omega arith); room = room; behind = subst (λ (n : ℕ). IsBehind n s.size (table s).free) (sym same) k.behind }
 
 -- An occupied slot is one of those that were used so far.
@@ -39,6 +39,41 @@ entry_within s i c w = taken_within s i (λ f. absurd (cc))
 -- What was read of a slot that was used is what the table has there.
 pub slot_read : (s : Inside) (i : ℕ) (old : Linked) → i < length s.entries.items → old ≡ get_or s.entries.items i old → old.occupant ≡ slot (table s) i
 slot_read s i old within read = occupant_read (all s) i old (used_within s.entries.items i s.size within) (read ∙ read_all s.entries.items i s.size old within)
+
+-- The slots that were used, with free ones behind them, are those of the table.
+pub at_read : (es : List Linked) (i : ℕ) → i < length es → at es i ≡ get_or es i (at es i)
+at_read [] i within = absurd (omega (arith, within))
+at_read (e ∷ es) zero within = refl
+at_read (e ∷ es) (suc i) within = at_read es i (omega (arith, within))
+
+at_past : (es : List Linked) (i : ℕ) → length es ≤ i → occupant_at es i ≡ None
+at_past [] i past = refl
+at_past (e ∷ es) zero past = absurd (omega (arith, past))
+at_past (e ∷ es) (suc i) past = at_past es i (omega (arith, past))
+
+pub slot_at : (s : Inside) (i : ℕ) → occupant_at s.entries.items i ≡ slot (table s) i
+slot_at s i = elim (cases_lt i (length s.entries.items)) [
+  | inl w ↦ slot_read s i (at s.entries.items i) w (at_read s.entries.items i w)
+  | inr past ↦ at_past s.entries.items i past ∙ sym (unused_free s.entries.items i s.size past)
+]
+
+-- What is read of a slot, in the words of the table.
+pub colour_shown : (o : Option Occupant) → MatchOption (in_slot (λ o. o.colour) o) (mark_of o ≡ Free) (λ c. mark_of o ≡ Has c)
+colour_shown None = refl
+colour_shown (Some o) = refl
+
+pub text_shown : (o : Option Occupant) (r : Option (Bor (List ℕ))) → option_map (λ t. t.now) r ≡ in_slot (λ o. o.text) o → MatchOption r (mark_of o ≡ Free) (λ t. in_slot (λ o. o.text) o ≡ Some t.now)
+text_shown None None e = refl
+text_shown (Some o) None e = absurd (cc)
+text_shown o (Some t) e = sym e
+
+pub old_text : (o : Option Occupant) (old : List ℕ) → in_slot (λ o. o.text) o ≡ Some old → IfSome o (λ o. old ≡ o.text)
+old_text None old e = tt
+old_text (Some o) old e = let same : o.text ≡ old = cc in sym same
+
+-- A slot of some colour has a vertex.
+pub some_at : (s : Inside) (i : ℕ) (c : Colour) → mark (table s) i ≡ Has c → occupant_at s.entries.items i ≢ None
+some_at s i c w none = let free : mark (table s) i ≡ Free = ap mark_of (sym (slot_at s i) ∙ none) in cc
 
 -- A slot of one mark is not in the list of the other.
 not_free : (t : Table) (i : ℕ) (c : Colour) → IsSound t → mark t i ≡ Has c → Contains t.free i → ⊥
@@ -67,53 +102,61 @@ repaints es es' i old new o read link is ev = record {
   slots = ap occupants ev ∙ occupants_set es i new ∙ ap (set (occupants es) i) is;
 }
 
+-- One of the slots that were used is written, in the room that there was.
+abbrev pub Writes : Inside → Shelved → ℕ → Linked → Type 0
+Writes s v i new = v ≡ record s.entries { items = set s.entries.items i new }
+
+-- The slot of an index, as it was among those that were used and among all.
+met : (s : Inside) (i : ℕ) → i < length s.entries.items → at s.entries.items i ≡ get_or (all s) i (at s.entries.items i)
+met s i within = at_read s.entries.items i within ∙ read_all s.entries.items i s.size (at s.entries.items i) within
+
 -- A black slot turns white, or a grey one out of the list black.
-pub leaves-paint : (s : Inside) (v : Vec Linked Global) (i : ℕ) (c d : Colour) (old new : Linked) → IsInside s → mark (table s) i ≡ Has c → (Contains (table s).grey i → ⊥) → old ≡ get_or s.entries.items i old
-    → new ≡ record old { occupant = coloured d old.occupant } → v.items ≡ set s.entries.items i new → s.size ≤ vec_capacity v → Leaves (record s { entries = v }) (record (table s) { slots = recoloured (table s) i d })
-leaves-paint s v i c d old new k w out read is ev room =
+pub leaves-paint : (s : Inside) (v : Shelved) (i : ℕ) (c d : Colour) → IsInside s → mark (table s) i ≡ Has c → (Contains (table s).grey i → ⊥)
+    → Writes s v i (record { occupant = coloured d (occupant_at s.entries.items i); link = (at s.entries.items i).link }) → Leaves (record s { entries = v }) (record (table s) { slots = recoloured (table s) i d })
+leaves-paint s v i c d k w out is =
     let within : i < length s.entries.items = entry_within s i c w in
-    let done = written s.entries v s.size i new within ev in
-    let met : old ≡ get_or (all s) i old = read ∙ read_all s.entries.items i s.size old within in
-    let vertex : new.occupant ≡ coloured d (slot (table s) i) = ap (λ (x : Linked). x.occupant) is ∙ ap (coloured d) (occupant_read (all s) i old (used_within s.entries.items i s.size within) met) in
-    let r = repaints (all s) (filled v.items s.size) i old new (coloured d (slot (table s) i)) met (ap (λ (x : Linked). x.link) is) vertex done.all in
+    let old = at s.entries.items i in
+    let new : Linked = record { occupant = coloured d old.occupant; link = old.link } in
+    let done = written s.entries v s.size i new within (ap (λ (u : Shelved). u.items) is) in
+    let vertex : coloured d old.occupant ≡ coloured d (slot (table s) i) = ap (coloured d) (slot_at s i) in
+    let r = repaints (all s) (filled v.items s.size) i old new (coloured d (slot (table s) i)) (met s i within) refl vertex done.all in
     leaves (length (all s)) (record s { entries = v }) (record (table s) { slots = recoloured (table s) i d }) (record {
       size = r.size;
       slots = r.slots;
       free = subst (λ (l : List ℕ). Chain (length (all s)) l s.free (table s).free) (sym r.links) k.free_ends;
       grey = subst (λ (l : List ℕ). Chain (length (all s)) l s.grey (table s).grey) (sym r.links) k.grey_ends;
       sound = sound-painted (table s) i c d k.sound w out;
-    }) k.count k.size (rests s v done.same room k)
+    }) k.count k.size (rests s v done.same (rw is k.room) k)
 
 -- The text of a vertex is replaced.
-pub leaves-set_text : (s : Inside) (v : Vec Linked Global) (i : ℕ) (x : List ℕ) (old : Linked) → IsInside s → mark (table s) i ≢ Free → old ≡ get_or s.entries.items i old
-    → v.items ≡ set s.entries.items i (record old { occupant = with_text x old.occupant }) → s.size ≤ vec_capacity v
+pub leaves-set_text : (s : Inside) (v : Shelved) (i : ℕ) (x : List ℕ) → IsInside s → mark (table s) i ≢ Free
+    → Writes s v i (record { occupant = with_text x (occupant_at s.entries.items i); link = (at s.entries.items i).link })
     → Leaves (record s { entries = v }) (record (table s) { slots = set (table s).slots i (with_text x (slot (table s) i)) })
-leaves-set_text s v i x old k taken read ev room =
+leaves-set_text s v i x k taken is =
     let within : i < length s.entries.items = taken_within s i taken in
-    let new : Linked = record old { occupant = with_text x old.occupant } in
-    let done = written s.entries v s.size i new within ev in
-    let met : old ≡ get_or (all s) i old = read ∙ read_all s.entries.items i s.size old within in
-    let vertex : with_text x old.occupant ≡ with_text x (slot (table s) i) = ap (with_text x) (slot_read s i old within read) in
-    let r = repaints (all s) (filled v.items s.size) i old new (with_text x (slot (table s) i)) met refl vertex done.all in
+    let old = at s.entries.items i in
+    let new : Linked = record { occupant = with_text x old.occupant; link = old.link } in
+    let done = written s.entries v s.size i new within (ap (λ (u : Shelved). u.items) is) in
+    let vertex : with_text x old.occupant ≡ with_text x (slot (table s) i) = ap (with_text x) (slot_at s i) in
+    let r = repaints (all s) (filled v.items s.size) i old new (with_text x (slot (table s) i)) (met s i within) refl vertex done.all in
     leaves (length (all s)) (record s { entries = v }) (record (table s) { slots = set (table s).slots i (with_text x (slot (table s) i)) }) (record {
       size = r.size;
       slots = r.slots;
       free = subst (λ (l : List ℕ). Chain (length (all s)) l s.free (table s).free) (sym r.links) k.free_ends;
       grey = subst (λ (l : List ℕ). Chain (length (all s)) l s.grey (table s).grey) (sym r.links) k.grey_ends;
       sound = sound-set_text (table s) i x k.sound (within_table (table s) i taken);
-    }) k.count k.size (rests s v done.same room k)
+    }) k.count k.size (rests s v done.same (rw is k.room) k)
 
 -- A white slot turns grey, in front of the grey list.
-pub leaves-push_grey : (s : Inside) (v : Vec Linked Global) (i : ℕ) (old grey : Linked) → IsInside s → mark (table s) i ≡ Has White → old ≡ get_or s.entries.items i old
-    → grey ≡ record old { occupant = coloured Grey old.occupant } → v.items ≡ set s.entries.items i (record { occupant = grey.occupant; link = s.grey }) → s.size ≤ vec_capacity v
+pub leaves-push_grey : (s : Inside) (v : Shelved) (i : ℕ) → IsInside s → mark (table s) i ≡ Has White → Writes s v i (record { occupant = coloured Grey (occupant_at s.entries.items i); link = s.grey })
     → Leaves (record s { entries = v; grey = i }) (record (table s) { slots = recoloured (table s) i Grey; grey = i ∷ (table s).grey })
-leaves-push_grey s v i old grey k w read is ev room =
+leaves-push_grey s v i k w is =
     let used : i < length s.entries.items = entry_within s i White w in
     let within : i < length (all s) = used_within s.entries.items i s.size used in
-    let new : Linked = record { occupant = grey.occupant; link = s.grey } in
-    let done = written s.entries v s.size i new used ev in
-    let met : old ≡ get_or (all s) i old = read ∙ read_all s.entries.items i s.size old used in
-    let vertex : grey.occupant ≡ coloured Grey (slot (table s) i) = ap (λ (x : Linked). x.occupant) is ∙ ap (coloured Grey) (occupant_read (all s) i old within met) in
+    let old = at s.entries.items i in
+    let new : Linked = record { occupant = coloured Grey old.occupant; link = s.grey } in
+    let done = written s.entries v s.size i new used (ap (λ (u : Shelved). u.items) is) in
+    let vertex : coloured Grey old.occupant ≡ coloured Grey (slot (table s) i) = ap (coloured Grey) (slot_at s i) in
     let changed : links (filled v.items s.size) ≡ set (links (all s)) i s.grey = ap links done.all ∙ links_set (all s) i new in
     leaves (length (all s)) (record s { entries = v; grey = i }) (record (table s) { slots = recoloured (table s) i Grey; grey = i ∷ (table s).grey }) (record {
       size = ap length done.all ∙ length-set (all s) i new;
@@ -123,19 +166,19 @@ leaves-push_grey s v i old grey k w read is ev room =
       grey = subst (λ (l : List ℕ). Chain (length (all s)) l i (i ∷ (table s).grey)) (sym changed)
           (chain_push (length (all s)) (links (all s)) i s.grey (table s).grey (omega (arith, within, length_map (λ (e : Linked). e.link) (all s))) within (not_grey (table s) i k.sound w) k.grey_ends);
       sound = sound-push_grey (table s) i k.sound w;
-    }) k.count k.size (rests s v done.same room k)
+    }) k.count k.size (rests s v done.same (rw is k.room) k)
 
 -- A white slot is freed, in front of the free list.
-pub leaves-give_back : (s : Inside) (v : Vec Linked Global) (i : ℕ) → IsInside s → mark (table s) i ≡ Has White → v.items ≡ set s.entries.items i (record { occupant = None; link = s.free }) → s.size ≤ vec_capacity v
+pub leaves-give_back : (s : Inside) (v : Shelved) (i : ℕ) → IsInside s → mark (table s) i ≡ Has White → Writes s v i (record { occupant = None; link = s.free })
     → Leaves (record { entries = v; free = i; grey = s.grey; free_count = s.free_count + 1; size = s.size }) (record (table s) { slots = set (table s).slots i None; free = i ∷ (table s).free })
-leaves-give_back s v i k w ev room =
+leaves-give_back s v i k w is =
     let used : i < length s.entries.items = entry_within s i White w in
     let within : i < length (all s) = used_within s.entries.items i s.size used in
     let new : Linked = record { occupant = None; link = s.free } in
-    let done = written s.entries v s.size i new used ev in
+    let done = written s.entries v s.size i new used (ap (λ (u : Shelved). u.items) is) in
     let changed : links (filled v.items s.size) ≡ set (links (all s)) i s.free = ap links done.all ∙ links_set (all s) i new in
     let count = k.count in
-    let rest = rests s v done.same room k in
+    let rest = rests s v done.same (rw is k.room) k in
     let same = done.same in
     leaves (length (all s)) (record { entries = v; free = i; grey = s.grey; free_count = s.free_count + 1; size = s.size }) (record (table s) { slots = set (table s).slots i None; free = i ∷ (table s).free }) (record {
       size = ap length done.all ∙ length-set (all s) i new;
@@ -160,16 +203,16 @@ pub record Pops (s after : Inside) : Type 0 where
   pub kept : IsInside after
   pub was : table s ≡ record (table after) { grey = s.grey ∷ (table after).grey }
 
-pub pops : (s : Inside) (old : Linked) → IsInside s → s.grey < length s.entries.items → old ≡ get_or s.entries.items s.grey old → Pops s (record s { grey = old.link })
-pops s old k used read =
+pub pops : (s : Inside) → IsInside s → s.grey < length s.entries.items → Pops s (record s { grey = (at s.entries.items s.grey).link })
+pops s k used =
+    let old = at s.entries.items s.grey in
     let within : s.grey < length (all s) = used_within s.entries.items s.grey s.size used in
-    let met : old ≡ get_or (all s) s.grey old = read ∙ read_all s.entries.items s.grey s.size old used in
     let f = chain_first (length (all s)) (links (all s)) s.grey (table s).grey within k.grey_ends in
     let a = leaves (length (all s)) (record s { grey = old.link }) (record (table s) { grey = f.rest }) (record {
       size = refl;
       slots = refl;
       free = k.free_ends;
-      grey = subst (λ (i : ℕ). Chain (length (all s)) (links (all s)) i f.rest) (link_read (all s) s.grey old within met) f.chain;
+      grey = subst (λ (i : ℕ). Chain (length (all s)) (links (all s)) i f.rest) (link_read (all s) s.grey old within (met s s.grey used)) f.chain;
       sound = sound-pop_grey (table s) s.grey f.rest k.sound f.is;
     }) k.count k.size (record { used = k.used; room = k.room; behind = k.behind }) in
     record {
@@ -198,12 +241,12 @@ none_free s k past last = none (table s).free k.free_ends k.behind.before k.behi
   none (j ∷ l) chain (b ∷ bs) is within = absurd (let first : j ≡ b = cc in let here = chain.0 in let used = within b (inl refl) in omega arith)
 
 -- The first free slot is among those that were used, if there is one: the fields show what they showed.
-pub record Provided (s : Inside) (w : Vec Linked Global) : Type 0 where
+pub record Provided (s : Inside) (w : Shelved) : Type 0 where
   pub kept : IsInside (record s { entries = w })
   pub shows : table (record s { entries = w }) ≡ table s
   pub full : length w.items ≤ s.free → (table s).free ≡ []
 
-pub provides : (s : Inside) (w : Vec Linked Global) → IsInside s → IsProvided s.entries.items w.items s.free s.size → s.size ≤ vec_capacity w → Provided s w
+pub provides : (s : Inside) (w : Shelved) → IsInside s → IsProvided s.entries.items w.items s.free s.size → s.size ≤ w.room → Provided s w
 provides s w k p room = elim (cases_lt s.free s.size) [
   | inl within ↦ elim (cases_eq s.free (length s.entries.items)) [ inl next ↦ added within next | inr other ↦ stays (kept within other) (λ same. absurd (other same)) ]
   | inr past ↦ stays (beyond past) (λ same. past)
@@ -261,24 +304,24 @@ pub record Takes (s after : Inside) (o : Occupant) : Type 0 where
   pub grey : (table after).grey ≡ (table s).grey
   pub slots : (table after).slots ≡ set (table s).slots s.free (Some o)
 
-pub takes : (s : Inside) (v : Vec Linked Global) (old : Linked) (o : Occupant) → IsInside s → s.free < length s.entries.items → old ≡ get_or s.entries.items s.free old → grey_one (Has o.colour) ≡ 0
-    → v.items ≡ set s.entries.items s.free (record { occupant = Some o; link = old.link }) → s.size ≤ vec_capacity v
-    → Takes s (record { entries = v; free = old.link; grey = s.grey; free_count = s.free_count - 1; size = s.size }) o
-takes s v old o k used read pale ev room =
+pub takes : (s : Inside) (v : Shelved) (o : Occupant) → IsInside s → s.free < length s.entries.items → grey_one (Has o.colour) ≡ 0
+    → Writes s v s.free (record { occupant = Some o; link = (at s.entries.items s.free).link })
+    → Takes s (record { entries = v; free = (at s.entries.items s.free).link; grey = s.grey; free_count = s.free_count - 1; size = s.size }) o
+takes s v o k used pale is =
+    let old = at s.entries.items s.free in
     let within : s.free < length (all s) = used_within s.entries.items s.free s.size used in
-    let met : old ≡ get_or (all s) s.free old = read ∙ read_all s.entries.items s.free s.size old used in
-    let done = written s.entries v s.size s.free (record { occupant = Some o; link = old.link }) used ev in
+    let done = written s.entries v s.size s.free (record { occupant = Some o; link = old.link }) used (ap (λ (u : Shelved). u.items) is) in
     let f = chain_first (length (all s)) (links (all s)) s.free (table s).free within k.free_ends in
-    let r = repaints (all s) (filled v.items s.size) s.free old (record { occupant = Some o; link = old.link }) (Some o) met refl refl done.all in
+    let r = repaints (all s) (filled v.items s.size) s.free old (record { occupant = Some o; link = old.link }) (Some o) (met s s.free used) refl refl done.all in
     let count = k.count in
     let fewer = ap length f.is in
-    let rest = rests s v done.same room k in
+    let rest = rests s v done.same (rw is k.room) k in
     let same = done.same in
     let a = leaves (length (all s)) (record { entries = v; free = old.link; grey = s.grey; free_count = s.free_count - 1; size = s.size }) (record (table s) { slots = set (table s).slots s.free (Some o); free = f.rest }) (record {
       size = r.size;
       slots = r.slots;
       free = subst (λ (l : List ℕ). Chain (length (all s)) l old.link f.rest) (sym r.links)
-          (subst (λ (i : ℕ). Chain (length (all s)) (links (all s)) i f.rest) (link_read (all s) s.free old within met) f.chain);
+          (subst (λ (i : ℕ). Chain (length (all s)) (links (all s)) i f.rest) (link_read (all s) s.free old within (met s s.free used)) f.chain);
       grey = subst (λ (l : List ℕ). Chain (length (all s)) l s.grey (table s).grey) (sym r.links) k.grey_ends;
       sound = sound-take_free (table s) s.free f.rest o k.sound f.is pale;
     }) (omega (arith, count, fewer)) k.size (record { used = rest.used; room = rest.room; behind = behind_taken (length v.items) s.size s.free (table s).free f.rest rest.behind f.is (omega arith) }) in
@@ -290,7 +333,7 @@ takes s v old o k used read pale ev room =
     }
 
 -- Slots that were never used so far.
-pub leaves-new : (s : Inside) → s.entries.items ≡ [] → s.free ≡ 0 → s.grey ≡ s.size → s.free_count ≡ s.size → s.size ≤ 65536 → s.size ≤ vec_capacity s.entries → Leaves s (fresh s.size)
+pub leaves-new : (s : Inside) → s.entries.items ≡ [] → s.free ≡ 0 → s.grey ≡ s.size → s.free_count ≡ s.size → s.size ≤ 65536 → s.size ≤ s.entries.room → Leaves s (fresh s.size)
 leaves-new s none free grey count most room =
     let less : s.size - 0 ≡ s.size = omega arith in
     let is : all s ≡ unused 0 s.size = ap (λ (l : List Linked). filled l s.size) none ∙ ap (unused 0) less in

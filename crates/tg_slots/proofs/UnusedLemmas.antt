@@ -1,12 +1,11 @@
 -- The slots that were used so far, followed by those that were not.
-use Rattle.std.proofs.Common.{◌≡◌, ℕ, zero, suc, ◌+◌, ◌-◌, ◌<◌, ◌≤◌, List, [], ◌∷◌, ◌++◌, length, None, inl, inr, sym, ◌∙◌, ap, refl, set, get_or, arith, length-set, length-append, append_assoc, Global}
+use Rattle.std.proofs.Common.{◌≡◌, ℕ, zero, suc, ◌+◌, ◌-◌, ◌<◌, ◌≤◌, List, [], ◌∷◌, ◌++◌, length, None, inl, inr, sym, ◌∙◌, ap, refl, set, get_or, arith, length-set, length-append, append_assoc}
 use Rattle.std.proofs.lemmas.List.{set-append_left, get_or_append_left}
-use Rattle.std.specs.declared.vec.Vec.{Vec}
 use Rattle.tg_rights.specs.Membership.{Contains}
 use Rattle.tg_rights.proofs.MembershipLemmas.{contains_append}
-use Rattle.tg_slots.specs.Linked.{Linked}
+use Rattle.tg_slots.specs.Linked.{Linked, Shelved, occupants}
 use Rattle.tg_slots.specs.Table.{indices}
-use Rattle.tg_slots.specs.Inside.{occupants, unused, filled, IsBehind}
+use Rattle.tg_slots.specs.Inside.{unused, filled, IsBehind}
 use Rattle.tg_slots.proofs.FreshLemmas.{unused_length}
 
 -- A slot that was used is one of all, and reads the same.
@@ -34,11 +33,11 @@ pub unused_free : (es : List Linked) (i size : ℕ) → length es ≤ i → get_
 unused_free es i size past = none_behind es i (length es) (size - length es) past
 
 -- A slot that was used is written.
-pub record Written (old new : Vec Linked Global) (size i : ℕ) (e : Linked) : Type 0 where
+pub record Written (old new : Shelved) (size i : ℕ) (e : Linked) : Type 0 where
   pub all : filled new.items size ≡ set (filled old.items size) i e
   pub same : length new.items ≡ length old.items
 
-pub written : (old new : Vec Linked Global) (size i : ℕ) (e : Linked) → i < length old.items → new.items ≡ set old.items i e → Written old new size i e
+pub written : (old new : Shelved) (size i : ℕ) (e : Linked) → i < length old.items → new.items ≡ set old.items i e → Written old new size i e
 written old new size i e w is =
     let same : length new.items ≡ length old.items = ap length is ∙ length-set old.items i e in
     record {

@@ -1,19 +1,14 @@
 -- the table that linked slots represent
-use Rattle.std.specs.Prelude.{◌≡◌, ◌+◌, ◌-◌, ◌<◌, ◌≤◌, ℕ, zero, suc, length, List, [], ◌∷◌, ◌++◌, Option, None, map, cond, eqb, ltb}
-use Rattle.std.specs.Vec.{vec_capacity}
+use Rattle.std.specs.Prelude.{◌≡◌, ◌+◌, ◌-◌, ◌<◌, ◌≤◌, ℕ, zero, suc, length, List, [], ◌∷◌, ◌++◌, None, map, cond, eqb, ltb}
 use Rattle.tg_rights.specs.declared.limits.TheConstants.{MAX_SLOTS}
 use Rattle.tg_rights.specs.Membership.{Contains}
-use Rattle.tg_slots.specs.Linked.{Linked}
+use Rattle.tg_slots.specs.Linked.{Linked, occupants}
 use Rattle.tg_slots.specs.declared.slots.Slots.TheInside.{Inside}
-use Rattle.tg_slots.specs.declared.slots.Occupant.{Occupant}
 use Rattle.tg_slots.specs.Chain.{walk, Chain}
 use Rattle.tg_slots.specs.Table.{Table, IsSound, indices}
 
 abbrev pub links : List Linked → List ℕ
 links es = map (λ e. e.link) es
-
-abbrev pub occupants : List Linked → List (Option Occupant)
-occupants es = map (λ e. e.occupant) es
 
 -- the indices from a head on; no list is longer than the number of slots
 abbrev pub listed : List Linked → ℕ → List ℕ
@@ -52,7 +47,7 @@ pub record IsInside (s : Inside) : Type 0 where
   pub count : s.free_count ≡ length (table s).free
   pub size : length (all s) ≤ MAX_SLOTS
   pub used : length s.entries.items ≤ s.size
-  pub room : s.size ≤ vec_capacity s.entries
+  pub room : s.size ≤ s.entries.room
   pub behind : IsBehind (length s.entries.items) s.size (table s).free
 
 -- the slot of an index is among those that were used, if it is the next one

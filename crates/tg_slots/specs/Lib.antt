@@ -1,5 +1,6 @@
 pub mod Table
 pub mod Linked
+pub mod Shelf
 pub mod Chain
 pub mod Inside
 pub use Rattle.tg_rights.specs.Membership

@@ -1,18 +1,28 @@
--- what contracts see of a slot in memory
-use Rattle.std.specs.Prelude.{ℕ, Option, Some, None}
+-- what contracts see of the slots in memory
+use Rattle.std.specs.Prelude.{ℕ, List, Option, None, map, get_or}
 use Rattle.tg_slots.specs.declared.slots.Occupant.{Occupant}
-use Rattle.tg_slots.specs.declared.entry.Entry.TheInside.{Inside}
-use Rattle.tg_slots.specs.declared.entry.Form.{Form}
-use Rattle.tg_slots.specs.declared.entry.Form.TheVariants.{Free, Taken}
 
 -- the vertex in a slot, if there is one, and the next slot of its list
 pub record Linked : Type 0 where
   pub occupant : Option Occupant
   pub link : ℕ
 
-abbrev pub linked_of : Form → Linked
-linked_of (Free next) = record { occupant = None; link = next }
-linked_of (Taken kind colour next serial text) = record { occupant = Some (record { serial = serial; kind = kind; colour = colour; text = text }); link = next }
+-- some slots, from index 0 on, and for how many there is room
+pub record Shelved : Type 0 where
+  pub items : List Linked
+  pub room : ℕ
 
-abbrev pub linked : Inside → Linked
-linked s = linked_of s.form
+-- a free slot
+abbrev pub blank : Linked
+blank = record { occupant = None; link = 0 }
+
+-- the slot of an index; a free one if there is none
+abbrev pub at : List Linked → ℕ → Linked
+at es i = get_or es i blank
+
+-- the vertex in the slot of an index, if there is such a slot and a vertex in it
+abbrev pub occupant_at : List Linked → ℕ → Option Occupant
+occupant_at es i = (at es i).occupant
+
+abbrev pub occupants : List Linked → List (Option Occupant)
+occupants es = map (λ e. e.occupant) es

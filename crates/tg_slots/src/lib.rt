@@ -6,7 +6,7 @@
 #![tactic(auto)]
 
 mod colour;
-mod entry;
+mod shelf;
 mod slots;
 
 pub use colour::Colour;

@@ -1,13 +1,12 @@
 //! The table of slots, with the two lists through its link fields.
 ghost use Rattle.std.specs.Prelude.{◌≡◌, ◌≢◌, ◌<◌, ◌≤◌, [], ◌∷◌, length, MatchResult, MatchOption, IsTrue, ◌↔◌, set, ◌⊎◌, IfSome, IfOk, None, Some};
-ghost use Rattle.std.specs.Vec.{vec_capacity};
 ghost use Rattle.tg_rights.specs.Membership.{Contains};
 ghost use Rattle.tg_rights.specs.declared.limits.TheConstants.{MAX_SLOTS};
 ghost use Rattle.tg_slots.specs.Table.{Table, Free, Has, slot, mark, coloured, recoloured, with_text, in_slot, IsSound, fresh};
 ghost use Rattle.tg_slots.specs.Inside.{IsProvided};
 
 use crate::Colour;
-use crate::entry::Entry;
+use crate::shelf::Shelf;
 use std::alloc::{AllocError, Global};
 use std::marker::Model;
 use tg_rights::{Kind, Text};
@@ -26,7 +25,7 @@ pub struct Occupant {
 pub struct Slots {
     // The slots that were used so far, with room for all: a slot that was never used is not written. It would be free,
     // and lead to the next one.
-    entries: Vec<Entry>,
+    entries: Shelf,
     free: u32,
     grey: u32,
     free_count: u32,
@@ -47,16 +46,14 @@ impl Model for Slots {
 }
 
 // Appends the slot of this index to those that were used so far, if it is the next one.
-fn provide(entries: &mut Vec<Entry>, id: u32, size: u32)
+fn provide(entries: &mut Shelf, id: u32, size: u32)
     requires used { length entries.old.items ≤ size }
-    requires room { size ≤ vec_capacity entries.old }
+    requires room { size ≤ entries.old.room }
     ensures provided { IsProvided entries.old.items entries.new.items id size }
-    ensures room { size ≤ vec_capacity entries.new }
+    ensures room { size ≤ entries.new.room }
 {
     if id < size && id as usize == entries.len() {
-        let Ok(()) = entries.push(Entry::free(id + 1)) else {
-            unreachable!();
-        };
+        entries.push_free(id + 1);
     }
 }
 
@@ -68,7 +65,7 @@ impl Slots {
         requires high { count ≤ MAX_SLOTS }
         ensures { IfOk result (λ t. t ≡ fresh count) }
     {
-        let entries = Vec::with_capacity(alloc, count as usize)?;
+        let entries = Shelf::new(alloc, count)?;
         Ok(Slots {
             entries,
             free: 0,
@@ -108,20 +105,12 @@ impl Slots {
         self.colour(id).is_none()
     }
 
-    // The slot, if it was used.
-    fn used(&self, id: u32) -> Option<&Entry>
-        requires { id < length self.now.slots }
-        ensures { MatchOption result (slot self.now id ≡ None) (λ e. slot self.now id ≡ e.now.occupant) }
-    {
-        self.entries.get(id as usize)
-    }
-
     /// The serial of the vertex; none if the slot is free.
     pub fn serial(&self, id: u32) -> Option<u64>
         requires { id < length self.now.slots }
         ensures { result ≡ in_slot (λ o. o.serial) (slot self.now id) }
     {
-        self.used(id)?.serial()
+        self.entries.serial(id)
     }
 
     /// The kind of the vertex; none if the slot is free.
@@ -129,7 +118,7 @@ impl Slots {
         requires { id < length self.now.slots }
         ensures { result ≡ in_slot (λ o. o.kind) (slot self.now id) }
     {
-        self.used(id)?.kind()
+        self.entries.kind(id)
     }
 
     /// The colour of the vertex; none if the slot is free.
@@ -137,7 +126,7 @@ impl Slots {
         requires { id < length self.now.slots }
         ensures { MatchOption result (mark self.now id ≡ Free) (λ c. mark self.now id ≡ Has c) }
     {
-        self.used(id)?.colour()
+        self.entries.colour(id)
     }
 
     /// The text of the vertex; none if the slot is free.
@@ -145,7 +134,7 @@ impl Slots {
         requires { id < length self.now.slots }
         ensures { MatchOption result (mark self.now id ≡ Free) (λ t. in_slot (λ o. o.text) (slot self.now id) ≡ Some t.now) }
     {
-        self.used(id)?.text()
+        self.entries.text(id)
     }
 
     /// Takes the first free slot for a vertex, white or black, and returns its index. If no slot is free, everything is
@@ -165,17 +154,18 @@ impl Slots {
     {
         let id = self.free;
         provide(&mut self.entries, id, self.size);
-        let Some(entry) = self.entries.get_mut(id as usize) else {
+        let Some(next) = self.entries.link(id) else {
             return Err(text);
         };
-        self.free = entry.link();
+        self.free = next;
         self.free_count -= 1;
-        entry.fill(Occupant {
+        let vertex = Occupant {
             serial,
             kind,
             colour,
             text,
-        });
+        };
+        self.entries.fill(id, vertex);
         Ok(id)
     }
 
@@ -185,7 +175,7 @@ impl Slots {
         ensures { self.new ≡ record self.old { slots = set self.old.slots id None; free = id ∷ self.old.free } }
     {
         self.free_count += 1;
-        self.entries[id as usize] = Entry::free(self.free);
+        self.entries.free(id, self.free);
         self.free = id;
     }
 
@@ -194,9 +184,7 @@ impl Slots {
         requires { mark self.old id ≡ Has Colour.White }
         ensures { self.new ≡ record self.old { slots = recoloured self.old id Colour.Grey; grey = id ∷ self.old.grey } }
     {
-        let entry = &mut self.entries[id as usize];
-        entry.paint(Colour::Grey);
-        entry.lead_to(self.grey);
+        self.entries.paint_and_lead(id, Colour::Grey, self.grey);
         self.grey = id;
     }
 
@@ -206,7 +194,7 @@ impl Slots {
         ensures { MatchOption result ((self.old.grey ≡ []) × (self.new ≡ self.old)) (λ id. self.old ≡ record self.new { grey = id ∷ self.new.grey }) }
     {
         let id = self.grey;
-        self.grey = self.entries.get(id as usize)?.link();
+        self.grey = self.entries.link(id)?;
         Some(id)
     }
 
@@ -216,7 +204,7 @@ impl Slots {
         requires taken { Contains self.old.grey id → ⊥ }
         ensures { self.new ≡ record self.old { slots = recoloured self.old id Colour.Black } }
     {
-        self.entries[id as usize].paint(Colour::Black);
+        self.entries.paint(id, Colour::Black);
     }
 
     /// Makes a black vertex white.
@@ -224,7 +212,7 @@ impl Slots {
         requires { mark self.old id ≡ Has Colour.Black }
         ensures { self.new ≡ record self.old { slots = recoloured self.old id Colour.White } }
     {
-        self.entries[id as usize].paint(Colour::White);
+        self.entries.paint(id, Colour::White);
     }
 
     /// Replaces the text of a vertex, and returns the old one.
@@ -233,6 +221,6 @@ impl Slots {
         ensures slots { self.new ≡ record self.old { slots = set self.old.slots id (with_text text (slot self.old id)) } }
         ensures old { IfSome (slot self.old id) (λ o. result ≡ o.text) }
     {
-        self.entries[id as usize].set_text(text)
+        self.entries.set_text(id, text)
     }
 }

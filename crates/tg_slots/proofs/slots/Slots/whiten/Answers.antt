@@ -1,23 +1,19 @@
-use Rattle.std.proofs.Common.{◌≡◌, refl, arith}
-use Rattle.std.specs.Vec.{with_item}
+use Rattle.std.proofs.Common.{◌≡◌}
 use Rattle.tg_slots.specs.declared.colour.Colour.TheVariants.{White, Black}
-use Rattle.tg_slots.specs.Table.{mark, Has}
 use Rattle.tg_slots.specs.Inside.{table}
-use Rattle.tg_slots.proofs.StepLemmas.{entry_within, leaves-paint, black_out}
+use Rattle.tg_slots.specs.Table.{Has, mark}
+use Rattle.tg_slots.proofs.StepLemmas.{black_out, leaves-paint, some_at}
 use Rattle.tg_slots.proofs.slots.Slots.whiten.Goals as goal
 
-pub index_mut-requires : goal.index_mut-requires
-index_mut-requires c = let within = entry_within c.self.inside c.args.id Black (rw (← c.self.view_is) at c.requires) in omega arith
+pub paint-requires : goal.paint-requires
+paint-requires c = some_at c.self.inside c.args.id Black (rw (← c.self.view_is) at c.requires)
 
 pub invariant_of-self : goal.invariant_of-self
 invariant_of-self c =
     let black : mark (table c.self.inside) c.args.id ≡ Has Black = rw (← c.self.view_is) at c.requires in
-    (leaves-paint c.self.inside (with_item c.self.inside.entries c.args.id c.paint.new.self) c.args.id Black White c.index_mut.result.now c.paint.new.self c.self.invariant
-    black (black_out (table c.self.inside) c.args.id c.self.invariant.sound black) c.index_mut.ensures.value c.paint.ensures refl c.self.invariant.room).kept
+    (leaves-paint c.self.inside c.paint.new.self c.args.id Black White c.self.invariant (rw (← c.self.view_is) at c.requires) (black_out (table c.self.inside) c.args.id c.self.invariant.sound black) c.paint.ensures).kept
 
 pub returns : goal.returns
 returns c =
     let black : mark (table c.self.inside) c.args.id ≡ Has Black = rw (← c.self.view_is) at c.requires in
-    rw (← c.self.view_is)
-    (leaves-paint c.self.inside (with_item c.self.inside.entries c.args.id c.paint.new.self) c.args.id Black White c.index_mut.result.now c.paint.new.self c.self.invariant
-    black (black_out (table c.self.inside) c.args.id c.self.invariant.sound black) c.index_mut.ensures.value c.paint.ensures refl c.self.invariant.room).shows
+    rw (← c.self.view_is) (leaves-paint c.self.inside c.paint.new.self c.args.id Black White c.self.invariant (rw (← c.self.view_is) at c.requires) (black_out (table c.self.inside) c.args.id c.self.invariant.sound black) c.paint.ensures).shows

@@ -1,0 +1,10 @@
+use Rattle.std.proofs.Common.{◌∙◌, ap}
+use Rattle.tg_slots.specs.Table.{in_slot, slot}
+use Rattle.tg_slots.specs.Inside.{table}
+use Rattle.tg_slots.proofs.StepLemmas.{slot_at, text_shown}
+use Rattle.tg_slots.proofs.slots.Slots.text.Goals as goal
+
+pub returns : goal.returns
+returns c =
+    rw (← c.self.view_is)
+    (text_shown (slot (table c.self.inside) c.args.id) c.text.result (c.text.ensures ∙ ap (in_slot (λ o. o.text)) (slot_at c.self.inside c.args.id)))

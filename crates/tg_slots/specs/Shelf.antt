@@ -1,0 +1,88 @@
+-- the slots that two arrays represent
+use Rattle.std.specs.Prelude.{◌≡◌, ℕ, Bool, true, false, min, List, [], ◌∷◌, Option, Some, None}
+use Rattle.std.specs.Vec.{vec_capacity}
+use Rattle.tg_rights.specs.declared.kind.Kind.{Kind}
+use Rattle.tg_slots.specs.declared.colour.Colour.{Colour}
+use Rattle.tg_slots.specs.declared.colour.Colour.TheVariants as colour
+use Rattle.tg_slots.specs.declared.shelf.Tint.{Tint}
+use Rattle.tg_slots.specs.declared.shelf.Tint.TheVariants as tint
+use Rattle.tg_slots.specs.declared.shelf.Form.{Form}
+use Rattle.tg_slots.specs.declared.shelf.Form.TheVariants as form
+use Rattle.tg_slots.specs.declared.shelf.Shelf.TheInside.{Inside}
+use Rattle.tg_slots.specs.Linked.{Linked, Shelved}
+
+abbrev pub tint_of : Colour → Tint
+tint_of colour.White = tint.White
+tint_of colour.Grey = tint.Grey
+tint_of colour.Black = tint.Black
+
+abbrev pub colour_of : Tint → Option Colour
+colour_of tint.Free = None
+colour_of tint.White = Some colour.White
+colour_of tint.Grey = Some colour.Grey
+colour_of tint.Black = Some colour.Black
+
+-- the colour of a vertex whose slot has this tint
+abbrev pub shade_of : Tint → Colour
+shade_of tint.Free = colour.White
+shade_of tint.White = colour.White
+shade_of tint.Grey = colour.Grey
+shade_of tint.Black = colour.Black
+
+abbrev pub link_of : Form → ℕ
+link_of (form.Free link) = link
+link_of (form.Taken kind link serial text) = link
+
+-- the fields of what else a slot holds, and what it is once one of them has changed
+abbrev pub serial_of : Form → Option ℕ
+serial_of (form.Free link) = None
+serial_of (form.Taken kind link serial text) = Some serial
+
+abbrev pub kind_of : Form → Option Kind
+kind_of (form.Free link) = None
+kind_of (form.Taken kind link serial text) = Some kind
+
+abbrev pub text_of : Form → Option (List ℕ)
+text_of (form.Free link) = None
+text_of (form.Taken kind link serial text) = Some text
+
+abbrev pub leading : Form → ℕ → Form
+leading (form.Free link) next = form.Free next
+leading (form.Taken kind link serial text) next = form.Taken kind next serial text
+
+abbrev pub telling : Form → List ℕ → Form
+telling (form.Free link) new = form.Free link
+telling (form.Taken kind link serial text) new = form.Taken kind link serial new
+
+-- whether a slot has a vertex, by its tint and by what else it holds
+abbrev pub is_coloured : Tint → Bool
+is_coloured tint.Free = false
+is_coloured tint.White = true
+is_coloured tint.Grey = true
+is_coloured tint.Black = true
+
+abbrev pub is_taken : Form → Bool
+is_taken (form.Free link) = false
+is_taken (form.Taken kind link serial text) = true
+
+abbrev pub linked : Tint → Form → Linked
+linked t (form.Free link) = record { occupant = None; link = link }
+linked t (form.Taken kind link serial text) = record { occupant = Some (record { serial = serial; kind = kind; colour = shade_of t; text = text }); link = link }
+
+abbrev pub all_linked : List Tint → List Form → List Linked
+all_linked [] fs = []
+all_linked (t ∷ ts) [] = []
+all_linked (t ∷ ts) (f ∷ fs) = linked t f ∷ all_linked ts fs
+
+abbrev pub shelved : Inside → Shelved
+shelved s = record { items = all_linked s.tints.items s.forms.items; room = min (vec_capacity s.tints) (vec_capacity s.forms) }
+
+-- both arrays have the same slots, each with a vertex in both or in neither
+abbrev pub Agree : List Tint → List Form → Type 0
+Agree [] [] = Unit {0}
+Agree [] (f ∷ fs) = ⊥
+Agree (t ∷ ts) [] = ⊥
+Agree (t ∷ ts) (f ∷ fs) = (is_coloured t ≡ is_taken f) × Agree ts fs
+
+abbrev pub IsShelf : Inside → Type 0
+IsShelf s = Agree s.tints.items s.forms.items

@@ -1,0 +1,292 @@
+//! The slots that were used so far, as they lie in memory.
+ghost use Rattle.std.specs.Prelude.{◌≡◌, ◌≢◌, ◌<◌, ◌≤◌, ◌++◌, ◌∷◌, [], IfOk, MatchOption, None, Some, get_or, length, set, slice_get, true};
+ghost use Rattle.std.specs.Option.{option_map};
+ghost use Rattle.std.specs.Vec.{vec_capacity};
+ghost use Rattle.tg_slots.specs.Table.{in_slot, with_text, coloured};
+ghost use Rattle.tg_slots.specs.Linked.{at, occupant_at};
+ghost use Rattle.tg_slots.specs.Shelf.{colour_of, is_taken, kind_of, leading, link_of, serial_of, telling, text_of, tint_of};
+
+use crate::{Colour, Occupant};
+use std::alloc::{AllocError, Global};
+use std::marker::Model;
+use tg_rights::{Kind, Text};
+
+// Whether a slot is free, or the colour of its vertex.
+#[derive(Clone, Copy, Drop)]
+enum Tint {
+    Free,
+    White,
+    Grey,
+    Black,
+}
+
+// What else a slot holds. The small fields share a word, with the tag too: this takes 40 bytes.
+#[derive(Drop)]
+enum Form {
+    Free {
+        link: u32,
+    },
+    Taken {
+        kind: Kind,
+        link: u32,
+        serial: u64,
+        text: Text,
+    },
+}
+
+/// Slots from index 0 on, with room for more: each has a vertex or is free, and leads to the next one of its list.
+///
+/// The collector looks at colours far more often than at anything else, so these lie in an array of their own, a byte
+/// for each slot.
+#[derive(Drop)]
+pub(crate) struct Shelf {
+    tints: Vec<Tint>,
+    forms: Vec<Form>,
+}
+
+impl Model for Shelf {
+    ghost use Rattle.tg_slots.specs.Linked.{Shelved};
+
+    ghost Value = { Shelved };
+
+    ghost use Rattle.tg_slots.specs.Shelf.{shelved, IsShelf};
+
+    ghost view = { shelved };
+
+    ghost invariant = { IsShelf };
+}
+
+impl Tint {
+    fn of(colour: Colour) -> Tint
+        ensures { result ≡ tint_of colour }
+    {
+        match colour {
+            Colour::White => Tint::White,
+            Colour::Grey => Tint::Grey,
+            Colour::Black => Tint::Black,
+        }
+    }
+
+    fn colour(self) -> Option<Colour>
+        ensures { result ≡ colour_of self }
+    {
+        match self {
+            Tint::Free => None,
+            Tint::White => Some(Colour::White),
+            Tint::Grey => Some(Colour::Grey),
+            Tint::Black => Some(Colour::Black),
+        }
+    }
+}
+
+impl Form {
+    fn link(&self) -> u32
+        ensures { result ≡ link_of self.now }
+    {
+        match self {
+            Form::Free { link } => *link,
+            Form::Taken { link, .. } => *link,
+        }
+    }
+
+    fn lead_to(&mut self, next: u32)
+        ensures { self.new ≡ leading self.old next }
+    {
+        match self {
+            Form::Free { link } => *link = next,
+            Form::Taken { link, .. } => *link = next,
+        }
+    }
+
+    fn serial(&self) -> Option<u64>
+        ensures { result ≡ serial_of self.now }
+    {
+        match self {
+            Form::Free { .. } => None,
+            Form::Taken { serial, .. } => Some(*serial),
+        }
+    }
+
+    fn kind(&self) -> Option<Kind>
+        ensures { result ≡ kind_of self.now }
+    {
+        match self {
+            Form::Free { .. } => None,
+            Form::Taken { kind, .. } => Some(*kind),
+        }
+    }
+
+    fn text(&self) -> Option<&Text>
+        ensures { option_map (λ t. t.now) result ≡ text_of self.now }
+    {
+        match self {
+            Form::Free { .. } => None,
+            Form::Taken { text, .. } => Some(text),
+        }
+    }
+
+    fn set_text(&mut self, new: Text) -> Text
+        requires { is_taken self.old ≡ true }
+        ensures form { self.new ≡ telling self.old new }
+        ensures old { text_of self.old ≡ Some result }
+    {
+        match self {
+            Form::Free { .. } => unreachable!(),
+            Form::Taken { text, .. } => std::mem::replace(text, new),
+        }
+    }
+}
+
+// The tint of that index; a slot that is not there is free.
+fn tint_at(tints: &[Tint], id: u32) -> Tint
+    ensures { result ≡ get_or tints.now id Tint.Free }
+{
+    if (id as usize) < tints.len() {
+        tints[id as usize]
+    } else {
+        Tint::Free
+    }
+}
+
+fn form_at(forms: &[Form], id: u32) -> Option<&Form>
+    ensures { option_map (λ f. f.now) result ≡ slice_get forms.now id }
+{
+    forms.get(id as usize)
+}
+
+// Appends an element for which there is room.
+fn append<T: Drop>(items: &mut Vec<T>, item: T)
+    requires { length items.old.items < vec_capacity items.old }
+    ensures items { items.new.items ≡ items.old.items ++ item ∷ [] }
+    ensures room { vec_capacity items.old ≤ vec_capacity items.new }
+{
+    let Ok(()) = items.push(item) else {
+        unreachable!();
+    };
+}
+
+impl Shelf {
+    /// No slots, with room for that many. The only error is that an allocation failed.
+    pub fn new(alloc: Global, count: u32) -> Result<Shelf, AllocError>
+        ensures none { IfOk result (λ s. s.items ≡ []) }
+        ensures room { IfOk result (λ s. count ≤ s.room) }
+    {
+        let tints = Vec::with_capacity(alloc, count as usize)?;
+        let forms = Vec::with_capacity(alloc, count as usize)?;
+        Ok(Shelf { tints, forms })
+    }
+
+    /// How many slots there are.
+    pub fn len(&self) -> usize
+        ensures { result ≡ length self.now.items }
+    {
+        self.tints.len()
+    }
+
+    /// The colour of the vertex; none if there is no vertex.
+    pub fn colour(&self, id: u32) -> Option<Colour>
+        ensures { result ≡ in_slot (λ o. o.colour) (occupant_at self.now.items id) }
+    {
+        tint_at(&self.tints, id).colour()
+    }
+
+    /// The serial of the vertex; none if there is no vertex.
+    pub fn serial(&self, id: u32) -> Option<u64>
+        ensures { result ≡ in_slot (λ o. o.serial) (occupant_at self.now.items id) }
+    {
+        match form_at(&self.forms, id) {
+            Some(form) => form.serial(),
+            None => None,
+        }
+    }
+
+    /// The kind of the vertex; none if there is no vertex.
+    pub fn kind(&self, id: u32) -> Option<Kind>
+        ensures { result ≡ in_slot (λ o. o.kind) (occupant_at self.now.items id) }
+    {
+        match form_at(&self.forms, id) {
+            Some(form) => form.kind(),
+            None => None,
+        }
+    }
+
+    /// The text of the vertex; none if there is no vertex.
+    pub fn text(&self, id: u32) -> Option<&Text>
+        ensures { option_map (λ t. t.now) result ≡ in_slot (λ o. o.text) (occupant_at self.now.items id) }
+    {
+        match form_at(&self.forms, id) {
+            Some(form) => form.text(),
+            None => None,
+        }
+    }
+
+    /// The next slot of the slot's list; none if there is no such slot.
+    pub fn link(&self, id: u32) -> Option<u32>
+        ensures { MatchOption result (length self.now.items ≤ id) (λ next. (id < length self.now.items) × (next ≡ (at self.now.items id).link)) }
+    {
+        match form_at(&self.forms, id) {
+            Some(form) => Some(form.link()),
+            None => None,
+        }
+    }
+
+    /// Appends a free slot that leads to the next one.
+    pub fn push_free(&mut self, link: u32)
+        requires { length self.old.items < self.old.room }
+        ensures items { self.new.items ≡ self.old.items ++ record { occupant = None; link = link } ∷ [] }
+        ensures room { self.old.room ≤ self.new.room }
+    {
+        append(&mut self.tints, Tint::Free);
+        append(&mut self.forms, Form::Free { link });
+    }
+
+    /// Makes a slot free; it then leads to the next one.
+    pub fn free(&mut self, id: u32, link: u32)
+        requires { id < length self.old.items }
+        ensures { self.new ≡ record self.old { items = set self.old.items id (record { occupant = None; link = link }) } }
+    {
+        self.tints[id as usize] = Tint::Free;
+        self.forms[id as usize] = Form::Free { link };
+    }
+
+    /// Puts a vertex into a slot.
+    pub fn fill(&mut self, id: u32, occupant: Occupant)
+        requires { id < length self.old.items }
+        ensures { self.new ≡ record self.old { items = set self.old.items id (record { occupant = Some occupant; link = (at self.old.items id).link }) } }
+    {
+        self.tints[id as usize] = Tint::of(occupant.colour);
+        let link = self.forms[id as usize].link();
+        self.forms[id as usize] = Form::Taken {
+            kind: occupant.kind,
+            link,
+            serial: occupant.serial,
+            text: occupant.text,
+        };
+    }
+
+    /// Gives the vertex in a slot a colour.
+    pub fn paint(&mut self, id: u32, colour: Colour)
+        requires { occupant_at self.old.items id ≢ None }
+        ensures { self.new ≡ record self.old { items = set self.old.items id (record { occupant = coloured colour (occupant_at self.old.items id); link = (at self.old.items id).link }) } }
+    {
+        self.tints[id as usize] = Tint::of(colour);
+    }
+
+    /// Gives the vertex in a slot a colour, and lets the slot lead to another one.
+    pub fn paint_and_lead(&mut self, id: u32, colour: Colour, next: u32)
+        requires { occupant_at self.old.items id ≢ None }
+        ensures { self.new ≡ record self.old { items = set self.old.items id (record { occupant = coloured colour (occupant_at self.old.items id); link = next }) } }
+    {
+        self.tints[id as usize] = Tint::of(colour);
+        self.forms[id as usize].lead_to(next);
+    }
+
+    /// Replaces the text of the vertex in a slot, and returns the old one.
+    pub fn set_text(&mut self, id: u32, new: Text) -> Text
+        requires { occupant_at self.old.items id ≢ None }
+        ensures slot { self.new ≡ record self.old { items = set self.old.items id (record { occupant = with_text new (occupant_at self.old.items id); link = (at self.old.items id).link }) } }
+        ensures old { in_slot (λ o. o.text) (occupant_at self.old.items id) ≡ Some result }
+    {
+        self.forms[id as usize].set_text(new)
+    }
+}
