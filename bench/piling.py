@@ -20,6 +20,7 @@ ROOT = Path(__file__).resolve().parent.parent
 OWNER, SERIAL = 0x9E37_79B9_7F4A_7C15, 0x9FB2_1C65_1E98_DF25
 WORD, BLOCK = 1 << 64, 64
 SLOTS, CELLS = 65_536, 1_048_576
+BUCKETS = CELLS // 2
 VERTICES, OTHERS = 60_000, 400_000
 BUCKET = 12_345
 COMMANDS, ROUNDS = 1_000, 7
@@ -33,7 +34,7 @@ def shift(owner, block):
 
 def in_bucket(owner, block, bucket):
     """The serial of the block to which an owner's edge lies in the bucket, as `bucket_of` has it; None if there is none."""
-    place = (bucket - shift(owner, block) - BLOCK * block) % CELLS
+    place = (bucket - shift(owner, block) - BLOCK * block) % BUCKETS
     return BLOCK * block + place if place < BLOCK else None
 
 
@@ -41,10 +42,10 @@ def piled(bucket):
     """Edges between alice's documents that lie in the bucket; the vertex of serial k is in slot k - 1."""
     near = defaultdict(list)
     for block in range((VERTICES + 1) // BLOCK + 1):
-        near[(shift(0, block) + BLOCK * block) % CELLS // BLOCK].append(block)
+        near[(shift(0, block) + BLOCK * block) % BUCKETS // BLOCK].append(block)
     for owner in range(2, VERTICES + 2):
-        wanted = (bucket - shift(owner - 1, 0)) % CELLS // BLOCK
-        for block in (it for place in range(wanted - 2, wanted + 2) for it in near[place % (CELLS // BLOCK)]):
+        wanted = (bucket - shift(owner - 1, 0)) % BUCKETS // BLOCK
+        for block in (it for place in range(wanted - 2, wanted + 2) for it in near[place % (BUCKETS // BLOCK)]):
             over = in_bucket(owner - 1, block, bucket)
             if over is not None and 2 <= over < VERTICES + 2 and over != owner:
                 yield owner, over
@@ -133,7 +134,7 @@ def serve(program, edges):
 def main():
     program = Path(sys.argv[1] if len(sys.argv) > 1 else ROOT / "crates" / "tgdoc" / "out" / "tgdoc")
     edges = list(piled(BUCKET))
-    print("%d edges in one bucket of %d" % (len(edges), CELLS), flush=True)
+    print("%d edges in one bucket of %d" % (len(edges), BUCKETS), flush=True)
     mixed = scattered(edges)
     run(program, mixed)
     serve(program, mixed)

@@ -137,6 +137,15 @@ fn set_head(heads: &mut [u32], owner: u32, is_first: bool, next: u32)
     }
 }
 
+// How many buckets there are for that many cells: a power of two, for two cells each if all are in use. With more, rows
+// would hardly be shorter, and the heads would take more of the processor's cache.
+fn buckets_for(count: u32) -> u32
+    requires { count ≤ MAX_CELLS }
+    ensures { 1 ≤ result }
+{
+    (count / 2).max(1).next_power_of_two()
+}
+
 impl Cells {
     /// Empty lists for that many owners, 1 to 65,536, and that many free cells, 1 to 1,048,576, under the key that
     /// everybody can read. The only error is that an allocation failed.
@@ -161,7 +170,7 @@ impl Cells {
     {
         let heads = vec![in alloc; count; owners as usize]?;
         let cells = Vec::with_capacity(alloc, count as usize)?;
-        let index = Buckets::new(alloc, count.next_power_of_two(), count)?;
+        let index = Buckets::new(alloc, buckets_for(count), count)?;
         Ok(Cells {
             cells,
             heads,

@@ -8,7 +8,7 @@ use Rattle.tg_cells.proofs.cells.Cells.with_key.Goals as goal
 pub invariant_of-result : goal.invariant_of-result
 invariant_of-result c =
     let some = c.in_ok-index.ensures.0 in
-    let least = c.next_power_of_two.ensures.lower_bound in
+    let least = c.buckets_for.ensures in
     (stays (record { cells = c.in_ok-cells.cells; heads = c.in_ok-heads.heads; free = c.args.count; free_count = c.args.count; size = c.args.count; index = c.in_ok-index.index; key = c.args.key }) (empty c.args.owners c.args.count)
     (leaves-new (record { cells = c.in_ok-cells.cells; heads = c.in_ok-heads.heads; free = c.args.count; free_count = c.args.count; size = c.args.count; index = c.in_ok-index.index; key = c.args.key }) c.args.owners
     (c.in_ok-heads.ensures.items_if_clones_equal (λ y e. e)) c.in_ok-cells.ensures.items refl refl c.requires.high_owners c.requires.high c.in_ok-cells.ensures.capacity)
