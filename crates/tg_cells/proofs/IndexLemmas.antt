@@ -1,14 +1,13 @@
 -- The index of the edges: what becomes of it when a cell is linked, freed or relabelled, and the search in a bucket.
-use Rattle.std.proofs.Common.{◌≡◌, ◌≢◌, ℕ, ◌+◌, ◌<◌, ◌≤◌, List, [], ◌∷◌, ◌++◌, length, Option, Some, None, inl, inr, sym, ◌∙◌, subst, ap, refl, set, get_or, replicate, cond, ltb, Bool, true, false, eqb, eq-eqb, ◌&&◌, arith, length-set, length-append, get_or-set_same, get_or-set_other}
+use Rattle.std.proofs.Common.{◌≡◌, ◌≢◌, ℕ, ◌+◌, ◌<◌, ◌≤◌, List, [], ◌∷◌, ◌++◌, length, Option, Some, None, inl, inr, sym, ◌∙◌, subst, ap, refl, set, replicate, cond, ltb, Bool, true, false, eqb, eq-eqb, ◌&&◌, arith, length-set, length-append, get_or-set_same, get_or-set_other}
 use Rattle.std.proofs.lemmas.Bool.{cases_eq, cases_lt, ne_eqb, lt-ltb, le-ltb}
-use Rattle.std.proofs.lemmas.List.{get_or_default}
 use Rattle.tg_rights.specs.Membership.{Contains, Distinct}
 use Rattle.tg_rights.specs.Letters.{Letters}
 use Rattle.tg_rights.proofs.MembershipLemmas.{contains_append, contains_around, contains_middle, contains_map, map_append, distinct_around, split_at}
 use Rattle.tg_index.specs.Rows.{Rows, row, first_of, IsUnheld, AreRows}
 use Rattle.tg_index.proofs.ListsLemmas.{contains_apart, added, in_front, grown, lost, kept}
 use Rattle.tg_index.proofs.RowLemmas.{none_left, left, Walked, walk_step, at_cursor}
-use Rattle.tg_cells.specs.declared.cells.Cell.{Cell}
+use Rattle.tg_cells.specs.declared.pool.Cell.{Cell}
 use Rattle.tg_cells.specs.declared.key.Key.{Key}
 use Rattle.tg_cells.specs.declared.cells.Cells.TheInside.{Inside}
 use Rattle.tg_cells.specs.Lists.{Edge, CellLists, owned, cells, Stands, HasNone, IsFresh, Found, IsCells}
@@ -227,15 +226,15 @@ eqb_is : (a b : ℕ) → eqb a b ≡ true → a ≡ b
 eqb_is a b e = elim (cases_eq a b) [ inl is ↦ is | inr o ↦ absurd (let other : eqb a b ≡ false = ne_eqb a b o in (cc)) ]
 
 -- The cell at the cursor is the one sought.
-pub seeks_found : (s : Inside) (v : CellLists) (b i serial n : ℕ) (c : Cell) → view_of s ≡ v → IsKept s → Seeks (row s.index.lists b) s.cells.items i serial (Some n) → c ≡ get_or s.cells.items n c → (eqb c.serial serial && eqb c.owner i) ≡ true
+pub seeks_found : (s : Inside) (v : CellLists) (b i serial n : ℕ) → view_of s ≡ v → IsKept s → Seeks (row s.index.lists b) s.cells.items i serial (Some n) → (eqb (cell_at s.cells.items n).serial serial && eqb (cell_at s.cells.items n).owner i) ≡ true
     → (f : Found (owned v.lists i) serial) × (n ≡ f.edge.cell)
-seeks_found s v b i serial n c is k l read test =
+seeks_found s v b i serial n is k l test =
     let was = (index_seen s v is k).edges.sound b n (seeks_held (row s.index.lists b) s.cells.items i serial n l) in
     let entry = linked_entry s v was.owner was.edge (seen s v is k.inside).shown was.held in
-    let tests = both (eqb c.serial serial) (eqb c.owner i) test in
-    let same : c ≡ cell_at s.cells.items was.edge.cell = read ∙ get_or_default s.cells.items n c _ (seeks_within s v b i serial n is k l) ∙ ap (cell_at s.cells.items) (sym was.here) in
-    let owner : was.owner ≡ i = sym entry.owner ∙ ap (λ (x : Cell). x.owner) (sym same) ∙ eqb_is c.owner i tests.1 in
-    let named : was.edge.serial ≡ serial = sym (ap (λ (x : Edge). x.serial) entry.edge) ∙ ap (λ (x : Cell). x.serial) (sym same) ∙ eqb_is c.serial serial tests.0 in
+    let tests = both (eqb (cell_at s.cells.items n).serial serial) (eqb (cell_at s.cells.items n).owner i) test in
+    let same : cell_at s.cells.items n ≡ cell_at s.cells.items was.edge.cell = ap (cell_at s.cells.items) (sym was.here) in
+    let owner : was.owner ≡ i = sym entry.owner ∙ ap (λ (x : Cell). x.owner) (sym same) ∙ eqb_is (cell_at s.cells.items n).owner i tests.1 in
+    let named : was.edge.serial ≡ serial = sym (ap (λ (x : Edge). x.serial) entry.edge) ∙ ap (λ (x : Cell). x.serial) (sym same) ∙ eqb_is (cell_at s.cells.items n).serial serial tests.0 in
     let at = split_at (owned v.lists i) was.edge (subst (λ (j : ℕ). Contains (owned v.lists j) was.edge) owner was.held) in (
       record { before = at.before; edge = was.edge; after = at.after; is = at.is; here = named },
       sym was.here,
@@ -246,14 +245,13 @@ pub record SeeksOn (ns : List ℕ) (cs : List Cell) (i serial n : ℕ) (next : O
   pub seeks : Seeks ns cs i serial next
   pub less : length (left ns next) < length (left ns (Some n))
 
-pub seeks_on : (s : Inside) (v : CellLists) (b i serial n : ℕ) (c : Cell) (next : Option ℕ) → view_of s ≡ v → IsKept s → Seeks (row s.index.lists b) s.cells.items i serial (Some n) → c ≡ get_or s.cells.items n c → (eqb c.serial serial && eqb c.owner i) ≡ false
+pub seeks_on : (s : Inside) (v : CellLists) (b i serial n : ℕ) (next : Option ℕ) → view_of s ≡ v → IsKept s → Seeks (row s.index.lists b) s.cells.items i serial (Some n) → (eqb (cell_at s.cells.items n).serial serial && eqb (cell_at s.cells.items n).owner i) ≡ false
     → Distinct (row s.index.lists b) → ((p r : List ℕ) → row s.index.lists b ≡ p ++ n ∷ r → next ≡ first_of r) → SeeksOn (row s.index.lists b) s.cells.items i serial n next
-seeks_on s v b i serial n c next is k l read test once follows =
+seeks_on s v b i serial n next is k l test once follows =
     let step = walk_step (row s.index.lists b) n l.walked once in
     let at : next ≡ first_of step.after = follows l.walked.passed step.after step.is in
     let same = ap (λ (x : Option ℕ). length (left (row s.index.lists b) x)) at in
     let less = step.less in
-    let here : c ≡ cell_at s.cells.items n = read ∙ get_or_default s.cells.items n c _ (seeks_within s v b i serial n is k l) in
     record {
       seeks = record {
         walked = record { passed = l.walked.passed ++ n ∷ []; rest = step.after; is = step.on; at = at };
@@ -261,8 +259,8 @@ seeks_on s v b i serial n c next is k l read test once follows =
           | inl old ↦ l.none m old
           | inr new ↦ elim new [
             | inl e ↦ λ owner named.
-                let one : eqb c.serial serial ≡ true = eq-eqb c.serial serial (ap (λ (x : Cell). x.serial) (here ∙ ap (cell_at s.cells.items) (sym e)) ∙ named) in
-                let two : eqb c.owner i ≡ true = eq-eqb c.owner i (ap (λ (x : Cell). x.owner) (here ∙ ap (cell_at s.cells.items) (sym e)) ∙ owner) in
+                let one : eqb (cell_at s.cells.items n).serial serial ≡ true = eq-eqb (cell_at s.cells.items n).serial serial (ap (λ (x : Cell). x.serial) (ap (cell_at s.cells.items) (sym e)) ∙ named) in
+                let two : eqb (cell_at s.cells.items n).owner i ≡ true = eq-eqb (cell_at s.cells.items n).owner i (ap (λ (x : Cell). x.owner) (ap (cell_at s.cells.items) (sym e)) ∙ owner) in
                 let never : true ≡ false = rw (one, two) at test in
                 (cc)
             | inr never ↦ absurd never

@@ -1,8 +1,8 @@
 -- The lists that linked cells show, and where a linked cell is.
-use Rattle.std.proofs.Common.{◌≡◌, ℕ, ◌<◌, ◌≤◌, List, [], ◌∷◌, length, Some, None, sym, ◌∙◌, subst, ap, refl, map, get_or, arith, cond, true, false, ltb, vec_capacity}
+use Rattle.std.proofs.Common.{◌≡◌, ℕ, ◌<◌, ◌≤◌, List, [], ◌∷◌, length, Some, None, sym, ◌∙◌, subst, ap, refl, map, get_or, arith, cond, true, false, ltb}
 use Rattle.std.proofs.lemmas.Bool.{lt-ltb, le-ltb}
-use Rattle.std.proofs.lemmas.List.{ext_get_or, get_or-map, get_or_default}
-use Rattle.tg_cells.specs.declared.cells.Cell.{Cell}
+use Rattle.std.proofs.lemmas.List.{ext_get_or, get_or-map}
+use Rattle.tg_cells.specs.declared.pool.Cell.{Cell}
 use Rattle.tg_cells.specs.declared.cells.Cells.TheInside.{Inside}
 use Rattle.tg_cells.specs.Lists.{Edge, CellLists, owned, first_cell, Stands}
 use Rattle.tg_cells.specs.Chain.{cell_at, edge_of, walk, Chain}
@@ -38,7 +38,7 @@ pub record Leaves (s : Inside) (v : CellLists) : Type 0 where
   pub kept : IsInside s
   pub shows : view_of s ≡ v
 
-pub leaves : (s : Inside) (v : CellLists) → Shows s v → v.size ≤ 1048576 → length v.lists ≤ 65536 → s.size ≤ vec_capacity s.cells → Leaves s v
+pub leaves : (s : Inside) (v : CellLists) → Shows s v → v.size ≤ 1048576 → length v.lists ≤ 65536 → s.size ≤ s.cells.room → Leaves s v
 leaves s v k most most_owners room =
     let is : view_of s ≡ v = shows_view s v k in
     let size = k.size in
@@ -86,12 +86,10 @@ linked_within s v n i p r e is k st =
     omega arith
 
 -- What was read of a linked cell is its edge, and leads to the next one.
-pub read_cell : (s : Inside) (v : CellLists) (n i : ℕ) (p r : List Edge) (e : Edge) (c : Cell) → view_of s ≡ v → IsInside s → c ≡ get_or s.cells.items n c → Stands v.lists n i p e r → edge_of n c ≡ e
-read_cell s v n i p r e c is k read st =
+pub read_cell : (s : Inside) (v : CellLists) (n i : ℕ) (p r : List Edge) (e : Edge) → view_of s ≡ v → IsInside s → Stands v.lists n i p e r → edge_of n (cell_at s.cells.items n) ≡ e
+read_cell s v n i p r e is k st =
     let at = locate s v n i p r e (seen s v is k).shown st in
-    let within : n < length s.cells.items = linked_within s v n i p r e is k st in
-    let same : c ≡ cell_at s.cells.items n = read ∙ get_or_default s.cells.items n c _ within in
-    ap (edge_of n) same ∙ ap (λ (m : ℕ). edge_of m (cell_at s.cells.items m)) (sym st.here) ∙ at.parts.entry.edge
+    ap (λ (m : ℕ). edge_of m (cell_at s.cells.items m)) (sym st.here) ∙ at.parts.entry.edge
 
 -- The head of a chain as an option.
 pub chain_head : (end : ℕ) (cs : List Cell) (i before head : ℕ) (es : List Edge) → length cs ≤ end → Chain end cs i before head es → cond (ltb head (length cs)) (Some head) None ≡ first_cell es
@@ -100,14 +98,12 @@ chain_head end cs i before head (e ∷ es) size c =
     let test : ltb head (length cs) ≡ true = lt-ltb head (length cs) c.0.within in
     rw test (ap (λ (x : Edge). Some x.cell) c.0.edge)
 
-pub read_next : (s : Inside) (v : CellLists) (n i : ℕ) (p r : List Edge) (e : Edge) (c : Cell) → view_of s ≡ v → IsInside s → c ≡ get_or s.cells.items n c → Stands v.lists n i p e r
-    → cond (ltb c.next (length s.cells.items)) (Some c.next) None ≡ first_cell r
-read_next s v n i p r e c is k read st =
+pub read_next : (s : Inside) (v : CellLists) (n i : ℕ) (p r : List Edge) (e : Edge) → view_of s ≡ v → IsInside s → Stands v.lists n i p e r
+    → cond (ltb (cell_at s.cells.items n).next (length s.cells.items)) (Some (cell_at s.cells.items n).next) None ≡ first_cell r
+read_next s v n i p r e is k st =
     let shown = (seen s v is k).shown in
     let at = locate s v n i p r e shown st in
-    let within : n < length s.cells.items = linked_within s v n i p r e is k st in
-    let same : c ≡ cell_at s.cells.items n = read ∙ get_or_default s.cells.items n c _ within in
-    ap (λ (x : Cell). cond (ltb x.next (length s.cells.items)) (Some x.next) None) (same ∙ ap (cell_at s.cells.items) (sym st.here))
+    ap (λ (m : ℕ). cond (ltb (cell_at s.cells.items m).next (length s.cells.items)) (Some (cell_at s.cells.items m).next) None) (sym st.here)
     ∙ chain_head v.size s.cells.items i e.cell (cell_at s.cells.items e.cell).next r shown.used at.parts.rest
 
 -- The owner of a linked cell has a head.

@@ -1,17 +1,17 @@
 -- A free cell is provided, and the first one is taken for an edge, in front of its owner's list.
-use Rattle.std.proofs.Common.{◌≡◌, ◌≢◌, ℕ, ◌+◌, ◌-◌, ◌<◌, ◌≤◌, List, [], ◌∷◌, ◌++◌, length, inl, inr, sym, ◌∙◌, subst, ap, refl, set, get_or, arith, length-set, length-append, get_or-set_same, get_or-set_other, Global, true, false, ltb, vec_capacity}
+use Rattle.std.proofs.Common.{◌≡◌, ◌≢◌, ℕ, ◌+◌, ◌-◌, ◌<◌, ◌≤◌, List, [], ◌∷◌, ◌++◌, length, inl, inr, sym, ◌∙◌, subst, ap, refl, set, get_or, arith, length-set, length-append, get_or-set_same, get_or-set_other, Global, true, false, ltb}
 use Rattle.std.proofs.lemmas.Bool.{cases_lt, lt-ltb, le-ltb}
-use Rattle.std.proofs.lemmas.List.{get_or_default, get_or_append_left, get_or_push, with_items_is}
-use Rattle.std.specs.Vec.{with_items, with_item}
+use Rattle.std.proofs.lemmas.List.{get_or_default, get_or_append_left, get_or_push}
+use Rattle.std.specs.Vec.{with_item}
 use Rattle.std.specs.declared.vec.Vec.{Vec}
 use Rattle.tg_rights.specs.Membership.{Contains, Distinct}
 use Rattle.tg_rights.specs.Letters.{Letters, is_none}
 use Rattle.tg_rights.proofs.MembershipLemmas.{contains_map}
 use Rattle.tg_index.specs.Rows.{Rows}
-use Rattle.tg_cells.specs.declared.cells.Cell.{Cell}
+use Rattle.tg_cells.specs.declared.pool.Cell.{Cell}
 use Rattle.tg_cells.specs.declared.cells.Cells.TheInside.{Inside}
 use Rattle.tg_cells.specs.Lists.{Edge, CellLists, owned, cells, HasNone, IsFresh}
-use Rattle.tg_cells.specs.Chain.{cell_at, edge_of, with_previous, unused, IsProvided, Chain, Row}
+use Rattle.tg_cells.specs.Chain.{Pooled, cell_at, edge_of, with_previous, unused, IsProvided, Chain, Row}
 use Rattle.tg_cells.specs.Inside.{IsFree, Shows, view_of, IsInside}
 use Rattle.tg_cells.proofs.ListLemmas.{contains_within, sound-link}
 use Rattle.tg_cells.proofs.ChainLemmas.{at_same, at_other, Only, only_set, chain_same, chain_only, chain_own, chain_front, chain_after, row_same, row_only}
@@ -50,7 +50,7 @@ pub record Provided (s : Inside) (v : CellLists) : Type 0 where
   pub left : Leaves s v
   pub full : length s.cells.items ≤ s.free → v.free ≡ 0
 
-pub provides : (s : Inside) (v : CellLists) (w : Vec Cell Global) (owners number : ℕ) → view_of s ≡ v → IsInside s → owners ≡ length s.heads.items → IsProvided s.cells.items w.items s.free s.size owners number → s.size ≤ vec_capacity w
+pub provides : (s : Inside) (v : CellLists) (w : Pooled) (owners number : ℕ) → view_of s ≡ v → IsInside s → owners ≡ length s.heads.items → IsProvided s.cells.items w.items s.free s.size owners number → s.size ≤ w.room
     → Provided (record s { cells = w; free = number }) v
 provides s v w owners number is inside every k room = elim (cases_lt s.free (length s.cells.items)) [
   | inl within ↦ found within
@@ -215,9 +215,9 @@ pub record LinksIn (s after : Inside) (v : CellLists) (i : ℕ) (e : Edge) : Typ
   pub same : length after.cells.items ≡ length s.cells.items
   pub shows : view_of after ≡ record v { lists = set v.lists i (e ∷ owned v.lists i); free = s.free_count - 1 }
 
-pub links_in : (s : Inside) (v : CellLists) (w : Vec Cell Global) (g : Vec ℕ Global) (x : Rows) (i next : ℕ) (c : Cell) → view_of s ≡ v → IsInside s → i < length v.lists → HasNone (owned v.lists i) c.serial → is_none c.rights ≡ false
+pub links_in : (s : Inside) (v : CellLists) (w : Pooled) (g : Vec ℕ Global) (x : Rows) (i next : ℕ) (c : Cell) → view_of s ≡ v → IsInside s → i < length v.lists → HasNone (owned v.lists i) c.serial → is_none c.rights ≡ false
     → s.free < length s.cells.items → c.owner ≡ i → c.previous ≡ v.size → c.next ≡ get_or s.heads.items i v.size → next ≡ (cell_at s.cells.items s.free).next
-    → s.size ≤ vec_capacity w → w.items ≡ linked s.cells.items s.free c → g.items ≡ set s.heads.items i s.free
+    → s.size ≤ w.room → w.items ≡ linked s.cells.items s.free c → g.items ≡ set s.heads.items i s.free
     → LinksIn s (record { cells = w; heads = g; free = next; free_count = s.free_count - 1; size = s.size; index = x; key = s.key }) v i (edge_of s.free c)
 links_in s v w g x i next c is inside own none some within mine first after next_is room ev gv =
     let seen = seen s v is inside in
@@ -276,24 +276,13 @@ abbrev pub entered : ℕ → ℕ → ℕ → ℕ → ℕ → Letters → Cell
 entered i end head target serial rights = record { owner = i; previous = end; next = head; target = target; serial = serial; rights = rights }
 
 -- The same from the steps of the code, one after another.
-pub links : (s : Inside) (v : CellLists) (xs : List Cell) (x : Rows) (i end head target serial : ℕ) (rights : Letters) (old : Cell) → view_of s ≡ v → IsInside s → i < length v.lists → HasNone (owned v.lists i) serial → is_none rights ≡ false
-    → end ≡ s.size → head ≡ get_or s.heads.items i head → s.free < length s.cells.items → old ≡ get_or s.cells.items s.free old
-    → xs ≡ with_previous (set s.cells.items s.free (entered i end head target serial rights)) head s.free
-    → LinksIn s (record {
-      cells = with_items (with_item s.cells s.free (entered i end head target serial rights)) xs;
-      heads = with_item s.heads i s.free;
-      free = old.next;
-      free_count = s.free_count - 1;
-      size = s.size;
-      index = x;
-      key = s.key;
-    }) v i (record { cell = s.free; target = target; serial = serial; rights = rights })
-links s v xs x i end head target serial rights old is inside own none some last read within met ex =
+pub links : (s : Inside) (v : CellLists) (w w' : Pooled) (x : Rows) (i end head next target serial : ℕ) (rights : Letters) → view_of s ≡ v → IsInside s → i < length v.lists → HasNone (owned v.lists i) serial → is_none rights ≡ false
+    → end ≡ s.size → head ≡ get_or s.heads.items i head → s.free < length s.cells.items → next ≡ (cell_at s.cells.items s.free).next
+    → w ≡ record s.cells { items = set s.cells.items s.free (entered i end head target serial rights) } → w' ≡ record w { items = with_previous w.items head s.free }
+    → LinksIn s (record { cells = w'; heads = with_item s.heads i s.free; free = next; free_count = s.free_count - 1; size = s.size; index = x; key = s.key }) v i (record { cell = s.free; target = target; serial = serial; rights = rights })
+links s v w w' x i end head next target serial rights is inside own none some last read within next_is ew ew' =
     let shown = (seen s v is inside).shown in
     let heads = shown.heads in
-    let one : length xs ≡ length (set s.cells.items s.free (entered i end head target serial rights)) = ap length ex ∙ length-set _ head _ in
-    let two : length (set s.cells.items s.free (entered i end head target serial rights)) ≡ length s.cells.items = length-set s.cells.items s.free _ in
-    links_in s v (with_items (with_item s.cells s.free (entered i end head target serial rights)) xs) (with_item s.heads i s.free) x i old.next
-    (entered i end head target serial rights) is inside own none some within refl (last ∙ shown.size)
-    (read ∙ get_or_default s.heads.items i head v.size (omega arith)) (ap (λ (x : Cell). x.next) (met ∙ get_or_default s.cells.items s.free old _ within)) inside.room
-    (with_items_is (with_item s.cells s.free (entered i end head target serial rights)) xs (omega arith) ∙ ex) refl
+    let made : w' ≡ record s.cells { items = linked s.cells.items s.free (entered i end head target serial rights) } = ew' ∙ ap (λ (c : Pooled). record c { items = with_previous c.items head s.free }) ew in
+    links_in s v w' (with_item s.heads i s.free) x i next (entered i end head target serial rights) is inside own none some within refl (last ∙ shown.size)
+    (read ∙ get_or_default s.heads.items i head v.size (omega arith)) next_is (let room = inside.room in let same = ap (λ (c : Pooled). c.room) made in omega arith) (ap (λ (c : Pooled). c.items) made) refl

@@ -1,20 +1,20 @@
 -- A cell leaves its list: its neighbours are joined, and it goes to the front of the free cells.
-use Rattle.std.proofs.Common.{◌≡◌, ◌≢◌, ℕ, ◌+◌, ◌<◌, ◌≤◌, List, [], ◌∷◌, ◌++◌, length, ◌⊎◌, inl, inr, sym, ◌∙◌, subst, ap, refl, set, get_or, arith, cond, eqb, eq-eqb, length-set, Global, vec_capacity}
+use Rattle.std.proofs.Common.{◌≡◌, ◌≢◌, ℕ, ◌+◌, ◌<◌, ◌≤◌, List, [], ◌∷◌, ◌++◌, length, ◌⊎◌, inl, inr, sym, ◌∙◌, subst, ap, refl, set, get_or, arith, cond, eqb, eq-eqb, length-set, Global}
 use Rattle.std.proofs.lemmas.Bool.{ne_eqb, cond-true, cond-false}
-use Rattle.std.proofs.lemmas.List.{get_or_default, with_items_is}
-use Rattle.std.specs.Vec.{with_items, with_item}
+use Rattle.std.proofs.lemmas.List.{with_items_is}
+use Rattle.std.specs.Vec.{with_items}
 use Rattle.std.specs.declared.vec.Vec.{Vec}
 use Rattle.tg_rights.specs.Membership.{Contains}
 use Rattle.tg_index.specs.Rows.{Rows}
 use Rattle.tg_index.proofs.LinksLemmas.{head_own, head_other, heads_size}
-use Rattle.tg_cells.specs.declared.cells.Cell.{Cell}
+use Rattle.tg_cells.specs.declared.pool.Cell.{Cell}
 use Rattle.tg_cells.specs.declared.cells.Cells.TheInside.{Inside}
 use Rattle.tg_cells.specs.Lists.{Edge, CellLists, owned, cells, Stands}
-use Rattle.tg_cells.specs.Chain.{cell_at, with_previous, with_next, Chain, Row}
+use Rattle.tg_cells.specs.Chain.{Pooled, cell_at, with_previous, with_next, Chain, Row}
 use Rattle.tg_cells.specs.Inside.{IsFree, view_of, IsInside}
 use Rattle.tg_cells.proofs.ListLemmas.{sound-unlink}
 use Rattle.tg_cells.proofs.ChainLemmas.{at_same, at_other, Only, only_set, only_both, chain_same, chain_only, chain_own, chain_front, chain_after, Path, path_own, path_same, path_before, path_tail, path_last, Parts, chain_join, row_own, row_only, IsOwn, Apart, owner_next, owner_previous}
-use Rattle.tg_cells.proofs.InsideLemmas.{Leaves, leaves, seen, locate, linked_within}
+use Rattle.tg_cells.proofs.InsideLemmas.{Leaves, leaves, seen, locate}
 use Rattle.tg_cells.proofs.StepLemmas.{chains_set, list_apart}
 
 -- The cells after cell n, with neighbours a and b, was freed.
@@ -126,9 +126,9 @@ freed end cs i n a b owners free count p r k other f =
       counted = omega arith;
     }
 
-leaves-joined : (s : Inside) (v : CellLists) (w : Vec Cell Global) (g : Vec ℕ Global) (x : Rows) (n i owners a b : ℕ) (p r : List Edge) (e : Edge) → view_of s ≡ v → IsInside s → Stands v.lists n i p e r → i < length v.lists
+leaves-joined : (s : Inside) (v : CellLists) (w : Pooled) (g : Vec ℕ Global) (x : Rows) (n i owners a b : ℕ) (p r : List Edge) (e : Edge) → view_of s ≡ v → IsInside s → Stands v.lists n i p e r → i < length v.lists
     → Neighbours v.size s.cells.items i n a b (cells p) (cells r) → Path s.cells.items i v.size (get_or s.heads.items i v.size) p a n → Chain v.size s.cells.items i n b r → owners ≡ length v.lists
-    → s.size ≤ vec_capacity w → w.items ≡ unlinked s.cells.items n a b owners s.free → g.items ≡ cond (eqb a v.size) (set s.heads.items i b) s.heads.items
+    → s.size ≤ w.room → w.items ≡ unlinked s.cells.items n a b owners s.free → g.items ≡ cond (eqb a v.size) (set s.heads.items i b) s.heads.items
     → Leaves (record { cells = w; heads = g; free = n; free_count = s.free_count + 1; size = s.size; index = x; key = s.key }) (record v { lists = set v.lists i (p ++ r); free = v.free + 1 })
 leaves-joined s v w g x n i owners a b p r e is inside st own k path rest total room ev gv =
     let seen = seen s v is inside in
@@ -158,7 +158,7 @@ leaves-joined s v w g x n i owners a b p r e is inside st own k path rest total 
       sound = sound-unlink v n i p r e shown.sound st;
     }) seen.most (omega arith) room
 
-pub leaves-unlink : (s : Inside) (v : CellLists) (w : Vec Cell Global) (g : Vec ℕ Global) (x : Rows) (n i owners : ℕ) (p r : List Edge) (e : Edge) → view_of s ≡ v → IsInside s → Stands v.lists n i p e r → owners ≡ length s.heads.items → s.size ≤ vec_capacity w
+pub leaves-unlink : (s : Inside) (v : CellLists) (w : Pooled) (g : Vec ℕ Global) (x : Rows) (n i owners : ℕ) (p r : List Edge) (e : Edge) → view_of s ≡ v → IsInside s → Stands v.lists n i p e r → owners ≡ length s.heads.items → s.size ≤ w.room
     → w.items ≡ unlinked s.cells.items n (cell_at s.cells.items n).previous (cell_at s.cells.items n).next owners s.free
     → g.items ≡ cond (eqb (cell_at s.cells.items n).previous s.size) (set s.heads.items i (cell_at s.cells.items n).next) s.heads.items
     → Leaves (record { cells = w; heads = g; free = n; free_count = s.free_count + 1; size = s.size; index = x; key = s.key }) (record v { lists = set v.lists i (p ++ r); free = v.free + 1 })
@@ -175,43 +175,32 @@ leaves-unlink s v w g x n i owners p r e is inside st every room ev gv =
     (gv ∙ ap (λ (m : ℕ). cond (eqb (cell_at s.cells.items n).previous m) (set s.heads.items i (cell_at s.cells.items n).next) s.heads.items) shown.size)
 
 -- What the writes, one after another, do to the cells.
-pub unlinked_items : (v : Vec Cell Global) (xs ys : List Cell) (n a b owners free : ℕ) (old new : Cell) → n < length v.items → xs ≡ with_next v.items a b → ys ≡ with_previous (with_items v xs).items b a
-    → old ≡ get_or (with_items (with_items v xs) ys).items n old → new ≡ record old { owner = owners; next = free }
-    → (with_item (with_items (with_items v xs) ys) n new).items ≡ unlinked v.items n a b owners free
-unlinked_items v xs ys n a b owners free old new w ex ey read ev =
-    let one : length xs ≡ length v.items = ap length ex ∙ length-set v.items a _ in
-    let first : (with_items v xs).items ≡ xs = with_items_is v xs (omega arith) in
-    let kept = ap length first in
-    let two : length ys ≡ length (with_items v xs).items = ap length ey ∙ length-set (with_items v xs).items b _ in
-    let second : (with_items (with_items v xs) ys).items ≡ ys = with_items_is (with_items v xs) ys (omega arith) in
-    let is : (with_items (with_items v xs) ys).items ≡ joined v.items a b = second ∙ ey ∙ ap (λ (l : List Cell). with_previous l b a) (first ∙ ex) in
-    let size = ap length is in
-    let two' : length (joined v.items a b) ≡ length (with_next v.items a b) = length-set (with_next v.items a b) b _ in
-    let one' : length (with_next v.items a b) ≡ length v.items = length-set v.items a _ in
-    let same : old ≡ cell_at (joined v.items a b) n =
-    read ∙ ap (λ (l : List Cell). get_or l n old) is ∙ get_or_default (joined v.items a b) n old _ (omega arith) in
-    ap (λ (l : List Cell). set l n new) is ∙ ap (λ (c : Cell). set (joined v.items a b) n c) (ev ∙ ap (λ (c : Cell). record c { owner = owners; next = free }) same)
+pub record Writes (s : Inside) (w w' w'' : Pooled) (n a b owners : ℕ) : Type 0 where
+  pub before : a ≡ (cell_at s.cells.items n).previous
+  pub after : b ≡ (cell_at s.cells.items n).next
+  pub on : w ≡ record s.cells { items = with_next s.cells.items a b }
+  pub back : w' ≡ record w { items = with_previous w.items b a }
+  pub freed : w'' ≡ record w' { items = set w'.items n (record (cell_at w'.items n) { owner = owners; next = s.free }) }
 
-pub unlinked_length : (v : Vec Cell Global) (xs ys : List Cell) (n a b owners free : ℕ) (old new : Cell) → n < length v.items → xs ≡ with_next v.items a b → ys ≡ with_previous (with_items v xs).items b a
-    → old ≡ get_or (with_items (with_items v xs) ys).items n old → new ≡ record old { owner = owners; next = free } → length v.items ≡ length (with_item (with_items (with_items v xs) ys) n new).items
-unlinked_length v xs ys n a b owners free old new w ex ey read ev =
-    sym (ap length (unlinked_items v xs ys n a b owners free old new w ex ey read ev) ∙ length-set (joined v.items a b) n _ ∙ length-set (with_next v.items a b) b _ ∙ length-set v.items a _)
+pub written : (s : Inside) (w w' w'' : Pooled) (n a b owners : ℕ) → Writes s w w' w'' n a b owners → w'' ≡ record s.cells { items = unlinked s.cells.items n a b owners s.free }
+written s w w' w'' n a b owners k =
+    k.freed ∙ ap (λ (c : Pooled). record c { items = set c.items n (record (cell_at c.items n) { owner = owners; next = s.free }) })
+    (k.back ∙ ap (λ (c : Pooled). record c { items = with_previous c.items b a }) k.on)
+
+pub unlinked_length : (s : Inside) (w w' w'' : Pooled) (n a b owners : ℕ) → Writes s w w' w'' n a b owners → length s.cells.items ≡ length w''.items
+unlinked_length s w w' w'' n a b owners k =
+    sym (ap (λ (c : Pooled). length c.items) (written s w w' w'' n a b owners k)
+    ∙ length-set (joined s.cells.items a b) n _ ∙ length-set (with_next s.cells.items a b) b _ ∙ length-set s.cells.items a _)
 
 -- The same from the steps of the code, one after another.
-pub unlinks : (s : Inside) (v : CellLists) (xs ys : List Cell) (gs : List ℕ) (x : Rows) (n i end owners : ℕ) (p r : List Edge) (e : Edge) (before after old new : Cell) → view_of s ≡ v → IsInside s → Stands v.lists n i p e r
-    → end ≡ s.size → owners ≡ length s.heads.items → before ≡ get_or s.cells.items n before → after ≡ get_or s.cells.items n after
-    → gs ≡ cond (eqb before.previous end) (set s.heads.items i after.next) s.heads.items → xs ≡ with_next s.cells.items before.previous after.next
-    → ys ≡ with_previous (with_items s.cells xs).items after.next before.previous → old ≡ get_or (with_items (with_items s.cells xs) ys).items n old → new ≡ record old { owner = owners; next = s.free }
-    → Leaves (record { cells = with_item (with_items (with_items s.cells xs) ys) n new; heads = with_items s.heads gs; free = n; free_count = s.free_count + 1; size = s.size; index = x; key = s.key })
-    (record v { lists = set v.lists i (p ++ r); free = v.free + 1 })
-unlinks s v xs ys gs x n i end owners p r e before after old new is inside st last every read read' eg ex ey freed en =
-    let within : n < length s.cells.items = linked_within s v n i p r e is inside st in
-    let a : before.previous ≡ (cell_at s.cells.items n).previous = ap (λ (x : Cell). x.previous) (read ∙ get_or_default s.cells.items n before _ within) in
-    let b : after.next ≡ (cell_at s.cells.items n).next = ap (λ (x : Cell). x.next) (read' ∙ get_or_default s.cells.items n after _ within) in
-    let made = unlinked_items s.cells xs ys n before.previous after.next owners s.free old new within ex ey freed en in
-    let heads : length gs ≡ length s.heads.items = ap length eg ∙ heads_size s.heads.items i before.previous after.next end in
-    leaves-unlink s v (with_item (with_items (with_items s.cells xs) ys) n new) (with_items s.heads gs) x n i owners p r e is inside st every inside.room
-    (made ∙ ap (λ (k : ℕ). unlinked s.cells.items n k after.next owners s.free) a ∙ ap (λ (k : ℕ). unlinked s.cells.items n (cell_at s.cells.items n).previous k owners s.free) b)
-    (with_items_is s.heads gs (omega arith) ∙ eg ∙ ap (λ (k : ℕ). cond (eqb k end) (set s.heads.items i after.next) s.heads.items) a
-    ∙ ap (λ (k : ℕ). cond (eqb (cell_at s.cells.items n).previous end) (set s.heads.items i k) s.heads.items) b
-    ∙ ap (λ (k : ℕ). cond (eqb (cell_at s.cells.items n).previous k) (set s.heads.items i (cell_at s.cells.items n).next) s.heads.items) last)
+pub unlinks : (s : Inside) (v : CellLists) (w w' w'' : Pooled) (gs : List ℕ) (x : Rows) (n i end owners a b : ℕ) (p r : List Edge) (e : Edge) → view_of s ≡ v → IsInside s → Stands v.lists n i p e r
+    → end ≡ s.size → owners ≡ length s.heads.items → gs ≡ cond (eqb a end) (set s.heads.items i b) s.heads.items → Writes s w w' w'' n a b owners
+    → Leaves (record { cells = w''; heads = with_items s.heads gs; free = n; free_count = s.free_count + 1; size = s.size; index = x; key = s.key }) (record v { lists = set v.lists i (p ++ r); free = v.free + 1 })
+unlinks s v w w' w'' gs x n i end owners a b p r e is inside st last every eg k =
+    let made = written s w w' w'' n a b owners k in
+    let heads : length gs ≡ length s.heads.items = ap length eg ∙ heads_size s.heads.items i a b end in
+    leaves-unlink s v w'' (with_items s.heads gs) x n i owners p r e is inside st every (let room = inside.room in let same = ap (λ (c : Pooled). c.room) made in omega arith)
+    (ap (λ (c : Pooled). c.items) made ∙ ap (λ (m : ℕ). unlinked s.cells.items n m b owners s.free) k.before ∙ ap (λ (m : ℕ). unlinked s.cells.items n (cell_at s.cells.items n).previous m owners s.free) k.after)
+    (with_items_is s.heads gs (omega arith) ∙ eg ∙ ap (λ (m : ℕ). cond (eqb m end) (set s.heads.items i b) s.heads.items) k.before
+    ∙ ap (λ (m : ℕ). cond (eqb (cell_at s.cells.items n).previous end) (set s.heads.items i m) s.heads.items) k.after
+    ∙ ap (λ (m : ℕ). cond (eqb (cell_at s.cells.items n).previous m) (set s.heads.items i (cell_at s.cells.items n).next) s.heads.items) last)

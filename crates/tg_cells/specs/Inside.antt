@@ -1,11 +1,10 @@
 -- the lists that linked cells represent: one chain from each owner's head, one row of free cells among those used so
 -- far, and an index of the edges
 use Rattle.std.specs.Prelude.{◌≡◌, ℕ, ◌+◌, ◌<◌, ◌≤◌, List, length, map}
-use Rattle.std.specs.Vec.{vec_capacity}
 use Rattle.std.proofs.Common.{get_or}
 use Rattle.tg_rights.specs.declared.limits.TheConstants.{MAX_CELLS, MAX_SLOTS}
 use Rattle.tg_rights.specs.Membership.{Distinct}
-use Rattle.tg_cells.specs.declared.cells.Cell.{Cell}
+use Rattle.tg_cells.specs.declared.pool.Cell.{Cell}
 use Rattle.tg_cells.specs.declared.cells.Cells.TheInside.{Inside}
 use Rattle.tg_cells.specs.Lists.{Edge, CellLists, owned, IsCells}
 use Rattle.tg_cells.specs.Chain.{walk, Chain, Row}
@@ -36,7 +35,7 @@ pub record IsInside (s : Inside) : Type 0 where
   pub shown : Shows s (view_of s)
   pub most : s.size ≤ MAX_CELLS
   pub most_owners : length s.heads.items ≤ MAX_SLOTS
-  pub room : s.size ≤ vec_capacity s.cells
+  pub room : s.size ≤ s.cells.room
 
 -- the bucket of an owner and a serial in the index
 abbrev pub place_in : Inside → ℕ → ℕ → ℕ

@@ -1,51 +1,22 @@
 //! The cells: arrays of numbers, and a list through them for each owner.
 ghost use Rattle.std.specs.Prelude.{◌≡◌, ℕ, ◌+◌, ◌<◌, ◌≤◌, List, [], ◌∷◌, ◌++◌, length, MatchOption, MatchBool, IfOk, Some, None, cond, ltb, eqb, ◌&&◌, set, false};
-ghost use Rattle.std.specs.Vec.{vec_capacity};
 ghost use Rattle.tg_rights.specs.declared.limits.TheConstants.{MAX_CELLS, MAX_SLOTS};
 ghost use Rattle.tg_rights.specs.Letters.{is_none};
 ghost use Rattle.tg_cells.specs.Lists.{CellLists, Edge, owned, first_cell, Stands, IsLinked, IsLinkedBy, HasNone, IsFresh, Found, IsCells};
-ghost use Rattle.tg_cells.specs.Chain.{edge_of, with_previous, with_next, IsProvided};
+ghost use Rattle.tg_cells.specs.Chain.{IsProvided};
 
 use crate::key::{Key, bucket_of};
+use crate::pool::{Cell, Pool};
 use std::alloc::{AllocError, Global};
 use std::marker::Model;
 use tg_index::Buckets;
 use tg_rights::Rights;
 
-// A cell, and its neighbours in its list. A free cell has the number of owners as its owner. What a walk reads comes
-// first, in 16 bytes: memory begins at a multiple of 16, so these never lie in two lines of the processor's cache.
-#[derive(Drop)]
-struct Cell {
-    next: u32,
-    target: u32,
-    serial: u64,
-    rights: Rights,
-    owner: u32,
-    previous: u32,
-}
-
-impl Cell {
-    // The cell goes to the free list, in front of the next one there.
-    fn release(&mut self, owners: u32, next: u32)
-        ensures { self.new ≡ record self.old { owner = owners; next = next } }
-    {
-        self.owner = owners;
-        self.next = next;
-    }
-
-    // Whether the cell is the owner's, with that serial.
-    fn is_of(&self, owner: u32, serial: u64) -> bool
-        ensures { result ≡ (eqb self.now.serial serial && eqb self.now.owner owner) }
-    {
-        self.serial == serial && self.owner == owner
-    }
-}
-
 /// One list of cells for each owner, and the free cells.
 #[derive(Drop)]
 pub struct Cells {
     // The cells that were used so far, by number, with room for all: a cell that was never used is not written.
-    cells: Vec<Cell>,
+    cells: Pool,
     // The first cell of each owner's list, its newest.
     heads: Vec<u32>,
     // The first free one of the cells that were used so far.
@@ -72,8 +43,8 @@ impl Model for Cells {
 }
 
 // The number, if it is that of a cell that was used so far.
-fn cell_or_none(cells: &[Cell], number: u32) -> Option<u32>
-    ensures { result ≡ cond (ltb number (length cells.now)) (Some number) None }
+fn cell_or_none(cells: &Pool, number: u32) -> Option<u32>
+    ensures { result ≡ cond (ltb number (length cells.now.items)) (Some number) None }
 {
     if (number as usize) < cells.len() {
         Some(number)
@@ -82,47 +53,27 @@ fn cell_or_none(cells: &[Cell], number: u32) -> Option<u32>
     }
 }
 
-// Links the cell of that number, if there is one, back to another.
-fn set_previous(cells: &mut [Cell], number: u32, previous: u32)
-    ensures { cells.new ≡ with_previous cells.old number previous }
-{
-    if (number as usize) < cells.len() {
-        cells[number as usize].previous = previous;
-    }
-}
-
-// Links the cell of that number, if there is one, on to another.
-fn set_next(cells: &mut [Cell], number: u32, next: u32)
-    ensures { cells.new ≡ with_next cells.old number next }
-{
-    if (number as usize) < cells.len() {
-        cells[number as usize].next = next;
-    }
-}
-
 // The number of the first free cell; if none is free, the number of all cells. If none of the cells used so far is
 // free, the next one is appended to them.
-fn provide(cells: &mut Vec<Cell>, free: u32, size: u32, owners: u32) -> u32
+fn provide(cells: &mut Pool, free: u32, size: u32, owners: u32) -> u32
     requires used { length cells.old.items ≤ size }
-    requires room { size ≤ vec_capacity cells.old }
+    requires room { size ≤ cells.old.room }
     ensures provided { IsProvided cells.old.items cells.new.items free size owners result }
-    ensures room { size ≤ vec_capacity cells.new }
+    ensures room { size ≤ cells.new.room }
 {
     let used = cells.len() as u32;
     if free < used {
         return free;
     }
     if used < size {
-        let Ok(()) = cells.push(Cell {
+        cells.push(Cell {
             owner: owners,
             previous: size,
             next: size,
             target: 0,
             serial: 0,
             rights: Rights::empty(),
-        }) else {
-            unreachable!();
-        };
+        });
     }
     used
 }
@@ -169,7 +120,7 @@ impl Cells {
         ensures { IfOk result (λ c. (length c.lists ≡ owners) × (c.free ≡ count) × (c.size ≡ count) × ((i : ℕ) → owned c.lists i ≡ [])) }
     {
         let heads = vec![in alloc; count; owners as usize]?;
-        let cells = Vec::with_capacity(alloc, count as usize)?;
+        let cells = Pool::new(alloc, count)?;
         let index = Buckets::new(alloc, buckets_for(count), count)?;
         Ok(Cells {
             cells,
@@ -214,13 +165,13 @@ impl Cells {
         let owners = self.heads.len() as u32;
         let number = provide(&mut self.cells, self.free, end, owners);
         self.free = number;
-        let head = self.heads[owner as usize];
-        let Some(cell) = self.cells.get_mut(number as usize) else {
+        if number as usize >= self.cells.len() {
             return false;
-        };
-        self.free = cell.next;
+        }
+        let head = self.heads[owner as usize];
+        self.free = self.cells.next(number);
         self.free_count -= 1;
-        *cell = Cell {
+        let cell = Cell {
             owner,
             previous: end,
             next: head,
@@ -228,8 +179,9 @@ impl Cells {
             serial,
             rights,
         };
+        self.cells.write(number, cell);
         self.heads[owner as usize] = number;
-        set_previous(&mut self.cells, head, number);
+        self.cells.set_previous(head, number);
         let bucket = bucket_of(self.key, owner, serial, self.index.buckets());
         self.index.put(bucket, number);
         true
@@ -243,16 +195,16 @@ impl Cells {
     {
         let end = self.size;
         let owners = self.heads.len() as u32;
-        let previous = self.cells[cell as usize].previous;
-        let next = self.cells[cell as usize].next;
-        let serial = self.cells[cell as usize].serial;
+        let previous = self.cells.previous(cell);
+        let next = self.cells.next(cell);
+        let serial = self.cells.serial(cell);
         self.index.soundness();
         let bucket = bucket_of(self.key, owner, serial, self.index.buckets());
         self.index.take(bucket, cell);
         set_head(&mut self.heads, owner, previous == end, next);
-        set_next(&mut self.cells, previous, next);
-        set_previous(&mut self.cells, next, previous);
-        self.cells[cell as usize].release(owners, self.free);
+        self.cells.set_next(previous, next);
+        self.cells.set_previous(next, previous);
+        self.cells.release(cell, owners, self.free);
         self.free = cell;
         self.free_count += 1;
     }
@@ -266,7 +218,7 @@ impl Cells {
         let bucket = bucket_of(self.key, owner, serial, self.index.buckets());
         let mut cursor = self.index.first(bucket);
         while let Some(number) = cursor {
-            if self.cells[number as usize].is_of(owner, serial) {
+            if self.cells.is_of(number, owner, serial) {
                 return Some(number);
             }
             cursor = self.index.next(number);
@@ -287,15 +239,7 @@ impl Cells {
         requires { IsLinked self.now.lists cell }
         ensures { (i : ℕ) (p : List Edge) (e : Edge) (r : List Edge) → Stands self.now.lists cell i p e r → result ≡ first_cell r }
     {
-        cell_or_none(&self.cells, self.cells[cell as usize].next)
-    }
-
-    // The cell of that number, whichever list it is in.
-    fn cell(&self, number: u32) -> &Cell
-        requires { IsLinked self.now.lists number }
-        ensures { (i : ℕ) (p : List Edge) (e : Edge) (r : List Edge) → Stands self.now.lists number i p e r → edge_of number result.now ≡ e }
-    {
-        &self.cells[number as usize]
+        cell_or_none(&self.cells, self.cells.next(cell))
     }
 
     /// The slot that the cell's edge leads to.
@@ -303,7 +247,7 @@ impl Cells {
         requires { IsLinked self.now.lists cell }
         ensures { (i : ℕ) (p : List Edge) (e : Edge) (r : List Edge) → Stands self.now.lists cell i p e r → result ≡ e.target }
     {
-        self.cell(cell).target
+        self.cells.target(cell)
     }
 
     /// The serial of the vertex that the cell's edge leads to.
@@ -311,7 +255,7 @@ impl Cells {
         requires { IsLinked self.now.lists cell }
         ensures { (i : ℕ) (p : List Edge) (e : Edge) (r : List Edge) → Stands self.now.lists cell i p e r → result ≡ e.serial }
     {
-        self.cell(cell).serial
+        self.cells.serial(cell)
     }
 
     /// The rights on the cell's edge, its label.
@@ -319,7 +263,7 @@ impl Cells {
         requires { IsLinked self.now.lists cell }
         ensures { (i : ℕ) (p : List Edge) (e : Edge) (r : List Edge) → Stands self.now.lists cell i p e r → result ≡ e.rights }
     {
-        self.cell(cell).rights
+        self.cells.rights(cell)
     }
 
     /// Replaces the rights on the cell's edge by others that are not empty.
@@ -329,6 +273,6 @@ impl Cells {
         ensures { (i : ℕ) (p : List Edge) (e : Edge) (r : List Edge) → Stands self.old.lists cell i p e r
             → self.new ≡ record self.old { lists = set self.old.lists i (p ++ record e { rights = rights } ∷ r) } }
     {
-        self.cells[cell as usize].rights = rights;
+        self.cells.set_rights(cell, rights);
     }
 }

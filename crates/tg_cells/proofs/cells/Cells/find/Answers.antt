@@ -1,4 +1,4 @@
-use Rattle.std.proofs.Common.{◌≡◌, ◌<◌, ◌∙◌, ℕ, Option, None, length, arith, subst, sym, ap}
+use Rattle.std.proofs.Common.{◌≡◌, ◌<◌, ◌∙◌, ℕ, Option, None, length, subst, sym, ap}
 use Rattle.tg_index.specs.Rows.{row}
 use Rattle.tg_index.proofs.RowLemmas.{left}
 use Rattle.tg_cells.specs.Index.{bucket_of}
@@ -8,16 +8,15 @@ use Rattle.tg_cells.proofs.cells.Cells.find.Goals as goal
 pub loop-cursor-init : goal.loop-cursor-init
 loop-cursor-init c = seeks_start (row c.self.inside.index.lists c.bucket_of-bucket.result) c.self.inside.cells.items c.args.owner c.args.serial c.first-cursor.result c.first-cursor.ensures
 
-pub index-requires : goal.index-requires
-index-requires c =
+pub is_of-requires : goal.is_of-requires
+is_of-requires c =
     let k = subst (λ (o : Option ℕ). Seeks (row c.self.inside.index.lists c.bucket_of-bucket.result) c.self.inside.cells.items c.args.owner c.args.serial o) c.in-Some.is c.loop-cursor.invariant in
-    let within = seeks_within c.self.inside c.args.self.now c.bucket_of-bucket.result c.args.owner c.args.serial c.in-Some.number c.self.view_is c.self.invariant k in
-    omega arith
+    seeks_within c.self.inside c.args.self.now c.bucket_of-bucket.result c.args.owner c.args.serial c.in-Some.number c.self.view_is c.self.invariant k
 
 pub returns-then-is_of : goal.returns-then-is_of
 returns-then-is_of c =
     let k = subst (λ (o : Option ℕ). Seeks (row c.self.inside.index.lists c.bucket_of-bucket.result) c.self.inside.cells.items c.args.owner c.args.serial o) c.in-Some.is c.loop-cursor.invariant in
-    seeks_found c.self.inside c.args.self.now c.bucket_of-bucket.result c.args.owner c.args.serial c.in-Some.number c.index.result.now c.self.view_is c.self.invariant k c.index.ensures (sym c.is_of.ensures ∙ c.if-is_of.true)
+    seeks_found c.self.inside c.args.self.now c.bucket_of-bucket.result c.args.owner c.args.serial c.in-Some.number c.self.view_is c.self.invariant k (sym c.is_of.ensures ∙ c.if-is_of.true)
 
 pub next-cursor-requires : goal.next-cursor-requires
 next-cursor-requires c =
@@ -28,13 +27,13 @@ pub loop-cursor-smaller : goal.loop-cursor-smaller
 loop-cursor-smaller c =
     let k = subst (λ (o : Option ℕ). Seeks (row c.self.inside.index.lists c.bucket_of-bucket.result) c.self.inside.cells.items c.args.owner c.args.serial o) c.in-Some.is c.loop-cursor.invariant in
     subst (λ (o : Option ℕ). length (left (row c.self.inside.index.lists c.bucket_of-bucket.result) c.next-cursor.result) < length (left (row c.self.inside.index.lists c.bucket_of-bucket.result) o)) (sym c.in-Some.is)
-    (seeks_on c.self.inside c.args.self.now c.bucket_of-bucket.result c.args.owner c.args.serial c.in-Some.number c.index.result.now c.next-cursor.result c.self.view_is c.self.invariant k c.index.ensures
+    (seeks_on c.self.inside c.args.self.now c.bucket_of-bucket.result c.args.owner c.args.serial c.in-Some.number c.next-cursor.result c.self.view_is c.self.invariant k
     (sym c.is_of.ensures ∙ c.if-is_of.false) (c.soundness.ensures.once c.bucket_of-bucket.result) (c.next-cursor.ensures c.bucket_of-bucket.result)).less
 
 pub loop-cursor-preserved : goal.loop-cursor-preserved
 loop-cursor-preserved c =
     let k = subst (λ (o : Option ℕ). Seeks (row c.self.inside.index.lists c.bucket_of-bucket.result) c.self.inside.cells.items c.args.owner c.args.serial o) c.in-Some.is c.loop-cursor.invariant in
-    (seeks_on c.self.inside c.args.self.now c.bucket_of-bucket.result c.args.owner c.args.serial c.in-Some.number c.index.result.now c.next-cursor.result c.self.view_is c.self.invariant k c.index.ensures
+    (seeks_on c.self.inside c.args.self.now c.bucket_of-bucket.result c.args.owner c.args.serial c.in-Some.number c.next-cursor.result c.self.view_is c.self.invariant k
     (sym c.is_of.ensures ∙ c.if-is_of.false) (c.soundness.ensures.once c.bucket_of-bucket.result) (c.next-cursor.ensures c.bucket_of-bucket.result)).seeks
 
 pub returns : goal.returns
