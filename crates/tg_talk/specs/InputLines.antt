@@ -1,5 +1,5 @@
 -- the lines of a text
-use Rattle.std.specs.Prelude.{◌≡◌, ℕ, ◌+◌, ◌<◌, List, [], ◌∷◌, ◌++◌, length, take, drop, Bool, false, ◌==◌, if◌then◌else◌}
+use Rattle.std.specs.Prelude.{◌≡◌, ℕ, ◌+◌, ◌<◌, List, [], ◌∷◌, ◌++◌, length, take, drop, Bool, nat_lt, false, ◌==◌, if◌then◌else◌}
 use Rattle.std.specs.List.{list_any, onto_first}
 
 -- a line feed
@@ -20,3 +20,7 @@ pub record IsFirstNewline (xs : List ℕ) (n : ℕ) : Type 0 where
   pub within : n < length xs
   pub none : has_newline (take n xs) ≡ false
   pub split : xs ≡ take n xs ++ 10 ∷ drop (n + 1) xs
+
+-- n is the place after the last line feed of xs, or 0 if it has none: from which places on there is one
+abbrev pub EndsLines : List ℕ → ℕ → Type 0
+EndsLines xs n = (k : ℕ) → has_newline (drop k xs) ≡ nat_lt k n

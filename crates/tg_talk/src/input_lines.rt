@@ -4,12 +4,10 @@ ghost use Rattle.std.specs.Prelude.{◌≡◌, ◌<◌};
 ghost use Rattle.tg_talk.specs.declared.line_buffer.TheConstants.{MOST_LINES};
 
 use crate::line_buffer::{Found, LineBuffer, MOST_LINES};
-use crate::newline::newline_from;
 use crate::watched::Watched;
 use std::alloc::{AllocError, Global};
 use std::io::{BufWriter, Read, Write};
 use std::marker::Model;
-use tg_wire::LONGEST_LINE;
 
 /// The lines of an input: how many were taken, the last of them, and the bytes that were read and not yet taken.
 #[derive(Drop)]
@@ -89,8 +87,7 @@ impl InputLines {
     pub fn is_at_hand(&self) -> bool
         ensures { result ≡ is_decided self.now.left }
     {
-        let left = &self.buffer.bytes()[self.whole..];
-        newline_from(left, 0).is_some() || left.len() > LONGEST_LINE
+        self.buffer.is_decided_after(self.whole)
     }
 
     /// Writes what is held back if more has to be read for the next line; false if the writer fails.

@@ -5,8 +5,9 @@ ghost use Rattle.std.specs.Io.KnownBytes.{Consumes, Keeps, IsAtEnd};
 ghost use Rattle.tg_talk.specs.declared.line_buffer.TheConstants.{CAPACITY};
 ghost use Rattle.tg_wire.specs.declared.line.TheConstants.{LONGEST_LINE};
 ghost use Rattle.tg_talk.specs.Devices.{device_of, has_failed};
+ghost use Rattle.tg_talk.specs.InputLines.{EndsLines};
 
-use crate::newline::newline_from;
+use crate::newline::{last_lines_to, newline};
 use crate::watched::Watched;
 use std::alloc::{AllocError, Global};
 use std::io::Read;
@@ -26,6 +27,8 @@ pub struct LineBuffer {
     bytes: Vec<u8>,
     start: usize,
     end: usize,
+    // The place after the last line feed before `end`; 0 if there is none.
+    lines_to: usize,
 }
 
 /// What is at the front of the buffer.
@@ -56,7 +59,8 @@ impl Model for LineBuffer {
 
     ghost view = { λ b. take (b.end - b.start) (drop b.start b.bytes.items) };
 
-    ghost invariant = { λ b. (b.start ≤ b.end) × (b.end ≤ CAPACITY) × (length b.bytes.items ≡ CAPACITY) };
+    ghost invariant = { λ b. (b.start ≤ b.end) × (b.end ≤ CAPACITY) × (length b.bytes.items ≡ CAPACITY)
+        × EndsLines (take b.end b.bytes.items) b.lines_to };
 }
 
 impl LineBuffer {
@@ -83,6 +87,7 @@ impl LineBuffer {
             bytes,
             start: 0,
             end: 0,
+            lines_to: 0,
         }
     }
 
@@ -101,6 +106,17 @@ impl LineBuffer {
         self.start += n;
     }
 
+    /// Whether it is known without a read what comes after the first `n` bytes: a line is there, or more bytes than one
+    /// may have. Looks at no byte.
+    #[inline(always)]
+    pub fn is_decided_after(&self, n: usize) -> bool
+        requires { n ≤ length self.now }
+        ensures { result ≡ is_decided (drop n self.now) }
+    {
+        let from = self.start + n;
+        from < self.lines_to || self.end - from > LONGEST_LINE
+    }
+
     /// Reads until the next line is at the front, and reports what it is: one of at most 16,384 bytes, the last one,
     /// the end, one that is too long, or that the reader failed. Nothing is read ahead: a read is made only if the
     /// bytes at hand have no line feed and are at most 16,384, so a whole line is found before more is asked for, and
@@ -112,23 +128,11 @@ impl LineBuffer {
         ensures failed { (has_failed reader.new ≡ true) ↔ (result ≡ Found.Failed) }
         ensures at_hand { is_decided self.old ≡ true → (self.new ≡ self.old) × (reader.new ≡ reader.old) }
     {
-        let mut searched = 0;
-        loop {
-            if let Some(n) = newline_from(self.bytes(), searched) {
-                return if n <= LONGEST_LINE {
-                    Found::Line(n)
-                } else {
-                    Found::TooLong
-                };
-            }
-            searched = self.bytes().len();
-            if searched > LONGEST_LINE {
-                return Found::TooLong;
-            }
+        while !self.is_decided_after(0) {
             match self.fill(reader) {
                 Filled::More => {}
                 Filled::End => {
-                    return if searched == 0 {
+                    return if self.bytes().is_empty() {
                         Found::End
                     } else {
                         Found::Last
@@ -136,6 +140,10 @@ impl LineBuffer {
                 }
                 Filled::Failed => return Found::Failed,
             }
+        }
+        match newline(self.bytes()) {
+            Some(n) if n <= LONGEST_LINE => Found::Line(n),
+            _ => Found::TooLong,
         }
     }
 
@@ -150,6 +158,7 @@ impl LineBuffer {
     {
         let pending = self.end - self.start;
         move_down(&mut self.bytes, self.start, self.end);
+        self.lines_to = self.lines_to.saturating_sub(self.start);
         self.start = 0;
         self.end = pending;
         match read_at(reader, &mut self.bytes, pending) {
@@ -157,6 +166,7 @@ impl LineBuffer {
             Some(0) => Filled::End,
             Some(n) => {
                 self.end = pending + n;
+                self.lines_to = last_lines_to(&self.bytes[..self.end], pending, self.lines_to);
                 Filled::More
             }
         }

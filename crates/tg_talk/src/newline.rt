@@ -1,27 +1,28 @@
-//! The first line feed of some bytes.
+//! The first and the last line feed of some bytes.
 
-ghost use Rattle.std.specs.Prelude.{◌≡◌, ◌+◌, ◌<◌, ◌≤◌, length, take, IfSome, IfNone, false};
-ghost use Rattle.tg_talk.specs.InputLines.{has_newline, IsFirstNewline};
+ghost use Rattle.std.specs.Prelude.{◌≡◌, ◌≤◌, length, take, drop, IfSome, IfNone, false};
+ghost use Rattle.memchr.specs.Find.{IsLastByte, is_byte};
+ghost use Rattle.tg_talk.specs.InputLines.{has_newline, IsFirstNewline, EndsLines};
 
-use memchr::memchr;
+use memchr::{memchr, memrchr};
 
-/// The first line feed, given that there is none before `from`.
-pub(crate) fn newline_from(bytes: &[u8], from: usize) -> Option<usize>
-    requires within { from ≤ length bytes.now }
-    requires none { has_newline (take from bytes.now) ≡ false }
-    ensures found { IfSome result (IsFirstNewline bytes.now) }
-    ensures none { IfNone result (has_newline bytes.now ≡ false) }
-{
-    let (_, rest) = bytes.split_at(from);
-    match newline(rest) {
-        Some(found) => Some(from + found),
-        None => None,
-    }
-}
-
-fn newline(bytes: &[u8]) -> Option<usize>
+/// The first line feed.
+pub(crate) fn newline(bytes: &[u8]) -> Option<usize>
     ensures found { IfSome result (IsFirstNewline bytes.now) }
     ensures none { IfNone result (has_newline bytes.now ≡ false) }
 {
     memchr(b'\n', bytes)
+}
+
+/// The place after the last line feed, or 0 if there is none; `before` is that place among the bytes before `from`,
+/// which are not searched again.
+pub(crate) fn last_lines_to(bytes: &[u8], from: usize, before: usize) -> usize
+    requires within { from ≤ length bytes.now }
+    requires known { EndsLines (take from bytes.now) before }
+    ensures { EndsLines bytes.now result }
+{
+    match memrchr(b'\n', &bytes[from..]) {
+        Some(last) => from + last + 1,
+        None => before,
+    }
 }
