@@ -14,7 +14,7 @@ ghost use Rattle.tg_wire.specs.Reading.{json_of, knows_all as knows_all_of};
 ghost use Rattle.tg_wire.specs.Keys.{is_listed_in_either, key_text, key_texts};
 
 use crate::key::Key;
-use crate::scan::{byte_at, read_number, read_text, spaces_end};
+use crate::scan::{byte_at, read_key, read_number, read_text, spaces_end};
 use arrayvec::ArrayVec;
 
 /// A member's value.
@@ -109,8 +109,7 @@ fn read_member<'a>(line: &'a str, from: usize) -> Option<(Member<'a>, usize)>
     ensures bounds { IfSome result (λ r. (from < r.1) × (r.1 ≤ length line.now)) }
 {
     let bytes = line.as_bytes();
-    let (word, after) = read_text(line, spaces_end(bytes, from))?;
-    let key = Key::named(word)?;
+    let (key, after) = read_key(bytes, spaces_end(bytes, from))?;
     let between = spaces_end(bytes, after);
     if byte_at(bytes, between) != b':' {
         return None;

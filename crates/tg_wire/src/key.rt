@@ -1,6 +1,7 @@
 //! The keys that the objects of lines have.
 
-ghost use Rattle.std.specs.Prelude.{◌≡◌, IfSome, IfNone};
+ghost use Rattle.std.specs.Prelude.{◌≡◌, ◌↔◌, ◌∷◌, ◌++◌, [], IfSome, IfNone, true};
+ghost use Rattle.std.specs.Io.{StartsWith};
 ghost use Rattle.std.specs.Str.{bytes_eq};
 ghost use Rattle.tg_wire.specs.Keys.{is_listed, is_listed_in_either, key_text};
 
@@ -26,6 +27,7 @@ pub(crate) enum Key {
 }
 
 impl Key {
+    #[inline(always)]
     pub(crate) fn word(self) -> &'static str
         ensures { result.now ≡ key_text self }
     {
@@ -49,31 +51,68 @@ impl Key {
         }
     }
 
-    /// The key of this word, if some line has one.
+    /// The key whose word begins these bytes, with a quote after it, if some line has one.
     #[inline(always)]
-    pub(crate) fn named(word: &str) -> Option<Key>
-        ensures some { IfSome result (λ key. word.now ≡ key_text key) }
-        ensures none { IfNone result ((key : Key) → word.now ≡ key_text key → ⊥) }
+    pub(crate) fn before_quote(bytes: &[u8]) -> Option<Key>
+        ensures some { IfSome result (λ key. StartsWith bytes.now (key_text key ++ 34 ∷ [])) }
+        ensures none { IfNone result ((key : Key) → StartsWith bytes.now (key_text key ++ 34 ∷ []) → ⊥) }
     {
-        match word {
-            "op" => Some(Key::Op),
-            "seat" => Some(Key::Seat),
-            "actor" => Some(Key::Actor),
-            "over" => Some(Key::Over),
-            "from" => Some(Key::From),
-            "to" => Some(Key::To),
-            "at" => Some(Key::At),
-            "rights" => Some(Key::Rights),
-            "kind" => Some(Key::Kind),
-            "text" => Some(Key::Text),
-            "name" => Some(Key::Name),
-            "principals" => Some(Key::Principals),
-            "edges" => Some(Key::Edges),
-            "next" => Some(Key::Next),
-            "slots" => Some(Key::Slots),
-            "cells" => Some(Key::Cells),
-            _ => None,
+        // The keys that most lines have come first.
+        if Key::Op.is_before_quote(bytes) {
+            Some(Key::Op)
+        } else if Key::Seat.is_before_quote(bytes) {
+            Some(Key::Seat)
+        } else if Key::Over.is_before_quote(bytes) {
+            Some(Key::Over)
+        } else if Key::From.is_before_quote(bytes) {
+            Some(Key::From)
+        } else if Key::To.is_before_quote(bytes) {
+            Some(Key::To)
+        } else if Key::Rights.is_before_quote(bytes) {
+            Some(Key::Rights)
+        } else if Key::At.is_before_quote(bytes) {
+            Some(Key::At)
+        } else if Key::Text.is_before_quote(bytes) {
+            Some(Key::Text)
+        } else if Key::Kind.is_before_quote(bytes) {
+            Some(Key::Kind)
+        } else if Key::Actor.is_before_quote(bytes) {
+            Some(Key::Actor)
+        } else if Key::Name.is_before_quote(bytes) {
+            Some(Key::Name)
+        } else if Key::Principals.is_before_quote(bytes) {
+            Some(Key::Principals)
+        } else if Key::Edges.is_before_quote(bytes) {
+            Some(Key::Edges)
+        } else if Key::Next.is_before_quote(bytes) {
+            Some(Key::Next)
+        } else if Key::Slots.is_before_quote(bytes) {
+            Some(Key::Slots)
+        } else if Key::Cells.is_before_quote(bytes) {
+            Some(Key::Cells)
+        } else {
+            None
         }
+    }
+
+    /// Whether the word of the key begins these bytes, with a quote after it.
+    // With the key a constant, as in each call, the loop becomes a comparison for each letter.
+    #[inline(always)]
+    fn is_before_quote(self, bytes: &[u8]) -> bool
+        ensures { (result ≡ true) ↔ StartsWith bytes.now (key_text self ++ 34 ∷ []) }
+    {
+        let word = self.word().as_bytes();
+        if bytes.len() <= word.len() {
+            return false;
+        }
+        let mut at = 0;
+        while at < word.len() {
+            if bytes[at] != word[at] {
+                return false;
+            }
+            at += 1;
+        }
+        bytes[at] == b'"'
     }
 
     #[inline(always)]

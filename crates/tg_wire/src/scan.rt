@@ -10,6 +10,9 @@ ghost use Rattle.json.specs.Run.{is_plain};
 ghost use Rattle.json.specs.Lex.{token, between, lex};
 ghost use Rattle.serde_json.specs.Data.{unsigned};
 ghost use Rattle.serde_json.specs.Read.{number_of};
+ghost use Rattle.tg_wire.specs.Keys.{key_text};
+
+use crate::key::Key;
 
 /// The byte at a place, or a space after the last one.
 #[inline(always)]
@@ -26,6 +29,10 @@ pub(crate) fn spaces_end(bytes: &[u8], from: usize) -> usize
     ensures value { result ≡ from + prefix_len is_space (drop from bytes.now) }
     ensures bound { result ≤ length bytes.now }
 {
+    // Most lines have no spaces.
+    if from == bytes.len() || bytes[from] > b' ' {
+        return from;
+    }
     let mut at = from;
     while at < bytes.len() && is_space(bytes[at]) {
         at += 1;
@@ -66,6 +73,20 @@ fn digits_end(bytes: &[u8], from: usize) -> usize
         at += 1;
     }
     at
+}
+
+/// The key at a place, if one is there, and the place after it.
+#[inline(always)]
+pub(crate) fn read_key(bytes: &[u8], quote: usize) -> Option<(Key, usize)>
+    requires { quote ≤ length bytes.now }
+    ensures found { IfSome result (λ r. lex between (drop quote bytes.now) ≡ token (string (key_text r.0)) ∷ lex between (drop r.1 bytes.now)) }
+    ensures bounds { IfSome result (λ r. (quote < r.1) × (r.1 ≤ length bytes.now)) }
+{
+    if byte_at(bytes, quote) != b'"' {
+        return None;
+    }
+    let key = Key::before_quote(&bytes[quote + 1..])?;
+    Some((key, quote + key.word().len() + 2))
 }
 
 /// The text at a place, if one without escapes is there, and the place after it.

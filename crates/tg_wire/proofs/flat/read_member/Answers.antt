@@ -13,13 +13,13 @@ returns-clause-found c =
     let colon_at = c.spaces_end-between.result in
     let value = c.in_ok-value.ensures.found in
     let first = spaces_at d c.args.from c.spaces_end.result (subst (λ t. EndsAt is_space t c.args.from c.spaces_end.result) same c.spaces_end.ensures.value) in
-    let behind_key = spaces_at d c.in_ok-word.after colon_at (subst (λ t. EndsAt is_space t c.in_ok-word.after colon_at) same c.spaces_end-between.ensures.value) in
+    let key = subst (λ t. lex between (drop c.spaces_end.result t) ≡ token (string (key_text c.in_ok-key.key)) ∷ lex between (drop c.in_ok-key.after t)) same c.in_ok-key.ensures.found in
+    let behind_key = spaces_at d c.in_ok-key.after colon_at (subst (λ t. EndsAt is_space t c.in_ok-key.after colon_at) same c.spaces_end-between.ensures.value) in
     let is_colon : get_or d colon_at 32 ≡ 58 = ap (λ t. get_or t colon_at 32) (sym same) ∙ sym c.byte_at.ensures ∙ c.if-byte_at-ne58.false in
     let behind_colon = spaces_at d (colon_at + 1) c.spaces_end-2.result (subst (λ t. EndsAt is_space t (colon_at + 1) c.spaces_end-2.result) same c.spaces_end-2.ensures.value) in
     let behind_value = spaces_at d c.in_ok-value.end c.spaces_end-3.result (subst (λ t. EndsAt is_space t c.in_ok-value.end c.spaces_end-3.result) same c.spaces_end-3.ensures.value) in (
       value.0,
       value.1,
-      first ∙ c.in_ok-word.ensures.found ∙ ap (λ w. token (string w) ∷ lex between (drop c.in_ok-word.after d)) c.in_ok-key.ensures.some
-          ∙ ap (λ ls. token (string (key_text c.in_ok-key.key)) ∷ ls) (behind_key ∙ operator_at d colon_at 58 refl is_colon (λ z. omega arith)
+      first ∙ key ∙ ap (λ ls. token (string (key_text c.in_ok-key.key)) ∷ ls) (behind_key ∙ operator_at d colon_at 58 refl is_colon (λ z. omega arith)
           ∙ ap (λ ls. colon ∷ ls) (behind_colon ∙ value.2 ∙ ap (λ ls. token value.0 ∷ ls) behind_value)),
     )
