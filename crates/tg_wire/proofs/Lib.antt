@@ -3,6 +3,7 @@ pub mod ReadingLemmas
 pub mod KeysLemmas
 pub mod LexemesLemmas
 pub mod QuotedLemmas
+pub mod StopsLemmas
 pub mod NumbersLemmas
 pub mod FlatLemmas
 pub mod ObjectLineLemmas

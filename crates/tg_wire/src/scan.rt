@@ -1,18 +1,20 @@
 //! What is at a place of a line: spaces, a text without escapes, a whole number.
 
-ghost use Rattle.std.specs.Prelude.{◌≡◌, ◌<◌, ◌≤◌, ◌+◌, ◌-◌, ◌∷◌, ◌||◌, ◌==◌, ℕ, List, Some, IfSome, length, drop, get_or, false};
+ghost use Rattle.std.specs.Prelude.{◌≡◌, ◌<◌, ◌≤◌, ◌+◌, ◌-◌, ◌∷◌, ◌||◌, ◌==◌, ℕ, List, Some, IfSome, length, drop, get_or, map, false};
 ghost use Rattle.std.specs.List.{prefix_len};
 ghost use Rattle.std.specs.Char.{is_ascii_digit};
+ghost use Rattle.std.specs.Simd.Lanes.{mask_l};
 ghost use Rattle.std.specs.Str.Parse.{AllDigits};
 ghost use Rattle.json.specs.Token.{string, number};
 ghost use Rattle.json.specs.Word.{is_space};
-ghost use Rattle.json.specs.Run.{is_plain};
+ghost use Rattle.json.specs.Run.{is_plain, is_stop};
 ghost use Rattle.json.specs.Lex.{token, between, lex};
 ghost use Rattle.serde_json.specs.Data.{unsigned};
 ghost use Rattle.serde_json.specs.Read.{number_of};
 ghost use Rattle.tg_wire.specs.Keys.{key_text};
 
 use crate::key::Key;
+use std::simd::prelude::*;
 
 /// The byte at a place, or a space after the last one.
 #[inline(always)]
@@ -47,10 +49,38 @@ fn is_space(byte: u8) -> bool
     byte == b' ' || byte == b'\t' || byte == b'\n' || byte == b'\r'
 }
 
-/// The first quote, backslash or control byte from a place on.
+/// The first quote, backslash or control byte from a place on, sixteen bytes at a time while there are so many.
 // If inlined, the loop would also count up, at each byte, what the caller computes from the place.
 #[inline(never)]
 fn plain_end(bytes: &[u8], from: usize) -> usize
+    requires { from ≤ length bytes.now }
+    ensures value { result ≡ from + prefix_len is_plain (drop from bytes.now) }
+    ensures bound { result ≤ length bytes.now }
+{
+    let mut at = from;
+    while bytes.len() - at >= 16 {
+        let found = stops(u8x16::from_slice(&bytes[at..]));
+        if found != 0 {
+            return at + found.trailing_zeros() as usize;
+        }
+        at += 16;
+    }
+    plain_end_slowly(bytes, at)
+}
+
+/// A bit for each byte at which the plain text of a string stops, the lowest for the first byte.
+#[inline(always)]
+fn stops(bytes: u8x16) -> u64
+    ensures { result ≡ mask_l (map is_stop bytes) }
+{
+    (bytes.simd_eq(u8x16::splat(b'"'))
+        | bytes.simd_eq(u8x16::splat(b'\\'))
+        | bytes.simd_lt(u8x16::splat(b' '))).to_bitmask()
+}
+
+/// The same a byte at a time.
+#[inline(always)]
+fn plain_end_slowly(bytes: &[u8], from: usize) -> usize
     requires { from ≤ length bytes.now }
     ensures value { result ≡ from + prefix_len is_plain (drop from bytes.now) }
     ensures bound { result ≤ length bytes.now }
