@@ -70,6 +70,8 @@ LISTED = {
     ("tgdoc/src/serve.rt", "serve_by", "serve_in_threads", "Found::NoMemory"): 1,
     ("tgdoc/src/serve.rt", "found_in", "Settled::NoMemory", "Found::NoMemory"): 1,
     ("tgdoc/src/serve.rt", "found_in", "Closed::NoRoom", "Found::NoMemory"): 1,
+    # A text of the tests' tables is never too long.
+    ("tg_tests/src/cases.rt", "text", "Text::new", "AllocError"): 1,
     # The program of many sessions says what it found.
     ("tg_load/src/run.rt", "verdict_of", "Settled::NoMemory", "Verdict::NoMemory"): 1,
     ("tg_load/src/run.rt", "close_of", "Closed::NoRoom", "Verdict::NoRoom"): 1,

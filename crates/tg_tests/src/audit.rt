@@ -1,32 +1,15 @@
 //! What no clause says: that calls which need memory succeed, and the results of cases that were worked by hand.
+use crate::cases::{
+    Ask, Asked, Edge, ONE_MORE, Opening, TO_CAROL, TWO, Want, command, is_reply, rights_of, rule_of,
+};
+use crate::graph;
+use crate::vault::{ALICE, BOB, Case, Line, played};
 use std::alloc::{AllocError, Global};
 use std::process::Abort;
 use tg_audit::{Exchange, SeatLog, Settled, check, replay, settle};
-use tg_graph::{Config, Goal, Graph, OpenFault, Step, Verdict};
-use tg_rights::{Cause, Command, Kind, Reply, Rights, Rule, Which, Word};
-use tg_vault::{AskFault, Vault};
-
-const NONE: u8 = 0;
-
-pub const READ: u8 = 1;
-
-const WRITE: u8 = 2;
-
-const TAKE: u8 = 4;
-
-const GRANT: u8 = 8;
-
-/// What a step or an entry asks for. Rights are given by their bits.
-#[derive(Clone, Copy)]
-pub enum Ask {
-    /// These rights over the first, from the second.
-    Take(u8, u64, u64),
-    /// These rights over the first, to the second.
-    Grant(u8, u64, u64),
-    Document(u8),
-    Subject(u8),
-    Remove(u8, u64),
-}
+use tg_graph::{Goal, Step, Verdict};
+use tg_rights::{Cause, Reply, Rule, Which};
+use tg_vault::Vault;
 
 /// The verdict on a derivation.
 #[derive(Clone, Copy)]
@@ -35,160 +18,108 @@ pub enum Finding {
     NoSubject(u64),
     NotDistinct(u64, Rule),
     /// The step is denied: the label from the first vertex to the second lacks these rights.
-    Lacks(u64, Rule, u64, u64, u8),
+    Lacks(u64, Rule, u64, u64, &'static str),
     Full(u64),
     /// The goal lacks these.
-    Missing(u8),
+    Missing(&'static str),
 }
 
-/// Steps from the graph of some principals with these edges, and a goal: rights of the first vertex over the other.
+/// Steps from the graph of a configuration, and a goal: rights of the first vertex over the other.
 pub struct Derivation {
-    pub names: &'static [&'static str],
-    pub edges: &'static [(u64, u8, u64)],
-    pub next: u64,
+    pub opening: Opening,
     pub steps: &'static [(u64, Ask)],
-    pub goal: (u64, u8, u64),
+    pub goal: Edge,
     pub finding: Finding,
 }
 
-const THREE: &[&str] = &["alice", "bob", "carol"];
-
-const TO_BOB: &[(u64, u8, u64)] = &[(1, TAKE, 2), (2, READ, 3)];
+/// Alice alone, when no serial is left.
+const LAST_SERIAL: Opening = Opening {
+    names: &["alice"],
+    next: 18_446_744_073_709_551_615,
+    ..TWO
+};
 
 const DERIVATIONS: &[Derivation] = &[
     // a take reaches the goal
     Derivation {
-        names: THREE,
-        edges: TO_BOB,
-        next: 4,
-        steps: &[(1, Ask::Take(READ, 3, 2))],
-        goal: (1, READ, 3),
+        opening: TO_CAROL,
+        steps: &[(1, Ask::Take("r", 3, 2))],
+        goal: (1, "r", 3),
         finding: Finding::Shared,
     },
     // without it the goal's right is missing
     Derivation {
-        names: THREE,
-        edges: TO_BOB,
-        next: 4,
+        opening: TO_CAROL,
         steps: &[],
-        goal: (1, READ, 3),
-        finding: Finding::Missing(READ),
+        goal: (1, "r", 3),
+        finding: Finding::Missing("r"),
     },
     // only the missing ones of the goal's rights are named
     Derivation {
-        names: THREE,
-        edges: TO_BOB,
-        next: 4,
-        steps: &[(1, Ask::Take(READ, 3, 2))],
-        goal: (1, READ | WRITE, 3),
-        finding: Finding::Missing(WRITE),
+        opening: TO_CAROL,
+        steps: &[(1, Ask::Take("r", 3, 2))],
+        goal: (1, "rw", 3),
+        finding: Finding::Missing("w"),
     },
     // two vertices of the step are the same
     Derivation {
-        names: THREE,
-        edges: TO_BOB,
-        next: 4,
-        steps: &[(1, Ask::Take(READ, 3, 3))],
-        goal: (1, READ, 3),
+        opening: TO_CAROL,
+        steps: &[(1, Ask::Take("r", 3, 3))],
+        goal: (1, "r", 3),
         finding: Finding::NotDistinct(0, Rule::Take),
     },
     // the actor is no vertex
     Derivation {
-        names: THREE,
-        edges: TO_BOB,
-        next: 4,
-        steps: &[(9, Ask::Take(READ, 3, 2))],
-        goal: (1, READ, 3),
+        opening: TO_CAROL,
+        steps: &[(9, Ask::Take("r", 3, 2))],
+        goal: (1, "r", 3),
         finding: Finding::NoSubject(0),
     },
     // no serial is left
     Derivation {
-        names: &["alice"],
-        edges: &[],
-        next: 18_446_744_073_709_551_615,
-        steps: &[(1, Ask::Document(READ))],
-        goal: (1, NONE, 1),
+        opening: LAST_SERIAL,
+        steps: &[(1, Ask::Document("r"))],
+        goal: (1, "", 1),
         finding: Finding::Full(0),
     },
     // every graph meets a goal without rights
     Derivation {
-        names: &["alice"],
-        edges: &[],
-        next: 18_446_744_073_709_551_615,
+        opening: LAST_SERIAL,
         steps: &[],
-        goal: (1, NONE, 1),
+        goal: (1, "", 1),
         finding: Finding::Shared,
     },
     // a subject that a step has made acts in a later one, and only then
     Derivation {
-        names: THREE,
-        edges: TO_BOB,
-        next: 4,
+        opening: TO_CAROL,
         steps: &[
-            (1, Ask::Subject(GRANT)),
-            (1, Ask::Take(READ, 3, 2)),
-            (1, Ask::Grant(READ, 3, 4)),
-            (4, Ask::Remove(READ, 3)),
+            (1, Ask::Subject("g")),
+            (1, Ask::Take("r", 3, 2)),
+            (1, Ask::Grant("r", 3, 4)),
+            (4, Ask::Remove("r", 3)),
         ],
-        goal: (4, READ, 3),
-        finding: Finding::Missing(READ),
+        goal: (4, "r", 3),
+        finding: Finding::Missing("r"),
     },
     // a document cannot act
     Derivation {
-        names: THREE,
-        edges: TO_BOB,
-        next: 4,
-        steps: &[(1, Ask::Document(READ)), (4, Ask::Document(READ))],
-        goal: (1, NONE, 1),
+        opening: TO_CAROL,
+        steps: &[(1, Ask::Document("r")), (4, Ask::Document("r"))],
+        goal: (1, "", 1),
         finding: Finding::NoSubject(1),
     },
     // the first step that fails is named, even if the goal is met before it
     Derivation {
-        names: THREE,
-        edges: TO_BOB,
-        next: 4,
+        opening: TO_CAROL,
         steps: &[
-            (1, Ask::Take(READ, 3, 2)),
-            (1, Ask::Take(WRITE, 3, 2)),
-            (9, Ask::Document(READ)),
+            (1, Ask::Take("r", 3, 2)),
+            (1, Ask::Take("w", 3, 2)),
+            (9, Ask::Document("r")),
         ],
-        goal: (1, READ, 3),
-        finding: Finding::Lacks(1, Rule::Take, 2, 3, WRITE),
+        goal: (1, "r", 3),
+        finding: Finding::Lacks(1, Rule::Take, 2, 3, "w"),
     },
 ];
-
-/// The rights of these bits.
-fn rights_of(bits: u8) -> Rights {
-    Rights::from_bits(bits).unwrap_or(Rights::empty())
-}
-
-/// The command that is asked for.
-fn command(ask: Ask) -> Command {
-    match ask {
-        Ask::Take(bits, over, from) => Command::Take {
-            rights: rights_of(bits),
-            over,
-            from,
-        },
-        Ask::Grant(bits, over, to) => Command::Grant {
-            rights: rights_of(bits),
-            over,
-            to,
-        },
-        Ask::Document(bits) => Command::Create {
-            kind: Kind::Document,
-            rights: rights_of(bits),
-        },
-        Ask::Subject(bits) => Command::Create {
-            kind: Kind::Subject,
-            rights: rights_of(bits),
-        },
-        Ask::Remove(bits, over) => Command::Remove {
-            rights: rights_of(bits),
-            over,
-        },
-    }
-}
 
 /// The verdict for this finding.
 fn verdict(finding: Finding) -> Verdict {
@@ -200,57 +131,20 @@ fn verdict(finding: Finding) -> Verdict {
             rule,
             cause: Cause::NotDistinct,
         },
-        Finding::Lacks(index, rule, from, to, bits) => Verdict::StepDenied {
+        Finding::Lacks(index, rule, from, to, letters) => Verdict::StepDenied {
             index,
             rule,
             cause: Cause::Missing {
                 from,
                 to,
-                rights: rights_of(bits),
+                rights: rights_of(letters),
             },
         },
         Finding::Full(index) => Verdict::StepFull { index },
-        Finding::Missing(bits) => Verdict::GoalMissing {
-            rights: rights_of(bits),
+        Finding::Missing(letters) => Verdict::GoalMissing {
+            rights: rights_of(letters),
         },
     }
-}
-
-fn words(alloc: Global, names: &[&str]) -> Result<Vec<Word>, AllocError> {
-    let mut words = Vec::new(alloc);
-    for name in names {
-        words.push(Word::new(String::from_str(alloc, name)?))?;
-    }
-    Ok(words)
-}
-
-fn labelled(
-    alloc: Global,
-    listed: &[(u64, u8, u64)],
-) -> Result<Vec<(u64, Rights, u64)>, AllocError> {
-    listed
-        .iter()
-        .map(|(from, bits, to)| (*from, rights_of(*bits), *to))
-        .collect(alloc)
-}
-
-/// The configuration of some principals with these edges.
-fn configuration(
-    alloc: Global,
-    names: &[&str],
-    listed: &[(u64, u8, u64)],
-    next: u64,
-    slots: u64,
-    cells: u64,
-) -> Result<Config, AllocError> {
-    let edges = labelled(alloc, listed)?;
-    Ok(Config {
-        principals: words(alloc, names)?,
-        edges,
-        next,
-        slots,
-        cells,
-    })
 }
 
 /// Whether the verdict is this finding.
@@ -258,37 +152,16 @@ pub fn is_verdict(found: Verdict, finding: Finding) -> bool {
     found == verdict(finding)
 }
 
-/// The graph that the derivation begins with.
-pub fn graph_of(
-    rt: &impl Abort,
-    alloc: Global,
-    derivation: &Derivation,
-) -> Result<Graph, AllocError> {
-    let config = configuration(
-        alloc,
-        derivation.names,
-        derivation.edges,
-        derivation.next,
-        8,
-        8,
-    )?;
-    match Graph::build(alloc, &config) {
-        Ok(graph) => Ok(graph),
-        Err(OpenFault::OutOfMemory) => Err(AllocError),
-        Err(_) => panic!(rt; "refused"),
-    }
-}
-
 /// The derivation's steps.
 pub fn steps_of(alloc: Global, derivation: &Derivation) -> Result<Vec<Step>, AllocError> {
-    derivation
-        .steps
-        .iter()
-        .map(|(actor, ask)| Step {
+    let mut steps = Vec::new(alloc);
+    for (actor, ask) in derivation.steps {
+        steps.push(Step {
             actor: *actor,
-            command: command(*ask),
-        })
-        .collect(alloc)
+            command: command(alloc, *ask)?,
+        })?;
+    }
+    Ok(steps)
 }
 
 /// The derivation's goal.
@@ -306,7 +179,7 @@ pub fn is_found(
     alloc: Global,
     derivation: &Derivation,
 ) -> Result<bool, AllocError> {
-    let graph = graph_of(rt, alloc, derivation)?;
+    let graph = graph::opened(rt, alloc, &derivation.opening)?;
     let steps = steps_of(alloc, derivation)?;
     let found = check(alloc, graph, &steps, goal_of(derivation))?;
     Ok(is_verdict(found, derivation.finding))
@@ -320,45 +193,37 @@ fn each_derivation_has_the_verdict_worked_out(rt: HostRuntime) -> Result<(), All
     Ok(())
 }
 
-/// A reply.
-#[derive(Clone, Copy)]
-pub enum Told {
-    Done,
-    Created(u64),
-    Full(Which),
-}
-
 /// What alice asks for at seat 0, and the replies: in a vault of three slots a document is made and dropped, another
 /// one is refused, and after two cycles it is made.
-pub const ENTRIES: &[(Ask, Told)] = &[
-    (Ask::Document(READ), Told::Created(3)),
-    (Ask::Remove(READ, 3), Told::Done),
-    (Ask::Document(READ), Told::Full(Which::Slots)),
-    (Ask::Document(READ), Told::Created(4)),
+const ENTRIES: &[Asked] = &[
+    (Ask::Document("r"), Want::Created(3)),
+    (Ask::Remove("r", 3), Want::Done),
+    (Ask::Document("r"), Want::Full(Which::Slots)),
+    (Ask::Document("r"), Want::Created(4)),
 ];
 
 /// The same with another serial at the end.
-const INVENTED: &[(Ask, Told)] = &[
-    (Ask::Document(READ), Told::Created(3)),
-    (Ask::Remove(READ, 3), Told::Done),
-    (Ask::Document(READ), Told::Full(Which::Slots)),
-    (Ask::Document(READ), Told::Created(5)),
+const INVENTED: &[Asked] = &[
+    (Ask::Document("r"), Want::Created(3)),
+    (Ask::Remove("r", 3), Want::Done),
+    (Ask::Document("r"), Want::Full(Which::Slots)),
+    (Ask::Document("r"), Want::Created(5)),
 ];
 
-const FIRST_TWO: &[(Ask, Told)] = &[
-    (Ask::Document(READ), Told::Created(3)),
-    (Ask::Remove(READ, 3), Told::Done),
+const FIRST_TWO: &[Asked] = &[
+    (Ask::Document("r"), Want::Created(3)),
+    (Ask::Remove("r", 3), Want::Done),
 ];
 
-const LAST_TWO: &[(Ask, Told)] = &[
-    (Ask::Document(READ), Told::Full(Which::Slots)),
-    (Ask::Document(READ), Told::Created(4)),
+const LAST_TWO: &[Asked] = &[
+    (Ask::Document("r"), Want::Full(Which::Slots)),
+    (Ask::Document("r"), Want::Created(4)),
 ];
 
-const ONE: &[(Ask, Told)] = &[(Ask::Document(READ), Told::Created(4))];
+const ONE: &[Asked] = &[(Ask::Document("r"), Want::Created(4))];
 
 /// Exchanges of a principal at a seat.
-pub type Log = (u64, u64, &'static [(Ask, Told)]);
+pub type Log = (u64, u64, &'static [Asked]);
 
 /// Logs, and the seat and the index at which they first differ from the history, if they do.
 pub struct Settlement {
@@ -418,72 +283,34 @@ pub const SETTLEMENTS: &[Settlement] = &[
     },
 ];
 
-/// The reply that this denotes.
-fn reply(told: Told) -> Reply {
-    match told {
-        Told::Done => Reply::Done,
-        Told::Created(serial) => Reply::Created(serial),
-        Told::Full(which) => Reply::Full(which),
-    }
-}
-
-/// Whether the reply is the one that this denotes.
-pub fn tells(found: &Reply, told: Told) -> bool {
-    match found {
-        Reply::Done => matches!(told, Told::Done),
-        Reply::Created(serial) => matches!(told, Told::Created(wanted) if wanted == *serial),
-        Reply::Full(which) => matches!(told, Told::Full(wanted) if wanted == *which),
-        Reply::Text(_) | Reply::Edges(_) | Reply::Denied(..) => false,
-    }
-}
-
-/// Alice submits a command at seat 0.
-fn asks(rt: &impl Abort, vault: &mut Vault, asked: (Ask, Told)) -> Result<(), AllocError> {
-    match vault.command(0, command(asked.0)) {
-        Ok(entered) => assert!(rt; tells(&entered.1, asked.1)),
-        Err(AskFault::OutOfMemory) => return Err(AllocError),
-        Err(_) => panic!(rt; "not entered"),
-    }
-    Ok(())
-}
-
-/// A vault of three slots for alice and bob.
-fn of_three_slots(rt: &impl Abort, alloc: Global) -> Result<Vault, AllocError> {
-    let config = configuration(alloc, &["alice", "bob"], &[], 3, 3, 4)?;
-    match Vault::new(alloc, config) {
-        Ok(vault) => Ok(vault),
-        Err(OpenFault::OutOfMemory) => Err(AllocError),
-        Err(_) => panic!(rt; "refused"),
-    }
-}
-
 /// Those entries, with two cycles before the last.
-fn play(rt: &impl Abort, vault: &mut Vault) -> Result<(), AllocError> {
-    assert!(rt; vault.hello(0, "alice").is_ok());
-    assert!(rt; vault.hello(1, "bob").is_ok());
-    asks(rt, vault, ENTRIES[0])?;
-    assert!(rt; vault.shade(0).is_ok());
-    asks(rt, vault, ENTRIES[1])?;
-    asks(rt, vault, ENTRIES[2])?;
-    vault.cycle();
-    vault.cycle();
-    asks(rt, vault, ENTRIES[3])
-}
+const HISTORY: Case = Case {
+    opening: ONE_MORE,
+    lines: &[
+        ALICE,
+        BOB,
+        Line::Make(0, "r", 3),
+        Line::Ask(0, Ask::Remove("r", 3), Want::Done),
+        Line::Ask(0, Ask::Document("r"), Want::Full(Which::Slots)),
+        Line::Cycle(0, 12),
+        Line::Cycle(1, 10),
+        Line::Ask(0, Ask::Document("r"), Want::Created(4)),
+    ],
+};
 
 /// The vault of those entries.
 pub fn opened(rt: &impl Abort, alloc: Global) -> Result<Vault, AllocError> {
-    let mut vault = of_three_slots(rt, alloc)?;
-    play(rt, &mut vault)?;
-    Ok(vault)
+    played(rt, alloc, &HISTORY)
 }
 
 /// Whether these are the replies to the entries.
 pub fn are_replies(found: &[Reply]) -> bool {
     found.len() == ENTRIES.len()
-        && found
-            .iter()
-            .zip(ENTRIES.iter())
-            .all(|(reply, entry)| tells(reply, entry.1))
+        && found.iter().zip(ENTRIES.iter()).all(|(reply, entry)| is_reply(
+            reply,
+            rule_of(entry.0),
+            entry.1,
+        ))
 }
 
 #[test]
@@ -494,14 +321,24 @@ fn a_history_is_replayed(rt: HostRuntime) -> Result<(), AllocError> {
     Ok(())
 }
 
+/// The reply, which is one of those that hold no memory.
+fn reply(rt: &impl Abort, want: Want) -> Reply {
+    match want {
+        Want::Done => Reply::Done,
+        Want::Created(serial) => Reply::Created(serial),
+        Want::Full(which) => Reply::Full(which),
+        _ => panic!(rt; "a reply of another kind"),
+    }
+}
+
 /// The log of these exchanges.
-fn log_of(alloc: Global, log: Log) -> Result<SeatLog, AllocError> {
+fn log_of(rt: &impl Abort, alloc: Global, log: Log) -> Result<SeatLog, AllocError> {
     let mut exchanges = Vec::new(alloc);
-    for (ask, told) in log.2 {
+    for (ask, want) in log.2 {
         exchanges.push(Exchange {
             actor: log.1,
-            command: command(*ask),
-            reply: reply(*told),
+            command: command(alloc, *ask)?,
+            reply: reply(rt, *want),
         })?;
     }
     Ok(SeatLog {
@@ -511,10 +348,14 @@ fn log_of(alloc: Global, log: Log) -> Result<SeatLog, AllocError> {
 }
 
 /// The logs of the settlement.
-pub fn logs_of(alloc: Global, settlement: &Settlement) -> Result<Vec<SeatLog>, AllocError> {
+pub fn logs_of(
+    rt: &impl Abort,
+    alloc: Global,
+    settlement: &Settlement,
+) -> Result<Vec<SeatLog>, AllocError> {
     let mut logs = Vec::new(alloc);
     for log in settlement.logs {
-        logs.push(log_of(alloc, *log)?)?;
+        logs.push(log_of(rt, alloc, *log)?)?;
     }
     Ok(logs)
 }
@@ -546,7 +387,7 @@ pub fn vault_of(settled: Settled) -> Result<Vault, AllocError> {
 fn logs_are_settled_as_worked_out(rt: HostRuntime) -> Result<(), AllocError> {
     let mut vault = opened(&rt, rt.alloc())?;
     for settlement in SETTLEMENTS {
-        let logs = logs_of(rt.alloc(), settlement)?;
+        let logs = logs_of(&rt, rt.alloc(), settlement)?;
         let settled = settle(rt.alloc(), vault, logs);
         assert!(rt; is_settled(&settled, settlement));
         vault = vault_of(settled)?;

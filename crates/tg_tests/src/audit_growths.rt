@@ -1,9 +1,11 @@
 //! Calls that lack memory and are made again: tests/faults/growths.py makes each allocation of these tests fail in
 //! turn.
 use crate::audit::{
-    Ask, Derivation, Finding, READ, SETTLEMENTS, Settlement, are_replies, goal_of, graph_of,
-    is_found, is_settled, is_verdict, logs_of, opened, steps_of, vault_of,
+    Derivation, Finding, SETTLEMENTS, Settlement, are_replies, goal_of, is_found, is_settled,
+    is_verdict, logs_of, opened, steps_of, vault_of,
 };
+use crate::cases::{Ask, Opening, TWO};
+use crate::graph;
 use std::alloc::{AllocError, Global};
 use std::io::Print;
 use std::process::Abort;
@@ -17,7 +19,7 @@ fn is_found_again(
     alloc: Global,
     derivation: &Derivation,
 ) -> Result<bool, AllocError> {
-    let graph = graph_of(rt, alloc, derivation)?;
+    let graph = graph::opened(rt, alloc, &derivation.opening)?;
     let steps = steps_of(alloc, derivation)?;
     match check(alloc, graph, &steps, goal_of(derivation)) {
         Ok(found) => Ok(is_verdict(found, derivation.finding)),
@@ -30,11 +32,13 @@ fn is_found_again(
 
 /// Alice makes a document, in a graph without edges: the first edge needs memory.
 const FIRST_EDGE: &Derivation = &Derivation {
-    names: &["alice"],
-    edges: &[],
-    next: 2,
-    steps: &[(1, Ask::Document(READ))],
-    goal: (1, READ, 2),
+    opening: Opening {
+        names: &["alice"],
+        next: 2,
+        ..TWO
+    },
+    steps: &[(1, Ask::Document("r"))],
+    goal: (1, "r", 2),
     finding: Finding::Shared,
 };
 
@@ -75,7 +79,7 @@ fn settles_again(
     vault: Vault,
     settlement: &Settlement,
 ) -> Result<Vault, AllocError> {
-    let logs = logs_of(alloc, settlement)?;
+    let logs = logs_of(rt, alloc, settlement)?;
     let settled = match settle(alloc, vault, logs) {
         Settled::NoMemory { vault, logs } => {
             let _ = rt.println("no memory");

@@ -1,25 +1,24 @@
 //! Calls whose allocations fail: what they leave, and the same calls made again. tests/faults/growths.py makes each
 //! allocation of a test fail in turn.
-use crate::graph::{
-    Ask, Case, Line, NAMES, Want, Written, command, config, is_reply, opened, played, plays,
-    rights_of, rule_of,
+use crate::cases::{
+    Ask, Edge, Opening, TAKING, TAKING_AND_GRANTING, TO_CAROL, TWO, Want, command, config,
+    is_reply, rights_of, rule_of,
 };
+use crate::graph::{Case, Line, asks, opened, played, plays};
 use std::alloc::{AllocError, Global};
 use std::process::Abort;
 use tg_graph::{Config, Graph, OpenFault};
 use tg_rights::Kind;
 
 /// The opening of the audits.
-const AUDITED: Written = Written {
-    names: &["alice", "bob", "carol"],
-    edges: &[(1, "t", 2), (2, "r", 3)],
-    next: 4,
+const AUDITED: Opening = Opening {
     slots: 1_024,
     cells: 16_384,
+    ..TO_CAROL
 };
 
 /// Whether the graph has these labels, of which an empty one is no edge.
-fn has_labels(graph: &Graph, labels: &[(u64, &str, u64)]) -> bool {
+fn has_labels(graph: &Graph, labels: &[Edge]) -> bool {
     labels.iter().all(|label| graph.rights(label.0, label.2) == rights_of(label.1))
 }
 
@@ -31,16 +30,16 @@ fn asks_again(
     actor: u64,
     ask: Ask,
     want: Want,
-    labels: &[(u64, &str, u64)],
+    labels: &[Edge],
 ) -> Result<(), AllocError> {
-    let first = command(rt, alloc, ask)?;
+    let first = command(alloc, ask)?;
     assert!(rt; graph.kind(actor) == Some(Kind::Subject) && has_labels(graph, labels));
     let reply = match graph.apply(actor, first) {
         Ok(reply) => reply,
         Err(_) => {
             let _ = rt.println("no memory");
             assert!(rt; graph.kind(actor) == Some(Kind::Subject) && has_labels(graph, labels));
-            let second = command(rt, alloc, ask)?;
+            let second = command(alloc, ask)?;
             graph.apply(actor, second)?
         }
     };
@@ -80,7 +79,7 @@ fn is_audited(graph: &Graph) -> bool {
 /// A graph that lacks memory leaves the configuration, which is then opened.
 #[test]
 fn growth_refused_in_a_graph_that_is_built(rt: HostRuntime) -> Result<(), AllocError> {
-    let config = config(rt.alloc(), AUDITED)?;
+    let config = config(rt.alloc(), &AUDITED)?;
     match built_again(&rt, rt.alloc(), &config) {
         Ok(graph) => assert!(rt; is_audited(&graph)),
         Err(_) => panic!(rt; "refused"),
@@ -91,9 +90,9 @@ fn growth_refused_in_a_graph_that_is_built(rt: HostRuntime) -> Result<(), AllocE
 /// A create that lacks memory leaves no vertex and no edge, and its serial is given to the next one.
 #[test]
 fn growth_refused_in_a_create(rt: HostRuntime) -> Result<(), AllocError> {
-    let mut graph = opened(&rt, rt.alloc(), NAMES, &[], 3)?;
+    let mut graph = opened(&rt, rt.alloc(), &TWO)?;
     let create = Ask::Document("rwg");
-    let labels: &[(u64, &str, u64)] = &[(2, "", 3)];
+    let labels: &[Edge] = &[(2, "", 3)];
     asks_again(
         &rt,
         rt.alloc(),
@@ -107,35 +106,29 @@ fn growth_refused_in_a_create(rt: HostRuntime) -> Result<(), AllocError> {
     Ok(())
 }
 
-/// Alice may take from bob, who has made 14 documents: with one edge more the labels no longer fit one node of their
-/// map.
-const FIFTEEN_EDGES: Case = Case {
-    edges: &[(1, "t", 2)],
-    next: 3,
-    asks: &[
-        (2, Ask::Document("r"), Want::Created(3)),
-        (2, Ask::Document("r"), Want::Created(4)),
-        (2, Ask::Document("r"), Want::Created(5)),
-        (2, Ask::Document("r"), Want::Created(6)),
-        (2, Ask::Document("r"), Want::Created(7)),
-        (2, Ask::Document("r"), Want::Created(8)),
-        (2, Ask::Document("r"), Want::Created(9)),
-        (2, Ask::Document("r"), Want::Created(10)),
-        (2, Ask::Document("r"), Want::Created(11)),
-        (2, Ask::Document("r"), Want::Created(12)),
-        (2, Ask::Document("r"), Want::Created(13)),
-        (2, Ask::Document("r"), Want::Created(14)),
-        (2, Ask::Document("r"), Want::Created(15)),
-        (2, Ask::Document("r"), Want::Created(16)),
-    ],
-};
+/// A graph with 15 edges, alice's and those to 14 documents that bob has made: with one edge more the labels no longer
+/// fit one node of their map.
+fn of_fifteen_edges(rt: &impl Abort, alloc: Global) -> Result<Graph, AllocError> {
+    let mut graph = opened(rt, alloc, &TAKING)?;
+    for serial in 3..17 {
+        asks(
+            rt,
+            alloc,
+            &mut graph,
+            2,
+            Ask::Document("r"),
+            Want::Created(serial),
+        )?;
+    }
+    Ok(graph)
+}
 
 /// A take that lacks memory leaves the labels, and is then carried out.
 #[test]
 fn growth_refused_in_a_take(rt: HostRuntime) -> Result<(), AllocError> {
-    let mut graph = played(&rt, rt.alloc(), &FIFTEEN_EDGES)?;
+    let mut graph = of_fifteen_edges(&rt, rt.alloc())?;
     let take = Ask::Take("r", 3, 2);
-    let labels: &[(u64, &str, u64)] = &[(1, "t", 2), (1, "", 3), (2, "r", 3)];
+    let labels: &[Edge] = &[(1, "t", 2), (1, "", 3), (2, "r", 3)];
     asks_again(&rt, rt.alloc(), &mut graph, 1, take, Want::Done, labels)?;
     assert!(rt; has_labels(&graph, &[(1, "r", 3), (2, "r", 3)]));
     Ok(())
@@ -143,8 +136,7 @@ fn growth_refused_in_a_take(rt: HostRuntime) -> Result<(), AllocError> {
 
 /// Alice takes the right to read the document that bob has made.
 const TAKEN: Case = Case {
-    edges: &[(1, "tg", 2)],
-    next: 3,
+    opening: TAKING_AND_GRANTING,
     asks: &[
         (2, Ask::Document("rwg"), Want::Created(3)),
         (1, Ask::Take("r", 3, 2), Want::Done),
@@ -156,14 +148,13 @@ const TAKEN: Case = Case {
 fn growth_refused_in_a_look(rt: HostRuntime) -> Result<(), AllocError> {
     let mut graph = played(&rt, rt.alloc(), &TAKEN)?;
     let told = Want::Edges(&[(2, "tg"), (3, "r")]);
-    let labels: &[(u64, &str, u64)] = &[(1, "tg", 2), (1, "r", 3), (2, "rwg", 3)];
+    let labels: &[Edge] = &[(1, "tg", 2), (1, "r", 3), (2, "rwg", 3)];
     asks_again(&rt, rt.alloc(), &mut graph, 1, Ask::Look(1), told, labels)
 }
 
 /// Alice has written into a document of her own.
 const WRITTEN: Case = Case {
-    edges: &[(1, "t", 2)],
-    next: 3,
+    opening: TAKING,
     asks: &[
         (1, Ask::Document("rw"), Want::Created(3)),
         (1, Ask::Write(3, "hi"), Want::Done),
@@ -175,7 +166,7 @@ const WRITTEN: Case = Case {
 fn growth_refused_in_a_read(rt: HostRuntime) -> Result<(), AllocError> {
     let mut graph = played(&rt, rt.alloc(), &WRITTEN)?;
     let told = Want::Text("hi");
-    let labels: &[(u64, &str, u64)] = &[(1, "t", 2), (1, "rw", 3)];
+    let labels: &[Edge] = &[(1, "t", 2), (1, "rw", 3)];
     asks_again(&rt, rt.alloc(), &mut graph, 1, Ask::Read(3), told, labels)
 }
 
@@ -195,15 +186,14 @@ fn lead_so(rt: &impl Print, graph: &Graph, paths: &[(u64, u64, bool)]) -> Result
 /// A search that lacks memory is made again.
 #[test]
 fn growth_refused_in_a_search(rt: HostRuntime) -> Result<(), AllocError> {
-    let graph = opened(&rt, rt.alloc(), AUDITED.names, AUDITED.edges, AUDITED.next)?;
+    let graph = opened(&rt, rt.alloc(), &TO_CAROL)?;
     assert!(rt; lead_so(&rt, &graph, PATHS)?);
     Ok(())
 }
 
 /// Alice has made a document.
 const CREATED: Case = Case {
-    edges: &[],
-    next: 3,
+    opening: TWO,
     asks: &[(1, Ask::Document("r"), Want::Created(3))],
 };
 

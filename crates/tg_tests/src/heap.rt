@@ -3,6 +3,7 @@ ghost use Rattle.std.specs.Prelude.{◌≡◌, ◌≢◌, ◌<◌};
 ghost use Rattle.tg_slots.specs.Table.{Has, Free};
 ghost use Rattle.tg_heap.specs.Graph.{mark_at};
 
+use crate::cases::rights_of;
 use std::alloc::{AllocError, Global};
 use std::process::Abort;
 use tg_heap::{Dropped, Heap, HeapFull};
@@ -10,19 +11,21 @@ use tg_rights::{Kind, Rights, Text};
 use tg_slots::Colour;
 
 /// One call of a script with its result, or what must be seen after the calls before it. Rights are given by their
-/// bits.
+/// letters.
 #[derive(Clone, Copy)]
 enum Act {
     /// A white document of this serial is put into this slot.
     Put(u64, u32),
+    /// This many white documents, of serials 10, 20 and so on, are put into the slots from the first on.
+    Fill(u32),
     /// A vertex finds no free slot.
     NoSlot,
     /// An edge between two slots gains rights, and what is full.
-    Add(u32, u32, u8, Option<HeapFull>),
+    Add(u32, u32, &'static str, Option<HeapFull>),
     /// An edge between two slots is added that was not there.
-    First(u32, u32, u8),
+    First(u32, u32, &'static str),
     /// The edge from a slot to a serial loses rights, and whether it is gone.
-    Lose(u32, u64, u8, bool),
+    Lose(u32, u64, &'static str, bool),
     Shade(u32),
     /// The first of the grey list is this slot, and is made black.
     Scan(u32),
@@ -36,23 +39,15 @@ enum Act {
     /// The free slots and the free cells.
     Free(u32, u32),
     /// A slot's edges, newest first: target, serial and label.
-    Edges(u32, &'static [(u32, u64, u8)]),
+    Edges(u32, &'static [(u32, u64, &'static str)]),
     /// A slot has no edge to a serial.
     NoEdge(u32, u64),
 }
 
 use Act::{
-    Add, Clear, Edges, First, Free, Lose, NoEdge, NoSlot, NoneWaits, Put, Scan, Shade, White,
+    Add, Clear, Edges, Fill, First, Free, Lose, NoEdge, NoSlot, NoneWaits, Put, Scan, Shade, White,
     Whiten,
 };
-
-const READ: u8 = 1;
-
-const WRITE: u8 = 2;
-
-const TAKE: u8 = 4;
-
-const GRANT: u8 = 8;
 
 struct Script {
     slots: u32,
@@ -66,13 +61,11 @@ const SCRIPTS: &[Script] = &[
         slots: 3,
         cells: 4,
         acts: &[
-            Put(10, 0),
-            Put(20, 1),
-            Put(30, 2),
-            Add(0, 1, READ, None),
-            Add(0, 2, GRANT, None),
-            Add(0, 1, WRITE, None),
-            Edges(0, &[(2, 30, GRANT), (1, 20, READ | WRITE)]),
+            Fill(3),
+            Add(0, 1, "r", None),
+            Add(0, 2, "g", None),
+            Add(0, 1, "w", None),
+            Edges(0, &[(2, 30, "g"), (1, 20, "rw")]),
             Edges(1, &[]),
             Free(0, 2),
         ],
@@ -82,15 +75,13 @@ const SCRIPTS: &[Script] = &[
         slots: 3,
         cells: 2,
         acts: &[
-            Put(10, 0),
-            Put(20, 1),
-            Put(30, 2),
-            First(0, 1, READ),
-            First(0, 2, WRITE | GRANT),
-            Edges(0, &[(2, 30, WRITE | GRANT), (1, 20, READ)]),
+            Fill(3),
+            First(0, 1, "r"),
+            First(0, 2, "wg"),
+            Edges(0, &[(2, 30, "wg"), (1, 20, "r")]),
             Free(0, 0),
-            Add(0, 1, TAKE, None),
-            Edges(0, &[(2, 30, WRITE | GRANT), (1, 20, READ | TAKE)]),
+            Add(0, 1, "t", None),
+            Edges(0, &[(2, 30, "wg"), (1, 20, "rt")]),
         ],
     },
     // an edge left with no right is gone
@@ -100,12 +91,12 @@ const SCRIPTS: &[Script] = &[
         acts: &[
             Put(10, 0),
             Put(20, 1),
-            Add(0, 0, TAKE, None),
-            Add(0, 1, READ | WRITE, None),
-            Lose(0, 20, READ, false),
-            Edges(0, &[(1, 20, WRITE), (0, 10, TAKE)]),
-            Lose(0, 20, WRITE, true),
-            Edges(0, &[(0, 10, TAKE)]),
+            Add(0, 0, "t", None),
+            Add(0, 1, "rw", None),
+            Lose(0, 20, "r", false),
+            Edges(0, &[(1, 20, "w"), (0, 10, "t")]),
+            Lose(0, 20, "w", true),
+            Edges(0, &[(0, 10, "t")]),
             NoEdge(0, 20),
             Free(0, 2),
         ],
@@ -138,17 +129,15 @@ const SCRIPTS: &[Script] = &[
         slots: 3,
         cells: 4,
         acts: &[
-            Put(10, 0),
-            Put(20, 1),
-            Put(30, 2),
+            Fill(3),
             NoSlot,
-            Add(0, 1, READ, None),
-            Add(0, 2, READ, None),
-            Add(1, 0, READ, None),
-            Add(2, 0, READ, None),
+            Add(0, 1, "r", None),
+            Add(0, 2, "r", None),
+            Add(1, 0, "r", None),
+            Add(2, 0, "r", None),
             Free(0, 0),
-            Add(2, 1, READ, Some(HeapFull::Cells)),
-            Add(0, 1, WRITE, None),
+            Add(2, 1, "r", Some(HeapFull::Cells)),
+            Add(0, 1, "w", None),
             Clear(1),
             Free(1, 1),
             Clear(0),
@@ -162,14 +151,6 @@ const SCRIPTS: &[Script] = &[
     },
 ];
 
-/// The rights of these bits.
-fn rights(bits: u8) -> Rights {
-    match Rights::from_bits(bits) {
-        Some(rights) => rights,
-        None => Rights::empty(),
-    }
-}
-
 // The slot has a vertex; the condition of a call is then known.
 fn is_taken(rt: &impl Abort, heap: &Heap, id: u32)
     ensures { mark_at heap.now id ≢ Free }
@@ -178,24 +159,14 @@ fn is_taken(rt: &impl Abort, heap: &Heap, id: u32)
     assert!(rt; !heap.is_free(id), "slot {id} is free");
 }
 
-fn is_white(rt: &impl Abort, heap: &Heap, id: u32)
-    ensures { mark_at heap.now id ≡ Has Colour.White }
+fn has_colour(rt: &impl Abort, heap: &Heap, id: u32, colour: Colour)
+    ensures { mark_at heap.now id ≡ Has colour }
 {
     assert!(rt; id < heap.len());
-    match heap.colour(id) {
-        Some(Colour::White) => {}
-        _ => panic!(rt; "slot {id} is not white"),
-    }
-}
-
-fn is_black(rt: &impl Abort, heap: &Heap, id: u32)
-    ensures { mark_at heap.now id ≡ Has Colour.Black }
-{
-    assert!(rt; id < heap.len());
-    match heap.colour(id) {
-        Some(Colour::Black) => {}
-        _ => panic!(rt; "slot {id} is not black"),
-    }
+    assert!(rt;
+        heap.colour(id) == Some(colour),
+        "slot {id} has another colour"
+    );
 }
 
 // Puts a white document without text into the first free slot.
@@ -264,9 +235,16 @@ fn scan(rt: &impl Abort, heap: &mut Heap) -> u32 {
 
 // Frees a white slot with all its cells.
 fn clear(rt: &impl Abort, heap: &mut Heap, id: u32) {
-    is_white(rt, heap, id);
+    has_colour(rt, heap, id, Colour::White);
     while heap.strip_one_cell(id) {}
     heap.free_slot(id);
+}
+
+/// Puts this many documents into the slots from the first on.
+fn fill(rt: &impl Abort, alloc: Global, heap: &mut Heap, count: u32) {
+    for id in 0..count {
+        assert!(rt; put(rt, alloc, heap, u64::from(id) * 10 + 10) == id);
+    }
 }
 
 /// Whether the text has these bytes.
@@ -295,7 +273,7 @@ fn loses(rt: &impl Abort, heap: &mut Heap, id: u32, serial: u64, rights: Rights,
 }
 
 /// The slot's edges are these, from its first cell to the next and the next.
-fn has_edges(rt: &impl Abort, heap: &Heap, id: u32, wanted: &[(u32, u64, u8)]) {
+fn has_edges(rt: &impl Abort, heap: &Heap, id: u32, wanted: &[(u32, u64, &str)]) {
     assert!(rt; id < heap.len());
     let mut next = heap.first(id);
     for edge in wanted {
@@ -304,7 +282,7 @@ fn has_edges(rt: &impl Abort, heap: &Heap, id: u32, wanted: &[(u32, u64, u8)]) {
         };
         assert!(rt; heap.target(cell) == edge.0);
         assert!(rt; heap.target_serial(cell) == edge.1);
-        assert!(rt; heap.label(cell) == rights(edge.2));
+        assert!(rt; heap.label(cell) == rights_of(edge.2));
         next = heap.next(cell);
     }
     assert!(rt; next.is_none());
@@ -314,21 +292,22 @@ fn has_edges(rt: &impl Abort, heap: &Heap, id: u32, wanted: &[(u32, u64, u8)]) {
 fn play(rt: &impl Abort, alloc: Global, heap: &mut Heap, act: Act) {
     match act {
         Put(serial, slot) => assert!(rt; put(rt, alloc, heap, serial) == slot),
+        Fill(count) => fill(rt, alloc, heap, count),
         NoSlot => finds_no_slot(rt, alloc, heap),
         Add(id, target, letters, full) => {
-            let added = add(rt, heap, id, target, rights(letters));
+            let added = add(rt, heap, id, target, rights_of(letters));
             assert!(rt; added.err() == full);
         }
-        First(id, target, letters) => add_first(rt, heap, id, target, rights(letters)),
-        Lose(id, serial, letters, gone) => loses(rt, heap, id, serial, rights(letters), gone),
+        First(id, target, letters) => add_first(rt, heap, id, target, rights_of(letters)),
+        Lose(id, serial, letters, gone) => loses(rt, heap, id, serial, rights_of(letters), gone),
         Shade(id) => shade(rt, heap, id),
         Scan(id) => assert!(rt; scan(rt, heap) == id),
         NoneWaits => assert!(rt; heap.pop_grey().is_none()),
         Whiten(id) => {
-            is_black(rt, heap, id);
+            has_colour(rt, heap, id, Colour::Black);
             heap.whiten(id);
         }
-        White(id) => is_white(rt, heap, id),
+        White(id) => has_colour(rt, heap, id, Colour::White),
         Clear(id) => clear(rt, heap, id),
         Free(slots, cells) => {
             assert!(rt; heap.free_slots() == slots && heap.free_cells() == cells);
@@ -415,9 +394,9 @@ const FILLED: &[Act] = &[
     Put(1, 0),
     Put(2, 1),
     Put(3, 2),
-    Add(0, 2, READ, None),
+    Add(0, 2, "r", None),
     Free(0, 3),
-    Lose(0, 3, READ, true),
+    Lose(0, 3, "r", true),
     NoSlot,
     Free(0, 4),
 ];

@@ -8,6 +8,7 @@
 mod audit;
 #[cfg(test)]
 mod audit_growths;
+pub mod cases;
 #[cfg(test)]
 mod cells;
 #[cfg(test)]
@@ -24,5 +25,7 @@ mod rights;
 mod slots;
 #[cfg(test)]
 mod vault;
+#[cfg(test)]
+mod vault_cases;
 #[cfg(test)]
 mod vault_growths;

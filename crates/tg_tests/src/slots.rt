@@ -8,24 +8,14 @@ use tg_rights::{Kind, Text};
 use tg_slots::{Colour, Slots};
 
 // The slot has this colour; the condition of a call is then known.
-fn is_white(rt: &impl Abort, slots: &Slots, id: u32)
-    ensures { mark slots.now id ≡ Has Colour.White }
+fn has_colour(rt: &impl Abort, slots: &Slots, id: u32, colour: Colour)
+    ensures { mark slots.now id ≡ Has colour }
 {
     assert!(rt; id < slots.len());
-    match slots.colour(id) {
-        Some(Colour::White) => {}
-        _ => panic!(rt; "slot {id} is not white"),
-    }
-}
-
-fn is_black(rt: &impl Abort, slots: &Slots, id: u32)
-    ensures { mark slots.now id ≡ Has Colour.Black }
-{
-    assert!(rt; id < slots.len());
-    match slots.colour(id) {
-        Some(Colour::Black) => {}
-        _ => panic!(rt; "slot {id} is not black"),
-    }
+    assert!(rt;
+        slots.colour(id) == Some(colour),
+        "slot {id} has another colour"
+    );
 }
 
 // Takes the first free slot for a white document without text.
@@ -37,12 +27,12 @@ fn take(rt: &impl Abort, alloc: Global, slots: &mut Slots, serial: u64) -> u32 {
 }
 
 fn give(rt: &impl Abort, slots: &mut Slots, id: u32) {
-    is_white(rt, slots, id);
+    has_colour(rt, slots, id, Colour::White);
     slots.give_back(id);
 }
 
 fn shade(rt: &impl Abort, slots: &mut Slots, id: u32) {
-    is_white(rt, slots, id);
+    has_colour(rt, slots, id, Colour::White);
     slots.push_grey(id);
 }
 
@@ -159,9 +149,9 @@ fn play(rt: &impl Abort, alloc: Global, slots: &mut Slots, act: Act) {
         Scan(id) => assert!(rt; scan(rt, slots) == id),
         NoneWaits => assert!(rt; slots.pop_grey().is_none()),
         Whiten(id) => {
-            is_black(rt, slots, id);
+            has_colour(rt, slots, id, Colour::Black);
             slots.whiten(id);
-            is_white(rt, slots, id);
+            has_colour(rt, slots, id, Colour::White);
         }
         Free(count) => assert!(rt; slots.free() == count),
     }
@@ -259,7 +249,7 @@ fn a_vertex_is_read_as_it_was_put_in(rt: HostRuntime) -> Result<(), AllocError> 
 
 /// A white vertex gets a text, in place of this one.
 fn replaces(rt: &impl Abort, slots: &mut Slots, id: u32, new: Text, old: &str) {
-    is_white(rt, slots, id);
+    has_colour(rt, slots, id, Colour::White);
     assert!(rt; reads(Some(&slots.set_text(id, new)), old));
 }
 
@@ -282,7 +272,7 @@ fn take_all(rt: &impl Abort, alloc: Global, slots: &mut Slots, count: u32) {
 
 /// Whitens a black slot, and gives it back.
 fn whiten_and_give(rt: &impl Abort, slots: &mut Slots, id: u32) {
-    is_black(rt, slots, id);
+    has_colour(rt, slots, id, Colour::Black);
     slots.whiten(id);
     give(rt, slots, id);
 }

@@ -1,35 +1,31 @@
 //! Calls that lack memory and are made again: tests/faults/growths.py makes each allocation of these tests fail in
 //! turn.
-use crate::vault::{
-    ALICE, Ask, BOB, Case, Line, Step, Want, answers, command, events, is_reply, opened, played,
-    rights_of, rule_of, words,
-};
+use crate::cases::{Ask, Opening, TAKING, TWO, Want, command, config, is_reply, rule_of};
+use crate::vault::{ALICE, BOB, Case, Line, Step, answers, event, events, opened, played};
 use std::alloc::{AllocError, Global};
 use std::io::Print;
 use std::process::Abort;
-use tg_graph::{Config, OpenFault};
-use tg_rights::{Command, Kind, Reply};
+use tg_graph::OpenFault;
+use tg_rights::{Kind, Reply};
 use tg_vault::{Answer, AskFault, Event, Ran, Vault};
 
-/// The configuration of alice alone, with the default numbers of slots and cells.
-fn alice_alone(alloc: Global) -> Result<Config, AllocError> {
-    Ok(Config {
-        principals: words(alloc, &["alice"])?,
-        edges: Vec::new(alloc),
-        next: 2,
-        slots: 1024,
-        cells: 16_384,
-    })
-}
+/// Alice alone, with the default numbers of slots and cells.
+const ALICE_ALONE: Opening = Opening {
+    names: &["alice"],
+    edges: &[],
+    next: 2,
+    slots: 1024,
+    cells: 16_384,
+};
 
 /// The vault of alice alone, opened again if memory runs out.
 fn opened_again(rt: &(impl Abort + Print), alloc: Global) -> Result<Vault, AllocError> {
-    match Vault::new(alloc, alice_alone(alloc)?) {
+    match Vault::new(alloc, config(alloc, &ALICE_ALONE)?) {
         Ok(vault) => Ok(vault),
         Err(fault) => {
             let _ = rt.println("no memory");
             assert!(rt; fault == OpenFault::OutOfMemory);
-            let config = alice_alone(alloc)?;
+            let config = config(alloc, &ALICE_ALONE)?;
             Ok(Vault::new(alloc, config).ok().expect(rt, "refused again"))
         }
     }
@@ -67,13 +63,13 @@ fn asks_again(
     want: Want,
 ) -> Result<bool, AllocError> {
     let entries = vault.count();
-    let first = command(rt, alloc, ask)?;
+    let first = command(alloc, ask)?;
     let entered = match vault.command(seat, first) {
         Ok(entered) => entered,
         Err(fault) => {
             let _ = rt.println("no memory");
             assert!(rt; fault == AskFault::OutOfMemory && is_unchanged(vault, seat, entries));
-            let second = command(rt, alloc, ask)?;
+            let second = command(alloc, ask)?;
             vault.command(seat, second).ok().expect(rt, "refused again")
         }
     };
@@ -89,7 +85,7 @@ fn answers_again(
 ) -> Result<bool, AllocError> {
     match line {
         Line::Ask(seat, ask, want) => asks_again(rt, alloc, vault, seat, ask, want),
-        other => answers(rt, alloc, vault, other),
+        other => answers(alloc, vault, other),
     }
 }
 
@@ -108,16 +104,13 @@ fn lines_are_answered_again(
 
 /// The case's lines have the answers that it says, submitted again if memory runs out.
 fn plays_again(rt: &(impl Abort + Print), alloc: Global, case: &Case) -> Result<(), AllocError> {
-    let mut vault = opened(rt, alloc, case)?;
+    let mut vault = opened(rt, alloc, &case.opening)?;
     lines_are_answered_again(rt, alloc, &mut vault, case.lines)
 }
 
 /// Bob creates a document and shades it, and has nothing more to shade.
 const CREATED: Case = Case {
-    slots: 8,
-    cells: 8,
-    next: 3,
-    edges: &[],
+    opening: TWO,
     lines: &[
         BOB,
         Line::Ask(1, Ask::Document("rwg"), Want::Created(3)),
@@ -134,10 +127,7 @@ fn growth_refused_in_a_create(rt: HostRuntime) -> Result<(), AllocError> {
 
 /// Commands that need memory of their own: for the copy of a text, and for a list of edges.
 const ON_A_TEXT: Case = Case {
-    slots: 8,
-    cells: 8,
-    next: 3,
-    edges: &[(1, "t", 2)],
+    opening: TAKING,
     lines: &[
         ALICE,
         Line::Ask(0, Ask::Document("rw"), Want::Created(3)),
@@ -155,12 +145,7 @@ fn growth_refused_in_commands_on_a_text(rt: HostRuntime) -> Result<(), AllocErro
 }
 
 /// Bob creates a document.
-fn create() -> Event {
-    let kind = Kind::Document;
-    let rights = rights_of("rwg");
-    let command = Command::Create { kind, rights };
-    Event::Ask { seat: 1, command }
-}
+const CREATE: Step = Step::Ask(1, Ask::Document("rwg"));
 
 /// The answer to an event.
 #[derive(Clone, Copy)]
@@ -184,51 +169,48 @@ fn tells(answer: &Answer, told: Told) -> bool {
 
 /// Bob sits, and nobody has rights.
 const SEATED: Case = Case {
-    slots: 8,
-    cells: 8,
-    next: 3,
-    edges: &[],
+    opening: TWO,
     lines: &[BOB],
 };
 
 /// The answer to bob's create as an event; if memory runs out nothing is entered, and it comes again.
-fn created_again(rt: &(impl Abort + Print), vault: &mut Vault) -> Answer {
-    match vault.run_one(create()) {
+fn created_again(
+    rt: &(impl Abort + Print),
+    alloc: Global,
+    vault: &mut Vault,
+) -> Result<Answer, AllocError> {
+    Ok(match vault.run_one(event(alloc, CREATE)?) {
         Answer::Ask(AskFault::OutOfMemory) => {
             let _ = rt.println("no memory");
             assert!(rt; vault.count() == 0);
-            vault.run_one(create())
+            vault.run_one(event(alloc, CREATE)?)
         }
         answer => answer,
-    }
+    })
 }
 
 /// Whether the create has this answer and is shaded, and is the one entry.
-fn is_created_again(rt: &(impl Abort + Print), vault: &mut Vault) -> bool {
-    tells(&created_again(rt, vault), Told::Created(3))
-        && tells(
-            &vault.run_one(Event::Shade { seat: 1 }),
-            Told::Shaded(Some(3)),
-        )
-        && vault.count() == 1
+fn is_created_again(
+    rt: &(impl Abort + Print),
+    alloc: Global,
+    vault: &mut Vault,
+) -> Result<bool, AllocError> {
+    let created = created_again(rt, alloc, vault)?;
+    let shaded = vault.run_one(event(alloc, Step::Shade(1))?);
+    Ok(
+        tells(&created, Told::Created(3))
+            && tells(&shaded, Told::Shaded(Some(3)))
+            && vault.count() == 1,
+    )
 }
 
 /// A create that lacks memory as an event leaves no entry, and is answered when it comes again.
 #[test]
 fn growth_refused_in_an_event(rt: HostRuntime) -> Result<(), AllocError> {
     let mut vault = played(&rt, rt.alloc(), &SEATED)?;
-    assert!(rt; is_created_again(&rt, &mut vault));
+    assert!(rt; is_created_again(&rt, rt.alloc(), &mut vault)?);
     Ok(())
 }
-
-/// Nobody sits, and nobody has rights.
-const EMPTY: Case = Case {
-    slots: 8,
-    cells: 8,
-    next: 3,
-    edges: &[],
-    lines: &[],
-};
 
 /// Alice and bob take their seats; he creates a document, shades it, and has nothing more to shade.
 const CREATE_AND_SHADE: &[Step] = &[
@@ -301,8 +283,8 @@ fn run_again(rt: &(impl Abort + Print), vault: Vault, events: &[Event]) -> Vault
 
 /// How many entries a new vault has after those events.
 fn count_again(rt: &(impl Abort + Print), alloc: Global) -> Result<u64, AllocError> {
-    let events = events(rt, alloc, CREATE_AND_SHADE)?;
-    let vault = opened(rt, alloc, &EMPTY)?;
+    let events = events(alloc, CREATE_AND_SHADE)?;
+    let vault = opened(rt, alloc, &TWO)?;
     Ok(run_again(rt, vault, &events).count())
 }
 
