@@ -15,7 +15,7 @@ from pathlib import Path
 ROOT = Path(__file__).resolve().parents[2]
 
 # What says that memory ran out, if it is a value and not a type.
-WANT = re.compile(r"\b(?:\w+::(?:OutOfMemory|NoMemory|NoRoom)|Said::Nothing)\b|(?<!: )\bAllocError\b(?!>)")
+WANT = re.compile(r"\b(?:\w+::(?:OutOfMemory|NoMemory|NoRoom)|(?:Heard|Said)::Nothing)\b|(?<!: )\bAllocError\b(?!>)")
 NONE = re.compile(r"\bNone\b")
 
 # Functions, and the results of two, whose `None` says so too.
@@ -52,11 +52,11 @@ LISTED = {
     ("tg_wire/src/object.rt", "json", "e.is_memory", "WireFault::OutOfMemory"): 1,
     # A talk, a run and an audit have buffers, and a line in place of each answer that has no room.
     ("tg_talk/src/write_line.rt", "buffered", "BufWriter::with_capacity", "AllocError"): 1,
-    ("tg_talk/src/telling.rt", "text_of_answer", "write_answer_in", "WireFault::OutOfMemory"): 1,
-    ("tg_talk/src/telling.rt", "ask", "write_reply_in", "Said::Nothing"): 1,
+    ("tg_talk/src/answering.rt", "text_of_answer", "write_answer_in", "WireFault::OutOfMemory"): 1,
+    ("tg_talk/src/answering.rt", "answer", "Said::Nothing", "TalkFault::OutOfMemory"): 1,
+    ("tg_talk/src/telling.rt", "ask", "write_reply_in", "Heard::Nothing"): 1,
     ("tg_talk/src/talking.rt", "talk", "InputLines::new", "TalkFault::OutOfMemory"): 1,
-    ("tg_talk/src/talking.rt", "answer_session", "Said::Nothing", "TalkFault::OutOfMemory"): 1,
-    ("tgdoc/src/answer.rt", "tell", "write_answer_in", "WireFault::OutOfMemory"): 1,
+    ("tg_talk/src/talking.rt", "respond", "Heard::Nothing", "Said::Nothing"): 1,
     ("tgdoc/src/answer.rt", "tell_swept", "write_swept_in", "WireFault::OutOfMemory"): 1,
     ("tgdoc/src/run.rt", "run_lines", "InputLines::new", "TalkFault::OutOfMemory"): 1,
     ("tgdoc/src/audit.rt", "audit_lines", "InputLines::new", "TalkFault::OutOfMemory"): 1,

@@ -7,7 +7,7 @@ use Rattle.tg_talk.specs.declared.input_lines.Next.TheVariants as next
 use Rattle.tg_talk.specs.declared.line_buffer.TheConstants.{MOST_LINES}
 use Rattle.tg_wire.specs.declared.line.TheConstants.{LONGEST_LINE}
 use Rattle.tg_talk.specs.InputLines.{lines_of, has_newline, IsFirstNewline}
-use Rattle.tg_talk.specs.Taking.{TakesLine, Takes, count_of}
+use Rattle.tg_talk.specs.Taking.{Input, TakesLine, Takes, count_of}
 use Rattle.tg_talk.proofs.InputLinesLemmas.{Longer, lines_of-line, lines_of-last}
 
 -- ---- known bytes
@@ -22,6 +22,11 @@ always (Some xs) Q f = f xs
 
 pub told_at : (o : Option (List ℕ)) (xs : List ℕ) (P : List ℕ → Type 0) → o ≡ Some xs → IfSome o P → P xs
 told_at o xs P e h = subst (λ k. IfSome k P) e h
+
+-- what is next in an input of which nothing was read is next in the bytes of the reader
+pub at_start : (o : Option (List ℕ)) (input : Input) (P Q : List ℕ → Type 0) → input ≡ record { taken = 0; line = []; left = [] } → IfSome (prepend_known input.left o) P → ((xs : List ℕ) → P xs → Q xs) → IfSome o Q
+at_start None input P Q none h f = tt
+at_start (Some xs) input P Q none h f = f xs (subst (λ (i : Input). IfSome (prepend_known i.left (Some xs)) P) none h)
 
 -- the bytes that were to come are those of the buffer, and those that are left
 abbrev pub SplitsAt : List ℕ → Option (List ℕ) → List ℕ → Type 0

@@ -1,12 +1,14 @@
 -- The answer to a line of a talk.
-use Rattle.std.proofs.Common.{◌≡◌, ◌≢◌, ℕ, List, [], ◌∷◌, Option, None, Some, Ok, Err, inl, inr, refl, sym, ap, ◌∙◌, append-nil, true, false}
+use Rattle.std.proofs.Common.{◌≡◌, ◌≢◌, ◌⊎◌, ℕ, List, [], ◌∷◌, Option, None, Some, Ok, Err, inl, inr, refl, sym, ap, ◌∙◌, append-nil, true, false}
 use Rattle.tg_rights.specs.declared.command.Command.{Command}
 use Rattle.tg_vault.specs.declared.event.Event.TheVariants as event
+use Rattle.tg_vault.specs.declared.event.Answer.{Answer}
 use Rattle.tg_vault.specs.declared.event.Answer.TheVariants as answer
 use Rattle.tg_vault.specs.declared.event.SeatFault.TheVariants as seat_fault
 use Rattle.tg_vault.specs.declared.event.AskFault.{AskFault}
 use Rattle.tg_vault.specs.declared.event.AskFault.TheVariants as ask_fault
 use Rattle.tg_share.specs.Sessions.{Sitting}
+use Rattle.tg_wire.specs.Answers.{answer_line}
 use Rattle.tg_wire.specs.Faults.{fault_line}
 use Rattle.tg_wire.specs.Lines.{line_of}
 use Rattle.tg_wire.specs.Reading as reading
@@ -15,11 +17,12 @@ use Rattle.tg_wire.specs.declared.line.Line.TheVariants.{Act}
 use Rattle.tg_wire.specs.declared.fault.WireFault.{WireFault}
 use Rattle.tg_wire.specs.declared.fault.WireFault.TheVariants as wire
 use Rattle.tg_talk.specs.Talks.{LineTold, refused, seated, not_seated, no_actor, bound, not_for_a_session, exchanged, not_entered, no_memory, seated_untold, is_hello, is_for_no_session}
-use Rattle.tg_talk.specs.Talking.{Asks, Hears, IsHello, Seats, Tells, actor_of, text_of}
-use Rattle.tg_talk.specs.declared.telling.Text.{Text}
-use Rattle.tg_talk.specs.declared.telling.Text.TheVariants as text
-use Rattle.tg_talk.specs.declared.telling.Said.{Said}
-use Rattle.tg_talk.specs.declared.telling.Said.TheVariants as said
+use Rattle.tg_talk.specs.Answering.{text_of}
+use Rattle.tg_talk.specs.Talking.{Asks, Hears, IsHello, Seats, Tells, actor_of}
+use Rattle.tg_talk.specs.declared.answering.Text.{Text}
+use Rattle.tg_talk.specs.declared.answering.Text.TheVariants as text
+use Rattle.tg_talk.specs.declared.telling.Heard.{Heard}
+use Rattle.tg_talk.specs.declared.telling.Heard.TheVariants as heard
 
 told_refused : (sits : Option ℕ) (line : List ℕ) (f : WireFault) → reading.Answers {A = Line} (Err f) (line_of line) → LineTold sits line sits [] (fault_line f)
 told_refused sits line wire.NotJson h = refused wire.NotJson h refl refl refl
@@ -37,49 +40,53 @@ pub stranger_refused : (line : List ℕ) (f : WireFault) → reading.Answers {A 
 stranger_refused line f h = told_refused None line f h
 
 pub stranger_unknown : (line text : List ℕ) (asked : Line) → line_of line ≡ Ok asked → is_hello asked ≡ false → Tells (answer.Ask ask_fault.NoActor) text → LineTold None line None [] text
-stranger_unknown line text asked read other (inl told) = no_actor asked refl read other refl refl told
-stranger_unknown line text asked read other (inr told) = no_memory refl refl told
+stranger_unknown line text asked read other (_, inl (told, _)) = no_actor asked refl read other refl refl told
+stranger_unknown line text asked read other (_, inr (told, _)) = no_memory refl refl told
 
 pub stranger_greeted : (line text name : List ℕ) (asked : Line) (session : Option Sitting) (seat : ℕ) → line_of line ≡ Ok asked → IsHello asked name → Seats session text seat
     → LineTold None line (actor_of session) [] text
-stranger_greeted line text name asked None seat read (named, is) (f, inl told) = not_seated named name f refl (read ∙ ap Ok is) refl refl told
-stranger_greeted line text name asked None seat read (named, is) (f, inr told) = no_memory refl refl told
-stranger_greeted line text name asked (Some s) seat read (named, is) (place, log, inl told) = seated named name s.actor refl (read ∙ ap Ok is) refl refl told
-stranger_greeted line text name asked (Some s) seat read (named, is) (place, log, inr told) = seated_untold named name s.actor refl (read ∙ ap Ok is) refl refl told
+stranger_greeted line text name asked None seat read (named, is) (f, (_, inl (told, _))) = not_seated named name f refl (read ∙ ap Ok is) refl refl told
+stranger_greeted line text name asked None seat read (named, is) (f, (_, inr (told, _))) = no_memory refl refl told
+stranger_greeted line text name asked (Some s) seat read (named, is) (place, log, (_, inl (told, _))) = seated named name s.actor refl (read ∙ ap Ok is) refl refl told
+stranger_greeted line text name asked (Some s) seat read (named, is) (place, log, (_, inr (told, _))) = seated_untold named name s.actor refl (read ∙ ap Ok is) refl refl told
 
 -- ---- a line of a session
 
-heard_quiet : (s : Sitting) (line : List ℕ) (t : Text) → LineTold (Some s.actor) line (Some s.actor) [] (text_of t) → Hears s line (said.Answer t) s
+heard_quiet : (s : Sitting) (line : List ℕ) (t : Text) → LineTold (Some s.actor) line (Some s.actor) [] (text_of t) → Hears s line (heard.Answer t) s
 heard_quiet s line t told = record { log = []; grown = sym (append-nil s.log); says = told }
 
-pub heard_refused : (s : Sitting) (line : List ℕ) (f : WireFault) → reading.Answers {A = Line} (Err f) (line_of line) → Hears s line (said.Answer (text.Refusal f)) s
+pub heard_refused : (s : Sitting) (line : List ℕ) (f : WireFault) → reading.Answers {A = Line} (Err f) (line_of line) → Hears s line (heard.Answer (text.Refusal f)) s
 heard_refused s line f h = heard_quiet s line (text.Refusal f) (told_refused (Some s.actor) line f h)
 
-pub heard_for_none : (s : Sitting) (line : List ℕ) (asked : Line) → line_of line ≡ Ok asked → is_for_no_session asked ≡ true → Hears s line (said.Answer text.NotForASession) s
+pub heard_for_none : (s : Sitting) (line : List ℕ) (asked : Line) → line_of line ≡ Ok asked → is_for_no_session asked ≡ true → Hears s line (heard.Answer text.NotForASession) s
 heard_for_none s line asked read other = heard_quiet s line text.NotForASession (not_for_a_session s.actor asked refl read other refl refl refl)
 
 told_bound : (actor : ℕ) (line name : List ℕ) (seat : ℕ) (bytes : List ℕ) → line_of line ≡ Ok (Act (event.Hello seat name)) → Tells (answer.Seat seat_fault.Bound) bytes → LineTold (Some actor) line (Some actor) [] bytes
-told_bound actor line name seat bytes read (inl told) = bound actor seat name refl read refl refl told
-told_bound actor line name seat bytes read (inr told) = no_memory refl refl told
+told_bound actor line name seat bytes read (_, inl (told, _)) = bound actor seat name refl read refl refl told
+told_bound actor line name seat bytes read (_, inr (told, _)) = no_memory refl refl told
 
-pub heard_hello : (s : Sitting) (line name : List ℕ) (t : Text) (seat : ℕ) → line_of line ≡ Ok (Act (event.Hello seat name)) → Tells (answer.Seat seat_fault.Bound) (text_of t) → Hears s line (said.Answer t) s
+pub heard_hello : (s : Sitting) (line name : List ℕ) (t : Text) (seat : ℕ) → line_of line ≡ Ok (Act (event.Hello seat name)) → Tells (answer.Seat seat_fault.Bound) (text_of t) → Hears s line (heard.Answer t) s
 heard_hello s line name t seat read tells = heard_quiet s line t (told_bound s.actor line name seat (text_of t) read tells)
 
-pub heard_bye : (s : Sitting) (line : List ℕ) (t : Text) (seat : ℕ) → line_of line ≡ Ok (Act (event.Bye seat)) → Tells answer.Bye (text_of t) → Hears s line (said.Bye t) s
+told_once : (a : Answer) (text : List ℕ) → Tells a text → (text ≡ answer_line a) ⊎ (text ≡ fault_line wire.OutOfMemory)
+told_once a text (_, inl (told, _)) = inl told
+told_once a text (_, inr (told, _)) = inr told
+
+pub heard_bye : (s : Sitting) (line : List ℕ) (t : Text) (seat : ℕ) → line_of line ≡ Ok (Act (event.Bye seat)) → Tells answer.Bye (text_of t) → Hears s line (heard.Bye t) s
 heard_bye s line t seat read tells =
-    record { log = []; grown = sym (append-nil s.log); says = record { actor = s.actor; seat = seat; sits_there = refl; read = read; stays = refl; none = refl; told = tells } }
+    record { log = []; grown = sym (append-nil s.log); says = record { actor = s.actor; seat = seat; sits_there = refl; read = read; stays = refl; none = refl; told = told_once answer.Bye (text_of t) tells } }
 
 told_fault : (actor seat : ℕ) (line : List ℕ) (command : Command) (f : AskFault) (bytes : List ℕ) → f ≢ ask_fault.NoSeat → line_of line ≡ Ok (Act (event.Ask seat command)) → Tells (answer.Ask f) bytes
     → LineTold (Some actor) line (Some actor) [] bytes
-told_fault actor seat line command f bytes has_seat read (inl told) = not_entered actor seat command f has_seat refl read refl refl told
-told_fault actor seat line command f bytes has_seat read (inr told) = no_memory refl refl told
+told_fault actor seat line command f bytes has_seat read (_, inl (told, _)) = not_entered actor seat command f has_seat refl read refl refl told
+told_fault actor seat line command f bytes has_seat read (_, inr (told, _)) = no_memory refl refl told
 
-pub heard_ask : (s new : Sitting) (line : List ℕ) (d : Said) (seat : ℕ) (command : Command) → line_of line ≡ Ok (Act (event.Ask seat command)) → Asks s command d new → Hears s line d new
-heard_ask s new line (said.Answer t) seat command read (inl (reply, grown, told)) =
+pub heard_ask : (s new : Sitting) (line : List ℕ) (d : Heard) (seat : ℕ) (command : Command) → line_of line ≡ Ok (Act (event.Ask seat command)) → Asks s command d new → Hears s line d new
+heard_ask s new line (heard.Answer t) seat command read (inl (reply, grown, told)) =
     rw grown (record { log = record { actor = s.actor; command = command; reply = reply } ∷ []; grown = refl; says = exchanged s.actor seat command reply refl read refl refl told })
-heard_ask s new line (said.Answer t) seat command read (inr (f, has_seat, same, tells)) = rw same (heard_quiet s line t (told_fault s.actor seat line command f (text_of t) has_seat read tells))
-heard_ask s new line (said.Bye t) seat command read h = absurd h
-heard_ask s new line said.Nothing seat command read (reply, grown) =
+heard_ask s new line (heard.Answer t) seat command read (inr (f, has_seat, same, tells)) = rw same (heard_quiet s line t (told_fault s.actor seat line command f (text_of t) has_seat read tells))
+heard_ask s new line (heard.Bye t) seat command read h = absurd h
+heard_ask s new line heard.Nothing seat command read (reply, grown) =
     rw grown (record {
       log = record { actor = s.actor; command = command; reply = reply } ∷ [];
       grown = refl;

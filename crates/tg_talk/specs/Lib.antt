@@ -4,5 +4,6 @@ pub mod Finding
 pub mod Taking
 pub mod Refusals
 pub mod Endings
+pub mod Answering
 pub mod Talks
 pub mod Talking

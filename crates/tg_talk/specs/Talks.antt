@@ -1,5 +1,5 @@
 -- what a talk answers to the lines of its input
-use Rattle.std.specs.Prelude.{◌≡◌, ◌≢◌, ℕ, ◌+◌, ◌<◌, ◌≤◌, List, [], ◌∷◌, ◌++◌, length, Bool, true, false, Option, Some, None, option_map, ◌⊎◌, Ok, Err}
+use Rattle.std.specs.Prelude.{◌≡◌, ◌≢◌, ℕ, List, [], ◌∷◌, ◌++◌, Bool, true, false, Option, Some, None, option_map, ◌⊎◌, Ok, Err}
 use Rattle.tg_rights.specs.declared.command.Command.{Command}
 use Rattle.tg_rights.specs.declared.outcome.Reply.{Reply}
 use Rattle.tg_vault.specs.declared.event.Event.TheVariants as event
@@ -20,8 +20,8 @@ use Rattle.tg_wire.specs.declared.fault.WireFault.{WireFault}
 use Rattle.tg_wire.specs.declared.fault.WireFault.TheVariants as wire
 use Rattle.tg_talk.specs.Devices.{SendsLast}
 use Rattle.tg_talk.specs.InputLines.{lines_of}
-use Rattle.tg_talk.specs.Refusals.{too_many_line, not_for_a_session_line}
-use Rattle.tg_talk.specs.Endings.{IsFault, EndsThere}
+use Rattle.tg_talk.specs.Refusals.{not_for_a_session_line}
+use Rattle.tg_talk.specs.Answering.{Saying, goes_on, closes, unanswered, LinesAnswered}
 use Rattle.tg_talk.specs.declared.fault.TalkFault.{TalkFault}
 use Rattle.tg_talk.specs.declared.fault.TalkFault.TheVariants as talk
 
@@ -84,31 +84,27 @@ pub record Untold (sits : Option ℕ) (line : List ℕ) (then : Option ℕ) (log
   pub stays : then ≡ sits
   pub entered : log ≡ record { actor = actor; command = command; reply = reply } ∷ []
 
--- After n lines, when `sits` sits: the lines that are left; the exchanges that are entered for them, in their order;
--- who sits at the end; the fault, and the lines taken in all; the text of the answers before the last one, and that of
--- the last.
-pub data TalkText : ℕ → Option ℕ → List (List ℕ) → List Exchange → Option ℕ → Option TalkFault → ℕ → List ℕ → List ℕ → Type 0 where
+-- who sits, once a hello has succeeded, and the exchanges of the log
+pub record Seated : Type 0 where
+  pub sits : Option ℕ
+  pub log : List Exchange
+
+abbrev pub nobody : Seated
+nobody = record { sits = None; log = [] }
+
+-- what becomes of a line of a talk: the exchange that is entered for it, if one is, and the answer
+abbrev pub TalkSays : Seated → List ℕ → Saying → Seated → Type 0
+TalkSays s line (goes_on text errors) t = (log : List Exchange) × (t.log ≡ s.log ++ log) × LineTold s.sits line t.sits log text
+TalkSays s line (closes text errors) t = (log : List Exchange) × (t.log ≡ s.log ++ log) × ByeTold s.sits line t.sits log text
+TalkSays s line unanswered t = (log : List Exchange) × (t.log ≡ s.log ++ log) × Untold s.sits line t.sits log
+
+-- A talk over the lines of its input: the exchanges of the log, in their order; who sits at the end; the fault, and the
+-- lines taken in all; the text of the answers before the last one, and that of the last.
+pub data TalkText : List (List ℕ) → List Exchange → Option ℕ → Option TalkFault → ℕ → List ℕ → List ℕ → Type 0 where
   -- no memory for the lines: none is taken
-  no_buffer : {ls : List (List ℕ)} → TalkText 0 None ls [] None (Some talk.OutOfMemory) 0 [] []
-  ended : {n : ℕ} {sits : Option ℕ} → TalkText n sits [] [] sits None n [] []
-  -- the reader failed
-  stopped : {n : ℕ} {sits : Option ℕ} {ls : List (List ℕ)} → TalkText n sits ls [] sits (Some talk.Reading) n [] []
-  -- the writer failed at answers that it held back
-  unpaid : {n : ℕ} {sits : Option ℕ} {ls : List (List ℕ)} → TalkText n sits ls [] sits (Some talk.Writing) n [] []
-  -- the writer failed at the answer of this line
-  cut : {n m : ℕ} {sits then : Option ℕ} {l text : List ℕ} {ls : List (List ℕ)} {log : List Exchange}
-      → n < 1000000 → length l ≤ 16384 → LineTold sits l then log text → m ≡ n + 1 → TalkText n sits (l ∷ ls) log then (Some talk.Writing) m [] text
-  bye : {n m : ℕ} {sits then : Option ℕ} {l text : List ℕ} {ls : List (List ℕ)} {log : List Exchange} {f : Option TalkFault}
-      → n < 1000000 → length l ≤ 16384 → ByeTold sits l then log text → EndsThere f → m ≡ n + 1 → TalkText n sits (l ∷ ls) log then f m [] text
-  untold : {n m : ℕ} {sits then : Option ℕ} {l : List ℕ} {ls : List (List ℕ)} {log : List Exchange} {f : Option TalkFault}
-      → n < 1000000 → length l ≤ 16384 → Untold sits l then log → IsFault talk.OutOfMemory f → m ≡ n + 1 → TalkText n sits (l ∷ ls) log then f m [] []
-  too_many : {n m : ℕ} {sits : Option ℕ} {l : List ℕ} {ls : List (List ℕ)} {f : Option TalkFault}
-      → n ≡ 1000000 → IsFault talk.TooMany f → m ≡ n + 1 → TalkText n sits (l ∷ ls) [] sits f m [] too_many_line
-  too_long : {n m : ℕ} {sits : Option ℕ} {l : List ℕ} {ls : List (List ℕ)} {f : Option TalkFault}
-      → n < 1000000 → 16384 < length l → IsFault talk.TooLong f → m ≡ n + 1 → TalkText n sits (l ∷ ls) [] sits f m [] (fault_line wire.TooLong)
-  answered : {n m : ℕ} {sits next then : Option ℕ} {l text before last : List ℕ} {ls : List (List ℕ)} {first rest : List Exchange} {f : Option TalkFault}
-      → n < 1000000 → length l ≤ 16384 → LineTold sits l next first text → TalkText (n + 1) next ls rest then f m before last
-      → TalkText n sits (l ∷ ls) (first ++ rest) then f m (text ++ before) last
+  no_buffer : {ls : List (List ℕ)} → TalkText ls [] None (Some talk.OutOfMemory) 0 [] []
+  taken : {ls : List (List ℕ)} {log : List Exchange} {then : Option ℕ} {f : Option TalkFault} {m errors : ℕ} {before last : List ℕ}
+      → LinesAnswered TalkSays nobody 0 0 ls (record { sits = then; log = log }) f m errors before last → TalkText ls log then f m before last
 
 -- who sat at the end, and the exchanges of the log; none if no hello succeeded
 abbrev pub actor_left : {L : Type 0} → Option (Ended L) → Option ℕ
@@ -124,5 +120,5 @@ log_left (Some e) = e.log.exchanges.items
 pub record HasTalked {L : Type 0} (lines : ℕ) (fault : Option TalkFault) (session : Option (Ended L)) (old new : Option (List ℕ)) (failed : Bool) (input : List ℕ) : Type 0 where
   pub before : List ℕ
   pub last : List ℕ
-  pub text : TalkText 0 None (lines_of input) (log_left session) (actor_left session) fault lines before last
+  pub text : TalkText (lines_of input) (log_left session) (actor_left session) fault lines before last
   pub sent : SendsLast old new failed before last

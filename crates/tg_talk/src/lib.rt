@@ -1,6 +1,7 @@
 //! Lines over a reader and a writer: one is taken, one is written; and talks, a client's lines over one session.
 #![tactic(auto)]
 
+mod answering;
 mod failing;
 mod fault;
 mod input_lines;
@@ -12,6 +13,7 @@ mod telling;
 mod watched;
 mod write_line;
 
+pub use answering::{Finished, Over, Responder, Said, Text, answer_lines, text_of_answer};
 pub use failing::{FailingReader, FailingWriter, Failure};
 pub use fault::TalkFault;
 pub use input_lines::{InputLines, Next};
@@ -19,4 +21,4 @@ pub use line_buffer::{Found, LineBuffer, MOST_LINES};
 pub use refusal::too_many_line;
 pub use talking::{Talked, talk};
 pub use watched::Watched;
-pub use write_line::{buffered, pay_last, send_line};
+pub use write_line::{buffered, pay_last, send_last_line, send_line};

@@ -2,8 +2,10 @@
 
 ghost use Rattle.std.specs.Prelude.{◌≡◌, Some, None, IfSome, IfNone, [], false};
 ghost use Rattle.tg_talk.specs.Talks.{LineTold, is_hello};
-ghost use Rattle.tg_talk.specs.Talking.{Asks, Hears, IsHello, Seats, Tells, actor_of, text_of};
+ghost use Rattle.tg_talk.specs.Answering.{text_of};
+ghost use Rattle.tg_talk.specs.Talking.{Asks, Hears, IsHello, Seats, actor_of};
 
+use crate::answering::{Text, text_of_answer};
 use std::alloc::Global;
 use std::rt::Clock;
 use std::sync::Wait;
@@ -11,19 +13,11 @@ use std::sync::ledger::Ledger;
 use tg_rights::{Command, Word};
 use tg_share::{Gate, Session, Shared};
 use tg_vault::{Answer, AskFault, Event, SeatFault};
-use tg_wire::{Line, LineRoom, WireFault, read_line, write_answer_in, write_reply_in};
-
-/// The line of an answer, or the refusal whose line it is.
-#[derive(Drop)]
-pub(crate) enum Text {
-    Line(Vec<u8>),
-    Refusal(WireFault),
-    NotForASession,
-}
+use tg_wire::{Line, LineRoom, read_line, write_reply_in};
 
 /// The answer to a line of a session.
 #[derive(Drop)]
-pub(crate) enum Said {
+pub(crate) enum Heard {
     /// This, and the talk goes on.
     Answer(Text),
     /// This, and the talk is over.
@@ -36,16 +30,6 @@ pub(crate) enum Said {
 pub(crate) struct Greeted<'s, L: Ledger> {
     pub session: Option<Session<'s, L>>,
     pub text: Text,
-}
-
-/// The line of an answer, or `out of memory` in its place.
-fn text_of_answer(room: &mut LineRoom, answer: &Answer) -> Text
-    ensures { Tells answer.now (text_of result) }
-{
-    match write_answer_in(room, answer) {
-        Ok(line) => Text::Line(line),
-        Err(_) => Text::Refusal(WireFault::OutOfMemory),
-    }
 }
 
 /// The name of a hello.
@@ -129,21 +113,21 @@ pub(crate) fn hear_session<'s, L: Ledger, R: Wait + Clock, G: Gate>(
     gate: &G,
     bytes: &[u8],
     room: &mut LineRoom,
-) -> Said
+) -> Heard
     ensures heard { Hears session.old bytes.now result session.new }
     ensures seat { session.new.seat ≡ session.old.seat }
 {
     match read_line(alloc, bytes) {
-        Err(fault) => Said::Answer(Text::Refusal(fault)),
-        Ok(Line::Cycle) => Said::Answer(Text::NotForASession),
+        Err(fault) => Heard::Answer(Text::Refusal(fault)),
+        Ok(Line::Cycle) => Heard::Answer(Text::NotForASession),
         Ok(Line::Act(event)) => match event {
             Event::Hello { seat: _, name: _ } => {
-                Said::Answer(text_of_answer(room, &Answer::Seat(SeatFault::Bound)))
+                Heard::Answer(text_of_answer(room, &Answer::Seat(SeatFault::Bound)))
             }
-            Event::Bye { seat: _ } => Said::Bye(text_of_answer(room, &Answer::Bye)),
+            Event::Bye { seat: _ } => Heard::Bye(text_of_answer(room, &Answer::Bye)),
             Event::Ask { seat: _, command } => ask(rt, session, gate, command, room),
-            Event::Shade { seat: _ } => Said::Answer(Text::NotForASession),
-            Event::Collect => Said::Answer(Text::NotForASession),
+            Event::Shade { seat: _ } => Heard::Answer(Text::NotForASession),
+            Event::Collect => Heard::Answer(Text::NotForASession),
         },
     }
 }
@@ -155,14 +139,14 @@ fn ask<'s, L: Ledger, R: Wait + Clock, G: Gate>(
     gate: &G,
     command: Command,
     room: &mut LineRoom,
-) -> Said
+) -> Heard
     ensures { Asks session.old command result session.new }
 {
     match session.submit(rt, command, gate) {
         Ok(reply) => match write_reply_in(room, reply) {
-            Ok(line) => Said::Answer(Text::Line(line)),
-            Err(_) => Said::Nothing,
+            Ok(line) => Heard::Answer(Text::Line(line)),
+            Err(_) => Heard::Nothing,
         },
-        Err(fault) => Said::Answer(text_of_answer(room, &Answer::Ask(fault))),
+        Err(fault) => Heard::Answer(text_of_answer(room, &Answer::Ask(fault))),
     }
 }

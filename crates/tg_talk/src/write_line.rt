@@ -76,3 +76,22 @@ pub fn pay_last<W: Write + Drop>(
         Some(TalkFault::Writing)
     }
 }
+
+/// Writes the last line, and all that is held back; returns the fault, unless the writer fails.
+pub fn send_last_line<W: Write + Drop>(
+    writer: &mut Watched<BufWriter<W>>,
+    line: &[u8],
+    fault: Option<TalkFault>,
+) -> Option<TalkFault>
+    requires { has_failed writer.old ≡ false }
+    ensures fault { EndsOnce fault (has_failed writer.new) result }
+    ensures paid { has_failed writer.new ≡ false → owed writer.new ≡ [] }
+    ensures sent { Sends (promised W.contents writer.old) (promised W.contents writer.new) (has_failed writer.new) line.now }
+{
+    send_line(writer, line);
+    if writer.failed() {
+        Some(TalkFault::Writing)
+    } else {
+        pay_last(writer, fault)
+    }
+}

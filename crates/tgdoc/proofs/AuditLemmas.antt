@@ -22,10 +22,10 @@ use Rattle.tg_talk.specs.Endings.{EndsOnce}
 use Rattle.tgdoc.specs.Runs.{RefusesOpening}
 use Rattle.tgdoc.specs.Audits.{AuditRead, BytesAudited, End, EndsAt, EndsInSteps, IsRead, Misreads, OpensGraph, SaysGoal, SaysStep, StepsRead, at_configuration, at_goal, end_errors, ended, here, in_steps, judged, later, misread, no_line, none, not_read, refused, step, stopped, too_long, too_many, unjudged, verdict_errors}
 use Rattle.tgdoc.specs.Auditing.{Advances, EndsBytes, EndsEarlyBytes, EndsStepBytes, Judges, NoRefusal, TakesRead, TakesSteps, TellsVerdict, end_after}
-use Rattle.tgdoc.specs.Turns.{one_if}
+use Rattle.tg_talk.specs.Answering.{one_if}
 use Rattle.tgdoc.specs.declared.audit.Ending.{Ending}
 use Rattle.tgdoc.specs.declared.audit.Ending.TheVariants as ending
-use Rattle.tgdoc.specs.declared.finished.Finished.{Finished}
+use Rattle.tg_talk.specs.declared.answering.Finished.{Finished}
 
 -- ---- known bytes
 

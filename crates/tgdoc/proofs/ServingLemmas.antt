@@ -1,5 +1,5 @@
 -- A server's configuration line.
-use Rattle.std.proofs.Common.{◌≡◌, ◌↔◌, ◌∙◌, ℕ, ◌<◌, ◌≤◌, List, [], ◌∷◌, ◌++◌, length, Bool, true, Option, Some, IfSome, Result, Ok, Err, IfOk, IfErr, refl, sym, ap, subst, arith, length-append}
+use Rattle.std.proofs.Common.{◌≡◌, ◌↔◌, ◌∙◌, ℕ, ◌<◌, ◌≤◌, List, [], length, Bool, true, Option, IfSome, Result, Ok, Err, IfOk, IfErr, sym, ap, subst, arith, length-append}
 use Rattle.std.specs.Borrow.{Bor}
 use Rattle.tg_graph.specs.declared.config.OpenFault.{OpenFault}
 use Rattle.tg_vault.specs.Contents.{Contents}
@@ -10,7 +10,7 @@ use Rattle.tg_talk.specs.InputLines.{lines_of}
 use Rattle.tg_talk.specs.Taking.{HasLine, TakesLine}
 use Rattle.tg_talk.proofs.TakingLemmas.{weaker}
 use Rattle.tgdoc.specs.Runs.{RefusesOpening, misread, not_read, unsound}
-use Rattle.tgdoc.specs.Turns.{Opens}
+use Rattle.tgdoc.specs.Running.{Opens}
 use Rattle.tgdoc.specs.Serving.{OpensBytes, RefusesBytes, no_line, refused, too_long}
 use Rattle.tgdoc.proofs.OpeningLemmas.{empty_line}
 

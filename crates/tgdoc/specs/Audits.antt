@@ -21,7 +21,7 @@ use Rattle.tg_talk.specs.declared.fault.TalkFault.{TalkFault}
 use Rattle.tg_talk.specs.declared.fault.TalkFault.TheVariants as talk
 use Rattle.tg_talk.specs.Endings.{EndsOnce}
 use Rattle.tgdoc.specs.Runs.{RefusesOpening}
-use Rattle.tgdoc.specs.declared.finished.Finished.{Finished}
+use Rattle.tg_talk.specs.declared.answering.Finished.{Finished}
 
 -- how an audit ends without a verdict: the lines taken, the text that is answered, and the fault
 pub record End : Type 0 where

@@ -11,7 +11,7 @@ use Rattle.tg_wire.specs.Faults.{fault_line}
 use Rattle.tg_wire.specs.declared.fault.WireFault.TheVariants as wire
 use Rattle.tg_talk.specs.InputLines.{lines_of}
 use Rattle.tgdoc.specs.Runs.{RefusesOpening}
-use Rattle.tgdoc.specs.Turns.{Opens}
+use Rattle.tgdoc.specs.Running.{Opens}
 use Rattle.tgdoc.specs.declared.serve.Found.{Found}
 use Rattle.tgdoc.specs.declared.serve.Found.TheVariants as found
 

@@ -10,15 +10,15 @@ ghost use Rattle.tg_talk.specs.declared.line_buffer.TheConstants.{MOST_LINES};
 ghost use Rattle.tg_talk.specs.Endings.{EndsOnce};
 ghost use Rattle.tgdoc.specs.Runs.{RefusesOpening};
 ghost use Rattle.tgdoc.specs.Audits.{BytesAudited, Misreads, OpensGraph, SaysGoal, end_errors, verdict_errors};
-ghost use Rattle.tgdoc.specs.Turns.{one_if};
+ghost use Rattle.tg_talk.specs.Answering.{one_if};
 ghost use Rattle.tgdoc.specs.Auditing.{Advances, EndsBytes, EndsEarlyBytes, EndsStepBytes, Judges, NoRefusal, TakesRead, TakesSteps, TellsVerdict, end_after, unread};
 
-use crate::finished::{Finished, finish};
+use crate::finish::finish;
 use std::alloc::Global;
 use std::io::{BufWriter, Read, Write};
 use tg_audit::check;
 use tg_graph::{Goal, Graph, OpenFault, Step, Verdict};
-use tg_talk::{InputLines, Next, TalkFault, Watched, too_many_line};
+use tg_talk::{Finished, InputLines, Next, TalkFault, Watched, too_many_line};
 use tg_wire::{
     WireFault, error_line, open_fault_line, read_config, read_goal, read_step, write_verdict,
 };

@@ -5,15 +5,15 @@ ghost use Rattle.std.specs.Io.KnownBytes.{Keeps, prepend_known};
 ghost use Rattle.tg_talk.specs.Devices.{device_of, has_failed, owed, promised};
 ghost use Rattle.tg_talk.specs.declared.fault.TalkFault.TheVariants.{OutOfMemory, Reading, Writing};
 ghost use Rattle.tgdoc.specs.Runs.{LinesRan, RefusesOpening};
-ghost use Rattle.tgdoc.specs.Turns.{Opens, RestAnswered};
+ghost use Rattle.tgdoc.specs.Running.{Opens, LinesLeft};
 
-use crate::finished::{Finished, finish};
-use crate::run_state::{RunState, Turn};
+use crate::answer::Runner;
+use crate::finish::finish;
 use std::alloc::Global;
 use std::io::{BufWriter, Read, Write};
-use tg_talk::{InputLines, Next, TalkFault, Watched};
+use tg_talk::{Finished, InputLines, Next, Over, TalkFault, Watched, answer_lines};
 use tg_vault::{Key, Vault, courses_have_the_headline, courses_join};
-use tg_wire::{LineRoom, WireFault, error_line, open_fault_line, read_config};
+use tg_wire::{WireFault, error_line, open_fault_line, read_config};
 
 /// Reads a configuration line and then event lines, and answers each. Answers to lines that came together are written
 /// together, and nothing is held back when more is read, nor at the end. A configuration line that is refused ends the
@@ -63,7 +63,7 @@ pub fn run_lines<R: Read, W: Write + Drop>(
         Next::TooMany => unreachable!(),
         Next::Line => match open(alloc, Key::FIXED, input.line()) {
             Err(text) => finish(writer, 1, 1, text, None),
-            Ok(vault) => answer_lines(alloc, vault, input, reader, writer),
+            Ok(vault) => answer_rest(alloc, vault, input, reader, writer),
         },
     }
 }
@@ -86,7 +86,7 @@ pub(crate) fn open(alloc: Global, key: Key, bytes: &[u8]) -> Result<Vault, &'sta
 }
 
 /// Answers the lines after the configuration.
-fn answer_lines<R: Read, W: Write + Drop>(
+fn answer_rest<R: Read, W: Write + Drop>(
     alloc: Global,
     vault: Vault,
     input: InputLines,
@@ -102,25 +102,13 @@ fn answer_lines<R: Read, W: Write + Drop>(
     ensures memory { result.fault ≢ Some OutOfMemory }
     ensures few { result.lines ≤ 1000001 }
     ensures answered { IfSome (prepend_known input.left (R.remaining (device_of reader.old)))
-        (RestAnswered vault result (promised W.contents writer.old) (promised W.contents writer.new) (has_failed writer.new)) }
+        (LinesLeft vault result (promised W.contents writer.old) (promised W.contents writer.new) (has_failed writer.new)) }
 {
     courses_join();
-    let mut state = RunState {
-        input,
-        errors: 0,
-        room: LineRoom::new(alloc),
-    };
-    let mut vault = vault;
-    loop {
-        match state.turn(alloc, &mut vault, reader, writer) {
-            Turn::GoOn => {}
-            Turn::Ended(fault) => {
-                return Finished {
-                    lines: state.input.taken(),
-                    errors: state.errors,
-                    fault,
-                };
-            }
-        }
-    }
+    let mut runner = Runner { alloc, vault };
+    let Over {
+        carried: (),
+        finished,
+    } = answer_lines(alloc, input, &mut runner, (), reader, writer);
+    finished
 }

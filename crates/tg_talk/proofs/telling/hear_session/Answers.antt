@@ -11,7 +11,7 @@ returns-in-Ok-Cycle-clause-heard g c = heard_for_none _ _ _ (c.in-Ok-Cycle.ensur
 
 pub returns-in-Hello-clause-heard : goal.returns-in-Hello-clause-heard
 returns-in-Hello-clause-heard g c =
-    heard_hello _ _ _ _ _ (c.in-Ok-Act.ensures.answered ∙ ap Ok c.in-Ok-Act.field-0-is ∙ ap (λ e. Ok (Act e)) c.in-Hello.is) c.text_of_answer.ensures
+    heard_hello _ _ _ _ _ (c.in-Ok-Act.ensures.answered ∙ ap Ok c.in-Ok-Act.field-0-is ∙ ap (λ e. Ok (Act e)) c.in-Hello.is) (_, c.text_of_answer.ensures)
 
 pub returns-in-Ask-clause-heard : goal.returns-in-Ask-clause-heard
 returns-in-Ask-clause-heard g c = heard_ask _ _ _ _ _ _ (c.in-Ok-Act.ensures.answered ∙ ap Ok c.in-Ok-Act.field-0-is ∙ ap (λ e. Ok (Act e)) c.in-Ask.is) c.ask.ensures

@@ -8,4 +8,4 @@ pub returns-in-Some-clause-told : goal.returns-in-Some-clause-told
 returns-in-Some-clause-told g c = stranger_greeted _ _ _ c.in-Ok.line _ c.args.seat c.in-Ok.ensures.answered c.in-Some.ensures.hello c.greet.ensures
 
 pub returns-in-None-clause-told : goal.returns-in-None-clause-told
-returns-in-None-clause-told g c = stranger_unknown _ _ c.in-Ok.line c.in-Ok.ensures.answered c.in-None.ensures.other c.text_of_answer.ensures
+returns-in-None-clause-told g c = stranger_unknown _ _ c.in-Ok.line c.in-Ok.ensures.answered c.in-None.ensures.other (_, c.text_of_answer.ensures)

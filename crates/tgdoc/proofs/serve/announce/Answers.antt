@@ -1,6 +1,4 @@
-use Rattle.std.proofs.Common.{◌≡◌}
 use Rattle.std.specs.Net.Text.{socket_text}
-use Rattle.tgdoc.specs.Serving.{Announces}
 use Rattle.tgdoc.proofs.serve.announce.Goals as goal
 
 pub returns-in-Ok-write-clause-announced : goal.returns-in-Ok-write-clause-announced

@@ -1,4 +1,4 @@
-use Rattle.std.proofs.Common.{◌≡◌, ℕ, List, Option, subst}
+use Rattle.std.proofs.Common.{subst}
 use Rattle.tg_talk.specs.Devices.{Sends, device_of, has_failed}
 use Rattle.tg_talk.proofs.KnownBytesLemmas.{Appends-more}
 use Rattle.tg_talk.proofs.SendsLemmas.{sent_whole}

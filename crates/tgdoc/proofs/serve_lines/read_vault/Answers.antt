@@ -1,10 +1,9 @@
 use Rattle.std.proofs.Common.{◌≡◌, [], None, refl, sym, true≢false, ◌∙◌}
-use Rattle.tg_talk.proofs.TakingLemmas.{always}
+use Rattle.tg_talk.proofs.TakingLemmas.{always, at_start}
 use Rattle.tg_talk.specs.Taking.{Takes, TakesLine}
 use Rattle.tg_talk.specs.declared.input_lines.Next.TheVariants as next
 use Rattle.tg_wire.specs.declared.fault.WireFault.TheVariants as wire
 use Rattle.tgdoc.specs.Serving.{RefusesBytes, no_buffer, stopped}
-use Rattle.tgdoc.proofs.OpeningLemmas.{at_start}
 use Rattle.tgdoc.proofs.ServingLemmas.{bytes_no_line, bytes_too_long, fault_has_text, is_told, line_opens, line_refused, line_told}
 use Rattle.tgdoc.proofs.serve_lines.read_vault.Goals as goal
 

@@ -1,0 +1,59 @@
+-- what a run does for a line
+use Rattle.std.specs.Prelude.{◌≡◌, ℕ, List, [], ◌∷◌, Bool, true, false, Option, None, ◌⊎◌, Ok}
+use Rattle.tg_graph.specs.declared.config.Config.{Config}
+use Rattle.tg_graph.specs.Opening.{first_fault}
+use Rattle.tg_vault.specs.Contents.{Contents, Keeps, IsFresh}
+use Rattle.tg_vault.specs.Course.{IsCoherent}
+use Rattle.tg_vault.specs.declared.event.Event.{Event}
+use Rattle.tg_vault.specs.declared.event.Answer.{Answer}
+use Rattle.tg_vault.specs.declared.vault.Swept.{Swept}
+use Rattle.tg_wire.specs.Answers.{swept_line}
+use Rattle.tg_wire.specs.Configs.{opening_of}
+use Rattle.tg_wire.specs.Lines.{config_of}
+use Rattle.tg_wire.specs.Faults.{fault_line}
+use Rattle.tg_wire.specs.declared.fault.WireFault.TheVariants as wire
+use Rattle.tg_talk.specs.Devices.{SendsLast}
+use Rattle.tg_talk.specs.InputLines.{lines_of}
+use Rattle.tg_talk.specs.Answering.{Saying, goes_on, closes, unanswered, LinesAnswered}
+use Rattle.tg_talk.specs.declared.answering.Finished.{Finished}
+use Rattle.tgdoc.specs.Runs.{Steps, VaultRan, LineAnswer, RunSays}
+use Rattle.tgdoc.specs.declared.answer.Runner.{Runner}
+
+-- what the vault carried out for one event
+abbrev pub steps_of : Event → Answer → Steps
+steps_of event answer = (event, answer) ∷ []
+
+-- the text is the line of what a cycle did, or that of `out of memory`
+abbrev pub TellsSwept : Swept → List ℕ → Bool → Type 0
+TellsSwept swept text is_wrong = ((text ≡ swept_line swept) × (is_wrong ≡ false)) ⊎ ((text ≡ fault_line wire.OutOfMemory) × (is_wrong ≡ true))
+
+-- the vault answers a line, for which it carries out some steps
+pub record AnswersLine (v : Contents) (line : List ℕ) (after : Contents) (text : List ℕ) (errors : ℕ) : Type 0 where
+  pub steps : Steps
+  pub run : VaultRan v steps after
+  pub keeps : Keeps v after
+  pub answers : LineAnswer line steps text errors
+
+-- the configuration line opens this vault: it is one of the configuration, before any event
+pub record Opens (line : List ℕ) (v : Contents) : Type 0 where
+  pub config : Config
+  pub read : config_of line ≡ Ok (opening_of config)
+  pub sound : first_fault config ≡ None
+  pub fresh : IsFresh config v
+  pub coherent : IsCoherent v
+
+-- what becomes of a line of a run
+abbrev pub RunnerSays : Runner → Unit {0} → List ℕ → Saying → Runner → Unit {0} → Type 0
+RunnerSays old u line (goes_on text errors) new v = AnswersLine old.vault line new.vault text errors
+RunnerSays old u line (closes text errors) new v = ⊥
+RunnerSays old u line unanswered new v = ⊥
+
+-- the result of the lines after the configuration, if the bytes xs are to come
+pub record LinesLeft (v : Contents) (finished : Finished) (old new : Option (List ℕ)) (failed : Bool) (xs : List ℕ) : Type 0 where
+  pub steps : Steps
+  pub after : Contents
+  pub run : VaultRan v steps after
+  pub before : List ℕ
+  pub last : List ℕ
+  pub told : LinesAnswered RunSays [] 1 0 (lines_of xs) steps finished.fault finished.lines finished.errors before last
+  pub sent : SendsLast old new failed before last
