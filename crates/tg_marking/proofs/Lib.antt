@@ -1,0 +1,11 @@
+mod SpotLemmas
+mod MoveLemmas
+mod LineLemmas
+mod KeepLemmas
+mod SessionLemmas
+mod RunLemmas
+mod LeftLemmas
+mod RegardLemmas
+mod DropLemmas
+mod CountLemmas
+mod ActLemmas

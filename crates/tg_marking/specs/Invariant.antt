@@ -1,0 +1,67 @@
+-- what holds between any two steps, and what callers see of a collector step
+use Rattle.std.specs.Prelude.{◌≡◌, ◌≢◌, ℕ, ◌<◌, ◌≤◌, List, ◌++◌, Option, Some, None, ◌⊎◌}
+use Rattle.tg_marking.specs.Values.{Scan, Progress, AtRest, Marking, Sweeping, Body, mark, out, name, IsRoot, IsTarget, Kept, kept}
+use Rattle.tg_slots.specs.declared.colour.Colour.TheVariants.{White, Grey, Black}
+use Rattle.tg_slots.specs.Table.{Has}
+use Rattle.tg_cells.specs.Lists.{Edge}
+use Rattle.tg_rights.specs.Membership.{Contains, Distinct}
+
+-- an edge leads to a held slot of its serial, which is not its owner's
+abbrev pub Leads : (ℕ → Option Kept) → ℕ → Edge → Type 0
+Leads held i e = (t : Kept) × (held e.target ≡ Some t) × (t.serial ≡ e.serial) × (e.target ≢ i)
+
+-- roots are held, and edges of what is held lead to what is held
+pub record Closed (held : ℕ → Option Kept) (Root : ℕ → Type 0) : Type 0 where
+  pub roots : (i : ℕ) → Root i → (k : Kept) × (held i ≡ Some k)
+  pub edges : (i : ℕ) (k : Kept) (e : Edge) → held i ≡ Some k → Contains k.edges e → Leads held i e
+
+abbrev pub IsScanned : Progress → ℕ → Type 0
+IsScanned AtRest i = ⊥
+IsScanned (Marking None) i = ⊥
+IsScanned (Marking (Some s)) i = i ≡ s.slot
+IsScanned (Sweeping k) i = ⊥
+
+-- what waits is grey, each slot once, and what is grey waits or is under scan
+pub record Greys (b : Body) (Scanned : ℕ → Type 0) : Type 0 where
+  pub waits : (i : ℕ) → Contains b.grey i → mark b i ≡ Has Grey
+  pub once : Distinct b.grey
+  pub known : (i : ℕ) → mark b i ≡ Has Grey → Contains b.grey i ⊎ Scanned i
+  pub scanned : (i : ℕ) → Scanned i → (mark b i ≡ Has Grey) × (Contains b.grey i → ⊥)
+
+-- not white, or some seat's target
+abbrev pub Covered : Body → ℕ → Type 0
+Covered b i = mark b i ≡ Has White → IsTarget b i
+
+-- the edges before the cursor are covered
+pub record ScanHolds (b : Body) (s : Scan) : Type 0 where
+  pub passed : List Edge
+  pub all : out b s.slot ≡ passed ++ s.rest
+  pub behind : (e : Edge) → Contains passed e → Covered b e.target
+
+abbrev pub ScanFits : Body → Option Scan → Type 0
+ScanFits b None = Unit {0}
+ScanFits b (Some s) = ScanHolds b s
+
+pub record Tricolour (b : Body) (scan : Option Scan) : Type 0 where
+  pub roots : (i : ℕ) → IsRoot b i → Covered b i
+  pub black : (i : ℕ) (e : Edge) → mark b i ≡ Has Black → Contains (out b i) e → Covered b e.target
+  pub scanned : ScanFits b scan
+
+abbrev pub Phased : Body → Progress → Type 0
+Phased b AtRest = (i : ℕ) → mark b i ≢ Has Black
+Phased b (Marking s) = Tricolour b s
+Phased b (Sweeping k) = ((i : ℕ) → i < k → mark b i ≢ Has Black) × ((i : ℕ) → k ≤ i → mark b i ≢ Has Grey)
+
+pub record Invariant (b : Body) (p : Progress) : Type 0 where
+  pub closed : Closed (kept b p) (IsRoot b)
+  pub once : (i j x : ℕ) → name b i ≡ Some x → name b j ≡ Some x → i ≡ j
+  pub greys : Greys b (IsScanned p)
+  pub phase : Phased b p
+
+-- what a path of held slots from a root reaches
+pub data Reached (held : ℕ → Option Kept) (Root : ℕ → Type 0) : ℕ → Type 0 where
+  at_root : (i : ℕ) → Root i → Reached held Root i
+  along : (i : ℕ) (k : Kept) (e : Edge) → Reached held Root i → held i ≡ Some k → Contains k.edges e → Reached held Root e.target
+
+abbrev pub IsLive : Body → Progress → ℕ → Type 0
+IsLive b p i = Reached (kept b p) (IsRoot b) i

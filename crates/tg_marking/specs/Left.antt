@@ -1,0 +1,77 @@
+-- what is left of a cycle
+use Rattle.std.specs.Prelude.{◌≡◌, ℕ, zero, suc, ◌+◌, ◌-◌, ◌*◌, ◌<◌, ◌≤◌, List, length, map, Option, Some, None, false, cond, eqb}
+use Rattle.tg_slots.specs.declared.colour.Colour.TheVariants.{White, Grey, Black}
+use Rattle.tg_slots.specs.Table.{Mark, Free, Has}
+use Rattle.tg_cells.specs.Lists.{Edge}
+use Rattle.tg_rights.specs.Membership.{Distinct}
+use Rattle.tg_rights.specs.declared.kind.Kind.{Kind}
+use Rattle.tg_marking.specs.Values.{Roots, Spot, Scan, Progress, AtRest, Marking, Sweeping, Body, spot, mark, out, keeps, Kept, kept}
+use Rattle.tg_marking.specs.Steps.{Line, shade, PutsEdge, Places, DropsEdge, Rewrites}
+use Rattle.tg_marking.specs.Invariant.{Invariant}
+
+-- the sum of a function over the numbers below n
+abbrev pub total : (ℕ → ℕ) → ℕ → ℕ
+total f zero = 0
+total f (suc n) = total f n + f n
+
+-- the steps that a slot may still take while marking
+abbrev pub scan_weight : Option Scan → ℕ → ℕ → ℕ
+scan_weight None i other = other
+scan_weight (Some s) i other = cond (eqb i s.slot) (1 + length s.rest) other
+
+abbrev pub weight : ℕ → Option Scan → ℕ → Mark → ℕ
+weight size scan i Free = size + 2
+weight size scan i (Has White) = size + 2
+weight size scan i (Has Grey) = scan_weight scan i (size + 1)
+weight size scan i (Has Black) = 0
+
+abbrev pub parked_cells : Progress → ℕ → Option Spot → ℕ
+parked_cells p i None = 0
+parked_cells p i (Some s) = cond (keeps p i s.colour) 0 (length s.edges)
+
+abbrev pub bound : (size cells : ℕ) → ℕ
+bound size cells = size * size + 3 * size + cells + 3
+
+abbrev pub left : ℕ → Body → Progress → ℕ
+left cells b AtRest = bound (length b.slots) cells
+left cells b (Marking s) = length b.slots + cells + 2 + total (λ i. weight (length b.slots) s i (mark b i)) (length b.slots)
+left cells b (Sweeping k) = length b.slots - k + 1 + total (λ i. parked_cells (Sweeping k) i (spot b i)) (length b.slots)
+
+-- what a heap says of its cells: no serial twice in a list, and no more cells than there are
+pub record Celled (b : Body) (cells : ℕ) : Type 0 where
+  pub once : (i : ℕ) → Distinct (map (λ e. e.serial) (out b i))
+  pub few : total (λ i. length (out b i)) (length b.slots) ≤ cells
+
+abbrev pub IsBounded : Type 0
+IsBounded = (b b' : Body) (p p' : Progress) (n cells : ℕ) → Line b p b' p' n false → Invariant b p → Celled b cells → (left cells b' p' < left cells b p) × (left cells b p ≤ bound (length b.slots) cells) × (1 ≤ left cells b p)
+
+-- how many slots are free, held and parked
+abbrev pub free_one : Option Spot → ℕ
+free_one None = 1
+free_one (Some s) = 0
+
+abbrev pub held_one : Option Kept → ℕ
+held_one None = 0
+held_one (Some k) = 1
+
+abbrev pub parked_one : Progress → ℕ → Option Spot → ℕ
+parked_one p i None = 0
+parked_one p i (Some s) = cond (keeps p i s.colour) 0 1
+
+abbrev pub held_cells : Option Kept → ℕ
+held_cells None = 0
+held_cells (Some k) = length k.edges
+
+-- free slots, held and parked ones are all slots; the cells of what is held and of what is parked are all in use
+pub record IsCounted : Type 0 where
+  pub slots : (b : Body) (p : Progress) → total (λ i. free_one (spot b i)) (length b.slots) + total (λ i. held_one (kept b p i)) (length b.slots) + total (λ i. parked_one p i (spot b i)) (length b.slots) ≡ length b.slots
+  pub cells : (b : Body) (p : Progress) → total (λ i. held_cells (kept b p i)) (length b.slots) + total (λ i. parked_cells p i (spot b i)) (length b.slots) ≡ total (λ i. length (out b i)) (length b.slots)
+
+-- no session step raises what is left
+pub record NeverRaises : Type 0 where
+  pub roots : (b : Body) (p : Progress) (cells : ℕ) (rs : Roots) → left cells (record b { roots = rs }) p ≡ left cells b p
+  pub shades : (b : Body) (p : Progress) (i cells : ℕ) → Invariant b p → left cells (shade b i) p ≤ left cells b p
+  pub puts_edge : (b b' : Body) (p : Progress) (i cells : ℕ) (new : Edge) → PutsEdge b p i new b' → left cells b' p ≤ left cells b p
+  pub places : (b b' : Body) (p : Progress) (seat i serial cells : ℕ) (kind : Kind) (text : List ℕ) → Places b p seat i serial kind text b' → left cells b' p ≤ left cells b p
+  pub drops_edge : (b b' : Body) (p p' : Progress) (i : ℕ) (before : List Edge) (e : Edge) (news after : List Edge) (cells : ℕ) → DropsEdge b p i before e news after b' p' → length news ≤ 1 → left cells b' p' ≤ left cells b p
+  pub rewrites : (b b' : Body) (p : Progress) (i cells : ℕ) (text : List ℕ) → Rewrites b i text b' → left cells b' p ≤ left cells b p

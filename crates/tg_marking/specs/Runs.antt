@@ -1,0 +1,63 @@
+-- runs of session steps and collector steps, by what callers see
+use Rattle.std.specs.Prelude.{◌≡◌, ◌≢◌, ℕ, suc, ◌<◌, ◌≤◌, List, Option, Some, None, ◌⊎◌, true, false}
+use Rattle.tg_slots.specs.declared.colour.Colour.TheVariants.{White, Grey}
+use Rattle.tg_cells.specs.Lists.{Edge}
+use Rattle.tg_rights.specs.Membership.{Contains}
+use Rattle.tg_rights.specs.declared.kind.Kind.{Kind}
+use Rattle.tg_marking.specs.Values.{Roots, HasRoot, Spot, Progress, AtRest, Body, spot, IsRoot, Kept, kept}
+use Rattle.tg_marking.specs.Steps.{Reroots, PutsEdge, ShadesTarget, Places, DropsEdge, Rewrites}
+use Rattle.tg_marking.specs.Invariant.{Invariant, IsLive}
+use Rattle.tg_marking.specs.Collected.{Collected}
+
+-- a serial is held in a live slot
+abbrev pub IsLiveIn : Body → Progress → ℕ → Type 0
+IsLiveIn b p x = (i : ℕ) × (k : Kept) × IsLive b p i × (kept b p i ≡ Some k) × (k.serial ≡ x)
+
+-- what a session step does to one slot; serials from `next` on are new
+pub data Changes (b : Body) (p : Progress) (next i : ℕ) : Option Spot → Option Spot → Type 0 where
+  same : (o : Option Spot) → Changes b p next i o o
+  shaded : (s : Spot) → s.colour ≡ White → IsRoot b i → Changes b p next i (Some s) (Some (record s { colour = Grey }))
+  regards : (s : Spot) (es : List Edge) (text : List ℕ) → Changes b p next i (Some s) (Some (record s { edges = es; text = text }))
+  comes : (s : Spot) → next ≤ s.serial → s.colour ≢ Grey → Changes b p next i None (Some s)
+
+-- a session step: roots that come are live or new
+pub record Acted (b : Body) (p : Progress) (b' : Body) (next : ℕ) : Type 0 where
+  pub roots : (i : ℕ) (k : Kept) → IsRoot b' i → kept b' p i ≡ Some k → IsLiveIn b p k.serial ⊎ (next ≤ k.serial)
+  pub slots : (i : ℕ) → Changes b p next i (spot b i) (spot b' i)
+  pub held : (i : ℕ) (k' : Kept) → kept b' p i ≡ Some k' → ((k : Kept) × (kept b p i ≡ Some k) × (k.serial ≡ k'.serial)) ⊎ (next ≤ k'.serial)
+  pub edges : (i : ℕ) (k' : Kept) (e : Edge) → kept b' p i ≡ Some k' → Contains k'.edges e
+      → ((k : Kept) × (d : Edge) × (kept b p i ≡ Some k) × (k.serial ≡ k'.serial) × Contains k.edges d × (d.serial ≡ e.serial)) ⊎ (IsLiveIn b p e.serial ⊎ (next ≤ e.serial))
+
+-- a run after a value: its last value, and the cycles that have ended
+pub data Run (next : ℕ) (b : Body) (p : Progress) : Body → Progress → ℕ → Type 0 where
+  begin : Run next b p b p 0
+  acts : (c d : Body) (q : Progress) (n : ℕ) → Run next b p c q n → Acted c q d next → Invariant d q → Run next b p d q n
+  goes : (c d : Body) (q r : Progress) (n : ℕ) → Run next b p c q n → Collected c q d r false → Invariant d r → Run next b p d r n
+  ends : (c d : Body) (q r : Progress) (n : ℕ) → Run next b p c q n → Collected c q d r true → Invariant d r → Run next b p d r (suc n)
+
+-- the same without session steps
+pub data Cycles (b : Body) (p : Progress) : Body → Progress → ℕ → Type 0 where
+  first : Cycles b p b p 0
+  more : (c d : Body) (q r : Progress) (n : ℕ) → Cycles b p c q n → Collected c q d r false → Invariant d r → Cycles b p d r n
+  over : (c d : Body) (q r : Progress) (n : ℕ) → Cycles b p c q n → Collected c q d r true → Invariant d r → Cycles b p d r (suc n)
+
+-- what is not live in an idle store has no slot once two cycles have ended, however sessions act
+abbrev pub IsComplete : Type 0
+IsComplete = (b c : Body) (q : Progress) (next n : ℕ) → Invariant b AtRest → ((i : ℕ) (k : Kept) → kept b AtRest i ≡ Some k → k.serial < next) → Run next b AtRest c q n → 2 ≤ n
+    → (i : ℕ) (s : Spot) → spot c i ≡ Some s → IsLiveIn b AtRest s.serial ⊎ (next ≤ s.serial)
+
+-- three cycles without sessions leave exactly what is live
+abbrev pub Settles : Type 0
+Settles = (b c : Body) (p q : Progress) → Invariant b p → Cycles b p c q 3 → (i : ℕ) (s : Spot) → spot c i ≡ Some s → IsLive c q i
+
+-- the exact session steps are steps of a run, where targets are live or new
+abbrev pub Wanted : Body → Progress → ℕ → ℕ → Type 0
+Wanted b p next x = IsLiveIn b p x ⊎ (next ≤ x)
+
+pub record StepsAct : Type 0 where
+  pub reroots : (b b' : Body) (p : Progress) (rs : Roots) (next : ℕ) → Reroots b p rs b' → ((i : ℕ) (k : Kept) → HasRoot rs i → kept b p i ≡ Some k → IsRoot b i ⊎ Wanted b p next k.serial) → Acted b p b' next
+  pub puts_edge : (b b' : Body) (p : Progress) (i next : ℕ) (new : Edge) → PutsEdge b p i new b' → Acted b p b' next
+  pub shades : (b b' : Body) (p : Progress) (seat i next : ℕ) → ShadesTarget b seat i b' → Invariant b p → Acted b p b' next
+  pub places : (b b' : Body) (p : Progress) (seat i serial next : ℕ) (kind : Kind) (text : List ℕ) → Places b p seat i serial kind text b' → Invariant b p → next ≤ serial → Acted b p b' next
+  pub drops_edge : (b b' : Body) (p p' : Progress) (i : ℕ) (before : List Edge) (e : Edge) (news after : List Edge) (next : ℕ) → DropsEdge b p i before e news after b' p' → Acted b p b' next
+  pub rewrites : (b b' : Body) (p : Progress) (i : ℕ) (text : List ℕ) (next : ℕ) → Rewrites b i text b' → Acted b p b' next

@@ -1,0 +1,118 @@
+-- the steps, each an exact change of the value
+use Rattle.std.specs.Prelude.{◌≡◌, ◌≢◌, ℕ, ◌+◌, ◌<◌, ◌≤◌, List, [], ◌∷◌, ◌++◌, length, Option, Some, None, ◌⊎◌, Bool, true, false, cond, get_or, set, nat_lt}
+use Rattle.tg_slots.specs.declared.colour.Colour.{Colour}
+use Rattle.tg_slots.specs.declared.colour.Colour.TheVariants.{White, Grey, Black}
+use Rattle.tg_slots.specs.Table.{Has}
+use Rattle.tg_cells.specs.Lists.{Edge}
+use Rattle.tg_rights.specs.Membership.{Contains}
+use Rattle.tg_rights.specs.declared.kind.Kind.{Kind}
+use Rattle.tg_marking.specs.Values.{Spot, Scan, Progress, AtRest, Marking, Sweeping, Body, Roots, HasRoot, HasTarget, spot, mark, out, name, IsRoot, IsTarget, Kept, kept}
+
+abbrev pub put : Body → ℕ → Option Spot → Body
+put b i o = record b { slots = set b.slots i o }
+
+-- a white slot turns grey and waits; others stay
+abbrev pub shade_spot : Body → ℕ → Spot → Colour → Body
+shade_spot b i s White = record b { slots = set b.slots i (Some (record s { colour = Grey })); grey = i ∷ b.grey }
+shade_spot b i s Grey = b
+shade_spot b i s Black = b
+
+abbrev pub shade_in : Body → ℕ → Option Spot → Body
+shade_in b i None = b
+shade_in b i (Some s) = shade_spot b i s s.colour
+
+abbrev pub shade : Body → ℕ → Body
+shade b i = shade_in b i (spot b i)
+
+abbrev pub shade_root : Body → Option ℕ → Body
+shade_root b None = b
+shade_root b (Some i) = shade b i
+
+-- roots are shaded, from the last to the first
+abbrev pub shade_all : Body → List (Option ℕ) → Body
+shade_all b [] = b
+shade_all b (r ∷ rs) = shade_root (shade_all b rs) r
+
+-- one line of the collector's table: the value before and after, slots freed, whether the cycle ended
+pub data Line (b : Body) : Progress → Body → Progress → ℕ → Bool → Type 0 where
+  starts : Line b AtRest (shade_all b b.roots.others) (Marking None) 0 false
+  scans : (i : ℕ) (e : Edge) (r : List Edge) → Line b (Marking (Some (record { slot = i; rest = e ∷ r }))) (shade b e.target) (Marking (Some (record { slot = i; rest = r }))) 0 false
+  blackens : (i : ℕ) (s : Spot) → spot b i ≡ Some s → Line b (Marking (Some (record { slot = i; rest = [] }))) (put b i (Some (record s { colour = Black }))) (Marking None) 0 false
+  takes : (i : ℕ) (rest : List ℕ) → b.grey ≡ i ∷ rest → Line b (Marking None) (record b { grey = rest }) (Marking (Some (record { slot = i; rest = out b i }))) 0 false
+  -- the least seat with a white target
+  shades_target : (k i : ℕ) → b.grey ≡ [] → get_or b.roots.targets k None ≡ Some i → mark b i ≡ Has White
+      → ((l j : ℕ) → l < k → get_or b.roots.targets l None ≡ Some j → mark b j ≢ Has White) → Line b (Marking None) (shade b i) (Marking None) 0 false
+  starts_sweep : b.grey ≡ [] → ((i : ℕ) → IsTarget b i → mark b i ≡ Has White → ⊥) → Line b (Marking None) b (Sweeping 0) 0 false
+  skips : (k : ℕ) → k < length b.slots → spot b k ≡ None → Line b (Sweeping k) b (Sweeping (k + 1)) 0 false
+  whitens : (k : ℕ) (s : Spot) → spot b k ≡ Some s → s.colour ≡ Black → Line b (Sweeping k) (put b k (Some (record s { colour = White }))) (Sweeping (k + 1)) 0 false
+  strips : (k : ℕ) (s : Spot) (e : Edge) (r : List Edge) → spot b k ≡ Some s → s.colour ≡ White → s.edges ≡ e ∷ r → Line b (Sweeping k) (put b k (Some (record s { edges = r }))) (Sweeping k) 0 false
+  frees : (k : ℕ) (s : Spot) → spot b k ≡ Some s → s.colour ≡ White → s.edges ≡ [] → Line b (Sweeping k) (put b k None) (Sweeping (k + 1)) 1 false
+  finishes : (k : ℕ) → length b.slots ≤ k → Line b (Sweeping k) b AtRest 0 true
+
+-- the colour of a vertex that comes into a slot
+abbrev pub new_colour : Progress → ℕ → Colour
+new_colour AtRest i = White
+new_colour (Marking s) i = White
+new_colour (Sweeping k) i = cond (nat_lt i k) White Black
+
+-- a seat's target is another
+abbrev pub with_target : Roots → ℕ → Option ℕ → Roots
+with_target r seat t = record r { targets = set r.targets seat t }
+
+-- the session steps. Roots come and go: what comes is a root already, or held and then a seat's target; and a target
+-- that is white stays one
+pub record Reroots (b : Body) (p : Progress) (roots : Roots) (b' : Body) : Type 0 where
+  pub comes : (i : ℕ) → HasRoot roots i → IsRoot b i ⊎ (HasTarget roots i × (k : Kept) × (kept b p i ≡ Some k))
+  pub stays : (i : ℕ) → mark b i ≡ Has White → IsTarget b i → HasTarget roots i
+  pub is : b' ≡ record b { roots = roots }
+
+-- an edge of a held slot to a seat's target is put in front
+pub record PutsEdge (b : Body) (p : Progress) (i : ℕ) (edge : Edge) (b' : Body) : Type 0 where
+  pub owner : Spot
+  pub at : spot b i ≡ Some owner
+  pub held : (k : Kept) × (kept b p i ≡ Some k)
+  pub there : (k : Kept) × (kept b p edge.target ≡ Some k) × (k.serial ≡ edge.serial)
+  pub apart : edge.target ≢ i
+  pub target : IsTarget b edge.target
+  pub is : b' ≡ record b { slots = set b.slots i (Some (record owner { edges = edge ∷ owner.edges })) }
+
+-- the seat's target is shaded and cleared
+pub record ShadesTarget (b : Body) (seat i : ℕ) (b' : Body) : Type 0 where
+  pub was : get_or b.roots.targets seat None ≡ Some i
+  pub is : b' ≡ record (shade b i) { roots = with_target b.roots seat None }
+
+-- a vertex without edges comes into a free slot, as a seat's target
+pub record Places (b : Body) (p : Progress) (seat i serial : ℕ) (kind : Kind) (text : List ℕ) (b' : Body) : Type 0 where
+  pub free : spot b i ≡ None
+  pub inside : i < length b.slots
+  pub new : (j : ℕ) → name b j ≢ Some serial
+  pub places : seat < length b.roots.targets
+  pub idle : get_or b.roots.targets seat None ≡ None
+  pub is : b' ≡ record b {
+    slots = set b.slots i (Some (record { serial = serial; kind = kind; text = text; edges = []; colour = new_colour p i }));
+    roots = with_target b.roots seat (Some i);
+  }
+
+-- a text is replaced
+pub record Rewrites (b : Body) (i : ℕ) (text : List ℕ) (b' : Body) : Type 0 where
+  pub owner : Spot
+  pub at : spot b i ≡ Some owner
+  pub is : b' ≡ put b i (Some (record owner { text = text }))
+
+-- an edge gives way to others to the same vertex: none if it leaves its list, one if its label changes; the scan
+-- goes on with the edges from its cursor on
+pub data Trims (i : ℕ) (before : List Edge) (e : Edge) (news after : List Edge) : Progress → Progress → Type 0 where
+  idle : Trims i before e news after AtRest AtRest
+  sweeping : (k : ℕ) → Trims i before e news after (Sweeping k) (Sweeping k)
+  unscanned : Trims i before e news after (Marking None) (Marking None)
+  elsewhere : (s : Scan) → i ≢ s.slot → Trims i before e news after (Marking (Some s)) (Marking (Some s))
+  passed : (rest mid : List Edge) → after ≡ mid ++ rest → Trims i before e news after (Marking (Some (record { slot = i; rest = rest }))) (Marking (Some (record { slot = i; rest = rest })))
+  ahead : (mid done : List Edge) → before ≡ done ++ mid → Trims i before e news after (Marking (Some (record { slot = i; rest = mid ++ e ∷ after }))) (Marking (Some (record { slot = i; rest = mid ++ (news ++ after) })))
+
+pub record DropsEdge (b : Body) (p : Progress) (i : ℕ) (before : List Edge) (e : Edge) (news after : List Edge) (b' : Body) (p' : Progress) : Type 0 where
+  pub owner : Spot
+  pub at : spot b i ≡ Some owner
+  pub edges : owner.edges ≡ before ++ e ∷ after
+  pub alike : (x : Edge) → Contains news x → (x.target ≡ e.target) × (x.serial ≡ e.serial)
+  pub stage : Trims i before e news after p p'
+  pub is : b' ≡ put b i (Some (record owner { edges = before ++ (news ++ after) }))

@@ -1,0 +1,122 @@
+-- the value of a store, and what is read off it
+use Rattle.std.specs.Prelude.{◌≡◌, ℕ, List, [], Option, Some, None, ◌⊎◌, Bool, true, false, cond, get_or, nat_lt}
+use Rattle.tg_rights.specs.declared.kind.Kind.{Kind}
+use Rattle.tg_slots.specs.declared.colour.Colour.{Colour}
+use Rattle.tg_slots.specs.declared.colour.Colour.TheVariants.{White, Grey, Black}
+use Rattle.tg_slots.specs.Table as table
+use Rattle.tg_slots.specs.Table.{Free, Has}
+use Rattle.tg_cells.specs.Lists.{Edge}
+use Rattle.tg_rights.specs.Membership.{Contains}
+
+-- what a slot holds
+pub record Spot : Type 0 where
+  pub serial : ℕ
+  pub kind : Kind
+  pub text : List ℕ
+  pub edges : List Edge
+  pub colour : Colour
+
+-- the slot under scan, and its edges from the cursor on
+pub record Scan : Type 0 where
+  pub slot : ℕ
+  pub rest : List Edge
+
+pub data Progress : Type 0 where
+  AtRest : Progress
+  Marking : Option Scan → Progress
+  Sweeping : ℕ → Progress
+
+-- the phase, and in the sweep the slot that it is before
+pub data Stage : Type 0 where
+  Idle : Stage
+  Mark : Stage
+  Sweep : ℕ → Stage
+
+-- the phase of a cycle that has come so far
+abbrev pub shown : Progress → Stage
+shown AtRest = Idle
+shown (Marking s) = Mark
+shown (Sweeping k) = Sweep k
+
+-- the roots: each seat's target, and all others
+pub record Roots : Type 0 where
+  pub targets : List (Option ℕ)
+  pub others : List (Option ℕ)
+
+-- the slots, the grey ones that wait, and the roots
+pub record Body : Type 0 where
+  pub slots : List (Option Spot)
+  pub grey : List ℕ
+  pub roots : Roots
+
+abbrev pub spot : Body → ℕ → Option Spot
+spot b i = get_or b.slots i None
+
+-- whether a slot is free, or its colour
+abbrev pub mark_of : Option Spot → table.Mark
+mark_of None = Free
+mark_of (Some s) = Has s.colour
+
+abbrev pub mark : Body → ℕ → table.Mark
+mark b i = mark_of (spot b i)
+
+abbrev pub edges_of : Option Spot → List Edge
+edges_of None = []
+edges_of (Some s) = s.edges
+
+abbrev pub out : Body → ℕ → List Edge
+out b i = edges_of (spot b i)
+
+abbrev pub name_of : Option Spot → Option ℕ
+name_of None = None
+name_of (Some s) = Some s.serial
+
+abbrev pub name : Body → ℕ → Option ℕ
+name b i = name_of (spot b i)
+
+-- a seat's target; a root
+abbrev pub HasTarget : Roots → ℕ → Type 0
+HasTarget r i = (k : ℕ) × (get_or r.targets k None ≡ Some i)
+
+abbrev pub HasRoot : Roots → ℕ → Type 0
+HasRoot r i = HasTarget r i ⊎ Contains r.others (Some i)
+
+abbrev pub IsTarget : Body → ℕ → Type 0
+IsTarget b i = HasTarget b.roots i
+
+abbrev pub IsRoot : Body → ℕ → Type 0
+IsRoot b i = HasRoot b.roots i
+
+-- whether a slot of this colour is held, or parked until the sweep comes to it
+abbrev pub keeps_at : Stage → ℕ → Colour → Bool
+keeps_at Idle i c = true
+keeps_at Mark i c = true
+keeps_at (Sweep k) i White = nat_lt i k
+keeps_at (Sweep k) i Grey = true
+keeps_at (Sweep k) i Black = true
+
+abbrev pub keeps : Progress → ℕ → Colour → Bool
+keeps p i c = keeps_at (shown p) i c
+
+-- what is held, without its colour
+pub record Kept : Type 0 where
+  pub serial : ℕ
+  pub kind : Kind
+  pub text : List ℕ
+  pub edges : List Edge
+
+abbrev pub as_kept : Spot → Kept
+as_kept s = record { serial = s.serial; kind = s.kind; text = s.text; edges = s.edges }
+
+abbrev pub seen_at : Stage → ℕ → Option Spot → Option Kept
+seen_at p i None = None
+seen_at p i (Some s) = cond (keeps_at p i s.colour) (Some (as_kept s)) None
+
+abbrev pub seen : Progress → ℕ → Option Spot → Option Kept
+seen p i o = seen_at (shown p) i o
+
+abbrev pub kept : Body → Progress → ℕ → Option Kept
+kept b p i = seen p i (spot b i)
+
+abbrev pub Parked : Body → Progress → ℕ → Type 0
+Parked b p i = (s : Spot) × (spot b i ≡ Some s) × (keeps p i s.colour ≡ false)
