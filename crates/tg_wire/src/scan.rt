@@ -32,7 +32,7 @@ pub(crate) fn spaces_end(bytes: &[u8], from: usize) -> usize
     ensures bound { result ≤ length bytes.now }
 {
     // Most lines have no spaces.
-    if from == bytes.len() || bytes[from] > b' ' {
+    if from >= bytes.len() || bytes[from] > b' ' {
         return from;
     }
     let mut at = from;
