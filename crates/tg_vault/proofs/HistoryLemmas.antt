@@ -23,11 +23,6 @@ pub along_more : (limits : Limits) (G : Protection) (es : List Entry) (H : Prote
 along_more limits G [] H e K same turns = (K, (let P : Protection → Type 0 = λ F. EntryStep limits F e K in subst P same turns), refl)
 along_more limits G (x ∷ es) H e K along turns = (along.0, along.1, along_more limits along.0 es H e K along.2 turns)
 
--- the graphs along a history are those that the outcomes give
-pub along_ends : (limits : Limits) (G : Protection) (es : List Entry) (H : Protection) → EntryRun limits G es H → H ≡ graph_of G es
-along_ends limits G [] H same = same
-along_ends limits G (x ∷ es) H along = along_ends limits along.0 es H along.2 ∙ ap (λ F. graph_of F es) along.1.1
-
 told_answered : (G : Protection) (d : Does) → told (answered G d) ≡ outcome.Allowed
 told_answered G (effect.Joins from α to) = refl
 told_answered G (effect.Makes k α) = refl

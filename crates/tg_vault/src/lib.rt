@@ -5,6 +5,7 @@ mod carry_out;
 mod entry;
 mod event;
 mod laws;
+mod seats;
 mod vault;
 
 pub use entry::Entry;

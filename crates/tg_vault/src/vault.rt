@@ -1,15 +1,13 @@
 //! The vault: the seats, the store, and the history of the commands.
-ghost use Rattle.std.specs.Prelude.{◌≡◌, ◌==◌, ◌<◌, ◌≤◌, ◌+◌, ◌⊎◌, ◌∷◌, [], length, slice_get, replicate, Some, None, IfOk, IfErr, IfSome, IfNone, OnErr, MatchResult, take};
-ghost use Rattle.std.specs.List.{position};
-ghost use Rattle.std.specs.Cmp.Lexicographic.{pointwise};
-ghost use Rattle.tg_rights.specs.declared.limits.TheConstants.{MAX_PRINCIPALS, SEATS};
+ghost use Rattle.std.specs.Prelude.{◌≡◌, ◌<◌, ◌≤◌, ◌+◌, ◌⊎◌, ◌∷◌, [], length, slice_get, Some, None, IfOk, IfErr, IfSome, IfNone, OnErr, MatchResult, take};
+ghost use Rattle.tg_rights.specs.declared.limits.TheConstants.{SEATS};
 ghost use Rattle.tg_rights.specs.declared.outcome.Outcome.{Outcome};
 ghost use Rattle.tg_graph.specs.Opening.{opening, first_fault, IsRefusal};
 ghost use Rattle.tg_vault.specs.declared.entry.Entry.{Entry};
 ghost use Rattle.tg_vault.specs.declared.event.Event.TheVariants as event;
 ghost use Rattle.tg_vault.specs.declared.event.Answer.TheVariants as answer;
 ghost use Rattle.tg_collect.specs.Sessions.{Shaded};
-ghost use Rattle.tg_vault.specs.World.{at_seat, principal_named, bye_fault, shade_fault, ask_refusal, Enters, IsAskFault};
+ghost use Rattle.tg_vault.specs.World.{at_seat, bye_fault, shade_fault, ask_refusal, Enters, IsAskFault};
 ghost use Rattle.tg_vault.specs.Contents.{Contents, StepOf, IsFresh, RunOf, Keeps, IsVault, moment};
 ghost use Rattle.tg_vault.specs.Fits.{Fits, IsSmall};
 ghost use Rattle.tg_vault.specs.StoreSteps.{SessionStep, StoreAnswer, StoreStep};
@@ -25,6 +23,7 @@ use crate::carry_out::answer;
 use crate::entry::Entry;
 use crate::event::{Answer, AskFault, Event, SeatFault};
 use crate::laws::courses_have_the_headline;
+use crate::seats::{at_seat, empty_seats, principal_named};
 use std::alloc::{AllocError, Global};
 use std::marker::Model;
 use tg_collect::{Key, Note, Store};
@@ -79,45 +78,6 @@ pub struct Ran {
     pub vault: Vault,
     /// One answer for each event that was carried out, in order.
     pub answers: Vec<Answer>,
-}
-
-/// The table's entry for a seat.
-fn at_seat(table: &[Option<u64>], seat: u64) -> Option<u64>
-    ensures { result ≡ at_seat table.now seat }
-{
-    match table.get(seat as usize) {
-        Some(found) => *found,
-        None => None,
-    }
-}
-
-/// Seats that are all empty.
-fn empty_seats(alloc: Global) -> Result<Vec<Option<u64>>, AllocError>
-    ensures { IfOk result (λ seats. seats.items ≡ replicate SEATS None) }
-{
-    let mut seats = Vec::with_capacity(alloc, SEATS as usize)?;
-    while seats.len() < SEATS as usize {
-        seats.push(None)?;
-    }
-    Ok(seats)
-}
-
-/// The place of the name in the list.
-fn position_of(names: &[Word], name: &str) -> Option<usize>
-    ensures { result ≡ position (λ n. pointwise (λ a b. a == b) n name.now) names.now }
-{
-    names.iter().position(|word| word.get() == name)
-}
-
-/// The serial of the principal of this name.
-fn principal_named(names: &[Word], name: &str) -> Option<u64>
-    requires { length names.now ≤ MAX_PRINCIPALS }
-    ensures { result ≡ principal_named names.now name.now }
-{
-    match position_of(names, name) {
-        Some(index) => Some(index as u64 + 1),
-        None => None,
-    }
 }
 
 /// The outcome that a reply reports.

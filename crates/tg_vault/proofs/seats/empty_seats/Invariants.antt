@@ -1,5 +1,5 @@
 use Rattle.std.proofs.Common.{◌≡◌, ◌≤◌, ◌-◌, length, replicate, None}
-use Rattle.tg_vault.proofs.vault.empty_seats.Given as goal
+use Rattle.tg_vault.proofs.seats.empty_seats.Given as goal
 
 -- nobody has one of the seats so far
 abbrev pub invariant-loop-seats : goal.invariant-loop-seats
