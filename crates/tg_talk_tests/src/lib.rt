@@ -7,7 +7,11 @@ mod share;
 #[cfg(test)]
 mod share_growths;
 #[cfg(test)]
+mod share_holds;
+#[cfg(test)]
 mod share_races;
+#[cfg(test)]
+mod sharing;
 #[cfg(test)]
 mod talk;
 #[cfg(test)]

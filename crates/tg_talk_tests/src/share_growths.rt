@@ -4,10 +4,8 @@
 ghost use Rattle.std.specs.Prelude.{◌≡◌, []};
 ghost use Rattle.tg_share.specs.declared.locked.TheConstants.{PARTS};
 
-use crate::share::{
-    ALONE, Ask, CREATED, TAKE, Tally, Told, agreed, both, command, count_in, is_told, one, opened,
-    play, tells,
-};
+use crate::share::{ALONE, CREATED};
+use crate::sharing::{Tally, agreed, both, count_in, is_told, one, opened, play};
 use std::alloc::{AllocError, Global};
 use std::io::Print;
 use std::marker::Brand;
@@ -16,6 +14,7 @@ use std::sync::Wait;
 use std::sync::ledger::{Blank, Ledger};
 use tg_audit::{SeatLog, Settled, settle};
 use tg_share::{Closed, Ended, Gate, Open, PARTS, Session, Shared};
+use tg_tests::cases::{Ask, Asked, TAKING, Want, command, is_reply};
 use tg_vault::{AskFault, Vault};
 
 /// Whether the session's command gets this reply; none if memory runs out.
@@ -24,13 +23,13 @@ fn is_told_at_once<L: Ledger, R: Wait + Clock, G: Gate>(
     alloc: Global,
     session: &mut Session<'_, L>,
     ask: Ask,
-    told: Told,
+    want: Want,
     gate: &G,
 ) -> Result<Option<bool>, AllocError> {
     let command = command(alloc, ask)?;
     let rule = command.rule();
     Ok(match session.submit(rt, command, gate) {
-        Ok(found) => Some(tells(found, rule, told)),
+        Ok(found) => Some(is_reply(found, rule, want)),
         Err(AskFault::OutOfMemory) => None,
         Err(_) => Some(false),
     })
@@ -41,15 +40,15 @@ fn are_told_again<L: Ledger, R: Wait + Clock + Print, G: Gate>(
     rt: &R,
     alloc: Global,
     session: &mut Session<'_, L>,
-    lines: &[(Ask, Told)],
+    lines: &[Asked],
     gate: &G,
 ) -> Result<bool, AllocError> {
-    for (ask, told) in lines {
-        let is_good = match is_told_at_once(rt, alloc, session, *ask, *told, gate)? {
+    for (ask, want) in lines {
+        let is_good = match is_told_at_once(rt, alloc, session, *ask, *want, gate)? {
             Some(is_good) => is_good,
             None => {
                 let _ = rt.println("no memory");
-                is_told(rt, alloc, session, *ask, *told, gate)?
+                is_told(rt, alloc, session, *ask, *want, gate)?
             }
         };
         if !is_good {
@@ -87,7 +86,7 @@ fn play_again<L: Ledger, R: Wait + Clock + Print>(
 /// with one entry and one pause for each line.
 #[test]
 fn growth_refused_in_a_submit(rt: HostRuntime) -> Result<(), AllocError> {
-    let vault = opened(&rt, rt.alloc(), 8, 8, &[(1, TAKE, 2)])?;
+    let vault = opened(&rt, rt.alloc(), &TAKING)?;
     let done = play_again::<Brand, _>(&rt, rt.alloc(), Blank::new(PARTS), vault);
     assert_eq!(rt; done.ok_or(AllocError)?, (8, (8, 0)));
     Ok(())
@@ -170,7 +169,7 @@ fn closed_again<L: Ledger, R: Print>(
     }
 }
 
-const LOOKED: (Ask, Told) = (Ask::Look(2), Told::Edges(&[]));
+const LOOKED: Asked = (Ask::Look(2), Want::Edges(&[]));
 
 /// How many entries there are after a session of alice, who creates a document, and one of bob, who looks at himself.
 fn close_again<L: Ledger, R: Wait + Clock + Print>(
@@ -194,7 +193,7 @@ fn close_again<L: Ledger, R: Wait + Clock + Print>(
 /// A close that lacks memory returns the vault with the ends or with the logs.
 #[test]
 fn growth_refused_in_a_close(rt: HostRuntime) -> Result<(), AllocError> {
-    let vault = opened(&rt, rt.alloc(), 8, 8, &[(1, TAKE, 2)])?;
+    let vault = opened(&rt, rt.alloc(), &TAKING)?;
     let count = close_again::<Brand, _>(&rt, rt.alloc(), Blank::new(PARTS), vault);
     assert_eq!(rt; count.ok_or(AllocError)?, 2);
     Ok(())

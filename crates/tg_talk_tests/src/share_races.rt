@@ -2,10 +2,7 @@
 ghost use Rattle.std.specs.Prelude.{◌≡◌, []};
 ghost use Rattle.tg_share.specs.declared.locked.TheConstants.{PARTS};
 
-use crate::share::{
-    Ask, Board, GRANT, Holds, READ, TAKE, Told, WRITE, agreed, are_told, both, is_told, opened,
-    play,
-};
+use crate::sharing::{Board, Holds, agreed, are_told, both, is_told, opened, play};
 use std::alloc::{AllocError, Global};
 use std::marker::Brand;
 use std::rt::Clock;
@@ -15,6 +12,7 @@ use std::sync::ledger::{Blank, Ledger};
 use std::thread;
 use std::thread::Threads;
 use tg_share::{Ended, Gate, Open, PARTS, Place, Shared, Worked};
+use tg_tests::cases::{Ask, Asked, Opening, TAKING_AND_GRANTING, Want};
 use tg_vault::Vault;
 
 /// Counts the collector's pauses, and holds it at the first until it is released.
@@ -32,14 +30,14 @@ impl Gate for HoldsFirst<'_> {
     }
 }
 
-const MADE: &[(Ask, Told)] = &[
-    (Ask::Document(READ | WRITE), Told::Created(3)),
-    (Ask::Write(3, "hi"), Told::Done),
+const MADE: &[Asked] = &[
+    (Ask::Document("rw"), Want::Created(3)),
+    (Ask::Write(3, "hi"), Want::Done),
 ];
 
-const TAKEN: &[(Ask, Told)] = &[
-    (Ask::Take(READ, 3, 2), Told::Done),
-    (Ask::Read(3), Told::Text("hi")),
+const TAKEN: &[Asked] = &[
+    (Ask::Take("r", 3, 2), Want::Done),
+    (Ask::Read(3), Want::Text("hi")),
 ];
 
 /// Alice takes the right to read bob's document, is held with it until the collector has paused 101 times, and reads
@@ -71,14 +69,7 @@ fn remove_meanwhile<L: Ledger, R: Wait + Clock>(
     let worked = shared.collector(rt, 18, &Open);
     board.is_prepared.store(true, Ordering::SeqCst);
     board.wait(rt, |board| board.pauses.load(Ordering::SeqCst) > 0);
-    let removed = is_told(
-        rt,
-        alloc,
-        &mut bob,
-        Ask::Remove(READ | WRITE, 3),
-        Told::Done,
-        &Open,
-    );
+    let removed = is_told(rt, alloc, &mut bob, Ask::Remove("rw", 3), Want::Done, &Open);
     board.is_released.store(true, Ordering::SeqCst);
     let ended = bob.end(rt);
     if matches!(made, Ok(true)) && matches!(removed, Ok(true)) {
@@ -140,11 +131,17 @@ fn race<L: Ledger + Send + Sync, R: Threads + Wait + Clock + Sync>(
     (worked, agreed(shared, ended))
 }
 
+/// Alice may take from bob and grant to him, with one slot for a document.
+const SMALL: Opening = Opening {
+    slots: 3,
+    ..TAKING_AND_GRANTING
+};
+
 /// When the collector has scanned alice and not yet bob, she takes a right over a white document of his, and he removes
 /// the only other edge to it before she has shaded it: she can read it when that cycle and further ones have ended.
 #[test]
 fn take_while_the_other_edge_is_removed(rt: HostRuntime) -> Result<(), AllocError> {
-    let vault = opened(&rt, rt.alloc(), 3, 8, &[(1, TAKE | GRANT, 2)])?;
+    let vault = opened(&rt, rt.alloc(), &SMALL)?;
     let done = race::<Brand, _>(&rt, rt.alloc(), Blank::new(PARTS), vault);
     assert_eq!(rt; done, (Some(Worked { freed: 0, ended: 1 }), Some(5)));
     Ok(())

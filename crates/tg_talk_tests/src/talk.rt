@@ -3,7 +3,7 @@ ghost use Rattle.std.specs.Prelude.{◌≡◌, [], IfOk, IfSome, false};
 ghost use Rattle.tg_share.specs.declared.locked.TheConstants.{PARTS};
 ghost use Rattle.tg_talk.specs.Devices.{has_failed, owed};
 
-use crate::share::agreed;
+use crate::sharing::agreed;
 use crate::talk_lines::FAILURES;
 use std::alloc::{AllocError, Global};
 use std::io::{BufWriter, Read, Write};

@@ -1,0 +1,212 @@
+//! Sessions that are held with their target, between the store and the shade.
+ghost use Rattle.std.specs.Prelude.{◌≡◌, []};
+ghost use Rattle.tg_share.specs.declared.locked.TheConstants.{PARTS};
+
+use crate::share::{CREATED, REMOVED};
+use crate::sharing::{Board, Counts, Holds, agreed, both, one, opened, play, with_one};
+use std::alloc::{AllocError, Global};
+use std::marker::Brand;
+use std::rt::Clock;
+use std::sync::Wait;
+use std::sync::atomic::Ordering;
+use std::sync::ledger::{Blank, Ledger};
+use std::thread;
+use std::thread::Threads;
+use tg_share::{Ended, Open, PARTS, Shared, Worked};
+use tg_tests::cases::{Ask, Asked, ONE_MORE, TAKING, Want};
+use tg_vault::Vault;
+
+/// Alice creates a document on the seat, and is held with it.
+fn create_held<L: Ledger, R: Wait + Clock>(
+    rt: &R,
+    alloc: Global,
+    shared: &Shared<L>,
+    seat: u64,
+    board: &Board,
+    pauses: u64,
+) -> Option<Ended<L>> {
+    let gate = Holds { board, pauses };
+    play(rt, alloc, shared, seat, "alice", &[CREATED], &gate)
+}
+
+/// Bob looks at himself once alice is held, and releases her.
+fn look_meanwhile<L: Ledger, R: Wait + Clock>(
+    rt: &R,
+    alloc: Global,
+    shared: &Shared<L>,
+    board: &Board,
+) -> Option<Ended<L>> {
+    board.wait(rt, |board| board.is_held.load(Ordering::SeqCst));
+    let lines = [(Ask::Look(2), Want::Edges(&[]))];
+    let ended = play(rt, alloc, shared, 1, "bob", &lines, &Open);
+    board.is_released.store(true, Ordering::SeqCst);
+    ended
+}
+
+fn collect_counted<L: Ledger, R: Wait + Clock>(
+    rt: &R,
+    shared: &Shared<L>,
+    board: &Board,
+    steps: u64,
+) -> Worked {
+    let gate = Counts { board };
+    shared.collector(rt, steps, &gate)
+}
+
+fn create_and_look<L: Ledger + Send + Sync, R: Threads + Wait + Clock + Sync>(
+    rt: &R,
+    alloc: Global,
+    shared: &Shared<L>,
+    board: &Board,
+) -> (Option<Ended<L>>, Option<Ended<L>>) {
+    thread::join(
+        rt,
+        || create_held(rt, alloc, shared, 0, board, 100),
+        || look_meanwhile(rt, alloc, shared, board),
+    )
+}
+
+fn create_look_and_collect<L: Ledger + Send + Sync, R: Threads + Wait + Clock + Sync>(
+    rt: &R,
+    alloc: Global,
+    shared: &Shared<L>,
+    board: &Board,
+) -> ((Option<Ended<L>>, Option<Ended<L>>), Worked) {
+    thread::join(
+        rt,
+        || create_and_look(rt, alloc, shared, board),
+        || collect_counted(rt, shared, board, 101),
+    )
+}
+
+/// How many entries there are in the end, if all replies are as worked out, and how many times the collector paused.
+fn hold_a_create<L: Ledger + Send + Sync, R: Threads + Wait + Clock + Sync>(
+    rt: &R,
+    alloc: Global,
+    blank: Blank,
+    vault: Vault,
+) -> (Option<u64>, u64)
+    requires name { blank.name ≡ L.name }
+    requires parts { blank.parts ≡ L.parts }
+    requires all { blank.parts ≡ PARTS }
+    requires empty { vault.history ≡ [] }
+{
+    let shared = Shared::<L>::new(alloc, blank, vault);
+    let board = Board::new();
+    let ((alice, bob), _) = create_look_and_collect(rt, alloc, &shared, &board);
+    let ended = board.in_time(both(alloc, alice, bob));
+    let pauses = board.pauses.load(Ordering::SeqCst);
+    (agreed(shared, ended), pauses)
+}
+
+/// Alice is held between the store and the shade until bob has his reply and the collector has made 100 steps: so the
+/// lock is free. The collector pauses after each of its 101 steps but the last.
+#[test]
+fn held_create(rt: HostRuntime) -> Result<(), AllocError> {
+    let vault = opened(&rt, rt.alloc(), &TAKING)?;
+    let done = hold_a_create::<Brand, _>(&rt, rt.alloc(), Blank::new(PARTS), vault);
+    assert_eq!(rt; done, (Some(2), 100));
+    Ok(())
+}
+
+/// The seat of a session that is held with its target. The other seats below `others` have a session meanwhile.
+#[derive(Clone, Copy)]
+struct Seats {
+    held: u64,
+    others: u64,
+}
+
+const LOOKED: Asked = (Ask::Look(1), Want::Edges(&[]));
+
+/// Alice, who has no edges, looks at herself on each of the other seats in turn. None if she gets another reply.
+fn look_from_others<L: Ledger, R: Wait + Clock>(
+    rt: &R,
+    alloc: Global,
+    shared: &Shared<L>,
+    seats: Seats,
+    ended: &mut Vec<Ended<L>>,
+) -> Option<()> {
+    for seat in 0..seats.others {
+        if seat != seats.held {
+            let looked = play(rt, alloc, shared, seat, "alice", &[LOOKED], &Open)?;
+            ended.push(looked).ok()?;
+        }
+    }
+    Some(())
+}
+
+/// Alice removes her document, and then looks at herself on each of the other seats.
+fn remove_and_look<L: Ledger, R: Wait + Clock>(
+    rt: &R,
+    alloc: Global,
+    shared: &Shared<L>,
+    seats: Seats,
+) -> Option<Vec<Ended<L>>> {
+    let removed = play(rt, alloc, shared, 2, "alice", &[REMOVED], &Open);
+    let mut ended = one(alloc, removed)?;
+    look_from_others(rt, alloc, shared, seats, &mut ended)?;
+    Some(ended)
+}
+
+/// Once the first session of alice is held with its document, her other ones have their turns, and the collector ends
+/// two cycles.
+fn remove_meanwhile<L: Ledger, R: Wait + Clock>(
+    rt: &R,
+    alloc: Global,
+    shared: &Shared<L>,
+    seats: Seats,
+    board: &Board,
+) -> (Option<Vec<Ended<L>>>, Worked) {
+    board.wait(rt, |board| board.is_held.load(Ordering::SeqCst));
+    let ended = remove_and_look(rt, alloc, shared, seats);
+    let worked = shared.collector(rt, 26, &Open);
+    board.is_released.store(true, Ordering::SeqCst);
+    (ended, worked)
+}
+
+fn create_and_remove<L: Ledger + Send + Sync, R: Threads + Wait + Clock + Sync>(
+    rt: &R,
+    alloc: Global,
+    shared: &Shared<L>,
+    seats: Seats,
+    board: &Board,
+) -> (Option<Ended<L>>, (Option<Vec<Ended<L>>>, Worked)) {
+    thread::join(
+        rt,
+        || create_held(rt, alloc, shared, seats.held, board, 0),
+        || remove_meanwhile(rt, alloc, shared, seats, board),
+    )
+}
+
+/// What the collector did while the target was held, and how many entries there are in the end, if they are known.
+fn hold_a_target<L: Ledger + Send + Sync, R: Threads + Wait + Clock + Sync>(
+    rt: &R,
+    alloc: Global,
+    blank: Blank,
+    vault: Vault,
+    seats: Seats,
+) -> (Worked, Option<u64>)
+    requires name { blank.name ≡ L.name }
+    requires parts { blank.parts ≡ L.parts }
+    requires all { blank.parts ≡ PARTS }
+    requires empty { vault.history ≡ [] }
+{
+    let shared = Shared::<L>::new(alloc, blank, vault);
+    let board = Board::new();
+    let (first, (others, worked)) = create_and_remove(rt, alloc, &shared, seats, &board);
+    let ended = board.in_time(with_one(others, first));
+    (worked, agreed(shared, ended))
+}
+
+/// A target that is not yet shaded keeps its slot through two cycles, though no edge leads to it; it does so even if
+/// each of the 63 other seats has a session meanwhile, which shades what it has itself.
+#[test]
+fn target_held_through_two_cycles(rt: HostRuntime) -> Result<(), AllocError> {
+    for (held, others, entries) in [(0, 0, 2), (31, 64, 65)] {
+        let vault = opened(&rt, rt.alloc(), &ONE_MORE)?;
+        let seats = Seats { held, others };
+        let done = hold_a_target::<Brand, _>(&rt, rt.alloc(), Blank::new(PARTS), vault, seats);
+        assert_eq!(rt; done, (Worked { freed: 0, ended: 2 }, Some(entries)));
+    }
+    Ok(())
+}

@@ -1,0 +1,320 @@
+//! Sessions that play lines, gates that hold them, and what is seen once a server closes. A thread that has to be at
+//! some point is waited for in turns of 10 microseconds, which are counted; a test fails if they are used up.
+ghost use Rattle.std.specs.Prelude.{◌≡◌, [], IfOk};
+ghost use Rattle.tg_share.specs.declared.locked.TheConstants.{PARTS};
+
+use std::alloc::{AllocError, Global};
+use std::process::Abort;
+use std::rt::Clock;
+use std::sync::Wait;
+use std::sync::atomic::{AtomicBool, AtomicU64, Ordering};
+use std::sync::ledger::Ledger;
+use std::thread;
+use std::time::Duration;
+use tg_audit::Settled;
+use tg_graph::OpenFault;
+use tg_rights::{Kind, Rights};
+use tg_share::{Closed, Ended, Gate, PARTS, Place, Session, Shared};
+use tg_tests::cases::{Ask, Asked, Opening, Want, command, config, is_reply};
+use tg_vault::Vault;
+
+/// The vault of this configuration.
+pub fn opened(rt: &impl Abort, alloc: Global, opening: &Opening) -> Result<Vault, AllocError>
+    ensures { IfOk result (λ vault. vault.history ≡ []) }
+{
+    match Vault::new(alloc, config(alloc, opening)?) {
+        Ok(vault) => Ok(vault),
+        Err(OpenFault::OutOfMemory) => Err(AllocError),
+        Err(_) => panic!(rt; "refused"),
+    }
+}
+
+const TURNS: u32 = 1_000_000;
+
+/// What the threads of a case signal to one another.
+#[derive(Drop)]
+pub struct Board {
+    /// What comes before a session's command has been done.
+    pub is_prepared: AtomicBool,
+    /// A session is held with its command entered.
+    pub is_held: AtomicBool,
+    /// The session that is held may go on, as far as the other one is concerned.
+    pub is_released: AtomicBool,
+    /// How many times the collector has paused.
+    pub pauses: AtomicU64,
+    /// The turns of some wait were used up.
+    pub is_late: AtomicBool,
+}
+
+impl Board {
+    pub fn new() -> Board {
+        Board {
+            is_prepared: AtomicBool::new(false),
+            is_held: AtomicBool::new(false),
+            is_released: AtomicBool::new(false),
+            pauses: AtomicU64::new(0),
+            is_late: AtomicBool::new(false),
+        }
+    }
+
+    /// Waits for what is to come, in turns that are counted.
+    pub fn wait<R: Clock, F: Fn(&Board) -> bool>(&self, rt: &R, has_come: F)
+        requires { F.IsAlwaysCallable has_come }
+    {
+        for _ in 0..TURNS {
+            if has_come(self) {
+                return;
+            }
+            thread::sleep(rt, Duration::from_micros(10));
+        }
+        self.is_late.store(true, Ordering::SeqCst);
+    }
+
+    /// The result of a case, if no wait used up its turns.
+    pub fn in_time<T: Drop>(&self, found: Option<T>) -> Option<T> {
+        if self.is_late.load(Ordering::SeqCst) {
+            None
+        } else {
+            found
+        }
+    }
+}
+
+/// Holds a session until it is released and the collector has paused this many times.
+#[derive(Drop)]
+pub struct Holds<'a> {
+    pub board: &'a Board,
+    pub pauses: u64,
+}
+
+impl Gate for Holds<'_> {
+    fn pause<R: Wait + Clock>(&self, rt: &R, _place: Place) {
+        let pauses = self.pauses;
+        self.board.is_held.store(true, Ordering::SeqCst);
+        self.board.wait(rt, |board| {
+            board.is_released.load(Ordering::SeqCst)
+                && board.pauses.load(Ordering::SeqCst) >= pauses
+        });
+    }
+}
+
+/// Counts the collector's pauses.
+#[derive(Drop)]
+pub struct Counts<'a> {
+    pub board: &'a Board,
+}
+
+impl Gate for Counts<'_> {
+    fn pause<R: Wait + Clock>(&self, _rt: &R, _place: Place) {
+        self.board.pauses.fetch_add(1, Ordering::SeqCst);
+    }
+}
+
+/// Counts the pauses at each place.
+#[derive(Drop)]
+pub struct Tally {
+    after_store: AtomicU64,
+    between_steps: AtomicU64,
+}
+
+impl Tally {
+    pub fn new() -> Tally {
+        Tally {
+            after_store: AtomicU64::new(0),
+            between_steps: AtomicU64::new(0),
+        }
+    }
+
+    /// How many pauses there were after a store, and how many between steps.
+    pub fn pauses(&self) -> (u64, u64) {
+        let after_store = self.after_store.load(Ordering::SeqCst);
+        (after_store, self.between_steps.load(Ordering::SeqCst))
+    }
+}
+
+impl Gate for Tally {
+    fn pause<R: Wait + Clock>(&self, _rt: &R, place: Place) {
+        match place {
+            Place::AfterStore => self.after_store.fetch_add(1, Ordering::SeqCst),
+            Place::BetweenSteps => self.between_steps.fetch_add(1, Ordering::SeqCst),
+        };
+    }
+}
+
+/// Whether the session's command gets this reply.
+pub fn is_told<L: Ledger, R: Wait + Clock, G: Gate>(
+    rt: &R,
+    alloc: Global,
+    session: &mut Session<'_, L>,
+    ask: Ask,
+    want: Want,
+    gate: &G,
+) -> Result<bool, AllocError> {
+    let command = command(alloc, ask)?;
+    let rule = command.rule();
+    Ok(match session.submit(rt, command, gate) {
+        Ok(found) => is_reply(found, rule, want),
+        Err(_) => false,
+    })
+}
+
+/// Whether the session's commands get these replies, line by line.
+pub fn are_told<L: Ledger, R: Wait + Clock, G: Gate>(
+    rt: &R,
+    alloc: Global,
+    session: &mut Session<'_, L>,
+    lines: &[Asked],
+    gate: &G,
+) -> Result<bool, AllocError> {
+    for (ask, want) in lines {
+        if !is_told(rt, alloc, session, *ask, *want, gate)? {
+            return Ok(false);
+        }
+    }
+    Ok(true)
+}
+
+/// A whole session; none if it is refused or a command does not get its reply.
+pub fn play<L: Ledger, R: Wait + Clock, G: Gate>(
+    rt: &R,
+    alloc: Global,
+    shared: &Shared<L>,
+    seat: u64,
+    name: &str,
+    lines: &[Asked],
+    gate: &G,
+) -> Option<Ended<L>> {
+    let Ok(mut session) = shared.session(rt, alloc, seat, name) else {
+        return None;
+    };
+    let told = are_told(rt, alloc, &mut session, lines, gate);
+    let ended = session.end(rt);
+    if matches!(told, Ok(true)) {
+        Some(ended)
+    } else {
+        None
+    }
+}
+
+/// The list of one session's end.
+pub fn one<L: Ledger>(alloc: Global, ended: Option<Ended<L>>) -> Option<Vec<Ended<L>>> {
+    vec![in alloc; ended?].ok()
+}
+
+/// The list of two sessions' ends.
+pub fn both<L: Ledger>(
+    alloc: Global,
+    first: Option<Ended<L>>,
+    second: Option<Ended<L>>,
+) -> Option<Vec<Ended<L>>> {
+    let (first, second) = first.zip(second)?;
+    vec![in alloc; first, second].ok()
+}
+
+/// The list with one more end.
+pub fn with_one<L: Ledger>(
+    ended: Option<Vec<Ended<L>>>,
+    one: Option<Ended<L>>,
+) -> Option<Vec<Ended<L>>> {
+    let (mut ended, one) = ended.zip(one)?;
+    ended.push(one).ok()?;
+    Some(ended)
+}
+
+/// Closes, and once more if there was no room.
+fn closed<L: Ledger>(shared: Shared<L>, ended: Vec<Ended<L>>) -> Closed<L>
+    requires { L.parts ≡ PARTS }
+{
+    match shared.close(ended) {
+        Closed::Done { settled, counted } => Closed::Done { settled, counted },
+        Closed::NoRoom { shared, ended } => shared.close(ended),
+    }
+}
+
+/// The vault, if the logs agree.
+fn vault_in(settled: &Settled) -> Option<&Vault> {
+    match settled {
+        Settled::Agreed(vault) => Some(vault),
+        Settled::Differs { .. } => None,
+        Settled::NoMemory { .. } => None,
+    }
+}
+
+/// How many entries there are, if the logs agree.
+pub fn count_in(settled: &Settled) -> Option<u64> {
+    Some(vault_in(settled)?.count())
+}
+
+/// The vault, if the logs agree and all sessions were counted.
+fn vault_after<L: Ledger>(closed: &Closed<L>) -> Option<&Vault> {
+    match closed {
+        Closed::Done { settled, counted } => { if *counted { vault_in(settled) } else { None } }
+        Closed::NoRoom { .. } => None,
+    }
+}
+
+/// Whether the graph has only the principals, and alice's right to take from bob.
+fn is_opening(vault: &Vault) -> bool {
+    let graph = vault.opening();
+    let subject = Some(Kind::Subject);
+    graph.kind(1) == subject
+        && graph.kind(2) == subject
+        && graph.kind(0).is_none()
+        && graph.kind(3).is_none()
+        && graph.rights(1, 2) == Rights::take()
+        && graph.rights(2, 1).is_empty()
+}
+
+/// Where the logs differ from the history, if they do, and whether all sessions were counted.
+fn found_in<L: Ledger>(closed: &Closed<L>) -> Option<(Option<(u64, u64)>, bool)> {
+    match closed {
+        Closed::Done { settled, counted } => match settled {
+            Settled::Agreed(_) => Some((None, *counted)),
+            Settled::Differs { seat, index, .. } => Some((Some((*seat, *index)), *counted)),
+            Settled::NoMemory { .. } => None,
+        },
+        Closed::NoRoom { .. } => None,
+    }
+}
+
+/// What is seen of the result of `Shared::close`.
+#[derive(Clone, Copy)]
+pub struct Seen {
+    /// How many entries there are, and whether the opening graph is that of alice and bob, if the logs agree and all
+    /// sessions were counted.
+    pub agreed: Option<(u64, bool)>,
+    /// Where the logs differ from the history, if they do, and whether all sessions were counted.
+    pub found: Option<(Option<(u64, u64)>, bool)>,
+}
+
+/// How many entries there are, and whether the opening graph is as it was, if the logs agree and all sessions were
+/// counted.
+fn count_and_opening<L: Ledger>(closed: &Closed<L>) -> Option<(u64, bool)> {
+    let vault = vault_after(closed)?;
+    Some((vault.count(), is_opening(vault)))
+}
+
+fn look_at<L: Ledger>(closed: &Closed<L>) -> Seen {
+    Seen {
+        agreed: count_and_opening(closed),
+        found: found_in(closed),
+    }
+}
+
+/// Closes. No other function drops a `Closed`, as the drop costs most of the proof.
+pub fn close<L: Ledger>(shared: Shared<L>, ended: Vec<Ended<L>>) -> Seen
+    requires { L.parts ≡ PARTS }
+{
+    let closed = closed(shared, ended);
+    look_at(&closed)
+}
+
+/// How many entries there are, if there are ends to close with, the logs agree and all sessions were counted.
+pub fn agreed<L: Ledger>(shared: Shared<L>, ended: Option<Vec<Ended<L>>>) -> Option<u64>
+    requires { L.parts ≡ PARTS }
+{
+    match ended {
+        Some(ended) => Some(close(shared, ended).agreed?.0),
+        None => None,
+    }
+}
