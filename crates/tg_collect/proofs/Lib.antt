@@ -3,6 +3,7 @@ pub mod ActedLemmas
 pub mod FitLemmas
 pub mod PathLemmas
 -- Lemma files of this crate's own proofs.
+mod BlankLemmas
 mod CallLemmas
 mod CollectLemmas
 mod ColourLines
@@ -19,6 +20,7 @@ mod ListedLemmas
 mod MachineLemmas
 mod NameLines
 mod NameSteps
+mod OpenedEdges
 mod OpeningLemmas
 mod PlaceLemmas
 mod RunLemmas
@@ -28,6 +30,7 @@ mod ShadeCalls
 mod StepLines
 mod StoreLemmas
 mod SumLemmas
+mod TextCalls
 mod UnnamedLemmas
 mod VertexCalls
 mod VertexSteps

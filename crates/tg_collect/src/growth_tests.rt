@@ -1,8 +1,8 @@
 //! Calls whose allocations fail: what they leave, and the same calls made again. tests/faults/growths.py makes each
 //! allocation of a test fail in turn.
 use crate::Store;
-use crate::tests::Act::{Create, End, FreeCells, FreeSlots, Join, Mark, Remove, Shade, Sweep};
-use crate::tests::{GRANT, READ, Script, TAKE, TWO, WRITE, at, graph, open, play, rights};
+use crate::tests::Act::{Create, Cycle, FreeCells, FreeSlots, Join, Make, Remove, Shade};
+use crate::tests::{PLAIN, Script, at, graph, open, play, rights};
 use std::alloc::{AllocError, Global};
 use std::process::Abort;
 use tg_graph::Graph;
@@ -11,37 +11,30 @@ use tg_rights::{Kind, Rights};
 
 const GARBAGE: &Script = &Script {
     name: "garbage outlives a cycle",
-    principals: TWO,
-    edges: &[],
-    slots: 3,
     cells: 4,
     acts: &[
         FreeSlots(1),
         FreeCells(4),
-        Create(0, 1, 3, READ, None),
-        Shade(0, Some(3)),
-        Remove(1, 3, READ),
-        Create(0, 1, 4, READ, Some(HeapFull::Slots)),
-        Mark(7),
-        Sweep(4),
-        End,
+        Make(0, 1, 3, "r"),
+        Remove(1, 3, "r"),
+        Create(0, 1, 4, "r", Some(HeapFull::Slots)),
+        Cycle(7, 4),
     ],
+    ..PLAIN
 };
 
 const JOINED: &Script = &Script {
     name: "a take joins labels",
-    principals: TWO,
-    edges: &[(1, TAKE | GRANT, 2)],
+    edges: &[(1, "tg", 2)],
     slots: 8,
-    cells: 8,
     acts: &[
-        Create(1, 2, 3, READ | WRITE | GRANT, None),
-        Shade(1, Some(3)),
-        Join(0, (1, 1), (2, 3), READ, None),
+        Make(1, 2, 3, "rwg"),
+        Join(0, (1, 1), (2, 3), "r", None),
         Shade(0, Some(3)),
-        Join(0, (1, 1), (2, 3), WRITE, None),
+        Join(0, (1, 1), (2, 3), "w", None),
         Shade(0, Some(3)),
     ],
+    ..PLAIN
 };
 
 /// The graph still has its two principals and nothing else.
@@ -107,9 +100,9 @@ fn has_edges(
 fn growth_refused_in_a_list_of_edges(rt: HostRuntime) -> Result<(), AllocError> {
     let mut store = open(&rt, rt.alloc(), JOINED)?;
     play(&rt, rt.alloc(), &mut store, JOINED)?;
-    let first = [(2, rights(TAKE | GRANT)), (3, rights(READ | WRITE))];
+    let first = [(2, rights("tg")), (3, rights("rw"))];
     assert!(rt; has_edges(&rt, rt.alloc(), &store, 1, first.as_slice())?);
-    let second = [(3, rights(READ | WRITE | GRANT))];
+    let second = [(3, rights("rwg"))];
     assert!(rt; has_edges(&rt, rt.alloc(), &store, 2, second.as_slice())?);
     Ok(())
 }

@@ -10,6 +10,8 @@ mod machine;
 mod note;
 mod opening;
 mod reader;
+#[cfg(test)]
+mod scripts;
 mod sessions;
 mod store;
 #[cfg(test)]

@@ -8,6 +8,7 @@ ghost use Rattle.tg_collect.specs.Stored.{stored};
 ghost use Rattle.tg_collect.specs.Views.{InSet, IsHeldIn, place};
 
 use crate::machine::Machine;
+use crate::scripts::SCRIPTS;
 use crate::{Note, Phase, Store};
 use std::alloc::{AllocError, Global};
 use std::process::Abort;
@@ -29,15 +30,17 @@ pub(crate) fn has(machine: &Machine, serial: u64) -> bool
 }
 
 /// One call of a script with its result, or what must be seen after the calls before it. Rights are given by their
-/// bits.
+/// letters.
 pub enum Act {
     /// A principal's new document: seat, principal, serial, rights, and what is full.
-    Create(u64, u64, u64, u8, Option<HeapFull>),
+    Create(u64, u64, u64, &'static str, Option<HeapFull>),
+    /// A principal's new document, which the seat shades: seat, principal, serial and rights.
+    Make(u64, u64, u64, &'static str),
     /// An edge gains rights: seat, its two ends, each with a principal that has a right over it, rights, and what is
     /// full.
-    Join(u64, (u64, u64), (u64, u64), u8, Option<HeapFull>),
+    Join(u64, (u64, u64), (u64, u64), &'static str, Option<HeapFull>),
     /// A principal loses rights over a serial.
-    Remove(u64, u64, u8),
+    Remove(u64, u64, &'static str),
     /// A seat shades its target.
     Shade(u64, Option<u64>),
     /// The text of a document over which a principal has a right is replaced, with the old one.
@@ -50,6 +53,8 @@ pub enum Act {
     Reclaim(u32),
     /// The collector step that ends a cycle.
     End,
+    /// A cycle that frees no slot: steps of the marking, steps of the sweep, and the step that ends it.
+    Cycle(u32, u32),
     Pending(u64, Option<u64>),
     FreeSlots(u32),
     FreeCells(u32),
@@ -58,321 +63,42 @@ pub enum Act {
     /// The text of a document over which a principal has a right.
     Reads(u64, u64, &'static str),
     /// A principal's only edge.
-    Edge(u64, u64, u8),
+    Edge(u64, u64, &'static str),
 }
 
 use Act::{
-    At, Create, Edge, End, FreeCells, FreeSlots, Join, Mark, Pending, Reads, Reclaim, Remove,
-    Shade, Sweep, Write,
+    At, Create, Cycle, Edge, End, FreeCells, FreeSlots, Join, Make, Mark, Pending, Reads, Reclaim,
+    Remove, Shade, Sweep, Write,
 };
-
-pub const READ: u8 = 1;
-
-pub const WRITE: u8 = 2;
-
-pub const TAKE: u8 = 4;
-
-pub const GRANT: u8 = 8;
 
 pub struct Script {
     pub name: &'static str,
     pub principals: &'static [&'static str],
-    pub edges: &'static [(u64, u8, u64)],
+    pub edges: &'static [(u64, &'static str, u64)],
     pub slots: u32,
     pub cells: u32,
     pub acts: &'static [Act],
 }
 
-pub const TWO: &[&str] = &["alice", "bob"];
+/// Alice and bob, who are 1 and 2, without rights over each other, and a slot for one document.
+pub const PLAIN: Script = Script {
+    name: "nothing happens",
+    principals: &["alice", "bob"],
+    edges: &[],
+    slots: 3,
+    cells: 8,
+    acts: &[],
+};
 
-const SCRIPTS: &[Script] = &[
-    Script {
-        name: "garbage needs two cycles",
-        principals: TWO,
-        edges: &[],
-        slots: 3,
-        cells: 4,
-        acts: &[
-            Create(0, 1, 3, READ, None),
-            Shade(0, Some(3)),
-            Remove(1, 3, READ),
-            Create(0, 1, 4, READ, Some(HeapFull::Slots)),
-            Mark(7),
-            Sweep(4),
-            End,
-            Mark(5),
-            Sweep(3),
-            Reclaim(1),
-            End,
-            Create(0, 1, 4, READ, None),
-        ],
-    },
-    Script {
-        name: "busy until shaded",
-        principals: TWO,
-        edges: &[],
-        slots: 3,
-        cells: 4,
-        acts: &[
-            Create(0, 1, 3, READ, None),
-            Pending(0, Some(3)),
-            Remove(1, 3, READ),
-            Mark(8),
-            Sweep(4),
-            End,
-            Pending(0, Some(3)),
-            Shade(0, Some(3)),
-            Pending(0, None),
-            Mark(7),
-            Sweep(4),
-            End,
-            FreeSlots(0),
-            Mark(5),
-            Sweep(3),
-            Reclaim(1),
-            End,
-            FreeSlots(1),
-        ],
-    },
-    Script {
-        name: "take from a white edge during marking",
-        principals: TWO,
-        edges: &[(1, TAKE | GRANT, 2)],
-        slots: 3,
-        cells: 8,
-        acts: &[
-            Create(1, 2, 3, READ | WRITE, None),
-            Shade(1, Some(3)),
-            Write(2, 3, "hi", ""),
-            Mark(9),
-            Sweep(4),
-            End,
-            Mark(4),
-            Join(0, (1, 1), (2, 3), READ, None),
-            Remove(2, 3, READ | WRITE),
-            Mark(5),
-            Sweep(4),
-            End,
-            Shade(0, Some(3)),
-            Reads(1, 3, "hi"),
-        ],
-    },
-    Script {
-        name: "create during the sweep",
-        principals: TWO,
-        edges: &[],
-        slots: 5,
-        cells: 8,
-        acts: &[
-            Create(0, 1, 3, READ, None),
-            Shade(0, Some(3)),
-            Remove(1, 3, READ),
-            Mark(7),
-            Sweep(6),
-            End,
-            Mark(5),
-            Sweep(3),
-            Reclaim(1),
-            Create(0, 1, 4, READ, None),
-            At(1, 4, 2),
-            Shade(0, Some(4)),
-            Create(0, 1, 5, READ, None),
-            At(1, 5, 3),
-            Sweep(2),
-            End,
-            Shade(0, Some(5)),
-            Mark(11),
-            Sweep(6),
-            End,
-            FreeSlots(1),
-        ],
-    },
-    Script {
-        name: "a ring of documents is freed",
-        principals: TWO,
-        edges: &[],
-        slots: 4,
-        cells: 8,
-        acts: &[
-            Create(0, 1, 3, READ | GRANT, None),
-            Shade(0, Some(3)),
-            Create(0, 1, 4, READ | GRANT, None),
-            Shade(0, Some(4)),
-            Join(0, (1, 3), (1, 4), READ, None),
-            Shade(0, Some(4)),
-            Join(0, (1, 4), (1, 3), READ, None),
-            Shade(0, Some(3)),
-            Remove(1, 3, READ | GRANT),
-            Remove(1, 4, READ | GRANT),
-            FreeCells(6),
-            Mark(11),
-            Sweep(5),
-            End,
-            Mark(5),
-            Sweep(4),
-            Reclaim(1),
-            Sweep(1),
-            Reclaim(1),
-            End,
-            FreeSlots(2),
-            FreeCells(8),
-        ],
-    },
-    // seat 0's target has an edge to that of seat 1: if seat 1's were shaded first, the other would need a step of its
-    // own
-    Script {
-        name: "the least seat with a white target is first",
-        principals: TWO,
-        edges: &[],
-        slots: 4,
-        cells: 8,
-        acts: &[
-            Create(1, 2, 3, READ, None),
-            Create(0, 1, 4, READ, None),
-            Join(2, (1, 4), (2, 3), READ, None),
-            Remove(2, 3, READ),
-            Remove(1, 4, READ),
-            Mark(11),
-            Sweep(5),
-            End,
-        ],
-    },
-    // alice is scanned before bob: an edge that she gets after her scan is not looked at
-    Script {
-        name: "the last principal is shaded first",
-        principals: TWO,
-        edges: &[],
-        slots: 3,
-        cells: 4,
-        acts: &[
-            Mark(3),
-            Create(0, 1, 3, READ, None),
-            Shade(0, Some(3)),
-            Mark(4),
-            Sweep(4),
-            End,
-        ],
-    },
-    // only its seat leads to the vertex: the marking shades it, and then scans it
-    Script {
-        name: "a new vertex is white during marking",
-        principals: TWO,
-        edges: &[],
-        slots: 3,
-        cells: 4,
-        acts: &[Mark(3), Create(0, 1, 3, READ, None), Mark(5), Sweep(4), End],
-    },
-    // slots 2 and 3 are freed in this order; slot 4 was never used
-    Script {
-        name: "freed slots are taken first",
-        principals: TWO,
-        edges: &[],
-        slots: 5,
-        cells: 8,
-        acts: &[
-            Create(0, 1, 3, READ, None),
-            At(1, 3, 2),
-            Shade(0, Some(3)),
-            Remove(1, 3, READ),
-            Create(0, 1, 4, READ, None),
-            At(1, 4, 3),
-            Shade(0, Some(4)),
-            Remove(1, 4, READ),
-            Mark(9),
-            Sweep(6),
-            End,
-            Mark(5),
-            Sweep(3),
-            Reclaim(2),
-            Sweep(1),
-            End,
-            Create(0, 1, 5, READ, None),
-            At(1, 5, 3),
-            Shade(0, Some(5)),
-            Create(0, 1, 6, READ, None),
-            At(1, 6, 2),
-            Shade(0, Some(6)),
-            Create(0, 1, 7, READ, None),
-            At(1, 7, 4),
-            FreeSlots(0),
-        ],
-    },
-    // alice's scan has passed the edge to 5 and comes next to that to 4, which is removed: next is the edge to 3, not
-    // 5's again
-    Script {
-        name: "a cursor moves to the next cell",
-        principals: TWO,
-        edges: &[],
-        slots: 5,
-        cells: 8,
-        acts: &[
-            Create(0, 1, 3, READ, None),
-            Shade(0, Some(3)),
-            Create(0, 1, 4, READ, None),
-            Shade(0, Some(4)),
-            Create(0, 1, 5, READ, None),
-            Shade(0, Some(5)),
-            Mark(14),
-            Sweep(6),
-            End,
-            Mark(3),
-            Remove(1, 4, READ),
-            Mark(8),
-            Sweep(4),
-            Reclaim(1),
-            Sweep(1),
-            End,
-            FreeSlots(1),
-            At(1, 3, 2),
-            At(1, 5, 4),
-        ],
-    },
-    // edges open by rising pairs, each at the front: alice's scan has passed the edge to carol, and that to bob is next
-    Script {
-        name: "edges are opened by rising pairs",
-        principals: &["alice", "bob", "carol"],
-        edges: &[(1, TAKE, 2), (1, TAKE, 3)],
-        slots: 4,
-        cells: 8,
-        acts: &[
-            At(1, 1, 0),
-            At(2, 2, 1),
-            At(3, 3, 2),
-            Mark(3),
-            Remove(1, 3, TAKE),
-            Mark(6),
-            Sweep(5),
-            End,
-        ],
-    },
-    Script {
-        name: "refusals change nothing",
-        principals: TWO,
-        edges: &[(2, READ, 1)],
-        slots: 3,
-        cells: 1,
-        acts: &[
-            FreeCells(0),
-            Create(0, 1, 3, READ, Some(HeapFull::Cells)),
-            Join(0, (1, 1), (2, 2), READ, Some(HeapFull::Cells)),
-            Pending(0, None),
-            Join(0, (2, 2), (1, 1), TAKE, None),
-            Shade(0, Some(1)),
-            Edge(2, 1, READ | TAKE),
-            Remove(2, 1, READ),
-            FreeCells(0),
-            Remove(2, 1, TAKE),
-            FreeCells(1),
-        ],
-    },
-];
-
-/// The rights of these bits.
-pub fn rights(bits: u8) -> Rights {
-    match Rights::from_bits(bits) {
-        Some(rights) => rights,
-        None => Rights::empty(),
+/// The rights of the letters.
+pub fn rights(letters: &str) -> Rights {
+    let mut rights = Rights::empty();
+    for (letter, right) in b"rwtg".iter().zip(Rights::each().iter()) {
+        if letters.as_bytes().contains(letter) {
+            rights = rights.union(*right);
+        }
     }
+    rights
 }
 
 fn principals(alloc: Global, names: &[&str]) -> Result<Vec<Word>, AllocError> {
@@ -383,7 +109,10 @@ fn principals(alloc: Global, names: &[&str]) -> Result<Vec<Word>, AllocError> {
     Ok(principals)
 }
 
-fn edges(alloc: Global, wanted: &[(u64, u8, u64)]) -> Result<Vec<(u64, Rights, u64)>, AllocError> {
+fn edges(
+    alloc: Global,
+    wanted: &[(u64, &str, u64)],
+) -> Result<Vec<(u64, Rights, u64)>, AllocError> {
     let mut edges = Vec::new(alloc);
     for edge in wanted {
         edges.push((edge.0, rights(edge.1), edge.2))?;
@@ -563,19 +292,51 @@ fn steps(store: &mut Store, count: u32, phase: Phase, freed: u64, ended: bool) -
     true
 }
 
+/// Whether a cycle has so many steps of the marking and of the sweep, and frees no slot.
+fn cycles(store: &mut Store, marked: u32, swept: u32) -> bool {
+    steps(store, marked, Phase::Mark, 0, false)
+        && steps(store, swept, Phase::Sweep, 0, false)
+        && steps(store, 1, Phase::Idle, 0, true)
+}
+
+/// Whether a principal's document is made and then shaded.
+fn makes(
+    rt: &impl Abort,
+    alloc: Global,
+    store: &mut Store,
+    seat: u64,
+    principal: u64,
+    serial: u64,
+    letters: &str,
+) -> bool {
+    let made = create(rt, alloc, store, seat, principal, serial, rights(letters));
+    made.is_ok() && shade(rt, store, seat) == Some(serial)
+}
+
 /// Carries out one line of a script; returns whether it goes as it says.
 fn goes(rt: &impl Abort, alloc: Global, store: &mut Store, act: &Act) -> Result<bool, AllocError> {
     match act {
-        Create(seat, principal, serial, bits, full) => {
-            let made = create(rt, alloc, store, *seat, *principal, *serial, rights(*bits));
+        Create(seat, principal, serial, letters, full) => {
+            let made = create(
+                rt,
+                alloc,
+                store,
+                *seat,
+                *principal,
+                *serial,
+                rights(letters),
+            );
             Ok(made.err() == *full)
         }
-        Join(seat, from, to, bits, full) => {
-            let joined = join(rt, store, *seat, *from, *to, rights(*bits));
+        Join(seat, from, to, letters, full) => {
+            let joined = join(rt, store, *seat, *from, *to, rights(letters));
             Ok(joined.err() == *full)
         }
-        Remove(principal, serial, bits) => {
-            remove(rt, store, *principal, *serial, rights(*bits));
+        Make(seat, principal, serial, letters) => {
+            Ok(makes(rt, alloc, store, *seat, *principal, *serial, letters))
+        }
+        Remove(principal, serial, letters) => {
+            remove(rt, store, *principal, *serial, rights(letters));
             Ok(true)
         }
         Shade(seat, target) => Ok(shade(rt, store, *seat) == *target),
@@ -586,13 +347,14 @@ fn goes(rt: &impl Abort, alloc: Global, store: &mut Store, act: &Act) -> Result<
         Sweep(count) => Ok(steps(store, *count, Phase::Sweep, 0, false)),
         Reclaim(count) => Ok(steps(store, *count, Phase::Sweep, 1, false)),
         End => Ok(steps(store, 1, Phase::Idle, 0, true)),
+        Cycle(marked, swept) => Ok(cycles(store, *marked, *swept)),
         Pending(seat, target) => Ok(pending(rt, store, *seat) == *target),
         FreeSlots(count) => Ok(store.free_slots() == *count),
         FreeCells(count) => Ok(store.free_cells() == *count),
         At(principal, serial, slot) => Ok(at(rt, store, *principal, *serial) == *slot),
         Reads(principal, serial, text) => Ok(is_text(rt, store, *principal, *serial, text)),
-        Edge(principal, serial, bits) => {
-            has_edge(rt, alloc, store, *principal, *serial, rights(*bits))
+        Edge(principal, serial, letters) => {
+            has_edge(rt, alloc, store, *principal, *serial, rights(letters))
         }
     }
 }

@@ -1,5 +1,5 @@
 use Rattle.tg_collect.specs.OpeningSteps.{Blank}
-use Rattle.tg_collect.proofs.OpeningLemmas.{blank_whole, blank_opens, blank_free, blank_triples}
+use Rattle.tg_collect.proofs.BlankLemmas.{blank_whole, blank_opens, blank_free, blank_triples}
 use Rattle.tg_collect.proofs.machine.Machine.blank.Goals as goal
 
 is_blank : (c : goal.In_ok-pending) → Blank (record { heap = c.in_ok-heap.heap; progress = c.of-progress.result; principals = c.in_ok-principals.principals; pending = c.in_ok-pending.pending }) c.args.slots c.args.cells

@@ -1,4 +1,4 @@
-use Rattle.tg_collect.proofs.OpeningLemmas.{no_edges_yet}
+use Rattle.tg_collect.proofs.OpenedEdges.{no_edges_yet}
 use Rattle.tg_collect.proofs.machine.Machine.open.Goals as goal
 
 pub open_edges-requires-clause-opens : goal.open_edges-requires-clause-opens

@@ -3,7 +3,8 @@ use Rattle.std.specs.Vec.{with_item}
 use Rattle.tg_collect.specs.Sessions.{EdgeStored}
 use Rattle.tg_collect.specs.Stored.{Stored, stored}
 use Rattle.tg_collect.specs.Views.{serial_at}
-use Rattle.tg_collect.proofs.OpeningLemmas.{cleared_whole, edge_opened, idle_progress}
+use Rattle.tg_collect.proofs.OpenedEdges.{cleared_whole, edge_opened}
+use Rattle.tg_collect.proofs.OpeningLemmas.{idle_progress}
 use Rattle.tg_collect.proofs.machine.Machine.open_edge.Goals as goal
 
 pub returns-clause-whole : goal.returns-clause-whole

@@ -1,7 +1,7 @@
 use Rattle.std.proofs.Common.{subst, ℕ, ◌≡◌, length, arith}
 use Rattle.tg_collect.specs.Stored.{stored}
 use Rattle.tg_collect.specs.OpeningSteps.{OpensEdges}
-use Rattle.tg_collect.proofs.OpeningLemmas.{rows_done}
+use Rattle.tg_collect.proofs.OpenedEdges.{rows_done}
 use Rattle.tg_collect.proofs.machine.Machine.open_edges.Goals as goal
 
 pub returns-clause-opened : goal.returns-clause-opened

@@ -3,7 +3,7 @@ use Rattle.std.specs.Option.{is_some, unwrap_or}
 use Rattle.tg_rights.specs.Letters.{is_none}
 use Rattle.tg_collect.specs.Stored.{stored}
 use Rattle.tg_collect.proofs.StoreLemmas.{is_store}
-use Rattle.tg_collect.proofs.OpeningLemmas.{pair, pair_distinct, pair_empty, pair_done, room_left}
+use Rattle.tg_collect.proofs.OpenedEdges.{pair, pair_distinct, pair_empty, pair_done, room_left}
 use Rattle.tg_collect.proofs.machine.Machine.open_pair.Goals as goal
 
 pub open_edge-requires-clause-source : goal.open_edge-requires-clause-source

@@ -1,7 +1,7 @@
 use Rattle.tg_collect.specs.Stored.{stored}
 use Rattle.tg_collect.specs.Views.{serial_at}
 use Rattle.tg_collect.proofs.CallLemmas.{placed_name}
-use Rattle.tg_collect.proofs.VertexCalls.{after_rewrites}
+use Rattle.tg_collect.proofs.TextCalls.{after_rewrites}
 use Rattle.tg_collect.proofs.machine.Machine.replace_text.Goals as goal
 
 pub set_text-requires-clause-held : goal.set_text-requires-clause-held
