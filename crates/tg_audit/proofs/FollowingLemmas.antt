@@ -50,9 +50,6 @@ pub joined_from_past : (seat at : ℕ) (logs : List SeatLog) (n : ℕ) (log : Se
 joined_from_past seat at logs n log is same past =
     rw (joined_from_same seat at logs n log is same, drop_past log.exchanges.items at past) refl
 
-pub joined_from_end : (seat at : ℕ) (logs : List SeatLog) (n : ℕ) → length logs ≤ n → joined_from seat at (drop n logs) ≡ []
-joined_from_end seat at logs n past = rw (drop_past logs n past) refl
-
 -- lists that differ at once, after what is common
 differ_behind : (common xs ys : List Exchange) (i : ℕ) → length common ≡ i → DifferAt xs ys 0 → DifferAt (common ++ xs) (common ++ ys) i
 differ_behind [] xs ys i count differ = subst (DifferAt xs ys) count differ
@@ -86,6 +83,3 @@ apart_entry seat logs entries rest p i x b left =
 pub apart_log : (seat : ℕ) (logs : List SeatLog) (entries more : List Exchange) (p : Position) (i : ℕ) (y : Exchange) → Beside seat logs entries [] p i → left_of seat logs p ≡ y ∷ more → DifferAt entries (joined seat logs) i
 apart_log seat logs entries more p i y b left =
     differ_at entries (joined seat logs) b.common [] (y ∷ more) i b.entered (b.logged ∙ ap (λ l. b.common ++ l) left) b.count (refl, λ same. none-some y same)
-
-pub same_to_the_end : (seat : ℕ) (logs : List SeatLog) (entries : List Exchange) (p : Position) (i : ℕ) → Beside seat logs entries [] p i → left_of seat logs p ≡ [] → entries ≡ joined seat logs
-same_to_the_end seat logs entries p i b left = b.entered ∙ sym (b.logged ∙ ap (λ l. b.common ++ l) left)

@@ -36,11 +36,6 @@ pub sends_kept : (old now new : Option (List ℕ)) (failed : Bool) (text : List 
 sends_kept old now new failed text kept sent =
     record { done = sent.done; rest = sent.rest; split = sent.split; appended = Appends-kept old now new sent.done kept sent.appended; whole = sent.whole }
 
--- a text that was sent whole before what is there was kept
-pub sends_paid : (old now new : Option (List ℕ)) (failed again : Bool) (text : List ℕ) → failed ≡ false → Sends old now failed text → Keeps now new → Sends old new again text
-sends_paid old now new failed again text ok sent kept =
-    record { done = sent.done; rest = sent.rest; split = sent.split; appended = Appends-keeps old now new sent.done sent.appended kept; whole = λ _. sent.whole ok }
-
 -- bytes that were sent after others, as one text
 pub sends_more : (old now new : Option (List ℕ)) (was failed : Bool) (before bytes : List ℕ) → was ≡ false → Sends old now was before → Sends now new failed bytes → Sends old new failed (before ++ bytes)
 sends_more old now new was failed before bytes ok first then = record {

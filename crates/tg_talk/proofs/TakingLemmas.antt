@@ -62,9 +62,6 @@ pub end_of : (rest : Option (List ℕ)) (r : List ℕ) → IsAtEnd rest → rest
 end_of None r h e = absurd (none_some r e)
 end_of (Some x) r h e = sym (some_eq x r e) ∙ h
 
-pub all_here : (buffer r xs : List ℕ) → xs ≡ buffer ++ r → buffer ≡ [] → r ≡ [] → xs ≡ []
-all_here buffer r xs split empty over = split ∙ ap (λ b. b ++ r) empty ∙ over
-
 left_after : (new front : List ℕ) (rest : Option (List ℕ)) (r : List ℕ) → new ≡ front → rest ≡ Some r → prepend_known new rest ≡ Some (front ++ r)
 left_after new front rest r same e = rw (e, same) refl
 

@@ -68,14 +68,6 @@ told_bound actor line name seat bytes read (_, inr (told, _)) = no_memory refl r
 pub heard_hello : (s : Sitting) (line name : List ℕ) (t : Text) (seat : ℕ) → line_of line ≡ Ok (Act (event.Hello seat name)) → Tells (answer.Seat seat_fault.Bound) (text_of t) → Hears s line (heard.Answer t) s
 heard_hello s line name t seat read tells = heard_quiet s line t (told_bound s.actor line name seat (text_of t) read tells)
 
-told_once : (a : Answer) (text : List ℕ) → Tells a text → (text ≡ answer_line a) ⊎ (text ≡ fault_line wire.OutOfMemory)
-told_once a text (_, inl (told, _)) = inl told
-told_once a text (_, inr (told, _)) = inr told
-
-pub heard_bye : (s : Sitting) (line : List ℕ) (t : Text) (seat : ℕ) → line_of line ≡ Ok (Act (event.Bye seat)) → Tells answer.Bye (text_of t) → Hears s line (heard.Bye t) s
-heard_bye s line t seat read tells =
-    record { log = []; grown = sym (append-nil s.log); says = record { actor = s.actor; seat = seat; sits_there = refl; read = read; stays = refl; none = refl; told = told_once answer.Bye (text_of t) tells } }
-
 told_fault : (actor seat : ℕ) (line : List ℕ) (command : Command) (f : AskFault) (bytes : List ℕ) → f ≢ ask_fault.NoSeat → line_of line ≡ Ok (Act (event.Ask seat command)) → Tells (answer.Ask f) bytes
     → LineTold (Some actor) line (Some actor) [] bytes
 told_fault actor seat line command f bytes has_seat read (_, inl (told, _)) = not_entered actor seat command f has_seat refl read refl refl told

@@ -173,22 +173,11 @@ Bytes = Option (List ℕ)
 pub ends_bytes : (Refuses : List ℕ → List ℕ → Type 0) (v w : Bool) (n : ℕ) (e : End) (o : Bytes) → (v ≡ true → w ≡ true) → IfSome o (EndsBytes NoRefusal v n e) → IfSome o (EndsBytes Refuses w n e)
 ends_bytes Refuses v w n e o more h = weaker o (EndsBytes NoRefusal v n e) (EndsBytes Refuses w n e) h (λ xs end. ends_any Refuses v w n e (lines_of xs) more end)
 
-pub wanted_is_there : (o left : Bytes) (line : List ℕ) (more : Bool) → more ≡ true → IfSome o (Advances more line left) → IfSome o (Advances true line left)
-wanted_is_there o left line false is h = absurd (true≢false (sym is))
-wanted_is_there o left line true is h = h
-
-pub wanted_is_counted : (n m : ℕ) (more : Bool) → more ≡ true → m ≡ n + one_if more → m ≡ n + 1
-wanted_is_counted n m false is h = absurd (true≢false (sym is))
-wanted_is_counted n m true is h = h
-
 pub wanted_is_missing : (o left : Bytes) (line text : List ℕ) (n m : ℕ) (more : Bool) → more ≡ false → m ≡ n + one_if more → text ≡ fault_line wire.NotJson → IfSome o (Advances more line left)
     → IfSome o (EndsBytes NoRefusal true n (record { lines = m; text = text; fault = None }))
 wanted_is_missing o left line text n m true is count same h = absurd (true≢false is)
 wanted_is_missing o left line text n m false is count same h =
     weaker o (Advances false line left) (EndsBytes NoRefusal true n (record { lines = m; text = text; fault = None })) h (λ xs over. ends_missing NoRefusal n m xs text (omega arith) over same)
-
-pub wanted_is_read : (Says : List ℕ → Type 0) (n m : ℕ) (line : List ℕ) (o left : Bytes) → m ≡ n + 1 → m ≤ MOST_LINES → length line ≤ LONGEST_LINE → IfSome o (Advances true line left) → Says line → IfSome o (TakesRead Says n left)
-wanted_is_read Says n m line o left count most short h says = weaker o (Advances true line left) (TakesRead Says n left) h (λ xs takes. takes_read Says n m line left xs count most short takes says)
 
 pub wanted_is_refused : (Refuses : List ℕ → List ℕ → Type 0) (n m : ℕ) (line text : List ℕ) (o left : Bytes) → m ≡ n + 1 → m ≤ MOST_LINES → length line ≤ LONGEST_LINE → IfSome o (Advances true line left) → Refuses line text
     → IfSome o (EndsBytes Refuses true n (record { lines = m; text = text; fault = None }))
