@@ -53,7 +53,7 @@ LISTED = {
     # A talk, a run and an audit have buffers, and a line in place of each answer that has no room.
     ("tg_talk/src/write_line.rt", "buffered", "BufWriter::with_capacity", "AllocError"): 1,
     ("tg_talk/src/answering.rt", "text_of_answer", "write_answer_in", "WireFault::OutOfMemory"): 1,
-    ("tg_talk/src/answering.rt", "answer", "Said::Nothing", "TalkFault::OutOfMemory"): 1,
+    ("tg_talk/src/answering.rt", "answer", "Said::Nothing(then)", "TalkFault::OutOfMemory"): 1,
     ("tg_talk/src/telling.rt", "ask", "write_reply_in", "Heard::Nothing"): 1,
     ("tg_talk/src/talking.rt", "talk", "InputLines::new", "TalkFault::OutOfMemory"): 1,
     ("tg_talk/src/talking.rt", "respond", "Heard::Nothing", "Said::Nothing"): 1,
