@@ -1,14 +1,12 @@
 -- The answer to a line of a talk.
-use Rattle.std.proofs.Common.{◌≡◌, ◌≢◌, ◌⊎◌, ℕ, List, [], ◌∷◌, Option, None, Some, Ok, Err, inl, inr, refl, sym, ap, ◌∙◌, append-nil, true, false}
+use Rattle.std.proofs.Common.{◌≡◌, ◌≢◌, ℕ, List, [], ◌∷◌, Option, None, Some, Ok, Err, inl, inr, refl, sym, ap, ◌∙◌, append-nil, true, false}
 use Rattle.tg_rights.specs.declared.command.Command.{Command}
 use Rattle.tg_vault.specs.declared.event.Event.TheVariants as event
-use Rattle.tg_vault.specs.declared.event.Answer.{Answer}
 use Rattle.tg_vault.specs.declared.event.Answer.TheVariants as answer
 use Rattle.tg_vault.specs.declared.event.SeatFault.TheVariants as seat_fault
 use Rattle.tg_vault.specs.declared.event.AskFault.{AskFault}
 use Rattle.tg_vault.specs.declared.event.AskFault.TheVariants as ask_fault
 use Rattle.tg_share.specs.Sessions.{Sitting}
-use Rattle.tg_wire.specs.Answers.{answer_line}
 use Rattle.tg_wire.specs.Faults.{fault_line}
 use Rattle.tg_wire.specs.Lines.{line_of}
 use Rattle.tg_wire.specs.Reading as reading

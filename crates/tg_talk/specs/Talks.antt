@@ -27,20 +27,14 @@ use Rattle.tg_talk.specs.declared.fault.TalkFault.TheVariants as talk
 
 abbrev pub is_hello : Line → Bool
 is_hello (Act (event.Hello seat name)) = true
-is_hello (Act (event.Bye seat)) = false
-is_hello (Act (event.Ask seat command)) = false
-is_hello (Act (event.Shade seat)) = false
-is_hello (Act event.Collect) = false
-is_hello Cycle = false
+is_hello _ = false
 
 -- the line is of the shade or the collector, which no session asks for
 abbrev pub is_for_no_session : Line → Bool
-is_for_no_session (Act (event.Hello seat name)) = false
-is_for_no_session (Act (event.Bye seat)) = false
-is_for_no_session (Act (event.Ask seat command)) = false
 is_for_no_session (Act (event.Shade seat)) = true
 is_for_no_session (Act event.Collect) = true
 is_for_no_session Cycle = true
+is_for_no_session _ = false
 
 -- A line is answered by a text, and the talk goes on. `sits` is the principal, once a hello has succeeded, `then` the
 -- one after the line; `log` is the exchange that was entered for the line, if one was. A seat that a line names is not

@@ -114,6 +114,9 @@ pub struct Over<C> {
     pub finished: Finished,
 }
 
+/// The writer of answers, which are held back in its buffer.
+type Out<W> = Watched<BufWriter<W>>;
+
 /// The lines of the input, the `error` lines answered so far, and room for the lines of answers.
 #[derive(Drop)]
 struct LinesSoFar {
@@ -179,7 +182,7 @@ impl LinesSoFar {
         responder: &mut S,
         carried: S::Carried,
         reader: &mut Watched<D>,
-        writer: &mut Watched<BufWriter<W>>,
+        writer: &mut Out<W>,
     ) -> Turn<S::Carried>
         requires few { self.old.input.taken ≤ MOST_LINES }
         requires errors { self.old.errors ≤ self.old.input.taken }
@@ -224,7 +227,7 @@ impl LinesSoFar {
         &mut self,
         responder: &mut S,
         carried: S::Carried,
-        writer: &mut Watched<BufWriter<W>>,
+        writer: &mut Out<W>,
     ) -> Turn<S::Carried>
         requires few { self.old.input.taken ≤ MOST_LINES }
         requires errors { self.old.errors < self.old.input.taken }
@@ -257,13 +260,8 @@ impl LinesSoFar {
 
     /// Writes the line of a text, whose room is taken back; returns the writer's fault if it fails.
     #[inline(always)]
-    fn send<W: Write + Drop>(
-        &mut self,
-        writer: &mut Watched<BufWriter<W>>,
-        text: Text,
-    ) -> Option<TalkFault>
-        requires few { self.old.input.taken ≤ MOST_LINES }
-        requires errors { self.old.errors < self.old.input.taken }
+    fn send<W: Write + Drop>(&mut self, writer: &mut Out<W>, text: Text) -> Option<TalkFault>
+        requires errors { self.old.errors < MOST_LINES }
         requires writes { has_failed writer.old ≡ false }
         ensures input { self.new.input ≡ self.old.input }
         ensures errors { self.new.errors ≡ self.old.errors + one_if (is_wrong text) }
@@ -288,7 +286,7 @@ impl LinesSoFar {
 
     /// Writes a line, whose room is taken back.
     #[inline(always)]
-    fn send_kept<W: Write + Drop>(&mut self, writer: &mut Watched<BufWriter<W>>, line: Vec<u8>)
+    fn send_kept<W: Write + Drop>(&mut self, writer: &mut Out<W>, line: Vec<u8>)
         requires { has_failed writer.old ≡ false }
         ensures input { self.new.input ≡ self.old.input }
         ensures errors { self.new.errors ≡ self.old.errors }
@@ -299,13 +297,8 @@ impl LinesSoFar {
     }
 
     /// Writes the line of a text, and all that is held back; returns the writer's fault if it fails.
-    fn send_last<W: Write + Drop>(
-        &mut self,
-        writer: &mut Watched<BufWriter<W>>,
-        text: Text,
-    ) -> Option<TalkFault>
-        requires few { self.old.input.taken ≤ MOST_LINES }
-        requires errors { self.old.errors < self.old.input.taken }
+    fn send_last<W: Write + Drop>(&mut self, writer: &mut Out<W>, text: Text) -> Option<TalkFault>
+        requires errors { self.old.errors < MOST_LINES }
         requires writes { has_failed writer.old ≡ false }
         ensures input { self.new.input ≡ self.old.input }
         ensures errors { self.new.errors ≡ self.old.errors + one_if (is_wrong text) }
@@ -322,12 +315,11 @@ impl LinesSoFar {
     /// Ends at a line that is not answered but by an `error` line; returns the fault, unless the writer fails.
     fn refuse<W: Write + Drop>(
         &mut self,
-        writer: &mut Watched<BufWriter<W>>,
+        writer: &mut Out<W>,
         text: &[u8],
         fault: TalkFault,
     ) -> Option<TalkFault>
-        requires most { self.old.input.taken ≤ MOST_LINES + 1 }
-        requires errors { self.old.errors < self.old.input.taken }
+        requires errors { self.old.errors ≤ MOST_LINES }
         requires writes { has_failed writer.old ≡ false }
         ensures input { self.new.input ≡ self.old.input }
         ensures errors { self.new.errors ≡ self.old.errors + 1 }

@@ -1,7 +1,6 @@
 //! What no clause says: that sessions are given and their commands entered, that the lock is free where it is said to
 //! be, and the results of cases that were worked by hand.
-ghost use Rattle.std.specs.Prelude.{◌≡◌, []};
-ghost use Rattle.tg_share.specs.declared.locked.TheConstants.{PARTS};
+ghost use Rattle.tg_talk_tests.specs.Fresh.{IsFresh};
 
 use crate::sharing::{Tally, agreed, both, close, one, opened, play};
 use std::alloc::{AllocError, Global};
@@ -31,10 +30,7 @@ fn play_alone<L: Ledger, R: Wait + Clock>(
     blank: Blank,
     vault: Vault,
 ) -> Option<(u64, bool)>
-    requires name { blank.name ≡ L.name }
-    requires parts { blank.parts ≡ L.parts }
-    requires all { blank.parts ≡ PARTS }
-    requires empty { vault.history ≡ [] }
+    requires { IsFresh L.name L.parts blank vault.history }
 {
     let shared = Shared::<L>::new(alloc, blank, vault);
     let alice = play(rt, alloc, &shared, 0, "alice", ALONE, &Open);
@@ -63,10 +59,7 @@ fn collect_after<L: Ledger, R: Wait + Clock>(
     blank: Blank,
     vault: Vault,
 ) -> (Worked, Option<u64>)
-    requires name { blank.name ≡ L.name }
-    requires parts { blank.parts ≡ L.parts }
-    requires all { blank.parts ≡ PARTS }
-    requires empty { vault.history ≡ [] }
+    requires { IsFresh L.name L.parts blank vault.history }
 {
     let shared = Shared::<L>::new(alloc, blank, vault);
     let alice = play(rt, alloc, &shared, 0, "alice", &[CREATED, REMOVED], &Open);
@@ -160,10 +153,7 @@ fn is_as_counted<L: Ledger, R: Wait + Clock>(
     vault: Vault,
     tour: &Tour,
 ) -> bool
-    requires name { blank.name ≡ L.name }
-    requires parts { blank.parts ≡ L.parts }
-    requires all { blank.parts ≡ PARTS }
-    requires empty { vault.history ≡ [] }
+    requires { IsFresh L.name L.parts blank vault.history }
 {
     let shared = Shared::<L>::new(alloc, blank, vault);
     let (asked, collected) = (Tally::new(), Tally::new());
@@ -228,10 +218,7 @@ fn close_two<L: Ledger, R: Wait + Clock>(
     vault: Vault,
     order: HandedIn,
 ) -> Option<(Option<(u64, u64)>, bool)>
-    requires name { blank.name ≡ L.name }
-    requires parts { blank.parts ≡ L.parts }
-    requires all { blank.parts ≡ PARTS }
-    requires empty { vault.history ≡ [] }
+    requires { IsFresh L.name L.parts blank vault.history }
 {
     let shared = Shared::<L>::new(alloc, blank, vault);
     match play_two(rt, alloc, &shared) {
@@ -283,10 +270,7 @@ fn faults<L: Ledger, R: Wait>(
     blank: Blank,
     vault: Vault,
 ) -> Option<[Option<SeatFault>; 5]>
-    requires name { blank.name ≡ L.name }
-    requires parts { blank.parts ≡ L.parts }
-    requires all { blank.parts ≡ PARTS }
-    requires empty { vault.history ≡ [] }
+    requires { IsFresh L.name L.parts blank vault.history }
 {
     let shared = Shared::<L>::new(alloc, blank, vault);
     let Ok(alice) = shared.session(rt, alloc, 0, "alice") else {

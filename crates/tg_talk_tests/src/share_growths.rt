@@ -1,11 +1,12 @@
 //! Calls that lack memory and are made again: tests/faults/growths.py makes each allocation of these tests fail in
 //! turn. A session that gets another reply ends a test like preparations that lack memory; if memory ran out before,
 //! that shows.
-ghost use Rattle.std.specs.Prelude.{◌≡◌, []};
+ghost use Rattle.std.specs.Prelude.{◌≡◌};
 ghost use Rattle.tg_share.specs.declared.locked.TheConstants.{PARTS};
+ghost use Rattle.tg_talk_tests.specs.Fresh.{IsFresh};
 
 use crate::share::{ALONE, CREATED};
-use crate::sharing::{Tally, agreed, both, count_in, is_told, one, opened, play};
+use crate::sharing::{Tally, agreed, both, count_in, one, opened, play, told};
 use std::alloc::{AllocError, Global};
 use std::io::Print;
 use std::marker::Brand;
@@ -13,45 +14,24 @@ use std::rt::Clock;
 use std::sync::Wait;
 use std::sync::ledger::{Blank, Ledger};
 use tg_audit::{SeatLog, Settled, settle};
-use tg_share::{Closed, Ended, Gate, Open, PARTS, Session, Shared};
-use tg_tests::cases::{Ask, Asked, TAKING, Want, command, is_reply};
-use tg_vault::{AskFault, Vault};
+use tg_share::{Closed, Ended, Open, PARTS, Session, Shared};
+use tg_tests::cases::{Ask, Asked, TAKING, Want};
+use tg_vault::Vault;
 
-/// Whether the session's command gets this reply; none if memory runs out.
-fn is_told_at_once<L: Ledger, R: Wait + Clock, G: Gate>(
+/// Whether the session's commands get the replies of `ALONE`, line by line. If memory runs out it asks again.
+fn are_told_again<L: Ledger, R: Wait + Clock + Print>(
     rt: &R,
     alloc: Global,
     session: &mut Session<'_, L>,
-    ask: Ask,
-    want: Want,
-    gate: &G,
-) -> Result<Option<bool>, AllocError> {
-    let command = command(alloc, ask)?;
-    let rule = command.rule();
-    Ok(match session.submit(rt, command, gate) {
-        Ok(found) => Some(is_reply(found, rule, want)),
-        Err(AskFault::OutOfMemory) => None,
-        Err(_) => Some(false),
-    })
-}
-
-/// Whether the session's commands get these replies, line by line. If memory runs out it asks again.
-fn are_told_again<L: Ledger, R: Wait + Clock + Print, G: Gate>(
-    rt: &R,
-    alloc: Global,
-    session: &mut Session<'_, L>,
-    lines: &[Asked],
-    gate: &G,
+    gate: &Tally,
 ) -> Result<bool, AllocError> {
-    for (ask, want) in lines {
-        let is_good = match is_told_at_once(rt, alloc, session, *ask, *want, gate)? {
-            Some(is_good) => is_good,
-            None => {
-                let _ = rt.println("no memory");
-                is_told(rt, alloc, session, *ask, *want, gate)?
-            }
-        };
-        if !is_good {
+    for (ask, want) in ALONE {
+        let mut is_told = told(rt, alloc, session, *ask, *want, gate)?;
+        if is_told.is_none() {
+            let _ = rt.println("no memory");
+            is_told = told(rt, alloc, session, *ask, *want, gate)?;
+        }
+        if is_told != Some(true) {
             return Ok(false);
         }
     }
@@ -66,17 +46,14 @@ fn play_again<L: Ledger, R: Wait + Clock + Print>(
     blank: Blank,
     vault: Vault,
 ) -> Option<(u64, (u64, u64))>
-    requires name { blank.name ≡ L.name }
-    requires parts { blank.parts ≡ L.parts }
-    requires all { blank.parts ≡ PARTS }
-    requires empty { vault.history ≡ [] }
+    requires { IsFresh L.name L.parts blank vault.history }
 {
     let shared = Shared::<L>::new(alloc, blank, vault);
     let Ok(mut alice) = shared.session(rt, alloc, 0, "alice") else {
         return None;
     };
     let gate = Tally::new();
-    let told = are_told_again(rt, alloc, &mut alice, ALONE, &gate);
+    let told = are_told_again(rt, alloc, &mut alice, &gate);
     let alice = alice.end(rt);
     let alice = matches!(told, Ok(true)).then_some(alice);
     agreed(shared, one(alloc, alice)).zip(Some(gate.pauses()))
@@ -178,10 +155,7 @@ fn close_again<L: Ledger, R: Wait + Clock + Print>(
     blank: Blank,
     vault: Vault,
 ) -> Option<u64>
-    requires name { blank.name ≡ L.name }
-    requires parts { blank.parts ≡ L.parts }
-    requires all { blank.parts ≡ PARTS }
-    requires empty { vault.history ≡ [] }
+    requires { IsFresh L.name L.parts blank vault.history }
 {
     let shared = Shared::<L>::new(alloc, blank, vault);
     let alice = play(rt, alloc, &shared, 0, "alice", &[CREATED], &Open);

@@ -1,6 +1,5 @@
 //! Sessions that are held with their target, between the store and the shade.
-ghost use Rattle.std.specs.Prelude.{◌≡◌, []};
-ghost use Rattle.tg_share.specs.declared.locked.TheConstants.{PARTS};
+ghost use Rattle.tg_talk_tests.specs.Fresh.{IsFresh};
 
 use crate::share::{CREATED, REMOVED};
 use crate::sharing::{Board, Counts, Holds, agreed, both, one, opened, play, with_one};
@@ -86,10 +85,7 @@ fn hold_a_create<L: Ledger + Send + Sync, R: Threads + Wait + Clock + Sync>(
     blank: Blank,
     vault: Vault,
 ) -> (Option<u64>, u64)
-    requires name { blank.name ≡ L.name }
-    requires parts { blank.parts ≡ L.parts }
-    requires all { blank.parts ≡ PARTS }
-    requires empty { vault.history ≡ [] }
+    requires { IsFresh L.name L.parts blank vault.history }
 {
     let shared = Shared::<L>::new(alloc, blank, vault);
     let board = Board::new();
@@ -186,10 +182,7 @@ fn hold_a_target<L: Ledger + Send + Sync, R: Threads + Wait + Clock + Sync>(
     vault: Vault,
     seats: Seats,
 ) -> (Worked, Option<u64>)
-    requires name { blank.name ≡ L.name }
-    requires parts { blank.parts ≡ L.parts }
-    requires all { blank.parts ≡ PARTS }
-    requires empty { vault.history ≡ [] }
+    requires { IsFresh L.name L.parts blank vault.history }
 {
     let shared = Shared::<L>::new(alloc, blank, vault);
     let board = Board::new();

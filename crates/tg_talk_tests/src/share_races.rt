@@ -1,8 +1,7 @@
 //! A take, while the edge that it went by is removed, in the middle of a marking.
-ghost use Rattle.std.specs.Prelude.{◌≡◌, []};
-ghost use Rattle.tg_share.specs.declared.locked.TheConstants.{PARTS};
+ghost use Rattle.tg_talk_tests.specs.Fresh.{IsFresh};
 
-use crate::sharing::{Board, Holds, agreed, are_told, both, is_told, opened, play};
+use crate::sharing::{Board, Holds, agreed, are_told, both, opened, play};
 use std::alloc::{AllocError, Global};
 use std::marker::Brand;
 use std::rt::Clock;
@@ -40,6 +39,8 @@ const TAKEN: &[Asked] = &[
     (Ask::Read(3), Want::Text("hi")),
 ];
 
+const REMOVED: &[Asked] = &[(Ask::Remove("rw", 3), Want::Done)];
+
 /// Alice takes the right to read bob's document, is held with it until the collector has paused 101 times, and reads
 /// it.
 fn take_held<L: Ledger, R: Wait + Clock>(
@@ -69,7 +70,7 @@ fn remove_meanwhile<L: Ledger, R: Wait + Clock>(
     let worked = shared.collector(rt, 18, &Open);
     board.is_prepared.store(true, Ordering::SeqCst);
     board.wait(rt, |board| board.pauses.load(Ordering::SeqCst) > 0);
-    let removed = is_told(rt, alloc, &mut bob, Ask::Remove("rw", 3), Want::Done, &Open);
+    let removed = are_told(rt, alloc, &mut bob, REMOVED, &Open);
     board.is_released.store(true, Ordering::SeqCst);
     let ended = bob.end(rt);
     if matches!(made, Ok(true)) && matches!(removed, Ok(true)) {
@@ -118,10 +119,7 @@ fn race<L: Ledger + Send + Sync, R: Threads + Wait + Clock + Sync>(
     blank: Blank,
     vault: Vault,
 ) -> (Option<Worked>, Option<u64>)
-    requires name { blank.name ≡ L.name }
-    requires parts { blank.parts ≡ L.parts }
-    requires all { blank.parts ≡ PARTS }
-    requires empty { vault.history ≡ [] }
+    requires { IsFresh L.name L.parts blank vault.history }
 {
     let shared = Shared::<L>::new(alloc, blank, vault);
     let board = Board::new();

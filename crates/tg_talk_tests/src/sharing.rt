@@ -16,7 +16,7 @@ use tg_graph::OpenFault;
 use tg_rights::{Kind, Rights};
 use tg_share::{Closed, Ended, Gate, PARTS, Place, Session, Shared};
 use tg_tests::cases::{Ask, Asked, Opening, Want, command, config, is_reply};
-use tg_vault::Vault;
+use tg_vault::{AskFault, Vault};
 
 /// The vault of this configuration.
 pub fn opened(rt: &impl Abort, alloc: Global, opening: &Opening) -> Result<Vault, AllocError>
@@ -141,20 +141,21 @@ impl Gate for Tally {
     }
 }
 
-/// Whether the session's command gets this reply.
-pub fn is_told<L: Ledger, R: Wait + Clock, G: Gate>(
+/// Whether the session's command gets this reply; none if memory runs out.
+pub fn told<L: Ledger, R: Wait + Clock, G: Gate>(
     rt: &R,
     alloc: Global,
     session: &mut Session<'_, L>,
     ask: Ask,
     want: Want,
     gate: &G,
-) -> Result<bool, AllocError> {
+) -> Result<Option<bool>, AllocError> {
     let command = command(alloc, ask)?;
     let rule = command.rule();
     Ok(match session.submit(rt, command, gate) {
-        Ok(found) => is_reply(found, rule, want),
-        Err(_) => false,
+        Ok(found) => Some(is_reply(found, rule, want)),
+        Err(AskFault::OutOfMemory) => None,
+        Err(_) => Some(false),
     })
 }
 
@@ -167,7 +168,7 @@ pub fn are_told<L: Ledger, R: Wait + Clock, G: Gate>(
     gate: &G,
 ) -> Result<bool, AllocError> {
     for (ask, want) in lines {
-        if !is_told(rt, alloc, session, *ask, *want, gate)? {
+        if told(rt, alloc, session, *ask, *want, gate)? != Some(true) {
             return Ok(false);
         }
     }

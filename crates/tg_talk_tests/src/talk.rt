@@ -1,7 +1,7 @@
 //! Talks over memory: the answers, how the logs settle, and a reader and a writer that fail at each of their calls.
 ghost use Rattle.std.specs.Prelude.{◌≡◌, [], IfOk, IfSome, false};
-ghost use Rattle.tg_share.specs.declared.locked.TheConstants.{PARTS};
 ghost use Rattle.tg_talk.specs.Devices.{has_failed, owed};
+ghost use Rattle.tg_talk_tests.specs.Fresh.{IsFresh};
 
 use crate::sharing::agreed;
 use crate::talk_lines::FAILURES;
@@ -59,10 +59,7 @@ pub fn talk_alone<L: Ledger, D: Read, W: Write + Drop, R: Wait + Clock>(
     blank: Blank,
     vault: Vault,
 ) -> Came
-    requires name { blank.name ≡ L.name }
-    requires parts { blank.parts ≡ L.parts }
-    requires all { blank.parts ≡ PARTS }
-    requires empty { vault.history ≡ [] }
+    requires fresh { IsFresh L.name L.parts blank vault.history }
     requires reads { has_failed reader.old ≡ false }
     requires writes { has_failed writer.old ≡ false }
     requires paid { owed writer.old ≡ [] }

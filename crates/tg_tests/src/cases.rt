@@ -87,15 +87,9 @@ pub enum Want {
 /// What is asked for, and the reply.
 pub type Asked = (Ask, Want);
 
-/// The rights of the letters.
+/// The rights of the letters; none if they write no rights.
 pub fn rights_of(letters: &str) -> Rights {
-    let mut rights = Rights::empty();
-    for (letter, right) in b"rwtg".iter().zip(Rights::each().iter()) {
-        if letters.as_bytes().contains(letter) {
-            rights = rights.union(*right);
-        }
-    }
-    rights
+    letters.parse().unwrap_or(Rights::empty())
 }
 
 /// A word of these letters.
@@ -153,37 +147,17 @@ fn text(alloc: Global, content: &str) -> Result<Text, AllocError> {
     Text::new(String::from_str(alloc, content)?).map_err(|_| AllocError)
 }
 
-/// The command to make a vertex of this kind.
-fn create(kind: Kind, letters: &str) -> Command {
-    let rights = rights_of(letters);
-    Command::Create { kind, rights }
-}
-
 /// The command that is asked for.
 pub fn command(alloc: Global, ask: Ask) -> Result<Command, AllocError> {
     Ok(match ask {
-        Ask::Take(letters, over, from) => Command::Take {
-            rights: rights_of(letters),
-            over,
-            from,
-        },
-        Ask::Grant(letters, over, to) => Command::Grant {
-            rights: rights_of(letters),
-            over,
-            to,
-        },
-        Ask::Document(letters) => create(Kind::Document, letters),
-        Ask::Subject(letters) => create(Kind::Subject, letters),
-        Ask::Remove(letters, over) => Command::Remove {
-            rights: rights_of(letters),
-            over,
-        },
-        Ask::Read(over) => Command::Read { over },
-        Ask::Write(over, content) => Command::Write {
-            over,
-            text: text(alloc, content)?,
-        },
-        Ask::Look(at) => Command::Look { at },
+        Ask::Take(letters, over, from) => Command::take(rights_of(letters), over, from),
+        Ask::Grant(letters, over, to) => Command::grant(rights_of(letters), over, to),
+        Ask::Document(letters) => Command::create(Kind::Document, rights_of(letters)),
+        Ask::Subject(letters) => Command::create(Kind::Subject, rights_of(letters)),
+        Ask::Remove(letters, over) => Command::remove(rights_of(letters), over),
+        Ask::Read(over) => Command::read(over),
+        Ask::Write(over, content) => Command::write(over, text(alloc, content)?),
+        Ask::Look(at) => Command::look(at),
     })
 }
 

@@ -304,7 +304,7 @@ fn longest_is_written(
     let Ok(text) = Text::new("a".repeat(alloc, 4096)?) else {
         panic!(rt; "refused");
     };
-    let written = vault.command(0, Command::Write { over: 3, text });
+    let written = vault.command(0, Command::write(3, text));
     Ok(matches!(&written, Ok((1, Reply::Done))))
 }
 
@@ -315,7 +315,7 @@ fn is_longest(content: &str) -> bool {
 
 /// Whether the longest text is read, as the third entry.
 fn longest_is_read(vault: &mut Vault) -> bool {
-    match vault.command(0, Command::Read { over: 3 }) {
+    match vault.command(0, Command::read(3)) {
         Ok((2, Reply::Text(found))) => is_longest(found.get()),
         _ => false,
     }

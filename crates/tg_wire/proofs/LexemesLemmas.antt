@@ -76,38 +76,38 @@ plain_passes x xs k is =
 
 -- ---- runs of bytes
 
-space_run : (b : Bool) (x n : ℕ) (xs : List ℕ) → is_space x ≡ b → lex between xs ≡ lex between (drop n xs) → lex between (x ∷ xs) ≡ lex between (drop (cond b (1 + n) 0) (x ∷ xs))
+-- bytes over which the lexer stays in its mode and finds no lexeme
+module _ (mode : Mode) (test : ℕ → Bool) (stays : (x : ℕ) (xs : List ℕ) → test x ≡ true → lex mode (x ∷ xs) ≡ lex mode xs) where
+  lex_run : (b : Bool) (x n : ℕ) (xs : List ℕ) → test x ≡ b → lex mode xs ≡ lex mode (drop n xs) → lex mode (x ∷ xs) ≡ lex mode (drop (cond b (1 + n) 0) (x ∷ xs))
+  lex_run false x n xs e ih = refl
+  lex_run true x n xs e ih =
+      let next : suc n ≡ 1 + n = omega arith in
+      stays x xs e ∙ ih ∙ ap (λ k. lex mode (drop k (x ∷ xs))) next
+
+  lex-over : (xs : List ℕ) → lex mode xs ≡ lex mode (drop (prefix_len test xs) xs)
+  lex-over [] = refl
+  lex-over (x ∷ xs) = lex_run (test x) x (prefix_len test xs) xs refl (lex-over xs)
+
+space_over : (x : ℕ) (xs : List ℕ) → is_space x ≡ true → lex between (x ∷ xs) ≡ lex between xs
 unfolding lex
-space_run false x n xs e ih = refl
-space_run true x n xs e ih =
-    let next : suc n ≡ 1 + n = omega arith in
-    ap (λ c. lex_byte between c x xs (λ m. lex m xs)) (space_class x e) ∙ ih ∙ ap (λ k. lex between (drop k (x ∷ xs))) next
+space_over x xs e = ap (λ c. lex_byte between c x xs (λ m. lex m xs)) (space_class x e)
+
+digit_over : (x : ℕ) (xs : List ℕ) → is_ascii_digit x ≡ true → lex in_word (x ∷ xs) ≡ lex in_word xs
+unfolding lex
+digit_over x xs e = ap (λ c. lex_byte in_word c x xs (λ m. lex m xs)) (digit_class x e)
+
+plain_over : (x : ℕ) (xs : List ℕ) → is_plain x ≡ true → lex in_string (x ∷ xs) ≡ lex in_string xs
+unfolding lex
+plain_over x xs e = plain_passes x xs (λ m. lex m xs) e
 
 lex-spaces : (xs : List ℕ) → lex between xs ≡ lex between (drop (prefix_len is_space xs) xs)
-lex-spaces [] = refl
-lex-spaces (x ∷ xs) = space_run (is_space x) x (prefix_len is_space xs) xs refl (lex-spaces xs)
-
-digit_run : (b : Bool) (x n : ℕ) (xs : List ℕ) → is_ascii_digit x ≡ b → lex in_word xs ≡ lex in_word (drop n xs) → lex in_word (x ∷ xs) ≡ lex in_word (drop (cond b (1 + n) 0) (x ∷ xs))
-unfolding lex
-digit_run false x n xs e ih = refl
-digit_run true x n xs e ih =
-    let next : suc n ≡ 1 + n = omega arith in
-    ap (λ c. lex_byte in_word c x xs (λ m. lex m xs)) (digit_class x e) ∙ ih ∙ ap (λ k. lex in_word (drop k (x ∷ xs))) next
+lex-spaces = lex-over between is_space space_over
 
 lex-digits : (xs : List ℕ) → lex in_word xs ≡ lex in_word (drop (prefix_len is_ascii_digit xs) xs)
-lex-digits [] = refl
-lex-digits (x ∷ xs) = digit_run (is_ascii_digit x) x (prefix_len is_ascii_digit xs) xs refl (lex-digits xs)
-
-plain_run : (b : Bool) (x n : ℕ) (xs : List ℕ) → is_plain x ≡ b → lex in_string xs ≡ lex in_string (drop n xs) → lex in_string (x ∷ xs) ≡ lex in_string (drop (cond b (1 + n) 0) (x ∷ xs))
-unfolding lex
-plain_run false x n xs e ih = refl
-plain_run true x n xs e ih =
-    let next : suc n ≡ 1 + n = omega arith in
-    plain_passes x xs (λ m. lex m xs) e ∙ ih ∙ ap (λ k. lex in_string (drop k (x ∷ xs))) next
+lex-digits = lex-over in_word is_ascii_digit digit_over
 
 lex-plain : (xs : List ℕ) → lex in_string xs ≡ lex in_string (drop (prefix_len is_plain xs) xs)
-lex-plain [] = refl
-lex-plain (x ∷ xs) = plain_run (is_plain x) x (prefix_len is_plain xs) xs refl (lex-plain xs)
+lex-plain = lex-over in_string is_plain plain_over
 
 prepend-prepend : (a b : List ℕ) (r : Option (List ℕ)) → prepend a (prepend b r) ≡ prepend (a ++ b) r
 prepend-prepend a b None = refl

@@ -8,5 +8,6 @@ pub mod Lines
 pub mod Laws
 pub mod Faults
 pub mod Replies
+pub mod Runs
 pub mod Told
 pub mod Answers

@@ -3,7 +3,8 @@ use Rattle.std.specs.Prelude.{ℕ, List, [], ◌∷◌, ◌++◌}
 use Rattle.std.specs.Borrow.{Bor}
 use Rattle.serde_json.specs.Data.{Data, null, boolean, string, number, unsigned, array, Members, no_members, member}
 use Rattle.serde_json.specs.Written.{compact_text}
-use Rattle.tg_wire.specs.Replies.{rights_text, edges_data}
+use Rattle.tg_rights.specs.Written.{rights_text}
+use Rattle.tg_wire.specs.Replies.{edges_data}
 use Rattle.tg_wire.specs.declared.object_line.Told.{Told}
 use Rattle.tg_wire.specs.declared.object_line.Told.TheVariants as told
 

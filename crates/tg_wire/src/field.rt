@@ -1,7 +1,6 @@
 //! The fields of an object: none if a required one is absent, or if its value is bad.
 
-ghost use Rattle.std.specs.Prelude.{◌≡◌, ◌==◌, is_some, option_map, option_and_then, count_by};
-ghost use Rattle.std.specs.List.{list_all};
+ghost use Rattle.std.specs.Prelude.{◌≡◌, is_some, option_map, option_and_then};
 ghost use Rattle.serde_json.specs.Find.{as_array, get};
 ghost use Rattle.serde_json.specs.View.{view, items_view};
 ghost use Rattle.tg_wire.specs.Fields as fields;
@@ -76,74 +75,13 @@ pub(crate) fn list<'o>(object: &'o LineObject<'_>, key: Key) -> Option<&'o Vec<V
 pub(crate) fn rights(object: &LineObject<'_>) -> Option<Rights>
     ensures { result ≡ fields.rights_in (data_of object.now) }
 {
-    rights_of(string(object, Key::Rights)?)
+    string(object, Key::Rights)?.parse().ok()
 }
 
 pub(crate) fn rights_value(value: &Value) -> Option<Rights>
     ensures { result ≡ fields.rights_value (view value.now) }
 {
-    rights_of(value.as_str()?)
-}
-
-fn rights_of(text: &str) -> Option<Rights>
-    ensures { result ≡ fields.rights_of text.now }
-{
-    if are_rights(text) {
-        Some(rights_named(text))
-    } else {
-        None
-    }
-}
-
-fn are_rights(text: &str) -> bool
-    ensures { result ≡ fields.are_rights text.now }
-{
-    let letters = text.as_bytes();
-    are_letters(letters)
-        && count(letters, b'r') <= 1
-        && count(letters, b'w') <= 1
-        && count(letters, b't') <= 1
-        && count(letters, b'g') <= 1
-}
-
-fn are_letters(bytes: &[u8]) -> bool
-    ensures { result ≡ list_all fields.is_letter bytes.now }
-{
-    bytes
-        .iter()
-        .all(|c| *c == b'r' || *c == b'w' || *c == b't' || *c == b'g')
-}
-
-fn count(bytes: &[u8], letter: u8) -> usize
-    ensures { result ≡ count_by (λ c. c == letter) bytes.now }
-{
-    bytes.iter().filter(|c| **c == letter).count()
-}
-
-fn rights_named(text: &str) -> Rights
-    ensures { result ≡ fields.rights_named text.now }
-{
-    let letters = text.as_bytes();
-    let mut rights = Rights::empty();
-    if has_letter(letters, b'r') {
-        rights = rights.union(Rights::read());
-    }
-    if has_letter(letters, b'w') {
-        rights = rights.union(Rights::write());
-    }
-    if has_letter(letters, b't') {
-        rights = rights.union(Rights::take());
-    }
-    if has_letter(letters, b'g') {
-        rights = rights.union(Rights::grant());
-    }
-    rights
-}
-
-fn has_letter(bytes: &[u8], letter: u8) -> bool
-    ensures { result ≡ fields.has_letter letter bytes.now }
-{
-    bytes.iter().any(|c| *c == letter)
+    value.as_str()?.parse().ok()
 }
 
 pub(crate) fn kind(object: &LineObject<'_>) -> Option<Kind>

@@ -6,7 +6,7 @@ ghost use Rattle.json.specs.Tree.{json_tokens, members_tokens};
 ghost use Rattle.serde_json.specs.Data.{array, object};
 ghost use Rattle.serde_json.specs.Written.{outline, members_outline};
 ghost use Rattle.tg_wire.specs.Faults.{line_text};
-ghost use Rattle.tg_wire.specs.Replies.{rights_text, edge_data, edges_data};
+ghost use Rattle.tg_wire.specs.Replies.{edge_data, edges_data};
 ghost use Rattle.tg_wire.specs.Told.{led_text, told_data, told_members};
 
 use crate::line_room::LineRoom;
@@ -90,7 +90,7 @@ fn put(out: &mut Writer, told: &Told<'_>) -> Result<(), AllocError>
         Told::Truth(is_true) => out.boolean(*is_true),
         Told::Number(number) => out.u64(*number),
         Told::Word(text) => out.string(text),
-        Told::Letters(rights) => out.string(letters(*rights)),
+        Told::Letters(rights) => out.string(rights.letters()),
         Told::Edges(edges) => put_edges(out, edges),
     }
 }
@@ -112,34 +112,6 @@ fn put_edge(out: &mut Writer, serial: u64, rights: Rights) -> Result<(), AllocEr
 {
     out.begin_array()?;
     out.u64(serial)?;
-    out.string(letters(rights))?;
+    out.string(rights.letters())?;
     out.end_array()
-}
-
-/// The letters of the rights, in the order r, w, t, g.
-fn letters(rights: Rights) -> &'static str
-    ensures { result.now ≡ rights_text rights }
-{
-    let read = rights.contains(Rights::read());
-    let write = rights.contains(Rights::write());
-    let take = rights.contains(Rights::take());
-    let grant = rights.contains(Rights::grant());
-    match (read, write, take, grant) {
-        (false, false, false, false) => "",
-        (false, false, false, true) => "g",
-        (false, false, true, false) => "t",
-        (false, false, true, true) => "tg",
-        (false, true, false, false) => "w",
-        (false, true, false, true) => "wg",
-        (false, true, true, false) => "wt",
-        (false, true, true, true) => "wtg",
-        (true, false, false, false) => "r",
-        (true, false, false, true) => "rg",
-        (true, false, true, false) => "rt",
-        (true, false, true, true) => "rtg",
-        (true, true, false, false) => "rw",
-        (true, true, false, true) => "rwg",
-        (true, true, true, false) => "rwt",
-        (true, true, true, true) => "rwtg",
-    }
 }

@@ -1,7 +1,6 @@
 //! What is at a place of a line: spaces, a text without escapes, a whole number.
 
-ghost use Rattle.std.specs.Prelude.{◌≡◌, ◌<◌, ◌≤◌, ◌+◌, ◌-◌, ◌∷◌, ◌||◌, ◌==◌, ℕ, List, Some, IfSome, length, drop, get_or, map, false};
-ghost use Rattle.std.specs.List.{prefix_len};
+ghost use Rattle.std.specs.Prelude.{◌≡◌, ◌<◌, ◌≤◌, ◌∷◌, ◌||◌, ◌==◌, ℕ, List, Some, IfSome, length, drop, get_or, map, false};
 ghost use Rattle.std.specs.Char.{is_ascii_digit};
 ghost use Rattle.std.specs.Simd.Lanes.{mask_l};
 ghost use Rattle.std.specs.Str.Parse.{AllDigits};
@@ -12,6 +11,7 @@ ghost use Rattle.json.specs.Lex.{token, between, lex};
 ghost use Rattle.serde_json.specs.Data.{unsigned};
 ghost use Rattle.serde_json.specs.Read.{number_of};
 ghost use Rattle.tg_wire.specs.Keys.{key_text};
+ghost use Rattle.tg_wire.specs.Runs.{EndsRun};
 
 use crate::key::Key;
 use std::simd::prelude::*;
@@ -28,8 +28,7 @@ pub(crate) fn byte_at(bytes: &[u8], at: usize) -> u8
 #[inline(always)]
 pub(crate) fn spaces_end(bytes: &[u8], from: usize) -> usize
     requires { from ≤ length bytes.now }
-    ensures value { result ≡ from + prefix_len is_space (drop from bytes.now) }
-    ensures bound { result ≤ length bytes.now }
+    ensures { EndsRun is_space bytes.now from result }
 {
     // Most lines have no spaces.
     if from >= bytes.len() || bytes[from] > b' ' {
@@ -54,8 +53,7 @@ fn is_space(byte: u8) -> bool
 #[inline(never)]
 fn plain_end(bytes: &[u8], from: usize) -> usize
     requires { from ≤ length bytes.now }
-    ensures value { result ≡ from + prefix_len is_plain (drop from bytes.now) }
-    ensures bound { result ≤ length bytes.now }
+    ensures { EndsRun is_plain bytes.now from result }
 {
     let mut at = from;
     while bytes.len() - at >= 16 {
@@ -82,8 +80,7 @@ fn stops(bytes: u8x16) -> u64
 #[inline(always)]
 fn plain_end_slowly(bytes: &[u8], from: usize) -> usize
     requires { from ≤ length bytes.now }
-    ensures value { result ≡ from + prefix_len is_plain (drop from bytes.now) }
-    ensures bound { result ≤ length bytes.now }
+    ensures { EndsRun is_plain bytes.now from result }
 {
     let mut at = from;
     while at < bytes.len() && bytes[at] != b'"' && bytes[at] != b'\\' && bytes[at] >= b' ' {
@@ -95,8 +92,7 @@ fn plain_end_slowly(bytes: &[u8], from: usize) -> usize
 #[inline(always)]
 fn digits_end(bytes: &[u8], from: usize) -> usize
     requires { from ≤ length bytes.now }
-    ensures value { result ≡ from + prefix_len is_ascii_digit (drop from bytes.now) }
-    ensures bound { result ≤ length bytes.now }
+    ensures { EndsRun is_ascii_digit bytes.now from result }
 {
     let mut at = from;
     while at < bytes.len() && bytes[at].is_ascii_digit() {

@@ -3,7 +3,7 @@
 ghost use Rattle.std.specs.Prelude.{◌≡◌, IfOk, codes};
 ghost use Rattle.serde_json.specs.Data.{object, member, no_members, string, number, unsigned};
 ghost use Rattle.tg_wire.specs.Faults.{line_text, seat_fault_text as text_of_seat_fault, ask_fault_text as text_of_ask_fault};
-ghost use Rattle.tg_wire.specs.Replies.{which_text as text_of_which, denied_data, reply_line};
+ghost use Rattle.tg_wire.specs.Replies.{which_text as text_of_which, rule_text, denied_data, reply_line};
 ghost use Rattle.tg_wire.specs.Answers.{phase_text as text_of_phase, denied_step_data, noted_data, answer_line, swept_line, verdict_line};
 
 use crate::line_room::LineRoom;
@@ -170,34 +170,17 @@ fn denied_step_line(
     ensures { IfOk result (λ line. line.items ≡ line_text (denied_step_data step rule cause)) }
 {
     let denied = Told::Word(of_command(rule).word);
-    let step = Told::Number(step);
     let verdict = Told::Word("step denied");
     match cause {
-        Cause::Empty => object_line(
-            room,
-            &[
-                ("cause", Told::Word("empty")),
-                ("denied", denied),
-                ("step", step),
-                ("verdict", verdict),
-            ],
-        ),
-        Cause::NotDistinct => object_line(
-            room,
-            &[
-                ("cause", Told::Word("not distinct")),
-                ("denied", denied),
-                ("step", step),
-                ("verdict", verdict),
-            ],
-        ),
+        Cause::Empty => denied_step_for(room, step, rule, "empty"),
+        Cause::NotDistinct => denied_step_for(room, step, rule, "not distinct"),
         Cause::Missing { from, to, rights } => object_line(
             room,
             &[
                 ("denied", denied),
                 ("from", Told::Number(from)),
                 ("missing", Told::Letters(rights)),
-                ("step", step),
+                ("step", Told::Number(step)),
                 ("to", Told::Number(to)),
                 ("verdict", verdict),
             ],
@@ -207,12 +190,33 @@ fn denied_step_line(
             &[
                 ("cause", Told::Word("not document")),
                 ("denied", denied),
-                ("step", step),
+                ("step", Told::Number(step)),
                 ("verdict", verdict),
                 ("vertex", Told::Number(vertex)),
             ],
         ),
     }
+}
+
+/// The line of a step that is denied for a cause with no field but its word.
+fn denied_step_for(
+    room: &mut LineRoom,
+    step: u64,
+    rule: Rule,
+    cause: &str,
+) -> Result<Vec<u8>, AllocError>
+    ensures { IfOk result (λ line. line.items ≡ line_text (object (member (codes "cause") (string cause.now) (member (codes "denied") (string (rule_text rule))
+        (member (codes "step") (number (unsigned step)) (member (codes "verdict") (string (codes "step denied")) no_members)))))) }
+{
+    object_line(
+        room,
+        &[
+            ("cause", Told::Word(cause)),
+            ("denied", Told::Word(of_command(rule).word)),
+            ("step", Told::Number(step)),
+            ("verdict", Told::Word("step denied")),
+        ],
+    )
 }
 
 fn noted_line(room: &mut LineRoom, note: Note) -> Result<Vec<u8>, AllocError>

@@ -3,17 +3,14 @@ use lib.Count.{count_trailing_zeros}
 use Rattle.tg_wire.proofs.StopsLemmas.{run_bound, run_through, run_stops}
 use Rattle.tg_wire.proofs.scan.plain_end.Goals as goal
 
-pub returns-then-found-ne0-clause-value : goal.returns-then-found-ne0-clause-value
-returns-then-found-ne0-clause-value c =
+pub returns-then-found-ne0 : goal.returns-then-found-ne0
+returns-then-found-ne0 c =
     let found = c.stops-found in
     let run = run_stops c.args.bytes.now c.loop-at.at 16 (omega arith) (omega arith) (omega (arith, found.ensures)) ∙ ap (count_trailing_zeros 64) (sym found.ensures) in
-    omega (arith, run, c.loop-at.invariant.0)
-
-pub returns-then-found-ne0-clause-bound : goal.returns-then-found-ne0-clause-bound
-returns-then-found-ne0-clause-bound c =
-    let found = c.stops-found in
-    let run = run_stops c.args.bytes.now c.loop-at.at 16 (omega arith) (omega arith) (omega (arith, found.ensures)) ∙ ap (count_trailing_zeros 64) (sym found.ensures) in
-    omega (arith, run, run_bound c.args.bytes.now c.loop-at.at c.loop-at.invariant.1)
+    record {
+      value = omega (arith, run, c.loop-at.invariant.0);
+      bound = omega (arith, run, run_bound c.args.bytes.now c.loop-at.at c.loop-at.invariant.1);
+    }
 
 pub loop-at-preserved : goal.loop-at-preserved
 loop-at-preserved c =
