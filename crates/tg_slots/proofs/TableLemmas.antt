@@ -104,11 +104,11 @@ sound-push_grey t i s w =
     let now : mark_of (get_or (recoloured t i Grey) i None) ≡ Has Grey = mark_here t.slots i _ within ∙ mark_coloured (slot t i) Grey White w in
     let white : Contains t.grey i → ⊥ = λ l. let old = s.listed_grey i l in (cc) in
     sound-recoloured t i White Grey (i ∷ t.grey) s w
-      (λ j h. elim h [
-        | inl e ↦ (omega arith, rw e now)
-        | inr l ↦ grey_stays t i Grey s j l (λ e. white (rw (← e) l))
-      ])
-      (white, s.grey_once)
+    (λ j h. elim h [
+      | inl e ↦ (omega arith, rw e now)
+      | inr l ↦ grey_stays t i Grey s j l (λ e. white (rw (← e) l))
+    ])
+    (white, s.grey_once)
 
 -- A grey slot is no longer waiting.
 pub sound-pop_grey : (t : Table) (i : ℕ) (rest : List ℕ) → IsSound t → t.grey ≡ i ∷ rest → IsSound (record t { grey = rest })

@@ -83,6 +83,3 @@ Agree [] [] = Unit {0}
 Agree [] (f ∷ fs) = ⊥
 Agree (t ∷ ts) [] = ⊥
 Agree (t ∷ ts) (f ∷ fs) = (is_coloured t ≡ is_taken f) × Agree ts fs
-
-abbrev pub IsShelf : Inside → Type 0
-IsShelf s = Agree s.tints.items s.forms.items

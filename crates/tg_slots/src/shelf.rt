@@ -49,11 +49,11 @@ impl Model for Shelf {
 
     ghost Value = { Shelved };
 
-    ghost use Rattle.tg_slots.specs.Shelf.{shelved, IsShelf};
+    ghost use Rattle.tg_slots.specs.Shelf.{shelved, Agree};
 
     ghost view = { shelved };
 
-    ghost invariant = { IsShelf };
+    ghost invariant = { λ s. Agree s.tints.items s.forms.items };
 }
 
 impl Tint {
