@@ -6,7 +6,7 @@ use Rattle.tg_cells.specs.declared.pool.Cell.{Cell}
 use Rattle.tg_cells.specs.declared.pool.Hop.{Hop}
 use Rattle.tg_cells.specs.declared.pool.Rest.{Rest}
 use Rattle.tg_cells.specs.Chain.{cell_at, with_next, with_previous}
-use Rattle.tg_cells.specs.Pool.{all_whole, hop_at, leading, preceded, rest_at, whole}
+use Rattle.tg_cells.specs.Pool.{all_whole, hop_at, rest_at, whole}
 
 -- Both arrays have as many cells as the list.
 pub hops_length : (hs : List Hop) (rs : List Rest) → length hs ≡ length rs → length (all_whole hs rs) ≡ length hs
@@ -69,18 +69,16 @@ rest_set (x ∷ hs) [] n r k = absurd (omega (arith, k))
 rest_set (x ∷ hs) (y ∷ rs) zero r k = refl
 rest_set (x ∷ hs) (y ∷ rs) (suc n) r k = ap (λ (l : List Cell). whole x y ∷ l) (rest_set hs rs n r (omega (arith, k)))
 
--- A neighbour is written.
-pub next_set : (hs : List Hop) (rs : List Rest) (n next : ℕ) → length hs ≡ length rs → all_whole (leading hs n next) rs ≡ with_next (all_whole hs rs) n next
-next_set hs rs n next k =
-    hop_set hs rs n (record (hop_at hs n) { next = next }) k
-    ∙ ap (λ (c : Cell). set (all_whole hs rs) n (record c { next = next })) (cell_there hs rs n k)
+-- A cell that was read gets another neighbour.
+pub next_set : (hs : List Hop) (rs : List Rest) (n next : ℕ) (h : Hop) → length hs ≡ length rs → n < length (all_whole hs rs) → h ≡ get_or hs n h
+    → all_whole (set hs n (record h { next = next })) rs ≡ with_next (all_whole hs rs) n next
+next_set hs rs n next h k w read = hop_set hs rs n (record h { next = next }) k ∙ ap (λ (c : Cell). set (all_whole hs rs) n (record c { next = next })) (hop_read hs rs n h k w read)
 
-pub previous_set : (hs : List Hop) (rs : List Rest) (n previous : ℕ) → length hs ≡ length rs → all_whole hs (preceded rs n previous) ≡ with_previous (all_whole hs rs) n previous
-previous_set hs rs n previous k =
-    rest_set hs rs n (record (rest_at rs n) { previous = previous }) k
-    ∙ ap (λ (c : Cell). set (all_whole hs rs) n (record c { previous = previous })) (cell_there hs rs n k)
+pub previous_set : (hs : List Hop) (rs : List Rest) (n previous : ℕ) (r : Rest) → length hs ≡ length rs → n < length (all_whole hs rs) → r ≡ get_or rs n r
+    → all_whole hs (set rs n (record r { previous = previous })) ≡ with_previous (all_whole hs rs) n previous
+previous_set hs rs n previous r k w read = rest_set hs rs n (record r { previous = previous }) k ∙ ap (λ (c : Cell). set (all_whole hs rs) n (record c { previous = previous })) (rest_read hs rs n r k w read)
 
--- A cell that was read gets another owner and another one after it, or other rights.
+-- It gets another owner and another one after it, or other rights.
 pub released : (hs : List Hop) (rs : List Rest) (n owners next : ℕ) (h : Hop) (r : Rest) → length hs ≡ length rs → n < length (all_whole hs rs) → h ≡ get_or hs n h → r ≡ get_or rs n r
     → all_whole (set hs n (record h { next = next })) (set rs n (record r { owner = owners })) ≡ set (all_whole hs rs) n (record (cell_at (all_whole hs rs) n) { owner = owners; next = next })
 released hs rs n owners next h r k w read read' =
