@@ -1,5 +1,6 @@
 -- Two arrays as one list of slots: what is read of it, and what each write leaves.
-use Rattle.std.proofs.Common.{◌≡◌, ◌≢◌, ℕ, zero, suc, ◌<◌, ◌≤◌, List, [], ◌∷◌, ◌++◌, length, Some, None, true, sym, ◌∙◌, ap, refl, set, get_or, arith}
+use Rattle.std.proofs.Common.{◌≡◌, ◌≢◌, ℕ, zero, suc, ◌<◌, ◌≤◌, List, [], ◌∷◌, ◌++◌, length, Some, None, true, sym, ◌∙◌, ap, refl, set, get_or, min, arith, vec_capacity}
+use Rattle.std.proofs.Math.Nat.{le-min, min-le_left, min-le_right}
 use Rattle.std.specs.List.{slice_get}
 use Rattle.tg_slots.specs.declared.colour.Colour.{Colour}
 use Rattle.tg_slots.specs.declared.colour.Colour.TheVariants.{White, Grey, Black}
@@ -25,6 +26,22 @@ forms_length [] [] k = refl
 forms_length [] (f ∷ fs) k = absurd k
 forms_length (t ∷ ts) [] k = absurd k
 forms_length (t ∷ ts) (f ∷ fs) k = let rest = forms_length ts fs k.1 in omega (arith, rest)
+
+-- With room for one more slot, both arrays have room for it; and the room grows with theirs.
+pub record HasRoom (s : Inside) : Type 0 where
+  pub tints : length s.tints.items < vec_capacity s.tints
+  pub forms : length s.forms.items < vec_capacity s.forms
+
+pub both_room : (s : Inside) → Agree s.tints.items s.forms.items → length (all_linked s.tints.items s.forms.items) < min (vec_capacity s.tints) (vec_capacity s.forms) → HasRoom s
+both_room s k room =
+    let ts = tints_length s.tints.items s.forms.items k in
+    let fs = forms_length s.tints.items s.forms.items k in
+    let left = min-le_left (vec_capacity s.tints) (vec_capacity s.forms) in
+    let right = min-le_right (vec_capacity s.tints) (vec_capacity s.forms) in
+    record { tints = omega arith; forms = omega arith }
+
+pub room_grows : (a b c d : ℕ) → a ≤ c → b ≤ d → min a b ≤ min c d
+room_grows a b c d tints forms = let left = min-le_left a b in let right = min-le_right a b in le-min (omega arith) (omega arith)
 
 -- The colour in a slot is that of its tint.
 one_colour : (t : Tint) (f : Form) → is_coloured t ≡ is_taken f → colour_of t ≡ in_slot (λ o. o.colour) (linked t f).occupant

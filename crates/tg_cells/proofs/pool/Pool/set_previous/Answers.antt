@@ -1,20 +1,12 @@
-use Rattle.std.proofs.Common.{List, ap, arith, min, sym, vec_capacity}
-use Rattle.std.proofs.lemmas.List.{set_past}
-use Rattle.tg_cells.specs.declared.pool.Cell.{Cell}
-use Rattle.tg_cells.specs.Pool.{all_whole}
-use Rattle.tg_cells.proofs.PoolLemmas.{rests_length, previous_set}
+use Rattle.std.proofs.Common.{arith}
+use Rattle.tg_cells.proofs.PoolLemmas.{none_set, previous_set}
 use Rattle.tg_cells.proofs.pool.Pool.set_previous.Goals as goal
 
 pub returns-then-number-len : goal.returns-then-number-len
-returns-then-number-len c =
-    let within = rw c.len.ensures at c.if-number-len.true in
-    let same = rests_length c.self.inside.hops.items c.self.inside.rests.items c.self.invariant in
-    rw (← c.self.view_is)
-    (ap (λ (l : List Cell). record { items = l; room = min (vec_capacity c.self.inside.hops) (vec_capacity c.self.inside.rests) }) (previous_set c.self.inside.hops.items c.self.inside.rests.items c.args.number c.args.previous c.index_mut.result.now c.self.invariant (omega arith) c.index_mut.ensures.value))
+returns-then-number-len c = rw (← c.self.view_is) (previous_set c.self.inside c.args.number c.args.previous c.index_mut.result.now c.self.invariant (rw c.len.ensures at c.if-number-len.true) c.index_mut.ensures.value)
 
 pub returns-else-number-len : goal.returns-else-number-len
 returns-else-number-len c =
     let past = rw c.len.ensures at c.if-number-len.false in
-    let same = rests_length c.self.inside.hops.items c.self.inside.rests.items c.self.invariant in
-    rw (← c.self.view_is)
-    (ap (λ (l : List Cell). record { items = l; room = min (vec_capacity c.self.inside.hops) (vec_capacity c.self.inside.rests) }) (sym (set_past (all_whole c.self.inside.hops.items c.self.inside.rests.items) c.args.number _ (omega arith))))
+    let same = c.self.invariant in
+    rw (← c.self.view_is) (none_set c.self.inside c.args.number _ same (omega arith))
