@@ -21,16 +21,11 @@ pub rests_length : (hs : List Hop) (rs : List Rest) → length hs ≡ length rs 
 rests_length hs rs k = hops_length hs rs k ∙ k
 
 -- With room for one more cell, both arrays have room for it; and the room grows with theirs.
-pub record HasRoom (s : Inside) : Type 0 where
-  pub hops : length s.hops.items < vec_capacity s.hops
-  pub rests : length s.rests.items < vec_capacity s.rests
-
-pub both_room : (s : Inside) → length s.hops.items ≡ length s.rests.items → length (all_whole s.hops.items s.rests.items) < min (vec_capacity s.hops) (vec_capacity s.rests) → HasRoom s
+pub both_room : (s : Inside) → length s.hops.items ≡ length s.rests.items → length (all_whole s.hops.items s.rests.items) < min (vec_capacity s.hops) (vec_capacity s.rests)
+    → (length s.hops.items < vec_capacity s.hops) × (length s.rests.items < vec_capacity s.rests)
 both_room s k room =
     let same = hops_length s.hops.items s.rests.items k in
-    let hops = min-le_left (vec_capacity s.hops) (vec_capacity s.rests) in
-    let rests = min-le_right (vec_capacity s.hops) (vec_capacity s.rests) in
-    record { hops = omega arith; rests = omega arith }
+    (omega (arith, room, same, min-le_left (vec_capacity s.hops) (vec_capacity s.rests)), omega (arith, room, same, k, min-le_right (vec_capacity s.hops) (vec_capacity s.rests)))
 
 pub room_grows : (a b c d : ℕ) → a ≤ c → b ≤ d → min a b ≤ min c d
 room_grows a b c d first second = let left = min-le_left a b in let right = min-le_right a b in le-min (omega arith) (omega arith)
@@ -91,16 +86,14 @@ rest_set (x ∷ hs) (y ∷ rs) (suc n) r k = ap (λ (l : List Cell). whole x y �
 pub next_set : (s : Inside) (n next : ℕ) (h : Hop) → length s.hops.items ≡ length s.rests.items → n < vec_len s.hops → h ≡ get_or s.hops.items n h
     → pooled (record s { hops = with_item s.hops n (record h { next = next }) }) ≡ record (pooled s) { items = with_next (pooled s).items n next }
 next_set s n next h k within read =
-    let size = hops_length s.hops.items s.rests.items k in
     ap (λ (l : List Cell). record (pooled s) { items = l }) (hop_set s.hops.items s.rests.items n (record h { next = next }) k
-    ∙ ap (λ (c : Cell). set (pooled s).items n (record c { next = next })) (hop_read s.hops.items s.rests.items n h k (omega arith) read))
+    ∙ ap (λ (c : Cell). set (pooled s).items n (record c { next = next })) (hop_read s.hops.items s.rests.items n h k (omega (arith, within, hops_length s.hops.items s.rests.items k)) read))
 
 pub previous_set : (s : Inside) (n previous : ℕ) (r : Rest) → length s.hops.items ≡ length s.rests.items → n < vec_len s.rests → r ≡ get_or s.rests.items n r
     → pooled (record s { rests = with_item s.rests n (record r { previous = previous }) }) ≡ record (pooled s) { items = with_previous (pooled s).items n previous }
 previous_set s n previous r k within read =
-    let size = rests_length s.hops.items s.rests.items k in
     ap (λ (l : List Cell). record (pooled s) { items = l }) (rest_set s.hops.items s.rests.items n (record r { previous = previous }) k
-    ∙ ap (λ (c : Cell). set (pooled s).items n (record c { previous = previous })) (rest_read s.hops.items s.rests.items n r k (omega arith) read))
+    ∙ ap (λ (c : Cell). set (pooled s).items n (record c { previous = previous })) (rest_read s.hops.items s.rests.items n r k (omega (arith, within, rests_length s.hops.items s.rests.items k)) read))
 
 -- A number past the cells: nothing is written.
 pub none_set : (s : Inside) (n : ℕ) (c : Cell) → length s.hops.items ≡ length s.rests.items → vec_len s.hops ≤ n → pooled s ≡ record (pooled s) { items = set (pooled s).items n c }

@@ -28,17 +28,12 @@ forms_length (t ∷ ts) [] k = absurd k
 forms_length (t ∷ ts) (f ∷ fs) k = let rest = forms_length ts fs k.1 in omega (arith, rest)
 
 -- With room for one more slot, both arrays have room for it; and the room grows with theirs.
-pub record HasRoom (s : Inside) : Type 0 where
-  pub tints : length s.tints.items < vec_capacity s.tints
-  pub forms : length s.forms.items < vec_capacity s.forms
-
-pub both_room : (s : Inside) → Agree s.tints.items s.forms.items → length (all_linked s.tints.items s.forms.items) < min (vec_capacity s.tints) (vec_capacity s.forms) → HasRoom s
+pub both_room : (s : Inside) → Agree s.tints.items s.forms.items → length (all_linked s.tints.items s.forms.items) < min (vec_capacity s.tints) (vec_capacity s.forms)
+    → (length s.tints.items < vec_capacity s.tints) × (length s.forms.items < vec_capacity s.forms)
 both_room s k room =
     let ts = tints_length s.tints.items s.forms.items k in
     let fs = forms_length s.tints.items s.forms.items k in
-    let left = min-le_left (vec_capacity s.tints) (vec_capacity s.forms) in
-    let right = min-le_right (vec_capacity s.tints) (vec_capacity s.forms) in
-    record { tints = omega arith; forms = omega arith }
+    (omega (arith, room, ts, min-le_left (vec_capacity s.tints) (vec_capacity s.forms)), omega (arith, room, fs, min-le_right (vec_capacity s.tints) (vec_capacity s.forms)))
 
 pub room_grows : (a b c d : ℕ) → a ≤ c → b ≤ d → min a b ≤ min c d
 room_grows a b c d tints forms = let left = min-le_left a b in let right = min-le_right a b in le-min (omega arith) (omega arith)

@@ -2,10 +2,10 @@ use Rattle.tg_cells.proofs.PoolLemmas.{appended, both_room, room_grows}
 use Rattle.tg_cells.proofs.pool.Pool.push.Goals as goal
 
 pub append-requires : goal.append-requires
-append-requires c = (both_room c.self.inside c.self.invariant (rw (← c.self.view_is) at c.requires)).hops
+append-requires c = (both_room c.self.inside c.self.invariant (rw (← c.self.view_is) at c.requires)).0
 
 pub append-requires-2 : goal.append-requires-2
-append-requires-2 c = (both_room c.self.inside c.self.invariant (rw (← c.self.view_is) at c.requires)).rests
+append-requires-2 c = (both_room c.self.inside c.self.invariant (rw (← c.self.view_is) at c.requires)).1
 
 pub returns-clause-items : goal.returns-clause-items
 returns-clause-items c =
