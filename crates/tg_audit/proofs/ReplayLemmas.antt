@@ -84,15 +84,15 @@ left_at_start limits first G es ends same graph legal =
     let R : Protection → Type 0 = λ F. EntryRun limits F es ends in
     record { ends = ends; run = subst R (sym same) legal.graphs; graph = graph; subjects = λ v s. (let S : Protection → Type 0 = λ F. IsSubject F v in subst S (sym same) s); actors = legal.actors }
 
-pub left_subject : (limits : Limits) (first G : Protection) (es : List Entry) (n : ℕ) (e : Entry) → IsLeft limits first G (drop n es) → slice_get es n ≡ Some e → IsSubject G e.actor
-left_subject limits first G es n e left at =
-    let actors : All (λ (x : Entry). IsSubject first x.actor) (e ∷ drop (suc n) es) = subst (All (λ (x : Entry). IsSubject first x.actor)) (drop_some es n e at) left.actors in
-    left.subjects e.actor (All-head (λ (x : Entry). IsSubject first x.actor) e (drop (suc n) es) actors)
+pub left_subject : (v : Contents) (G : Protection) (n : ℕ) (e : Entry) → IsLeft v.limits v.opening G (drop n v.history) → slice_get v.history n ≡ Some e → IsSubject G e.actor
+left_subject v G n e left at =
+    let actors : All (λ (x : Entry). IsSubject v.opening x.actor) (e ∷ drop (suc n) v.history) = subst (All (λ (x : Entry). IsSubject v.opening x.actor)) (drop_some v.history n e at) left.actors in
+    left.subjects e.actor (All-head (λ (x : Entry). IsSubject v.opening x.actor) e (drop (suc n) v.history) actors)
 
-pub left_permitted : (limits : Limits) (first G : Protection) (es : List Entry) (n : ℕ) (e : Entry) → IsLeft limits first G (drop n es) → slice_get es n ≡ Some e → Permitted limits G e.actor e.command e.outcome
-left_permitted limits first G es n e left at =
-    let run : EntryRun limits G (e ∷ drop (suc n) es) left.ends = (let R : List Entry → Type 0 = λ xs. EntryRun limits G xs left.ends in subst R (drop_some es n e at) left.run) in
-    run.1.0
+pub left_permitted : (v : Contents) (G : Protection) (n : ℕ) (e : Entry) → IsLeft v.limits v.opening G (drop n v.history) → slice_get v.history n ≡ Some e → (limits : Limits) × Permitted limits G e.actor e.command e.outcome
+left_permitted v G n e left at =
+    let run : EntryRun v.limits G (e ∷ drop (suc n) v.history) left.ends = (let R : List Entry → Type 0 = λ xs. EntryRun v.limits G xs left.ends in subst R (drop_some v.history n e at) left.run) in
+    (v.limits, run.1.0)
 
 pub left_more : (limits : Limits) (first G H : Protection) (es : List Entry) (n : ℕ) (e : Entry) → IsLeft limits first G (drop n es) → slice_get es n ≡ Some e → H ≡ next_graph G e.actor e.command e.outcome → IsLeft limits first H (drop (n + 1) es)
 left_more limits first G H es n e left at graph =
@@ -132,16 +132,19 @@ further_next : (v : Contents) (G H : Protection) (n : ℕ) (e : Entry) (r : Repl
     drop n (replies_of v.opening v.history) ≡ r ∷ replies_of H (drop (suc n) v.history)
 further_next v G H n e r so_far at reply graph = so_far.further ∙ rw (drop_some v.history n e at, reply, graph) refl
 
-pub replied_next : (v : Contents) (G H : Protection) (n : ℕ) (e : Entry) (r : Reply) → IsReplayed v G n → slice_get v.history n ≡ Some e → r ≡ reply_of G e.actor e.command e.outcome → H ≡ next_graph G e.actor e.command e.outcome →
-    slice_get (replies_of v.opening v.history) n ≡ Some r
-replied_next v G H n e r so_far at reply graph =
-    sym (drop_first (replies_of v.opening v.history) n) ∙ ap (λ rs. slice_get rs 0) (further_next v G H n e r so_far at reply graph)
+pub record Replays (v : Contents) (H : Protection) (n : ℕ) (r : Reply) : Type 0 where
+  pub told : slice_get (replies_of v.opening v.history) n ≡ Some r
+  pub replayed : IsReplayed v H (n + 1)
 
-pub replayed_more : (v : Contents) (G H : Protection) (n : ℕ) (e : Entry) (r : Reply) → IsReplayed v G n → slice_get v.history n ≡ Some e → r ≡ reply_of G e.actor e.command e.outcome → H ≡ next_graph G e.actor e.command e.outcome →
-    IsReplayed v H (n + 1)
-replayed_more v G H n e r so_far at reply graph =
+pub replays : (v : Contents) (G H : Protection) (n : ℕ) (e : Entry) (r : Reply) → IsReplayed v G n → slice_get v.history n ≡ Some e → r ≡ reply_of G e.actor e.command e.outcome → H ≡ next_graph G e.actor e.command e.outcome →
+    Replays v H n r
+replays v G H n e r so_far at reply graph =
     let next : n + 1 ≡ suc n = omega arith in
+    let rest = further_next v G H n e r so_far at reply graph in
     record {
-      further = rw next (sym (drop_rest (replies_of v.opening v.history) n) ∙ ap (drop 1) (further_next v G H n e r so_far at reply graph));
-      left = left_more v.limits v.opening G H v.history n e so_far.left at graph;
+      told = sym (drop_first (replies_of v.opening v.history) n) ∙ ap (λ rs. slice_get rs 0) rest;
+      replayed = record {
+        further = rw next (sym (drop_rest (replies_of v.opening v.history) n) ∙ ap (drop 1) rest);
+        left = left_more v.limits v.opening G H v.history n e so_far.left at graph;
+      };
     }

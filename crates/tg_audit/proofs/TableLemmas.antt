@@ -1,7 +1,7 @@
 -- The progress of all seats along the history.
-use Rattle.std.proofs.Common.{◌≡◌, ◌≢◌, ℕ, zero, suc, ◌+◌, ◌<◌, ◌≤◌, List, [], ◌∷◌, length, refl, sym, ap, ◌∙◌, subst, arith, nat_eq, true, false, slice_get, Option, Some, None}
+use Rattle.std.proofs.Common.{◌≡◌, ◌≢◌, ℕ, zero, suc, ◌+◌, ◌<◌, ◌≤◌, List, [], ◌∷◌, length, refl, sym, ap, ◌∙◌, subst, arith, nat_eq, true, false, slice_get, slice_index_or, Option, Some, None}
 use Rattle.std.specs.Prelude.{All}
-use Rattle.std.proofs.lemmas.Option.{get_or_from_slice_get, none-some, same_Some, slice_get_within}
+use Rattle.std.proofs.lemmas.Option.{get_or_from_slice_get, none-some, same_Some, slice_get-get_or, slice_get_within}
 use Rattle.std.proofs.lemmas.List.{length-replicate, length-set}
 use Rattle.std.specs.Option.{option_map}
 use Rattle.std.proofs.lemmas.Bool.{cases_eq, cases_lt}
@@ -135,6 +135,10 @@ none_above seat G (e ∷ es) above all =
     let below : e.seat < SEATS = All-head (λ (x : Entry). x.seat < SEATS) e es all in
     let test : nat_eq e.seat seat ≡ false = grind (arith, nat_tests) in
     rw test (none_above seat (next_graph G e.actor e.command e.outcome) es above (All-tail (λ (x : Entry). x.seat < SEATS) e es all))
+
+-- the table's progress of a seat
+pub follows_here : (v : Contents) (logs : List SeatLog) (table : List Progress) (seat : ℕ) → length table ≡ SEATS → FollowsAll v logs table → seat < SEATS → Follows seat logs (exchanges_of seat v.opening v.history) [] (slice_index_or table seat start)
+follows_here v logs table seat whole all within = all seat within (slice_index_or table seat start) (slice_get-get_or table seat start (omega arith))
 
 -- the place if no existing seat differs
 pub place_above : (v : Contents) (logs : List SeatLog) (least : Option ℕ) → All (λ e. e.seat < SEATS) v.history → ((k : ℕ) → k < SEATS → Agrees v logs k) → IsLeastAbove logs least → IsPlace v logs (option_map (λ seat. (seat, 0)) least)

@@ -1,6 +1,6 @@
 -- The index of the edges: what becomes of it when a cell is linked, freed or relabelled, and the search in a bucket.
 use Rattle.std.proofs.Common.{◌≡◌, ◌≢◌, ℕ, ◌+◌, ◌<◌, ◌≤◌, List, [], ◌∷◌, ◌++◌, length, Option, Some, None, inl, inr, sym, ◌∙◌, subst, ap, refl, set, replicate, cond, ltb, Bool, true, false, eqb, eq-eqb, ◌&&◌, arith, length-set, length-append, get_or-set_same, get_or-set_other}
-use Rattle.std.proofs.lemmas.Bool.{cases_eq, cases_lt, ne_eqb, lt-ltb, le-ltb}
+use Rattle.std.proofs.lemmas.Bool.{cases_eq, ne_eqb, lt-ltb, le-ltb}
 use Rattle.tg_rights.specs.Membership.{Contains, Distinct}
 use Rattle.tg_rights.specs.Letters.{Letters}
 use Rattle.tg_rights.proofs.MembershipLemmas.{contains_append, contains_around, contains_middle, contains_map, map_append, distinct_around, split_at}
@@ -15,7 +15,8 @@ use Rattle.tg_cells.specs.Chain.{cell_at, unused, IsProvided, IsEntry}
 use Rattle.tg_cells.specs.Index.{bucket_of, IsIndexed}
 use Rattle.tg_cells.specs.Inside.{Shows, view_of, place_in, Indexes, IsKept}
 use Rattle.tg_cells.proofs.ListLemmas.{owner_within}
-use Rattle.tg_cells.proofs.InsideLemmas.{Leaves, seen, locate}
+use Rattle.tg_cells.proofs.ChainLemmas.{ProvidedBy, was_free, was_appended, was_none, provided_by}
+use Rattle.tg_cells.proofs.InsideLemmas.{Leaves, seen, locate, read_cell}
 
 -- A cell is linked for an edge.
 pub index-link : (place : ℕ → ℕ → ℕ) (rows : List (List ℕ)) (lists : List (List Edge)) (i b : ℕ) (e : Edge) → IsIndexed place rows lists → i < length lists → b ≡ place i e.serial → b < length rows
@@ -131,69 +132,36 @@ stays s v l x = record { kept = record { inside = l.kept; index = subst (λ (u :
 pub index_seen : (s : Inside) (v : CellLists) → view_of s ≡ v → IsKept s → Indexes s v.lists
 index_seen s v is k = subst (λ (u : CellLists). Indexes s u.lists) is k.index
 
+-- A linked cell is in the bucket that was computed for it.
+pub held_in : (s : Inside) (v : CellLists) (n i serial buckets b : ℕ) (p r : List Edge) (e : Edge) → view_of s ≡ v → IsKept s → Stands v.lists n i p e r → serial ≡ (cell_at s.cells.items n).serial
+    → buckets ≡ length s.index.lists → b ≡ bucket_of s.key buckets i serial → Contains (row s.index.lists b) n
+held_in s v n i serial buckets b p r e is k st read count at =
+    linked_held (place_in s) s.index.lists v.lists n i serial b p r e (index_seen s v is k).edges st
+    (read ∙ ap (λ (f : Edge). f.serial) (read_cell s v n i p r e is k.inside st)) (at ∙ ap (λ (m : ℕ). bucket_of s.key m i serial) count)
+
 -- A cell that was provided: it was used before, or is the next one to be used; `size` counts the used ones with it.
 pub record IsNext (used number size : ℕ) : Type 0 where
   pub fits : number ≤ used
   pub grows : cond (ltb number used) used (used + 1) ≡ size
 
 pub provided_next : (cs ds : List Cell) (free end owners number used : ℕ) → IsProvided cs ds free end owners number → number < length ds → used ≡ length cs → IsNext used number (length ds)
-provided_next cs ds free end owners number used k within same = elim (cases_lt free (length cs)) [
-  | inl less ↦ (
-      let test : ltb free (length cs) ≡ true = lt-ltb free (length cs) less in
-      let here : number ≡ free = rw test at k.first in
-      let e : ds ≡ cs = rw test at k.made in
+provided_next cs ds free end owners number used k within same = by (provided_by cs ds free end owners number k) where
+  by : ProvidedBy cs ds free end owners number → IsNext used number (length ds)
+  by (was_free less here e) = let size = ap length e in let old : ltb number used ≡ true = lt-ltb number used (omega arith) in record { fits = omega arith; grows = rw old (omega arith) }
+  by (was_appended past more last e) =
       let size = ap length e in
-      record { fits = omega arith; grows = (let old : ltb number used ≡ true = lt-ltb number used (omega arith) in rw old (omega arith)) }
-      )
-  | inr past ↦ (
-      let test : ltb free (length cs) ≡ false = le-ltb free (length cs) past in
-      let last : number ≡ length cs = rw test at k.first in
+      let longer = length-append cs (unused owners end ∷ []) in
       let new : ltb number used ≡ false = le-ltb number used (omega arith) in
-      elim (cases_lt (length cs) end) [
-        | inl more ↦ (
-            let room : ltb (length cs) end ≡ true = lt-ltb (length cs) end more in
-            let e : ds ≡ cs ++ unused owners end ∷ [] = rw room at (rw test at k.made) in
-            let size = ap length e in
-            let longer = length-append cs (unused owners end ∷ []) in
-            record { fits = omega arith; grows = rw new (omega arith) }
-            )
-        | inr full ↦ (
-            let room : ltb (length cs) end ≡ false = le-ltb (length cs) end full in
-            let e : ds ≡ cs = rw room at (rw test at k.made) in
-            let size = ap length e in
-            absurd (omega arith)
-            )
-      ]
-      )
-]
+      record { fits = omega arith; grows = rw new (omega arith) }
+  by (was_none past all last e) = let size = ap length e in absurd (omega arith)
 
 -- If none is free, none was appended to the others.
 pub provided_none : (cs ds : List Cell) (free end owners number : ℕ) → IsProvided cs ds free end owners number → length ds ≤ number → length cs ≡ length ds
-provided_none cs ds free end owners number k past = elim (cases_lt free (length cs)) [
-  | inl less ↦ (
-      let test : ltb free (length cs) ≡ true = lt-ltb free (length cs) less in
-      let e : ds ≡ cs = rw test at k.made in
-      sym (ap length e)
-      )
-  | inr over ↦ (
-      let test : ltb free (length cs) ≡ false = le-ltb free (length cs) over in
-      let last : number ≡ length cs = rw test at k.first in
-      elim (cases_lt (length cs) end) [
-        | inl more ↦ (
-            let room : ltb (length cs) end ≡ true = lt-ltb (length cs) end more in
-            let e : ds ≡ cs ++ unused owners end ∷ [] = rw room at (rw test at k.made) in
-            let size = ap length e in
-            let longer = length-append cs (unused owners end ∷ []) in
-            absurd (omega arith)
-            )
-        | inr full ↦ (
-            let room : ltb (length cs) end ≡ false = le-ltb (length cs) end full in
-            let e : ds ≡ cs = rw room at (rw test at k.made) in
-            sym (ap length e)
-            )
-      ]
-      )
-]
+provided_none cs ds free end owners number k none = by (provided_by cs ds free end owners number k) where
+  by : ProvidedBy cs ds free end owners number → length cs ≡ length ds
+  by (was_free less here e) = sym (ap length e)
+  by (was_appended past more last e) = let size = ap length e in let longer = length-append cs (unused owners end ∷ []) in absurd (omega arith)
+  by (was_none past all last e) = sym (ap length e)
 
 -- What the cell of an edge holds.
 pub linked_entry : (s : Inside) (v : CellLists) (i : ℕ) (e : Edge) → Shows s v → Contains (owned v.lists i) e → IsEntry s.cells.items e.cell i (cell_at s.cells.items e.cell).previous e

@@ -1,6 +1,5 @@
 -- A free cell is provided, and the first one is taken for an edge, in front of its owner's list.
-use Rattle.std.proofs.Common.{◌≡◌, ◌≢◌, ℕ, ◌+◌, ◌-◌, ◌<◌, ◌≤◌, List, [], ◌∷◌, ◌++◌, length, inl, inr, sym, ◌∙◌, subst, ap, refl, set, get_or, arith, length-set, length-append, get_or-set_same, get_or-set_other, Global, true, false, ltb}
-use Rattle.std.proofs.lemmas.Bool.{cases_lt, lt-ltb, le-ltb}
+use Rattle.std.proofs.Common.{◌≡◌, ◌≢◌, ℕ, ◌+◌, ◌-◌, ◌<◌, ◌≤◌, List, [], ◌∷◌, length, inl, inr, sym, ◌∙◌, subst, ap, refl, set, get_or, arith, length-set, length-append, get_or-set_same, get_or-set_other, Global, false, vec_len}
 use Rattle.std.proofs.lemmas.List.{get_or_default, get_or_append_left, get_or_push}
 use Rattle.std.specs.Vec.{with_item}
 use Rattle.std.specs.declared.vec.Vec.{Vec}
@@ -14,7 +13,7 @@ use Rattle.tg_cells.specs.Lists.{Edge, CellLists, owned, cells, HasNone, IsFresh
 use Rattle.tg_cells.specs.Chain.{Pooled, cell_at, edge_of, with_previous, unused, IsProvided, Chain, Row}
 use Rattle.tg_cells.specs.Inside.{IsFree, Shows, view_of, IsInside}
 use Rattle.tg_cells.proofs.ListLemmas.{contains_within, sound-link}
-use Rattle.tg_cells.proofs.ChainLemmas.{at_same, at_other, Only, only_set, chain_same, chain_only, chain_own, chain_front, chain_after, row_same, row_only}
+use Rattle.tg_cells.proofs.ChainLemmas.{ProvidedBy, was_free, was_appended, was_none, provided_by, at_same, at_other, Only, only_set, chain_same, chain_only, chain_own, chain_front, chain_after, row_same, row_only}
 use Rattle.tg_cells.proofs.InsideLemmas.{Leaves, leaves, Seen, seen}
 use Rattle.tg_cells.proofs.StepLemmas.{chains_set}
 
@@ -50,12 +49,9 @@ pub record Provided (s : Inside) (v : CellLists) : Type 0 where
   pub left : Leaves s v
   pub full : length s.cells.items ≤ s.free → v.free ≡ 0
 
-pub provides : (s : Inside) (v : CellLists) (w : Pooled) (owners number : ℕ) → view_of s ≡ v → IsInside s → owners ≡ length s.heads.items → IsProvided s.cells.items w.items s.free s.size owners number → s.size ≤ w.room
+pub provides : (s : Inside) (v : CellLists) (w : Pooled) (owners number : ℕ) → view_of s ≡ v → IsInside s → owners ≡ vec_len s.heads → IsProvided s.cells.items w.items s.free s.size owners number → s.size ≤ w.room
     → Provided (record s { cells = w; free = number }) v
-provides s v w owners number is inside every k room = elim (cases_lt s.free (length s.cells.items)) [
-  | inl within ↦ found within
-  | inr past ↦ elim (cases_lt (length s.cells.items) s.size) [ inl more ↦ added past more | inr all ↦ full past all ]
-] where
+provides s v w owners number is inside every k room = by (provided_by s.cells.items w.items s.free s.size owners number k) where
   seen' : Seen s v
   seen' = seen s v is inside
 
@@ -76,19 +72,9 @@ provides s v w owners number is inside every k room = elim (cases_lt s.free (len
     sound = shown.sound;
   }) seen'.most seen'.most_owners room
 
-  found : s.free < length cs → Provided (record s { cells = w; free = number }) v
-  found within =
-      let test : ltb s.free (length cs) ≡ true = lt-ltb s.free (length cs) within in
-      let same : number ≡ s.free = rw test at k.first in
-      let e : w.items ≡ cs = rw test at k.made in
-      record { left = stays e same; full = λ past. absurd (let size = ap length e in omega arith) }
-
-  full : length cs ≤ s.free → s.size ≤ length cs → Provided (record s { cells = w; free = number }) v
-  full past all =
-      let test : ltb s.free (length cs) ≡ false = le-ltb s.free (length cs) past in
-      let more : ltb (length cs) s.size ≡ false = le-ltb (length cs) s.size all in
-      let last : number ≡ length cs = rw test at k.first in
-      let e : w.items ≡ cs = rw more at (rw test at k.made) in
+  by : ProvidedBy cs w.items s.free s.size owners number → Provided (record s { cells = w; free = number }) v
+  by (was_free less same e) = record { left = stays e same; full = λ past. absurd (let size = ap length e in omega arith) }
+  by (was_none past all last e) =
       let none = row_past v.size cs (length v.lists) s.free shown.free.numbers past shown.free.row in
       let used = shown.used in
       let size = shown.size in
@@ -96,19 +82,14 @@ provides s v w owners number is inside every k room = elim (cases_lt s.free (len
       let nothing = none.0 in
       let end = none.1 in
       record { left = stays e (omega arith); full = λ any. omega arith }
-
-  added : length cs ≤ s.free → length cs < s.size → Provided (record s { cells = w; free = number }) v
-  added past more =
-      let test : ltb s.free (length cs) ≡ false = le-ltb s.free (length cs) past in
-      let less : ltb (length cs) s.size ≡ true = lt-ltb (length cs) s.size more in
-      let last : number ≡ length cs = rw test at k.first in
-      let e : w.items ≡ cs ++ unused owners s.size ∷ [] = rw less at (rw test at k.made) in
+  by (was_appended past more last e) =
       let none = row_past v.size cs (length v.lists) s.free shown.free.numbers past shown.free.row in
       let grown = ap length e in
       let longer = length-append cs (unused owners s.size ∷ []) in
       let size = shown.size in
       let used = shown.used in
       let heads = shown.heads in
+      let all : owners ≡ length s.heads.items = omega arith in
       let counted = shown.free.counted in
       let nothing = none.0 in
       let old = λ (n : ℕ) (h : n < length cs). let same : cell_at w.items n ≡ cell_at cs n = ap (λ (l : List Cell). cell_at l n) e ∙ get_or_append_left cs (unused owners s.size ∷ []) _ n h in same in
@@ -123,7 +104,7 @@ provides s v w owners number is inside every k room = elim (cases_lt s.free (len
           free = record {
             numbers = number ∷ [];
             once = (λ h. h, tt);
-            row = (refl, omega arith, ap (λ (c : Cell). c.owner) new ∙ every ∙ heads, ap (λ (c : Cell). c.next) new ∙ size);
+            row = (refl, omega arith, ap (λ (c : Cell). c.owner) new ∙ all ∙ heads, ap (λ (c : Cell). c.next) new ∙ size);
             counted = omega arith;
           };
           count = shown.count;
@@ -276,13 +257,15 @@ abbrev pub entered : ℕ → ℕ → ℕ → ℕ → ℕ → Letters → Cell
 entered i end head target serial rights = record { owner = i; previous = end; next = head; target = target; serial = serial; rights = rights }
 
 -- The same from the steps of the code, one after another.
-pub links : (s : Inside) (v : CellLists) (w w' : Pooled) (x : Rows) (i end head next target serial : ℕ) (rights : Letters) → view_of s ≡ v → IsInside s → i < length v.lists → HasNone (owned v.lists i) serial → is_none rights ≡ false
-    → end ≡ s.size → head ≡ get_or s.heads.items i head → s.free < length s.cells.items → next ≡ (cell_at s.cells.items s.free).next
-    → w ≡ record s.cells { items = set s.cells.items s.free (entered i end head target serial rights) } → w' ≡ record w { items = with_previous w.items head s.free }
-    → LinksIn s (record { cells = w'; heads = with_item s.heads i s.free; free = next; free_count = s.free_count - 1; size = s.size; index = x; key = s.key }) v i (record { cell = s.free; target = target; serial = serial; rights = rights })
-links s v w w' x i end head next target serial rights is inside own none some last read within next_is ew ew' =
-    let shown = (seen s v is inside).shown in
+pub links : (s : Inside) (v : CellLists) (u w w' : Pooled) (x : Rows) (i owners number head next target serial : ℕ) (rights : Letters) → view_of s ≡ v → IsInside s
+    → owners ≡ vec_len s.heads → IsProvided s.cells.items u.items s.free s.size owners number → s.size ≤ u.room → number < length u.items
+    → i < length v.lists → HasNone (owned v.lists i) serial → is_none rights ≡ false → head ≡ get_or s.heads.items i head → next ≡ (cell_at u.items number).next
+    → w ≡ record u { items = set u.items number (entered i s.size head target serial rights) } → w' ≡ record w { items = with_previous w.items head number }
+    → LinksIn (record s { cells = u; free = number }) (record { cells = w'; heads = with_item s.heads i number; free = next; free_count = s.free_count - 1; size = s.size; index = x; key = s.key }) v i (record { cell = number; target = target; serial = serial; rights = rights })
+links s v u w w' x i owners number head next target serial rights is inside every made room within own none some read next_is ew ew' =
+    let provided = (provides s v u owners number is inside every made room).left in
+    let shown = (seen (record s { cells = u; free = number }) v provided.shows provided.kept).shown in
     let heads = shown.heads in
-    let made : w' ≡ record s.cells { items = linked s.cells.items s.free (entered i end head target serial rights) } = ew' ∙ ap (λ (c : Pooled). record c { items = with_previous c.items head s.free }) ew in
-    links_in s v w' (with_item s.heads i s.free) x i next (entered i end head target serial rights) is inside own none some within refl (last ∙ shown.size)
-    (read ∙ get_or_default s.heads.items i head v.size (omega arith)) next_is (let room = inside.room in let same = ap (λ (c : Pooled). c.room) made in omega arith) (ap (λ (c : Pooled). c.items) made) refl
+    let written : w' ≡ record u { items = linked u.items number (entered i s.size head target serial rights) } = ew' ∙ ap (λ (c : Pooled). record c { items = with_previous c.items head number }) ew in
+    links_in (record s { cells = u; free = number }) v w' (with_item s.heads i number) x i next (entered i s.size head target serial rights) provided.shows provided.kept own none some within refl shown.size
+    (read ∙ get_or_default s.heads.items i head v.size (omega arith)) next_is (let same = ap (λ (c : Pooled). c.room) written in omega arith) (ap (λ (c : Pooled). c.items) written) refl

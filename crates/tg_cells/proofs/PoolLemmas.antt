@@ -1,12 +1,15 @@
 -- Two arrays as one list of cells: what is read of it, and what each write leaves.
-use Rattle.std.proofs.Common.{◌≡◌, ℕ, zero, suc, ◌<◌, List, [], ◌∷◌, ◌++◌, length, ◌∙◌, ap, refl, set, get_or, arith}
-use Rattle.std.proofs.lemmas.List.{get_or_default}
+use Rattle.std.proofs.Common.{◌≡◌, ℕ, zero, suc, ◌<◌, ◌≤◌, List, [], ◌∷◌, ◌++◌, length, sym, ◌∙◌, ap, refl, set, get_or, min, arith, vec_len, vec_capacity}
+use Rattle.std.proofs.Math.Nat.{le-min, min-le_left, min-le_right}
+use Rattle.std.proofs.lemmas.List.{get_or_default, set_past}
+use Rattle.std.specs.Vec.{with_item}
 use Rattle.tg_rights.specs.Letters.{Letters}
 use Rattle.tg_cells.specs.declared.pool.Cell.{Cell}
 use Rattle.tg_cells.specs.declared.pool.Hop.{Hop}
 use Rattle.tg_cells.specs.declared.pool.Rest.{Rest}
+use Rattle.tg_cells.specs.declared.pool.Pool.TheInside.{Inside}
 use Rattle.tg_cells.specs.Chain.{cell_at, with_next, with_previous}
-use Rattle.tg_cells.specs.Pool.{all_whole, hop_at, leading, preceded, rest_at, whole}
+use Rattle.tg_cells.specs.Pool.{all_whole, hop_at, pooled, rest_at, whole}
 
 -- Both arrays have as many cells as the list.
 pub hops_length : (hs : List Hop) (rs : List Rest) → length hs ≡ length rs → length (all_whole hs rs) ≡ length hs
@@ -16,6 +19,16 @@ hops_length (h ∷ hs) (r ∷ rs) k = let rest = hops_length hs rs (omega (arith
 
 pub rests_length : (hs : List Hop) (rs : List Rest) → length hs ≡ length rs → length (all_whole hs rs) ≡ length rs
 rests_length hs rs k = hops_length hs rs k ∙ k
+
+-- With room for one more cell, both arrays have room for it; and the room grows with theirs.
+pub both_room : (s : Inside) → length s.hops.items ≡ length s.rests.items → length (all_whole s.hops.items s.rests.items) < min (vec_capacity s.hops) (vec_capacity s.rests)
+    → (length s.hops.items < vec_capacity s.hops) × (length s.rests.items < vec_capacity s.rests)
+both_room s k room =
+    let same = hops_length s.hops.items s.rests.items k in
+    (omega (arith, room, same, min-le_left (vec_capacity s.hops) (vec_capacity s.rests)), omega (arith, room, same, k, min-le_right (vec_capacity s.hops) (vec_capacity s.rests)))
+
+pub room_grows : (a b c d : ℕ) → a ≤ c → b ≤ d → min a b ≤ min c d
+room_grows a b c d first second = let left = min-le_left a b in let right = min-le_right a b in le-min (omega arith) (omega arith)
 
 -- The cell of a number is made of the entries of that number.
 cell_there : (hs : List Hop) (rs : List Rest) (n : ℕ) → length hs ≡ length rs → whole (hop_at hs n) (rest_at rs n) ≡ cell_at (all_whole hs rs) n
@@ -69,16 +82,24 @@ rest_set (x ∷ hs) [] n r k = absurd (omega (arith, k))
 rest_set (x ∷ hs) (y ∷ rs) zero r k = refl
 rest_set (x ∷ hs) (y ∷ rs) (suc n) r k = ap (λ (l : List Cell). whole x y ∷ l) (rest_set hs rs n r (omega (arith, k)))
 
--- A neighbour is written.
-pub next_set : (hs : List Hop) (rs : List Rest) (n next : ℕ) → length hs ≡ length rs → all_whole (leading hs n next) rs ≡ with_next (all_whole hs rs) n next
-next_set hs rs n next k =
-    hop_set hs rs n (record (hop_at hs n) { next = next }) k
-    ∙ ap (λ (c : Cell). set (all_whole hs rs) n (record c { next = next })) (cell_there hs rs n k)
+-- A cell that was read gets another neighbour.
+pub next_set : (s : Inside) (n next : ℕ) (h : Hop) → length s.hops.items ≡ length s.rests.items → n < vec_len s.hops → h ≡ get_or s.hops.items n h
+    → pooled (record s { hops = with_item s.hops n (record h { next = next }) }) ≡ record (pooled s) { items = with_next (pooled s).items n next }
+next_set s n next h k within read =
+    ap (λ (l : List Cell). record (pooled s) { items = l }) (hop_set s.hops.items s.rests.items n (record h { next = next }) k
+    ∙ ap (λ (c : Cell). set (pooled s).items n (record c { next = next })) (hop_read s.hops.items s.rests.items n h k (omega (arith, within, hops_length s.hops.items s.rests.items k)) read))
 
-pub previous_set : (hs : List Hop) (rs : List Rest) (n previous : ℕ) → length hs ≡ length rs → all_whole hs (preceded rs n previous) ≡ with_previous (all_whole hs rs) n previous
-previous_set hs rs n previous k =
-    rest_set hs rs n (record (rest_at rs n) { previous = previous }) k
-    ∙ ap (λ (c : Cell). set (all_whole hs rs) n (record c { previous = previous })) (cell_there hs rs n k)
+pub previous_set : (s : Inside) (n previous : ℕ) (r : Rest) → length s.hops.items ≡ length s.rests.items → n < vec_len s.rests → r ≡ get_or s.rests.items n r
+    → pooled (record s { rests = with_item s.rests n (record r { previous = previous }) }) ≡ record (pooled s) { items = with_previous (pooled s).items n previous }
+previous_set s n previous r k within read =
+    ap (λ (l : List Cell). record (pooled s) { items = l }) (rest_set s.hops.items s.rests.items n (record r { previous = previous }) k
+    ∙ ap (λ (c : Cell). set (pooled s).items n (record c { previous = previous })) (rest_read s.hops.items s.rests.items n r k (omega (arith, within, rests_length s.hops.items s.rests.items k)) read))
+
+-- A number past the cells: nothing is written.
+pub none_set : (s : Inside) (n : ℕ) (c : Cell) → length s.hops.items ≡ length s.rests.items → vec_len s.hops ≤ n → pooled s ≡ record (pooled s) { items = set (pooled s).items n c }
+none_set s n c k past =
+    let size = hops_length s.hops.items s.rests.items k in
+    ap (λ (l : List Cell). record (pooled s) { items = l }) (sym (set_past (all_whole s.hops.items s.rests.items) n c (omega arith)))
 
 -- A cell that was read gets another owner and another one after it, or other rights.
 pub released : (hs : List Hop) (rs : List Rest) (n owners next : ℕ) (h : Hop) (r : Rest) → length hs ≡ length rs → n < length (all_whole hs rs) → h ≡ get_or hs n h → r ≡ get_or rs n r

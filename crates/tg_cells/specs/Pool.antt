@@ -1,5 +1,6 @@
 -- the cells that two arrays represent
-use Rattle.std.specs.Prelude.{◌≡◌, ℕ, List, [], ◌∷◌, length, min, set}
+use Rattle.std.specs.Prelude.{ℕ, List, map, min}
+use Rattle.std.specs.List.{zip}
 use Rattle.std.specs.Vec.{vec_capacity}
 use Rattle.std.proofs.Common.{get_or}
 use Rattle.tg_rights.specs.Letters.{none}
@@ -16,25 +17,12 @@ hop_at hs n = get_or hs n (record { next = 0; target = 0 })
 abbrev pub rest_at : List Rest → ℕ → Rest
 rest_at rs n = get_or rs n (record { serial = 0; owner = 0; previous = 0; rights = none })
 
--- the arrays once the entry of a number, if there is one, has another neighbour
-abbrev pub leading : List Hop → ℕ → ℕ → List Hop
-leading hs n next = set hs n (record (hop_at hs n) { next = next })
-
-abbrev pub preceded : List Rest → ℕ → ℕ → List Rest
-preceded rs n previous = set rs n (record (rest_at rs n) { previous = previous })
-
 -- a cell from its two entries, and the cells from two arrays
 abbrev pub whole : Hop → Rest → Cell
 whole h r = record { next = h.next; target = h.target; serial = r.serial; rights = r.rights; owner = r.owner; previous = r.previous }
 
 abbrev pub all_whole : List Hop → List Rest → List Cell
-all_whole [] rs = []
-all_whole (h ∷ hs) [] = []
-all_whole (h ∷ hs) (r ∷ rs) = whole h r ∷ all_whole hs rs
+all_whole hs rs = map (λ p. whole p.0 p.1) (zip hs rs)
 
 abbrev pub pooled : Inside → Pooled
 pooled s = record { items = all_whole s.hops.items s.rests.items; room = min (vec_capacity s.hops) (vec_capacity s.rests) }
-
--- both arrays have the same cells
-abbrev pub IsPool : Inside → Type 0
-IsPool s = length s.hops.items ≡ length s.rests.items

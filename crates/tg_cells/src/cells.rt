@@ -32,10 +32,9 @@ pub struct Cells {
 
 impl Model for Cells {
     ghost use Rattle.tg_cells.specs.Lists.{CellLists};
+    ghost use Rattle.tg_cells.specs.Inside.{view_of, IsKept};
 
     ghost Value = { CellLists };
-
-    ghost use Rattle.tg_cells.specs.Inside.{view_of, IsKept};
 
     ghost view = { view_of };
 

@@ -1,8 +1,8 @@
 //! The cells that were used so far, as they lie in memory.
 ghost use Rattle.std.specs.Prelude.{◌≡◌, ◌<◌, ◌≤◌, ◌++◌, ◌∷◌, ◌&&◌, [], IfOk, eqb, length, set};
 ghost use Rattle.std.specs.Vec.{vec_capacity};
-ghost use Rattle.tg_cells.specs.Chain.{cell_at, with_next, with_previous};
-ghost use Rattle.tg_cells.specs.Pool.{leading, preceded};
+ghost use Rattle.tg_cells.specs.Chain.{Pooled, cell_at, with_next, with_previous};
+ghost use Rattle.tg_cells.specs.Pool.{pooled};
 
 use std::alloc::{AllocError, Global};
 use std::marker::Model;
@@ -54,33 +54,11 @@ pub(crate) struct Pool {
 }
 
 impl Model for Pool {
-    ghost use Rattle.tg_cells.specs.Chain.{Pooled};
-
     ghost Value = { Pooled };
-
-    ghost use Rattle.tg_cells.specs.Pool.{pooled, IsPool};
 
     ghost view = { pooled };
 
-    ghost invariant = { IsPool };
-}
-
-// Links the cell of that number, if there is one, on to another.
-fn lead(hops: &mut [Hop], number: u32, next: u32)
-    ensures { hops.new ≡ leading hops.old number next }
-{
-    if (number as usize) < hops.len() {
-        hops[number as usize].next = next;
-    }
-}
-
-// Links the cell of that number, if there is one, back to another.
-fn precede(rests: &mut [Rest], number: u32, previous: u32)
-    ensures { rests.new ≡ preceded rests.old number previous }
-{
-    if (number as usize) < rests.len() {
-        rests[number as usize].previous = previous;
-    }
+    ghost invariant = { λ p. length p.hops.items ≡ length p.rests.items };
 }
 
 // Appends an element for which there is room.
@@ -201,14 +179,18 @@ impl Pool {
     pub fn set_next(&mut self, number: u32, next: u32)
         ensures { self.new ≡ record self.old { items = with_next self.old.items number next } }
     {
-        lead(&mut self.hops, number, next);
+        if (number as usize) < self.hops.len() {
+            self.hops[number as usize].next = next;
+        }
     }
 
     /// Links the cell of that number, if there is one, back to another.
     pub fn set_previous(&mut self, number: u32, previous: u32)
         ensures { self.new ≡ record self.old { items = with_previous self.old.items number previous } }
     {
-        precede(&mut self.rests, number, previous);
+        if (number as usize) < self.rests.len() {
+            self.rests[number as usize].previous = previous;
+        }
     }
 
     /// The cell goes to the free list, in front of the next one there.

@@ -14,7 +14,7 @@ use Rattle.tg_rights.specs.declared.command.Command.{Command}
 use Rattle.tg_graph.specs.Terms as effect
 use Rattle.tg_graph.specs.Terms.{Does, terms}
 use Rattle.tg_graph.specs.declared.vertex.Vertex.{Vertex}
-use Rattle.tg_graph.specs.Triples.{edge}
+use Rattle.tg_graph.specs.Triples.{Triples, edge}
 use Rattle.tg_graph.specs.Protection.{Protection, IsGraph, IsVertex, IsSubject, IsDocument, IsEdge, vertex, label}
 use Rattle.tg_graph.specs.Rules.{Allowed, after, done, with_text}
 use Rattle.tg_graph.specs.Paths.{Agree, IsPart, Leads, Reaches}
@@ -66,22 +66,28 @@ some_joined true l m k e = inl refl
 some_joined false l m k e = inr e
 
 module _ (G H : Protection) (Known : ℕ → Type 0) (alike : Alike G H Known) where
+  -- an edge of a known vertex gets another label in both
+  relabelled_too : (t u : Triples) (s y : ℕ) (f : Letters → Letters) → Known s → Relabels G s y (f (label G s y)) t → Relabels H s y (f (label H s y)) u
+      → ((w z : ℕ) → Known w → is_none (cond ((s == w) && (y == z)) (f (label G s y)) (label G w z)) ≡ false → Known z)
+      → Alike (record G { triples = t }) (record H { triples = u }) Known
+  relabelled_too t u s y f source by_G by_H step =
+      let in_G = label-relabelled G (record G { triples = t }) s y (f (label G s y)) by_G in
+      let in_H = label-relabelled H (record H { triples = u }) s y (f (label H s y)) by_H in
+      record {
+        labels = λ w z k. in_G w z ∙ (λ i. cond ((s == w) && (y == z)) (f (alike.labels s y source i)) (alike.labels w z k i)) ∙ sym (in_H w z);
+        vertices = alike.vertices;
+        step = λ w z k e. step w z k (ap is_none (sym (in_G w z)) ∙ e);
+      }
+
   -- an edge between known vertices gains rights
   joined_too : (s y : ℕ) (α : Letters) → Known s → Known y →
       Alike (record G { triples = set.union G.triples (edge s α y) }) (record H { triples = set.union H.triples (edge s α y) }) Known
   joined_too s y α source target =
-      let G' : Protection = record G { triples = set.union G.triples (edge s α y) } in
-      let H' : Protection = record H { triples = set.union H.triples (edge s α y) } in
-      let in_G = label-relabelled G G' s y (joined (label G s y) α) (union-Relabels G s y α) in
-      let in_H = label-relabelled H H' s y (joined (label H s y) α) (union-Relabels H s y α) in
-      record {
-        labels = λ w z k. in_G w z ∙ (λ i. cond ((s == w) && (y == z)) (joined (alike.labels s y source i) α) (alike.labels w z k i)) ∙ sym (in_H w z);
-        vertices = alike.vertices;
-        step = λ w z k e. elim (some_joined ((s == w) && (y == z)) (joined (label G s y) α) (label G w z) α (ap is_none (sym (in_G w z)) ∙ e)) [
-          | inl t ↦ subst Known (eqb-true y z (and_parts (s == w) (y == z) t).1) target
-          | inr old ↦ alike.step w z k old
-        ];
-      }
+      relabelled_too (set.union G.triples (edge s α y)) (set.union H.triples (edge s α y)) s y (λ l. joined l α) source (union-Relabels G s y α) (union-Relabels H s y α)
+      (λ w z k e. elim (some_joined ((s == w) && (y == z)) (joined (label G s y) α) (label G w z) α e) [
+        | inl t ↦ subst Known (eqb-true y z (and_parts (s == w) (y == z) t).1) target
+        | inr old ↦ alike.step w z k old
+      ])
 
   -- an edge of a known vertex loses rights
   less_edge : (b : Bool) (l m α : Letters) → is_none (cond b (without l α) m) ≡ false → (b ≡ true → m ≡ l) → is_none m ≡ false
@@ -95,16 +101,9 @@ module _ (G H : Protection) (Known : ℕ → Type 0) (alike : Alike G H Known) w
   less_too : (s y : ℕ) (α : Letters) → Known s →
       Alike (record G { triples = set.difference G.triples (edge s α y) }) (record H { triples = set.difference H.triples (edge s α y) }) Known
   less_too s y α source =
-      let G' : Protection = record G { triples = set.difference G.triples (edge s α y) } in
-      let H' : Protection = record H { triples = set.difference H.triples (edge s α y) } in
-      let in_G = label-relabelled G G' s y (without (label G s y) α) (difference-Relabels G s y α) in
-      let in_H = label-relabelled H H' s y (without (label H s y) α) (difference-Relabels H s y α) in
-      record {
-        labels = λ w z k. in_G w z ∙ (λ i. cond ((s == w) && (y == z)) (without (alike.labels s y source i) α) (alike.labels w z k i)) ∙ sym (in_H w z);
-        vertices = alike.vertices;
-        step = λ w z k e. alike.step w z k (less_edge ((s == w) && (y == z)) (label G s y) (label G w z) α (ap is_none (sym (in_G w z)) ∙ e)
-            (λ t. let is = and_parts (s == w) (y == z) t in λ i. label G (sym (eqb-true s w is.0) i) (sym (eqb-true y z is.1) i)));
-      }
+      relabelled_too (set.difference G.triples (edge s α y)) (set.difference H.triples (edge s α y)) s y (λ l. without l α) source (difference-Relabels G s y α) (difference-Relabels H s y α)
+      (λ w z k e. alike.step w z k (less_edge ((s == w) && (y == z)) (label G s y) (label G w z) α e
+      (λ t. let is = and_parts (s == w) (y == z) t in λ i. label G (sym (eqb-true s w is.0) i) (sym (eqb-true y z is.1) i))))
 
   -- the vertex v is put into both
   put_alike : (v : ℕ) (e : Vertex) (w : ℕ) → vertex G w ≡ vertex H w → map.get (map.insert G.vertices v e) w ≡ map.get (map.insert H.vertices v e) w

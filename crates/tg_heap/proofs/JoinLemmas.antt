@@ -7,9 +7,18 @@ use Rattle.tg_rights.specs.Letters.{Letters, joined, none, is_none}
 use Rattle.tg_rights.proofs.MembershipLemmas.{contains_append, contains_left, contains_right, contains_middle, contains_around}
 use Rattle.tg_slots.specs.Table.{Table, Free, mark, in_slot}
 use Rattle.tg_slots.specs.declared.slots.Occupant.{Occupant}
-use Rattle.tg_cells.specs.Lists.{Edge, CellLists, owned}
+use Rattle.tg_cells.specs.Lists.{Edge, CellLists, owned, Found, Stands}
 use Rattle.tg_heap.specs.Graph.{Joins}
 pub use Rattle.tg_cells.proofs.WalkLemmas.{First, first_is}
+
+-- A cell that was found is in its owner's list, between these edges.
+pub record Sought (lists : List (List Edge)) (i serial cell : ℕ) : Type 0 where
+  pub found : Found (owned lists i) serial
+  pub here : cell ≡ found.edge.cell
+  pub stands : Stands lists cell i found.before found.edge found.after
+
+pub sought : (lists : List (List Edge)) (i serial cell : ℕ) → (f : Found (owned lists i) serial) × (cell ≡ f.edge.cell) → Sought lists i serial cell
+sought lists i serial cell f = record { found = f.0; here = f.1; stands = record { is = f.0.is; here = sym f.1 } }
 
 -- Each edge leads to one of n slots.
 abbrev pub Within : ℕ → List Edge → Type 0

@@ -1,5 +1,4 @@
 pub mod Graph
-pub mod Inside
 pub mod Calls
 pub mod Marking
 pub use Rattle.tg_rights.specs.Letters

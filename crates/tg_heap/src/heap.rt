@@ -38,15 +38,13 @@ pub struct Heap {
 }
 
 impl Model for Heap {
-    ghost use Rattle.tg_heap.specs.Graph.{HeapGraph};
+    ghost use Rattle.tg_heap.specs.Graph.{HeapGraph, Joins, heap_of};
 
     ghost Value = { HeapGraph };
 
-    ghost use Rattle.tg_heap.specs.Inside.{view_of, IsInside};
+    ghost view = { λ h. heap_of h.slots h.cells };
 
-    ghost view = { view_of };
-
-    ghost invariant = { IsInside };
+    ghost invariant = { λ h. Joins h.slots h.cells };
 }
 
 impl Heap {

@@ -14,10 +14,14 @@ with_previous ls n previous = set ls n (record (link_at ls n) { previous = previ
 abbrev pub with_next : List Link → ℕ → ℕ → List Link
 with_next ls n next = set ls n (record (link_at ls n) { next = next })
 
+-- what is read along some links from a head on, of at most this many numbers
+abbrev pub read_along : {X : Type 0} → ℕ → (ℕ → ℕ) → (ℕ → X) → ℕ → ℕ → List X
+read_along end next read zero head = []
+read_along end next read (suc n) head = cond (eqb head end) [] (read head ∷ read_along end next read n (next head))
+
 -- the numbers that the links lead to from a head, at most this many
 abbrev pub walk : ℕ → List Link → ℕ → ℕ → List ℕ
-walk end ls zero head = []
-walk end ls (suc n) head = cond (eqb head end) [] (head ∷ walk end ls n (link_at ls head).next)
+walk end ls n head = read_along end (λ m. (link_at ls m).next) (λ m. m) n head
 
 -- the links lead from the head over these numbers, each linked back to the one before it, and end there; `before` is
 -- the number before the head

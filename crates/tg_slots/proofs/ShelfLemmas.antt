@@ -1,5 +1,6 @@
 -- Two arrays as one list of slots: what is read of it, and what each write leaves.
-use Rattle.std.proofs.Common.{◌≡◌, ◌≢◌, ℕ, zero, suc, ◌<◌, ◌≤◌, List, [], ◌∷◌, ◌++◌, length, Some, None, true, sym, ◌∙◌, ap, refl, set, get_or, arith}
+use Rattle.std.proofs.Common.{◌≡◌, ◌≢◌, ℕ, zero, suc, ◌<◌, ◌≤◌, List, [], ◌∷◌, ◌++◌, length, Some, None, true, sym, ◌∙◌, ap, refl, set, get_or, min, arith, vec_capacity}
+use Rattle.std.proofs.Math.Nat.{le-min, min-le_left, min-le_right}
 use Rattle.std.specs.List.{slice_get}
 use Rattle.tg_slots.specs.declared.colour.Colour.{Colour}
 use Rattle.tg_slots.specs.declared.colour.Colour.TheVariants.{White, Grey, Black}
@@ -8,6 +9,7 @@ use Rattle.tg_slots.specs.declared.shelf.Tint.{Tint}
 use Rattle.tg_slots.specs.declared.shelf.Tint.TheVariants as tint
 use Rattle.tg_slots.specs.declared.shelf.Form.{Form}
 use Rattle.tg_slots.specs.declared.shelf.Form.TheVariants as form
+use Rattle.tg_slots.specs.declared.shelf.Shelf.TheInside.{Inside}
 use Rattle.tg_slots.specs.Table.{coloured, in_slot, with_text}
 use Rattle.tg_slots.specs.Linked.{Linked, at, occupant_at}
 use Rattle.tg_slots.specs.Shelf.{Agree, all_linked, colour_of, is_coloured, is_taken, kind_of, leading, link_of, linked, serial_of, telling, text_of, tint_of}
@@ -24,6 +26,17 @@ forms_length [] [] k = refl
 forms_length [] (f ∷ fs) k = absurd k
 forms_length (t ∷ ts) [] k = absurd k
 forms_length (t ∷ ts) (f ∷ fs) k = let rest = forms_length ts fs k.1 in omega (arith, rest)
+
+-- With room for one more slot, both arrays have room for it; and the room grows with theirs.
+pub both_room : (s : Inside) → Agree s.tints.items s.forms.items → length (all_linked s.tints.items s.forms.items) < min (vec_capacity s.tints) (vec_capacity s.forms)
+    → (length s.tints.items < vec_capacity s.tints) × (length s.forms.items < vec_capacity s.forms)
+both_room s k room =
+    let ts = tints_length s.tints.items s.forms.items k in
+    let fs = forms_length s.tints.items s.forms.items k in
+    (omega (arith, room, ts, min-le_left (vec_capacity s.tints) (vec_capacity s.forms)), omega (arith, room, fs, min-le_right (vec_capacity s.tints) (vec_capacity s.forms)))
+
+pub room_grows : (a b c d : ℕ) → a ≤ c → b ≤ d → min a b ≤ min c d
+room_grows a b c d tints forms = let left = min-le_left a b in let right = min-le_right a b in le-min (omega arith) (omega arith)
 
 -- The colour in a slot is that of its tint.
 one_colour : (t : Tint) (f : Form) → is_coloured t ≡ is_taken f → colour_of t ≡ in_slot (λ o. o.colour) (linked t f).occupant
@@ -51,7 +64,7 @@ pub record Holds (ts : List Tint) (fs : List Form) (i : ℕ) (f : Form) : Type 0
   pub text : text_of f ≡ in_slot (λ o. o.text) (occupant_at (all_linked ts fs) i)
   pub link : link_of f ≡ (at (all_linked ts fs) i).link
 
-pub form_read : (ts : List Tint) (fs : List Form) (i : ℕ) (f : Form) → Agree ts fs → slice_get fs i ≡ Some f → Holds ts fs i f
+form_read : (ts : List Tint) (fs : List Form) (i : ℕ) (f : Form) → Agree ts fs → Some f ≡ slice_get fs i → Holds ts fs i f
 form_read [] [] i f k is = absurd (cc)
 form_read [] (g ∷ fs) i f k is = absurd k
 form_read (t ∷ ts) [] i f k is = absurd k
@@ -66,17 +79,23 @@ form_read (t ∷ ts) (g ∷ fs) zero f k is = by f g (cc) where
     held (form.Free link) = record { within = omega arith; serial = refl; kind = refl; text = refl; link = refl }
     held (form.Taken kind link serial text) = record { within = omega arith; serial = refl; kind = refl; text = refl; link = refl }
 
+pub read_form : (s : Inside) (i : ℕ) (f : Form) → Agree s.tints.items s.forms.items → Some f ≡ slice_get s.forms.items i → Holds s.tints.items s.forms.items i f
+read_form s i f k is = form_read s.tints.items s.forms.items i f k is
+
 -- Past the last form there is no vertex.
 pub record Lacks (ts : List Tint) (fs : List Form) (i : ℕ) : Type 0 where
   pub past : length (all_linked ts fs) ≤ i
   pub none : None ≡ occupant_at (all_linked ts fs) i
 
-pub form_past : (ts : List Tint) (fs : List Form) (i : ℕ) → Agree ts fs → slice_get fs i ≡ None → Lacks ts fs i
+form_past : (ts : List Tint) (fs : List Form) (i : ℕ) → Agree ts fs → None ≡ slice_get fs i → Lacks ts fs i
 form_past [] [] i k is = record { past = omega arith; none = refl }
 form_past [] (g ∷ fs) i k is = absurd k
 form_past (t ∷ ts) [] i k is = absurd k
 form_past (t ∷ ts) (g ∷ fs) zero k is = absurd (cc)
 form_past (t ∷ ts) (g ∷ fs) (suc i) k is = let rest = form_past ts fs i k.1 is in let past = rest.past in record { past = omega arith; none = rest.none }
+
+pub past_forms : (s : Inside) (i : ℕ) → Agree s.tints.items s.forms.items → None ≡ slice_get s.forms.items i → Lacks s.tints.items s.forms.items i
+past_forms s i k is = form_past s.tints.items s.forms.items i k is
 
 -- Two arrays that agree, and the list that they are.
 pub record Becomes (ts : List Tint) (fs : List Form) (es : List Linked) : Type 0 where
@@ -199,10 +218,18 @@ tells (u ∷ ts) (g ∷ fs) (suc i) new f k some is =
     let rest = tells ts fs i new f k.1 some is in
     record { taken = rest.taken; text = rest.text; becomes = record { agree = (k.0, rest.becomes.agree); is = ap (λ (l : List Linked). linked u g ∷ l) rest.becomes.is } }
 
--- A vertex is one that the list has.
-pub some_within : (ts : List Tint) (fs : List Form) (i : ℕ) → Agree ts fs → occupant_at (all_linked ts fs) i ≢ None → i < length (all_linked ts fs)
+-- A slot with a vertex is one of both arrays.
+pub record IsInBoth (ts : List Tint) (fs : List Form) (i : ℕ) : Type 0 where
+  pub tint : i < length ts
+  pub form : i < length fs
+
+pub some_within : (ts : List Tint) (fs : List Form) (i : ℕ) → Agree ts fs → occupant_at (all_linked ts fs) i ≢ None → IsInBoth ts fs i
 some_within [] [] i k some = absurd (some refl)
 some_within [] (g ∷ fs) i k some = absurd k
 some_within (u ∷ ts) [] i k some = absurd k
-some_within (u ∷ ts) (g ∷ fs) zero k some = omega arith
-some_within (u ∷ ts) (g ∷ fs) (suc i) k some = let rest = some_within ts fs i k.1 some in omega arith
+some_within (u ∷ ts) (g ∷ fs) zero k some = record { tint = omega arith; form = omega arith }
+some_within (u ∷ ts) (g ∷ fs) (suc i) k some =
+    let rest = some_within ts fs i k.1 some in
+    let tint = rest.tint in
+    let form = rest.form in
+    record { tint = omega arith; form = omega arith }

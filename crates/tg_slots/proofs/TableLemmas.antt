@@ -64,16 +64,25 @@ grey_at_most (i ∷ l) xs d h =
     let rest = grey_at_most l (set xs i None) d.1 (λ j g. mark_there xs i j None (λ is. d.0 (subst (λ (k : ℕ). Contains l k) is g)) ∙ h j (inr g)) in
     omega (arith, change, was, rest)
 
--- A white slot that turns grey and is listed.
-pub sound-push_grey : (t : Table) (i : ℕ) → IsSound t → mark t i ≡ Has White
-    → IsSound (record t { slots = recoloured t i Grey; grey = i ∷ t.grey })
-sound-push_grey t i s w =
-    let within : i < length t.slots = occupied_within t.slots i White w in
-    let size : length (recoloured t i Grey) ≡ length t.slots = length-set t.slots i _ in
-    let now : mark_of (get_or (recoloured t i Grey) i None) ≡ Has Grey = mark_here t.slots i _ within ∙ mark_coloured (slot t i) Grey White w in
+-- Another slot that is listed as grey stays so.
+grey_stays : (t : Table) (i : ℕ) (d : Colour) → IsSound t → (j : ℕ) → Contains t.grey j → j ≢ i
+    → (j < length (recoloured t i d)) × (mark_of (get_or (recoloured t i d) j None) ≡ Has Grey)
+grey_stays t i d s j l other =
+    let size : length (recoloured t i d) ≡ length t.slots = length-set t.slots i _ in
+    let old = s.listed_grey j l in
+    (omega arith, mark_there t.slots i j _ other ∙ old.1)
+
+-- An occupied slot gets a colour, and these are then listed as grey.
+sound-recoloured : (t : Table) (i : ℕ) (c d : Colour) (waiting : List ℕ) → IsSound t → mark t i ≡ Has c
+    → ((j : ℕ) → Contains waiting j → (j < length (recoloured t i d)) × (mark_of (get_or (recoloured t i d) j None) ≡ Has Grey))
+    → Distinct waiting → IsSound (record t { slots = recoloured t i d; grey = waiting })
+sound-recoloured t i c d waiting s w listed once =
+    let within : i < length t.slots = occupied_within t.slots i c w in
+    let size : length (recoloured t i d) ≡ length t.slots = length-set t.slots i _ in
+    let now : mark_of (get_or (recoloured t i d) i None) ≡ Has d = mark_here t.slots i _ within ∙ mark_coloured (slot t i) d c w in
     record {
       free_listed = λ j l f. elim (cases_eq j i) [
-        | inl e ↦ absurd (let f' = subst (λ (k : ℕ). mark_of (get_or (recoloured t i Grey) k None) ≡ Free) e f in cc)
+        | inl e ↦ absurd (let f' = subst (λ (k : ℕ). mark_of (get_or (recoloured t i d) k None) ≡ Free) e f in cc)
         | inr n ↦ s.free_listed j (omega arith) (sym (mark_there t.slots i j _ n) ∙ f)
       ];
       listed_free = λ j h.
@@ -81,16 +90,25 @@ sound-push_grey t i s w =
           let other : j ≢ i = λ e. let f : mark t i ≡ Free = rw (← e) (old.1) in cc in
           (omega arith, mark_there t.slots i j _ other ∙ old.1);
       free_once = s.free_once;
-      free_count = s.free_count ∙ sym (free_count-set t i White Grey w);
-      listed_grey = λ j h. elim h [
-        | inl e ↦ (omega arith, rw e now)
-        | inr l ↦
-            let old = s.listed_grey j l in
-            let other : j ≢ i = λ e. let f : mark t i ≡ Has Grey = rw (← e) (old.1) in cc in
-            (omega arith, mark_there t.slots i j _ other ∙ old.1)
-      ];
-      grey_once = (λ l. let old = s.listed_grey i l in (cc), s.grey_once);
+      free_count = s.free_count ∙ sym (free_count-set t i c d w);
+      listed_grey = listed;
+      grey_once = once;
     }
+
+-- A white slot that turns grey and is listed.
+pub sound-push_grey : (t : Table) (i : ℕ) → IsSound t → mark t i ≡ Has White
+    → IsSound (record t { slots = recoloured t i Grey; grey = i ∷ t.grey })
+sound-push_grey t i s w =
+    let within : i < length t.slots = occupied_within t.slots i White w in
+    let size : length (recoloured t i Grey) ≡ length t.slots = length-set t.slots i _ in
+    let now : mark_of (get_or (recoloured t i Grey) i None) ≡ Has Grey = mark_here t.slots i _ within ∙ mark_coloured (slot t i) Grey White w in
+    let white : Contains t.grey i → ⊥ = λ l. let old = s.listed_grey i l in (cc) in
+    sound-recoloured t i White Grey (i ∷ t.grey) s w
+    (λ j h. elim h [
+      | inl e ↦ (omega arith, rw e now)
+      | inr l ↦ grey_stays t i Grey s j l (λ e. white (rw (← e) l))
+    ])
+    (white, s.grey_once)
 
 -- A grey slot is no longer waiting.
 pub sound-pop_grey : (t : Table) (i : ℕ) (rest : List ℕ) → IsSound t → t.grey ≡ i ∷ rest → IsSound (record t { grey = rest })
@@ -109,26 +127,7 @@ sound-pop_grey t i rest s e =
 pub sound-painted : (t : Table) (i : ℕ) (c d : Colour) → IsSound t → mark t i ≡ Has c → (Contains t.grey i → ⊥)
     → IsSound (record t { slots = recoloured t i d })
 sound-painted t i c d s w out =
-    let within : i < length t.slots = occupied_within t.slots i c w in
-    let size : length (recoloured t i d) ≡ length t.slots = length-set t.slots i _ in
-    let now : mark_of (get_or (recoloured t i d) i None) ≡ Has d = mark_here t.slots i _ within ∙ mark_coloured (slot t i) d c w in
-    record {
-      free_listed = λ j l f. elim (cases_eq j i) [
-        | inl e ↦ absurd (let f' = subst (λ (k : ℕ). mark_of (get_or (recoloured t i d) k None) ≡ Free) e f in cc)
-        | inr n ↦ s.free_listed j (omega arith) (sym (mark_there t.slots i j _ n) ∙ f)
-      ];
-      listed_free = λ j h.
-          let old = s.listed_free j h in
-          let other : j ≢ i = λ e. let f : mark t i ≡ Free = rw (← e) (old.1) in cc in
-          (omega arith, mark_there t.slots i j _ other ∙ old.1);
-      free_once = s.free_once;
-      free_count = s.free_count ∙ sym (free_count-set t i c d w);
-      listed_grey = λ j l.
-          let old = s.listed_grey j l in
-          let other : j ≢ i = λ e. out (rw (← e) l) in
-          (omega arith, mark_there t.slots i j _ other ∙ old.1);
-      grey_once = s.grey_once;
-    }
+    sound-recoloured t i c d t.grey s w (λ j l. grey_stays t i d s j l (λ e. out (rw (← e) l))) s.grey_once
 
 if_free-free : (o : Option Occupant) → mark_of o ≡ Free → if_free o ≡ 1
 if_free-free None e = refl

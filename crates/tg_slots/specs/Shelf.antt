@@ -1,5 +1,6 @@
 -- the slots that two arrays represent
-use Rattle.std.specs.Prelude.{◌≡◌, ℕ, Bool, true, false, min, List, [], ◌∷◌, Option, Some, None}
+use Rattle.std.specs.Prelude.{◌≡◌, ℕ, Bool, true, false, map, min, List, [], ◌∷◌, Option, Some, None}
+use Rattle.std.specs.List.{zip}
 use Rattle.std.specs.Vec.{vec_capacity}
 use Rattle.tg_rights.specs.declared.kind.Kind.{Kind}
 use Rattle.tg_slots.specs.declared.colour.Colour.{Colour}
@@ -70,9 +71,7 @@ linked t (form.Free link) = record { occupant = None; link = link }
 linked t (form.Taken kind link serial text) = record { occupant = Some (record { serial = serial; kind = kind; colour = shade_of t; text = text }); link = link }
 
 abbrev pub all_linked : List Tint → List Form → List Linked
-all_linked [] fs = []
-all_linked (t ∷ ts) [] = []
-all_linked (t ∷ ts) (f ∷ fs) = linked t f ∷ all_linked ts fs
+all_linked ts fs = map (λ p. linked p.0 p.1) (zip ts fs)
 
 abbrev pub shelved : Inside → Shelved
 shelved s = record { items = all_linked s.tints.items s.forms.items; room = min (vec_capacity s.tints) (vec_capacity s.forms) }
@@ -83,6 +82,3 @@ Agree [] [] = Unit {0}
 Agree [] (f ∷ fs) = ⊥
 Agree (t ∷ ts) [] = ⊥
 Agree (t ∷ ts) (f ∷ fs) = (is_coloured t ≡ is_taken f) × Agree ts fs
-
-abbrev pub IsShelf : Inside → Type 0
-IsShelf s = Agree s.tints.items s.forms.items

@@ -3,8 +3,8 @@ ghost use Rattle.std.specs.Prelude.{◌≡◌, ◌≢◌, ◌<◌, ◌≤◌, �
 ghost use Rattle.std.specs.Option.{option_map};
 ghost use Rattle.std.specs.Vec.{vec_capacity};
 ghost use Rattle.tg_slots.specs.Table.{in_slot, with_text, coloured};
-ghost use Rattle.tg_slots.specs.Linked.{at, occupant_at};
-ghost use Rattle.tg_slots.specs.Shelf.{colour_of, is_taken, kind_of, leading, link_of, serial_of, telling, text_of, tint_of};
+ghost use Rattle.tg_slots.specs.Linked.{Shelved, at, occupant_at};
+ghost use Rattle.tg_slots.specs.Shelf.{Agree, colour_of, is_taken, kind_of, leading, link_of, serial_of, shelved, telling, text_of, tint_of};
 
 use crate::{Colour, Occupant};
 use std::alloc::{AllocError, Global};
@@ -45,15 +45,11 @@ pub(crate) struct Shelf {
 }
 
 impl Model for Shelf {
-    ghost use Rattle.tg_slots.specs.Linked.{Shelved};
-
     ghost Value = { Shelved };
-
-    ghost use Rattle.tg_slots.specs.Shelf.{shelved, IsShelf};
 
     ghost view = { shelved };
 
-    ghost invariant = { IsShelf };
+    ghost invariant = { λ s. Agree s.tints.items s.forms.items };
 }
 
 impl Tint {

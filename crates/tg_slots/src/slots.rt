@@ -3,7 +3,7 @@ ghost use Rattle.std.specs.Prelude.{◌≡◌, ◌≢◌, ◌<◌, ◌≤◌, []
 ghost use Rattle.tg_rights.specs.Membership.{Contains};
 ghost use Rattle.tg_rights.specs.declared.limits.TheConstants.{MAX_SLOTS};
 ghost use Rattle.tg_slots.specs.Table.{Table, Free, Has, slot, mark, coloured, recoloured, with_text, in_slot, IsSound, fresh};
-ghost use Rattle.tg_slots.specs.Inside.{IsProvided};
+ghost use Rattle.tg_slots.specs.Inside.{IsInside, IsProvided, table};
 
 use crate::Colour;
 use crate::shelf::Shelf;
@@ -34,11 +34,7 @@ pub struct Slots {
 }
 
 impl Model for Slots {
-    ghost use Rattle.tg_slots.specs.Table.{Table};
-
     ghost Value = { Table };
-
-    ghost use Rattle.tg_slots.specs.Inside.{table, IsInside};
 
     ghost view = { table };
 

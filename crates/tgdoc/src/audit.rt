@@ -8,6 +8,7 @@ ghost use Rattle.tg_talk.specs.Devices.{Sends, device_of, has_failed, owed, prom
 ghost use Rattle.tg_talk.specs.declared.fault.TalkFault.TheVariants.{OutOfMemory, Reading, Writing};
 ghost use Rattle.tg_talk.specs.declared.line_buffer.TheConstants.{MOST_LINES};
 ghost use Rattle.tg_talk.specs.Endings.{EndsOnce};
+ghost use Rattle.tgdoc.specs.Ready.{AreReady};
 ghost use Rattle.tgdoc.specs.Runs.{RefusesOpening};
 ghost use Rattle.tgdoc.specs.Audits.{BytesAudited, Misreads, OpensGraph, SaysGoal, end_errors, verdict_errors};
 ghost use Rattle.tg_talk.specs.Answering.{one_if};
@@ -49,9 +50,7 @@ pub fn audit_lines<R: Read, W: Write + Drop>(
     reader: &mut Watched<R>,
     writer: &mut Watched<BufWriter<W>>,
 ) -> Finished
-    requires reads { has_failed reader.old ≡ false }
-    requires writes { has_failed writer.old ≡ false }
-    requires paid { owed writer.old ≡ [] }
+    requires { AreReady (has_failed reader.old) (has_failed writer.old) (owed writer.old) }
     ensures paid { has_failed writer.new ≡ false → owed writer.new ≡ [] }
     ensures reading { (has_failed reader.new ≡ true) ↔ (result.fault ≡ Some Reading) }
     ensures writing { (has_failed writer.new ≡ true) ↔ (result.fault ≡ Some Writing) }

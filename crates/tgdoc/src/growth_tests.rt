@@ -1,6 +1,7 @@
 //! The command line if memory runs out: the error says so, and the words that are read again ask for what they do.
 //! tests/faults/growths.py makes each allocation of the test fail in turn.
 
+use crate::mode_tests::SERVER;
 use crate::{Mode, mode};
 use clap::Error;
 use clap::error::ErrorKind;
@@ -8,17 +9,7 @@ use std::alloc::Global;
 
 /// What the words of a server ask for.
 fn asked(alloc: Global) -> Result<Mode, Error> {
-    mode(
-        alloc,
-        &[
-            "tgdoc",
-            "serve",
-            "--listen",
-            "127.0.0.1:0",
-            "--connections",
-            "1",
-        ],
-    )
+    mode(alloc, SERVER)
 }
 
 /// Whether that is the server, with four workers and one connection.

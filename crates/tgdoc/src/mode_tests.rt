@@ -3,6 +3,16 @@
 use crate::{Mode, mode};
 use std::alloc::Global;
 
+/// Words that ask for a server, without a number of workers.
+pub(crate) const SERVER: &[&str] = &[
+    "tgdoc",
+    "serve",
+    "--listen",
+    "127.0.0.1:0",
+    "--connections",
+    "1",
+];
+
 /// The number of workers and of connections that words ask for; none if they ask for no server on this address.
 fn numbers_of(alloc: Global, words: &[&str], address: &str) -> Option<(u64, u64)> {
     match mode(alloc, words) {
@@ -47,42 +57,25 @@ fn the_words_run_and_audit_are_modes(rt: HostRuntime) {
 
 #[test]
 fn four_workers_serve_where_no_number_is_given(rt: HostRuntime) {
-    let words = [
-        "tgdoc",
-        "serve",
-        "--listen",
-        "127.0.0.1:0",
-        "--connections",
-        "1",
-    ];
-    assert_eq!(rt; numbers_of(rt.alloc(), &words, "127.0.0.1:0"), Some((4, 1)));
+    assert_eq!(rt; numbers_of(rt.alloc(), SERVER, "127.0.0.1:0"), Some((4, 1)));
 }
+
+/// What follows `tgdoc serve --listen 127.0.0.1:0`, and the numbers that it asks for.
+const NUMBERS: &[([&str; 4], Option<(u64, u64)>)] = &[
+    (["--workers", "1", "--connections", "1"], Some((1, 1))),
+    (
+        ["--connections", "1000000", "--workers", "63"],
+        Some((63, 1_000_000)),
+    ),
+    (["--workers", "0", "--connections", "1"], None),
+    (["--workers", "64", "--connections", "1"], None),
+    (["--workers", "1", "--connections", "0"], None),
+    (["--workers", "1", "--connections", "1000001"], None),
+];
 
 #[test]
 fn a_server_has_its_numbers_in_their_ranges(rt: HostRuntime) {
-    let alloc = rt.alloc();
-    assert_eq!(rt;
-        served(alloc, ["--workers", "1", "--connections", "1"]),
-        Some((1, 1))
-    );
-    assert_eq!(rt;
-        served(alloc, ["--connections", "1000000", "--workers", "63"]),
-        Some((63, 1_000_000))
-    );
-    assert_eq!(rt;
-        served(alloc, ["--workers", "0", "--connections", "1"]),
-        None
-    );
-    assert_eq!(rt;
-        served(alloc, ["--workers", "64", "--connections", "1"]),
-        None
-    );
-    assert_eq!(rt;
-        served(alloc, ["--workers", "1", "--connections", "0"]),
-        None
-    );
-    assert_eq!(rt;
-        served(alloc, ["--workers", "1", "--connections", "1000001"]),
-        None
-    );
+    for (further, numbers) in NUMBERS {
+        assert_eq!(rt; served(rt.alloc(), *further), *numbers);
+    }
 }

@@ -4,6 +4,7 @@ ghost use Rattle.std.specs.Prelude.{◌≡◌, ◌≢◌, ◌↔◌, ◌≤◌, 
 ghost use Rattle.std.specs.Io.KnownBytes.{Keeps, prepend_known};
 ghost use Rattle.tg_talk.specs.Devices.{device_of, has_failed, owed, promised};
 ghost use Rattle.tg_talk.specs.declared.fault.TalkFault.TheVariants.{OutOfMemory, Reading, Writing};
+ghost use Rattle.tgdoc.specs.Ready.{AreReady};
 ghost use Rattle.tgdoc.specs.Runs.{LinesRan, RefusesOpening};
 ghost use Rattle.tgdoc.specs.Running.{Opens, LinesLeft};
 
@@ -26,9 +27,7 @@ pub fn run_lines<R: Read, W: Write + Drop>(
     reader: &mut Watched<R>,
     writer: &mut Watched<BufWriter<W>>,
 ) -> Finished
-    requires reads { has_failed reader.old ≡ false }
-    requires writes { has_failed writer.old ≡ false }
-    requires paid { owed writer.old ≡ [] }
+    requires { AreReady (has_failed reader.old) (has_failed writer.old) (owed writer.old) }
     ensures paid { has_failed writer.new ≡ false → owed writer.new ≡ [] }
     ensures reading { (has_failed reader.new ≡ true) ↔ (result.fault ≡ Some Reading) }
     ensures writing { (has_failed writer.new ≡ true) ↔ (result.fault ≡ Some Writing) }

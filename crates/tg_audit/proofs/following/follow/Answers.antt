@@ -2,7 +2,7 @@ use Rattle.std.proofs.Common.{◌<◌, ◌≡◌, ◌∙◌, Some, arith, slice_
 use Rattle.std.proofs.lemmas.Option.{slice_get-get_or}
 use Rattle.tg_rights.specs.declared.limits.TheConstants.{SEATS}
 use Rattle.tg_audit.specs.Replies.{replies_of}
-use Rattle.tg_audit.proofs.ReplayLemmas.{left_permitted, left_subject, replayed_more, replayed_none, replied_next}
+use Rattle.tg_audit.proofs.ReplayLemmas.{left_permitted, left_subject, replayed_none, replays}
 use Rattle.tg_audit.proofs.TableLemmas.{followed_end, followed_fresh, followed_more, start}
 use Rattle.tg_audit.proofs.following.follow.Goals as goal
 
@@ -16,14 +16,10 @@ loop-number-init c =
     }
 
 pub reply_to-requires-clause-subject : goal.reply_to-requires-clause-subject
-reply_to-requires-clause-subject c =
-    let v = c.args.vault.now in
-    left_subject v.limits v.opening c.loop-number.graph v.history c.loop-number.number c.entry_at-entry.result.now c.loop-number.invariant.replayed.left c.entry_at-entry.ensures.entry
+reply_to-requires-clause-subject c = left_subject c.args.vault.now c.loop-number.graph c.loop-number.number c.entry_at-entry.result.now c.loop-number.invariant.replayed.left c.entry_at-entry.ensures.entry
 
 pub reply_to-requires-clause-permitted : goal.reply_to-requires-clause-permitted
-reply_to-requires-clause-permitted c =
-    let v = c.args.vault.now in
-    (v.limits, left_permitted v.limits v.opening c.loop-number.graph v.history c.loop-number.number c.entry_at-entry.result.now c.loop-number.invariant.replayed.left c.entry_at-entry.ensures.entry)
+reply_to-requires-clause-permitted c = left_permitted c.args.vault.now c.loop-number.graph c.loop-number.number c.entry_at-entry.result.now c.loop-number.invariant.replayed.left c.entry_at-entry.ensures.entry
 
 pub compared-requires : goal.compared-requires
 compared-requires c =
@@ -38,18 +34,15 @@ pub loop-number-preserved : goal.loop-number-preserved
 loop-number-preserved c =
     let v = c.args.vault.now in
     let n = c.loop-number.number in
-    let G = c.loop-number.graph in
-    let H = c.reply_to.new.graph in
     let e = c.entry_at-entry.result.now in
     let r = c.in_ok-reply.reply in
     let p = slice_index_or c.loop-number.table e.seat start in
     let followed = c.loop-number.invariant.followed in
-    let replayed = c.loop-number.invariant.replayed in
     let here : slice_get c.loop-number.table e.seat ≡ Some p = slice_get-get_or c.loop-number.table e.seat start (omega (arith, followed.whole, c.entry_at-entry.ensures.seat)) in
-    let told : slice_get (replies_of v.opening v.history) n ≡ Some r = replied_next v G H n e r replayed c.entry_at-entry.ensures.entry c.in_ok-reply.ensures.reply c.in_ok-reply.ensures.graph in
+    let next = replays v c.loop-number.graph c.reply_to.new.graph n e r c.loop-number.invariant.replayed c.entry_at-entry.ensures.entry c.in_ok-reply.ensures.reply c.in_ok-reply.ensures.graph in
     record {
-      followed = rw c.seat-seat.ensures (followed_more v c.args.logs.now (replies_of v.opening v.history) n c.loop-number.table e r p c.compared.result followed c.entry_at-entry.ensures.entry told c.entry_at-entry.ensures.seat here (rw c.seat-seat.ensures at c.compared.ensures.follows) (rw c.seat-seat.ensures at c.compared.ensures.count));
-      replayed = replayed_more v G H n e r replayed c.entry_at-entry.ensures.entry c.in_ok-reply.ensures.reply c.in_ok-reply.ensures.graph;
+      followed = rw c.seat-seat.ensures (followed_more v c.args.logs.now (replies_of v.opening v.history) n c.loop-number.table e r p c.compared.result followed c.entry_at-entry.ensures.entry next.told c.entry_at-entry.ensures.seat here (rw c.seat-seat.ensures at c.compared.ensures.follows) (rw c.seat-seat.ensures at c.compared.ensures.count));
+      replayed = next.replayed;
     }
 
 pub returns-clause-whole : goal.returns-clause-whole

@@ -6,7 +6,7 @@ use Rattle.tg_cells.specs.Index.{bucket_of}
 use Rattle.tg_cells.specs.Inside.{place_in}
 use Rattle.tg_cells.proofs.InsideLemmas.{linked_within, owner_fits, read_cell, seen}
 use Rattle.tg_cells.proofs.UnlinkLemmas.{unlinks, unlinked_length}
-use Rattle.tg_cells.proofs.IndexLemmas.{stays, index_seen, indexes-unlink, linked_held}
+use Rattle.tg_cells.proofs.IndexLemmas.{stays, index_seen, indexes-unlink, held_in}
 use Rattle.tg_cells.proofs.cells.Cells.unlink.Goals as goal
 
 pub previous-previous-requires : goal.previous-previous-requires
@@ -21,10 +21,7 @@ serial-serial-requires c = let l = c.requires in linked_within c.self.inside c.a
 pub take-requires : goal.take-requires
 take-requires c =
     let l = c.requires in
-    let x = index_seen c.self.inside c.args.self.now c.self.view_is c.self.invariant in
-    let at : c.bucket_of-bucket.result ≡ place_in c.self.inside c.args.owner c.serial-serial.result = c.bucket_of-bucket.ensures.is ∙ ap (λ (m : ℕ). bucket_of c.self.inside.key m c.args.owner c.serial-serial.result) c.buckets.ensures in
-    let named = c.serial-serial.ensures ∙ ap (λ (e : Edge). e.serial) (read_cell c.self.inside c.args.self.now c.args.cell c.args.owner l.before l.after l.edge c.self.view_is c.self.invariant.inside l.stands) in
-    linked_held (place_in c.self.inside) c.self.inside.index.lists c.args.self.now.lists c.args.cell c.args.owner c.serial-serial.result c.bucket_of-bucket.result l.before l.after l.edge x.edges l.stands named at
+    held_in c.self.inside c.args.self.now c.args.cell c.args.owner c.serial-serial.result c.buckets.result c.bucket_of-bucket.result l.before l.after l.edge c.self.view_is c.self.invariant l.stands c.serial-serial.ensures c.buckets.ensures c.bucket_of-bucket.ensures.is
 
 pub set_head-requires : goal.set_head-requires
 set_head-requires c =

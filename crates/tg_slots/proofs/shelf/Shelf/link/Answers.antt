@@ -1,14 +1,11 @@
-use Rattle.std.proofs.Common.{◌∙◌, sym}
-use Rattle.tg_slots.proofs.ShelfLemmas.{form_past, form_read}
+use Rattle.std.proofs.Common.{◌∙◌}
+use Rattle.tg_slots.proofs.ShelfLemmas.{past_forms, read_form}
 use Rattle.tg_slots.proofs.shelf.Shelf.link.Goals as goal
 
 pub returns-in-Some : goal.returns-in-Some
 returns-in-Some c =
-    let found = sym (rw c.deref.ensures.value at c.in-Some.ensures) in
-    let holds = form_read c.self.inside.tints.items c.self.inside.forms.items c.args.id c.in-Some.form.now c.self.invariant found in
+    let holds = read_form c.self.inside c.args.id c.in-Some.form.now c.self.invariant (rw c.deref.ensures.value at c.in-Some.ensures) in
     rw (← c.self.view_is) (holds.within, c.link.ensures ∙ holds.link)
 
 pub returns-in-None : goal.returns-in-None
-returns-in-None c =
-    let none = sym (rw c.deref.ensures.value at c.in-None.ensures) in
-    rw (← c.self.view_is) (form_past c.self.inside.tints.items c.self.inside.forms.items c.args.id c.self.invariant none).past
+returns-in-None c = rw (← c.self.view_is) (past_forms c.self.inside c.args.id c.self.invariant (rw c.deref.ensures.value at c.in-None.ensures)).past

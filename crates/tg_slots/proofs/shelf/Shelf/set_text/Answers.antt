@@ -1,13 +1,10 @@
 use Rattle.std.proofs.Common.{◌∙◌, List, ap, arith, min, vec_capacity}
 use Rattle.tg_slots.specs.Linked.{Linked}
-use Rattle.tg_slots.proofs.ShelfLemmas.{forms_length, some_within, tells}
+use Rattle.tg_slots.proofs.ShelfLemmas.{some_within, tells}
 use Rattle.tg_slots.proofs.shelf.Shelf.set_text.Goals as goal
 
 pub index_mut-requires : goal.index_mut-requires
-index_mut-requires c =
-    let within = some_within c.self.inside.tints.items c.self.inside.forms.items c.args.id c.self.invariant (rw (← c.self.view_is) at c.requires) in
-    let same = forms_length c.self.inside.tints.items c.self.inside.forms.items c.self.invariant in
-    omega arith
+index_mut-requires c = let within = (some_within c.self.inside.tints.items c.self.inside.forms.items c.args.id c.self.invariant (rw (← c.self.view_is) at c.requires)).form in omega arith
 
 pub set_text-requires : goal.set_text-requires
 set_text-requires c = (tells c.self.inside.tints.items c.self.inside.forms.items c.args.id c.args.new c.index_mut.result.now c.self.invariant (rw (← c.self.view_is) at c.requires) c.index_mut.ensures.value).taken

@@ -1,14 +1,10 @@
-use Rattle.std.proofs.Common.{◌∙◌, ap, sym}
+use Rattle.std.proofs.Common.{◌∙◌, ap}
 use Rattle.tg_slots.specs.Table.{in_slot}
-use Rattle.tg_slots.proofs.ShelfLemmas.{form_past, form_read}
+use Rattle.tg_slots.proofs.ShelfLemmas.{past_forms, read_form}
 use Rattle.tg_slots.proofs.shelf.Shelf.text.Goals as goal
 
 pub returns-in-Some : goal.returns-in-Some
-returns-in-Some c =
-    let found = sym (rw c.deref.ensures.value at c.in-Some.ensures) in
-    rw (← c.self.view_is) (c.text.ensures ∙ (form_read c.self.inside.tints.items c.self.inside.forms.items c.args.id c.in-Some.form.now c.self.invariant found).text)
+returns-in-Some c = rw (← c.self.view_is) (c.text.ensures ∙ (read_form c.self.inside c.args.id c.in-Some.form.now c.self.invariant (rw c.deref.ensures.value at c.in-Some.ensures)).text)
 
 pub returns-in-None : goal.returns-in-None
-returns-in-None c =
-    let none = sym (rw c.deref.ensures.value at c.in-None.ensures) in
-    rw (← c.self.view_is) (ap (in_slot (λ o. o.text)) (form_past c.self.inside.tints.items c.self.inside.forms.items c.args.id c.self.invariant none).none)
+returns-in-None c = rw (← c.self.view_is) (ap (in_slot (λ o. o.text)) (past_forms c.self.inside c.args.id c.self.invariant (rw c.deref.ensures.value at c.in-None.ensures)).none)
