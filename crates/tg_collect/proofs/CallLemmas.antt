@@ -1,78 +1,102 @@
--- From a call's conditions, as contracts see them, to the machine, and back.
-use Rattle.std.proofs.Common.{◌≡◌, ◌≢◌, ℕ, suc, ◌<◌, List, [], ◌∷◌, ◌++◌, length, Option, Some, None, inl, inr, sym, ◌∙◌, subst, ap, refl, arith, get_or, get_or-set_other, true, false}
-use Rattle.std.proofs.Math.ListN.{get_or-map}
-use Rattle.std.specs.Option.{is_some, unwrap_or, option_map, MatchOption}
-use Rattle.std.specs.Prelude.{Result, Ok, Err, OnOk}
+-- What the readers of a store answer.
+use Rattle.std.proofs.Common.{◌≡◌, ◌≢◌, ℕ, zero, suc, ◌<◌, List, [], ◌∷◌, length, map, Option, Some, None, MatchOption, inl, inr, Bool, true, false, sym, ◌∙◌, subst, ap, refl, arith, get_or}
+use Rattle.std.specs.Option.{is_some, unwrap_or, option_map}
 use Rattle.std.specs.FinMap as finmap
 use Rattle.std.specs.FinSet as finset
-use Rattle.tg_rights.specs.Letters.{Letters, Right, has, none, includes, is_none}
+use Rattle.tg_rights.specs.Letters.{Letters, Right, has, is_none, none, includes}
 use Rattle.tg_rights.specs.Letters as right
-use Rattle.tg_rights.specs.Membership.{Contains}
-use Rattle.tg_rights.specs.declared.kind.Kind.{Kind}
-use Rattle.tg_rights.proofs.MembershipLemmas.{same_by, split_at}
+use Rattle.tg_rights.specs.Membership.{Contains, Distinct}
+use Rattle.tg_rights.proofs.MembershipLemmas.{contains_map, contains_middle, same_by, split_at}
+use Rattle.tg_graph.specs.Triples.{Triple}
 use Rattle.tg_graph.specs.Protection.{label}
-use Rattle.tg_slots.specs.Table.{Free, mark_of, slot, in_slot}
+use Rattle.tg_held.specs.Held.{vertex_of}
+use Rattle.tg_slots.specs.Table as table
+use Rattle.tg_slots.specs.Table.{Free, slot, in_slot}
 use Rattle.tg_slots.specs.declared.slots.Occupant.{Occupant}
 use Rattle.tg_cells.specs.Lists.{Edge, HasNone, Found}
 use Rattle.tg_heap.specs.Graph.{edges, mark_at, IsHeap}
+use Rattle.tg_marking.specs.Values as values
+use Rattle.tg_marking.specs.Values.{Spot, Kept, as_kept}
+use Rattle.tg_marking.specs.Invariant.{Leads}
 use Rattle.tg_collect.specs.declared.machine.Root.{Root}
 use Rattle.tg_collect.specs.declared.machine.Machine.{Machine}
-use Rattle.tg_collect.specs.Machine.{IsHeld}
-use Rattle.tg_collect.specs.Names.{IsNamed, Whole}
-use Rattle.tg_collect.specs.Stored.{Stored, stored, held, serial_of, vertex_of, principals_of}
-use Rattle.tg_collect.specs.Views.{IsHeldIn, IsEdgeIn, place, serial_at}
-use Rattle.tg_collect.specs.Sessions.{pending_of, EdgeStored, VertexStored}
-use Rattle.tg_collect.proofs.MachineLemmas.{held_within, index_contains}
-use Rattle.tg_collect.proofs.SetLemmas.{stands_get, place_named, named_place}
-use Rattle.tg_collect.proofs.EdgeShown.{says_triple, triple_says}
-use Rattle.tg_collect.proofs.EdgeCalls.{edge_listed}
-use Rattle.tg_collect.proofs.StoreLemmas.{is_store}
-use Rattle.tg_collect.proofs.VertexCalls.{VertexPlaced, vertex_stored}
-use Rattle.tg_collect.proofs.CollectLemmas.{both_true, at_serial}
+use Rattle.tg_collect.specs.Machine.{lists_of, body, progress_of, join, Whole}
+use Rattle.tg_collect.specs.Stored.{Stored, stored}
+use Rattle.tg_collect.specs.Readings.{kept, place, serial_at, serial_of, root_serial, pending_of, pending, principals, triples, IsEdgeIn, progress, held}
+use Rattle.tg_collect.proofs.ZipLemmas.{zip_at, zip_size, as_spot}
+use Rattle.tg_collect.proofs.RootLemmas.{kept_within}
+use Rattle.tg_collect.proofs.ShownLemmas.{Once, place_kept, vertex_found, triple_owned, held_at, says_triple, shown_edge}
+use Rattle.tg_collect.proofs.StoreLemmas.{kept_is, stored_kept, once_stored, closed_so, named_so, contains_mapped}
 
-some_of : (o : Option ℕ) → is_some o ≡ true → o ≡ Some (unwrap_or o 0)
+-- A slot where something is held, with its vertex.
+pub record Holds (m : Machine) (i : ℕ) : Type 0 where
+  pub what : Kept
+  pub shows : kept (stored m) i ≡ Some what
+  pub serial : serial_at (stored m) i ≡ what.serial
+  pub occupant : Occupant
+  pub is : slot m.heap.table i ≡ Some occupant
+  pub same : as_kept (as_spot occupant (edges m.heap i)) ≡ what
+
+pub some_of : (o : Option ℕ) → is_some o ≡ true → o ≡ Some (unwrap_or o 0)
 some_of None e = absurd (cc)
 some_of (Some x) e = refl
 
--- A named slot holds a vertex of the serial that it shows.
-pub placed_name : (m : Machine) (id : ℕ) → is_some (place (stored m) id) ≡ true → IsNamed m.heap id (serial_at (stored m) id) × IsHeld m id
-placed_name m id e = place_named m.progress m.heap id (serial_at (stored m) id) (some_of (place (stored m) id) e)
+pub holds : (m : Machine) (i : ℕ) → is_some (place (stored m) i) ≡ true → Holds m i
+holds m i e = by (slot m.heap.table i) refl (sym (zip_at m.heap.table.slots m.heap.lists i) ∙ r.1) where
+  k : (k : Kept) × (kept (stored m) i ≡ Some k) × (k.serial ≡ serial_at (stored m) i)
+  k = place_kept (stored m) i (serial_at (stored m) i) (some_of (place (stored m) i) e)
 
-pub placed_within : (m : Machine) (id : ℕ) → is_some (place (stored m) id) ≡ true → id < length m.heap.table.slots
-placed_within m id e = held_within m id (placed_name m id e).1.0
+  r : (s : Spot) × (values.spot (body m) i ≡ Some s) × (values.keeps (progress (stored m)) i s.colour ≡ true) × (as_kept s ≡ k.0)
+  r = kept_is (progress (stored m)) i (values.spot (body m) i) k.0 k.1
 
--- The seat has no target.
-pub idle_seat : (m : Machine) (seat : ℕ) → pending_of (stored m) seat ≡ None → get_or m.pending.items seat None ≡ None
-idle_seat m seat e = by (get_or m.pending.items seat None) (sym (get_or-map serial_of m.pending.items seat None) ∙ e) where
-  by : (r : Option Root) → serial_of r ≡ None → r ≡ None
-  by None e = refl
-  by (Some r) e = absurd (cc)
+  spots : (a b : Spot) → Some a ≡ Some b → a ≡ b
+  spots a b e = cc
 
-pub seat_within : (m : Machine) (seat : ℕ) → Whole m → seat < 64 → seat < length m.pending.items
-seat_within m seat w b = let s = w.seats in omega (arith, s, b)
+  by : (o : Option Occupant) → slot m.heap.table i ≡ o → join (slot m.heap.table i) (edges m.heap i) ≡ Some r.0 → Holds m i
+  by None is at = absurd (let u : None ≡ Some r.0 = sym (ap (λ q. join q (edges m.heap i)) is) ∙ at in cc)
+  by (Some o) is at = record {
+    what = k.0;
+    shows = k.1;
+    serial = sym k.2;
+    occupant = o;
+    is = is;
+    same = ap as_kept (spots (as_spot o (edges m.heap i)) r.0 (sym (ap (λ q. join q (edges m.heap i)) is) ∙ at)) ∙ r.3;
+  }
 
--- What a held slot's vertex shows.
-pub vertex_shown : (m : Machine) (id : ℕ) → Whole m → is_some (place (stored m) id) ≡ true → (o : Occupant) × (slot m.heap.table id ≡ Some o) × (finmap.get (stored m).vertices (serial_at (stored m) id) ≡ Some (vertex_of o))
-vertex_shown m id w e =
-    let n = placed_name m id e in
-    let o : Occupant = n.0.0 in
-    (o, n.0.1, stands_get m.heap m.progress w.names.once (serial_at (stored m) id) (vertex_of o) (record { at = id; occupant = o; is = n.0.1; serial = n.0.2; vertex = refl; held = n.1 }))
+module _ (m : Machine) (i : ℕ) (e : is_some (place (stored m) i) ≡ true) where
+  pub placed_within : i < length m.heap.table.slots
+  placed_within = let h = holds m i e in let l = kept_within (body m) (progress_of m) i h.what (sym (stored_kept m i) ∙ h.shows) in let z = zip_size m.heap.table.slots m.heap.lists in omega (arith, l, z)
 
-some_same : {X : Type 0} (a b : X) → Some a ≡ Some b → a ≡ b
-some_same a b e = cc
+  pub placed_mark : mark_at m.heap i ≢ Free
+  placed_mark f = let h = holds m i e in let u : Free ≡ table.Has h.occupant.colour = sym f ∙ ap table.mark_of h.is in cc
 
-pub kind_shown : (m : Machine) (id : ℕ) (k : Kind) → Whole m → is_some (place (stored m) id) ≡ true → in_slot (λ o. o.kind) (slot m.heap.table id) ≡ Some k
-    → option_map (λ v. v.kind) (finmap.get (stored m).vertices (serial_at (stored m) id)) ≡ Some k
-kind_shown m id k w e f = let v = vertex_shown m id w e in ap (option_map (λ v. v.kind)) v.2 ∙ sym (ap (in_slot (λ o. o.kind)) v.1) ∙ f
+  pub found_in : {X : Type 0} (f : Occupant → X) (r : Option X) → r ≡ in_slot f (slot m.heap.table i) → is_some r ≡ true
+  found_in f r is = ap is_some (is ∙ ap (in_slot f) (holds m i e).is)
 
-pub text_shown : (m : Machine) (id : ℕ) (t : List ℕ) → Whole m → is_some (place (stored m) id) ≡ true → in_slot (λ o. o.text) (slot m.heap.table id) ≡ Some t
-    → option_map (λ v. v.text) (finmap.get (stored m).vertices (serial_at (stored m) id)) ≡ Some t
-text_shown m id t w e f = let v = vertex_shown m id w e in ap (option_map (λ v. v.text)) v.2 ∙ sym (ap (in_slot (λ o. o.text)) v.1) ∙ f
+  pub serial_found : (x : ℕ) → in_slot (λ o. o.serial) (slot m.heap.table i) ≡ Some x → x ≡ serial_at (stored m) i
+  serial_found x f = let h = holds m i e in let u : Some x ≡ Some h.occupant.serial = sym f ∙ ap (in_slot (λ o. o.serial)) h.is in let v : x ≡ h.occupant.serial = cc in v ∙ ap (λ (k : Kept). k.serial) h.same ∙ sym h.serial
+
+  pub text_found : {X : Type 0} (r : Option X) (get : X → List ℕ) → MatchOption r (mark_at m.heap i ≡ Free) (λ t. in_slot (λ o. o.text) (slot m.heap.table i) ≡ Some (get t)) → is_some r ≡ true
+  text_found None get is = absurd (placed_mark is)
+  text_found (Some t) get is = refl
+
+  -- A field of what a slot's vertex shows.
+  pub field_shown : {X : Type 0} (f : Occupant → X) (g : _ → X) (x : X) → Whole m → ((o : Occupant) → g (vertex_of (as_kept (as_spot o (edges m.heap i)))) ≡ f o) → in_slot f (slot m.heap.table i) ≡ Some x
+      → option_map g (finmap.get (held (stored m) 0).vertices (serial_at (stored m) i)) ≡ Some x
+  field_shown f g x w same is =
+      let h = holds m i e in
+      ap (λ (y : ℕ). option_map g (finmap.get (held (stored m) 0).vertices y)) h.serial ∙ ap (option_map g) (vertex_found (stored m) 0 i h.what (once_stored m w) h.shows ∙ ap (λ (k : Kept). Some (vertex_of k)) (sym h.same))
+      ∙ ap (λ (y : _). Some y) (same h.occupant) ∙ sym (ap (in_slot f) h.is) ∙ is
 
 -- A label by its four rights.
-pub label_is : (v : Stored) (next x y : ℕ) (l : Letters) → ((r : Right) → finset.contains v.triples (record { from = x; right = r; to = y }) ≡ has l r) → label (held v next) x y ≡ l
+label_is : (v : Stored) (next x y : ℕ) (l : Letters) → ((r : Right) → finset.contains (triples v) (record { from = x; right = r; to = y }) ≡ has l r) → label (held v next) x y ≡ l
 unfolding label
 label_is v next x y l e = λ i. record { read = e right.read i; write = e right.write i; take = e right.take i; grant = e right.grant i }
+
+pub same_truth : (a b : Bool) → (a ≡ true → b ≡ true) → (b ≡ true → a ≡ true) → a ≡ b
+same_truth true b f g = sym (f refl)
+same_truth false true f g = g refl
+same_truth false false f g = refl
 
 has_none : (r : Right) → has none r ≡ false
 has_none right.read = refl
@@ -80,126 +104,101 @@ has_none right.write = refl
 has_none right.take = refl
 has_none right.grant = refl
 
-no_triple : (m : Machine) (id y : ℕ) (o : Occupant) → Whole m → slot m.heap.table id ≡ Some o → HasNone (edges m.heap id) y → (r : Right) → finset.contains (stored m).triples (record { from = o.serial; right = r; to = y }) ≡ has none r
-no_triple m id y o w is n r = both_true _ _
-    (λ t. let e = edge_listed m id y o w is (r, t) in absurd (n e.0 e.1 e.2))
-    (λ t. let f = has_none r in let u : true ≡ false = sym t ∙ f in absurd (cc))
+kept_same : (k t : Kept) → Some k ≡ Some t → k ≡ t
+kept_same k t e = cc
 
-pub label_none : (m : Machine) (id y next : ℕ) → Whole m → is_some (place (stored m) id) ≡ true → HasNone (edges m.heap id) y → label (held (stored m) next) (serial_at (stored m) id) y ≡ none
-label_none m id y next w e n =
-    let v = placed_name m id e in
-    subst (λ (x : ℕ). label (held (stored m) next) x y ≡ none) v.0.2 (label_is (stored m) next v.0.0.serial y none (no_triple m id y v.0.0 w v.0.1 n))
+module _ (v : Stored) (next i : ℕ) (k : Kept) (once : Once v) (is : kept v i ≡ Some k) where
+  pub owned_here : (t : Triple) (h : finset.contains (triples v) t ≡ true) → t.from ≡ k.serial → (e : Edge) × Contains k.edges e × (t.to ≡ e.serial) × (has e.rights t.right ≡ true)
+  owned_here t h from =
+      let o = triple_owned v t h in
+      let there : kept v o.at ≡ Some o.kept = sym (held_at v o.at) ∙ o.is in
+      let at : o.at ≡ i = once o.at i o.kept k there is (sym o.from ∙ from) in
+      let same : o.kept ≡ k = kept_same o.kept k (sym (subst (λ (j : ℕ). kept v j ≡ Some o.kept) at there) ∙ is) in
+      (o.edge, subst (λ (q : Kept). Contains q.edges o.edge) same o.owned, o.to, o.right)
 
--- The triples over one serial are those of its edge.
-edge_triple : (m : Machine) (id y : ℕ) (o : Occupant) (e : Edge) → IsHeap m.heap → Whole m → IsHeld m id → slot m.heap.table id ≡ Some o → Contains (edges m.heap id) e → e.serial ≡ y
-    → (r : Right) → finset.contains (stored m).triples (record { from = o.serial; right = r; to = y }) ≡ has e.rights r
-edge_triple m id y o e ok w held is owned to r = both_true _ _
-    (λ t.
-    let s = triple_says m.progress m.heap id o (record { from = o.serial; right = r; to = y }) w.names.once is refl t in
-    let same : s.edge ≡ e = same_by (λ (x : Edge). x.serial) (edges m.heap id) s.edge e (ok.cells.serial_once id) s.owned owned (s.to ∙ sym to) in
-    subst (λ (x : Edge). has x.rights r ≡ true) same s.right)
-    (λ t. says_triple m.progress m.heap id o (record { from = o.serial; right = r; to = y }) is held refl (record { edge = e; owned = owned; to = to; right = t }))
+  pub label_edge : (e : Edge) → Distinct (map (λ (d : Edge). d.serial) k.edges) → Contains k.edges e → label (held v next) k.serial e.serial ≡ e.rights
+  label_edge e serials c = label_is v next k.serial e.serial e.rights (λ r. same_truth _ _
+      (λ h. let o = owned_here (record { from = k.serial; right = r; to = e.serial }) h refl in
+      let same : o.0 ≡ e = same_by (λ (d : Edge). d.serial) k.edges o.0 e serials o.1 c (sym o.2) in
+      subst (λ (d : Edge). has d.rights r ≡ true) same o.3)
+      (λ h. says_triple v i k e r is c h))
 
-pub label_edge : (m : Machine) (id y next : ℕ) (e : Edge) → IsHeap m.heap → Whole m → is_some (place (stored m) id) ≡ true → Contains (edges m.heap id) e → e.serial ≡ y → label (held (stored m) next) (serial_at (stored m) id) y ≡ e.rights
-label_edge m id y next e ok w at owned to =
-    let v = placed_name m id at in
-    subst (λ (x : ℕ). label (held (stored m) next) x y ≡ e.rights) v.0.2 (label_is (stored m) next v.0.0.serial y e.rights (edge_triple m id y v.0.0 e ok w v.1 v.0.1 owned to))
+  pub label_none : (y : ℕ) → HasNone k.edges y → label (held v next) k.serial y ≡ none
+  label_none y n = label_is v next k.serial y none (λ r. same_truth _ _
+      (λ h. let o = owned_here (record { from = k.serial; right = r; to = y }) h refl in absurd (n o.0 o.1 (sym o.2)))
+      (λ h. let f = has_none r in let u : true ≡ false = sym h ∙ f in absurd (cc)))
 
-found_contains : (es : List Edge) (y : ℕ) (f : Found es y) → Contains es f.edge
-found_contains es y f = subst (λ (l : List Edge). Contains l f.edge) (sym f.is) (middle f.before) where
-  middle : (p : List Edge) → Contains (p ++ f.edge ∷ f.after) f.edge
-  middle [] = inl refl
-  middle (x ∷ p) = inr (middle p)
-
-pub edge_shown : (m : Machine) (id y : ℕ) (f : Found (edges m.heap id) y) → IsHeap m.heap → Whole m → is_some (place (stored m) id) ≡ true
-    → (place (stored m) f.edge.target ≡ Some y) × (is_none f.edge.rights ≡ false) × ((next : ℕ) → label (held (stored m) next) (serial_at (stored m) id) y ≡ f.edge.rights)
-edge_shown m id y f ok w at =
-    let owned = found_contains (edges m.heap id) y f in
-    let n = placed_name m id at in (
-      named_place m.progress m.heap f.edge.target y (subst (IsNamed m.heap f.edge.target) f.here (w.names.edge id f.edge n.1 owned)) (w.kept.closed id f.edge n.1 owned),
-      ok.cells.labelled id f.edge owned,
-      λ next. label_edge m id y next f.edge ok w at owned f.here,
-    )
-
--- An edge that is visible is found, with the rights of its label.
-pub found_edge : (m : Machine) (id y : ℕ) (rights : Letters) → IsHeap m.heap → Whole m → is_some (place (stored m) id) ≡ true → IsEdgeIn (stored m) (serial_at (stored m) id) y
-    → includes (label (held (stored m) 0) (serial_at (stored m) id) y) rights ≡ true → (f : Found (edges m.heap id) y) × (includes f.edge.rights rights ≡ true)
-found_edge m id y rights ok w at t i =
-    let n = placed_name m id at in
-    let e = edge_listed m id y n.0.0 w n.0.1 (subst (λ (x : ℕ). IsEdgeIn (stored m) x y) (sym n.0.2) t) in
-    let s = split_at (edges m.heap id) e.0 e.1 in (
-      record { before = s.before; edge = e.0; after = s.after; is = s.is; here = e.2 },
-      subst (λ (l : Letters). includes l rights ≡ true) (label_edge m id y 0 e.0 ok w at e.1 e.2) i,
-    )
-
--- A reader of a held slot finds its vertex.
-pub found_in : {X : Type 0} (m : Machine) (id : ℕ) (f : Occupant → X) (r : Option X) → is_some (place (stored m) id) ≡ true → r ≡ in_slot f (slot m.heap.table id) → is_some r ≡ true
-found_in m id f r e is = let n = placed_name m id e in ap is_some (is ∙ ap (in_slot f) n.0.1)
-
-pub serial_found : (m : Machine) (id x : ℕ) → is_some (place (stored m) id) ≡ true → in_slot (λ o. o.serial) (slot m.heap.table id) ≡ Some x → place (stored m) id ≡ Some x
-serial_found m id x e is =
-    let n = placed_name m id e in
-    some_of (place (stored m) id) e ∙ ap Some (sym n.0.2 ∙ some_same n.0.0.serial x (sym (ap (in_slot (λ o. o.serial)) n.0.1) ∙ is))
-
-pub text_found : {X : Type 0} (m : Machine) (id : ℕ) (r : Option X) (get : X → List ℕ) → is_some (place (stored m) id) ≡ true
-    → MatchOption r (mark_at m.heap id ≡ Free) (λ t. in_slot (λ o. o.text) (slot m.heap.table id) ≡ Some (get t)) → is_some r ≡ true
-text_found m id None get e is = absurd ((placed_name m id e).1.0 is)
-text_found m id (Some t) get e is = refl
-
--- The principals by their serials.
-pub principal_found : (m : Machine) (k : ℕ) (d : Root) → Whole m → k < length m.principals.items → (x : ℕ) → (get_or m.principals.items k d).serial ≡ x
-    → Contains (stored m).principals x × (place (stored m) (get_or m.principals.items k d).slot ≡ Some x)
-principal_found m k d w b x e =
-    let r : Root = get_or m.principals.items k d in
-    let listed : Contains m.principals.items (record { serial = x; slot = r.slot }) = subst (λ (s : ℕ). Contains m.principals.items (record { serial = s; slot = r.slot })) e (index_contains m.principals.items r d k b refl) in (
-      at_serial m.principals.items x r.slot listed,
-      named_place m.progress m.heap r.slot x (w.names.root r.slot x (inl listed)) (w.kept.roots_held r.slot (inl (x, listed))),
-    )
-
-pub no_principal : (m : Machine) (x : ℕ) (d : Root) → ((k : ℕ) → k < length m.principals.items → (get_or m.principals.items k d).serial ≢ x) → Contains (stored m).principals x → ⊥
-no_principal m x d none h = go m.principals.items none h where
-  go : (rs : List Root) → ((k : ℕ) → k < length rs → (get_or rs k d).serial ≢ x) → Contains (principals_of rs) x → ⊥
-  go [] n h = h
-  go (r ∷ rs) n (inl e) = n 0 (omega arith) (sym e)
-  go (r ∷ rs) n (inr h) = go rs (λ k b. n (suc k) (omega (arith, b))) h
-
--- After a vertex was added, the other slots show what they showed.
-pub still_placed : (v w : Stored) (serial : ℕ) (kind : Kind) (text : List ℕ) (i id : ℕ) → VertexPlaced v w serial kind text i → id ≢ i → place w id ≡ place v id
-still_placed v w serial kind text i id a n = ap (λ (z : Stored). place z id) a.is ∙ get_or-set_other v.places i id (Some serial) None n
-
-pub now_placed : (m n : Machine) (i x : ℕ) → IsNamed n.heap i x × IsHeld n i → place (stored n) i ≡ Some x
-now_placed m n i x h = named_place n.progress n.heap i x h.0 h.1
-
-pub other_slot : (m : Machine) (v : Stored) (serial : ℕ) (kind : Kind) (text : List ℕ) (i id : ℕ) → VertexPlaced (stored m) v serial kind text i → is_some (place (stored m) id) ≡ true → i ≢ id
-other_slot m v serial kind text i id a e is =
-    let n = placed_name m id e in
-    let f : mark_at m.heap i ≡ Free = sym (get_or-map mark_of m.heap.table.slots i None) ∙ a.free in
-    n.1.0 (subst (λ (k : ℕ). mark_at m.heap k ≡ Free) is f)
-
--- A new serial has no edge to it.
-pub no_edge_to : (m : Machine) (x serial : ℕ) → IsHeap m.heap → Whole m → (IsHeldIn (stored m) serial → ⊥) → IsEdgeIn (stored m) x serial → ⊥
-no_edge_to m x serial ok w unheld e = unheld ((is_store m ok w).to_held (record { from = x; right = e.0; to = serial }) e.1)
-
--- The whole call: the vertex, and then its edge.
-pub vertex_call : (m n k : Machine) (seat id serial : ℕ) (kind : Kind) (text : List ℕ) (rights : Letters) (i : ℕ) → IsHeap m.heap → Whole m → is_some (place (stored m) id) ≡ true → (IsHeldIn (stored m) serial → ⊥)
-    → VertexPlaced (stored m) (stored n) serial kind text i → EdgeStored (stored n) (stored k) seat (serial_at (stored n) id) serial rights
-    → VertexStored (stored m) (stored k) seat (serial_at (stored m) id) serial kind text rights
-vertex_call m n k seat id serial kind text rights i ok w at unheld a b =
-    let same : serial_at (stored n) id ≡ serial_at (stored m) id = ap (λ (o : Option ℕ). unwrap_or o 0) (still_placed (stored m) (stored n) serial kind text i id a (λ e. other_slot m (stored n) serial kind text i id a at (sym e))) in
-    vertex_stored (stored m) (stored n) (stored k) seat (serial_at (stored m) id) serial kind text rights i a
-    (subst (λ (x : ℕ). EdgeStored (stored n) (stored k) seat x serial rights) same b) (no_edge_to m (serial_at (stored m) id) serial ok w unheld)
-
--- What follows if a call is Ok.
-pub on_ok : {T E : Type 0} (r : Result T E) (P Q : Type 0) → (P → Q) → OnOk r P → OnOk r Q
-on_ok (Ok t) P Q f h = f h
-on_ok (Err e) P Q f h = h
+pub found_contains : (es : List Edge) (y : ℕ) (f : Found es y) → Contains es f.edge
+found_contains es y f = subst (λ (l : List Edge). Contains l f.edge) (sym f.is) (contains_middle f.before f.after f.edge)
 
 -- An edge that is looked up, as the label of what is held.
 pub edge_looked_up : (m : Machine) (id y : ℕ) (r : Option (ℕ × Letters)) → IsHeap m.heap → Whole m → is_some (place (stored m) id) ≡ true
     → MatchOption r (HasNone (edges m.heap id) y) (λ t. (f : Found (edges m.heap id) y) × (t.0 ≡ f.edge.target) × (t.1 ≡ f.edge.rights))
     → MatchOption r ((next : ℕ) → label (held (stored m) next) (serial_at (stored m) id) y ≡ none)
     (λ t. (place (stored m) t.0 ≡ Some y) × (is_none t.1 ≡ false) × ((next : ℕ) → label (held (stored m) next) (serial_at (stored m) id) y ≡ t.1))
-edge_looked_up m id y None ok w at n = λ next. label_none m id y next w at n
-edge_looked_up m id y (Some t) ok w at f =
-    let s = edge_shown m id y f.0 ok w at in
-    (ap (place (stored m)) f.1 ∙ s.0, ap is_none f.2 ∙ s.1, λ next. s.2 next ∙ sym f.2)
+edge_looked_up m id y None ok w at n = λ next.
+    let h = holds m id at in
+    subst (λ (x : ℕ). label (held (stored m) next) x y ≡ none) (sym h.serial) (label_none (stored m) next id h.what (once_stored m w) h.shows y (subst (λ (k : Kept). HasNone k.edges y) h.same n))
+edge_looked_up m id y (Some t) ok w at (f, to, rights) =
+    let h = holds m id at in
+    let owned = subst (λ (k : Kept). Contains k.edges f.edge) h.same (found_contains (edges m.heap id) y f) in
+    let l = (closed_so m w).edges id h.what f.edge h.shows owned in (
+      ap (place (stored m)) to ∙ ap serial_of l.1 ∙ ap (λ (x : ℕ). Some x) (l.2 ∙ f.here),
+      ap is_none rights ∙ ok.cells.labelled id f.edge (found_contains (edges m.heap id) y f),
+      λ next. ap (λ (x : ℕ). label (held (stored m) next) x y) h.serial ∙ subst (λ (z : ℕ). label (held (stored m) next) h.what.serial z ≡ f.edge.rights) f.here
+          (label_edge (stored m) next id h.what (once_stored m w) h.shows f.edge (subst (λ (k : Kept). Distinct (map (λ (d : Edge). d.serial) k.edges)) h.same (ok.cells.serial_once id)) owned) ∙ sym rights,
+    )
+
+-- An edge that is visible is found, with the rights of its label.
+pub found_edge : (m : Machine) (id y : ℕ) (rights : Letters) → IsHeap m.heap → Whole m → is_some (place (stored m) id) ≡ true → IsEdgeIn (stored m) (serial_at (stored m) id) y
+    → includes (label (held (stored m) 0) (serial_at (stored m) id) y) rights ≡ true → (f : Found (edges m.heap id) y) × (includes f.edge.rights rights ≡ true)
+found_edge m id y rights ok w at t i =
+    let h = holds m id at in
+    let o = owned_here (stored m) 0 id h.what (once_stored m w) h.shows (record { from = serial_at (stored m) id; right = t.0; to = y }) t.1 h.serial in
+    let e : Edge = o.0 in
+    let mine : Contains (edges m.heap id) e = subst (λ (k : Kept). Contains k.edges e) (sym h.same) o.1 in
+    let s = split_at (edges m.heap id) e mine in
+    let l : label (held (stored m) 0) (serial_at (stored m) id) y ≡ e.rights = ap (λ (x : ℕ). label (held (stored m) 0) x y) h.serial ∙ subst (λ (z : ℕ). label (held (stored m) 0) h.what.serial z ≡ e.rights) (sym o.2)
+    (label_edge (stored m) 0 id h.what (once_stored m w) h.shows e (subst (λ (k : Kept). Distinct (map (λ (d : Edge). d.serial) k.edges)) h.same (ok.cells.serial_once id)) o.1) in
+    (record { before = s.before; edge = e; after = s.after; is = s.is; here = sym o.2 }, subst (λ (r : Letters). includes r rights ≡ true) l i)
+
+-- The seats, and the principals by their serials.
+seat_at : (os : List (Option Root)) (k : ℕ) → get_or (map (λ o. root_serial o) os) k None ≡ root_serial (get_or os k None)
+seat_at [] k = refl
+seat_at (o ∷ os) zero = refl
+seat_at (o ∷ os) (suc k) = seat_at os k
+
+pub seat_shown : (m : Machine) (seat : ℕ) → pending_of (stored m) seat ≡ root_serial (get_or m.roots.targets.items seat None)
+seat_shown m seat = seat_at m.roots.targets.items seat
+
+pub idle_seat : (m : Machine) (seat : ℕ) → pending_of (stored m) seat ≡ None → get_or m.roots.targets.items seat None ≡ None
+idle_seat m seat e = by (get_or m.roots.targets.items seat None) (sym (seat_shown m seat) ∙ e) where
+  by : (r : Option Root) → root_serial r ≡ None → r ≡ None
+  by None e = refl
+  by (Some r) e = absurd (cc)
+
+at_index : {X : Type 0} (xs : List X) (k : ℕ) (d : X) → k < length xs → Contains xs (get_or xs k d)
+at_index [] k d b = absurd (omega (arith, b))
+at_index (x ∷ xs) zero d b = inl refl
+at_index (x ∷ xs) (suc k) d b = inr (at_index xs k d (omega (arith, b)))
+
+pub principal_found : (m : Machine) (k : ℕ) (d : Root) → Whole m → k < length m.roots.principals.items → (x : ℕ) → (get_or m.roots.principals.items k d).serial ≡ x
+    → Contains (principals (stored m)) x × (place (stored m) (get_or m.roots.principals.items k d).slot ≡ Some x)
+principal_found m k d w b x e =
+    let r : Root = get_or m.roots.principals.items k d in
+    let listed = at_index m.roots.principals.items k d b in
+    (subst (Contains (principals (stored m))) e (contains_map (λ (q : Root). q.serial) m.roots.principals.items r listed), named_so m w r (inr (inl listed)) ∙ ap (λ (y : ℕ). Some y) e)
+
+pub no_principal : (m : Machine) (x : ℕ) (d : Root) → ((k : ℕ) → k < length m.roots.principals.items → (get_or m.roots.principals.items k d).serial ≢ x) → Contains (principals (stored m)) x → ⊥
+no_principal m x d none h = go m.roots.principals.items none h where
+  go : (rs : List Root) → ((k : ℕ) → k < length rs → (get_or rs k d).serial ≢ x) → Contains (map (λ (r : Root). r.serial) rs) x → ⊥
+  go [] n h = h
+  go (r ∷ rs) n (inl e) = n 0 (omega arith) (sym e)
+  go (r ∷ rs) n (inr h) = go rs (λ k b. n (suc k) (omega (arith, b))) h
+
+-- What is looked up at a place, in the words of its serial.
+pub read_edge : (v : Stored) (at serial to : ℕ) (r : Option (ℕ × Letters)) → place v at ≡ Some serial
+    → MatchOption r ((next : ℕ) → label (held v next) (serial_at v at) to ≡ none) (λ t. (place v t.0 ≡ Some to) × (is_none t.1 ≡ false) × ((next : ℕ) → label (held v next) (serial_at v at) to ≡ t.1))
+    → MatchOption r (label (held v 0) serial to ≡ none) (λ t. (place v t.0 ≡ Some to) × (t.1 ≡ label (held v 0) serial to))
+read_edge v at serial to None e n = subst (λ (x : ℕ). label (held v 0) x to ≡ none) (ap (λ (o : Option ℕ). unwrap_or o 0) e) (n 0)
+read_edge v at serial to (Some t) e (there, some, is) = (there, sym (subst (λ (x : ℕ). label (held v 0) x to ≡ t.1) (ap (λ (o : Option ℕ). unwrap_or o 0) e) (is 0)))

@@ -1,36 +1,31 @@
 -- Lemma files that other crates may use, each named after the definition or law that it serves.
 pub mod ActedLemmas
 pub mod FitLemmas
+pub mod GraphLemmas
 pub mod PathLemmas
+pub mod ShownLemmas
+pub mod StoreLemmas
 -- Lemma files of this crate's own proofs.
-mod BlankLemmas
+mod AddCalls
 mod CallLemmas
-mod CollectLemmas
-mod ColourLines
-mod ConnectLemmas
 mod CountLemmas
 mod EdgeCalls
-mod EdgeShown
-mod EdgeSteps
-mod GatherLemmas
-mod LeftLemmas
-mod LeftSteps
+mod EdgeLemmas
+mod FullLemmas
 mod LineLemmas
 mod ListedLemmas
-mod MachineLemmas
-mod NameLines
-mod NameSteps
-mod OpenedEdges
+mod OpeningEdges
 mod OpeningLemmas
-mod PlaceLemmas
+mod PlaceCalls
+mod PutLemmas
+mod RemoveCalls
+mod RootLemmas
 mod RunLemmas
-mod SessionLemmas
-mod SetLemmas
-mod ShadeCalls
-mod StepLines
-mod StoreLemmas
+mod SeatLemmas
+mod SoundLemmas
+mod StepLemmas
 mod SumLemmas
-mod TextCalls
 mod UnnamedLemmas
 mod VertexCalls
-mod VertexSteps
+mod VertexStored
+mod ZipLemmas

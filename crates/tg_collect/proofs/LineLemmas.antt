@@ -1,197 +1,184 @@
--- What each line of the collector's table leaves and changes, in what others see.
-use Rattle.std.proofs.Common.{◌≡◌, ◌≢◌, ℕ, suc, ◌+◌, ◌≤◌, List, [], ◌∷◌, length, Option, Some, None, ◌⊎◌, inl, inr, sym, ◌∙◌, subst, ap, refl, arith, set, get_or, Bool, true}
-use Rattle.std.proofs.lemmas.Bool.{cases_eq}
-use Rattle.std.specs.Ordering.{nat_cmp}
-use Rattle.std.specs.FinMap as finmap
-use Rattle.std.specs.FinSet as finset
-use Rattle.tg_rights.specs.Membership.{Contains}
-use Rattle.tg_slots.specs.Table.{Table, Mark, Free, Has, mark, mark_of, slot, coloured}
+-- Each step of the machine is a line of the table.
+use Rattle.std.proofs.Common.{◌≡◌, ◌≢◌, ℕ, zero, suc, ◌+◌, ◌<◌, ◌≤◌, List, [], ◌∷◌, ◌++◌, length, map, drop, Option, Some, None, Bool, true, false, inl, inr, sym, ◌∙◌, subst, ap, refl, arith, get_or, set, eq-eqb, length-set}
+use Rattle.tg_rights.specs.Membership.{Contains, Distinct}
 use Rattle.tg_slots.specs.declared.slots.Occupant.{Occupant}
+use Rattle.tg_slots.specs.declared.colour.Colour.{Colour}
 use Rattle.tg_slots.specs.declared.colour.Colour.TheVariants.{White, Grey, Black}
-use Rattle.tg_slots.proofs.TableLemmas.{mark_there}
-use Rattle.tg_heap.specs.Graph.{HeapGraph, edges, mark_at, shaded, shaded_by}
-use Rattle.tg_cells.specs.Lists.{Edge, first_cell}
+use Rattle.tg_slots.specs.Table as table
+use Rattle.tg_slots.specs.Table.{Table, Free, Has, slot}
+use Rattle.tg_cells.specs.Lists.{Edge, first_cell, Stands}
+use Rattle.tg_heap.specs.Graph.{HeapGraph, edges, mark_at, shaded, shaded_by, painted, IsHeap}
+use Rattle.tg_heap.specs.Marking.{remaining, passed}
+use Rattle.tg_heap.proofs.CursorLemmas.{split_whole, remaining_split}
+use Rattle.tg_marking.specs.Values as values
+use Rattle.tg_marking.specs.Values.{Spot, Body, spot, mark, out, HasRoot}
+use Rattle.tg_marking.specs.Steps.{put, shade, shade_all, shade_root, Line, starts, scans, blackens, takes, shades_target, starts_sweep, skips, whitens, strips, frees, finishes}
+use Rattle.tg_marking.specs.Invariant.{Invariant, IsScanned}
+use Rattle.tg_collect.specs.declared.machine.Root.{Root}
+use Rattle.tg_collect.specs.declared.machine.Scan.{Scan}
 use Rattle.tg_collect.specs.declared.machine.Progress.{Progress}
 use Rattle.tg_collect.specs.declared.machine.Progress.TheVariants.{Idle, Marking, Sweeping}
-use Rattle.tg_collect.specs.Runs as runs
-use Rattle.tg_collect.specs.Views as views
-use Rattle.tg_collect.specs.declared.machine.Root.{Root}
-use Rattle.tg_collect.specs.Machine.{IsPrincipalOf, phase_of}
-use Rattle.tg_graph.specs.declared.vertex.Vertex.{Vertex}
-use Rattle.tg_graph.specs.Triples.{Triple, triple_cmp}
-use Rattle.tg_collect.specs.Stored.{gather, by_place, vertex_entry, triple_entry, parked_entry, place_entry, is_parked, vertices_of, triples_of, parked_of, places_of}
-use Rattle.tg_collect.specs.Lines.{Line, starts, scans, blackens, takes, shades_pending, starts_sweep, skips, whitens, strips, frees, finishes, all_shaded}
-use Rattle.tg_collect.proofs.GatherLemmas.{gather_same, gather_set}
-use Rattle.tg_collect.proofs.PlaceLemmas.{IsByPlace, moved, painted_place, shaded_place, vertex_by_place, triple_by_place, parked_by_place, place_by_place, parked_holds, parked_dark, parked_passed, parked_next}
+use Rattle.tg_collect.specs.declared.machine.Machine.{Machine}
+use Rattle.tg_collect.specs.Machine.{RootLists, lists_of, bare, slots_of, all_slots, body_of, body, progress_in, progress_of, CursorFits, Whole, Steps, NoneWhite, ShadesFirst, shaded_slot, all_shaded, with_shaded, AreWithin, agent_slots, principal_slots}
+use Rattle.tg_collect.proofs.ZipLemmas.{zip_size, at_slot, at_free, coloured_so, mark_so, out_so, put_slot, put_list, painted_so, shaded_so}
 
--- A table after some slots of a kind were shaded, one after the other, and how many.
-pub data Shadings (P : ℕ → Type 0) (t : Table) : Table → ℕ → Type 0 where
-  none : Shadings P t t 0
-  one_more : (u : Table) (k i : ℕ) → Shadings P t u k → P i → Shadings P t (shaded u i) (suc k)
+-- The edges before a cursor that names a cell, that cell's edge, and those after it.
+pub record Split (es : List Edge) (cursor : ℕ) : Type 0 where
+  pub before : List Edge
+  pub edge : Edge
+  pub after : List Edge
+  pub ahead : remaining (Some cursor) es ≡ edge ∷ after
+  pub whole : es ≡ before ++ edge ∷ after
+  pub here : edge.cell ≡ cursor
 
-pub all_shadings : (ps : List Root) (t : Table) → Shadings (IsPrincipalOf ps) t (all_shaded ps t) (length ps)
-all_shadings ps t = go ps (λ r h. (r.serial, h)) where
-  go : (rs : List Root) → ((r : Root) → Contains rs r → IsPrincipalOf ps r.slot) → Shadings (IsPrincipalOf ps) t (all_shaded rs t) (length rs)
-  go [] f = none
-  go (r ∷ rs) f = one_more (all_shaded rs t) (length rs) r.slot (go rs (λ q h. f q (inr h))) (f r (inl refl))
+pub split_at : (es : List Edge) (c : ℕ) → Some c ≡ first_cell (remaining (Some c) es) → Split es c
+split_at es c e = by (remaining (Some c) es) refl where
+  some_is : (a b : ℕ) → Some a ≡ Some b → b ≡ a
+  some_is a b e = cc
 
--- The phases.
-pub line_phases : (P : List Root) (U : List (Option Root)) (h h' : HeapGraph) (p q : Progress) (f : ℕ) (e : Bool) → Line P U h p h' q f e → runs.Follows (phase_of p) (phase_of q) e
-line_phases P U h _ _ _ _ _ (starts few) = tt
-line_phases P U h _ _ _ _ _ (scans slot cursor b e a w at) = tt
-line_phases P U h _ _ _ _ _ (blackens slot) = tt
-line_phases P U h _ _ _ _ _ (takes i rest g) = tt
-line_phases P U h _ _ _ _ _ (shades_pending k r g f) = tt
-line_phases P U h _ _ _ _ _ (starts_sweep g n) = tt
-line_phases P U h _ _ _ _ _ (skips at l m) = tt
-line_phases P U h _ _ _ _ _ (whitens at l m) = tt
-line_phases P U h _ _ _ _ _ (strips at e r l m w) = tt
-line_phases P U h _ _ _ _ _ (frees at l m w) = tt
-line_phases P U h _ _ _ _ _ (finishes at l) = tt
+  by : (r : List Edge) → remaining (Some c) es ≡ r → Split es c
+  by [] is = absurd (let u : Some c ≡ None = e ∙ ap first_cell is in cc)
+  by (x ∷ r) is = record { before = passed (Some c) es; edge = x; after = r; ahead = is; whole = sym (split_whole (Some c) es) ∙ ap (λ (a : List Edge). passed (Some c) es ++ a) is; here = some_is c x.cell (e ∙ ap first_cell is) }
 
--- Lists by place stay if no slot changes its place: on each line but the one that starts the sweep, and provided a free
--- slot contributes what a parked one does.
-abbrev pub Stays : Progress → Progress → Type 0
-Stays p q = views.Stays (phase_of p) (phase_of q)
+pub scan_split : (m : Machine) (i c : ℕ) → m.progress ≡ Marking (Some (record { slot = i; cursor = Some c })) → Whole m → Split (edges m.heap i) c
+scan_split m i c at w = split_at (edges m.heap i) c (subst (CursorFits m.heap) at w.cursor)
 
-shadings_place : {X : Type 0} (n : List X) (f : List (List Edge) → Bool → ℕ → Occupant → List X) → IsByPlace n f → (P : ℕ → Type 0) (h : HeapGraph) (t : Table) (k : ℕ) → Shadings P h.table t k
-    → gather (by_place n f (Marking None) h.lists) 0 t.slots ≡ gather (by_place n f Idle h.lists) 0 h.table.slots
-shadings_place n f laws P h _ _ none = gather_same (by_place n f (Marking None) h.lists) (by_place n f Idle h.lists) h.table.slots h.table.slots refl
-    (λ j b. moved n f (Marking None) Idle h.lists j (get_or h.table.slots j None) refl)
-shadings_place n f laws P h _ _ (one_more u k i s r) =
-    shaded_place n f laws (record h { table = u }) (Marking None) i (λ c. c) ∙ shadings_place n f laws P h u k s
+pub stands_here : (h : HeapGraph) (i c : ℕ) (s : Split (edges h i) c) → Stands h.lists c i s.before s.edge s.after
+stands_here h i c s = record { is = s.whole; here = s.here }
 
-pub line_place : {X : Type 0} (n : List X) (f : List (List Edge) → Bool → ℕ → Occupant → List X) → IsByPlace n f
-    → (P : List Root) (U : List (Option Root)) (h h' : HeapGraph) (p q : Progress) (c : ℕ) (e : Bool) → Line P U h p h' q c e → Stays p q → (c ≡ 0) ⊎ ((ls : List (List Edge)) (i : ℕ) (o : Occupant) → f ls true i o ≡ n)
-    → gather (by_place n f q h'.lists) 0 h'.table.slots ≡ gather (by_place n f p h.lists) 0 h.table.slots
-line_place n f laws P U h _ _ _ _ _ (starts few) y z = shadings_place n f laws (IsPrincipalOf P) h _ _ (all_shadings P h.table)
-line_place n f laws P U h _ _ _ _ _ (scans slot cursor b e a w at) y z = shaded_place n f laws h (Marking (Some (record { slot = slot; cursor = Some cursor }))) e.target (λ c. c)
-line_place n f laws P U h _ _ _ _ _ (blackens slot) y z = painted_place n f laws (Marking None) (Marking (Some (record { slot = slot; cursor = None }))) h.lists h.table.slots slot Black refl (λ j b o. refl)
-line_place n f laws P U h _ _ _ _ _ (takes i rest g) y z = gather_same _ _ h.table.slots h.table.slots refl
-    (λ j b. moved n f (Marking (Some (record { slot = i; cursor = first_cell (edges h i) }))) (Marking None) h.lists j (get_or h.table.slots j None) refl)
-line_place n f laws P U h _ _ _ _ _ (shades_pending k r g w) y z = shaded_place n f laws h (Marking None) r.slot (λ c. c)
-line_place n f laws P U h _ _ _ _ _ (starts_sweep g s) y z = absurd y
-line_place n f laws P U h _ _ _ _ _ (skips at l m) y z = gather_same _ _ h.table.slots h.table.slots refl
-    (λ j b. moved n f (Sweeping (at + 1)) (Sweeping at) h.lists j (get_or h.table.slots j None) (elim (cases_eq j at) [
-      | inl is ↦
-          let dark : mark_at h j ≡ Has White → ⊥ = λ w. let here = subst (λ (i : ℕ). mark_at h i ≡ Free) (sym is) m in let u : Free ≡ Has White = sym here ∙ w in cc in parked_dark (Sweeping (at + 1)) j (mark_at h j) dark ∙ sym (parked_dark (Sweeping at) j (mark_at h j) dark)
-      | inr other ↦ parked_next at j (mark_at h j) other
-    ]))
-line_place n f laws P U h _ _ _ _ _ (whitens at l m) y z = painted_place n f laws (Sweeping (at + 1)) (Sweeping at) h.lists h.table.slots at White
-    (parked_passed (at + 1) at (mark_of (coloured White (slot h.table at))) (omega arith) ∙ sym (parked_dark (Sweeping at) at (mark_at h at) (λ w. let u : Has Black ≡ Has White = sym m ∙ w in cc)))
-    (λ j b o. parked_next at j (mark_at h j) o)
-line_place n f laws P U h _ _ _ _ _ (strips at e r l m w) y z = gather_same _ _ h.table.slots h.table.slots refl (λ j b. by j (get_or h.table.slots j None) refl) where
-  by : (j : ℕ) (v : Option Occupant) → get_or h.table.slots j None ≡ v → by_place n f (Sweeping at) (set h.lists at r) j v ≡ by_place n f (Sweeping at) h.lists j v
-  by j None d = refl
-  by j (Some o) d = elim (cases_eq j at) [
-    | inl is ↦
-        let white : mark_at h j ≡ Has White = subst (λ (i : ℕ). mark_at h i ≡ Has White) (sym is) m in
-        let gone : is_parked (Sweeping at) j (Has o.colour) ≡ true = subst (λ (k : Mark). is_parked (Sweeping at) j k ≡ true) (ap mark_of d) (parked_holds h (Sweeping at) j (omega (arith, is), white)) in
-        ap (λ (b : Bool). f (set h.lists at r) b j o) gone ∙ laws.gone (set h.lists at r) h.lists j o ∙ sym (ap (λ (b : Bool). f h.lists b j o) gone)
-    | inr other ↦ laws.other h.lists (is_parked (Sweeping at) j (Has o.colour)) j at r o other
-  ]
-line_place n f laws P U h _ _ _ _ _ (frees at l m w) y (inl zero_is) = absurd (omega (arith, zero_is))
-line_place n f laws P U h _ _ _ _ _ (frees at l m w) y (inr none_given) = gather_set _ _ h.table.slots at None (by (slot h.table at) refl)
-    (λ j b o. moved n f (Sweeping (at + 1)) (Sweeping at) h.lists j (get_or h.table.slots j None) (parked_next at j (mark_at h j) o)) where
-      by : (v : Option Occupant) → slot h.table at ≡ v → n ≡ by_place n f (Sweeping at) h.lists at v
-      by None d = refl
-      by (Some o) d =
-          let gone : is_parked (Sweeping at) at (Has o.colour) ≡ true = subst (λ (k : Mark). is_parked (Sweeping at) at k ≡ true) (ap mark_of d) (parked_holds h (Sweeping at) at (omega arith, m)) in
-          sym (none_given h.lists at o) ∙ sym (ap (λ (b : Bool). f h.lists b at o) gone)
-line_place n f laws P U h _ _ _ _ _ (finishes at l) y z = gather_same _ _ h.table.slots h.table.slots refl
-    (λ j b. moved n f Idle (Sweeping at) h.lists j (get_or h.table.slots j None) (sym (parked_passed at j (mark_at h j) (omega (arith, b, l)))))
+-- What the invariant says of the slot under scan.
+module _ (m : Machine) (i : ℕ) (c : Option ℕ) (at : m.progress ≡ Marking (Some (record { slot = i; cursor = c }))) (w : Whole m) where
+  pub scanned_grey : mark_at m.heap i ≡ Has Grey
+  scanned_grey = sym (mark_so m.heap (lists_of m.roots) i) ∙ (w.kept.greys.scanned i (subst (λ (p : Progress). IsScanned (progress_in m.heap p) i) (sym at) refl)).0
 
--- Only the line that parks changes what is held, and in which slots.
-pub line_vertices : (P : List Root) (U : List (Option Root)) (h h' : HeapGraph) (p q : Progress) (c : ℕ) (e : Bool) → Line P U h p h' q c e → Stays p q → vertices_of q h' ≡ vertices_of p h
-line_vertices P U h h' p q c e l y = ap (λ (es : List (ℕ × Vertex)). finmap.from_entries {R = nat_cmp} es) (line_place [] vertex_entry vertex_by_place P U h h' p q c e l y (inr (λ ls i o. refl)))
+  pub scanned_taken : Contains m.heap.table.grey i → ⊥
+  scanned_taken = (w.kept.greys.scanned i (subst (λ (p : Progress). IsScanned (progress_in m.heap p) i) (sym at) refl)).1
 
-pub line_triples : (P : List Root) (U : List (Option Root)) (h h' : HeapGraph) (p q : Progress) (c : ℕ) (e : Bool) → Line P U h p h' q c e → Stays p q → triples_of q h' ≡ triples_of p h
-line_triples P U h h' p q c e l y = ap (λ (es : List Triple). finset.from_list {R = triple_cmp} es) (line_place [] triple_entry triple_by_place P U h h' p q c e l y (inr (λ ls i o. refl)))
+-- A machine's step from a line, where the heap's numbers are known.
+abbrev LineOf : (m n : Machine) → ℕ → Bool → Type 0
+LineOf m n freed ended = Line (body m) (progress_of m) (body n) (progress_of n) freed ended
 
-pub line_places : (P : List Root) (U : List (Option Root)) (h h' : HeapGraph) (p q : Progress) (c : ℕ) (e : Bool) → Line P U h p h' q c e → Stays p q → places_of q h' ≡ places_of p h
-line_places P U h h' p q c e l y = line_place (None ∷ []) place_entry place_by_place P U h h' p q c e l y (inr (λ ls i o. refl))
+step_of : (m : Machine) (h : HeapGraph) (p : Progress) (q : Progress) (freed : ℕ) (ended : Bool) → m.progress ≡ q
+    → Line (body m) (progress_in m.heap q) (body_of h (lists_of m.roots)) (progress_in h p) freed ended → CursorFits h p → h.cell_count ≡ m.heap.cell_count
+    → length h.table.free ≡ length m.heap.table.free + freed → (m.heap.free_cells ≤ h.free_cells) × (h.free_cells ≤ m.heap.free_cells + 1) → Steps m (record m { heap = h; progress = p }) freed ended
+step_of m h p q freed ended at line cursor cells slots free =
+    record { line = subst (λ (x : Progress). Line (body m) (progress_in m.heap x) (body_of h (lists_of m.roots)) (progress_in h p) freed ended) (sym at) line; cursor = cursor; roots = refl; cells = cells; free_slots = slots; free_cells = free }
 
--- What is parked stays if no slot is freed.
-pub line_parked : (P : List Root) (U : List (Option Root)) (h h' : HeapGraph) (p q : Progress) (e : Bool) → Line P U h p h' q 0 e → Stays p q → parked_of q h' ≡ parked_of p h
-line_parked P U h h' p q e l y = ap (λ (es : List ℕ). finset.from_list {R = nat_cmp} es) (line_place [] parked_entry parked_by_place P U h h' p q 0 e l y (inl refl))
-
--- What shading leaves.
-pub shaded_free : (t : Table) (i : ℕ) → length (shaded t i).free ≡ length t.free
-shaded_free t i = by (mark t i) where
-  by : (m : Mark) → length (shaded_by m t i).free ≡ length t.free
+-- Shading leaves the free list, and the sizes.
+pub shaded_free : (t : Table) (i : ℕ) → (shaded t i).free ≡ t.free
+shaded_free t i = by (table.mark t i) where
+  by : (k : table.Mark) → (shaded_by k t i).free ≡ t.free
   by Free = refl
   by (Has White) = refl
   by (Has Grey) = refl
   by (Has Black) = refl
 
-pub shaded_other : (t : Table) (i j : ℕ) → j ≢ i → mark (shaded t i) j ≡ mark t j
-shaded_other t i j n = by (mark t i) where
-  by : (m : Mark) → mark (shaded_by m t i) j ≡ mark t j
-  by Free = refl
-  by (Has White) = mark_there t.slots i j _ n
-  by (Has Grey) = refl
-  by (Has Black) = refl
+same_cells : (n : ℕ) → (n ≤ n) × (n ≤ n + 1)
+same_cells n = (omega arith, omega arith)
 
-pub shadings_free : (P : ℕ → Type 0) (t u : Table) (k : ℕ) → Shadings P t u k → length u.free ≡ length t.free
-shadings_free P t _ _ none = refl
-shadings_free P t _ _ (one_more u k i s r) = shaded_free u i ∙ shadings_free P t u k s
+pub step_scans : (m : Machine) (i c : ℕ) (s : Split (edges m.heap i) c) → IsHeap m.heap → m.progress ≡ Marking (Some (record { slot = i; cursor = Some c }))
+    → Steps m (record m { heap = record m.heap { table = shaded m.heap.table s.edge.target }; progress = Marking (Some (record { slot = i; cursor = first_cell s.after })) }) 0 false
+step_scans m i c s ok at = step_of m h _ _ 0 false at line (sym (ap first_cell left)) refl (let f = ap length (shaded_free m.heap.table s.edge.target) in omega (arith, f)) (same_cells m.heap.free_cells) where
+  h : HeapGraph
+  h = record m.heap { table = shaded m.heap.table s.edge.target }
 
--- Free counts never fall, and at most one cell is freed.
-pub line_counts : (P : List Root) (U : List (Option Root)) (h h' : HeapGraph) (p q : Progress) (c : ℕ) (e : Bool) → Line P U h p h' q c e
-    → (length h.table.free ≤ length h'.table.free) × (h.free_cells ≤ h'.free_cells) × (h'.free_cells ≤ h.free_cells + 1) × (length h'.table.free ≡ length h.table.free + c)
-line_counts P U h _ _ _ _ _ (starts few) = let z = shadings_free (IsPrincipalOf P) h.table _ _ (all_shadings P h.table) in (omega (arith, z), omega arith, omega arith, omega (arith, z))
-line_counts P U h _ _ _ _ _ (scans slot cursor b e a w at) = let z = shaded_free h.table e.target in (omega (arith, z), omega arith, omega arith, omega (arith, z))
-line_counts P U h _ _ _ _ _ (blackens slot) = (omega arith, omega arith, omega arith, omega arith)
-line_counts P U h _ _ _ _ _ (takes i rest g) = (omega arith, omega arith, omega arith, omega arith)
-line_counts P U h _ _ _ _ _ (shades_pending k r g f) = let z = shaded_free h.table r.slot in (omega (arith, z), omega arith, omega arith, omega (arith, z))
-line_counts P U h _ _ _ _ _ (starts_sweep g n) = (omega arith, omega arith, omega arith, omega arith)
-line_counts P U h _ _ _ _ _ (skips at l m) = (omega arith, omega arith, omega arith, omega arith)
-line_counts P U h _ _ _ _ _ (whitens at l m) = (omega arith, omega arith, omega arith, omega arith)
-line_counts P U h _ _ _ _ _ (strips at e r l m w) = (omega arith, omega arith, omega arith, omega arith)
-line_counts P U h _ _ _ _ _ (frees at l m w) = (omega arith, omega arith, omega arith, omega arith)
-line_counts P U h _ _ _ _ _ (finishes at l) = (omega arith, omega arith, omega arith, omega arith)
+  front : s.before ++ s.edge ∷ s.after ≡ (s.before ++ s.edge ∷ []) ++ s.after
+  front = by s.before where
+    by : (xs : List Edge) → xs ++ s.edge ∷ s.after ≡ (xs ++ s.edge ∷ []) ++ s.after
+    by [] = refl
+    by (x ∷ xs) = ap (λ (l : List Edge). x ∷ l) (by xs)
 
--- At most one mark changes, and on the line that starts at most 64.
-pub record Outside (h h' : HeapGraph) (most : ℕ) : Type 0 where
-  pub slots : List ℕ
-  pub count : length slots ≤ most
-  pub others : (j : ℕ) → (Contains slots j → ⊥) → mark_at h' j ≡ mark_at h j
+  left : remaining (first_cell s.after) (edges m.heap i) ≡ s.after
+  left = ap (remaining (first_cell s.after)) (s.whole ∙ front) ∙ remaining_split (s.before ++ s.edge ∷ []) s.after (subst (λ (l : List Edge). Distinct (map (λ e. e.cell) l)) (s.whole ∙ front) (ok.cells.cell_once i))
 
-outside_one : (h h' : HeapGraph) (k : ℕ) → ((j : ℕ) → j ≢ k → mark_at h' j ≡ mark_at h j) → Outside h h' 1
-outside_one h h' k same = record { slots = k ∷ []; count = (let l : length (k ∷ []) ≤ 1 = omega arith in l); others = λ j n. same j (λ e. n (inl e)) }
+  line : Line (body m) (values.Marking (Some (record { slot = i; rest = remaining (Some c) (edges m.heap i) }))) (body_of h (lists_of m.roots)) (values.Marking (Some (record { slot = i; rest = remaining (first_cell s.after) (edges m.heap i) }))) 0 false
+  line = rw (s.ahead, left) (subst (λ (b : Body). Line (body m) (values.Marking (Some (record { slot = i; rest = s.edge ∷ s.after }))) b (values.Marking (Some (record { slot = i; rest = s.after }))) 0 false)
+      (sym (shaded_so m.heap (lists_of m.roots) s.edge.target)) (scans i s.edge s.after))
 
-outside_none : (h h' : HeapGraph) → ((j : ℕ) → mark_at h' j ≡ mark_at h j) → Outside h h' 1
-outside_none h h' same = record { slots = []; count = (let l : length {A = ℕ} [] ≤ 1 = omega arith in l); others = λ j n. same j }
+pub step_blackens : (m : Machine) (i : ℕ) → m.progress ≡ Marking (Some (record { slot = i; cursor = None })) → mark_at m.heap i ≡ Has Grey
+    → Steps m (record m { heap = record m.heap { table = painted m.heap.table i Black }; progress = Marking None }) 0 false
+step_blackens m i at g =
+    let o = coloured_so m.heap i Grey g in
+    step_of m _ _ _ 0 false at (subst (λ (b : Body). Line (body m) (values.Marking (Some (record { slot = i; rest = [] }))) b (values.Marking None) 0 false)
+    (sym (painted_so m.heap (lists_of m.roots) i o.0 Black o.1)) (blackens i _ (at_slot m.heap (lists_of m.roots) i o.0 o.1))) tt refl (omega arith) (same_cells m.heap.free_cells)
 
-shadings_outside : (P : ℕ → Type 0) (h : HeapGraph) (u : Table) (k : ℕ) → Shadings P h.table u k → (slots : List ℕ) × (length slots ≡ k) × ((j : ℕ) → (Contains slots j → ⊥) → mark u j ≡ mark_at h j)
-shadings_outside P h _ _ none = ([], refl, λ j n. refl)
-shadings_outside P h _ _ (one_more u k i s r) =
-    let o = shadings_outside P h u k s in
-    (i ∷ o.0, ap suc o.1, λ j n. shaded_other u i j (λ e. n (inl e)) ∙ o.2 j (λ m. n (inr m)))
+-- The cursor at the first cell: all edges are left.
+all_left : (es : List Edge) → remaining (first_cell es) es ≡ es
+all_left [] = refl
+all_left (e ∷ es) = rw (eq-eqb e.cell e.cell refl) refl
 
-pub line_marks : (P : List Root) (U : List (Option Root)) (h h' : HeapGraph) (p q : Progress) (c : ℕ) (e : Bool) → Line P U h p h' q c e → Outside h h' (views.most_marks (phase_of p))
-line_marks P U h _ _ _ _ _ (starts few) = let o = shadings_outside (IsPrincipalOf P) h _ _ (all_shadings P h.table) in record { slots = o.0; count = (let l = o.1 in omega (arith, l, few)); others = o.2 }
-line_marks P U h _ _ _ _ _ (scans slot cursor b e a w at) = outside_one h _ e.target (λ j o. shaded_other h.table e.target j o)
-line_marks P U h _ _ _ _ _ (blackens slot) = outside_one h _ slot (λ j o. mark_there h.table.slots slot j _ o)
-line_marks P U h _ _ _ _ _ (takes i rest g) = outside_none h _ (λ j. refl)
-line_marks P U h _ _ _ _ _ (shades_pending k r g f) = outside_one h _ r.slot (λ j o. shaded_other h.table r.slot j o)
-line_marks P U h _ _ _ _ _ (starts_sweep g s) = outside_none h _ (λ j. refl)
-line_marks P U h _ _ _ _ _ (skips at l m) = outside_none h _ (λ j. refl)
-line_marks P U h _ _ _ _ _ (whitens at l m) = outside_one h _ at (λ j o. mark_there h.table.slots at j _ o)
-line_marks P U h _ _ _ _ _ (strips at e r l m w) = outside_none h _ (λ j. refl)
-line_marks P U h _ _ _ _ _ (frees at l m w) = outside_one h _ at (λ j o. mark_there h.table.slots at j None o)
-line_marks P U h _ _ _ _ _ (finishes at l) = outside_none h _ (λ j. refl)
+pub step_takes : (m : Machine) (g : HeapGraph) (i : ℕ) (cursor : Option ℕ) → m.progress ≡ Marking None → m.heap.table.grey ≡ i ∷ g.table.grey → mark_at m.heap i ≡ Has Grey
+    → g ≡ record m.heap { table = record m.heap.table { grey = g.table.grey } } → cursor ≡ first_cell (edges g i)
+    → Steps m (record m { heap = g; progress = Marking (Some (record { slot = i; cursor = cursor })) }) 0 false
+step_takes m g i cursor at first grey is here = subst (λ (x : HeapGraph). Steps m (record m { heap = x; progress = Marking (Some (record { slot = i; cursor = cursor })) }) 0 false) (sym is)
+    (step_of m h _ _ 0 false at line (start ∙ sym (ap (λ (k : Option ℕ). first_cell (remaining k (edges m.heap i))) start ∙ ap first_cell (all_left (edges m.heap i)))) refl (omega arith) (same_cells m.heap.free_cells))
+  where
+    h : HeapGraph
+    h = record m.heap { table = record m.heap.table { grey = g.table.grey } }
 
--- The number of all cells stays.
-pub line_cells : (P : List Root) (U : List (Option Root)) (h h' : HeapGraph) (p q : Progress) (c : ℕ) (e : Bool) → Line P U h p h' q c e → h'.cell_count ≡ h.cell_count
-line_cells P U h _ _ _ _ _ (starts few) = refl
-line_cells P U h _ _ _ _ _ (scans slot cursor b e a w at) = refl
-line_cells P U h _ _ _ _ _ (blackens slot) = refl
-line_cells P U h _ _ _ _ _ (takes i rest g) = refl
-line_cells P U h _ _ _ _ _ (shades_pending k r g f) = refl
-line_cells P U h _ _ _ _ _ (starts_sweep g s) = refl
-line_cells P U h _ _ _ _ _ (skips at l m) = refl
-line_cells P U h _ _ _ _ _ (whitens at l m) = refl
-line_cells P U h _ _ _ _ _ (strips at e r l m w) = refl
-line_cells P U h _ _ _ _ _ (frees at l m w) = refl
-line_cells P U h _ _ _ _ _ (finishes at l) = refl
+    start : cursor ≡ first_cell (edges m.heap i)
+    start = here ∙ ap (λ (x : HeapGraph). first_cell (edges x i)) is
+
+    left : remaining cursor (edges m.heap i) ≡ out (body m) i
+    left = ap (λ (k : Option ℕ). remaining k (edges m.heap i)) start ∙ all_left (edges m.heap i) ∙ sym (out_so m.heap (lists_of m.roots) i (λ f. let u : Free ≡ Has Grey = sym f ∙ grey in cc))
+
+    line : Line (body m) (values.Marking None) (body_of h (lists_of m.roots)) (values.Marking (Some (record { slot = i; rest = remaining cursor (edges m.heap i) }))) 0 false
+    line = rw left (takes i g.table.grey first)
+
+pub step_shades : (m : Machine) (i : ℕ) → m.progress ≡ Marking None → m.heap.table.grey ≡ [] → ShadesFirst m i → Steps m (record m { heap = record m.heap { table = shaded m.heap.table i } }) 0 false
+step_shades m i at none f = subst (λ (p : Progress). Steps m (record m { heap = record m.heap { table = shaded m.heap.table i }; progress = p }) 0 false) (sym at)
+    (step_of m _ (Marking None) _ 0 false at (subst (λ (b : Body). Line (body m) (values.Marking None) b (values.Marking None) 0 false) (sym (shaded_so m.heap (lists_of m.roots) i)) (shades_target f.0 i none f.1 f.2 f.3))
+    tt refl (let e = ap length (shaded_free m.heap.table i) in omega (arith, e)) (same_cells m.heap.free_cells))
+
+pub step_parks : (m : Machine) → m.progress ≡ Marking None → m.heap.table.grey ≡ [] → NoneWhite m → Steps m (record m { progress = Sweeping 0 }) 0 false
+step_parks m at none white = step_of m m.heap (Sweeping 0) _ 0 false at (starts_sweep none white) tt refl (omega arith) (same_cells m.heap.free_cells)
+
+pub step_skips : (m : Machine) (k : ℕ) → m.progress ≡ Sweeping k → k < length m.heap.table.slots → mark_at m.heap k ≡ Free → Steps m (record m { progress = Sweeping (k + 1) }) 0 false
+step_skips m k at l f = step_of m m.heap (Sweeping (k + 1)) _ 0 false at (skips k (let z = zip_size m.heap.table.slots m.heap.lists in omega (arith, l, z)) (at_free m.heap (lists_of m.roots) k f)) tt refl (omega arith) (same_cells m.heap.free_cells)
+
+pub step_whitens : (m : Machine) (k : ℕ) → m.progress ≡ Sweeping k → mark_at m.heap k ≡ Has Black → Steps m (record m { heap = record m.heap { table = painted m.heap.table k White }; progress = Sweeping (k + 1) }) 0 false
+step_whitens m k at b =
+    let o = coloured_so m.heap k Black b in
+    step_of m _ _ _ 0 false at (subst (λ (b : Body). Line (body m) (values.Sweeping k) b (values.Sweeping (k + 1)) 0 false)
+    (sym (painted_so m.heap (lists_of m.roots) k o.0 White o.1)) (whitens k _ (at_slot m.heap (lists_of m.roots) k o.0 o.1) o.2)) tt refl (omega arith) (same_cells m.heap.free_cells)
+
+pub step_strips : (m : Machine) (k : ℕ) (e : Edge) (r : List Edge) → IsHeap m.heap → m.progress ≡ Sweeping k → mark_at m.heap k ≡ Has White → edges m.heap k ≡ e ∷ r
+    → Steps m (record m { heap = record m.heap { lists = set m.heap.lists k r; free_cells = m.heap.free_cells + 1 } }) 0 false
+step_strips m k e r ok at w s =
+    let o = coloured_so m.heap k White w in
+    let there = at_slot m.heap (lists_of m.roots) k o.0 o.1 in
+    subst (λ (p : Progress). Steps m (record m { heap = record m.heap { lists = set m.heap.lists k r; free_cells = m.heap.free_cells + 1 }; progress = p }) 0 false) (sym at)
+    (step_of m _ (Sweeping k) _ 0 false at (subst (λ (b : Body). Line (body m) (values.Sweeping k) b (values.Sweeping k) 0 false)
+    (sym (put_list m.heap (lists_of m.roots) k (m.heap.free_cells + 1) o.0 r ok.owners o.1)) (strips k _ e r there o.2 s)) tt refl (omega arith) (omega arith, omega arith))
+
+pub step_frees : (m : Machine) (k : ℕ) → m.progress ≡ Sweeping k → mark_at m.heap k ≡ Has White → edges m.heap k ≡ []
+    → Steps m (record m { heap = record m.heap { table = record m.heap.table { slots = set m.heap.table.slots k None; free = k ∷ m.heap.table.free } }; progress = Sweeping (k + 1) }) 1 false
+step_frees m k at w s =
+    let o = coloured_so m.heap k White w in
+    let there = at_slot m.heap (lists_of m.roots) k o.0 o.1 in
+    step_of m _ (Sweeping (k + 1)) _ 1 false at (subst (λ (b : Body). Line (body m) (values.Sweeping k) b (values.Sweeping (k + 1)) 1 false)
+    (sym (put_slot m.heap (lists_of m.roots) k None (k ∷ m.heap.table.free))) (frees k _ there o.2 s)) tt refl (omega arith) (same_cells m.heap.free_cells)
+
+pub step_finishes : (m : Machine) (k : ℕ) → m.progress ≡ Sweeping k → length m.heap.table.slots ≤ k → Steps m (record m { progress = Idle }) 0 true
+step_finishes m k at l = step_of m m.heap Idle _ 0 true at (finishes k (let z = zip_size m.heap.table.slots m.heap.lists in omega (arith, l, z))) tt refl (omega arith) (same_cells m.heap.free_cells)
+
+-- The start: all roots but the targets are shaded.
+pub all_shaded_append : (xs ys : List (Option ℕ)) (t : Table) → all_shaded (xs ++ ys) t ≡ all_shaded xs (all_shaded ys t)
+all_shaded_append [] ys t = refl
+all_shaded_append (x ∷ xs) ys t = ap (λ (u : Table). shaded_slot u x) (all_shaded_append xs ys t)
+
+all_free : (xs : List (Option ℕ)) (t : Table) → (all_shaded xs t).free ≡ t.free
+all_free [] t = refl
+all_free (None ∷ xs) t = all_free xs t
+all_free (Some i ∷ xs) t = shaded_free (all_shaded xs t) i ∙ all_free xs t
+
+all_so : (h : HeapGraph) (rs : RootLists) (xs : List (Option ℕ)) → body_of (record h { table = all_shaded xs h.table }) rs ≡ shade_all (body_of h rs) xs
+all_so h rs [] = refl
+all_so h rs (None ∷ xs) = all_so h rs xs
+all_so h rs (Some i ∷ xs) = shaded_so (record h { table = all_shaded xs h.table }) rs i ∙ ap (λ (b : Body). shade b i) (all_so h rs xs)
+
+pub step_starts : (m : Machine) → m.progress ≡ Idle
+    → Steps m (record (with_shaded (with_shaded m (agent_slots m.roots)) (principal_slots m.roots)) { progress = Marking None }) 0 false
+step_starts m at = subst (λ (t : Table). Steps m (record m { heap = record m.heap { table = t }; progress = Marking None }) 0 false) (all_shaded_append (principal_slots m.roots) (agent_slots m.roots) m.heap.table)
+    (step_of m _ _ _ 0 false at (subst (λ (b : Body). Line (body m) values.AtRest b (values.Marking None) 0 false) (sym (all_so m.heap (lists_of m.roots) (bare (lists_of m.roots)).others)) starts)
+    tt refl (let f = ap length (all_free (bare (lists_of m.roots)).others m.heap.table) in omega (arith, f)) (same_cells m.heap.free_cells))

@@ -1,5 +1,5 @@
 -- A vertex's edges by rising serial.
-use Rattle.std.proofs.Common.{◌≡◌, ◌≢◌, ℕ, suc, ◌<◌, ◌≤◌, List, [], ◌∷◌, length, Some, inl, inr, sym, ◌∙◌, subst, ap, refl, arith, get_or, Bool, true, false, cond, eqb, eqb-true, eq-eqb, map, sum_by, T, ◌&&◌}
+use Rattle.std.proofs.Common.{◌≡◌, ◌≢◌, ℕ, zero, suc, ◌<◌, ◌≤◌, List, [], ◌∷◌, length, Option, Some, None, inl, inr, sym, ◌∙◌, subst, ap, refl, arith, get_or, Bool, true, false, cond, eqb, eqb-true, eq-eqb, map, sum_by, T, ◌&&◌}
 use Rattle.std.proofs.lemmas.Bool.{cases_eq}
 use Rattle.std.proofs.lemmas.List.Sums.{sum_by-cons}
 use Rattle.std.specs.List.Sorted.{IsPermutation, IsNonDecreasingBy}
@@ -18,20 +18,40 @@ use Rattle.tg_rights.proofs.MembershipLemmas.{contains_map}
 use Rattle.tg_graph.specs.Protection.{label}
 use Rattle.tg_graph.specs.Rules.{labelled, edges_of}
 use Rattle.tg_cells.specs.Lists.{Edge, serials}
-use Rattle.tg_heap.specs.Graph.{edges, IsHeap}
-use Rattle.tg_collect.specs.declared.machine.Machine.{Machine}
-use Rattle.tg_collect.specs.Names.{Whole}
-use Rattle.tg_collect.specs.Stored.{stored, held}
-use Rattle.tg_collect.specs.Views.{IsEdgeIn, place, serial_at}
-use Rattle.tg_collect.proofs.PathLemmas.{edge_in}
-use Rattle.tg_collect.proofs.EdgeCalls.{edge_listed}
-use Rattle.std.specs.Option.{is_some}
-use Rattle.tg_collect.proofs.SetLemmas.{same_key, key_same, named_held}
+use Rattle.tg_marking.specs.Values.{Kept}
+use Rattle.tg_marking.specs.Invariant.{Closed}
+use Rattle.tg_collect.specs.Stored.{Stored}
+use Rattle.tg_collect.specs.Readings.{kept, held, vertices, IsRootAt}
+use Rattle.tg_collect.proofs.ShownLemmas.{Once, same_key, key_same, kept_held}
 use Rattle.tg_collect.proofs.SumLemmas.{contains_keys, keys_once, labelled_once}
-use Rattle.tg_collect.proofs.MachineLemmas.{contains_index, index_contains}
-use Rattle.tg_collect.proofs.PlaceLemmas.{find_contains}
-use Rattle.tg_collect.proofs.CallLemmas.{placed_name, label_edge}
-use Rattle.tg_collect.proofs.CollectLemmas.{same_found}
+use Rattle.tg_collect.proofs.CallLemmas.{label_edge}
+use Rattle.tg_collect.proofs.FullLemmas.{edge_with}
+
+contains_index : {X : Type 0} (xs : List X) (x d : X) → Contains xs x → (k : ℕ) × (k < length xs) × (get_or xs k d ≡ x)
+contains_index [] x d h = absurd h
+contains_index (y ∷ xs) x d (inl e) = (0, omega arith, sym e)
+contains_index (y ∷ xs) x d (inr h) = let r = contains_index xs x d h in let b : suc r.0 < suc (length xs) = (let l = r.1 in omega (arith, l)) in (suc r.0, b, r.2)
+
+pub index_contains : {X : Type 0} (xs : List X) (x d : X) (k : ℕ) → k < length xs → get_or xs k d ≡ x → Contains xs x
+index_contains [] x d k h e = absurd (omega arith)
+index_contains (y ∷ xs) x d zero h e = inl (sym e)
+index_contains (y ∷ xs) x d (suc k) h e = inr (index_contains xs x d k (omega arith) e)
+
+same_found : {X : Type 0} (a b : Option X) → ((w : X) → a ≡ Some w → b ≡ Some w) → ((w : X) → b ≡ Some w → a ≡ Some w) → a ≡ b
+same_found None None f g = refl
+same_found None (Some w) f g = g w refl
+same_found (Some w) b f g = sym (f w refl)
+
+some_same : {X : Type 0} (a b : X) → Some a ≡ Some b → a ≡ b
+some_same a b e = cc
+
+find_contains : {X : Type 0} (es : List (ℕ × X)) (q : ℕ) (w : X) → find nat_cmp q es ≡ Some w → Contains es (q, w)
+find_contains [] q w e = absurd (cc)
+find_contains ((k, v) ∷ es) q w e =
+    elim (eq_by_cmp nat_cmp q k) as (λ b. eq_by_cmp nat_cmp q k ≡ b → cond b (Some v) (find nat_cmp q es) ≡ Some w → Contains ((k, v) ∷ es) (q, w)) [
+      | true ↦ λ t f. let a : q ≡ k = same_key q k t in let b : v ≡ w = some_same v w f in inl (cc)
+      | false ↦ λ t f. inr (find_contains es q w f)
+    ] refl e
 
 abbrev Pairs : Type 0
 Pairs = List (ℕ × Letters)
@@ -196,45 +216,38 @@ keys_pairs : (es : List Edge) → map (λ (e : ℕ × Letters). e.0) (pairs_of e
 keys_pairs [] = refl
 keys_pairs (e ∷ es) = ap (λ (l : List ℕ). e.serial ∷ l) (keys_pairs es)
 
--- The slot's edges in order are the edges of its vertex in the graph.
-pub edges_listed : (m : Machine) (id next : ℕ) (ys : Pairs) → IsHeap m.heap → Whole m → is_some (place (stored m) id) ≡ true → IsPermutation (pairs_of (edges m.heap id)) ys → IsNonDecreasingBy (λ (e : ℕ × Letters). e.0) ys
-    → ys ≡ edges_of (held (stored m) next) (serial_at (stored m) id)
-unfolding edges_of
-edges_listed m id next ys ok w at p rising = same_order ys zs (in_order ys rising once) (sorted_labelled l (finmap.entries (stored m).vertices) (finmap.entries_sorted (stored m).vertices)) (λ q.
-    same_found (find nat_cmp q ys) (find nat_cmp q zs)
-    (λ v f.
-    let e = pair_edge (edges m.heap id) q v (held_before q v (find_contains ys q v f)) in
-    let is : l q ≡ v = label_edge m id q next e.0 ok w at e.1 e.2 ∙ e.3 in
-    let some : is_none (l q) ≡ false = ap is_none (label_edge m id q next e.0 ok w at e.1 e.2) ∙ ok.cells.labelled id e.0 e.1 in
-    let n = placed_name m id at in
-    let key = contains_keys (stored m).vertices q (subst (λ (y : ℕ). finmap.contains_key (stored m).vertices y ≡ true) e.2
-    (named_held m.heap m.progress w.names.once e.0.target e.0.serial (w.names.edge id e.0 n.1 e.1) (w.kept.closed id e.0 n.1 e.1))) in
-    contains_find zs q v once_labelled (subst (λ (u : Letters). Contains {X = ℕ × Letters} zs (q, u)) is (pair_labelled l keys q key some)))
-    (λ v f.
-    let r = labelled_pair l keys q v (find_contains zs q v f) in
-    let n = placed_name m id at in
-    let e = edge_listed m id q n.0.0 w n.0.1 (subst (λ (x : ℕ). IsEdgeIn (stored m) x q) (sym n.0.2) (edge_in (stored m) next (serial_at (stored m) id) q r.2)) in
-    let is : e.0.rights ≡ v = sym (label_edge m id q next e.0 ok w at e.1 e.2) ∙ sym r.1 in
-    contains_find ys q v once (held_after q v (subst (λ (u : Letters). Contains {X = ℕ × Letters} (pairs_of (edges m.heap id)) (q, u)) is
-    (subst (λ (y : ℕ). Contains {X = ℕ × Letters} (pairs_of (edges m.heap id)) (y, e.0.rights)) e.2 (contains_map (λ (x : Edge). (x.serial, x.rights)) (edges m.heap id) e.0 e.1))))))
-  where
-    l : ℕ → Letters
-    l y = label (held (stored m) next) (serial_at (stored m) id) y
+-- The edges of a held slot in order are the edges of its vertex in the graph.
+module _ (v : Stored) (once : Once v) (closed : Closed (kept v) (IsRootAt v)) (distinct : (i : ℕ) (k : Kept) → kept v i ≡ Some k → Distinct (map (λ (e : Edge). e.serial) k.edges))
+    (some : (i : ℕ) (k : Kept) (e : Edge) → kept v i ≡ Some k → Contains k.edges e → is_none e.rights ≡ false) where
+  pub edges_listed : (next i : ℕ) (k : Kept) (ys : Pairs) → kept v i ≡ Some k → IsPermutation (pairs_of k.edges) ys → IsNonDecreasingBy (λ (e : ℕ × Letters). e.0) ys → ys ≡ edges_of (held v next) k.serial
+  unfolding edges_of
+  edges_listed next i k ys is p rising = same_order ys zs (in_order ys rising once_listed) (sorted_labelled l (finmap.entries (vertices v)) (finmap.entries_sorted (vertices v))) (λ q.
+      same_found (find nat_cmp q ys) (find nat_cmp q zs)
+      (λ u f.
+      let e = pair_edge k.edges q u (permuted ys (pairs_of k.edges) (q, u) (IsPermutation-sym (pairs_of k.edges) ys p) (find_contains ys q u f)) in
+      let label_is : l q ≡ u = ap l (sym e.2) ∙ label_edge v next i k once is e.0 (distinct i k is) e.1 ∙ e.3 in
+      let not_none : is_none (l q) ≡ false = ap (λ (y : ℕ). is_none (l y)) (sym e.2) ∙ ap is_none (label_edge v next i k once is e.0 (distinct i k is) e.1) ∙ some i k e.0 is e.1 in
+      let there = closed.edges i k e.0 is e.1 in
+      let key = contains_keys (vertices v) q (subst (λ (y : ℕ). finmap.contains_key (vertices v) y ≡ true) (there.2 ∙ e.2) (kept_held v e.0.target there.0 once there.1)) in
+      contains_find zs q u once_labelled (subst (λ (x : Letters). Contains {X = ℕ × Letters} zs (q, x)) label_is (pair_labelled l keys q key not_none)))
+      (λ u f.
+      let r = labelled_pair l keys q u (find_contains zs q u f) in
+      let e = edge_with v once next i k is q r.2 in
+      let here : e.0.rights ≡ u = sym (ap l (sym e.2) ∙ label_edge v next i k once is e.0 (distinct i k is) e.1) ∙ sym r.1 in
+      contains_find ys q u once_listed (permuted (pairs_of k.edges) ys (q, u) p (subst (λ (x : Letters). Contains {X = ℕ × Letters} (pairs_of k.edges) (q, x)) here
+      (subst (λ (y : ℕ). Contains {X = ℕ × Letters} (pairs_of k.edges) (y, e.0.rights)) e.2 (contains_map (λ (x : Edge). (x.serial, x.rights)) k.edges e.0 e.1))))))
+    where
+      l : ℕ → Letters
+      l y = label (held v next) k.serial y
 
-    keys : List ℕ
-    keys = finmap.keys (stored m).vertices
+      keys : List ℕ
+      keys = finmap.keys (vertices v)
 
-    zs : Pairs
-    zs = labelled l keys
+      zs : Pairs
+      zs = labelled l keys
 
-    once : Distinct (map (λ (e : ℕ × Letters). e.0) ys)
-    once = keys_permuted (pairs_of (edges m.heap id)) ys p (subst Distinct (sym (keys_pairs (edges m.heap id))) (ok.cells.serial_once id))
+      once_listed : Distinct (map (λ (e : ℕ × Letters). e.0) ys)
+      once_listed = keys_permuted (pairs_of k.edges) ys p (subst Distinct (sym (keys_pairs k.edges)) (distinct i k is))
 
-    once_labelled : Distinct (map (λ (e : ℕ × Letters). e.0) zs)
-    once_labelled = labelled_once l keys (keys_once (stored m).vertices)
-
-    held_before : (q : ℕ) (v : Letters) → Contains {X = ℕ × Letters} ys (q, v) → Contains {X = ℕ × Letters} (pairs_of (edges m.heap id)) (q, v)
-    held_before q v h = permuted ys (pairs_of (edges m.heap id)) (q, v) (IsPermutation-sym (pairs_of (edges m.heap id)) ys p) h
-
-    held_after : (q : ℕ) (v : Letters) → Contains {X = ℕ × Letters} (pairs_of (edges m.heap id)) (q, v) → Contains {X = ℕ × Letters} ys (q, v)
-    held_after q v h = permuted (pairs_of (edges m.heap id)) ys (q, v) p h
+      once_labelled : Distinct (map (λ (e : ℕ × Letters). e.0) zs)
+      once_labelled = labelled_once l keys (keys_once (vertices v))

@@ -1,250 +1,297 @@
--- A graph is opened: its principals, one after another.
-use Rattle.std.proofs.Common.{◌≡◌, ◌≢◌, ℕ, zero, suc, ◌+◌, ◌<◌, ◌≤◌, List, [], ◌∷◌, ◌++◌, length, Some, None, ◌⊎◌, inl, inr, sym, ◌∙◌, subst, ap, refl, arith, set, length-set, get_or, get_or-set_same, get_or-set_other, Bool, true, false, cond, length-append, Global}
-use Rattle.std.proofs.lemmas.Bool.{cases_eq}
-use Rattle.std.specs.declared.vec.Vec.{Vec}
-use Rattle.std.specs.Option.{is_some, option_map}
-use Rattle.std.specs.Ordering.{nat_cmp, eq_by_cmp}
-use Rattle.std.specs.Cmp.{nat_cmp_total}
+-- A machine that holds the first principals, before any cycle.
+use Rattle.std.proofs.Common.{◌≡◌, ◌≢◌, ℕ, zero, suc, ◌+◌, ◌<◌, ◌≤◌, List, [], ◌∷◌, ◌++◌, length, map, replicate, Option, Some, None, ◌⊎◌, inl, inr, Ok, sym, ◌∙◌, subst, ap, refl, arith, get_or, set, length-set, length-append}
+use Rattle.std.proofs.lemmas.Bool.{cases_lt}
+use Rattle.std.proofs.lemmas.List.{length-replicate, get_or_append_left}
+use Rattle.std.proofs.Math.Seq.{get_or-append_seam}
 use Rattle.std.specs.FinMap as finmap
-use Rattle.std.specs.FinMap.{get-insert, get-empty}
-use Rattle.tg_rights.specs.Membership.{Contains}
+use Rattle.std.specs.FinSet as finset
+use Rattle.tg_rights.specs.declared.limits.TheConstants.{SEATS}
+use Rattle.tg_rights.specs.Membership.{Contains, Distinct}
 use Rattle.tg_rights.proofs.MembershipLemmas.{contains_append, map_append}
 use Rattle.tg_rights.specs.declared.kind.Kind.TheVariants.{Subject}
-use Rattle.tg_slots.specs.Table.{Free, Has, slot}
-use Rattle.tg_slots.specs.declared.colour.Colour.TheVariants.{White, Grey, Black}
-use Rattle.tg_graph.specs.declared.vertex.Vertex.{Vertex}
-use Rattle.tg_graph.specs.Triples.{Triples, edge}
-use Rattle.tg_graph.specs.Protection.{Protection}
-use Rattle.tg_graph.specs.Opening.{subjects}
-use Rattle.tg_heap.specs.Graph.{HeapGraph, mark_at}
-use Rattle.tg_collect.specs.declared.note.Phase.TheVariants as phase
+use Rattle.tg_slots.specs.Table as table
+use Rattle.tg_slots.specs.Table.{Table, Free, Has, slot, nones, indices, fresh}
+use Rattle.tg_slots.specs.declared.colour.Colour.{Colour}
+use Rattle.tg_slots.specs.declared.colour.Colour.TheVariants.{White}
+use Rattle.tg_slots.specs.declared.slots.Occupant.{Occupant}
+use Rattle.tg_cells.specs.Lists.{Edge}
+use Rattle.tg_heap.specs.Graph.{edges, mark_at, IsHeap}
+use Rattle.tg_marking.specs.Values as values
+use Rattle.tg_marking.specs.Values.{Spot, AtRest, Kept, as_kept, kept, seen, name, name_of, mark, mark_of, HasRoot}
+use Rattle.tg_marking.specs.Steps.{new_colour}
+use Rattle.tg_marking.specs.Invariant.{Invariant}
+use Rattle.tg_marking.proofs.SpotLemmas.{put_each}
+use Rattle.tg_held.specs.Held as graph
+use Rattle.tg_held.proofs.HeldLemmas.{comes}
 use Rattle.tg_collect.specs.declared.machine.Root.{Root}
+use Rattle.tg_collect.specs.declared.machine.Roots.{Roots}
 use Rattle.tg_collect.specs.declared.machine.Progress.{Progress}
-use Rattle.tg_collect.specs.declared.machine.Progress.TheVariants.{Idle, Marking, Sweeping}
+use Rattle.tg_collect.specs.declared.machine.Progress.TheVariants.{Idle}
 use Rattle.tg_collect.specs.declared.machine.Machine.{Machine}
-use Rattle.tg_collect.specs.Machine.{IsHeld, PhaseHolds, phase_of}
-use Rattle.tg_collect.specs.Names.{IsNamed, Whole}
-use Rattle.tg_collect.specs.Stored.{Stored, stored, held, principals_of}
-use Rattle.tg_collect.specs.Views.{IsHeldIn, place}
-use Rattle.tg_collect.specs.Sessions.{pending_of, with_black}
+use Rattle.tg_collect.specs.Machine.{RootLists, IsListed, lists_of, body, progress_in, progress_of, CursorFits, Whole}
+use Rattle.tg_collect.specs.Stored.{stored}
+use Rattle.tg_collect.specs.Readings.{as_progress, kept_from, spot, held, serial_of, root_serial}
+use Rattle.tg_collect.specs.Calls.{Puts}
 use Rattle.tg_collect.specs.Openings.{first_serials, Opens}
-use Rattle.tg_collect.specs.OpeningSteps.{PrincipalOpened, OpensFirst, IsFreeFrom}
-use Rattle.tg_collect.proofs.SetLemmas.{same_key, key_same}
-use Rattle.tg_collect.proofs.VertexCalls.{VertexPlaced}
+use Rattle.tg_collect.specs.OpeningSteps.{subject, first_root, first_roots, AreFrom, HoldsSubject, HasOpened, OpensFirst, OpensNext, root_count}
+use Rattle.tg_slots.proofs.FreshLemmas.{nones_length, nones_free, indices_length}
+use Rattle.tg_collect.proofs.ZipLemmas.{zip_slot, zip_size, at_slot, at_free, mark_so, occupied, as_spot}
+use Rattle.tg_collect.proofs.RootLemmas.{root_listed}
+use Rattle.tg_collect.proofs.CountLemmas.{free_so}
+use Rattle.tg_collect.proofs.ShownLemmas.{held_at, held_set, from_size}
 
--- Subjects by their serials.
-not_key : (x k : ℕ) → x ≢ k → eq_by_cmp nat_cmp x k ≡ false
-not_key x k n = elim (eq_by_cmp nat_cmp x k) as (λ b. eq_by_cmp nat_cmp x k ≡ b → eq_by_cmp nat_cmp x k ≡ false) [
-  | true ↦ λ t. absurd (n (same_key x k t))
-  | false ↦ λ t. t
-] refl
+-- Seats without a root, and the first principals.
+no_seat : {X : Type 0} (n : ℕ) (x : X) → Contains (replicate n None) (Some x) → ⊥
+no_seat zero x h = h
+no_seat (suc n) x (inl e) = cc
+no_seat (suc n) x (inr h) = no_seat n x h
 
-subject_before : (count x : ℕ) → x ≤ count → 1 ≤ x → finmap.get (subjects count) x ≡ Some (record { kind = Subject; text = [] })
-subject_before zero x a b = absurd (omega (arith, a, b))
-subject_before (suc n) x a b = get-insert nat_cmp_total (subjects n) (suc n) _ x ∙ elim (cases_eq x (suc n)) [
-  | inl is ↦ ap (λ (c : Bool). cond c (Some (record { kind = Subject; text = [] })) (finmap.get (subjects n) x)) (key_same x (suc n) is)
-  | inr other ↦ ap (λ (c : Bool). cond c (Some (record { kind = Subject; text = [] })) (finmap.get (subjects n) x)) (not_key x (suc n) other) ∙ subject_before n x (omega (arith, a, other)) b
+seat_idle : (n k : ℕ) → get_or (map (λ o. root_serial o) (replicate n None)) k None ≡ None
+seat_idle zero k = refl
+seat_idle (suc n) zero = refl
+seat_idle (suc n) (suc k) = seat_idle n k
+
+first_listed : (n : ℕ) (r : Root) → Contains (first_roots n) r → (r.slot < n) × (r.serial ≡ r.slot + 1)
+first_listed zero r h = absurd h
+first_listed (suc n) r h = elim (contains_append (first_roots n) (first_root n ∷ []) r h) [
+  | inl old ↦ (let l = first_listed n r old in let b = l.0 in (omega (arith, b), l.1))
+  | inr new ↦ elim new [
+    | inl is ↦ (let at = ap (λ (q : Root). q.slot) is in (omega (arith, at), ap (λ (q : Root). q.serial) is ∙ ap (λ (x : ℕ). x + 1) (sym at)))
+    | inr never ↦ absurd never
+  ]
 ]
 
-subject_after : (count x : ℕ) → count < x → finmap.get (subjects count) x ≡ None
-subject_after zero x a = get-empty nat_cmp x
-subject_after (suc n) x a = get-insert nat_cmp_total (subjects n) (suc n) _ x ∙ ap (λ (c : Bool). cond c (Some (record { kind = Subject; text = [] })) (finmap.get (subjects n) x)) (not_key x (suc n) (λ e. omega (arith, a, e))) ∙ subject_after n x (omega (arith, a))
+pub length-first : (n : ℕ) → length (first_roots n) ≡ n
+length-first zero = refl
+length-first (suc n) = let a = length-append (first_roots n) (first_root n ∷ []) in let r = length-first n in omega (arith, a, r)
 
--- What is a subject has one of the consecutive serials from 1 on.
-pub subject_low : (count x : ℕ) → finmap.contains_key (subjects count) x ≡ true → (1 ≤ x) × (x ≤ count)
-subject_low zero x t = absurd (let e = ap is_some (get-empty nat_cmp x) in let u : true ≡ false = sym t ∙ e in cc)
-subject_low (suc n) x t = elim (cases_eq x (suc n)) [
-  | inl is ↦ (omega (arith, is), omega (arith, is))
-  | inr other ↦
-      let e = ap is_some (get-insert nat_cmp_total (subjects n) (suc n) (record { kind = Subject; text = [] }) x) ∙ ap (λ (c : Bool). is_some (cond c (Some (record { kind = Subject; text = [] })) (finmap.get (subjects n) x))) (not_key x (suc n) other) in
-      let r = subject_low n x (sym e ∙ t) in let a = r.0 in let b = r.1 in (a, omega (arith, b))
+pub first_at : (n k : ℕ) (d : Root) → k < n → get_or (first_roots n) k d ≡ first_root k
+first_at zero k d b = absurd (omega (arith, b))
+first_at (suc n) k d b = elim (cases_lt k n) [
+  | inl l ↦ (let s = length-first n in get_or_append_left (first_roots n) (first_root n ∷ []) d k (omega (arith, l, s)) ∙ first_at n k d l)
+  | inr g ↦ (
+      let is : k ≡ n = omega (arith, b, g) in
+      let end : k ≡ length (first_roots n) = is ∙ sym (length-first n) in
+      ap (λ (j : ℕ). get_or (first_roots n ++ first_root n ∷ []) j d) end ∙ get_or-append_seam (first_roots n) (first_root n) [] d ∙ ap first_root (sym is))
 ]
 
--- The invariant with other roots, before a cycle has started.
-pub idle_phase : (m : Machine) (n : Machine) → n.heap ≡ m.heap → n.progress ≡ Idle → m.progress ≡ Idle → PhaseHolds m.progress m → PhaseHolds n.progress n
-idle_phase m n eh en em k =
-    let old : PhaseHolds Idle m = subst (λ (p : Progress). PhaseHolds p m) em k in
-    let moved : PhaseHolds Idle n = subst (λ (h : HeapGraph). ((i : ℕ) → mark_at h i ≡ Has Grey → Contains h.table.grey i) × ((i : ℕ) → mark_at h i ≢ Has Black)) (sym eh) old in
-    subst (λ (p : Progress). PhaseHolds p n) (sym en) moved
+serials_first : (n : ℕ) → map (λ (r : Root). r.serial) (first_roots n) ≡ first_serials n
+serials_first zero = refl
+serials_first (suc n) = map_append (λ (r : Root). r.serial) (first_roots n) (first_root n ∷ []) ∙ (λ i. serials_first n i ++ one i ∷ []) where
+  one : n + 1 ≡ suc n
+  one = omega arith
 
--- A principal is added.
-abbrev pub with_principals : Machine → Vec Root Global → Machine
-with_principals m ps = record m { principals = ps }
+module _ (m : Machine) (count : ℕ) (o : HasOpened m count) where
+  -- What a slot holds, and what is read off it.
+  holds : (i : ℕ) → (values.spot (body m) i ≡ None) ⊎ ((i < count) × HoldsSubject count i (values.spot (body m) i))
+  holds i = elim (cases_lt i count) [ inl b ↦ inr (b, o.here i b) | inr b ↦ inl (o.others i b) ]
 
-pub principal_whole : (m : Machine) (ps : Vec Root Global) (i x : ℕ) → m.progress ≡ Idle → Whole m → IsNamed m.heap i x → IsHeld m i → length m.principals.items < 64
-    → ps.items ≡ m.principals.items ++ record { serial = x; slot = i } ∷ [] → Whole (with_principals m ps)
-principal_whole m ps i x idle w named held few e = record {
-  seats = w.seats;
-  few = subst (λ (l : List Root). length l ≤ 64) (sym e) (let a = length-append m.principals.items (record { serial = x; slot = i } ∷ []) in omega (arith, a, few));
-  kept = record {
-    roots_held = λ j r. elim r [
-      | inl p ↦ elim (split p.0 j p.1) [
-        | inl old ↦ w.kept.roots_held j (inl (p.0, old))
-        | inr new ↦ subst (IsHeld m) (sym (ap (λ (q : Root). q.slot) new)) held
-      ]
-      | inr u ↦ w.kept.roots_held j (inr u)
-    ];
-    closed = w.kept.closed;
-    phase = idle_phase m (with_principals m ps) refl idle idle w.kept.phase;
-  };
-  names = record {
-    once = w.names.once;
-    edge = w.names.edge;
-    root = λ j y r. elim r [
-      | inl p ↦ elim (split y j p) [
-        | inl old ↦ w.names.root j y (inl old)
-        | inr new ↦ subst (λ (q : Root). IsNamed m.heap q.slot q.serial) (sym new) named
-      ]
-      | inr u ↦ w.names.root j y (inr u)
-    ];
-    no_loop = w.names.no_loop;
-  };
-} where
-  split : (y j : ℕ) → Contains ps.items (record { serial = y; slot = j }) → Contains m.principals.items (record { serial = y; slot = j }) ⊎ (◌≡◌ {A = Root} (record { serial = y; slot = j }) (record { serial = x; slot = i }))
-  split y j h = elim (contains_append m.principals.items (record { serial = x; slot = i } ∷ []) (record { serial = y; slot = j }) (subst (λ (l : List Root). Contains l (record { serial = y; slot = j })) e h)) [
-    | inl old ↦ inl old
-    | inr new ↦ elim new [ inl is ↦ inr is | inr never ↦ absurd never ]
+  marked : (i : ℕ) → (mark (body m) i ≡ Free) ⊎ (mark (body m) i ≡ Has White)
+  marked i = elim (holds i) [ inl none ↦ inl (ap mark_of none) | inr s ↦ inr (ap mark_of s.1.is) ]
+
+  pub white : (i : ℕ) (c : Colour) → mark (body m) i ≡ Has c → c ≡ White
+  white i c e = elim (marked i) [ inl f ↦ absurd (let u : Free ≡ Has c = sym f ∙ e in cc) | inr w ↦ (let u : Has c ≡ Has White = sym e ∙ w in cc) ]
+
+  -- A principal's slot in the heap.
+  pub principal_mark : (i : ℕ) → i < count → mark_at m.heap i ≢ Free
+  principal_mark i b f = let w = ap mark_of (o.here i b).is in let u : Free ≡ Has White = sym f ∙ sym (mark_so m.heap (lists_of m.roots) i) ∙ w in cc
+
+  pub principal_at : (i : ℕ) (b : i < count) → (q : Occupant) × (slot m.heap.table i ≡ Some q) × (as_spot q (edges m.heap i) ≡ subject i (o.here i b).edges)
+  principal_at i b =
+      let q = occupied m.heap i (principal_mark i b) in
+      (q.0, q.1, (let u : Some (as_spot q.0 (edges m.heap i)) ≡ Some (subject i (o.here i b).edges) = sym (at_slot m.heap (lists_of m.roots) i q.0 q.1) ∙ (o.here i b).is in cc))
+
+  named : (i x : ℕ) → name (body m) i ≡ Some x → (i < count) × (x ≡ i + 1)
+  named i x e = elim (holds i) [
+    | inl none ↦ absurd (let u : None ≡ Some x = sym (ap name_of none) ∙ e in cc)
+    | inr s ↦ (s.0, (let u : Some x ≡ Some (i + 1) = sym e ∙ ap name_of s.1.is in cc))
   ]
 
-pub principal_opened : (u : Stored) (m : Machine) (ps : Vec Root Global) (i x : ℕ) → u.phase ≡ phase.Idle → VertexPlaced u (stored m) x Subject [] i
-    → place (stored m) i ≡ Some x → ps.items ≡ m.principals.items ++ record { serial = x; slot = i } ∷ [] → PrincipalOpened u (stored (with_principals m ps)) x i
-principal_opened u m ps i x idle a there e = record {
-  placed = there;
-  within = a.within;
-  free_slots = a.free_slots;
-  is = principals ∙ (λ j. record (a.is j) { principals = u.principals ++ x ∷ []; free_slots = (stored m).free_slots; left = (stored m).left })
-      ∙ (λ j. record u {
-        vertices = finmap.insert u.vertices x (record { kind = Subject; text = [] });
-        black = same_black j;
-        places = set u.places i (Some x);
-        marks = set u.marks i (Has (white j));
-        principals = u.principals ++ x ∷ [];
-        free_slots = (stored m).free_slots;
-        left = (stored m).left;
-      });
+  held_here : (i : ℕ) (k : Kept) → kept (body m) AtRest i ≡ Some k → (i < count) × (s : HoldsSubject count i (values.spot (body m) i)) × (k ≡ as_kept (subject i s.edges))
+  held_here i k e = elim (holds i) [
+    | inl none ↦ absurd (let u : None ≡ Some k = sym (ap (seen AtRest i) none) ∙ e in cc)
+    | inr s ↦ (s.0, s.1, (let u : Some k ≡ Some (as_kept (subject i s.1.edges)) = sym e ∙ ap (seen AtRest i) s.1.is in cc))
+  ]
+
+  here_held : (i : ℕ) → i < count → (k : Kept) × (kept (body m) AtRest i ≡ Some k) × (k.serial ≡ i + 1)
+  here_held i b = let s = o.here i b in (as_kept (subject i s.edges), ap (seen AtRest i) s.is, refl)
+
+  listed : (r : Root) → IsListed (lists_of m.roots) r → (r.slot < count) × (r.serial ≡ r.slot + 1)
+  listed r h = by (subst (λ (rs : RootLists). IsListed rs r) o.roots h) where
+    by : IsListed (record { targets = replicate SEATS None; principals = first_roots count; agents = replicate SEATS None }) r → (r.slot < count) × (r.serial ≡ r.slot + 1)
+    by (inl t) = absurd (no_seat SEATS r t)
+    by (inr (inl p)) = first_listed count r p
+    by (inr (inr a)) = absurd (no_seat SEATS r a)
+
+  invariant : Invariant (body m) AtRest
+  invariant = record {
+    closed = record {
+      roots = λ i r. let l = root_listed (lists_of m.roots) i r in let k = here_held i (subst (λ (j : ℕ). j < count) l.2 (listed l.0 l.1).0) in (k.0, k.1);
+      edges = λ i k e h c.
+          let s = held_here i k h in
+          let l = s.1.lead e (subst (λ (q : Kept). Contains q.edges e) s.2 c) in
+          let t = here_held e.target l.0 in
+          (t.0, t.1, t.2 ∙ sym l.1, l.2);
+    };
+    once = λ i j x a b. let p = (named i x a).1 in let q = (named j x b).1 in omega (arith, p, q);
+    greys = record {
+      waits = λ i w. absurd (subst (λ (l : List ℕ). Contains l i) o.grey w);
+      once = subst Distinct (sym o.grey) tt;
+      known = λ i g. absurd (let u = white i _ g in cc);
+      scanned = λ i x. absurd x;
+    };
+    phase = λ i b. let u = white i _ b in cc;
+  }
+
+  pub opened_whole : Whole m
+  opened_whole = record {
+    kept = subst (λ (p : Progress). Invariant (body m) (progress_in m.heap p)) (sym o.progress) invariant;
+    cursor = subst (CursorFits m.heap) (sym o.progress) tt;
+    roots = record {
+      seats = ap (λ (r : RootLists). length r.targets) o.roots ∙ length-replicate {A = Option Root} SEATS None;
+      few = let e = ap (λ (r : RootLists). length r.principals) o.roots in let s = length-first count in let f = o.few in omega (arith, e, s, f);
+      agents = ap (λ (r : RootLists). length r.agents) o.roots ∙ length-replicate {A = Option Root} SEATS None;
+      named = λ r h. let l = listed r h in ap name_of (o.here r.slot l.0).is ∙ ap Some (sym l.1);
+    };
+  }
+
+  pub opened_opens : (slots cells : ℕ) → IsHeap m.heap → length m.heap.table.slots ≡ slots → m.heap.cell_count ≡ cells → Opens (stored m) count slots cells
+  opened_opens slots cells ok es ec = record {
+    vertices = o.vertices;
+    principals = ap (λ (r : RootLists). map (λ (q : Root). q.serial) r.principals) o.roots ∙ serials_first count;
+    places = λ k b. ap (λ (p : Progress). serial_of (seen (as_progress (values.shown (progress_in m.heap p))) k (spot (stored m) k))) o.progress ∙ ap (λ (s : Option Spot). serial_of (seen AtRest k s)) (o.here k b).is;
+    stage = ap (λ (p : Progress). values.shown (progress_in m.heap p)) o.progress;
+    idle = λ seat. ap (λ (r : RootLists). get_or (map (λ q. root_serial q) r.targets) seat None) o.roots ∙ seat_idle SEATS seat;
+    agents = λ seat. ap (λ (r : RootLists). get_or (map (λ q. root_serial q) r.agents) seat None) o.roots ∙ seat_idle SEATS seat;
+    marks = marked;
+    slots = zip_size m.heap.table.slots m.heap.lists ∙ es;
+    free = let f = free_so m.heap (lists_of m.roots) ok in let g = o.free in omega (arith, f, g, es);
+    cells = ec;
+  }
+
+-- What is held before any cycle, as a graph.
+abbrev pub kept_rest : Machine → List (Option Kept)
+kept_rest m = kept_from AtRest 0 (stored m).slots
+
+pub held_rest : (m : Machine) → m.progress ≡ Idle → held (stored m) 0 ≡ graph.held (kept_rest m) 0
+held_rest m e = ap (λ (p : Progress). graph.held (kept_from (as_progress (values.shown (progress_in m.heap p))) 0 (stored m).slots) 0) e
+
+pub rest_at : (m : Machine) (i : ℕ) → get_or (kept_rest m) i None ≡ kept (body m) AtRest i
+rest_at m i = held_at (record (stored m) { stage = values.Idle }) i
+
+-- One slot is set: what holds of each slot, and the graph.
+module _ (m n : Machine) (i : ℕ) (s : Spot) (is : (stored n).slots ≡ set (stored m).slots i (Some s)) where
+  pub put_in : i < length (stored m).slots → (P : ℕ → Option Spot → Type 0) → P i (Some s) → ((j : ℕ) → j ≢ i → P j (spot (stored m) j)) → (j : ℕ) → P j (spot (stored n) j)
+  put_in within P here there j = subst (λ (os : List (Option Spot)). P j (get_or os j None)) (sym is) (put_each P (body m) i (Some s) within here there j)
+
+  pub held_in : n.progress ≡ Idle → held (stored n) 0 ≡ graph.held (set (kept_rest m) i (seen AtRest i (Some s))) 0
+  held_in idle = held_rest n idle ∙ ap (λ (os : List (Option Spot)). graph.held (kept_from AtRest 0 os) 0) is
+      ∙ ap (λ (ks : List (Option Kept)). graph.held ks 0) (held_set AtRest i (stored m).slots (Some s))
+
+-- A blank machine.
+indices_from : (i n : ℕ) → AreFrom i (indices i n)
+indices_from i zero = tt
+indices_from i (suc n) = (refl, indices_from (suc i) n)
+
+none_kept : (k : ℕ) (os : List (Option Spot)) → ((i : ℕ) → get_or os i None ≡ None) → (graph.entries (kept_from AtRest k os) ≡ []) × (graph.triples (kept_from AtRest k os) ≡ [])
+none_kept k [] e = (refl, refl)
+none_kept k (None ∷ os) e = none_kept (suc k) os (λ i. e (suc i))
+none_kept k (Some s ∷ os) e = absurd (let u : Some s ≡ None = e 0 in cc)
+
+pub blank_first : (m : Machine) (slots : ℕ) → m.heap.table ≡ fresh slots → m.heap.free_cells ≡ m.heap.cell_count → m.progress ≡ Idle
+    → lists_of m.roots ≡ record { targets = replicate SEATS None; principals = []; agents = replicate SEATS None } → OpensFirst m 0
+blank_first m slots is cells idle roots = record {
+  opened = record {
+    few = omega arith;
+    here = λ i b. absurd (omega (arith, b));
+    others = λ i b. none i;
+    vertices = ap (λ g. g.vertices) (held_rest m idle) ∙ ap (λ es. finmap.from_entries es) (none_kept 0 (stored m).slots none).0;
+    roots = roots;
+    progress = idle;
+    grey = ap (λ (t : Table). t.grey) is;
+    next = subst (λ (t : Table). AreFrom 0 t.free) (sym is) (indices_from 0 slots);
+    free = let f = ap (λ (t : Table). length t.free) is in let l = ap (λ (t : Table). length t.slots) is in let n = nones_length slots in let k = indices_length 0 slots in omega (arith, f, l, n, k);
+  };
+  triples = ap (λ g. g.triples) (held_rest m idle) ∙ ap (λ ts. finset.from_list ts) (none_kept 0 (stored m).slots none).1;
+  cells = cells;
 } where
-  white : a.colour ≡ White
-  white = elim a.coloured [ inl w ↦ w | inr b ↦ absurd (let s = b.1 in let z : phase.Idle ≡ phase.Sweep = sym idle ∙ s in cc) ]
+  none : (i : ℕ) → spot (stored m) i ≡ None
+  none i = at_free m.heap (lists_of m.roots) i (ap (λ (t : Table). table.mark t i) is ∙ nones_free slots i)
 
-  same_black : with_black u.black x a.colour ≡ u.black
-  same_black = ap (with_black u.black x) white
-
-  old_principals : (stored m).principals ≡ u.principals
-  old_principals = ap (λ (z : Stored). z.principals) a.is
-
-  principals : stored (with_principals m ps) ≡ record (stored m) { principals = u.principals ++ x ∷ [] }
-  principals = ap (λ (l : List ℕ). record (stored m) { principals = l }) (ap principals_of e ∙ map_append (λ (r : Root). r.serial) m.principals.items (record { serial = x; slot = i } ∷ []) ∙ ap (λ (l : List ℕ). l ++ x ∷ []) old_principals)
-
--- One more of the consecutive serials.
-pub opens_more : (v w : Stored) (k slots cells : ℕ) → Opens v k slots cells → PrincipalOpened v w (suc k) k → Opens w (suc k) slots cells
-opens_more v w k slots cells o p = record {
-  vertices = ap (λ (z : Stored). z.vertices) p.is ∙ ap (λ (m : finmap.FinMap nat_cmp Vertex). finmap.insert m (suc k) (record { kind = Subject; text = [] })) o.vertices;
-  principals = ap (λ (z : Stored). z.principals) p.is ∙ ap (λ (l : List ℕ). l ++ suc k ∷ []) o.principals;
-  phase = ap (λ (z : Stored). z.phase) p.is ∙ o.phase;
-  idle = λ seat. ap (λ (z : Stored). pending_of z seat) p.is ∙ o.idle seat;
-  places = λ i b. elim (cases_eq i k) [
-    | inl is ↦ (let e : suc k ≡ i + 1 = omega (arith, is) in subst (λ (j : ℕ). place w j ≡ Some (suc k)) (sym is) p.placed ∙ ap Some e)
-    | inr other ↦ ap (λ (z : Stored). place z i) p.is ∙ get_or-set_other v.places k i (Some (suc k)) None other ∙ o.places i (omega (arith, b, other))
-  ];
-  marks = λ i. elim (cases_eq i k) [
-    | inl is ↦ inr (ap (λ (z : Stored). get_or z.marks i Free) p.is ∙ ap (λ (j : ℕ). get_or (set v.marks k (Has White)) j Free) is ∙ get_or-set_same v.marks k (Has White) Free p.within)
-    | inr other ↦
-        let e : get_or w.marks i Free ≡ get_or v.marks i Free = ap (λ (z : Stored). get_or z.marks i Free) p.is ∙ get_or-set_other v.marks k i (Has White) Free other in
-        elim (o.marks i) [ inl f ↦ inl (e ∙ f) | inr b ↦ inr (e ∙ b) ]
-  ];
-  slots = ap (λ (z : Stored). length z.marks) p.is ∙ length-set v.marks k (Has White) ∙ o.slots;
-  free = (let f = o.free in let g = p.free_slots in omega (arith, f, g));
-  cells = ap (λ (z : Stored). z.cells) p.is ∙ o.cells;
+-- One more principal, in the first free slot.
+abbrev placed : Machine → (i serial : ℕ) → (text : List ℕ) → Colour → List ℕ → Roots → Machine
+placed m i serial text colour rest rs = record m {
+  heap = record m.heap { table = record m.heap.table { slots = set m.heap.table.slots i (Some (record { serial = serial; kind = Subject; colour = colour; text = text })); free = rest } };
+  roots = rs;
 }
 
--- How far the loop over the serials has come: all existing principals so far are there, and the slots from there on are
--- free.
-pub record SoFar (v : Stored) (free : List ℕ) (S : Triples) (count serial slots cells : ℕ) : Type 0 where
-  pub opened : ℕ
-  pub first : IsFreeFrom opened free
-  pub opens : Opens v opened slots cells
-  pub triples : v.triples ≡ S
-  pub at : ((opened + 1 ≡ serial) × (opened ≤ count)) ⊎ ((opened ≡ count) × (count < serial))
+module _ (m : Machine) (rs : Roots) (k : ℕ) (rest : List ℕ) (ok : IsHeap m.heap) (f : OpensFirst m k) (room : k < 64) (free : m.heap.table.free ≡ k ∷ rest)
+    (roots : lists_of rs ≡ record (lists_of m.roots) { principals = m.roots.principals.items ++ first_root k ∷ [] }) where
+  abbrev after : Machine
+  after = placed m k (k + 1) [] White rest rs
 
--- Along the serials.
-kind_is : (G : Protection) (count serial : ℕ) → G.vertices ≡ subjects count → is_some (option_map (λ e. e.kind) (finmap.get G.vertices serial)) ≡ true → 1 ≤ serial → serial ≤ count
-kind_is G count serial e t one = elim (below_or count serial) [
-  | inl b ↦ b
-  | inr b ↦ absurd (let n : option_map (λ e. e.kind) (finmap.get G.vertices serial) ≡ None = ap (option_map (λ e. e.kind)) (ap (λ (m : finmap.FinMap nat_cmp Vertex). finmap.get m serial) e ∙ subject_after count serial b) in let u = ap is_some n in let z : true ≡ false = sym t ∙ u in cc)
-] where
-  below_or : (count serial : ℕ) → (serial ≤ count) ⊎ (count < serial)
-  below_or zero zero = inl (omega arith)
-  below_or zero (suc s) = inr (omega arith)
-  below_or (suc c) zero = inl (omega arith)
-  below_or (suc c) (suc s) = elim (below_or c s) [ inl b ↦ inl (omega (arith, b)) | inr b ↦ inr (omega (arith, b)) ]
+  o : HasOpened m k
+  o = f.opened
 
-pub kind_none : (G : Protection) (count serial : ℕ) → G.vertices ≡ subjects count → is_some (option_map (λ e. e.kind) (finmap.get G.vertices serial)) ≡ false → 1 ≤ serial → count < serial
-kind_none G count serial e t one = elim (below_or count serial) [
-  | inl b ↦ absurd (let n : option_map (λ e. e.kind) (finmap.get G.vertices serial) ≡ Some Subject = ap (option_map (λ e. e.kind)) (ap (λ (m : finmap.FinMap nat_cmp Vertex). finmap.get m serial) e ∙ subject_before count serial b one) in let u = ap is_some n in let z : true ≡ false = sym u ∙ t in cc)
-  | inr b ↦ b
-] where
-  below_or : (count serial : ℕ) → (serial ≤ count) ⊎ (count < serial)
-  below_or zero zero = inl (omega arith)
-  below_or zero (suc s) = inr (omega arith)
-  below_or (suc c) zero = inl (omega arith)
-  below_or (suc c) (suc s) = elim (below_or c s) [ inl b ↦ inl (omega (arith, b)) | inr b ↦ inr (omega (arith, b)) ]
+  listed_free : (k < length m.heap.table.slots) × (mark_at m.heap k ≡ Free)
+  listed_free = ok.table.listed_free k (subst (λ (l : List ℕ). Contains l k) (sym free) (inl refl))
 
--- The next serial is the next of the consecutive ones.
-pub next_serial : (v : Stored) (free : List ℕ) (S : Triples) (G : Protection) (count serial slots cells : ℕ) (s : SoFar v free S count serial slots cells) → G.vertices ≡ subjects count
-    → is_some (option_map (λ e. e.kind) (finmap.get G.vertices serial)) ≡ true → 1 ≤ serial → (s.opened + 1 ≡ serial) × (serial ≤ count)
-next_serial v free S G count serial slots cells s e t one =
-    let b = kind_is G count serial e t one in
-    elim s.at [
-      | inl a ↦ (a.0, b)
-      | inr a ↦ (let c = a.1 in absurd (omega (arith, b, c)))
-    ]
+  slots_are : (stored after).slots ≡ set (stored m).slots k (Some (subject k []))
+  slots_are = zip_slot m.heap.table.slots m.heap.lists k (Some (record { serial = k + 1; kind = Subject; colour = White; text = [] }))
+      ∙ ap (λ (es : List Edge). set (stored m).slots k (Some (subject k es))) (ok.free_bare k listed_free.1)
 
--- The first free slot is the next, and the others follow it.
-first_free : (k i : ℕ) (rest : List ℕ) → IsFreeFrom k (i ∷ rest) → (i ≡ k) × IsFreeFrom (suc k) rest
-first_free k i rest e = (ap first e, ap others e) where
-  first : List ℕ → ℕ
-  first [] = 0
-  first (x ∷ xs) = x
+  each : (P : ℕ → Option Spot → Type 0) → P k (Some (subject k [])) → ((j : ℕ) → j ≢ k → P j (spot (stored m) j)) → (j : ℕ) → P j (spot (stored after) j)
+  each = put_in m after k (subject k []) slots_are (let l = listed_free.0 in let z = zip_size m.heap.table.slots m.heap.lists in omega (arith, l, z))
 
-  others : List ℕ → List ℕ
-  others [] = []
-  others (x ∷ xs) = xs
+  graph_is : held (stored after) 0 ≡ record (held (stored m) 0) { vertices = finmap.insert (held (stored m) 0).vertices (k + 1) (record { kind = Subject; text = [] }) }
+  graph_is = held_in m after k (subject k []) slots_are o.progress
+      ∙ comes (kept_rest m) k 0 (as_kept (subject k [])) (let s = from_size AtRest 0 (stored m).slots in let l = listed_free.0 in let z = zip_size m.heap.table.slots m.heap.lists in omega (arith, s, l, z))
+      (λ j t n e is. let h = held_here m k o j t (sym (rest_at m j) ∙ e) in let s = ap (λ (q : Kept). q.serial) h.2 in n (omega (arith, s, is)))
+      (inl (rest_at m k ∙ ap (seen AtRest k) (o.others k (omega arith)), refl))
+      ∙ (λ i. let g = sym (held_rest m o.progress) i in record g { vertices = finmap.insert g.vertices (k + 1) (record { kind = Subject; text = [] }) })
 
-pub so_far_more : (m n : Machine) (S : Triples) (count serial slots cells : ℕ) (s : SoFar (stored m) m.heap.table.free S count serial slots cells) → s.opened + 1 ≡ serial → serial ≤ count → OpensFirst m n serial
-    → SoFar (stored n) n.heap.table.free S count (serial + 1) slots cells
-so_far_more m n S count serial slots cells s e b p =
-    let is : suc s.opened ≡ serial = (let f = e in omega (arith, f)) in
-    let f = first_free s.opened p.0 n.heap.table.free (subst (IsFreeFrom s.opened) p.1 s.first) in
-    record {
-      opened = suc s.opened;
-      first = f.1;
-      opens = opens_more (stored m) (stored n) s.opened slots cells s.opens (subst (λ (x : ℕ). PrincipalOpened (stored m) (stored n) x s.opened) (sym is) (subst (PrincipalOpened (stored m) (stored n) serial) f.0 p.2));
-      triples = ap (λ (z : Stored). z.triples) p.2.is ∙ s.triples;
-      at = inl (omega (arith, e), omega (arith, e, b));
-    }
+  one : k + 1 ≡ suc k
+  one = omega arith
 
-pub so_far_same : (v : Stored) (free : List ℕ) (S : Triples) (count serial slots cells : ℕ) (s : SoFar v free S count serial slots cells) → count < serial → SoFar v free S count (serial + 1) slots cells
-so_far_same v free S count serial slots cells s b = record {
-  opened = s.opened;
-  first = s.first;
-  opens = s.opens;
-  triples = s.triples;
-  at = inr (elim s.at [ inl a ↦ (let c = a.0 in let d = a.1 in omega (arith, c, d, b)) | inr a ↦ a.0 ], omega (arith, b));
-}
+  first_after : AreFrom (suc k) rest → OpensFirst after (suc k)
+  first_after next = record {
+    opened = record {
+      few = room;
+      here = each (λ j s. j < suc k → HoldsSubject (suc k) j s) (λ b. record { edges = []; is = refl; lead = λ e h. absurd h })
+          (λ j n b. let s = o.here j (omega (arith, b, n)) in record { edges = s.edges; is = s.is; lead = λ e h. let l = s.lead e h in let t = l.0 in (omega (arith, t), l.1, l.2) });
+      others = each (λ j s. suc k ≤ j → s ≡ None) (λ b. absurd (omega (arith, b))) (λ j n b. o.others j (omega (arith, b)));
+      vertices = ap (λ g. g.vertices) graph_is ∙ (λ i. finmap.insert (o.vertices i) (one i) (record { kind = Subject; text = [] }));
+      roots = roots ∙ (λ i. record (o.roots i) { principals = (o.roots i).principals ++ first_root k ∷ [] });
+      progress = o.progress;
+      grey = o.grey;
+      next = next;
+      free = let l = ap length free in let s = length-set m.heap.table.slots k (Some (record { serial = k + 1; kind = Subject; colour = White; text = [] })) in let p = o.free in omega (arith, l, s, p);
+    };
+    triples = ap (λ g. g.triples) graph_is ∙ f.triples;
+    cells = f.cells;
+  }
 
--- A new principal's serial is not held, a slot is free for it, and there is room for it.
-pub row_next : (v : Stored) (free : List ℕ) (S : Triples) (count serial slots cells : ℕ) (s : SoFar v free S count serial slots cells) → s.opened + 1 ≡ serial → serial ≤ count → count ≤ 64 → count ≤ slots
-    → (IsHeldIn v serial → ⊥) × (v.free_slots ≢ 0) × (length v.principals < 64)
-row_next v free S count serial slots cells s e b few fits = (
-  λ h. (let r = subject_low s.opened serial (subst (λ (m : finmap.FinMap nat_cmp Vertex). finmap.contains_key m serial ≡ true) s.opens.vertices h) in let c = r.1 in omega (arith, c, e)),
-  (let f = s.opens.free in omega (arith, f, e, b, fits)),
-  (let l = ap length s.opens.principals in let r = row_length s.opened in omega (arith, l, r, e, b, few)),
-) where
-  row_length : (n : ℕ) → length (first_serials n) ≡ n
-  row_length zero = refl
-  row_length (suc n) = (let a = length-append (first_serials n) (suc n ∷ []) in let r = row_length n in omega (arith, a, r))
+pub principal_opens : (m a : Machine) (rs : Roots) (serial i : ℕ) (text : List ℕ) → IsHeap m.heap → OpensFirst m (root_count m) → root_count m < 64 → serial ≡ root_count m + 1 → text ≡ []
+    → Puts m serial Subject text (Ok i) a → lists_of rs ≡ record (lists_of a.roots) { principals = a.roots.principals.items ++ record { serial = serial; slot = i } ∷ [] } → OpensNext m (record a { roots = rs })
+principal_opens m a rs serial i text ok f room named bare p roots = record {
+  first = subst (OpensFirst (record a { roots = rs })) (sym grown) (subst (λ (n : Machine). OpensFirst n (suc (root_count m))) (sym same) (first_after m rs (root_count m) p.0 ok f room free shown at.1));
+  more = let g = grown in omega (arith, g);
+  size = record { slots = ap (λ (n : Machine). length n.heap.table.slots) same ∙ length-set m.heap.table.slots (root_count m) _; cells = ap (λ (n : Machine). n.heap.cell_count) same };
+} where
+  at : (i ≡ root_count m) × AreFrom (suc (root_count m)) p.0
+  at = subst (AreFrom (root_count m)) p.1 f.opened.next
 
-pub idle_progress : (p : Progress) → phase_of p ≡ phase.Idle → p ≡ Idle
-idle_progress Idle e = refl
-idle_progress (Marking s) e = absurd (cc)
-idle_progress (Sweeping k) e = absurd (cc)
+  free : m.heap.table.free ≡ root_count m ∷ p.0
+  free = p.1 ∙ ap (λ (j : ℕ). j ∷ p.0) at.0
+
+  colour : new_colour (progress_of m) i ≡ White
+  colour = ap (λ (q : Progress). new_colour (progress_in m.heap q) i) f.opened.progress
+
+  same : record a { roots = rs } ≡ placed m (root_count m) (root_count m + 1) [] White p.0 rs
+  same = (λ j. record (p.2 j) { roots = rs }) ∙ (λ j. placed m (at.0 j) (named j) (bare j) (colour j) p.0 rs)
+
+  shown : lists_of rs ≡ record (lists_of m.roots) { principals = m.roots.principals.items ++ first_root (root_count m) ∷ [] }
+  shown = roots ∙ (λ j. record (lists_of (p.2 j).roots) { principals = (p.2 j).roots.principals.items ++ record { serial = named j; slot = at.0 j } ∷ [] })
+
+  grown : root_count (record a { roots = rs }) ≡ suc (root_count m)
+  grown = let l = ap (λ (r : RootLists). length r.principals) shown in let s = length-append m.roots.principals.items (first_root (root_count m) ∷ []) in omega (arith, l, s)

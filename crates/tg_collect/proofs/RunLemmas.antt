@@ -1,134 +1,187 @@
--- What was not live when a cycle starts is gone when the next one has ended.
-use Rattle.std.proofs.Common.{◌≡◌, ℕ, zero, suc, ◌+◌, ◌<◌, ◌≤◌, ◌⊎◌, inl, inr, Bool, true, false, sym, ◌∙◌, subst, refl, arith}
-use Rattle.tg_collect.specs.declared.note.Phase.{Phase}
-use Rattle.tg_collect.specs.declared.note.Phase.TheVariants.{Idle, Mark, Sweep}
-use Rattle.tg_collect.specs.Runs.{Seen, Live, root_lives, edge_lives, Follows, Sane, Collects, Acts, Run, start, acts, goes, ends}
+-- A run of a store is a run of its slots; what was not live is gone, and there are few steps between two ends.
+use Rattle.std.proofs.Common.{◌≡◌, ◌≢◌, ℕ, zero, suc, ◌+◌, ◌<◌, ◌≤◌, List, [], ◌∷◌, length, map, Option, Some, None, ◌⊎◌, inl, inr, Bool, true, false, cond, nat_lt, sym, ◌∙◌, subst, ap, refl, arith, get_or}
+use Rattle.tg_rights.specs.Membership.{Contains}
+use Rattle.tg_slots.specs.declared.colour.Colour.TheVariants.{White, Grey, Black}
+use Rattle.tg_cells.specs.Lists.{Edge}
+use Rattle.tg_graph.specs.Paths.{Live}
+use Rattle.tg_marking.specs.Values as values
+use Rattle.tg_marking.specs.Values.{Spot, Stage, Progress, AtRest, Marking, Sweeping, Body, Kept, as_kept, seen, keeps}
+use Rattle.tg_marking.specs.Steps.{new_colour}
+use Rattle.tg_marking.specs.Invariant.{at_root}
+use Rattle.tg_marking.specs.Runs as marking
+use Rattle.tg_marking.specs.Runs.{IsLiveIn, Sane, Run}
+use Rattle.tg_marking.proofs.RunLemmas as marked
+use Rattle.tg_collect.specs.declared.note.Phase.TheVariants as phase
+use Rattle.tg_collect.specs.Stored.{Stored}
+use Rattle.tg_collect.specs.Readings.{kept, place, name, progress, as_progress, phase_in, shown, spot, held, principals, pending, agents, slot_count, cycle_bound, IsHeldIn, IsParkedIn, IsRootIn, IsRootAt}
+use Rattle.tg_collect.specs.Views.{IsStore, Collected}
+use Rattle.tg_collect.specs.Sessions.{Leads, Changes, same, shaded, regards, comes, Acted}
+use Rattle.tg_collect.specs.Runs.{StoreRun, start, acts, goes, ends, IsComplete, IsBounded}
+use Rattle.tg_collect.proofs.RootLemmas.{root_listed}
+use Rattle.tg_collect.proofs.ShownLemmas.{Once, held_kept, kept_held, place_kept}
+use Rattle.tg_collect.proofs.StoreLemmas.{kept_is, kept_name, once_so, in_root, contains_mapped}
+use Rattle.tg_collect.proofs.PathLemmas.{live_slots, slots_live, root_live}
 
--- Roots are good, and edges lead from good ones to good ones.
-pub record Fence (good : ℕ → Type 0) (s : Seen) : Type 0 where
-  pub roots : (x : ℕ) → s.root x → good x
-  pub edges : (x y : ℕ) → good x → s.edge x y → good y
+at_rest : (g : Stage) → as_progress g ≡ AtRest → g ≡ values.Idle
+at_rest values.Idle e = refl
+at_rest values.Mark e = absurd (cc)
+at_rest (values.Sweep k) e = absurd (cc)
 
-abbrev pub AllGood : (ℕ → Type 0) → (ℕ → Type 0) → Type 0
-AllGood good P = (x : ℕ) → P x → good x
+sane : (v : Stored) → IsStore v → Sane (shown v) (progress v)
+sane v s = record { closed = s.closed; once = s.once; idle = λ e. s.idle (at_rest v.stage e) }
 
--- How far the collector has come with what is not good, by the cycles that have ended and the phase.
-abbrev pub Stage : (ℕ → Type 0) → ℕ → Phase → Seen → Type 0
-Stage good zero Idle s = ⊥
-Stage good zero Mark s = Fence good s
-Stage good zero Sweep s = Fence good s × AllGood good s.grey
-Stage good (suc zero) Idle s = Fence good s × AllGood good s.grey × AllGood good s.black
-Stage good (suc zero) Mark s = Fence good s × AllGood good s.grey × AllGood good s.black
-Stage good (suc zero) Sweep s = Fence good s × AllGood good s.grey × AllGood good s.held
-Stage good (suc (suc n)) p s = Fence good s × AllGood good s.held × AllGood good s.parked
+kept_same : (a b : Kept) → Some a ≡ Some b → a ≡ b
+kept_same a b e = cc
 
-live_good : (good : ℕ → Type 0) (s : Seen) (x : ℕ) → Fence good s → Live s x → good x
-live_good good s x f (root_lives _ r) = f.roots x r
-live_good good s _ f (edge_lives x y l e) = f.edges x y (live_good good s x f l) e
+-- A session step of a store is one of its slots.
+module _ (v w : Stored) (new target : Option ℕ) (next : ℕ) (s : IsStore v) (t : IsStore w) (a : Acted v w new target) (news : (x : ℕ) → new ≡ Some x → next ≤ x)
+    (targets : (x : ℕ) → target ≡ Some x → Live (held v next) (IsRootIn v) x ⊎ (next ≤ x)) where
+  abbrev Wanted : ℕ → Type 0
+  Wanted x = IsLiveIn (shown v) (progress v) x ⊎ (next ≤ x)
 
-fence_acts : (good : ℕ → Type 0) (next : ℕ) (s t : Seen) → ((x : ℕ) → next ≤ x → good x) → Acts s t next → Fence good s → Fence good t
-fence_acts good next s t new a f = record {
-  roots = λ x r. elim (a.roots x r) [ inl l ↦ live_good good s x f l | inr n ↦ new x n ];
-  edges = λ x y g e. elim (a.edges x y e) [
-    | inl old ↦ f.edges x y g old
-    | inr made ↦ elim made [ inl l ↦ live_good good s y f l | inr n ↦ new y n ]
-  ];
-}
+  wanted : (x : ℕ) → target ≡ Some x → Wanted x
+  wanted x e = elim (targets x e) [ inl l ↦ inl (live_slots v s next x l) | inr n ↦ inr n ]
 
-grey_acts : (good : ℕ → Type 0) (next : ℕ) (s t : Seen) → Acts s t next → Fence good s → AllGood good s.grey → AllGood good t.grey
-grey_acts good next s t a f g x h = elim (a.grey x h) [ inl old ↦ g x old | inr r ↦ f.roots x r ]
+  same_progress : progress w ≡ progress v
+  same_progress = ap as_progress a.stage
 
-stage_acts : (good : ℕ → Type 0) (next : ℕ) (s t : Seen) → ((x : ℕ) → next ≤ x → good x) → Acts s t next
-    → (n : ℕ) (p : Phase) → Stage good n p s → Stage good n p t
-stage_acts good next s t new a zero Idle h = h
-stage_acts good next s t new a zero Mark h = fence_acts good next s t new a h
-stage_acts good next s t new a zero Sweep h = (fence_acts good next s t new a h.0, grey_acts good next s t a h.0 h.1)
-stage_acts good next s t new a (suc zero) Idle h = (fence_acts good next s t new a h.0, grey_acts good next s t a h.0 h.1, λ x b. elim (a.black x b) [ inl old ↦ h.2 x old | inr n ↦ new x n ])
-stage_acts good next s t new a (suc zero) Mark h = (fence_acts good next s t new a h.0, grey_acts good next s t a h.0 h.1, λ x b. elim (a.black x b) [ inl old ↦ h.2 x old | inr n ↦ new x n ])
-stage_acts good next s t new a (suc zero) Sweep h = (fence_acts good next s t new a h.0, grey_acts good next s t a h.0 h.1, λ x b. elim (a.held x b) [ inl old ↦ h.2 x old | inr n ↦ new x n ])
-stage_acts good next s t new a (suc (suc n)) p h = (fence_acts good next s t new a h.0, (λ x b. elim (a.held x b) [ inl old ↦ h.1 x old | inr n ↦ new x n ]), λ x b. h.2 x (a.parked x b))
+  root_before : (x : ℕ) → IsRootIn w x → Wanted x
+  root_before x (inl p) = inl (root_live v s x (inl (subst (λ (l : List ℕ). Contains l x) a.principals p)))
+  root_before x (inr (inl p)) = elim (a.pending x p) [ inl old ↦ inl (root_live v s x (inr (inl old))) | inr e ↦ wanted x e ]
+  root_before x (inr (inr p)) = inl (root_live v s x (inr (inr (subst (λ (l : List (Option ℕ)). Contains l (Some x)) a.agents p))))
 
-fence_collects : (good : ℕ → Type 0) (s t : Seen) (ended : Bool) → Collects s t ended → Fence good s → Fence good t
-fence_collects good s t ended c f = record { roots = λ x r. f.roots x (c.roots x r); edges = λ x y g e. f.edges x y g (c.edges x y e) }
+  not_grey : (p : Progress) (i : ℕ) → new_colour p i ≢ Grey
+  not_grey AtRest i e = cc
+  not_grey (Marking c) i e = cc
+  not_grey (Sweeping k) i e = by (nat_lt i k) e where
+    by : (b : Bool) → cond b White Black ≢ Grey
+    by true e = cc
+    by false e = cc
 
--- Greys come from roots and from edges of greys.
-grey_collects : (good : ℕ → Type 0) (s t : Seen) (ended : Bool) → Collects s t ended → Fence good s → AllGood good s.grey → AllGood good t.grey
-grey_collects good s t ended c f g x h = elim (c.grey x h) [
-  | inl old ↦ g x old
-  | inr new ↦ elim new [ inl r ↦ f.roots x r | inr e ↦ f.edges e.0 x (g e.0 e.1) e.2 ]
-]
+  slot_changes : (i : ℕ) (o o' : Option Spot) → Changes v new target i o o' → marking.Changes (shown v) (progress v) next i o o'
+  slot_changes i _ _ (same o) = marking.same o
+  slot_changes i _ _ (shaded x c r) = marking.shaded x c r
+  slot_changes i _ _ (regards x es text f) = marking.regards x es text
+  slot_changes i _ _ (comes x n c f) = marking.comes x (news x.serial n) (λ e. not_grey (progress v) i (sym c ∙ e))
 
-black_collects : (good : ℕ → Type 0) (s t : Seen) (ended : Bool) → Collects s t ended → AllGood good s.grey → AllGood good s.black → AllGood good t.black
-black_collects good s t ended c g b x h = elim (c.black x h) [ inl old ↦ b x old | inr new ↦ g x new ]
+  -- What a slot shows afterwards, it showed before, with these edges; or it is new.
+  abbrev Was : ℕ → Kept → Type 0
+  Was i k = ((q : Kept) × (kept v i ≡ Some q) × (q.serial ≡ k.serial) × ((e : Edge) → Contains k.edges e → Leads q.edges e ⊎ (target ≡ Some e.serial)))
+      ⊎ ((next ≤ k.serial) × ((e : Edge) → Contains k.edges e → target ≡ Some e.serial))
 
--- A collector step that ends no cycle, and one that does.
-stage_goes : (good : ℕ → Type 0) (s t : Seen) → Collects s t false → (n : ℕ) (p q : Phase) → s.phase ≡ p → t.phase ≡ q → Follows p q false → Stage good n p s → Stage good n q t
-stage_goes good s t c zero Idle q ep eq f h = absurd h
-stage_goes good s t c zero Mark Idle ep eq f h = absurd f
-stage_goes good s t c zero Mark Mark ep eq f h = fence_collects good s t false c h
-stage_goes good s t c zero Mark Sweep ep eq f h = (fence_collects good s t false c h, grey_collects good s t false c h (λ x g. absurd ((c.to_sweep ep eq).0 x g)))
-stage_goes good s t c zero Sweep Idle ep eq f h = absurd f
-stage_goes good s t c zero Sweep Mark ep eq f h = absurd f
-stage_goes good s t c zero Sweep Sweep ep eq f h = (fence_collects good s t false c h.0, grey_collects good s t false c h.0 h.1)
-stage_goes good s t c (suc zero) Idle Idle ep eq f h = absurd f
-stage_goes good s t c (suc zero) Idle Mark ep eq f h = (fence_collects good s t false c h.0, grey_collects good s t false c h.0 h.1, black_collects good s t false c h.1 h.2)
-stage_goes good s t c (suc zero) Idle Sweep ep eq f h = absurd f
-stage_goes good s t c (suc zero) Mark Idle ep eq f h = absurd f
-stage_goes good s t c (suc zero) Mark Mark ep eq f h = (fence_collects good s t false c h.0, grey_collects good s t false c h.0 h.1, black_collects good s t false c h.1 h.2)
-stage_goes good s t c (suc zero) Mark Sweep ep eq f h = (fence_collects good s t false c h.0, grey_collects good s t false c h.0 h.1, λ x k. h.2 x ((c.to_sweep ep eq).1 x k))
-stage_goes good s t c (suc zero) Sweep Idle ep eq f h = absurd f
-stage_goes good s t c (suc zero) Sweep Mark ep eq f h = absurd f
-stage_goes good s t c (suc zero) Sweep Sweep ep eq f h = (fence_collects good s t false c h.0, grey_collects good s t false c h.0 h.1, λ x k. h.2 x (c.held x k))
-stage_goes good s t c (suc (suc n)) p q ep eq f h = (fence_collects good s t false c h.0, (λ x k. h.1 x (c.held x k)), λ x k. elim (c.parked x k) [ inl old ↦ h.2 x old | inr was ↦ h.1 x was ])
+  led : (es : List Edge) (e : Edge) → Contains es e → Leads es e
+  led (x ∷ es) e (inl is) = inl (ap (λ (d : Edge). d.serial) is)
+  led (x ∷ es) e (inr h) = inr (led es e h)
+  led [] e h = absurd h
 
-stage_ends : (good : ℕ → Type 0) (s t : Seen) → Collects s t true → (most : ℕ) → Sane most t → (n : ℕ) (p q : Phase) → s.phase ≡ p → t.phase ≡ q → Follows p q true → Stage good n p s → Stage good (suc n) q t
-stage_ends good s t c most k n Idle Idle ep eq f h = absurd f
-stage_ends good s t c most k n Idle Mark ep eq f h = absurd f
-stage_ends good s t c most k n Idle Sweep ep eq f h = absurd f
-stage_ends good s t c most k n Mark Idle ep eq f h = absurd f
-stage_ends good s t c most k n Mark Mark ep eq f h = absurd f
-stage_ends good s t c most k n Mark Sweep ep eq f h = absurd f
-stage_ends good s t c most k n Sweep Mark ep eq f h = absurd f
-stage_ends good s t c most k n Sweep Sweep ep eq f h = absurd f
-stage_ends good s t c most k zero Sweep Idle ep eq f h = (fence_collects good s t true c h.0, grey_collects good s t true c h.0 h.1, λ x b. absurd (k.idle eq x b))
-stage_ends good s t c most k (suc zero) Sweep Idle ep eq f h = (fence_collects good s t true c h.0, (λ x b. h.2 x (c.held x b)), λ x b. absurd (k.unparked (λ e. not_sweep (sym eq ∙ e)) x b))
+  slot_was : (i : ℕ) (o o' : Option Spot) (k : Kept) → spot v i ≡ o → seen (progress v) i o' ≡ Some k → Changes v new target i o o' → Was i k
+  slot_was i _ _ k at e (same o) = inl (k, ap (seen (progress v) i) at ∙ e, refl, λ d c. inl (led k.edges d c))
+  slot_was i _ _ k at e (shaded x c r) =
+      let q = s.closed.roots i r in
+      let b = kept_is (progress v) i (Some (record x { colour = Grey })) k e in
+      let old = kept_is (progress v) i (spot v i) q.0 q.1 in
+      let here : x ≡ old.0 = spots x old.0 (sym at ∙ old.1) in
+      let now : record x { colour = Grey } ≡ b.0 = spots (record x { colour = Grey }) b.0 b.1 in
+      let what : q.0 ≡ k = sym old.3 ∙ ap as_kept (sym here) ∙ ap as_kept now ∙ b.3 in
+      inl (q.0, q.1, ap (λ (z : Kept). z.serial) what, λ d h. inl (led q.0.edges d (subst (λ (z : Kept). Contains z.edges d) (sym what) h)))
+    where
+      spots : (a b : Spot) → Some a ≡ Some b → a ≡ b
+      spots a b e = cc
+  slot_was i _ _ k at e (regards x es text f) =
+      let b = kept_is (progress v) i (Some (record x { edges = es; text = text })) k e in
+      let now : record x { edges = es; text = text } ≡ b.0 = spots (record x { edges = es; text = text }) b.0 b.1 in
+      let held_too : keeps (progress v) i x.colour ≡ true = ap (keeps (progress v) i) (ap (λ (z : Spot). z.colour) now) ∙ b.2 in
+      let what : as_kept (record x { edges = es; text = text }) ≡ k = ap as_kept now ∙ b.3 in
+      inl (as_kept x, ap (seen (progress v) i) at ∙ rw held_too refl, ap (λ (z : Kept). z.serial) what, λ d h. f d (subst (λ (z : Kept). Contains z.edges d) (sym what) h))
+    where
+      spots : (a b : Spot) → Some a ≡ Some b → a ≡ b
+      spots a b e = cc
+  slot_was i _ _ k at e (comes x n c f) =
+      let b = kept_is (progress v) i (Some x) k e in
+      let what : as_kept x ≡ k = ap as_kept (spots x b.0 b.1) ∙ b.3 in
+      inr (news k.serial (n ∙ ap (λ (z : Kept). Some z.serial) what), λ d h. f d (subst (λ (z : Kept). Contains z.edges d) (sym what) h))
+    where
+      spots : (a b : Spot) → Some a ≡ Some b → a ≡ b
+      spots a b e = cc
+
+  was : (i : ℕ) (k : Kept) → values.kept (shown w) (progress v) i ≡ Some k → Was i k
+  was i k e = slot_was i (spot v i) (spot w i) k refl e (a.changes i)
+
+  edge_of : (es : List Edge) (e : Edge) → Leads es e → (d : Edge) × Contains es d × (d.serial ≡ e.serial)
+  edge_of es e l = contains_mapped (λ (d : Edge). d.serial) es e.serial l
+
+  acted : marking.Acted (shown v) (progress v) (shown w) next
+  acted = record {
+    roots = λ i k r h. (
+        let q = root_listed w.roots i r in
+        let p = place_kept w q.0.slot q.0.serial (t.named q.0 q.1) in
+        let here : kept w q.0.slot ≡ Some k = subst (λ (j : ℕ). kept w j ≡ Some k) (sym q.2) (ap (λ (z : Progress). values.kept (shown w) z i) same_progress ∙ h) in
+        let serial : q.0.serial ≡ k.serial = sym p.2 ∙ ap (λ (z : Kept). z.serial) (kept_same p.0 k (sym p.1 ∙ here)) in
+        subst Wanted serial (root_before q.0.serial (in_root w q.0 q.1)));
+    slots = λ i. slot_changes i (spot v i) (spot w i) (a.changes i);
+    held = λ i k h. elim (was i k h) [ inl old ↦ inl (old.0, old.1, old.2) | inr n ↦ inr n.0 ];
+    edges = λ i k e h c. elim (was i k h) [
+      | inl old ↦ elim (old.3 e c) [ inl l ↦ (let d = edge_of old.0.edges e l in inl (old.0, d.0, old.1, old.2, d.1, d.2)) | inr q ↦ inr (wanted e.serial q) ]
+      | inr n ↦ inr (wanted e.serial (n.1 e c))
+    ];
+  }
+
+-- The last state of a run is a store; the run is one of its slots.
+last_store : (next : ℕ) (first : Stored) (v : Stored) (ended since : ℕ) → IsStore first → StoreRun next first v ended since → IsStore v
+last_store next first _ _ _ s start = s
+last_store next first _ _ _ s (acts v w n k new target r a x y t) = t
+last_store next first _ _ _ s (goes v w n k count r c t) = t
+last_store next first _ _ _ s (ends v w n k count r c t) = t
+
+run_of : (next : ℕ) (b : Body) (p : Progress) (first v : Stored) (ended since : ℕ) → IsStore first → Run next b p (shown first) (progress first) 0 → StoreRun next first v ended since → Run next b p (shown v) (progress v) ended
+run_of next b p first _ _ _ s z start = z
+run_of next b p first _ _ _ s z (acts v w n k new target r a x y t) =
+    let u = last_store next first v n k s r in
+    let same = same_progress v w new target next u t a x y in
+    subst (λ (q : Progress). Run next b p (shown w) q n) (sym same) (marking.acts (shown v) (shown w) (progress v) n (run_of next b p first v n k s z r) (acted v w new target next u t a x y) (subst (λ (q : Progress). Sane (shown w) q) same (sane w t)))
+run_of next b p first _ _ _ s z (goes v w n k count r c t) = marking.goes (shown v) (shown w) (progress v) (progress w) n (run_of next b p first v n k s z r) c.step (sane w t)
+run_of next b p first _ _ _ s z (ends v w n k count r c t) =
+    let up : suc n ≡ n + 1 = omega arith in
+    subst (λ (m : ℕ). Run next b p (shown w) (progress w) m) up (marking.ends (shown v) (shown w) (progress v) (progress w) n (run_of next b p first v n k s z r) c.step (sane w t))
+
+resting : (g : Stage) → phase_in g ≡ phase.Idle → as_progress g ≡ AtRest
+resting values.Idle e = refl
+resting values.Mark e = absurd (cc)
+resting (values.Sweep k) e = absurd (cc)
+
+pub complete : IsComplete
+complete v w u next ended since count s idle c t below r two x has =
+    let rest = resting v.stage idle in
+    let begin : Run next (shown v) (progress v) (shown w) (progress w) 0 = marking.goes (shown v) (shown w) (progress v) (progress w) 0 marking.begin c.step (sane w t) in
+    let whole : Run next (shown v) AtRest (shown u) (progress u) ended = subst (λ (p : Progress). Run next (shown v) p (shown u) (progress u) ended) rest (run_of next (shown v) (progress v) w u ended since t begin r) in
+    let low : (i : ℕ) (k : Kept) → values.kept (shown v) AtRest i ≡ Some k → k.serial < next = λ i k e. below k.serial (kept_held v i k (once_so v s.once) (ap (λ (p : Progress). values.kept (shown v) p i) rest ∙ e)) in
+    let at = slot_of has in
+    elim (marked.complete (shown v) (shown u) (progress u) next ended (subst (λ (p : Progress). Sane (shown v) p) rest (sane v s)) low whole two at.0 at.1 at.2) [
+      | inl l ↦ inl (slots_live v s next x (subst (λ (y : ℕ). IsLiveIn (shown v) (progress v) y) at.3 (subst (λ (p : Progress). IsLiveIn (shown v) p at.1.serial) (sym rest) l)))
+      | inr n ↦ inr (subst (λ (y : ℕ). next ≤ y) at.3 n)
+    ]
   where
-    not_sweep : Idle ≡ Sweep → ⊥
-    not_sweep e = cc
-stage_ends good s t c most k (suc (suc n)) Sweep Idle ep eq f h = (fence_collects good s t true c h.0, (λ x b. h.1 x (c.held x b)), λ x b. elim (c.parked x b) [ inl old ↦ h.2 x old | inr was ↦ h.1 x was ])
+    serials : (a : Spot) (y : ℕ) → Some a.serial ≡ Some y → a.serial ≡ y
+    serials a y e = cc
 
--- The stage along a run.
-pub run_stage : (good : ℕ → Type 0) (next most : ℕ) (s t : Seen) (n k : ℕ) → ((x : ℕ) → next ≤ x → good x)
-    → Run next most s t n k → Stage good 0 s.phase s → Stage good n t.phase t
-run_stage good next most s _ _ _ new start h = h
-run_stage good next most s _ _ _ new (acts u t n k r a ok) h =
-    subst (λ (p : Phase). Stage good n p t) (sym a.phase) (stage_acts good next u t new a n u.phase (run_stage good next most s u n k new r h))
-run_stage good next most s _ _ _ new (goes u t n k r c ok) h =
-    stage_goes good u t c n u.phase t.phase refl refl c.phases (run_stage good next most s u n k new r h)
-run_stage good next most s _ _ _ new (ends u t n k r c ok) h =
-    let up : suc n ≡ n + 1 = omega arith in subst (λ (m : ℕ). Stage good m t.phase t) up (stage_ends good u t c most ok n u.phase t.phase refl refl c.phases (run_stage good next most s u n k new r h))
+    slot_of : IsHeldIn u x ⊎ IsParkedIn u x → (i : ℕ) × (z : Spot) × (spot u i ≡ Some z) × (z.serial ≡ x)
+    slot_of (inl h) = let k = held_kept u x h in let b = kept_is (progress u) k.0 (spot u k.0) k.1 k.2 in (k.0, b.0, b.1, ap (λ (q : Kept). q.serial) b.3 ∙ k.3)
+    slot_of (inr (i, (z, e, dark), n)) = (i, z, e, serials z x (sym (ap values.name_of e) ∙ n))
 
--- Completeness: the first step starts a cycle and two cycles have ended.
-pub complete : (s t u : Seen) (next most n k : ℕ) → s.phase ≡ Idle → Collects s t false → ((x y : ℕ) → s.edge x y → x < next)
-    → Run next most t u (suc (suc n)) k → (x : ℕ) → (u.held x ⊎ u.parked x) → Live s x ⊎ (next ≤ x)
-complete s t u next most n k idle c known run x has =
-    let good : ℕ → Type 0 = λ y. Live s y ⊎ (next ≤ y) in
-    let fence : Fence good s = record {
-      roots = λ y r. inl (root_lives y r);
-      edges = λ y z g e. elim g [ inl l ↦ inl (edge_lives y z l e) | inr new ↦ (let old = known y z e in absurd (omega (arith, old, new))) ];
-    } in
-    let after : Stage good 0 t.phase t = from t.phase (subst (λ (p : Phase). Follows p t.phase false) idle c.phases) (fence_collects good s t false c fence) in
-    let last = run_stage good next most t u (suc (suc n)) k (λ y l. inr l) run after in
-    elim has [ inl h ↦ last.1 x h | inr p ↦ last.2 x p ]
-  where
-    from : (p : Phase) → Follows Idle p false → Fence (λ y. Live s y ⊎ (next ≤ y)) t → Stage (λ y. Live s y ⊎ (next ≤ y)) 0 p t
-    from Idle f h = absurd f
-    from Mark f h = h
-    from Sweep f h = absurd f
+-- Collector steps since an end, and what is left, are at most the number of a cycle's steps.
+same_bound : (next : ℕ) (first v : Stored) (ended since : ℕ) → StoreRun next first v ended since → (slot_count v ≡ slot_count first) × (v.cells ≡ first.cells)
+same_bound next first _ _ _ start = (refl, refl)
+same_bound next first _ _ _ (acts v w n k new target r a x y t) = let b = same_bound next first v n k r in (a.slots ∙ b.0, a.cells ∙ b.1)
+same_bound next first _ _ _ (goes v w n k count r c t) = let b = same_bound next first v n k r in (c.step.size ∙ b.0, c.cells ∙ b.1)
+same_bound next first _ _ _ (ends v w n k count r c t) = let b = same_bound next first v n k r in (c.step.size ∙ b.0, c.cells ∙ b.1)
 
--- The bound: collector steps since an end, and what is left, are at most the number of a cycle's steps.
-pub steps_bounded : (next most : ℕ) (s t : Seen) (n k : ℕ) → Sane most s → Run next most s t n k → k + t.left ≤ most
-steps_bounded next most s _ _ _ sane start = let h = sane.most_left in omega (arith, h)
-steps_bounded next most s _ _ _ sane (acts u t n k r a ok) = let h = steps_bounded next most s u n k sane r in let l = a.no_higher in omega (arith, h, l)
-steps_bounded next most s _ _ _ sane (goes u t n k r c ok) = let h = steps_bounded next most s u n k sane r in let l : t.left < u.left = c.lower in omega (arith, h, l)
-steps_bounded next most s _ _ _ sane (ends u t n k r c ok) = let h = ok.most_left in omega (arith, h)
+steps_left : (next : ℕ) (first v : Stored) (ended since : ℕ) → IsStore first → StoreRun next first v ended since → since + v.left ≤ cycle_bound (slot_count first) first.cells
+steps_left next first _ _ _ s start = let h = s.most_left in omega (arith, h)
+steps_left next first _ _ _ s (acts v w n k new target r a x y t) = let h = steps_left next first v n k s r in let l = a.left in omega (arith, h, l)
+steps_left next first _ _ _ s (goes v w n k count r c t) = elim c.left [ inl bad ↦ absurd (cc) | inr l ↦ (let h = steps_left next first v n k s r in omega (arith, h, l)) ]
+steps_left next first _ _ _ s (ends v w n k count r c t) =
+    let b = same_bound next first w (n + 1) 0 (ends v w n k count r c t) in
+    let h : w.left ≤ cycle_bound (slot_count first) first.cells = rw (sym b.0, sym b.1) t.most_left in omega (arith, h)
+
+pub bounded : IsBounded
+bounded v u next ended since s r = let h = steps_left next v u ended since s r in let l = (last_store next v u ended since s r).some_left in omega (arith, h, l)

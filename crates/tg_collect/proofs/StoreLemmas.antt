@@ -1,116 +1,125 @@
 -- What each store has.
-use Rattle.std.proofs.Common.{◌≡◌, ◌≢◌, ℕ, ◌+◌, ◌*◌, ◌≤◌, List, [], ◌∷◌, length, Option, Some, None, ◌⊎◌, inl, inr, sym, ◌∙◌, subst, refl, arith, get_or, map}
-use Rattle.std.specs.Prelude.{sum_by}
+use Rattle.std.proofs.Common.{◌≡◌, ◌≢◌, ℕ, suc, ◌+◌, ◌<◌, ◌≤◌, List, [], ◌∷◌, length, map, Option, Some, None, ◌⊎◌, inl, inr, Bool, true, false, cond, sym, ◌∙◌, subst, ap, refl, arith, get_or}
+use Rattle.std.specs.Option.{is_some, unwrap_or}
 use Rattle.std.proofs.lemmas.List.{length-map}
-use Rattle.std.proofs.lemmas.List.Sums.{sum_by-cons}
-use Rattle.std.proofs.Math.ListN.{get_or-map}
-use Rattle.tg_slots.specs.Table.{Mark, Free, Has, mark_of, slot, if_free}
+use Rattle.std.specs.FinSet as finset
+use Rattle.tg_rights.specs.Membership.{Contains, Distinct}
+use Rattle.tg_rights.proofs.MembershipLemmas.{contains_map}
+use Rattle.tg_slots.specs.Table.{Free, Has, slot}
+use Rattle.tg_slots.specs.Table as table
 use Rattle.tg_slots.specs.declared.slots.Occupant.{Occupant}
-use Rattle.tg_slots.specs.declared.colour.Colour.{Colour}
-use Rattle.tg_slots.specs.declared.colour.Colour.TheVariants.{White, Grey, Black}
-use Rattle.tg_slots.proofs.TableLemmas.{occupied_within}
-use Rattle.tg_heap.specs.Graph.{mark_at, IsHeap}
-use Rattle.tg_collect.specs.declared.note.Phase.TheVariants as phase
+use Rattle.tg_slots.specs.declared.colour.Colour.TheVariants.{Grey, Black}
+use Rattle.tg_graph.specs.Triples.{Triple}
+use Rattle.tg_cells.specs.Lists.{Edge}
+use Rattle.tg_heap.specs.Graph.{HeapGraph, edges, mark_at, IsHeap}
+use Rattle.tg_marking.specs.Values as values
+use Rattle.tg_marking.specs.Values.{Spot, Progress, AtRest, Marking, Sweeping, Body, Kept, as_kept, seen, name_of, mark}
+use Rattle.tg_marking.specs.Invariant.{Closed, Leads, Phased}
+use Rattle.tg_marking.proofs.MoveLemmas.{closed_same}
 use Rattle.tg_collect.specs.declared.machine.Root.{Root}
-use Rattle.tg_collect.specs.declared.machine.Progress.{Progress}
-use Rattle.tg_collect.specs.declared.machine.Progress.TheVariants.{Idle, Marking, Sweeping}
 use Rattle.tg_collect.specs.declared.machine.Machine.{Machine}
-use Rattle.tg_collect.specs.Machine.{IsHeld, ParkedAt, PhaseHolds, phase_of}
-use Rattle.tg_collect.specs.Names.{IsNamed, IsRootOf, Whole}
-use Rattle.tg_collect.specs.Stored.{stored, serial_of, of_colour}
-use Rattle.tg_collect.specs.Views.{InSet, IsStore, place, mark_in, free_one}
-use Rattle.tg_collect.proofs.SetLemmas.{colour_shows, shows_colour, parked_waits, contains_stands, named_held, triple_owned, shown_at, place_at, place_named, named_place}
-use Rattle.tg_collect.proofs.LeftLemmas.{left_some, left_most, slim_few}
-use Rattle.tg_collect.proofs.NameLines.{names_slim}
-use Rattle.tg_collect.proofs.CountLemmas.{slots_counted, cells_counted, none_parked}
-use Rattle.tg_collect.proofs.CollectLemmas.{root_slot, held_of_mark}
+use Rattle.tg_collect.specs.Machine.{RootLists, IsListed, lists_of, bare, body, body_of, progress_of, join, Whole}
+use Rattle.tg_collect.specs.Stored.{Stored, stored}
+use Rattle.tg_collect.specs.Readings.{kept, name, place, mark_in, root_serial, triples, serial_at, serial_of, IsHeldIn, IsParkedIn, IsRootIn, IsRootAt, progress, shown, spot}
+use Rattle.tg_collect.specs.Readings as readings
+use Rattle.tg_collect.specs.Views.{IsStore}
+use Rattle.tg_collect.proofs.ZipLemmas.{at_slot, zip_at}
+use Rattle.tg_collect.proofs.RootLemmas.{root_listed, listed_root}
+use Rattle.tg_collect.proofs.CountLemmas.{out_all}
+use Rattle.tg_collect.proofs.StepLemmas.{kept_so}
+use Rattle.tg_collect.proofs.ShownLemmas.{Once, triple_owned, held_at, held_kept, kept_held, place_kept}
 
--- The free marks are the free slots.
-free_counted : (os : List (Option Occupant)) → sum_by if_free os ≡ sum_by free_one (map mark_of os)
-free_counted [] = refl
-free_counted (o ∷ os) =
-    let a = sum_by-cons if_free o os in
-    let b = sum_by-cons free_one (mark_of o) (map mark_of os) in
-    let rest = free_counted os in
-    let first = one o in
-    omega (arith, a, b, rest, first)
-  where
-    one : (v : Option Occupant) → if_free v ≡ free_one (mark_of v)
-    one None = refl
-    one (Some o) = refl
+-- What is held has the slot's serial, and is the slot's vertex.
+pub kept_is : (p : Progress) (i : ℕ) (o : Option Spot) (k : Kept) → seen p i o ≡ Some k → (s : Spot) × (o ≡ Some s) × (values.keeps p i s.colour ≡ true) × (as_kept s ≡ k)
+kept_is p i None k e = absurd (cc)
+kept_is p i (Some s) k e = let r = by (values.keeps p i s.colour) e in (s, refl, r.0, r.1) where
+  by : (b : Bool) → cond b (Some (as_kept s)) None ≡ Some k → (b ≡ true) × (as_kept s ≡ k)
+  by true e = (refl, same (as_kept s) k e) where
+    same : (a c : Kept) → Some a ≡ Some c → a ≡ c
+    same a c e = cc
+  by false e = absurd (cc)
 
-pub is_store : (m : Machine) → IsHeap m.heap → Whole m → IsStore (stored m)
-is_store m ok w = record {
-  from_held = λ t c. let s = triple_owned m.heap m.progress t c in named_held m.heap m.progress w.names.once s.at t.from (s.occupant, s.is, sym s.from) s.held;
-  to_held = λ t c.
-      let s = triple_owned m.heap m.progress t c in
-      named_held m.heap m.progress w.names.once s.edge.target t.to (subst (IsNamed m.heap s.edge.target) (sym s.to) (w.names.edge s.at s.edge s.held s.owned)) (w.kept.closed s.at s.edge s.held s.owned);
-  distinct = λ t c e.
-      let s = triple_owned m.heap m.progress t c in
-      let there = w.names.edge s.at s.edge s.held s.owned in
-      let same : s.edge.serial ≡ t.from = sym s.to ∙ sym e in
-      w.names.no_loop s.at s.edge s.held s.owned (w.names.once s.edge.target s.at t.from (subst (IsNamed m.heap s.edge.target) same there) (s.occupant, s.is, sym s.from));
-  roots_held = λ x r.
-      let s = root_slot m x r in
-      named_held m.heap m.progress w.names.once s.0 x (w.names.root s.0 x s.1) (w.kept.roots_held s.0 (elim s.1 [ inl p ↦ inl (x, p) | inr u ↦ inr (x, u) ]));
-  grey_held = λ x t. let s = colour_shows m.heap Grey x t in named_held m.heap m.progress w.names.once s.at x s.named (held_of_mark m.heap m.progress s.at s.mark);
-  black_held = λ x t. let s = colour_shows m.heap Black x t in named_held m.heap m.progress w.names.once s.at x s.named (held_dark s.at s.mark);
-  apart = λ x h t.
-      let s = contains_stands m.heap m.progress x h in
-      let k = parked_waits m.heap m.progress x t in
-      let e : k.at ≡ s.1.at = w.names.once k.at s.1.at x k.named (s.1.occupant, s.1.is, s.1.serial) in
-      s.1.held.1 (subst (ParkedAt m.progress m.heap) e k.is_parked);
-  unparked = λ n x t. let s = parked_waits m.heap m.progress x t in outside m.progress n s.at s.is_parked;
-  idle = λ e x t. let s = colour_shows m.heap Black x t in no_black m.progress e w.kept.phase s.at s.mark;
-  placed = λ i x e. let n = place_named m.progress m.heap i x e in named_held m.heap m.progress w.names.once i x n.0 n.1;
-  has_place = λ x h. let s = contains_stands m.heap m.progress x h in (s.1.at, named_place m.progress m.heap s.1.at x (s.1.occupant, s.1.is, s.1.serial) s.1.held);
-  one_place = λ i j x e f. w.names.once i j x (place_named m.progress m.heap i x e).0 (place_named m.progress m.heap j x f).0;
-  free_empty = λ i f. place_at m.progress m.heap i ∙ empty i (slot m.heap.table i) (sym (marks i) ∙ f);
-  marked_grey = λ i x e g. shows_colour m.heap Grey x (record { at = i; named = (place_named m.progress m.heap i x e).0; mark = sym (marks i) ∙ g });
-  grey_marked = λ i x e t. marks i ∙ shown i x Grey e t;
-  marked_black = λ i x e b. shows_colour m.heap Black x (record { at = i; named = (place_named m.progress m.heap i x e).0; mark = sym (marks i) ∙ b });
-  black_marked = λ i x e t. marks i ∙ shown i x Black e t;
-  free_marks = ok.table.free_count ∙ free_counted m.heap.table.slots;
-  seats = length-map m.pending.items (λ o. serial_of o) ∙ w.seats;
-  few = (let l = length-map m.principals.items (λ (r : Root). r.serial) in let f = w.few in omega (arith, l, f));
-  slots = slots_counted m ok w;
-  few_edges = λ next. (let c = cells_counted m ok w next in omega (arith, c));
-  all_cells = λ none next. (let c = cells_counted m ok w next in let z = none_parked m none in omega (arith, c, z));
-  some_left = left_some m.progress m.heap;
-  most_left = (let size = length-map m.heap.table.slots mark_of in subst (λ (n : ℕ). (stored m).left ≤ n * n + 3 * n + m.heap.cell_count + 3) (sym size) (left_most m.progress m.heap ok (λ i. few i (mark_at m.heap i) refl)));
-} where
-  marks : (i : ℕ) → mark_in (stored m) i ≡ mark_at m.heap i
-  marks i = get_or-map mark_of m.heap.table.slots i None
+pub kept_name : (p : Progress) (i : ℕ) (o : Option Spot) (k : Kept) → seen p i o ≡ Some k → name_of o ≡ Some k.serial
+kept_name p i o k e = let r = kept_is p i o k e in ap name_of r.1 ∙ ap (λ (t : Kept). Some t.serial) r.3
 
-  empty : (i : ℕ) (v : Option Occupant) → mark_of v ≡ Free → shown_at m.progress i v ≡ None
-  empty i None f = refl
-  empty i (Some o) f = absurd (cc)
+pub stored_kept : (m : Machine) (i : ℕ) → kept (stored m) i ≡ values.kept (body m) (progress_of m) i
+stored_kept m i = kept_so (progress_of m) i (values.spot (body m) i)
 
-  -- A serial of this colour at a place is that of the slot.
-  shown : (i x : ℕ) (c : Colour) → place (stored m) i ≡ Some x → InSet (of_colour c m.heap) x → mark_at m.heap i ≡ Has c
-  shown i x c e t =
-      let s = colour_shows m.heap c x t in
-      subst (λ (k : ℕ). mark_at m.heap k ≡ Has c) (w.names.once s.at i x s.named (place_named m.progress m.heap i x e).0) s.mark
+pub once_so : (v : Stored) → ((i j x : ℕ) → name v i ≡ Some x → name v j ≡ Some x → i ≡ j) → Once v
+once_so v once i j k t e f s = once i j k.serial (kept_name (progress v) i (spot v i) k e) (kept_name (progress v) j (spot v j) t f ∙ ap (λ (x : ℕ). Some x) (sym s))
 
-  outside : (p : Progress) → phase_of p ≢ phase.Sweep → (i : ℕ) → ParkedAt p m.heap i → ⊥
-  outside Idle n i c = c
-  outside (Marking s) n i c = c
-  outside (Sweeping k) n i c = n refl
+-- An element of a list of readings.
+pub contains_mapped : {X Y : Type 0} (f : X → Y) (xs : List X) (y : Y) → Contains (map f xs) y → (x : X) × Contains xs x × (f x ≡ y)
+contains_mapped f [] y h = absurd h
+contains_mapped f (x ∷ xs) y (inl e) = (x, inl refl, sym e)
+contains_mapped f (x ∷ xs) y (inr h) = let r = contains_mapped f xs y h in (r.0, inr r.1, r.2)
 
-  held_dark : (i : ℕ) → mark_at m.heap i ≡ Has Black → IsHeld m i
-  held_dark i b = ((λ f. let u : Free ≡ Has Black = sym f ∙ b in cc), by m.progress) where
-    by : (q : Progress) → ParkedAt q m.heap i → ⊥
-    by Idle c = c
-    by (Marking s) c = c
-    by (Sweeping k) c = let z = c.1 in let u : Has White ≡ Has Black = sym z ∙ b in cc
+serial_root : (os : List (Option Root)) (x : ℕ) → Contains (map (λ o. root_serial o) os) (Some x) → (r : Root) × Contains os (Some r) × (r.serial ≡ x)
+serial_root [] x h = absurd h
+serial_root (None ∷ os) x (inl e) = absurd (cc)
+serial_root (Some r ∷ os) x (inl e) = (r, inl refl, (let u : Some x ≡ Some r.serial = e in cc))
+serial_root (o ∷ os) x (inr h) = let r = serial_root os x h in (r.0, inr r.1, r.2)
 
-  no_black : (p : Progress) → phase_of p ≡ phase.Idle → PhaseHolds p m → (i : ℕ) → mark_at m.heap i ≡ Has Black → ⊥
-  no_black Idle e h i b = h.1 i b
-  no_black (Marking s) e h i b = cc
-  no_black (Sweeping k) e h i b = cc
+pub root_in : (v : Stored) (x : ℕ) → IsRootIn v x → (r : Root) × IsListed v.roots r × (r.serial ≡ x)
+root_in v x (inl p) = let r = contains_mapped (λ (r : Root). r.serial) v.roots.principals x p in (r.0, inr (inl r.1), r.2)
+root_in v x (inr (inl t)) = let r = serial_root v.roots.targets x t in (r.0, inl r.1, r.2)
+root_in v x (inr (inr a)) = let r = serial_root v.roots.agents x a in (r.0, inr (inr r.1), r.2)
 
-  few : (i : ℕ) (k : Mark) → mark_at m.heap i ≡ k → length (get_or m.heap.lists i []) ≤ length m.heap.table.slots ⊎ (mark_at m.heap i ≢ Has Grey)
-  few i Free e = inr (λ g. let u : Free ≡ Has Grey = sym e ∙ g in cc)
-  few i (Has White) e = inr (λ g. let u : Has White ≡ Has Grey = sym e ∙ g in cc)
-  few i (Has Black) e = inr (λ g. let u : Has Black ≡ Has Grey = sym e ∙ g in cc)
-  few i (Has Grey) e = inl (let s = slim_few m.heap i (occupied_within m.heap.table.slots i Grey e) ok (names_slim m.heap m.progress (IsRootOf m) ok w.names i (held_of_mark m.heap m.progress i e)) in omega (arith, s))
+root_serials : (os : List (Option Root)) (r : Root) → Contains os (Some r) → Contains (map (λ o. root_serial o) os) (Some r.serial)
+root_serials [] r h = absurd h
+root_serials (o ∷ os) r (inl e) = inl (ap root_serial e)
+root_serials (o ∷ os) r (inr h) = inr (root_serials os r h)
+
+pub in_root : (v : Stored) (r : Root) → IsListed v.roots r → IsRootIn v r.serial
+in_root v r (inl h) = inr (inl (root_serials v.roots.targets r h))
+in_root v r (inr (inl h)) = inl (contains_map (λ (q : Root). q.serial) v.roots.principals r h)
+in_root v r (inr (inr h)) = inr (inr (root_serials v.roots.agents r h))
+
+-- Facts by slots.
+pub closed_so : (m : Machine) → Whole m → Closed (kept (stored m)) (IsRootAt (stored m))
+closed_so m w = closed_same (values.kept (body m) (progress_of m)) (kept (stored m)) (IsRootAt (stored m)) (IsRootAt (stored m)) (stored_kept m) (λ i r. r) w.kept.closed
+
+pub named_so : (m : Machine) → Whole m → (r : Root) → IsListed (lists_of m.roots) r → place (stored m) r.slot ≡ Some r.serial
+named_so m w r h =
+    let k = w.kept.closed.roots r.slot (listed_root (lists_of m.roots) r h) in
+    ap serial_of (stored_kept m r.slot ∙ k.1) ∙ sym (kept_name (progress_of m) r.slot _ k.0 k.1) ∙ w.roots.named r h
+
+-- An element of a store is found by its place.
+pub once_stored : (m : Machine) → Whole m → Once (stored m)
+once_stored m w = once_so (stored m) w.kept.once
+
+pub no_black : (b : Body) (p : Progress) → Phased b p → values.shown p ≡ values.Idle → (i : ℕ) → mark b i ≢ Has Black
+no_black b AtRest f e = f
+no_black b (Marking s) f e = absurd (cc)
+no_black b (Sweeping k) f e = absurd (cc)
+
+pub swept_so : (b : Body) (p : Progress) (k : ℕ) → Phased b p → values.shown p ≡ values.Sweep k → ((i : ℕ) → i < k → mark b i ≢ Has Black) × ((i : ℕ) → k ≤ i → mark b i ≢ Has Grey)
+swept_so b AtRest k f e = absurd (cc)
+swept_so b (Marking s) k f e = absurd (cc)
+swept_so b (Sweeping j) k f e = let same : j ≡ k = cc in subst (λ (n : ℕ). ((i : ℕ) → i < n → mark b i ≢ Has Black) × ((i : ℕ) → n ≤ i → mark b i ≢ Has Grey)) same f
+
+-- What a vertex's edges lead to.
+module _ (v : Stored) (closed : Closed (kept v) (IsRootAt v)) (once : Once v) where
+  pub from_held : (t : Triple) → finset.contains (triples v) t ≡ true → IsHeldIn v t.from
+  from_held t h = let o = triple_owned v t h in subst (IsHeldIn v) (sym o.from) (kept_held v o.at o.kept once (sym (held_at v o.at) ∙ o.is))
+
+  pub to_held : (t : Triple) → finset.contains (triples v) t ≡ true → IsHeldIn v t.to
+  to_held t h =
+      let o = triple_owned v t h in
+      let l = closed.edges o.at o.kept o.edge (sym (held_at v o.at) ∙ o.is) o.owned in
+      subst (IsHeldIn v) (l.2 ∙ sym o.to) (kept_held v o.edge.target l.0 once l.1)
+
+  pub distinct : (t : Triple) → finset.contains (triples v) t ≡ true → t.from ≢ t.to
+  distinct t h e =
+      let o = triple_owned v t h in
+      let l = closed.edges o.at o.kept o.edge (sym (held_at v o.at) ∙ o.is) o.owned in
+      l.3 (once o.edge.target o.at l.0 o.kept l.1 (sym (held_at v o.at) ∙ o.is) (l.2 ∙ sym o.to ∙ sym e ∙ o.from))
+
+-- What is held is not parked.
+pub apart_so : (v : Stored) → ((i j x : ℕ) → name v i ≡ Some x → name v j ≡ Some x → i ≡ j) → (x : ℕ) → IsHeldIn v x → IsParkedIn v x → ⊥
+apart_so v once x h (j, (s, at, dark), named) =
+    let r = held_kept v x h in
+    let here : r.0 ≡ j = once r.0 j x (kept_name (progress v) r.0 (spot v r.0) r.1 r.2 ∙ ap (λ (y : ℕ). Some y) r.3) named in
+    let shows : kept v j ≡ Some r.1 = subst (λ (i : ℕ). kept v i ≡ Some r.1) here r.2 in
+    let none : kept v j ≡ None = ap (seen (progress v) j) at ∙ rw dark refl in
+    let u : None ≡ Some r.1 = sym none ∙ shows in cc

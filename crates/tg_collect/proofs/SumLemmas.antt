@@ -9,13 +9,11 @@ use Rattle.std.specs.Cmp.{nat_cmp_total}
 use Rattle.std.specs.FinMap as finmap
 use Rattle.std.specs.FinMap.{contains_key-keys}
 use Rattle.std.specs.FinMap.Entries.{below_all}
-use Rattle.std.specs.FinSet as finset
-use Rattle.std.specs.FinSet.{len-insert}
 use Rattle.tg_rights.specs.Letters.{Letters, is_none}
 use Rattle.tg_rights.specs.Membership.{Contains, Distinct}
 use Rattle.tg_rights.proofs.MembershipLemmas.{split_at, distinct_around, contains_around}
 use Rattle.tg_graph.specs.Rules.{labelled}
-use Rattle.tg_collect.proofs.SetLemmas.{same_key, key_same, set_contains}
+use Rattle.tg_collect.proofs.ShownLemmas.{same_key, key_same}
 
 -- Two lists without repetition that have the same elements have the same sums.
 pub same_sum : {X : Type 0} (f : X → ℕ) (xs ys : List X) → Distinct xs → Distinct ys → ((x : X) → Contains xs x → Contains ys x) → ((x : X) → Contains ys x → Contains xs x) → sum_by f xs ≡ sum_by f ys
@@ -98,15 +96,6 @@ contains_keys m x t = any_key (finmap.keys m) x (sym (contains_key-keys m x) ∙
 
 pub keys_contains : {X : Type 0} (m : finmap.FinMap nat_cmp X) (x : ℕ) → Contains (finmap.keys m) x → finmap.contains_key m x ≡ true
 keys_contains m x h = contains_key-keys m x ∙ key_any (finmap.keys m) x h
-
--- A set made of a list without repetition has as many elements.
-pub len_once : (ks : List ℕ) → Distinct ks → finset.len (finset.from_list {R = nat_cmp} ks) ≡ length ks
-len_once [] d = finset.len-empty nat_cmp
-len_once (k ∷ ks) d = len-insert nat_cmp_total (finset.from_list ks) k ∙ by (finset.contains (finset.from_list {R = nat_cmp} ks) k) refl (len_once ks d.1) where
-  by : (b : Bool) → finset.contains (finset.from_list {R = nat_cmp} ks) k ≡ b → finset.len (finset.from_list {R = nat_cmp} ks) ≡ length ks
-      → cond b (finset.len (finset.from_list {R = nat_cmp} ks)) (finset.len (finset.from_list {R = nat_cmp} ks) + 1) ≡ length (k ∷ ks)
-  by true t e = absurd (d.0 (set_contains ks k t))
-  by false t e = (let f = e in omega (arith, f))
 
 -- The vertices that a list of labels has.
 pub labelled_contains : (l : ℕ → Letters) (ks : List ℕ) (y : ℕ) → Contains (map (λ e. e.0) (labelled l ks)) y → Contains ks y × (is_none (l y) ≡ false)

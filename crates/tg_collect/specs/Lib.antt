@@ -1,12 +1,10 @@
 pub mod Machine
 pub mod Course
-pub mod Names
-pub mod Lines
-pub mod SessionLines
-pub mod Runs
+pub mod Calls
 pub mod Stored
+pub mod Readings
 pub mod Views
-pub mod StoreRuns
 pub mod Sessions
+pub mod Runs
 pub mod Openings
 pub mod OpeningSteps

@@ -1,114 +1,143 @@
--- the invariant of the store, in terms of the heap as contracts see it
-use Rattle.std.specs.Prelude.{◌≡◌, ◌≢◌, ℕ, ◌+◌, ◌<◌, ◌≤◌, List, ◌∷◌, Option, Some, None, ◌⊎◌}
-use Rattle.std.proofs.Common.{set, Bool, false, cond, eqb, ◌&&◌, nat_lt}
+-- the machine as one list of slots with its roots, a grey list and a progress
+use Rattle.std.specs.Prelude.{◌≡◌, ◌≢◌, ℕ, ◌+◌, ◌<◌, ◌≤◌, List, [], ◌∷◌, ◌++◌, length, map, Option, Some, None, ◌⊎◌, Bool, get_or, set}
+use Rattle.tg_rights.specs.declared.limits.TheConstants.{MAX_PRINCIPALS, SEATS}
 use Rattle.tg_rights.specs.Membership.{Contains}
-use Rattle.tg_slots.specs.Table.{Free, Has}
+use Rattle.tg_slots.specs.Table.{Table, Has}
 use Rattle.tg_slots.specs.declared.slots.Occupant.{Occupant}
-use Rattle.tg_slots.specs.declared.colour.Colour.{Colour}
-use Rattle.tg_slots.specs.declared.colour.Colour.TheVariants.{White, Grey, Black}
-use Rattle.tg_heap.specs.Graph.{HeapGraph, edges, mark_at}
-use Rattle.tg_cells.specs.Lists.{Edge}
-use Rattle.tg_heap.specs.Marking.{Tricolour, ScanAt, Reached}
+use Rattle.tg_slots.specs.declared.colour.Colour.TheVariants.{White}
+use Rattle.tg_cells.specs.Lists.{Edge, first_cell}
+use Rattle.tg_heap.specs.Graph.{HeapGraph, edges, shaded}
+use Rattle.tg_heap.specs.Marking.{remaining}
+use Rattle.tg_marking.specs.Values as values
+use Rattle.tg_marking.specs.Values.{Spot, Body, name, mark, IsTarget}
+use Rattle.tg_marking.specs.Steps.{Line}
+use Rattle.tg_marking.specs.Invariant.{Invariant}
 use Rattle.tg_collect.specs.declared.note.Phase.{Phase}
 use Rattle.tg_collect.specs.declared.note.Phase.TheVariants as phase
 use Rattle.tg_collect.specs.declared.machine.Root.{Root}
+use Rattle.tg_collect.specs.declared.machine.Roots.{Roots}
 use Rattle.tg_collect.specs.declared.machine.Scan.{Scan}
 use Rattle.tg_collect.specs.declared.machine.Progress.{Progress}
 use Rattle.tg_collect.specs.declared.machine.Progress.TheVariants.{Idle, Marking, Sweeping}
 use Rattle.tg_collect.specs.declared.machine.Machine.{Machine}
 
--- the slot of one of these principals, and of one of these targets
-abbrev pub IsPrincipalOf : List Root → ℕ → Type 0
-IsPrincipalOf principals i = (s : ℕ) × Contains principals (record { serial = s; slot = i })
+-- the roots: each seat's target, the principals, and each seat's agent
+pub record RootLists : Type 0 where
+  pub targets : List (Option Root)
+  pub principals : List Root
+  pub agents : List (Option Root)
 
-abbrev pub IsPendingOf : List (Option Root) → ℕ → Type 0
-IsPendingOf pending i = (s : ℕ) × Contains pending (Some (record { serial = s; slot = i }))
+abbrev pub lists_of : Roots → RootLists
+lists_of r = record { targets = r.targets.items; principals = r.principals.items; agents = r.agents.items }
 
-abbrev pub IsPrincipal : Machine → ℕ → Type 0
-IsPrincipal m i = IsPrincipalOf m.principals.items i
+-- the roots once a seat has another target
+abbrev pub with_target : RootLists → ℕ → Option Root → RootLists
+with_target rs seat t = record rs { targets = set rs.targets seat t }
 
-abbrev pub IsPending : Machine → ℕ → Type 0
-IsPending m i = IsPendingOf m.pending.items i
+-- a root is in one of the lists
+abbrev pub IsListed : RootLists → Root → Type 0
+IsListed rs r = Contains rs.targets (Some r) ⊎ (Contains rs.principals r ⊎ Contains rs.agents (Some r))
 
-abbrev pub IsRoot : Machine → ℕ → Type 0
-IsRoot m i = IsPrincipal m i ⊎ IsPending m i
+-- the slots of the roots
+abbrev pub slot_of : Option Root → Option ℕ
+slot_of None = None
+slot_of (Some r) = Some r.slot
 
--- parked and not yet swept
-abbrev pub ParkedAt : Progress → HeapGraph → ℕ → Type 0
-ParkedAt Idle h i = ⊥
-ParkedAt (Marking s) h i = ⊥
-ParkedAt (Sweeping k) h i = (k ≤ i) × (mark_at h i ≡ Has White)
+abbrev pub slots_of : List (Option Root) → List (Option ℕ)
+slots_of os = map (λ o. slot_of o) os
 
-abbrev pub IsHeld : Machine → ℕ → Type 0
-IsHeld m i = (mark_at m.heap i ≢ Free) × (ParkedAt m.progress m.heap i → ⊥)
+abbrev pub all_slots : List Root → List (Option ℕ)
+all_slots rs = map (λ (r : Root). Some r.slot) rs
 
-abbrev pub scan_of : Option Scan → Option ScanAt
-scan_of None = None
-scan_of (Some s) = Some (record { slot = s.slot; cursor = s.cursor })
+abbrev pub bare : RootLists → values.Roots
+bare rs = record { targets = slots_of rs.targets; others = all_slots rs.principals ++ slots_of rs.agents }
 
-abbrev pub IsReached : Machine → ℕ → Type 0
-IsReached m i = Reached (edges m.heap) (IsRoot m) i
+-- what a slot holds with its edges, and all slots in one list
+abbrev pub join : Option Occupant → List Edge → Option Spot
+join None es = None
+join (Some o) es = Some (record { serial = o.serial; kind = o.kind; text = o.text; edges = es; colour = o.colour })
 
-abbrev pub HeldAt : HeapGraph → Progress → ℕ → Type 0
-HeldAt h p i = (mark_at h i ≢ Free) × (ParkedAt p h i → ⊥)
+abbrev pub zip : List (Option Occupant) → List (List Edge) → List (Option Spot)
+zip [] ls = []
+zip (o ∷ os) [] = join o [] ∷ zip os []
+zip (o ∷ os) (es ∷ ls) = join o es ∷ zip os ls
 
--- each grey slot waits
-abbrev pub GreyWaits : HeapGraph → Type 0
-GreyWaits h = (i : ℕ) → mark_at h i ≡ Has Grey → Contains h.table.grey i
+abbrev pub body_of : HeapGraph → RootLists → Body
+body_of h rs = record { slots = zip h.table.slots h.lists; grey = h.table.grey; roots = bare rs }
 
-abbrev pub PhaseAt : Progress → HeapGraph → (ℕ → Type 0) → (ℕ → Type 0) → Type 0
-PhaseAt Idle h Root Pending = GreyWaits h × ((i : ℕ) → mark_at h i ≢ Has Black)
-PhaseAt (Marking s) h Root Pending = Tricolour (mark_at h) (edges h) (Contains h.table.grey) Root Pending (scan_of s)
-PhaseAt (Sweeping k) h Root Pending = GreyWaits h × ((i : ℕ) → i < k → mark_at h i ≢ Has Black) × ((i : ℕ) → k ≤ i → mark_at h i ≢ Has Grey)
+abbrev pub body : Machine → Body
+body m = body_of m.heap (lists_of m.roots)
 
-abbrev pub PhaseHolds : Progress → Machine → Type 0
-PhaseHolds p m = PhaseAt p m.heap (IsRoot m) (IsPending m)
+-- the progress, with the edges that are left in place of a cursor
+abbrev pub scan_in : HeapGraph → Option Scan → Option values.Scan
+scan_in h None = None
+scan_in h (Some s) = Some (record { slot = s.slot; rest = remaining s.cursor (edges h s.slot) })
 
--- the facts of the invariant, for any roots
-pub record Sound (h : HeapGraph) (p : Progress) (Root Pending : ℕ → Type 0) : Type 0 where
-  pub roots_held : (i : ℕ) → Root i → HeldAt h p i
-  pub closed : (i : ℕ) (e : Edge) → HeldAt h p i → Contains (edges h i) e → HeldAt h p e.target
-  pub phase : PhaseAt p h Root Pending
+abbrev pub progress_in : HeapGraph → Progress → values.Progress
+progress_in h Idle = values.AtRest
+progress_in h (Marking s) = values.Marking (scan_in h s)
+progress_in h (Sweeping k) = values.Sweeping k
 
-pub record Invariant (m : Machine) : Type 0 where
-  pub roots_held : (i : ℕ) → IsRoot m i → IsHeld m i
-  pub closed : (i : ℕ) (e : Edge) → IsHeld m i → Contains (edges m.heap i) e → IsHeld m e.target
-  pub phase : PhaseHolds m.progress m
+abbrev pub progress_of : Machine → values.Progress
+progress_of m = progress_in m.heap m.progress
 
--- a heap whose slot was given back, and one whose slot has lost its first cell
-abbrev pub without_slot : HeapGraph → ℕ → HeapGraph
-without_slot h i = record h { table = record h.table { slots = set h.table.slots i None; free = i ∷ h.table.free } }
+-- the cursor stands at a cell of the list, or at its end
+abbrev pub CursorFits : HeapGraph → Progress → Type 0
+CursorFits h Idle = Unit {0}
+CursorFits h (Marking None) = Unit {0}
+CursorFits h (Marking (Some s)) = s.cursor ≡ first_cell (remaining s.cursor (edges h s.slot))
+CursorFits h (Sweeping k) = Unit {0}
 
-abbrev pub with_list : HeapGraph → ℕ → List Edge → HeapGraph
-with_list h i r = record h { lists = set h.lists i r; free_cells = h.free_cells + 1 }
+-- 64 seats, at most 64 principals, and the serial of each root in its slot
+pub record AreRoots (rs : RootLists) (b : Body) : Type 0 where
+  pub seats : length rs.targets ≡ SEATS
+  pub few : length rs.principals ≤ MAX_PRINCIPALS
+  pub agents : length rs.agents ≡ SEATS
+  pub named : (r : Root) → IsListed rs r → name b r.slot ≡ Some r.serial
 
-abbrev pub with_vertex : HeapGraph → ℕ → Occupant → List ℕ → HeapGraph
-with_vertex h i o rest = record h { table = record h.table { slots = set h.table.slots i (Some o); free = rest } }
+-- the invariant of the store
+pub record Whole (m : Machine) : Type 0 where
+  pub kept : Invariant (body m) (progress_of m)
+  pub cursor : CursorFits m.heap m.progress
+  pub roots : AreRoots (lists_of m.roots) (body m)
 
--- the colour of a vertex that is added: white, but black if the sweep has yet to reach it
-abbrev pub has_passed : Progress → ℕ → Bool
-has_passed Idle i = false
-has_passed (Marking s) i = false
-has_passed (Sweeping k) i = nat_lt i k
+-- a step of the collector: a line of its table
+pub record Steps (m n : Machine) (freed : ℕ) (ended : Bool) : Type 0 where
+  pub line : Line (body m) (progress_of m) (body n) (progress_of n) freed ended
+  pub cursor : CursorFits n.heap n.progress
+  pub roots : n.roots ≡ m.roots
+  pub cells : n.heap.cell_count ≡ m.heap.cell_count
+  pub free_slots : length n.heap.table.free ≡ length m.heap.table.free + freed
+  pub free_cells : (m.heap.free_cells ≤ n.heap.free_cells) × (n.heap.free_cells ≤ m.heap.free_cells + 1)
 
-abbrev pub colour_ahead : Progress → Colour
-colour_ahead Idle = White
-colour_ahead (Marking s) = White
-colour_ahead (Sweeping k) = Black
+-- no seat's target is white; the target of the least seat that has a white one
+abbrev pub NoneWhite : Machine → Type 0
+NoneWhite m = (i : ℕ) → IsTarget (body m) i → mark (body m) i ≡ Has White → ⊥
 
-abbrev pub new_colour : Progress → ℕ → Colour
-new_colour p i = cond (has_passed p i) White (colour_ahead p)
+abbrev pub ShadesFirst : Machine → ℕ → Type 0
+ShadesFirst m i = (k : ℕ) × (get_or (body m).roots.targets k None ≡ Some i) × (mark (body m) i ≡ Has White)
+    × ((l j : ℕ) → l < k → get_or (body m).roots.targets l None ≡ Some j → mark (body m) j ≢ Has White)
 
--- a cursor at a freed cell moves to the next cell
-abbrev pub is_at : Option ℕ → ℕ → Bool
-is_at None c = false
-is_at (Some k) c = eqb k c
+-- a table, and a machine, after the slots of some roots were shaded, from the last to the first
+abbrev pub shaded_slot : Table → Option ℕ → Table
+shaded_slot t None = t
+shaded_slot t (Some i) = shaded t i
 
-abbrev pub progress_without : Progress → ℕ → ℕ → Option ℕ → Progress
-progress_without Idle i c n = Idle
-progress_without (Sweeping k) i c n = Sweeping k
-progress_without (Marking None) i c n = Marking None
-progress_without (Marking (Some s)) i c n = cond (eqb s.slot i && is_at s.cursor c) (Marking (Some (record { slot = i; cursor = n }))) (Marking (Some s))
+abbrev pub all_shaded : List (Option ℕ) → Table → Table
+all_shaded [] t = t
+all_shaded (r ∷ rs) t = shaded_slot (all_shaded rs t) r
+
+abbrev pub with_shaded : Machine → List (Option ℕ) → Machine
+with_shaded m rs = record m { heap = record m.heap { table = all_shaded rs m.heap.table } }
+
+abbrev pub AreWithin : List (Option ℕ) → Table → Type 0
+AreWithin rs t = (i : ℕ) → Contains rs (Some i) → i < length t.slots
+
+abbrev pub agent_slots : Roots → List (Option ℕ)
+agent_slots r = slots_of r.agents.items
+
+abbrev pub principal_slots : Roots → List (Option ℕ)
+principal_slots r = all_slots r.principals.items
 
 -- the phase that others see
 abbrev pub phase_of : Progress → Phase

@@ -1,5 +1,5 @@
 -- the store that a graph opens
-use Rattle.std.specs.Prelude.{◌≡◌, ℕ, zero, suc, ◌+◌, ◌<◌, ◌≤◌, List, [], ◌∷◌, ◌++◌, length, Some, None, ◌⊎◌, get_or}
+use Rattle.std.specs.Prelude.{◌≡◌, ℕ, zero, suc, ◌+◌, ◌<◌, ◌≤◌, List, [], ◌∷◌, ◌++◌, Some, None, ◌⊎◌, get_or}
 use Rattle.tg_rights.specs.declared.limits.TheConstants.{MAX_CELLS, MAX_PRINCIPALS, MAX_SLOTS}
 use Rattle.tg_slots.specs.Table.{Free, Has}
 use Rattle.tg_slots.specs.declared.colour.Colour.TheVariants.{White}
@@ -7,10 +7,9 @@ use Rattle.tg_graph.specs.Protection.{Protection}
 use Rattle.tg_graph.specs.declared.config.Config.{Config}
 use Rattle.tg_graph.specs.Opening.{subjects, first_fault, opening}
 use Rattle.tg_graph.specs.Fullness.{edge_count}
-use Rattle.tg_collect.specs.declared.note.Phase.TheVariants.{Idle}
+use Rattle.tg_marking.specs.Values.{Idle}
 use Rattle.tg_collect.specs.Stored.{Stored}
-use Rattle.tg_collect.specs.Views.{InSet, place}
-use Rattle.tg_collect.specs.Sessions.{pending_of}
+use Rattle.tg_collect.specs.Readings.{mark_in, slot_count, free_slots, vertices, triples, principals, pending_of, agents, place, IsParkedIn, IsGreyIn, IsBlackIn}
 
 -- the serials from 1 to the count
 abbrev pub first_serials : ℕ → List ℕ
@@ -25,25 +24,27 @@ pub record IsOpening (G : Protection) (all_slots all_cells : ℕ) : Type 0 where
   pub slots : count ≤ all_slots
   pub cells : edge_count G ≤ all_cells
 
--- this many principals in the first slots, in the order of their serials, all white, with nothing parked and no target
+-- this many principals in the first slots, in the order of their serials, all white, with nothing parked, no target and
+-- no agent
 pub record Opens (v : Stored) (count all_slots all_cells : ℕ) : Type 0 where
-  pub vertices : v.vertices ≡ subjects count
-  pub principals : v.principals ≡ first_serials count
+  pub vertices : vertices v ≡ subjects count
+  pub principals : principals v ≡ first_serials count
   pub places : (k : ℕ) → k < count → place v k ≡ Some (k + 1)
-  pub phase : v.phase ≡ Idle
+  pub stage : v.stage ≡ Idle
   pub idle : (seat : ℕ) → pending_of v seat ≡ None
-  pub marks : (i : ℕ) → (get_or v.marks i Free ≡ Free) ⊎ (get_or v.marks i Free ≡ Has White)
-  pub slots : length v.marks ≡ all_slots
-  pub free : v.free_slots + count ≡ all_slots
+  pub agents : (seat : ℕ) → get_or (agents v) seat None ≡ None
+  pub marks : (i : ℕ) → (mark_in v i ≡ Free) ⊎ (mark_in v i ≡ Has White)
+  pub slots : slot_count v ≡ all_slots
+  pub free : free_slots v + count ≡ all_slots
   pub cells : v.cells ≡ all_cells
 
 -- the store that a graph opens, with all its vertices and edges
 pub record Opened (v : Stored) (G : Protection) (all_slots all_cells : ℕ) : Type 0 where
-  pub vertices : v.vertices ≡ G.vertices
-  pub triples : v.triples ≡ G.triples
-  pub parked : (x : ℕ) → InSet v.parked x → ⊥
-  pub grey : (x : ℕ) → InSet v.grey x → ⊥
-  pub black : (x : ℕ) → InSet v.black x → ⊥
+  pub vertices : vertices v ≡ G.vertices
+  pub triples : triples v ≡ G.triples
+  pub parked : (x : ℕ) → IsParkedIn v x → ⊥
+  pub grey : (x : ℕ) → IsGreyIn v x → ⊥
+  pub black : (x : ℕ) → IsBlackIn v x → ⊥
   pub count : ℕ
   pub opens : Opens v count all_slots all_cells
 

@@ -1,5 +1,5 @@
 //! Laws of the store, as functions without a body.
-ghost use Rattle.tg_collect.specs.StoreRuns.{IsComplete, IsBounded};
+ghost use Rattle.tg_collect.specs.Runs.{IsComplete, IsBounded};
 ghost use Rattle.tg_collect.specs.Openings.{OpeningsCanBeStored};
 
 /// A law, at no cost: by what the store promises of its steps, every run is complete and bounded.

@@ -12,7 +12,6 @@ mod opening;
 mod reader;
 #[cfg(test)]
 mod scripts;
-mod sessions;
 mod store;
 #[cfg(test)]
 mod tests;

@@ -1,19 +1,19 @@
 //! The heap with its roots and the collector's progress: one private method for each line of the step table, and the
 //! session steps.
-ghost use Rattle.std.specs.Prelude.{◌≡◌, ◌≢◌, ℕ, ◌<◌, ◌≤◌, List, [], ◌∷◌, ◌++◌, length, MatchOption, MatchBool, ◌+◌, get_or, false, true, cond, None, Some};
+ghost use Rattle.std.specs.Prelude.{◌≡◌, ◌≢◌, ℕ, ◌<◌, ◌≤◌, [], ◌∷◌, length, MatchOption, MatchBool, ◌+◌, get_or, false, true, cond, None, Some, IfOk, map};
 ghost use Rattle.std.specs.Bool.{OnTrue};
-ghost use Rattle.tg_rights.specs.declared.limits.TheConstants.{MAX_PRINCIPALS, MAX_SLOTS};
+ghost use Rattle.tg_rights.specs.declared.limits.TheConstants.{MAX_SLOTS};
 ghost use Rattle.tg_rights.specs.Letters.{includes, is_none};
 ghost use Rattle.tg_slots.specs.Table.{Free, Has, slot};
 ghost use Rattle.tg_slots.specs.declared.slots.Occupant.{Occupant};
-ghost use Rattle.tg_cells.specs.Lists.{Edge, first_cell, HasNone, Found};
-ghost use Rattle.tg_heap.specs.Graph.{edges, mark_at, shaded, painted};
-ghost use Rattle.tg_collect.specs.Machine.{Invariant, IsPending, IsReached, IsHeld, IsRoot, without_slot, with_list, progress_without, phase_of, has_passed, colour_ahead};
-ghost use Rattle.tg_collect.specs.Lines.{Steps, IsFirstWhite, all_shaded};
-ghost use Rattle.tg_collect.specs.SessionLines.{Adds, Links, Removes, Places, Rewrites, ShadesTarget};
+ghost use Rattle.tg_cells.specs.Lists.{HasNone, Found};
+ghost use Rattle.tg_heap.specs.Graph.{edges, mark_at};
+ghost use Rattle.tg_collect.specs.Machine.{Whole, Steps, phase_of, ShadesFirst, NoneWhite, AreWithin, slot_of, agent_slots, principal_slots, with_shaded};
+ghost use Rattle.tg_collect.specs.Calls.{Adds, Links, Removes, Puts, SetsText, ShadesSeat, progress_without, has_passed, colour_ahead};
 
 use crate::course::Course;
 use crate::note::{Note, Phase};
+use std::alloc::{AllocError, Global};
 use tg_heap::{Dropped, Heap, HeapFull};
 use tg_rights::{Kind, Rights, Text};
 use tg_slots::Colour;
@@ -39,24 +39,28 @@ pub(crate) enum Progress {
     Sweeping(u32),
 }
 
+/// What must stay: each seat's target, the principals by rising serials, and each seat's agent.
+#[derive(Drop)]
+pub(crate) struct Roots {
+    pub targets: Vec<Option<Root>>,
+    pub principals: Vec<Root>,
+    pub agents: Vec<Option<Root>>,
+}
+
 /// The heap with its roots and the collector's progress.
 #[derive(Drop)]
 pub(crate) struct Machine {
     pub heap: Heap,
     pub progress: Course,
-    pub principals: Vec<Root>,
-    pub pending: Vec<Option<Root>>,
+    pub roots: Roots,
 }
 
 impl Machine {
     /// Shades the target of the cell at the cursor and moves the cursor on.
     fn scan_cell(&mut self, slot: u32, cursor: u32)
         requires at { self.old.progress ≡ Progress.Marking (Some (record { slot = slot; cursor = Some cursor })) }
-        requires kept { Invariant self.old }
-        ensures kept { Invariant self.new }
+        requires whole { Whole self.old }
         ensures line { Steps self.old self.new 0 false }
-        ensures step { (before : List Edge) × (e : Edge) × (after : List Edge) × (edges self.old.heap slot ≡ before ++ e ∷ after) × (e.cell ≡ cursor)
-            × (self.new ≡ record self.old { heap = record self.old.heap { table = shaded self.old.heap.table e.target }; progress = Progress.Marking (Some (record { slot = slot; cursor = first_cell after })) }) }
     {
         self.heap.soundness();
         let target = self.heap.target(cursor);
@@ -69,12 +73,8 @@ impl Machine {
     fn start_sweep(&mut self)
         requires at { self.old.progress ≡ Progress.Marking None }
         requires none_grey { self.old.heap.table.grey ≡ [] }
-        requires kept { Invariant self.old }
-        requires none_white { (i : ℕ) → IsPending self.old i → mark_at self.old.heap i ≡ Has Colour.White → ⊥ }
-        ensures kept { Invariant self.new }
+        requires none_white { NoneWhite self.old }
         ensures line { Steps self.old self.new 0 false }
-        ensures step { self.new ≡ record self.old { progress = Progress.Sweeping 0 } }
-        ensures unreached { (i : ℕ) → IsReached self.old i → mark_at self.old.heap i ≡ Has Colour.Black }
     {
         self.progress = Course::of(Progress::Sweeping(0));
     }
@@ -82,10 +82,8 @@ impl Machine {
     /// Makes the slot under scan black.
     fn blacken(&mut self, slot: u32)
         requires at { self.old.progress ≡ Progress.Marking (Some (record { slot = slot; cursor = None })) }
-        requires kept { Invariant self.old }
-        ensures kept { Invariant self.new }
+        requires whole { Whole self.old }
         ensures line { Steps self.old self.new 0 false }
-        ensures step { self.new ≡ record self.old { heap = record self.old.heap { table = painted self.old.heap.table slot Colour.Black }; progress = Progress.Marking None } }
     {
         self.heap.soundness();
         self.heap.blacken(slot);
@@ -95,13 +93,8 @@ impl Machine {
     /// Takes the first of the grey list under scan; false if there is none.
     fn take_grey(&mut self) -> bool
         requires at { self.old.progress ≡ Progress.Marking None }
-        requires kept { Invariant self.old }
-        ensures kept { Invariant self.new }
         ensures line { OnTrue result (Steps self.old self.new 0 false) }
-        ensures step { MatchBool result
-            ((i : ℕ) × (rest : List ℕ) × (self.old.heap.table.grey ≡ i ∷ rest)
-            × (self.new ≡ record self.old { heap = record self.old.heap { table = record self.old.heap.table { grey = rest } }; progress = Progress.Marking (Some (record { slot = i; cursor = first_cell (edges self.old.heap i) })) }))
-            ((self.old.heap.table.grey ≡ []) × (self.new ≡ self.old)) }
+        ensures none { cond result (Unit {0}) ((self.old.heap.table.grey ≡ []) × (self.new ≡ self.old)) }
     {
         self.heap.soundness();
         match self.heap.pop_grey() {
@@ -120,10 +113,7 @@ impl Machine {
         requires free { mark_at self.old.heap at ≡ Free }
         requires inside { at < length self.old.heap.table.slots }
         requires size { length self.old.heap.table.slots ≤ MAX_SLOTS }
-        requires kept { Invariant self.old }
-        ensures kept { Invariant self.new }
         ensures line { Steps self.old self.new 0 false }
-        ensures step { self.new ≡ record self.old { progress = Progress.Sweeping (at + 1) } }
     {
         self.progress = Course::of(Progress::Sweeping(at + 1));
     }
@@ -134,10 +124,7 @@ impl Machine {
         requires black { mark_at self.old.heap at ≡ Has Colour.Black }
         requires inside { at < length self.old.heap.table.slots }
         requires size { length self.old.heap.table.slots ≤ MAX_SLOTS }
-        requires kept { Invariant self.old }
-        ensures kept { Invariant self.new }
         ensures line { Steps self.old self.new 0 false }
-        ensures step { self.new ≡ record self.old { heap = record self.old.heap { table = painted self.old.heap.table at Colour.White }; progress = Progress.Sweeping (at + 1) } }
     {
         self.heap.whiten(at);
         self.progress = Course::of(Progress::Sweeping(at + 1));
@@ -149,13 +136,9 @@ impl Machine {
         requires white { mark_at self.old.heap at ≡ Has Colour.White }
         requires inside { at < length self.old.heap.table.slots }
         requires size { length self.old.heap.table.slots ≤ MAX_SLOTS }
-        requires kept { Invariant self.old }
-        ensures kept { Invariant self.new }
         ensures line { Steps self.old self.new (cond result 1 0) false }
-        ensures step { MatchBool result
-            ((edges self.old.heap at ≡ []) × (self.new ≡ record self.old { heap = without_slot self.old.heap at; progress = Progress.Sweeping (at + 1) }))
-            ((e : Edge) × (r : List Edge) × (edges self.old.heap at ≡ e ∷ r) × (self.new ≡ record self.old { heap = with_list self.old.heap at r })) }
     {
+        self.heap.soundness();
         if self.heap.strip_one_cell(at) {
             return false;
         }
@@ -168,12 +151,8 @@ impl Machine {
     fn finish(&mut self, at: u32)
         requires at { self.old.progress ≡ Progress.Sweeping at }
         requires past { length self.old.heap.table.slots ≤ at }
-        requires kept { Invariant self.old }
-        ensures kept { Invariant self.new }
         ensures line { Steps self.old self.new 0 true }
-        ensures step { self.new ≡ record self.old { progress = Progress.Idle } }
     {
-        self.heap.soundness();
         self.progress = Course::of(Progress::Idle);
     }
 
@@ -181,12 +160,9 @@ impl Machine {
     fn shade_pending(&mut self) -> bool
         requires at { self.old.progress ≡ Progress.Marking None }
         requires none_grey { self.old.heap.table.grey ≡ [] }
-        requires kept { Invariant self.old }
-        ensures kept { Invariant self.new }
+        requires whole { Whole self.old }
         ensures line { OnTrue result (Steps self.old self.new 0 false) }
-        ensures step { MatchBool result
-            ((seat : ℕ) × (target : Root) × IsFirstWhite self.old.pending.items self.old.heap seat target × (self.new ≡ record self.old { heap = record self.old.heap { table = shaded self.old.heap.table target.slot } }))
-            (((i : ℕ) → IsPending self.old i → mark_at self.old.heap i ≡ Has Colour.White → ⊥) × (self.new ≡ self.old)) }
+        ensures none { cond result (Unit {0}) (NoneWhite self.old × (self.new ≡ self.old)) }
     {
         match self.white_target() {
             None => false,
@@ -199,13 +175,11 @@ impl Machine {
 
     /// The pending target of the least seat that has a white one.
     fn white_target(&self) -> Option<u32>
-        requires kept { Invariant self.now }
-        ensures { MatchOption result
-            ((i : ℕ) → IsPending self.now i → mark_at self.now.heap i ≡ Has Colour.White → ⊥)
-            (λ i. (seat : ℕ) × (target : Root) × (i ≡ target.slot) × IsFirstWhite self.now.pending.items self.now.heap seat target) }
+        requires whole { Whole self.now }
+        ensures { MatchOption result (NoneWhite self.now) (ShadesFirst self.now) }
     {
-        for seat in 0..self.pending.len() {
-            if let Some(root) = self.pending[seat] {
+        for seat in 0..self.roots.targets.len() {
+            if let Some(root) = self.roots.targets[seat] {
                 if let Some(Colour::White) = self.heap.colour(root.slot) {
                     return Some(root.slot);
                 }
@@ -216,16 +190,15 @@ impl Machine {
 
     /// Shades the seat's pending target and clears it.
     pub fn shade(&mut self, seat: usize) -> Option<u64>
-        requires seat { seat < length self.old.pending.items }
-        requires kept { Invariant self.old }
-        ensures kept { Invariant self.new }
-        ensures step { ShadesTarget self.old seat result self.new }
+        requires seat { seat < length self.old.roots.targets.items }
+        requires whole { Whole self.old }
+        ensures step { ShadesSeat self.old seat result self.new }
     {
-        match self.pending[seat] {
+        match self.roots.targets[seat] {
             None => None,
             Some(root) => {
                 self.heap.shade(root.slot);
-                self.pending[seat] = None;
+                self.roots.targets[seat] = None;
                 Some(root.serial)
             }
         }
@@ -239,20 +212,15 @@ impl Machine {
         target: Root,
         rights: Rights,
     ) -> Result<(), HeapFull>
-        requires kept { Invariant self.old }
-        requires seat { seat < length self.old.pending.items }
-        requires idle_seat { get_or self.old.pending.items seat None ≡ None }
-        requires owner { IsHeld self.old id }
-        requires target { IsHeld self.old target.slot }
+        requires seat { seat < length self.old.roots.targets.items }
+        requires owner { mark_at self.old.heap id ≢ Free }
+        requires target { mark_at self.old.heap target.slot ≢ Free }
         requires some { is_none rights ≡ false }
-        ensures kept { Invariant self.new }
         ensures step { Adds self.old seat id target rights result self.new }
     {
-        self.heap.soundness();
         match self.heap.add_rights(id, target.slot, rights) {
             Ok(()) => {
-                self.heap.soundness();
-                self.pending[seat] = Some(target);
+                self.roots.targets[seat] = Some(target);
                 Ok(())
             }
             Err(full) => Err(full),
@@ -262,36 +230,26 @@ impl Machine {
     /// Adds an edge to a held slot to which the owner has none, if a cell is free, and makes it the seat's pending
     /// target.
     pub fn link_edge(&mut self, seat: usize, id: u32, target: Root, rights: Rights)
-        requires kept { Invariant self.old }
-        requires seat { seat < length self.old.pending.items }
-        requires idle_seat { get_or self.old.pending.items seat None ≡ None }
-        requires owner { IsHeld self.old id }
-        requires target { IsHeld self.old target.slot }
+        requires seat { seat < length self.old.roots.targets.items }
+        requires owner { mark_at self.old.heap id ≢ Free }
+        requires target { mark_at self.old.heap target.slot ≢ Free }
         requires some { is_none rights ≡ false }
         requires none { (o : Occupant) → slot self.old.heap.table target.slot ≡ Some o → HasNone (edges self.old.heap id) o.serial }
         requires room { self.old.heap.free_cells ≢ 0 }
-        ensures kept { Invariant self.new }
         ensures step { Links self.old seat id target rights self.new }
     {
-        self.heap.soundness();
         self.heap.add_edge(id, target.slot, rights);
-        self.heap.soundness();
-        self.pending[seat] = Some(target);
+        self.roots.targets[seat] = Some(target);
     }
 
     /// Takes rights from the label of an edge of a held slot; a cursor at a freed cell moves to the next cell.
     pub fn remove_rights(&mut self, id: u32, serial: u64, rights: Rights)
-        requires kept { Invariant self.old }
-        requires inside { id < length self.old.heap.table.slots }
         requires found { (f : Found (edges self.old.heap id) serial) × (includes f.edge.rights rights ≡ true) }
-        ensures kept { Invariant self.new }
         ensures step { Removes self.old id serial rights self.new }
     {
-        self.heap.soundness();
         match self.heap.drop_rights(id, serial, rights) {
-            Dropped::Kept => self.heap.soundness(),
+            Dropped::Kept => {}
             Dropped::Gone { cell, next } => {
-                self.heap.soundness();
                 self.progress = Course::of(self.progress.get().without(id, cell, next));
             }
         }
@@ -299,9 +257,7 @@ impl Machine {
 
     /// Puts a vertex without edges into the first free slot; returns the text if there is none.
     pub fn place_vertex(&mut self, serial: u64, kind: Kind, text: Text) -> Result<u32, Text>
-        requires kept { Invariant self.old }
-        ensures kept { Invariant self.new }
-        ensures step { Places self.old serial kind text result self.new }
+        ensures step { Puts self.old serial kind text result self.new }
     {
         self.heap.soundness();
         let progress = self.progress.get();
@@ -319,50 +275,61 @@ impl Machine {
 
     /// Replaces the text of a held slot, and returns the old one.
     pub fn set_text(&mut self, id: u32, text: Text) -> Text
-        requires kept { Invariant self.old }
-        requires held { IsHeld self.old id }
-        ensures kept { Invariant self.new }
-        ensures step { Rewrites self.old id text result self.new }
+        requires held { mark_at self.old.heap id ≢ Free }
+        ensures step { SetsText self.old id text result self.new }
     {
         self.heap.set_text(id, text)
     }
 
-    /// Starts a cycle: shades all principals from the last to the first.
+    /// Starts a cycle: shades all agents from the last seat's to the first's, and then all principals likewise.
     fn start(&mut self)
         requires at { self.old.progress ≡ Progress.Idle }
-        requires few { length self.old.principals.items ≤ MAX_PRINCIPALS }
-        requires kept { Invariant self.old }
-        ensures kept { Invariant self.new }
+        requires whole { Whole self.old }
         ensures line { Steps self.old self.new 0 false }
-        ensures step { self.new ≡ record self.old { heap = record self.old.heap { table = all_shaded self.old.principals.items self.old.heap.table }; progress = Progress.Marking None } }
     {
-        let mut left = self.principals.len();
-        while left > 0 {
-            left -= 1;
-            let slot = self.principals[left].slot;
-            self.shade_root(slot);
-        }
+        self.shade_agents();
+        self.shade_principals();
         self.progress = Course::of(Progress::Marking(None));
     }
 
-    /// Shades a root; it stays one.
-    fn shade_root(&mut self, slot: u32)
-        requires kept { Invariant self.old }
-        requires root { IsRoot self.old slot }
-        ensures kept { Invariant self.new }
-        ensures step { self.new ≡ record self.old { heap = record self.old.heap { table = shaded self.old.heap.table slot } } }
-        ensures dark { mark_at self.new.heap slot ≡ Has Colour.White → ⊥ }
-        ensures whites { (j : ℕ) → mark_at self.new.heap j ≡ Has Colour.White → mark_at self.old.heap j ≡ Has Colour.White }
+    fn shade_agents(&mut self)
+        requires within { AreWithin (agent_slots self.old.roots) self.old.heap.table }
+        ensures step { self.new ≡ with_shaded self.old (agent_slots self.old.roots) }
     {
-        self.heap.shade(slot);
+        let mut left = self.roots.agents.len();
+        while left > 0 {
+            left -= 1;
+            let agent = self.roots.agents[left];
+            self.shade_root(agent);
+        }
+    }
+
+    fn shade_principals(&mut self)
+        requires within { AreWithin (principal_slots self.old.roots) self.old.heap.table }
+        ensures step { self.new ≡ with_shaded self.old (principal_slots self.old.roots) }
+    {
+        let mut left = self.roots.principals.len();
+        while left > 0 {
+            left -= 1;
+            let principal = self.roots.principals[left];
+            self.shade_root(Some(principal));
+        }
+    }
+
+    /// Shades a root, if there is one.
+    fn shade_root(&mut self, root: Option<Root>)
+        requires within { AreWithin (slot_of root ∷ []) self.old.heap.table }
+        ensures step { self.new ≡ with_shaded self.old (slot_of root ∷ []) }
+    {
+        if let Some(root) = root {
+            self.heap.shade(root.slot);
+        }
     }
 
     /// One step of the collector.
     #[inline(always)]
     pub fn collect(&mut self) -> Note
-        requires few { length self.old.principals.items ≤ MAX_PRINCIPALS }
-        requires kept { Invariant self.old }
-        ensures kept { Invariant self.new }
+        requires whole { Whole self.old }
         ensures line { Steps self.old self.new result.freed result.ended }
         ensures phase { result.phase ≡ phase_of self.new.progress }
     {
@@ -402,8 +369,7 @@ impl Machine {
     /// The step of the marking phase when no slot is under scan.
     fn mark_next(&mut self)
         requires at { self.old.progress ≡ Progress.Marking None }
-        requires kept { Invariant self.old }
-        ensures kept { Invariant self.new }
+        requires whole { Whole self.old }
         ensures line { Steps self.old self.new 0 false }
     {
         if !self.take_grey() && !self.shade_pending() {
@@ -415,8 +381,7 @@ impl Machine {
     #[inline(always)]
     fn sweep(&mut self, at: u32) -> Note
         requires at { self.old.progress ≡ Progress.Sweeping at }
-        requires kept { Invariant self.old }
-        ensures kept { Invariant self.new }
+        requires whole { Whole self.old }
         ensures line { Steps self.old self.new result.freed result.ended }
         ensures phase { result.phase ≡ phase_of self.new.progress }
     {
@@ -440,6 +405,23 @@ impl Machine {
                 self.note(freed, false)
             }
         }
+    }
+}
+
+impl Machine {
+    /// The serials and labels of a slot's edges, in the order of its cells.
+    pub fn edge_list(&self, alloc: Global, id: u32) -> Result<Vec<(u64, Rights)>, AllocError>
+        requires { id < length self.now.heap.table.slots }
+        ensures { IfOk result (λ list. list.items ≡ map (λ e. (e.serial, e.rights)) (edges self.now.heap id)) }
+    {
+        self.heap.soundness();
+        let mut list = Vec::new(alloc);
+        let mut cursor = self.heap.first(id);
+        while let Some(cell) = cursor {
+            list.push((self.heap.target_serial(cell), self.heap.label(cell)))?;
+            cursor = self.heap.next(cell);
+        }
+        Ok(list)
     }
 }
 

@@ -2,8 +2,7 @@
 ghost use Rattle.std.specs.Prelude.{◌≡◌, MatchOption, Some};
 ghost use Rattle.tg_rights.specs.Letters.{none};
 ghost use Rattle.tg_graph.specs.Protection.{kind_of, label};
-ghost use Rattle.tg_collect.specs.Stored.{held};
-ghost use Rattle.tg_collect.specs.Views.{place};
+ghost use Rattle.tg_collect.specs.Readings.{held, place};
 
 use crate::store::Store;
 use tg_graph::{Reader, Spot};
@@ -11,8 +10,7 @@ use tg_rights::{Kind, Rights};
 
 impl Reader for Store {
     ghost use Rattle.std.specs.Prelude.{◌≡◌, Some};
-    ghost use Rattle.tg_collect.specs.Stored.{held};
-    ghost use Rattle.tg_collect.specs.Views.{place};
+    ghost use Rattle.tg_collect.specs.Readings.{held, place};
 
     type Place = u32;
 

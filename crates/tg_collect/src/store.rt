@@ -1,5 +1,5 @@
 //! The store as callers see it: what is held as a protection graph, and how far the collector has come.
-ghost use Rattle.std.specs.Prelude.{◌≡◌, ◌≢◌, ℕ, ◌<◌, ◌≤◌, Option, Some, None, MatchOption, OnOk, OnErr, IfOk, IfErr, IsSome, true, false, length};
+ghost use Rattle.std.specs.Prelude.{◌≡◌, ◌≢◌, ℕ, ◌<◌, ◌≤◌, Option, Some, None, MatchOption, OnOk, OnErr, IfOk, IfErr, IsSome, true, false, length, map};
 ghost use Rattle.std.specs.Bool.{OnFalse};
 ghost use Rattle.std.specs.Option.{option_map};
 ghost use Rattle.std.specs.FinMap as finmap;
@@ -8,13 +8,13 @@ ghost use Rattle.tg_rights.specs.Letters.{is_none, includes, none};
 ghost use Rattle.tg_rights.specs.Membership.{Contains};
 ghost use Rattle.tg_graph.specs.Protection.{label};
 ghost use Rattle.tg_graph.specs.Rules.{edges_of};
-ghost use Rattle.tg_collect.specs.Stored.{Stored, held};
-ghost use Rattle.tg_collect.specs.Views.{InSet, IsHeldIn, IsEdgeIn, IsStore, place, serial_at, Collected};
-ghost use Rattle.tg_collect.specs.StoreRuns.{Acted};
+ghost use Rattle.tg_heap.specs.Graph.{edges};
+ghost use Rattle.tg_collect.specs.Readings.{IsHeldIn, IsParkedIn, IsEdgeIn, held, vertices, principals, place, serial_at, pending_of, free_slots, slot_count, phase};
+ghost use Rattle.tg_collect.specs.Views.{IsStore, Collected};
+ghost use Rattle.tg_collect.specs.Sessions.{Shaded, EdgeStored, VertexStored, RightsRemoved, TextReplaced, Acted};
 ghost use Rattle.tg_collect.specs.Openings.{IsOpening, Opened};
-ghost use Rattle.tg_collect.specs.Sessions.{pending_of, Shaded, EdgeStored, VertexStored, RightsRemoved, TextReplaced};
 
-use crate::machine::Machine;
+use crate::machine::{Machine, Root};
 use crate::note::{Note, Phase};
 use std::alloc::{AllocError, Global};
 use std::marker::Model;
@@ -33,13 +33,13 @@ pub struct Store {
 }
 
 impl Model for Store {
-    ghost use Rattle.tg_collect.specs.Stored.{Stored, stored, vertices_code, triples_code, serials_code};
-    ghost use Rattle.tg_collect.specs.Names.{Whole};
+    ghost use Rattle.tg_collect.specs.Machine.{Whole};
+    ghost use Rattle.tg_collect.specs.Stored.{Stored, stored};
     ghost use Rattle.std.specs.Coded.{codes};
 
     ghost Value = { Stored };
 
-    ghost coded = { Prim.hlevel (codes, vertices_code, triples_code, serials_code) };
+    ghost coded = { Prim.hlevel (codes) };
 
     ghost view = { λ s. stored s.machine };
 
@@ -84,7 +84,7 @@ impl Store {
     /// No-op; its postcondition exposes the invariant.
     pub fn soundness(&self)
         ensures sound { IsStore self.now }
-        ensures slots { length self.now.marks ≤ MAX_SLOTS }
+        ensures slots { slot_count self.now ≤ MAX_SLOTS }
         ensures cells { self.now.cells ≤ MAX_CELLS }
     {
         self.machine.heap.soundness();
@@ -92,25 +92,30 @@ impl Store {
 
     /// The slot of a principal, by its serial; none if no principal has it.
     pub fn principal(&self, serial: u64) -> Option<u32>
-        ensures { MatchOption result (Contains self.now.principals serial → ⊥) (λ id. Contains self.now.principals serial × (place self.now id ≡ Some serial)) }
+        ensures { MatchOption result (Contains (principals self.now) serial → ⊥) (λ id. Contains (principals self.now) serial × (place self.now id ≡ Some serial)) }
     {
-        self.machine.principal(serial)
+        for root in &self.machine.roots.principals {
+            if root.serial == serial {
+                return Some(root.slot);
+            }
+        }
+        None
     }
 
     /// What the vertex in a slot is.
     pub fn kind(&self, id: u32) -> Kind
         requires { IsSome (place self.now id) }
-        ensures { option_map (λ v. v.kind) (finmap.get self.now.vertices (serial_at self.now id)) ≡ Some result }
+        ensures { option_map (λ v. v.kind) (finmap.get (vertices self.now) (serial_at self.now id)) ≡ Some result }
     {
-        self.machine.kind(id)
+        self.machine.heap.kind(id).unwrap()
     }
 
     /// The text of the vertex in a slot.
     pub fn text(&self, id: u32) -> &Text
         requires { IsSome (place self.now id) }
-        ensures { option_map (λ v. v.text) (finmap.get self.now.vertices (serial_at self.now id)) ≡ Some result.now }
+        ensures { option_map (λ v. v.text) (finmap.get (vertices self.now) (serial_at self.now id)) ≡ Some result.now }
     {
-        self.machine.text(id)
+        self.machine.heap.text(id).unwrap()
     }
 
     /// The slot of the vertex with this serial and the rights over it; none if the slot's vertex has no right over it.
@@ -120,7 +125,8 @@ impl Store {
             ((next : ℕ) → label (held self.now next) (serial_at self.now id) serial ≡ none)
             (λ t. (place self.now t.0 ≡ Some serial) × (is_none t.1 ≡ false) × ((next : ℕ) → label (held self.now next) (serial_at self.now id) serial ≡ t.1)) }
     {
-        self.machine.edge(id, serial)
+        self.machine.heap.soundness();
+        self.machine.heap.edge(id, serial)
     }
 
     /// The edges of the vertex in a slot: each serial over which it has rights, with these, by rising serial. The only
@@ -129,7 +135,10 @@ impl Store {
         requires { IsSome (place self.now id) }
         ensures { IfOk result (λ edges. (next : ℕ) → edges.items ≡ edges_of (held self.now next) (serial_at self.now id)) }
     {
-        self.machine.edges(alloc, id)
+        self.machine.heap.soundness();
+        let mut edges = self.machine.edge_list(alloc, id)?;
+        edges.sort_unstable_by_key(|edge| edge.0);
+        Ok(edges)
     }
 
     /// The seat's pending target.
@@ -137,13 +146,17 @@ impl Store {
         requires { seat < SEATS }
         ensures { result ≡ pending_of self.now seat }
     {
-        self.machine.pending(seat)
+        match self.machine.roots.targets[seat as usize] {
+            None => None,
+            Some(root) => Some(root.serial),
+        }
     }
 
     /// How many slots are free.
     pub fn free_slots(&self) -> u32
-        ensures { result ≡ self.now.free_slots }
+        ensures { result ≡ free_slots self.now }
     {
+        self.machine.heap.soundness();
         self.machine.heap.free_slots()
     }
 
@@ -156,7 +169,7 @@ impl Store {
 
     /// The collector's phase.
     pub fn phase(&self) -> Phase
-        ensures { result ≡ self.now.phase }
+        ensures { result ≡ phase self.now }
     {
         self.machine.progress.get().phase()
     }
@@ -181,7 +194,15 @@ impl Store {
         ensures full { IfErr result (λ full. (full ≡ HeapFull.Cells) × (self.old.free_cells ≡ 0) × (IsEdgeIn self.old (serial_at self.old id) (serial_at self.old target) → ⊥)) }
         ensures unchanged { OnErr result (self.new ≡ self.old) }
     {
-        self.machine.store_edge(seat, id, target, rights)
+        self.machine.heap.soundness();
+        let serial = self.machine.heap.serial(target).unwrap();
+        let root = Root {
+            serial,
+            slot: target,
+        };
+        let added = self.machine.add_edge(seat as usize, id, root, rights);
+        self.machine.heap.soundness();
+        added
     }
 
     /// Puts a new vertex into a slot, with an edge to it from the vertex in the slot `id`, and makes it the seat's
@@ -201,16 +222,31 @@ impl Store {
         requires source { IsSome (place self.old id) }
         requires some { is_none rights ≡ false }
         requires unheld { IsHeldIn self.old serial → ⊥ }
-        requires unparked { InSet self.old.parked serial → ⊥ }
+        requires unparked { IsParkedIn self.old serial → ⊥ }
         ensures ok { OnOk result (VertexStored self.old self.new seat (serial_at self.old id) serial kind text rights) }
         ensures acted { OnOk result (Acted self.old self.new (Some serial) (Some serial)) }
-        ensures slots { IfErr result (λ refused. refused.0 ≡ HeapFull.Slots → self.old.free_slots ≡ 0) }
-        ensures cells { IfErr result (λ refused. refused.0 ≡ HeapFull.Cells → (self.old.free_slots ≢ 0) × (self.old.free_cells ≡ 0)) }
+        ensures slots { IfErr result (λ refused. refused.0 ≡ HeapFull.Slots → free_slots self.old ≡ 0) }
+        ensures cells { IfErr result (λ refused. refused.0 ≡ HeapFull.Cells → (free_slots self.old ≢ 0) × (self.old.free_cells ≡ 0)) }
         ensures back { IfErr result (λ refused. refused.1 ≡ text) }
         ensures unchanged { OnErr result (self.new ≡ self.old) }
     {
-        self.machine
-            .store_vertex(seat, id, serial, kind, rights, text)
+        self.machine.heap.soundness();
+        if self.machine.heap.free_slots() == 0 {
+            return Err((HeapFull::Slots, text));
+        }
+        if self.machine.heap.free_cells() == 0 {
+            return Err((HeapFull::Cells, text));
+        }
+        match self.machine.place_vertex(serial, kind, text) {
+            Err(text) => Err((HeapFull::Slots, text)),
+            Ok(slot) => {
+                self.machine.heap.soundness();
+                let root = Root { serial, slot };
+                self.machine.link_edge(seat as usize, id, root, rights);
+                self.machine.heap.soundness();
+                Ok(())
+            }
+        }
     }
 
     /// Takes rights from the label of an edge, which has them; an edge left with none gives its cell back.
@@ -221,7 +257,9 @@ impl Store {
         ensures removed { RightsRemoved self.old self.new (serial_at self.old id) serial rights }
         ensures acted { Acted self.old self.new None None }
     {
-        self.machine.drop_rights(id, serial, rights)
+        self.machine.heap.soundness();
+        self.machine.remove_rights(id, serial, rights);
+        self.machine.heap.soundness();
     }
 
     /// Replaces the text of the vertex in a slot, and returns the old one.
@@ -230,7 +268,7 @@ impl Store {
         ensures replaced { TextReplaced self.old self.new (serial_at self.old id) text result }
         ensures acted { Acted self.old self.new None None }
     {
-        self.machine.replace_text(id, text)
+        self.machine.set_text(id, text)
     }
 
     /// Shades the seat's pending target, if it has one, and clears it; returns it.
@@ -239,17 +277,19 @@ impl Store {
         ensures shaded { Shaded self.old self.new seat result }
         ensures acted { Acted self.old self.new None None }
     {
-        self.machine.shade_target(seat)
+        self.machine.shade(seat as usize)
     }
 
     /// One step of the collector: one line of its table.
     #[inline(always)]
     pub fn collect(&mut self) -> Note
         ensures collected { Collected self.old self.new result.freed result.ended }
-        ensures phase { result.phase ≡ self.new.phase }
+        ensures phase { result.phase ≡ phase self.new }
     {
         self.machine.heap.soundness();
-        self.machine.collect()
+        let note = self.machine.collect();
+        self.machine.heap.soundness();
+        note
     }
 }
 
@@ -257,7 +297,7 @@ impl Store {
 impl Store {
     /// Whether a slot has the serial, held or parked.
     pub(crate) fn has(&self, serial: u64) -> bool
-        ensures { OnFalse result ((IsHeldIn self.now serial → ⊥) × (InSet self.now.parked serial → ⊥)) }
+        ensures { OnFalse result ((IsHeldIn self.now serial → ⊥) × (IsParkedIn self.now serial → ⊥)) }
     {
         crate::tests::has(&self.machine, serial)
     }

@@ -2,10 +2,9 @@
 //! a test if a call's condition is not met.
 ghost use Rattle.std.specs.Prelude.{◌≡◌, Some, IfOk};
 ghost use Rattle.std.specs.Bool.{OnFalse};
-ghost use Rattle.tg_collect.specs.Names.{Whole};
 ghost use Rattle.tg_collect.specs.Openings.{Fitted};
 ghost use Rattle.tg_collect.specs.Stored.{stored};
-ghost use Rattle.tg_collect.specs.Views.{InSet, IsHeldIn, place};
+ghost use Rattle.tg_collect.specs.Readings.{IsHeldIn, IsParkedIn, place};
 
 use crate::machine::Machine;
 use crate::scripts::SCRIPTS;
@@ -18,8 +17,7 @@ use tg_rights::{Kind, Rights, Text, Word};
 
 /// Whether a slot has the serial, held or parked.
 pub(crate) fn has(machine: &Machine, serial: u64) -> bool
-    requires { Whole machine.now }
-    ensures { OnFalse result ((IsHeldIn (stored machine.now) serial → ⊥) × (InSet (stored machine.now).parked serial → ⊥)) }
+    ensures { OnFalse result ((IsHeldIn (stored machine.now) serial → ⊥) × (IsParkedIn (stored machine.now) serial → ⊥)) }
 {
     for id in 0..machine.heap.len() {
         if machine.heap.serial(id) == Some(serial) {

@@ -24,17 +24,17 @@ left_le b b' (Sweeping k) cells size marks sweeps =
     let u = total_le (λ j. parked_cells (Sweeping k) j (spot b' j)) (λ j. parked_cells (Sweeping k) j (spot b j)) (length b.slots) (λ j l. sweeps k refl j) in
     rw size (omega (arith, u))
 
-same_roots : (b : Body) (p : Progress) (cells : ℕ) (rs : Roots) → left cells (record b { roots = rs }) p ≡ left cells b p
+pub same_roots : (b : Body) (p : Progress) (cells : ℕ) (rs : Roots) → left cells (record b { roots = rs }) p ≡ left cells b p
 same_roots b AtRest cells rs = refl
 same_roots b (Marking s) cells rs = refl
 same_roots b (Sweeping k) cells rs = refl
 
-left_shade : (b : Body) (p : Progress) (i cells : ℕ) → Invariant b p → left cells (shade b i) p ≤ left cells b p
+pub left_shade : (b : Body) (p : Progress) (i cells : ℕ) → Invariant b p → left cells (shade b i) p ≤ left cells b p
 left_shade b p i cells g = left_le b (shade b i) p cells (shade_rest (λ (c : Body). length c.slots ≡ length b.slots) b i refl (λ s e c. length-set b.slots i _))
     (λ s is j. shade_weight b (length b.slots) s i j (λ w x. let m = (g.greys.scanned i (subst (λ (q : Progress). IsScanned q i) (sym is) x)).0 in (let u : Has Grey ≡ Has White = sym m ∙ w in cc)))
     (λ k is. shade_each (λ j o. parked_cells (Sweeping k) j o ≤ parked_cells (Sweeping k) j (spot b j)) b i (λ s e c. omega arith) (λ j. omega arith))
 
-left_puts : (b b' : Body) (p : Progress) (i cells : ℕ) (new : Edge) → PutsEdge b p i new b' → left cells b' p ≤ left cells b p
+pub left_puts : (b b' : Body) (p : Progress) (i cells : ℕ) (new : Edge) → PutsEdge b p i new b' → left cells b' p ≤ left cells b p
 left_puts b b' p i cells new s = rw s.is (left_le b after p cells (length-set b.slots i _)
     (λ c is n. put_each (λ n o. weight (length b.slots) c n (mark_of o) ≤ weight (length b.slots) c n (mark b n)) b i _ within (rw s.at (omega arith)) (λ n o. omega arith) n)
     (λ k is n. put_each (λ n o. parked_cells (Sweeping k) n o ≤ parked_cells (Sweeping k) n (spot b n)) b i _ within
@@ -46,7 +46,7 @@ left_puts b b' p i cells new s = rw s.is (left_le b after p cells (length-set b.
     within : i < length b.slots
     within = at_within b.slots i s.owner s.at
 
-left_places : (b b' : Body) (p : Progress) (seat i serial cells : ℕ) (kind : Kind) (text : List ℕ) → Places b p seat i serial kind text b' → left cells b' p ≤ left cells b p
+pub left_places : (b b' : Body) (p : Progress) (seat i serial cells : ℕ) (kind : Kind) (text : List ℕ) → Places b p seat i serial kind text b' → left cells b' p ≤ left cells b p
 left_places b b' p seat i serial cells kind text s = rw s.is (left_le b after p cells (length-set b.slots i _)
     (λ c is n. put_each (λ n o. weight (length b.slots) c n (mark_of o) ≤ weight (length b.slots) c n (mark b n)) b i _ s.inside (rw (s.free, is) (omega arith)) (λ n o. omega arith) n)
     (λ k is n. put_each (λ n o. parked_cells (Sweeping k) n o ≤ parked_cells (Sweeping k) n (spot b n)) b i _ s.inside (by k (keeps (Sweeping k) i (new_colour p i))) (λ n o. omega arith) n))
@@ -58,7 +58,7 @@ left_places b b' p seat i serial cells kind text s = rw s.is (left_le b after p 
     by k true = omega arith
     by k false = omega arith
 
-left_rewrites : (b b' : Body) (p : Progress) (i cells : ℕ) (text : List ℕ) → Rewrites b i text b' → left cells b' p ≤ left cells b p
+pub left_rewrites : (b b' : Body) (p : Progress) (i cells : ℕ) (text : List ℕ) → Rewrites b i text b' → left cells b' p ≤ left cells b p
 left_rewrites b b' p i cells text s = rw s.is (left_le b (put b i (Some (record s.owner { text = text }))) p cells (length-set b.slots i _)
     (λ c is n. put_each (λ n o. weight (length b.slots) c n (mark_of o) ≤ weight (length b.slots) c n (mark b n)) b i _ within (rw s.at (omega arith)) (λ n o. omega arith) n)
     (λ k is n. put_each (λ n o. parked_cells (Sweeping k) n o ≤ parked_cells (Sweeping k) n (spot b n)) b i _ within (rw s.at (omega arith)) (λ n o. omega arith) n))
@@ -76,7 +76,7 @@ scan_less size i j (Has Grey) r r' l = by (eqb j i) where
   by true = omega (arith, l)
   by false = omega arith
 
-left_drops : (b b' : Body) (p p' : Progress) (i : ℕ) (before : List Edge) (e : Edge) (news after : List Edge) (cells : ℕ) → DropsEdge b p i before e news after b' p' → length news ≤ 1 → left cells b' p' ≤ left cells b p
+pub left_drops : (b b' : Body) (p p' : Progress) (i : ℕ) (before : List Edge) (e : Edge) (news after : List Edge) (cells : ℕ) → DropsEdge b p i before e news after b' p' → length news ≤ 1 → left cells b' p' ≤ left cells b p
 left_drops b b' p p' i before e news after cells s few = rw s.is (by p p' s.stage) where
   new : Body
   new = put b i (Some (record s.owner { edges = before ++ (news ++ after) }))

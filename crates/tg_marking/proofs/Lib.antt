@@ -1,11 +1,11 @@
-mod SpotLemmas
-mod MoveLemmas
-mod LineLemmas
-mod KeepLemmas
-mod SessionLemmas
-mod RunLemmas
-mod LeftLemmas
-mod RegardLemmas
-mod DropLemmas
-mod CountLemmas
-mod ActLemmas
+pub mod SpotLemmas
+pub mod MoveLemmas
+pub mod LineLemmas
+pub mod KeepLemmas
+pub mod SessionLemmas
+pub mod RunLemmas
+pub mod LeftLemmas
+pub mod RegardLemmas
+pub mod DropLemmas
+pub mod CountLemmas
+pub mod ActLemmas

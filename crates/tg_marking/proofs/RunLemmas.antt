@@ -6,9 +6,9 @@ use Rattle.tg_slots.specs.Table.{Has}
 use Rattle.tg_cells.specs.Lists.{Edge}
 use Rattle.tg_rights.specs.Membership.{Contains}
 use Rattle.tg_marking.specs.Values.{Roots, HasRoot, Spot, Scan, Progress, AtRest, Marking, Sweeping, Body, spot, mark, mark_of, name, name_of, IsRoot, keeps, seen, Kept, as_kept, kept}
-use Rattle.tg_marking.specs.Invariant.{Invariant, at_root, along, IsLive, Phased}
+use Rattle.tg_marking.specs.Invariant.{at_root, along, IsLive}
 use Rattle.tg_marking.specs.Collected.{Turns, stays, greys, blackens, whitens, strips, frees, Stays, Follows, begins, marks, parks, sweeps, passes, ends as ended, Parks, Collected}
-use Rattle.tg_marking.specs.Runs.{IsLiveIn, Changes, same, shaded, regards, comes, Acted, Run, begin, acts, goes, ends, Cycles, first, more, over, IsComplete, Settles}
+use Rattle.tg_marking.specs.Runs.{Sane, IsLiveIn, Changes, same, shaded, regards, comes, Acted, Run, begin, acts, goes, ends, Cycles, first, more, over, IsComplete, Settles}
 
 -- Roots are good, and edges of good ones lead to good ones.
 pub record Fence (good : ℕ → Type 0) (b : Body) (p : Progress) : Type 0 where
@@ -42,7 +42,7 @@ same_serial b p i s k is h = by (keeps p i s.colour) (ap (seen p i) (sym is) ∙
     serials x y e = cc
   by false e = absurd (cc)
 
-live_keeps : (good : ℕ → Type 0) (b : Body) (p : Progress) → Invariant b p → Fence good b p → (i : ℕ) (k : Kept) → IsLive b p i → kept b p i ≡ Some k → good k.serial
+live_keeps : (good : ℕ → Type 0) (b : Body) (p : Progress) → Sane b p → Fence good b p → (i : ℕ) (k : Kept) → IsLive b p i → kept b p i ≡ Some k → good k.serial
 live_keeps good b p g f i k (at_root _ r) h = f.roots i k r h
 live_keeps good b p g f _ k (along i t e r is o) h =
     let there = g.closed.edges i t e is o in
@@ -53,7 +53,7 @@ live_keeps good b p g f _ k (along i t e r is o) h =
     serials x y e = cc
 
 -- Session steps.
-module _ (good : ℕ → Type 0) (next : ℕ) (fresh : (x : ℕ) → next ≤ x → good x) (b b' : Body) (p : Progress) (g : Invariant b p) (a : Acted b p b' next) (f : Fence good b p) where
+module _ (good : ℕ → Type 0) (next : ℕ) (fresh : (x : ℕ) → next ≤ x → good x) (b b' : Body) (p : Progress) (g : Sane b p) (a : Acted b p b' next) (f : Fence good b p) where
   wanted : (x : ℕ) → IsLiveIn b p x ⊎ (next ≤ x) → good x
   wanted x (inl l) = subst good l.4 (live_keeps good b p g f l.0 l.1 l.2 l.3)
   wanted x (inr n) = fresh x n
@@ -101,7 +101,7 @@ module _ (good : ℕ → Type 0) (next : ℕ) (fresh : (x : ℕ) → next ≤ x 
   }
 
 -- Collector steps.
-module _ (good : ℕ → Type 0) (b b' : Body) (p p' : Progress) (e : Bool) (g : Invariant b p) (g' : Invariant b' p') (c : Collected b p b' p' e) where
+module _ (good : ℕ → Type 0) (b b' : Body) (p p' : Progress) (e : Bool) (g : Sane b p) (g' : Sane b' p') (c : Collected b p b' p' e) where
   stays_or : Stays p p' ⊎ Parks b b' p p'
   stays_or = by p p' e c.phases c.parks where
     by : (p p' : Progress) (e : Bool) → Follows b p p' e → ((s : Option Scan) → p ≡ Marking s → p' ≡ Sweeping 0 → Parks b b' p p') → Stays p p' ⊎ Parks b b' p p'
@@ -211,11 +211,7 @@ module _ (good : ℕ → Type 0) (b b' : Body) (p p' : Progress) (e : Bool) (g :
   pub progress_ends : (n : ℕ) → Fence good b p → HowFar good n p b p → e ≡ true → (p' ≡ AtRest) × HowFar good (suc n) p' b' p'
   progress_ends n f h ok = by n p p' e c.phases refl refl ok h where
     no_black : p' ≡ AtRest → Coloured good Black b'
-    no_black a i s is d = absurd (phase p' a g'.phase i (ap mark_of is ∙ ap (λ (k : Colour). Has k) d)) where
-      phase : (q : Progress) → q ≡ AtRest → Phased b' q → (j : ℕ) → mark b' j ≢ Has Black
-      phase AtRest e f = f
-      phase (Marking s) e f = absurd (cc)
-      phase (Sweeping k) e f = absurd (cc)
+    no_black a i s is d = absurd (g'.idle a i (ap mark_of is ∙ ap (λ (k : Colour). Has k) d))
 
     by : (n : ℕ) (q q' : Progress) (e : Bool) → Follows b q q' e → p ≡ q → p' ≡ q' → e ≡ true → HowFar good n q b p → (q' ≡ AtRest) × HowFar good (suc n) q' b' p'
     by n _ _ _ begins a a' o h = absurd (cc)
@@ -228,13 +224,13 @@ module _ (good : ℕ → Type 0) (b b' : Body) (p p' : Progress) (e : Bool) (g :
     by (suc (suc n)) _ _ _ (ended k l) a a' o h = (refl, slots_goes h)
 
 -- Along a run.
-run_keeps : (next n : ℕ) (b c : Body) (p q : Progress) → Invariant b p → Run next b p c q n → Invariant c q
+run_keeps : (next n : ℕ) (b c : Body) (p q : Progress) → Sane b p → Run next b p c q n → Sane c q
 run_keeps next _ b _ p _ g begin = g
 run_keeps next _ b _ p _ g (acts c d q n r a k) = k
 run_keeps next _ b _ p _ g (goes c d q s n r a k) = k
 run_keeps next _ b _ p _ g (ends c d q s n r a k) = k
 
-run_progress : (good : ℕ → Type 0) (next : ℕ) → ((x : ℕ) → next ≤ x → good x) → (b c : Body) (q : Progress) (n : ℕ) → Invariant b AtRest → Fence good b AtRest → Run next b AtRest c q n → Fence good c q × HowFar good n q c q
+run_progress : (good : ℕ → Type 0) (next : ℕ) → ((x : ℕ) → next ≤ x → good x) → (b c : Body) (q : Progress) (n : ℕ) → Sane b AtRest → Fence good b AtRest → Run next b AtRest c q n → Fence good c q × HowFar good n q c q
 run_progress good next fresh b _ _ _ g f begin = (f, tt)
 run_progress good next fresh b _ _ _ g f (acts c d q n r a k) =
     let old = run_progress good next fresh b c q n g f r in
@@ -255,7 +251,7 @@ named b p i k h = by (spot b i) refl where
   by None e = absurd (let u = ap (seen p i) e in cc)
   by (Some s) e = ap name_of e ∙ ap (λ (x : ℕ). Some x) (same_serial b p i s k e h)
 
-same_slot : (b : Body) (p : Progress) → Invariant b p → (i j : ℕ) (k t : Kept) → kept b p i ≡ Some k → kept b p j ≡ Some t → k.serial ≡ t.serial → i ≡ j
+same_slot : (b : Body) (p : Progress) → Sane b p → (i j : ℕ) (k t : Kept) → kept b p i ≡ Some k → kept b p j ≡ Some t → k.serial ≡ t.serial → i ≡ j
 same_slot b p g i j k t h l e = g.once i j k.serial (named b p i k h) (named b p j t l ∙ ap (λ (x : ℕ). Some x) (sym e))
 
 pub complete : IsComplete
@@ -278,19 +274,19 @@ complete b c q next (suc (suc n)) g below r two i s is = (run_progress good next
   }
 
 -- Runs without session steps.
-cycles_keeps : (b c : Body) (p q : Progress) (n : ℕ) → Invariant b p → Cycles b p c q n → Invariant c q
+cycles_keeps : (b c : Body) (p q : Progress) (n : ℕ) → Sane b p → Cycles b p c q n → Sane c q
 cycles_keeps b _ p _ _ g first = g
 cycles_keeps b _ p _ _ g (more c d q r n w a k) = k
 cycles_keeps b _ p _ _ g (over c d q r n w a k) = k
 
-cycles_live : (b : Body) (p : Progress) (c : Body) (q : Progress) (n : ℕ) → Invariant b p → Cycles b p c q n → (x : ℕ) → IsLiveIn b p x → IsLiveIn c q x
+cycles_live : (b : Body) (p : Progress) (c : Body) (q : Progress) (n : ℕ) → Sane b p → Cycles b p c q n → (x : ℕ) → IsLiveIn b p x → IsLiveIn c q x
 cycles_live b p _ _ _ g first x l = l
 cycles_live b p _ _ _ g (more c d q r n w a k) x l = live_in_stays (λ x. ℕ) c d q r false (cycles_keeps b c p q n g w) k a x (cycles_live b p c q n g w x l)
 cycles_live b p _ _ _ g (over c d q r n w a k) x l = live_in_stays (λ x. ℕ) c d q r true (cycles_keeps b c p q n g w) k a x (cycles_live b p c q n g w x l)
 
 -- From the first end on.
 abbrev pub Rest : Body → Progress → ℕ → Type 0
-Rest c q n = (u : Body) × Invariant u AtRest × Cycles u AtRest c q n
+Rest c q n = (u : Body) × Sane u AtRest × Cycles u AtRest c q n
 
 follows_ends : (b : Body) (p q : Progress) (e : Bool) → Follows b p q e → e ≡ true → q ≡ AtRest
 follows_ends b _ _ _ begins o = absurd (cc)
@@ -305,7 +301,7 @@ after_first b p _ _ _ m e first = absurd (omega (arith, e))
 after_first b p _ _ _ m e (more c d q r n w a k) = let u = after_first b p c q n m e w in (u.0, u.1, more c d q r m u.2 a k)
 after_first b p _ _ _ zero e (over c d q r n w a k) =
     let idle = follows_ends c q r true a.phases refl in
-    (d, subst (Invariant d) idle k, subst (λ (s : Progress). Cycles d AtRest d s 0) (sym idle) first)
+    (d, subst (Sane d) idle k, subst (λ (s : Progress). Cycles d AtRest d s 0) (sym idle) first)
 after_first b p _ _ _ (suc m) e (over c d q r n w a k) = let u = after_first b p c q n m (omega (arith, e)) w in (u.0, u.1, over c d q r m u.2 a k)
 
 as_run : (next : ℕ) (b : Body) (p : Progress) (c : Body) (q : Progress) (n : ℕ) → Cycles b p c q n → Run next b p c q n

@@ -1,12 +1,13 @@
 -- runs of session steps and collector steps, by what callers see
 use Rattle.std.specs.Prelude.{◌≡◌, ◌≢◌, ℕ, suc, ◌<◌, ◌≤◌, List, Option, Some, None, ◌⊎◌, true, false}
-use Rattle.tg_slots.specs.declared.colour.Colour.TheVariants.{White, Grey}
+use Rattle.tg_slots.specs.declared.colour.Colour.TheVariants.{White, Grey, Black}
+use Rattle.tg_slots.specs.Table.{Has}
 use Rattle.tg_cells.specs.Lists.{Edge}
 use Rattle.tg_rights.specs.Membership.{Contains}
 use Rattle.tg_rights.specs.declared.kind.Kind.{Kind}
-use Rattle.tg_marking.specs.Values.{Roots, HasRoot, Spot, Progress, AtRest, Body, spot, IsRoot, Kept, kept}
+use Rattle.tg_marking.specs.Values.{Roots, HasRoot, Spot, Progress, AtRest, Body, spot, mark, name, IsRoot, Kept, kept}
 use Rattle.tg_marking.specs.Steps.{Reroots, PutsEdge, ShadesTarget, Places, DropsEdge, Rewrites}
-use Rattle.tg_marking.specs.Invariant.{Invariant, IsLive}
+use Rattle.tg_marking.specs.Invariant.{Closed, Invariant, IsLive}
 use Rattle.tg_marking.specs.Collected.{Collected}
 
 -- a serial is held in a live slot
@@ -28,27 +29,33 @@ pub record Acted (b : Body) (p : Progress) (b' : Body) (next : ℕ) : Type 0 whe
   pub edges : (i : ℕ) (k' : Kept) (e : Edge) → kept b' p i ≡ Some k' → Contains k'.edges e
       → ((k : Kept) × (d : Edge) × (kept b p i ≡ Some k) × (k.serial ≡ k'.serial) × Contains k.edges d × (d.serial ≡ e.serial)) ⊎ (IsLiveIn b p e.serial ⊎ (next ≤ e.serial))
 
+-- what callers know of each value
+pub record Sane (b : Body) (p : Progress) : Type 0 where
+  pub closed : Closed (kept b p) (IsRoot b)
+  pub once : (i j x : ℕ) → name b i ≡ Some x → name b j ≡ Some x → i ≡ j
+  pub idle : p ≡ AtRest → (i : ℕ) → mark b i ≢ Has Black
+
 -- a run after a value: its last value, and the cycles that have ended
 pub data Run (next : ℕ) (b : Body) (p : Progress) : Body → Progress → ℕ → Type 0 where
   begin : Run next b p b p 0
-  acts : (c d : Body) (q : Progress) (n : ℕ) → Run next b p c q n → Acted c q d next → Invariant d q → Run next b p d q n
-  goes : (c d : Body) (q r : Progress) (n : ℕ) → Run next b p c q n → Collected c q d r false → Invariant d r → Run next b p d r n
-  ends : (c d : Body) (q r : Progress) (n : ℕ) → Run next b p c q n → Collected c q d r true → Invariant d r → Run next b p d r (suc n)
+  acts : (c d : Body) (q : Progress) (n : ℕ) → Run next b p c q n → Acted c q d next → Sane d q → Run next b p d q n
+  goes : (c d : Body) (q r : Progress) (n : ℕ) → Run next b p c q n → Collected c q d r false → Sane d r → Run next b p d r n
+  ends : (c d : Body) (q r : Progress) (n : ℕ) → Run next b p c q n → Collected c q d r true → Sane d r → Run next b p d r (suc n)
 
 -- the same without session steps
 pub data Cycles (b : Body) (p : Progress) : Body → Progress → ℕ → Type 0 where
   first : Cycles b p b p 0
-  more : (c d : Body) (q r : Progress) (n : ℕ) → Cycles b p c q n → Collected c q d r false → Invariant d r → Cycles b p d r n
-  over : (c d : Body) (q r : Progress) (n : ℕ) → Cycles b p c q n → Collected c q d r true → Invariant d r → Cycles b p d r (suc n)
+  more : (c d : Body) (q r : Progress) (n : ℕ) → Cycles b p c q n → Collected c q d r false → Sane d r → Cycles b p d r n
+  over : (c d : Body) (q r : Progress) (n : ℕ) → Cycles b p c q n → Collected c q d r true → Sane d r → Cycles b p d r (suc n)
 
 -- what is not live in an idle store has no slot once two cycles have ended, however sessions act
 abbrev pub IsComplete : Type 0
-IsComplete = (b c : Body) (q : Progress) (next n : ℕ) → Invariant b AtRest → ((i : ℕ) (k : Kept) → kept b AtRest i ≡ Some k → k.serial < next) → Run next b AtRest c q n → 2 ≤ n
+IsComplete = (b c : Body) (q : Progress) (next n : ℕ) → Sane b AtRest → ((i : ℕ) (k : Kept) → kept b AtRest i ≡ Some k → k.serial < next) → Run next b AtRest c q n → 2 ≤ n
     → (i : ℕ) (s : Spot) → spot c i ≡ Some s → IsLiveIn b AtRest s.serial ⊎ (next ≤ s.serial)
 
 -- three cycles without sessions leave exactly what is live
 abbrev pub Settles : Type 0
-Settles = (b c : Body) (p q : Progress) → Invariant b p → Cycles b p c q 3 → (i : ℕ) (s : Spot) → spot c i ≡ Some s → IsLive c q i
+Settles = (b c : Body) (p q : Progress) → Sane b p → Cycles b p c q 3 → (i : ℕ) (s : Spot) → spot c i ≡ Some s → IsLive c q i
 
 -- the exact session steps are steps of a run, where targets are live or new
 abbrev pub Wanted : Body → Progress → ℕ → ℕ → Type 0

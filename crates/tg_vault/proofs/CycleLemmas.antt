@@ -16,11 +16,12 @@ use Rattle.tg_vault.specs.declared.event.Answer.TheVariants as answer
 use Rattle.tg_collect.specs.declared.note.Note.{Note}
 use Rattle.tg_collect.specs.declared.note.Phase.{Phase}
 use Rattle.tg_collect.specs.declared.note.Phase.TheVariants.{Idle, Mark, Sweep}
-use Rattle.tg_collect.specs.Runs.{Follows}
-use Rattle.tg_collect.specs.Stored.{Stored, held, cycle_bound}
-use Rattle.tg_collect.specs.Views.{IsStore, IsRootIn, IsHeldIn, Collected}
-use Rattle.tg_collect.specs.StoreRuns.{StoreRun, start, acts, goes, ends}
-use Rattle.tg_collect.specs.StoreRuns as store_runs
+use Rattle.tg_collect.specs.Stored.{Stored}
+use Rattle.tg_collect.specs.Readings.{held, IsHeldIn, IsRootIn, agents, cycle_bound, pending, phase, slot_count}
+use Rattle.tg_collect.specs.Views.{IsStore, Collected, Follows}
+use Rattle.tg_collect.specs.Runs.{StoreRun, start, acts, goes, ends}
+use Rattle.tg_collect.specs.Runs as runs
+use Rattle.tg_collect.proofs.GraphLemmas.{acted_phase}
 use Rattle.tg_vault.specs.History.{graph_of}
 use Rattle.tg_vault.specs.World.{Run, at_seat}
 use Rattle.tg_vault.specs.Contents.{Contents, RunOf, Keeps, graph_now, held_now, moment}
@@ -168,18 +169,18 @@ split v (e ∷ es) (a ∷ front) rest w course =
 split v [] (a ∷ front) rest w course = absurd course
 
 -- the phase that the answers report
-goes_phase : (v : Contents) (e : Event) (a : Answer) (u : Contents) → VaultStep v e a u → u.store.phase ≡ phase_after v.store.phase (a ∷ [])
-goes_phase v (event.Hello seat name) (answer.Hello x) u g = g.stored.acted.phase
-goes_phase v (event.Hello seat name) (answer.Seat fault) u g = g.stored.acted.phase
+goes_phase : (v : Contents) (e : Event) (a : Answer) (u : Contents) → VaultStep v e a u → phase u.store ≡ phase_after (phase v.store) (a ∷ [])
+goes_phase v (event.Hello seat name) (answer.Hello x) u g = acted_phase g.stored.acted
+goes_phase v (event.Hello seat name) (answer.Seat fault) u g = acted_phase g.stored.acted
 goes_phase v (event.Hello seat name) _ u g = absurd g.step
-goes_phase v (event.Bye seat) answer.Bye u g = g.stored.acted.phase
-goes_phase v (event.Bye seat) (answer.Seat fault) u g = g.stored.acted.phase
+goes_phase v (event.Bye seat) answer.Bye u g = acted_phase g.stored.acted
+goes_phase v (event.Bye seat) (answer.Seat fault) u g = acted_phase g.stored.acted
 goes_phase v (event.Bye seat) _ u g = absurd g.step
-goes_phase v (event.Ask seat c) (answer.Asked number reply) u g = g.stored.acted.phase
-goes_phase v (event.Ask seat c) (answer.Ask fault) u g = g.stored.acted.phase
+goes_phase v (event.Ask seat c) (answer.Asked number reply) u g = acted_phase g.stored.acted
+goes_phase v (event.Ask seat c) (answer.Ask fault) u g = acted_phase g.stored.acted
 goes_phase v (event.Ask seat c) _ u g = absurd g.step
-goes_phase v (event.Shade seat) (answer.Shaded target) u g = g.stored.acted.phase
-goes_phase v (event.Shade seat) (answer.Seat fault) u g = g.stored.acted.phase
+goes_phase v (event.Shade seat) (answer.Shaded target) u g = acted_phase g.stored.acted
+goes_phase v (event.Shade seat) (answer.Seat fault) u g = acted_phase g.stored.acted
 goes_phase v (event.Shade seat) _ u g = absurd g.step
 goes_phase v event.Collect (answer.Noted note) u g = sym g.stored.1
 goes_phase v event.Collect _ u g = absurd g.step
@@ -193,10 +194,10 @@ phase_on p (answer.Noted note) answers = refl
 phase_on p (answer.Seat fault) answers = refl
 phase_on p (answer.Ask fault) answers = refl
 
-course_phase : (v : Contents) (es : List Event) (answers : List Answer) (w : Contents) → Course v es answers w → w.store.phase ≡ phase_after v.store.phase answers
-course_phase v [] [] w same = ap (λ (k : Contents). k.store.phase) same
+course_phase : (v : Contents) (es : List Event) (answers : List Answer) (w : Contents) → Course v es answers w → phase w.store ≡ phase_after (phase v.store) answers
+course_phase v [] [] w same = ap (λ (k : Contents). phase k.store) same
 course_phase v (e ∷ es) (a ∷ answers) w course =
-    course_phase course.0 es answers w course.2 ∙ ap (λ p. phase_after p answers) (goes_phase v e a course.0 course.1) ∙ phase_on v.store.phase a answers
+    course_phase course.0 es answers w course.2 ∙ ap (λ p. phase_after p answers) (goes_phase v e a course.0 course.1) ∙ phase_on (phase v.store) a answers
 course_phase v [] (a ∷ answers) w course = absurd course
 course_phase v (e ∷ es) [] w course = absurd course
 
@@ -222,7 +223,8 @@ module _ (v : Contents) (s : IsCoherent v) where
 
   root_so : (x : ℕ) → IsRootIn v.store x → IsRoot v.opening (moment v).world x
   root_so x (inl principal) = inl ((s.ties.principals x).0 principal)
-  root_so x (inr target) = inr (contains_seat v.store.pending x target)
+  root_so x (inr (inl target)) = inr (contains_seat (pending v.store) x target)
+  root_so x (inr (inr agent)) = let at = contains_seat (agents v.store) x agent in absurd (cc (at.1, s.ties.agents at.0))
 
   live_so : (x : ℕ) → Live (held_now v) (IsRootIn v.store) x → Live (graph_now v) (IsRoot v.opening (moment v).world) x
   live_so x live = (live.0, root_so live.0 live.1, (live.2.0, (of_graph v s.ties s.store live.0 live.2.1.0, leads_so live.2.0 live.0 x live.2.1.0 live.2.1.1)))
@@ -239,7 +241,7 @@ follows_idle Mark q ended is f = absurd (cc is)
 follows_idle Sweep q ended is f = absurd (cc is)
 
 -- a cycle that starts here, and two that end from here on
-from_idle : store_runs.IsComplete → (m : Contents) → IsCoherent m → m.store.phase ≡ Idle → (after : List Event) (note : Note) (back : List Answer) (w : Contents) → Course m after (answer.Noted note ∷ back) w →
+from_idle : runs.IsComplete → (m : Contents) → IsCoherent m → phase m.store ≡ Idle → (after : List Event) (note : Note) (back : List Answer) (w : Contents) → Course m after (answer.Noted note ∷ back) w →
     2 ≤ ended_in (answer.Noted note ∷ back) → (x : ℕ) → HasSlot w x → Live (held_now m) (IsRootIn m.store) x ⊎ ((graph_now m).next ≤ x)
 from_idle law m sound idle [] note back w course two x slot = absurd course
 from_idle law m sound idle (event.Hello seat name ∷ es) note back w course two x slot = absurd course.1.step
@@ -249,7 +251,7 @@ from_idle law m sound idle (event.Shade seat ∷ es) note back w course two x sl
 from_idle law m sound idle (event.Collect ∷ es) note back w course two x slot =
     let u : Contents = course.0 in
     let g : VaultStep m event.Collect (answer.Noted note) u = course.1 in
-    let open_end : note.ended ≡ false = follows_idle m.store.phase u.store.phase note.ended idle g.stored.0.phases in
+    let open_end : note.ended ≡ false = follows_idle (phase m.store) (phase u.store) note.ended idle g.stored.0.phases in
     let next = (graph_now m).next in
     let grows = goes_grow m event.Collect (answer.Noted note) u g in
     let run = course_store next u.store u es back w 0 0 grows start course.2 in
@@ -258,26 +260,26 @@ from_idle law m sound idle (event.Collect ∷ es) note back w course two x slot 
     law m.store u.store w.store next (0 + ended_in back) (since_in 0 back) note.freed sound.store idle
     (subst (λ b. Collected m.store u.store note.freed b) open_end g.stored.0) g.coherent.store (held_below m sound) run (omega arith) x slot
 
-pub course_complete : store_runs.IsComplete → (v : Contents) (es : List Event) (answers : List Answer) (w : Contents) → IsCoherent v → Course v es answers w → IsComplete v es answers w
+pub course_complete : runs.IsComplete → (v : Contents) (es : List Event) (answers : List Answer) (w : Contents) → IsCoherent v → Course v es answers w → IsComplete v es answers w
 course_complete law v es answers w sound course = λ front back note is idle two.
     let s = split v es front (answer.Noted note ∷ back) w (subst (λ (all : List Answer). Course v es all w) is course) in
     let m : Contents = s.mid in
     let here : IsCoherent m = course_coherent v (take (length front) es) front m sound s.before in
     let kept : Keeps v m = course_keeps v (take (length front) es) front m s.before in
-    let phase : m.store.phase ≡ Idle = course_phase v (take (length front) es) front m s.before ∙ idle in
+    let quiet : phase m.store ≡ Idle = course_phase v (take (length front) es) front m s.before ∙ idle in
     let rest : RunOf m (drop (length front) es) (answer.Noted note ∷ back) w = course_run m (drop (length front) es) (answer.Noted note ∷ back) w s.from in (
       moment m,
       record {
         before = course_run v (take (length front) es) front m s.before;
         after = subst (λ (l : Limits). Run l v.names (moment m) (drop (length front) es) (answer.Noted note ∷ back) (moment w)) kept.limits (subst (λ n. Run m.limits n (moment m) (drop (length front) es) (answer.Noted note ∷ back) (moment w)) kept.names rest);
       },
-      λ x slot. elim (from_idle law m here phase (drop (length front) es) note back w s.from two x slot) [
+      λ x slot. elim (from_idle law m here quiet (drop (length front) es) note back w s.from two x slot) [
         | inl live ↦ inl (subst (λ (opening : Protection). Live (graph_now m) (IsRoot opening (moment m).world) x) kept.opening (live_so m here x live))
         | inr above ↦ inr above
       ],
     )
 
-pub course_bounded : store_runs.IsBounded → (v : Contents) (es : List Event) (answers : List Answer) (w : Contents) → IsCoherent v → Course v es answers w → IsBounded v answers
+pub course_bounded : runs.IsBounded → (v : Contents) (es : List Event) (answers : List Answer) (w : Contents) → IsCoherent v → Course v es answers w → IsBounded v answers
 course_bounded law v es answers w sound course = λ front middle back is many.
     let s = split v es front (middle ++ back) w (subst (λ (all : List Answer). Course v es all w) is course) in
     let m : Contents = s.mid in
@@ -287,7 +289,7 @@ course_bounded law v es answers w sound course = λ front middle back is many.
     let low : (graph_now m).next ≤ (graph_now m).next = omega arith in
     let run = course_store (graph_now m).next m.store m (take (length middle) (drop (length front) es)) middle t.mid 0 0 low start t.before in
     let few = law m.store t.mid.store (graph_now m).next (0 + ended_in middle) (since_in 0 middle) here.store run in
-    let bound : cycle_bound (length m.store.marks) m.store.cells ≡ cycle_bound v.limits.slots v.limits.cells =
+    let bound : cycle_bound (slot_count m.store) m.store.cells ≡ cycle_bound v.limits.slots v.limits.cells =
     λ i. cycle_bound ((here.ties.slots ∙ ap (λ (l : Limits). l.slots) kept.limits) i) ((here.ties.cells ∙ ap (λ (l : Limits). l.cells) kept.limits) i) in
     some (ended_in middle) refl (since_in 0 middle) (length (notes_in middle)) (cycle_bound v.limits.slots v.limits.cells) many
     (subst (λ n. since_in 0 middle < n) bound few) (λ none. since_grows 0 middle none) where

@@ -19,7 +19,9 @@ use Rattle.tg_graph.proofs.ProtectionLemmas.{Entitled, edge_to, entitled}
 use Rattle.tg_graph.proofs.PartsStayLemmas.{part_agrees}
 use Rattle.tg_graph.proofs.ExactlyOneOutcomeLemmas.{verdict-Judged}
 use Rattle.tg_graph.proofs.RepliesAgreeLemmas.{same_reply}
-use Rattle.tg_collect.specs.Views.{IsStore, IsHeldIn, IsRootIn}
+use Rattle.tg_collect.specs.Readings.{IsHeldIn, IsRootIn}
+use Rattle.tg_collect.specs.Views.{IsStore}
+use Rattle.tg_collect.proofs.GraphLemmas.{held_graph}
 use Rattle.tg_vault.specs.History.{IsPrincipal}
 use Rattle.tg_vault.specs.World.{ExactSlots, World}
 use Rattle.tg_vault.specs.Contents.{Contents, graph_now, held_now}
@@ -36,6 +38,11 @@ agree_back G H x a = record {
   labels = λ later y z p. sym (a.labels later y z ((a.paths later y).1 p));
 }
 
+-- who can give a command: a root of the store, and a subject
+pub record IsActor (v : Contents) (x : ℕ) : Type 0 where
+  pub root : IsRootIn v.store x
+  pub subject : IsSubject (graph_now v) x
+
 module _ (v : Contents) (j : Ties v) (store : IsStore v.store) where
   abbrev G : Protection
   G = graph_now v
@@ -50,29 +57,24 @@ module _ (v : Contents) (j : Ties v) (store : IsStore v.store) where
   of_graph x h = ap is_some (j.part.vertices x h) ∙ h
 
   pub held_is : IsGraph (held_now v)
-  held_is = record {
-    below_next = λ x h. graph_is.below_next x (of_graph x h);
-    from_vertex = λ t h. store.from_held t h;
-    to_vertex = λ t h. store.to_held t h;
-    distinct = λ t h. store.distinct t h;
-  }
+  held_is = held_graph store (graph_now v).next (λ x h. graph_is.below_next x (of_graph x h))
 
   -- the next serial is nobody's
   pub next_unheld : IsHeldIn v.store (graph_now v).next → ⊥
   next_unheld h = let below : (graph_now v).next < (graph_now v).next = held_is.below_next (graph_now v).next h in absurd (omega arith)
 
-  module _ (x : ℕ) (principal : IsPrincipal v.opening x) where
-    pub root_is : IsRootIn v.store x
-    root_is = inl ((j.principals x).1 principal)
+  pub principal_acts : (x : ℕ) → IsPrincipal v.opening x → IsActor v x
+  principal_acts x principal = record {
+    root = inl ((j.principals x).1 principal);
+    subject = (legal_keeps v.limits v.opening v.history (graph_now v) j.opened j.vault.legal).1 x principal;
+  }
 
+  module _ (x : ℕ) (actor : IsActor v x) where
     pub actor_held : IsVertex (held_now v) x
-    actor_held = store.roots_held x root_is
-
-    pub actor_subject : IsSubject (graph_now v) x
-    actor_subject = (legal_keeps v.limits v.opening v.history (graph_now v) j.opened j.vault.legal).1 x principal
+    actor_held = store.roots_held x actor.root
 
     pub actor_agrees : Agree (held_now v) (graph_now v) x
-    actor_agrees = agree_back G H x (part_agrees G H j.part x actor_held actor_subject)
+    actor_agrees = agree_back G H x (part_agrees G H j.part x actor_held actor.subject)
 
     pub judged_so : (c : Command) (o : Outcome) → Judged H x c o → Judged G x c o
     judged_so c o = Judged-agrees H G x c o actor_agrees

@@ -7,7 +7,8 @@ use Rattle.tg_graph.specs.Triples.{edge}
 use Rattle.tg_graph.specs.Protection.{Protection, label}
 use Rattle.tg_graph.proofs.LabelLemmas.{difference-Relabels}
 use Rattle.tg_graph.proofs.PartsStayLemmas.{label-relabelled}
-use Rattle.tg_collect.specs.Stored.{Stored, held}
+use Rattle.tg_collect.specs.Stored.{Stored}
+use Rattle.tg_collect.specs.Readings.{held}
 
 -- labels do not depend on the next serial
 pub label_next : (s : Stored) (n m x y : ℕ) → label (held s n) x y ≡ label (held s m) x y

@@ -20,8 +20,10 @@ use Rattle.tg_graph.proofs.PartsStayLemmas.{part_stays}
 use Rattle.tg_graph.proofs.RepliesAgreeLemmas.{same_reply}
 use Rattle.tg_graph.proofs.VertexLemmas.{IsVertex-from_kind}
 use Rattle.tg_vault.specs.declared.entry.Entry.{Entry}
-use Rattle.tg_collect.specs.Stored.{Stored, held}
-use Rattle.tg_collect.specs.Views.{IsStore, IsRootIn, InSet}
+use Rattle.tg_collect.specs.Stored.{Stored}
+use Rattle.tg_collect.specs.Readings.{held, IsRootIn, IsParkedIn, pending, free_slots}
+use Rattle.tg_collect.specs.Views.{IsStore}
+use Rattle.tg_collect.proofs.GraphLemmas.{acted_parked}
 use Rattle.tg_vault.specs.History.{IsPrincipal}
 use Rattle.tg_vault.specs.World.{at_seat, new_target, target_of, with_target, slots_taken, entered, Enters}
 use Rattle.tg_vault.specs.Contents.{Contents, IsVault, graph_now, held_now, moment}
@@ -32,7 +34,7 @@ use Rattle.tg_vault.specs.Agreement.{SameForAgreeing, JudgedAlike, IsOfGraph}
 use Rattle.tg_vault.specs.Told.{told}
 use Rattle.tg_vault.specs.CarriedOut.{CarriedOut, Decided, CellsMoved, EdgeMoves, new_serial}
 use Rattle.tg_vault.proofs.HistoryLemmas.{graph_of_more, along_more, told_outcome}
-use Rattle.tg_vault.proofs.DecidedLemmas.{graph_is, held_is, actor_held, actor_subject, root_is, entitled_held, decided_so, replied_so, decided_permitted, exact_slots, exact_full}
+use Rattle.tg_vault.proofs.DecidedLemmas.{IsActor, graph_is, held_is, principal_acts, actor_held, entitled_held, decided_so, replied_so, decided_permitted, exact_slots, exact_full}
 use Rattle.tg_vault.proofs.CountLemmas.{next_same, target_same, vertex_stays, vertices_counted, edges_counted}
 
 judged_alike : (G K : Protection) (f g x : ℕ) (c : Command) (o : Outcome) → Agree G K x → Decided G f g x c o → JudgedAlike K x c o
@@ -82,30 +84,29 @@ new_is_next next x c (outcome.Denied rule cause) y is = absurd (cc is)
 new_is_next next x c (outcome.Full w) y is = absurd (cc is)
 
 -- the labels that change are the same in both
-module _ (v : Contents) (j : Ties v) (store : IsStore v.store) (x : ℕ) (principal : IsPrincipal v.opening x) (before after : ℕ) where
-  done_moves : (d : Does) → Entitled (held_now v) (IsVertex (held_now v)) (λ w z k e. edge_to (held_now v) (held_is v j store) w z e) x (actor_held v j store x principal) d →
+module _ (v : Contents) (j : Ties v) (store : IsStore v.store) (x : ℕ) (actor : IsActor v x) (before after : ℕ) where
+  done_moves : (d : Does) → Entitled (held_now v) (IsVertex (held_now v)) (λ w z k e. edge_to (held_now v) (held_is v j store) w z e) x (actor_held v j store x actor) d →
       EdgeMoves (held_now v) before after x d → EdgeMoves (graph_now v) before after x d
   done_moves (effect.Joins from α to) h moved = subst (λ l. after + edges_at (joined l α) ≡ before + edges_at l) (sym (j.part.labels from to h.0)) moved
   done_moves (effect.Makes k α) h moved = moved
-  done_moves (effect.Drops α over) h moved = subst (λ l. after + edges_at (without l α) ≡ before + edges_at l) (sym (j.part.labels x over (actor_held v j store x principal))) moved
+  done_moves (effect.Drops α over) h moved = subst (λ l. after + edges_at (without l α) ≡ before + edges_at l) (sym (j.part.labels x over (actor_held v j store x actor))) moved
   done_moves (effect.Rewrites over text) h moved = moved
   done_moves (effect.Tells over) h moved = moved
   done_moves (effect.Lists at) h moved = moved
 
   moved_so : (c : Command) (o : Outcome) → (o ≡ outcome.Allowed → Allowed (held_now v) x c) → CellsMoved (held_now v) before after x c o → CellsMoved (graph_now v) before after x c o
-  moved_so c outcome.Allowed a moved = done_moves (terms x c).does (entitled_held v j store x principal c (a refl)) moved
+  moved_so c outcome.Allowed a moved = done_moves (terms x c).does (entitled_held v j store x actor c (a refl)) moved
   moved_so c (outcome.Denied rule cause) a moved = moved
   moved_so c (outcome.Full w) a moved = moved
 
 -- what is free is at most all
-pub free_few : (v : Contents) → Ties v → IsStore v.store → v.store.free_slots ≤ v.limits.slots
-free_few v j counted = let all = counted.slots 0 in let many = j.slots in omega arith
+pub free_few : (v : Contents) → Ties v → IsStore v.store → free_slots v.store ≤ v.limits.slots
+free_few v j store = let all = store.slots 0 in let many = j.slots in omega arith
 
 -- a command was carried out in the store of a vault
 pub record Serving (v : Contents) (seat x : ℕ) (c : Command) (answer : Reply) (t : Stored) (after : ℕ) : Type 0 where
   pub joins : Ties v
   pub store : IsStore v.store
-  pub counted : IsStore v.store
   pub within : seat < 64
   pub seated : at_seat v.seats seat ≡ Some x
   pub carried : CarriedOut v.store t (graph_now v).next after seat x c answer
@@ -133,29 +134,32 @@ module _ (v : Contents) (seat x : ℕ) (c : Command) (answer : Reply) (t : Store
   principal : IsPrincipal v.opening x
   principal = j.vault.seated seat x s.seated
 
+  actor : IsActor v x
+  actor = principal_acts v j s.store x principal
+
   in_G : IsGraph G
   in_G = graph_is v j s.store
 
   x_in : IsVertex H x
-  x_in = actor_held v j s.store x principal
+  x_in = actor_held v j s.store x actor
 
   x_in_G : IsVertex G x
-  x_in_G = IsVertex-from_kind G x _ (actor_subject v j s.store x principal)
+  x_in_G = IsVertex-from_kind G x _ actor.subject
 
-  decided : Decided G v.store.free_slots v.store.free_cells x c o
-  decided = decided_so v j s.store x principal c v.store.free_slots v.store.free_cells o s.carried.decided
+  decided : Decided G (free_slots v.store) v.store.free_cells x c o
+  decided = decided_so v j s.store x actor c (free_slots v.store) v.store.free_cells o s.carried.decided
 
   allowed : o ≡ outcome.Allowed → Allowed G x c
-  allowed = allowed_of G v.store.free_slots v.store.free_cells x c o decided
+  allowed = allowed_of G (free_slots v.store) v.store.free_cells x c o decided
 
   allowed_held : o ≡ outcome.Allowed → Allowed H x c
-  allowed_held = allowed_of H v.store.free_slots v.store.free_cells x c o s.carried.decided
+  allowed_held = allowed_of H (free_slots v.store) v.store.free_cells x c o s.carried.decided
 
   permitted : Permitted v.limits G x c o
-  permitted = decided_permitted v.limits G v.store.free_slots v.store.free_cells x c o j.many_slots j.many_cells decided
+  permitted = decided_permitted v.limits G (free_slots v.store) v.store.free_cells x c o j.many_slots j.many_cells decided
 
   replied : answer ≡ reply_of G x c o
-  replied = s.carried.replied ∙ replied_so v j s.store x principal c o (judged_or H v.store.free_slots v.store.free_cells x c o s.carried.decided)
+  replied = s.carried.replied ∙ replied_so v j s.store x actor c o (judged_or H (free_slots v.store) v.store.free_cells x c o s.carried.decided)
 
   graph_left : graph_now left ≡ next_graph G x c o
   graph_left = graph_of_more v.opening v.history e
@@ -171,19 +175,19 @@ module _ (v : Contents) (seat x : ℕ) (c : Command) (answer : Reply) (t : Store
     world = record {
       graph = graph_left i;
       seats = v.seats;
-      pending = (s.carried.pending ∙ ap (with_target v.store.pending seat) target_is) i;
+      pending = (s.carried.pending ∙ ap (with_target (pending v.store) seat) target_is) i;
       used = used i;
     };
     history = v.history ++ e ∷ [];
   } where
-    used : v.limits.slots - t.free_slots ≡ v.limits.slots - v.store.free_slots + slots_taken x c o
-    used = let few = free_few v j s.counted in let moved = s.carried.slots in omega arith
+    used : v.limits.slots - free_slots t ≡ v.limits.slots - free_slots v.store + slots_taken x c o
+    used = let few = free_few v j s.store in let moved = s.carried.slots in omega arith
 
   pub serving_enters : Enters v.limits (moment v) seat x c answer (moment left)
   serving_enters = record {
     outcome = o;
     permitted = permitted;
-    exact = exact_slots v.limits (moment v).world v.store.free_slots v.store.free_cells x c o refl (free_few v j s.counted) decided;
+    exact = exact_slots v.limits (moment v).world (free_slots v.store) v.store.free_cells x c o refl (free_few v j s.store) decided;
     replied = replied;
     left = moment_left;
   }
@@ -192,12 +196,12 @@ module _ (v : Contents) (seat x : ℕ) (c : Command) (answer : Reply) (t : Store
   serving_same = record {
     entry = e;
     added = refl;
-    outcome = λ K agree. judged_alike G K v.store.free_slots v.store.free_cells x c o agree decided;
-    reply = λ K in_K agree other. replied ∙ alike G K v.store.free_slots v.store.free_cells x c o in_G in_K agree decided other;
+    outcome = λ K agree. judged_alike G K (free_slots v.store) v.store.free_cells x c o agree decided;
+    reply = λ K in_K agree other. replied ∙ alike G K (free_slots v.store) v.store.free_cells x c o in_G in_K agree decided other;
   }
 
   pub serving_exact : IsExact v left
-  serving_exact = record { entry = e; added = refl; full = λ w. exact_full G v.store.free_slots v.store.free_cells x c o w decided }
+  serving_exact = record { entry = e; added = refl; full = λ w. exact_full G (free_slots v.store) v.store.free_cells x c o w decided }
 
   pub serving_acts : SessionStep v left
   serving_acts = record {
@@ -205,7 +209,7 @@ module _ (v : Contents) (seat x : ℕ) (c : Command) (answer : Reply) (t : Store
     target = target_of H x c o;
     acted = s.carried.acted;
     next = λ y is. new_is_next (graph_now v).next x c o y is;
-    live = λ y is. target_live H (IsRootIn v.store) x (root_is v j s.store x principal) x_in c o allowed_held y is;
+    live = λ y is. target_live H (IsRootIn v.store) x actor.root x_in c o allowed_held y is;
   }
 
   still_vault : IsVault left
@@ -237,8 +241,9 @@ module _ (v : Contents) (seat x : ℕ) (c : Command) (answer : Reply) (t : Store
       vault = still_vault;
       opened = j.opened;
       part = still_part;
-      parked = λ y h. subst (λ (K : Protection). IsVertex K y) (sym graph_left) (vertex_stays G in_G x x_in_G c o allowed y (j.parked y (subst (λ p. InSet p y) s.carried.acted.parked h)));
+      parked = λ y h. subst (λ (K : Protection). IsVertex K y) (sym graph_left) (vertex_stays G in_G x x_in_G c o allowed y (j.parked y (acted_parked s.carried.acted y h)));
       principals = λ y. subst (λ (ps : List ℕ). Contains ps y ↔ IsPrincipal v.opening y) (sym s.carried.acted.principals) (j.principals y);
+      agents = λ k. ap (λ table. at_seat table k) s.carried.acted.agents ∙ j.agents k;
       slots = s.carried.acted.slots ∙ j.slots;
       cells = s.carried.acted.cells ∙ j.cells;
       many_slots =
@@ -249,7 +254,7 @@ module _ (v : Contents) (seat x : ℕ) (c : Command) (answer : Reply) (t : Store
       many_cells =
           let many = j.many_cells in
           let same = ap edge_count graph_left in
-          let counted = edges_counted G in_G x x_in_G c o v.store.free_cells t.free_cells allowed (moved_so v j s.store x principal v.store.free_cells t.free_cells c o allowed_held s.carried.cells) in
+          let counted = edges_counted G in_G x x_in_G c o v.store.free_cells t.free_cells allowed (moved_so v j s.store x actor v.store.free_cells t.free_cells c o allowed_held s.carried.cells) in
           omega arith;
     };
     serial = after_is;
@@ -259,7 +264,6 @@ module _ (v : Contents) (seat x : ℕ) (c : Command) (answer : Reply) (t : Store
 pub record Pushed (v : Contents) (next seat x : ℕ) (c : Command) (answer : Reply) (t : Stored) (after : ℕ) (decision : Outcome) (history : List Entry) : Type 0 where
   pub joined : IsTied v next
   pub store : IsStore v.store
-  pub counted : IsStore v.store
   pub within : seat < 64
   pub seated : at_seat v.seats seat ≡ Some x
   pub carried : CarriedOut v.store t next after seat x c answer
@@ -271,7 +275,6 @@ module _ (v : Contents) (next seat x : ℕ) (c : Command) (answer : Reply) (t : 
   serving = record {
     joins = p.joined.joins;
     store = p.store;
-    counted = p.counted;
     within = p.within;
     seated = p.seated;
     carried = subst (λ n. CarriedOut v.store t n after seat x c answer) p.joined.serial p.carried;
@@ -299,5 +302,5 @@ module _ (v : Contents) (next seat x : ℕ) (c : Command) (answer : Reply) (t : 
   pushed_acts = subst (λ (w : Contents). SessionStep v w) pushed_is (serving_acts v seat x c answer t after serving)
 
 -- no vertex that waits to be swept has the next serial
-pub next_unparked : (v : Contents) → Ties v → IsStore v.store → InSet v.store.parked (graph_now v).next → ⊥
+pub next_unparked : (v : Contents) → Ties v → IsStore v.store → IsParkedIn v.store (graph_now v).next → ⊥
 next_unparked v j store h = let below : (graph_now v).next < (graph_now v).next = (graph_is v j store).below_next (graph_now v).next (j.parked (graph_now v).next h) in absurd (omega arith)

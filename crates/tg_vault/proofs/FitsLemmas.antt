@@ -4,7 +4,8 @@ use Rattle.std.specs.Prelude.{Option}
 use Rattle.tg_rights.specs.Membership.{Contains}
 use Rattle.tg_graph.specs.Protection.{Protection, IsVertex}
 use Rattle.tg_graph.specs.Paths.{IsPart, Leads}
-use Rattle.tg_collect.specs.Views.{IsStore, IsRootIn}
+use Rattle.tg_collect.specs.Readings.{IsRootIn, pending}
+use Rattle.tg_collect.specs.Views.{IsStore}
 use Rattle.tg_vault.specs.World.{at_seat}
 use Rattle.tg_vault.specs.Contents.{Contents, graph_now, held_now, moment}
 use Rattle.tg_vault.specs.Fits.{Ties, Fits, IsRoot}
@@ -20,10 +21,10 @@ pub path_stays : (G H : Protection) → IsPart G H → (later : List ℕ) (x y :
 path_stays G H part [] x y h is = subst (IsVertex H) is h
 path_stays G H part (z ∷ zs) x y h leads = path_stays G H part zs z y (part.closed x z h leads.0) leads.1
 
-module _ (v : Contents) (j : Ties v) (s : IsStore v.store) (counted : IsStore v.store) where
+module _ (v : Contents) (j : Ties v) (s : IsStore v.store) where
   pub root_in : (x : ℕ) → IsRoot v.opening (moment v).world x → IsRootIn v.store x
   root_in x (inl principal) = inl ((j.principals x).1 principal)
-  root_in x (inr pending) = inr (seat_contains v.store.pending pending.0 x pending.1)
+  root_in x (inr target) = inr (inl (seat_contains (pending v.store) target.0 x target.1))
 
   pub fits_are : Fits v
   fits_are = record {
@@ -32,7 +33,7 @@ module _ (v : Contents) (j : Ties v) (s : IsStore v.store) (counted : IsStore v.
     live = λ x live. path_stays (graph_now v) (held_now v) j.part live.2.0 live.0 x (s.roots_held live.0 (root_in live.0 live.1)) live.2.1.1;
     apart = s.apart;
     of_graph = λ x slot. elim slot [ inl held ↦ of_graph v j s x held | inr parked ↦ j.parked x parked ];
-    slots = counted.slots (graph_now v).next ∙ j.slots;
-    few_cells = let few = counted.few_edges (graph_now v).next in let same = j.cells in omega arith;
+    slots = s.slots (graph_now v).next ∙ j.slots;
+    few_cells = let few = s.few_edges (graph_now v).next in let same = j.cells in omega arith;
     many_cells = j.many_cells;
   }

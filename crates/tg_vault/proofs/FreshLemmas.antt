@@ -20,16 +20,17 @@ use Rattle.tg_graph.proofs.FullnessLemmas.{length-keys}
 use Rattle.tg_graph.proofs.ProtectionLemmas.{edge_to}
 use Rattle.tg_graph.proofs.OpeningsFitLemmas.{len-subjects}
 use Rattle.tg_collect.proofs.FitLemmas.{openings_can_be_stored}
+use Rattle.tg_collect.proofs.GraphLemmas.{opened_graph, opened_phase, opened_subjects}
 use Rattle.tg_graph.proofs.LawsLemmas.{opened}
 use Rattle.tg_graph.proofs.CommandsKeepGraphsLemmas.{principal_is_subject, principals_are_few}
 use Rattle.tg_graph.proofs.VertexLemmas.{IsVertex-insert, IsVertex-from_kind}
-use Rattle.tg_collect.specs.Stored.{Stored, held}
+use Rattle.tg_collect.specs.Stored.{Stored}
+use Rattle.tg_collect.specs.Readings.{held, principals}
 use Rattle.tg_collect.specs.Views.{IsStore}
 use Rattle.tg_collect.specs.Openings.{IsOpening, Opened, first_serials}
 use Rattle.tg_vault.specs.World.{at_seat}
 use Rattle.tg_vault.specs.Contents.{Contents, IsFresh}
 use Rattle.tg_vault.specs.Fits.{IsTied}
-use Rattle.tg_vault.proofs.CollectLemmas.{same_part}
 
 -- an empty table has nobody at any seat
 nobody : (n seat x : ℕ) → at_seat (replicate n (let none : Option ℕ = None in none)) seat ≡ Some x → ⊥
@@ -72,17 +73,14 @@ module _ (c : Config) (G : Protection) (s : Stored) (is : G ≡ opening c) (soun
   abbrev fresh : Contents
   fresh = record { opening = G; names = c.principals.items; limits = record { slots = c.slots; cells = c.cells }; seats = replicate 64 None; store = s; history = [] }
 
-  same_vertices : G.vertices ≡ subjects o.count
-  same_vertices = sym o.vertices ∙ o.opens.vertices
-
-  principals : (x : ℕ) → Contains s.principals x ↔ IsSubject G x
-  principals x = (
-    λ h. ap (λ m. option_map (λ (e : Vertex). e.kind) (map.get m x)) same_vertices ∙ first_subject o.count x (subst (λ ps. Contains ps x) o.opens.principals h),
-    λ h. subst (λ ps. Contains ps x) (sym o.opens.principals) (subject_first o.count x (ap (λ m. map.contains_key m x) (sym same_vertices) ∙ IsVertex-from_kind G x kind.Subject h)),
+  principals_are : (x : ℕ) → Contains (principals s) x ↔ IsSubject G x
+  principals_are x = (
+    λ h. ap (λ m. option_map (λ (e : Vertex). e.kind) (map.get m x)) (opened_subjects o) ∙ first_subject o.count x (subst (λ ps. Contains ps x) o.opens.principals h),
+    λ h. subst (λ ps. Contains ps x) (sym o.opens.principals) (subject_first o.count x (ap (λ m. map.contains_key m x) (sym (opened_subjects o)) ∙ IsVertex-from_kind G x kind.Subject h)),
   )
 
   counted : vertex_count G ≡ o.count
-  counted = ap (λ m. length (map.keys m)) same_vertices ∙ length-keys (subjects o.count) ∙ len-subjects o.count
+  counted = ap (λ m. length (map.keys m)) (opened_subjects o) ∙ length-keys (subjects o.count) ∙ len-subjects o.count
 
   pub fresh_joined : IsTied fresh c.next
   fresh_joined = record {
@@ -96,15 +94,16 @@ module _ (c : Config) (G : Protection) (s : Stored) (is : G ≡ opening c) (soun
         seated = λ seat x at. absurd (nobody 64 seat x at);
       };
       opened = g;
-      part = same_part G (record s { vertices = G.vertices; triples = G.triples }) s G.next o.vertices o.triples (part_itself G g);
+      part = subst (λ H. IsPart G H) (sym (opened_graph o)) (part_itself G g);
       parked = λ x h. absurd (o.parked x h);
-      principals = principals;
+      principals = principals_are;
+      agents = o.opens.agents;
       slots = o.opens.slots;
       cells = o.opens.cells;
       many_slots = let all = o.opens.free in let many = counted in omega arith;
       many_cells =
           let all = store.all_cells o.parked G.next in
-          let same : edge_count (held s G.next) ≡ edge_count G = λ i. edge_count (record { vertices = o.vertices i; next = G.next; triples = o.triples i }) in
+          let same : edge_count (held s G.next) ≡ edge_count G = ap edge_count (opened_graph o) in
           let cells = o.opens.cells in
           omega arith;
     };
@@ -118,8 +117,8 @@ module _ (c : Config) (G : Protection) (s : Stored) (is : G ≡ opening c) (soun
     limits = refl;
     seats = refl;
     history = refl;
-    held = (λ i. record { vertices = o.vertices i; next = G.next; triples = o.triples i }) ∙ is;
+    held = opened_graph o ∙ is;
     unparked = o.parked;
-    phase = o.opens.phase;
+    phase = opened_phase o;
     idle = o.opens.idle;
   }

@@ -15,7 +15,7 @@ use Rattle.tg_vault.specs.Laws.{CoursesHaveTheHeadline}
 use Rattle.tg_vault.specs.Contents.{graph_now}
 use Rattle.tg_vault.specs.Course.{IsCoherent}
 use Rattle.tg_vault.specs.Fits.{Fits}
-use Rattle.tg_collect.specs.StoreRuns as store_runs
+use Rattle.tg_collect.specs.Runs as runs
 use Rattle.tg_vault.proofs.AddedLemmas.{runs_add}
 use Rattle.tg_vault.proofs.CourseLemmas.{course_run}
 use Rattle.tg_vault.proofs.CycleLemmas.{course_complete, course_bounded, course_coherent}
@@ -68,10 +68,10 @@ each_carried_out limits = each (IsCarriedOutWhenAllowed limits) limits (carried_
 each_denied : (limits : Limits) (G : Protection) (es : List Entry) (H : Protection) → EntryRun limits G es H → EachEntry IsDenialNamed G es
 each_denied limits = each IsDenialNamed limits (denied limits)
 
-pub courses_have_the_headline : store_runs.IsComplete → store_runs.IsBounded → CoursesHaveTheHeadline
+pub courses_have_the_headline : runs.IsComplete → runs.IsBounded → CoursesHaveTheHeadline
 courses_have_the_headline complete bounded old es answers new coherent course =
     let end : IsCoherent new = course_coherent old es answers new coherent course in
-    let fits : Fits new = fits_are new end.ties end.store end.store in (
+    let fits : Fits new = fits_are new end.ties end.store in (
       record {
         run = course_run old es answers new course;
         added = runs_add old es answers new (course_run old es answers new course);

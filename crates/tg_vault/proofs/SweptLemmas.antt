@@ -9,7 +9,7 @@ use Rattle.tg_vault.specs.declared.event.Event.{Event}
 use Rattle.tg_vault.specs.declared.event.Event.TheVariants as event
 use Rattle.tg_vault.specs.declared.event.Answer.{Answer}
 use Rattle.tg_vault.specs.declared.event.Answer.TheVariants as answer
-use Rattle.tg_collect.specs.Stored.{cycle_bound}
+use Rattle.tg_collect.specs.Readings.{cycle_bound, slot_count, free_slots}
 use Rattle.tg_vault.specs.Contents.{Contents}
 use Rattle.tg_vault.specs.Fits.{IsSmall}
 use Rattle.tg_vault.specs.Course.{Course, VaultStep, IsCoherent}
@@ -29,7 +29,7 @@ pub record SoFar (v w : Contents) (freed steps : ℕ) : Type 0 where
   pub none : All (λ n. n.ended ≡ false) notes
   pub freed_is : freed ≡ sum_by (λ n. n.freed) notes
   pub steps_are : steps ≡ length notes
-  pub slots : v.store.free_slots + freed ≡ w.store.free_slots
+  pub slots : free_slots v.store + freed ≡ free_slots w.store
   pub left : steps + w.store.left ≤ v.store.left
   pub coherent : IsCoherent w
   pub small : IsSmall w
@@ -77,7 +77,7 @@ module _ (v w u : Contents) (freed steps : ℕ) (note : Note) (s : SoFar v w fre
     pub few_steps : steps + 1 ≤ cycle_bound v.limits.slots v.limits.cells
     few_steps =
         let most = coherent.store.most_left in
-        let bound : cycle_bound (length v.store.marks) v.store.cells ≡ cycle_bound v.limits.slots v.limits.cells = λ i. cycle_bound (coherent.ties.slots i) (coherent.ties.cells i) in
+        let bound : cycle_bound (slot_count v.store) v.store.cells ≡ cycle_bound v.limits.slots v.limits.cells = λ i. cycle_bound (coherent.ties.slots i) (coherent.ties.cells i) in
         let below = steps_below in
         omega (arith, most, bound, below)
 

@@ -14,10 +14,9 @@ use Rattle.tg_graph.specs.Terms.{Does, terms}
 use Rattle.tg_graph.specs.Protection.{Protection, label}
 use Rattle.tg_graph.specs.Rules.{Allowed, Denied, is_new, last_serial, next_graph, reply_of}
 use Rattle.tg_graph.specs.Fullness.{NewEdge, edges_at}
-use Rattle.tg_collect.specs.Stored.{Stored, held}
-use Rattle.tg_collect.specs.Views.{IsEdgeIn}
-use Rattle.tg_collect.specs.Sessions.{EdgeStored, VertexStored}
-use Rattle.tg_collect.specs.StoreRuns.{Acted}
+use Rattle.tg_collect.specs.Stored.{Stored}
+use Rattle.tg_collect.specs.Readings.{held, IsEdgeIn, pending, free_slots}
+use Rattle.tg_collect.specs.Sessions.{EdgeStored, VertexStored, Acted}
 use Rattle.tg_vault.specs.World.{target_of, with_target, slots_taken}
 
 -- the first of serials, slots and cells that an effect needs and that is used up
@@ -68,12 +67,12 @@ copies (effect.Lists at) = true
 -- the command of x, from the seat, was decided and carried out in the store, with this reply
 pub record CarriedOut (s t : Stored) (next after seat x : ℕ) (c : Command) (answer : Reply) : Type 0 where
   pub outcome : Outcome
-  pub decided : Decided (held s next) s.free_slots s.free_cells x c outcome
+  pub decided : Decided (held s next) (free_slots s) s.free_cells x c outcome
   pub replied : answer ≡ reply_of (held s next) x c outcome
   pub graph : held t after ≡ next_graph (held s next) x c outcome
-  pub pending : t.pending ≡ with_target s.pending seat (target_of (held s next) x c outcome)
+  pub pending : pending t ≡ with_target (pending s) seat (target_of (held s next) x c outcome)
   pub acted : Acted s t (new_serial next x c outcome) (target_of (held s next) x c outcome)
-  pub slots : s.free_slots ≡ t.free_slots + slots_taken x c outcome
+  pub slots : free_slots s ≡ free_slots t + slots_taken x c outcome
   pub cells : CellsMoved (held s next) s.free_cells t.free_cells x c outcome
 
 -- an edge from x to y gained rights, or no cell was free for it
@@ -85,8 +84,8 @@ Joined v w seat x y rights _ = ⊥
 -- what a new vertex needs first and is used up
 abbrev pub NoRoom : Stored → ℕ → Which → Type 0
 NoRoom v next which.Serials = last_serial < next
-NoRoom v next which.Slots = (next ≤ last_serial) × (v.free_slots ≡ 0)
-NoRoom v next which.Cells = (next ≤ last_serial) × (v.free_slots ≢ 0) × (v.free_cells ≡ 0)
+NoRoom v next which.Slots = (next ≤ last_serial) × (free_slots v ≡ 0)
+NoRoom v next which.Cells = (next ≤ last_serial) × (free_slots v ≢ 0) × (v.free_cells ≡ 0)
 
 -- a vertex was added, with the rights of x over it, or there was no room for it
 abbrev pub Made : (v w : Stored) → (next after seat x : ℕ) → Kind → Letters → Reply → Type 0

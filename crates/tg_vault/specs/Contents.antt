@@ -1,7 +1,6 @@
 -- what the layers above see of a vault
 use Rattle.std.specs.Prelude.{◌≡◌, ◌<◌, ◌≤◌, ℕ, ◌-◌, true, List, [], length, Option, Some, None, All, refl, replicate}
 use Rattle.std.specs.Coded.{Coded, code_by, coded×, coded_ℕ, coded_list, coded_option}
-use Rattle.std.specs.FinSet as set
 use Rattle.tg_rights.specs.declared.limits.TheConstants.{MAX_PRINCIPALS, SEATS}
 use Rattle.tg_graph.specs.Protection.{Protection}
 use Rattle.tg_graph.specs.declared.config.Config.{Config}
@@ -9,12 +8,14 @@ use Rattle.tg_graph.specs.Fullness.{Limits}
 use Rattle.tg_graph.specs.Opening.{is_principal}
 use Rattle.tg_graph.specs.Opening as config
 use Rattle.tg_graph.specs.Codes.{protection_code}
-use Rattle.tg_collect.specs.Stored.{Stored, held}
+use Rattle.tg_collect.specs.Stored.{Stored}
+use Rattle.tg_collect.specs.Readings.{held, IsParkedIn, pending, pending_of, free_slots, phase}
 use Rattle.tg_collect.specs.contracts.store.Store as store
 use Rattle.tg_vault.specs.declared.entry.Entry.{Entry}
 use Rattle.tg_vault.specs.contracts.entry.Entry as entry
 use Rattle.tg_vault.specs.declared.event.Event.{Event}
 use Rattle.tg_vault.specs.declared.event.Answer.{Answer}
+use Rattle.tg_vault.specs.declared.vault.Vault.TheInside.{Inside}
 use Rattle.tg_collect.specs.declared.note.Phase.TheVariants.{Idle}
 use Rattle.tg_vault.specs.History.{Legal, IsPrincipal, graph_of}
 use Rattle.tg_vault.specs.World.{Moment, Step, Run, at_seat}
@@ -39,6 +40,17 @@ contents_code =
     (λ v. (v.opening, (v.names, (v.limits, (v.seats, (v.store, v.history))))))
     (λ p. record { opening = p.0; names = p.1.0; limits = p.1.1.0; seats = p.1.1.1.0; store = p.1.1.1.1.0; history = p.1.1.1.1.1 }) (λ _. refl)
 
+-- the contents of a vault as it lies in memory
+abbrev pub contents : Inside → Contents
+contents v = record {
+  opening = v.opening;
+  names = v.names.items;
+  limits = record { slots = v.slots; cells = v.cells };
+  seats = v.seats.items;
+  store = v.store;
+  history = v.history.items;
+}
+
 -- the graph of the history
 abbrev pub graph_now : Contents → Protection
 graph_now v = graph_of v.opening v.history
@@ -49,7 +61,7 @@ held_now v = held v.store (graph_now v).next
 
 -- the world of the vault, with its entries
 abbrev pub moment : Contents → Moment
-moment v = record { world = record { graph = graph_now v; seats = v.seats; pending = v.store.pending; used = v.limits.slots - v.store.free_slots }; history = v.history }
+moment v = record { world = record { graph = graph_now v; seats = v.seats; pending = pending v.store; used = v.limits.slots - free_slots v.store }; history = v.history }
 
 -- what no event changes
 pub record Keeps (old new : Contents) : Type 0 where
@@ -81,6 +93,6 @@ pub record IsFresh (c : Config) (v : Contents) : Type 0 where
   pub seats : v.seats ≡ replicate SEATS None
   pub history : v.history ≡ []
   pub held : held_now v ≡ config.opening c
-  pub unparked : (x : ℕ) → set.contains v.store.parked x ≡ true → ⊥
-  pub phase : v.store.phase ≡ Idle
-  pub idle : (seat : ℕ) → at_seat v.store.pending seat ≡ None
+  pub unparked : (x : ℕ) → IsParkedIn v.store x → ⊥
+  pub phase : phase v.store ≡ Idle
+  pub idle : (seat : ℕ) → pending_of v.store seat ≡ None

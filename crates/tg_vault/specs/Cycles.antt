@@ -9,7 +9,7 @@ use Rattle.tg_vault.specs.declared.event.Event.TheVariants as event
 use Rattle.tg_vault.specs.declared.event.Answer.{Answer}
 use Rattle.tg_vault.specs.declared.event.Answer.TheVariants as answer
 use Rattle.tg_vault.specs.declared.vault.Swept.{Swept}
-use Rattle.tg_collect.specs.Stored.{cycle_bound}
+use Rattle.tg_collect.specs.Readings.{cycle_bound, phase}
 use Rattle.tg_vault.specs.World.{Moment, Run}
 use Rattle.tg_vault.specs.Contents.{Contents, moment}
 use Rattle.tg_vault.specs.Fits.{IsRoot, HasSlot}
@@ -50,7 +50,7 @@ pub record IsBetween (old : Contents) (es : List Event) (front rest : List Answe
 -- or has a serial that was not below the next one at that time
 abbrev pub IsComplete : Contents → List Event → List Answer → Contents → Type 0
 IsComplete old es answers new =
-    (front back : List Answer) (note : Note) → answers ≡ front ++ answer.Noted note ∷ back → phase_after old.store.phase front ≡ Idle → 2 ≤ ended_in (answer.Noted note ∷ back) →
+    (front back : List Answer) (note : Note) → answers ≡ front ++ answer.Noted note ∷ back → phase_after (phase old.store) front ≡ Idle → 2 ≤ ended_in (answer.Noted note ∷ back) →
     (m : Moment) × IsBetween old es front (answer.Noted note ∷ back) new m × ((x : ℕ) → HasSlot new x → Live m.world.graph (IsRoot old.opening m.world) x ⊎ (m.world.graph.next ≤ x))
 
 -- among this many collector steps in a row one ends a cycle

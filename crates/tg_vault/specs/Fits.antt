@@ -1,12 +1,11 @@
 -- what is stored fits the graph of the history
-use Rattle.std.specs.Prelude.{◌≡◌, ◌↔◌, ◌≤◌, ℕ, ◌+◌, length, Some, ◌⊎◌}
-use Rattle.std.specs.FinSet as set
+use Rattle.std.specs.Prelude.{◌≡◌, ◌↔◌, ◌≤◌, ℕ, ◌+◌, Some, None, ◌⊎◌}
 use Rattle.tg_rights.specs.declared.limits.TheConstants.{MAX_CELLS, MAX_SLOTS}
 use Rattle.tg_rights.specs.Membership.{Contains}
 use Rattle.tg_graph.specs.Fullness.{vertex_count, edge_count}
 use Rattle.tg_graph.specs.Paths.{IsPart, Live}
 use Rattle.tg_graph.specs.Protection.{Protection, IsGraph, IsVertex}
-use Rattle.tg_collect.specs.Views.{InSet, IsHeldIn}
+use Rattle.tg_collect.specs.Readings.{IsHeldIn, IsParkedIn, agents, parked_count, principals, slot_count, free_slots}
 use Rattle.tg_vault.specs.History.{Legal, IsPrincipal}
 use Rattle.tg_vault.specs.World.{World, at_seat}
 use Rattle.tg_vault.specs.Contents.{Contents, IsVault, graph_now, held_now, moment}
@@ -17,18 +16,19 @@ IsRoot opening w x = IsPrincipal opening x ⊎ ((seat : ℕ) × (at_seat w.pendi
 
 -- a vertex has a slot: it is held, or parked until the sweep comes to it
 abbrev pub HasSlot : Contents → ℕ → Type 0
-HasSlot v x = IsHeldIn v.store x ⊎ InSet v.store.parked x
+HasSlot v x = IsHeldIn v.store x ⊎ IsParkedIn v.store x
 
 -- what a vault keeps besides what its store keeps of itself
 pub record Ties (v : Contents) : Type 0 where
   pub vault : IsVault v
   pub opened : IsGraph v.opening
   pub part : IsPart (graph_now v) (held_now v)
-  pub parked : (x : ℕ) → InSet v.store.parked x → IsVertex (graph_now v) x
-  pub principals : (x : ℕ) → Contains v.store.principals x ↔ IsPrincipal v.opening x
-  pub slots : length v.store.marks ≡ v.limits.slots
+  pub parked : (x : ℕ) → IsParkedIn v.store x → IsVertex (graph_now v) x
+  pub principals : (x : ℕ) → Contains (principals v.store) x ↔ IsPrincipal v.opening x
+  pub agents : (seat : ℕ) → at_seat (agents v.store) seat ≡ None
+  pub slots : slot_count v.store ≡ v.limits.slots
   pub cells : v.store.cells ≡ v.limits.cells
-  pub many_slots : v.limits.slots ≤ v.store.free_slots + vertex_count (graph_now v)
+  pub many_slots : v.limits.slots ≤ free_slots v.store + vertex_count (graph_now v)
   pub many_cells : v.limits.cells ≤ v.store.free_cells + edge_count (graph_now v)
 
 -- and the next serial is that of the graph
@@ -49,8 +49,8 @@ pub record Fits (v : Contents) : Type 0 where
   pub legal : Legal v.limits v.opening v.history (graph_now v)
   pub part : IsPart (graph_now v) (held_now v)
   pub live : (x : ℕ) → Live (graph_now v) (IsRoot v.opening (moment v).world) x → IsHeldIn v.store x
-  pub apart : (x : ℕ) → IsHeldIn v.store x → InSet v.store.parked x → ⊥
+  pub apart : (x : ℕ) → IsHeldIn v.store x → IsParkedIn v.store x → ⊥
   pub of_graph : (x : ℕ) → HasSlot v x → IsVertex (graph_now v) x
-  pub slots : v.store.free_slots + vertex_count (held_now v) + set.len v.store.parked ≡ v.limits.slots
+  pub slots : free_slots v.store + vertex_count (held_now v) + parked_count v.store ≡ v.limits.slots
   pub few_cells : v.store.free_cells + edge_count (held_now v) ≤ v.limits.cells
   pub many_cells : v.limits.cells ≤ v.store.free_cells + edge_count (graph_now v)

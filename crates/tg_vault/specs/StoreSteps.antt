@@ -5,8 +5,9 @@ use Rattle.tg_vault.specs.declared.event.Event.{Event}
 use Rattle.tg_vault.specs.declared.event.Event.TheVariants as event
 use Rattle.tg_vault.specs.declared.event.Answer.{Answer}
 use Rattle.tg_vault.specs.declared.event.Answer.TheVariants as answer
-use Rattle.tg_collect.specs.Views.{IsRootIn, Collected}
-use Rattle.tg_collect.specs.StoreRuns.{Acted}
+use Rattle.tg_collect.specs.Readings.{IsRootIn, phase}
+use Rattle.tg_collect.specs.Views.{Collected}
+use Rattle.tg_collect.specs.Sessions.{Acted}
 use Rattle.tg_vault.specs.Contents.{Contents, graph_now, held_now}
 use Rattle.tg_vault.specs.Exact.{IsExact}
 
@@ -34,7 +35,7 @@ StoreAnswer old _ _ new = ⊥
 
 -- a collector step and the phase after it for a collect, a session step for any other event
 abbrev pub StoreStep : Contents → Event → Answer → Contents → Type 0
-StoreStep old event.Collect (answer.Noted note) new = Collected old.store new.store note.freed note.ended × (note.phase ≡ new.store.phase)
+StoreStep old event.Collect (answer.Noted note) new = Collected old.store new.store note.freed note.ended × (note.phase ≡ phase new.store)
 StoreStep old event.Collect _ new = ⊥
 StoreStep old (event.Hello seat name) a new = SessionStep old new
 StoreStep old (event.Bye seat) a new = SessionStep old new

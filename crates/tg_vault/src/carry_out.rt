@@ -1,16 +1,13 @@
 //! Carrying out what the rules allow in the store.
 ghost use Rattle.std.specs.Prelude.{◌≡◌, ◌≢◌, ◌<◌, ◌+◌, ℕ, List, IfOk, OnErr, OnOk, IsSome, Some, None, true, false};
 ghost use Rattle.tg_rights.specs.Letters.{is_none, includes};
-ghost use Rattle.tg_rights.specs.Membership.{Contains};
 ghost use Rattle.tg_rights.specs.declared.limits.TheConstants.{SEATS};
 ghost use Rattle.tg_rights.specs.declared.outcome.Reply.TheVariants as reply;
 ghost use Rattle.tg_graph.specs.Protection.{label};
 ghost use Rattle.tg_graph.specs.Rules.{Allowed, edges_of, text_of};
 ghost use Rattle.tg_graph.specs.Terms.{terms, text_in};
-ghost use Rattle.tg_collect.specs.Stored.{held};
-ghost use Rattle.tg_collect.specs.Views.{InSet, IsEdgeIn, IsHeldIn, place, serial_at};
-ghost use Rattle.tg_collect.specs.Sessions.{pending_of, RightsRemoved, TextReplaced};
-ghost use Rattle.tg_collect.specs.StoreRuns.{Acted};
+ghost use Rattle.tg_collect.specs.Readings.{held, IsEdgeIn, IsHeldIn, IsParkedIn, pending_of, place, serial_at};
+ghost use Rattle.tg_collect.specs.Sessions.{RightsRemoved, TextReplaced, Acted};
 ghost use Rattle.tg_vault.specs.CarriedOut.{Joined, Made, CarriedOut, copies};
 
 use std::alloc::{AllocError, Global};
@@ -50,7 +47,7 @@ fn make(
     requires source { IsSome (place store.old id) }
     requires some { is_none rights ≡ false }
     requires unheld { IsHeldIn store.old next.old → ⊥ }
-    requires unparked { InSet store.old.parked next.old → ⊥ }
+    requires unparked { IsParkedIn store.old next.old → ⊥ }
     ensures { Made store.old store.new next.old next.new seat (serial_at store.old id) kind rights result }
 {
     if *next > LAST_SERIAL {
@@ -116,7 +113,7 @@ fn list(store: &Store, alloc: Global, of: u32) -> Result<Reply, AllocError>
     Ok(Reply::Edges(EdgeList::new(edges)))
 }
 
-/// Decides the principal's command, carries it out if the rules allow it and nothing that it needs is used up, and
+/// Decides the actor's command, carries it out if the rules allow it and nothing that it needs is used up, and
 /// returns the reply. `AllocError` leaves everything as it was; it occurs only for an allowed command that copies a
 /// text or a list, so never for a denial.
 pub fn answer(
@@ -124,32 +121,26 @@ pub fn answer(
     next: &mut u64,
     alloc: Global,
     seat: u64,
-    actor: u64,
+    actor: Spot<u32>,
     command: &Command,
 ) -> Result<Reply, AllocError>
     requires seat { seat < SEATS }
     requires idle { pending_of store.old seat ≡ None }
-    requires principal { Contains store.old.principals actor }
+    requires actor { place store.old actor.place ≡ Some actor.serial }
     requires unheld { IsHeldIn store.old next.old → ⊥ }
-    requires unparked { InSet store.old.parked next.old → ⊥ }
-    ensures carried { IfOk result (λ answer. CarriedOut store.old store.new next.old next.new seat actor command.now answer) }
-    ensures needed { OnErr result (Allowed (held store.old next.old) actor command.now) }
-    ensures memory { OnErr result (copies (terms actor command.now).does ≡ true) }
+    requires unparked { IsParkedIn store.old next.old → ⊥ }
+    ensures carried { IfOk result (λ answer. CarriedOut store.old store.new next.old next.new seat actor.serial command.now answer) }
+    ensures needed { OnErr result (Allowed (held store.old next.old) actor.serial command.now) }
+    ensures memory { OnErr result (copies (terms actor.serial command.now).does ≡ true) }
     ensures unchanged { OnErr result (store.new ≡ store.old) }
     ensures same { OnErr result (next.new ≡ next.old) }
 {
-    let Some(id) = store.principal(actor) else {
-        unreachable!();
-    };
-    let spot = Spot {
-        serial: actor,
-        place: id,
-    };
-    let found = match decide(store, spot, command) {
+    let found = match decide(store, actor, command) {
         Ok(found) => found,
         Err(cause) => return Ok(Reply::Denied(command.rule(), cause)),
     };
-    match effect_of(actor, command) {
+    let id = actor.place;
+    match effect_of(actor.serial, command) {
         Effect::Joins { from, rights, to } => {
             let source = found.spot(from).place;
             let target = found.spot(to).place;

@@ -6,6 +6,7 @@ ghost use Rattle.tg_graph.specs.Opening.{opening, first_fault, IsRefusal};
 ghost use Rattle.tg_vault.specs.declared.entry.Entry.{Entry};
 ghost use Rattle.tg_vault.specs.declared.event.Event.TheVariants as event;
 ghost use Rattle.tg_vault.specs.declared.event.Answer.TheVariants as answer;
+ghost use Rattle.tg_collect.specs.Readings.{pending_of};
 ghost use Rattle.tg_collect.specs.Sessions.{Shaded};
 ghost use Rattle.tg_vault.specs.World.{at_seat, bye_fault, shade_fault, ask_refusal, Enters, IsAskFault};
 ghost use Rattle.tg_vault.specs.Contents.{Contents, StepOf, IsFresh, RunOf, Keeps, IsVault, moment};
@@ -27,7 +28,7 @@ use crate::seats::{at_seat, empty_seats, principal_named};
 use std::alloc::{AllocError, Global};
 use std::marker::Model;
 use tg_collect::{Key, Note, Store};
-use tg_graph::{Config, Graph, OpenFault};
+use tg_graph::{Config, Graph, OpenFault, Spot};
 use tg_rights::{Command, Outcome, Reply, SEATS, Word};
 
 /// The whole state of the server: the opening graph with its principals' names, the seats, the store with its collector
@@ -50,16 +51,16 @@ pub struct Vault {
 }
 
 impl Model for Vault {
-    ghost use Rattle.tg_vault.specs.Contents.{Contents, contents_code};
+    ghost use Rattle.tg_vault.specs.Contents.{Contents, contents, contents_code};
     ghost use Rattle.tg_vault.specs.Fits.{IsTied};
 
     ghost Value = { Contents };
 
     ghost coded = { contents_code };
 
-    ghost view = { λ v. record { opening = v.opening; names = v.names.items; limits = record { slots = v.slots; cells = v.cells }; seats = v.seats.items; store = v.store; history = v.history.items } };
+    ghost view = { λ v. contents v };
 
-    ghost invariant = { λ v. IsTied (record { opening = v.opening; names = v.names.items; limits = record { slots = v.slots; cells = v.cells }; seats = v.seats.items; store = v.store; history = v.history.items }) v.next };
+    ghost invariant = { λ v. IsTied (contents v) v.next };
 }
 
 /// What the collector steps of a cycle did.
@@ -222,7 +223,7 @@ impl Vault {
 
     /// The principal at the seat, if no target is pending there.
     fn idle_at(&self, seat: u64) -> Result<u64, SeatFault>
-        ensures ok { IfOk result (λ x. (seat < SEATS) × (at_seat self.now.seats seat ≡ Some x) × (at_seat self.now.store.pending seat ≡ None)) }
+        ensures ok { IfOk result (λ x. (seat < SEATS) × (at_seat self.now.seats seat ≡ Some x) × (pending_of self.now.store seat ≡ None)) }
         ensures err { IfErr result (λ fault. bye_fault (moment self.now).world seat ≡ Some fault) }
     {
         let principal = self.principal_at(seat)?;
@@ -248,6 +249,7 @@ impl Vault {
     /// Finishes the seat's pending target and returns its serial, or `None` if there is none. Faults, in this order,
     /// after which everything is as before: `NoSeat` for a seat above 63, `NoActor` for an empty one. Allocates
     /// nothing.
+    #[tactic(auto, using(crate::proofs::CollectLemmas::still_acts))]
     pub fn shade(&mut self, seat: u64) -> Result<Option<u64>, SeatFault>
         ensures step { MatchResult result (λ target. StepOf self.old (event.Shade seat) (answer.Shaded target) self.new) (λ fault. StepOf self.old (event.Shade seat) (answer.Seat fault) self.new) }
         ensures keeps { Keeps self.old self.new }
@@ -285,6 +287,7 @@ impl Vault {
     ///
     /// The outcome and the reply are those of every graph that the actor cannot tell from the graph of the history, a
     /// new vertex's serial and fullness aside.
+    #[tactic(auto, using(crate::proofs::CollectLemmas::still_acts))]
     pub fn command(&mut self, seat: u64, command: Command) -> Result<(u64, Reply), AskFault>
         ensures step { MatchResult result (λ r. StepOf self.old (event.Ask seat command) (answer.Asked r.0 r.1) self.new) (λ fault. StepOf self.old (event.Ask seat command) (answer.Ask fault) self.new) }
         ensures keeps { Keeps self.old self.new }
@@ -302,7 +305,7 @@ impl Vault {
 
     /// The actor of the seat's next command.
     fn ready_at(&self, seat: u64) -> Result<u64, AskFault>
-        ensures ok { IfOk result (λ x. (seat < SEATS) × (at_seat self.now.seats seat ≡ Some x) × (at_seat self.now.store.pending seat ≡ None) × (ask_refusal (moment self.now).world seat ≡ None)) }
+        ensures ok { IfOk result (λ x. (seat < SEATS) × (at_seat self.now.seats seat ≡ Some x) × (pending_of self.now.store seat ≡ None) × (ask_refusal (moment self.now).world seat ≡ None)) }
         ensures err { IfErr result (λ fault. IsAskFault (moment self.now).world seat fault) }
     {
         match self.idle_at(seat) {
@@ -314,10 +317,11 @@ impl Vault {
     }
 
     /// Carries out the actor's command and enters it.
+    #[tactic(auto, using(crate::proofs::CollectLemmas::still_acts))]
     fn enter(&mut self, seat: u64, actor: u64, command: Command) -> Result<(u64, Reply), AllocError>
         requires seat { seat < SEATS }
         requires seated { at_seat self.old.seats seat ≡ Some actor }
-        requires idle { at_seat self.old.store.pending seat ≡ None }
+        requires idle { pending_of self.old.store seat ≡ None }
         ensures number { IfOk result (λ r. r.0 ≡ length self.old.history) }
         ensures ok { IfOk result (λ r. Enters self.old.limits (moment self.old) seat actor command r.1 (moment self.new)) }
         ensures err { OnErr result (self.new ≡ self.old) }
@@ -330,12 +334,18 @@ impl Vault {
         self.history.try_reserve(1)?;
         self.opening.soundness();
         self.store.soundness();
+        let Some(place) = self.store.principal(actor) else {
+            unreachable!();
+        };
         let reply = answer(
             &mut self.store,
             &mut self.next,
             self.alloc,
             seat,
-            actor,
+            Spot {
+                serial: actor,
+                place,
+            },
             &command,
         )?;
         self.store.soundness();
@@ -345,6 +355,7 @@ impl Vault {
     }
 
     /// Carries out a copy of the command; the copy is made only once the seat is known to have no fault.
+    #[tactic(auto, using(crate::proofs::CollectLemmas::still_acts))]
     fn command_copy(&mut self, seat: u64, command: &Command) -> Result<(u64, Reply), AskFault>
         ensures step { MatchResult result (λ r. StepOf self.old (event.Ask seat command.now) (answer.Asked r.0 r.1) self.new) (λ fault. StepOf self.old (event.Ask seat command.now) (answer.Ask fault) self.new) }
         ensures keeps { Keeps self.old self.new }
@@ -360,6 +371,7 @@ impl Vault {
     }
 
     /// Carries out one event.
+    #[tactic(auto, using(crate::proofs::CollectLemmas::still_acts))]
     fn step(&mut self, event: &Event) -> Answer
         ensures step { StepOf self.old event.now result self.new }
         ensures keeps { Keeps self.old self.new }

@@ -1,6 +1,6 @@
 use Rattle.std.proofs.Common.{ap, ◌∙◌}
 use Rattle.tg_rights.specs.Letters.{is_none}
-use Rattle.tg_collect.specs.Views.{serial_at}
+use Rattle.tg_collect.specs.Readings.{serial_at}
 use Rattle.tg_collect.proofs.PathLemmas.{edge_in}
 use Rattle.tg_collect.proofs.tests.remove.Goals as goal
 

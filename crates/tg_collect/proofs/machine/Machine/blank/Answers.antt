@@ -1,27 +1,12 @@
-use Rattle.tg_collect.specs.OpeningSteps.{Blank}
-use Rattle.tg_collect.proofs.BlankLemmas.{blank_whole, blank_opens, blank_free, blank_triples}
+use Rattle.std.proofs.Common.{sym, ◌∙◌, ap, length}
+use Rattle.tg_slots.specs.Table.{Table}
+use Rattle.tg_slots.proofs.FreshLemmas.{nones_length}
+use Rattle.tg_collect.proofs.OpeningLemmas.{blank_first}
 use Rattle.tg_collect.proofs.machine.Machine.blank.Goals as goal
 
-is_blank : (c : goal.In_ok-pending) → Blank (record { heap = c.in_ok-heap.heap; progress = c.of-progress.result; principals = c.in_ok-principals.principals; pending = c.in_ok-pending.pending }) c.args.slots c.args.cells
-is_blank c = record {
-  table = c.in_ok-heap.ensures.0;
-  free_cells = c.in_ok-heap.ensures.1;
-  cell_count = c.in_ok-heap.ensures.2;
-  lists = c.in_ok-heap.ensures.3;
-  progress = c.of-progress.ensures;
-  principals = c.in_ok-principals.ensures.items;
-  seats = c.in_ok-pending.ensures.length;
-  idle = c.in_ok-pending.ensures.idle;
-}
+pub returns-clause-first : goal.returns-clause-first
+returns-clause-first c = blank_first _ c.args.slots c.in_ok-heap.ensures.0 (c.in_ok-heap.ensures.1 ∙ sym c.in_ok-heap.ensures.2) c.of-progress.ensures
+    (λ i. record { targets = c.in_ok-empty_seats.ensures i; principals = c.in_ok-with_capacity.ensures.items i; agents = c.in_ok-empty_seats-2.ensures i })
 
-pub returns-clause-whole : goal.returns-clause-whole
-returns-clause-whole c = blank_whole _ c.args.slots c.args.cells (is_blank c)
-
-pub returns-clause-opens : goal.returns-clause-opens
-returns-clause-opens c = blank_opens _ c.args.slots c.args.cells (is_blank c)
-
-pub returns-clause-triples : goal.returns-clause-triples
-returns-clause-triples c = blank_triples _ c.args.slots c.args.cells (is_blank c)
-
-pub returns-clause-free : goal.returns-clause-free
-returns-clause-free c = blank_free _ c.args.slots c.args.cells (is_blank c)
+pub returns-clause-slots : goal.returns-clause-slots
+returns-clause-slots c = ap (λ (t : Table). length t.slots) c.in_ok-heap.ensures.0 ∙ nones_length c.args.slots

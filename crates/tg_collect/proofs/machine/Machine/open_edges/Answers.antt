@@ -1,12 +1,17 @@
-use Rattle.std.proofs.Common.{subst, ℕ, ◌≡◌, length, arith}
-use Rattle.tg_collect.specs.Stored.{stored}
-use Rattle.tg_collect.specs.OpeningSteps.{OpensEdges}
-use Rattle.tg_collect.proofs.OpenedEdges.{rows_done}
+use Rattle.std.proofs.Common.{subst, ℕ, ◌≡◌, arith}
+use Rattle.tg_collect.specs.OpeningSteps.{OpensEdges, root_count}
+use Rattle.tg_collect.proofs.OpeningLemmas.{opened_whole}
+use Rattle.tg_collect.proofs.OpeningEdges.{rows_done}
 use Rattle.tg_collect.proofs.machine.Machine.open_edges.Goals as goal
+
+pub returns-clause-whole : goal.returns-clause-whole
+returns-clause-whole c = opened_whole c.loop-from.self (root_count c.args.self.now) c.loop-from.invariant.opens.opens.opened
 
 pub returns-clause-opened : goal.returns-clause-opened
 returns-clause-opened c =
+    let m = c.args.self.now in
     let i = c.loop-from.invariant in
-    let last : c.loop-from.from ≡ length c.args.self.now.principals.items = omega arith in
-    rows_done c.loop-from.self c.args.graph.now (length c.args.self.now.principals.items) (length (stored c.args.self.now).marks) (stored c.args.self.now).cells c.soundness.ensures.sound i.whole
-    (subst (λ (k : ℕ). OpensEdges (stored c.loop-from.self) c.args.graph.now (length c.args.self.now.principals.items) k 0) last i.opens) i.slots i.cells
+    let last : c.loop-from.from ≡ root_count m = omega arith in
+    rows_done c.loop-from.self c.args.graph.now (root_count m) i.opens.opens.vertices i.opens.opens.graph _ _
+    (subst (λ (k : ℕ). OpensEdges c.loop-from.self c.args.graph.now (root_count m) k 0) last i.opens)
+    c.soundness.ensures.sound i.size.slots i.size.cells

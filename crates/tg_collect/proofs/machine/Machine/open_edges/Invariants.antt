@@ -1,15 +1,11 @@
-use Rattle.std.proofs.Common.{◌≡◌, length}
-use Rattle.tg_collect.specs.Names.{Whole}
-use Rattle.tg_collect.specs.Stored.{stored}
-use Rattle.tg_collect.specs.OpeningSteps.{OpensEdges}
+use Rattle.std.proofs.Common.{◌≡◌}
+use Rattle.tg_collect.specs.OpeningSteps.{OpensEdges, KeepsSize, root_count}
 use Rattle.tg_collect.proofs.machine.Machine.open_edges.Given as goal
 
 -- The pairs of the principals so far are done.
 abbrev pub invariant-loop-from : goal.invariant-loop-from
 invariant-loop-from l = record {
-  whole : Whole l.self;
-  size : length l.self.principals.items ≡ length l.fn.self.principals.items;
-  slots : length (stored l.self).marks ≡ length (stored l.fn.self).marks;
-  cells : (stored l.self).cells ≡ (stored l.fn.self).cells;
-  opens : OpensEdges (stored l.self) l.graph (length l.fn.self.principals.items) l.from 0;
+  roots : root_count l.self ≡ root_count l.fn.self;
+  size : KeepsSize l.fn.self l.self;
+  opens : OpensEdges l.self l.graph (root_count l.fn.self) l.from 0;
 }

@@ -1,32 +1,44 @@
-use Rattle.std.proofs.Common.{sym, ◌∙◌, ap, ℕ, Option, length}
-use Rattle.std.specs.Option.{is_some, unwrap_or}
+use Rattle.std.proofs.Common.{◌≡◌, Some, ◌∙◌, sym, ap, subst}
 use Rattle.tg_rights.specs.Letters.{is_none}
-use Rattle.tg_collect.specs.Stored.{stored}
-use Rattle.tg_collect.proofs.StoreLemmas.{is_store}
-use Rattle.tg_collect.proofs.OpenedEdges.{pair, pair_distinct, pair_empty, pair_done, room_left}
+use Rattle.tg_slots.specs.Table.{slot}
+use Rattle.tg_heap.specs.Calls.{IsAdded}
+use Rattle.tg_collect.specs.declared.machine.Root.{Root}
+use Rattle.tg_collect.specs.OpeningSteps.{root_count}
+use Rattle.tg_collect.proofs.OpeningLemmas.{principal_mark}
+use Rattle.tg_collect.proofs.OpeningEdges.{ends, pair_empty, pair_room, pair_none, pair_opened}
 use Rattle.tg_collect.proofs.machine.Machine.open_pair.Goals as goal
 
-pub open_edge-requires-clause-source : goal.open_edge-requires-clause-source
-open_edge-requires-clause-source c = ap is_some (pair c.args.self.now c.args.graph.now c.args.from c.args.to c.index-source.result.now c.index-target.result.now c.rights-rights.result c.requires.whole c.requires.from c.requires.to c.requires.opens c.index-source.ensures c.index-target.ensures c.rights-rights.ensures).source
+pub add_edge-requires-clause-owner : goal.add_edge-requires-clause-owner
+add_edge-requires-clause-owner c =
+    let e = ends c.args.self.now c.args.graph.now c.args.from c.args.to c.index-source.result.now c.index-target.result.now c.rights-rights.result c.requires.opens c.requires.from c.requires.to c.index-source.ensures c.index-target.ensures c.rights-rights.ensures in
+    rw (e.0) (principal_mark c.args.self.now (root_count c.args.self.now) c.requires.opens.opens.opened c.args.from c.requires.from)
 
-pub open_edge-requires-clause-target : goal.open_edge-requires-clause-target
-open_edge-requires-clause-target c = (pair c.args.self.now c.args.graph.now c.args.from c.args.to c.index-source.result.now c.index-target.result.now c.rights-rights.result c.requires.whole c.requires.from c.requires.to c.requires.opens c.index-source.ensures c.index-target.ensures c.rights-rights.ensures).target
+pub add_edge-requires-clause-target : goal.add_edge-requires-clause-target
+add_edge-requires-clause-target c =
+    let e = ends c.args.self.now c.args.graph.now c.args.from c.args.to c.index-source.result.now c.index-target.result.now c.rights-rights.result c.requires.opens c.requires.from c.requires.to c.index-source.ensures c.index-target.ensures c.rights-rights.ensures in
+    rw (e.1) (principal_mark c.args.self.now (root_count c.args.self.now) c.requires.opens.opens.opened c.args.to c.requires.to)
 
-pub open_edge-requires-clause-distinct : goal.open_edge-requires-clause-distinct
-open_edge-requires-clause-distinct c = pair_distinct c.args.self.now c.args.graph.now c.args.from c.args.to c.index-source.result.now c.index-target.result.now c.rights-rights.result c.requires.opens.graph
-    (pair c.args.self.now c.args.graph.now c.args.from c.args.to c.index-source.result.now c.index-target.result.now c.rights-rights.result c.requires.whole c.requires.from c.requires.to c.requires.opens c.index-source.ensures c.index-target.ensures c.rights-rights.ensures) (sym c.if-not-is_empty.ensures)
+pub add_edge-requires-clause-none : goal.add_edge-requires-clause-none
+add_edge-requires-clause-none c =
+    let e = ends c.args.self.now c.args.graph.now c.args.from c.args.to c.index-source.result.now c.index-target.result.now c.rights-rights.result c.requires.opens c.requires.from c.requires.to c.index-source.ensures c.index-target.ensures c.rights-rights.ensures in
+    rw (e.0, e.1) (pair_none c.args.self.now c.args.graph.now (root_count c.args.self.now) c.args.from c.args.to c.requires.opens c.requires.from c.requires.to (ap is_none (sym e.2) ∙ sym c.if-not-is_empty.ensures) c.soundness.ensures.sound)
 
-pub open_edge-requires-clause-room : goal.open_edge-requires-clause-room
-open_edge-requires-clause-room c =
-    room_left (stored c.args.self.now) c.args.graph.now (length c.args.self.now.principals.items) c.args.from c.args.to (is_store c.args.self.now c.soundness.ensures.sound c.requires.whole) c.requires.opens
-    (ap is_none (sym (pair c.args.self.now c.args.graph.now c.args.from c.args.to c.index-source.result.now c.index-target.result.now c.rights-rights.result c.requires.whole c.requires.from c.requires.to c.requires.opens c.index-source.ensures c.index-target.ensures c.rights-rights.ensures).rights_are) ∙ sym c.if-not-is_empty.ensures)
+pub add_edge-requires-clause-room : goal.add_edge-requires-clause-room
+add_edge-requires-clause-room c =
+    let e = ends c.args.self.now c.args.graph.now c.args.from c.args.to c.index-source.result.now c.index-target.result.now c.rights-rights.result c.requires.opens c.requires.from c.requires.to c.index-source.ensures c.index-target.ensures c.rights-rights.ensures in
+    pair_room c.args.self.now c.args.graph.now (root_count c.args.self.now) c.args.from c.args.to c.requires.opens c.requires.from c.requires.to (ap is_none (sym e.2) ∙ sym c.if-not-is_empty.ensures)
 
 pub returns-then-not-is_empty-clause-opens : goal.returns-then-not-is_empty-clause-opens
 returns-then-not-is_empty-clause-opens c =
-    let p = (pair c.args.self.now c.args.graph.now c.args.from c.args.to c.index-source.result.now c.index-target.result.now c.rights-rights.result c.requires.whole c.requires.from c.requires.to c.requires.opens c.index-source.ensures c.index-target.ensures c.rights-rights.ensures) in
-    pair_done (stored c.args.self.now) (stored c.open_edge.new.self) c.args.graph.now (length c.args.self.now.principals.items) c.args.from c.args.to c.index-source.result.now.serial c.index-target.result.now.serial _ c.rights-rights.result
-    c.requires.opens p.from_is p.to_is (ap (λ (o : Option ℕ). unwrap_or o 0) p.source) c.rights-rights.ensures c.open_edge.ensures.opened
+    let e = ends c.args.self.now c.args.graph.now c.args.from c.args.to c.index-source.result.now c.index-target.result.now c.rights-rights.result c.requires.opens c.requires.from c.requires.to c.index-source.ensures c.index-target.ensures c.rights-rights.ensures in
+    let added = c.add_edge.ensures in
+    pair_opened c.args.self.now c.args.graph.now (root_count c.args.self.now) c.args.from c.args.to c.requires.opens c.requires.from c.requires.to (ap is_none (sym e.2) ∙ sym c.if-not-is_empty.ensures) c.soundness.ensures.sound c.add_edge.new.self (
+      added.0,
+      subst (λ (r : Root). slot c.args.self.now.heap.table r.slot ≡ Some added.0) e.1 added.1,
+      subst (λ (X : Type 0). X) (λ i. IsAdded c.args.self.now.heap c.add_edge.new.self (e.0 i).slot (e.1 i).slot added.0.serial (e.2 i)) added.2,
+    )
 
 pub returns-else-not-is_empty-clause-opens : goal.returns-else-not-is_empty-clause-opens
-returns-else-not-is_empty-clause-opens c = pair_empty (stored c.args.self.now) c.args.graph.now (length c.args.self.now.principals.items) c.args.from c.args.to c.requires.opens
-    (ap is_none (sym (pair c.args.self.now c.args.graph.now c.args.from c.args.to c.index-source.result.now c.index-target.result.now c.rights-rights.result c.requires.whole c.requires.from c.requires.to c.requires.opens c.index-source.ensures c.index-target.ensures c.rights-rights.ensures).rights_are) ∙ sym c.is_empty.ensures ∙ c.if-not-is_empty.false)
+returns-else-not-is_empty-clause-opens c =
+    let e = ends c.args.self.now c.args.graph.now c.args.from c.args.to c.index-source.result.now c.index-target.result.now c.rights-rights.result c.requires.opens c.requires.from c.requires.to c.index-source.ensures c.index-target.ensures c.rights-rights.ensures in
+    pair_empty c.args.self.now c.args.graph.now (root_count c.args.self.now) c.args.from c.args.to c.requires.opens (ap is_none (sym e.2) ∙ sym c.is_empty.ensures ∙ c.if-not-is_empty.false)

@@ -1,52 +1,48 @@
-use Rattle.std.proofs.Common.{sym, ◌∙◌, ap, ◌+◌, length, subst}
+use Rattle.std.proofs.Common.{◌≡◌, ◌∙◌, sym, ap, arith}
 use Rattle.std.specs.Option.{is_some}
-use Rattle.tg_collect.specs.declared.machine.Machine.{Machine}
-use Rattle.tg_collect.specs.Names.{Whole}
-use Rattle.tg_collect.specs.Stored.{stored}
-use Rattle.tg_collect.proofs.OpeningLemmas.{SoFar, so_far_more, so_far_same, next_serial, row_next, kind_none}
+use Rattle.tg_graph.specs.Opening.{subjects}
+use Rattle.tg_collect.specs.OpeningSteps.{root_count}
+use Rattle.tg_collect.proofs.OpeningEdges.{kind_low, kind_high}
 use Rattle.tg_collect.proofs.machine.Machine.open_principals.Goals as goal
-use Rattle.tg_collect.proofs.machine.Machine.open_principals.Goals.{then-is_some+in_ok-open_principal, else-is_some}
-
-pub open_principal-requires-clause-unheld : goal.open_principal-requires-clause-unheld
-open_principal-requires-clause-unheld c =
-    let o = c.requires.opening in
-    let s = c.loop-serial.invariant.so_far o.count o.vertices o.slots in
-    let n = next_serial (stored c.loop-serial.self) c.loop-serial.self.heap.table.free (stored c.args.self.now).triples c.args.graph.now o.count c.loop-serial.serial _ _ s o.vertices (sym (ap is_some c.kind.ensures) ∙ sym c.if-is_some.ensures) c.loop-serial.auto.serial in
-    let r = row_next (stored c.loop-serial.self) c.loop-serial.self.heap.table.free (stored c.args.self.now).triples o.count c.loop-serial.serial _ _ s n.0 n.1 o.few o.slots in
-    r.0
-
-pub open_principal-requires-clause-room : goal.open_principal-requires-clause-room
-open_principal-requires-clause-room c =
-    let o = c.requires.opening in
-    let s = c.loop-serial.invariant.so_far o.count o.vertices o.slots in
-    let n = next_serial (stored c.loop-serial.self) c.loop-serial.self.heap.table.free (stored c.args.self.now).triples c.args.graph.now o.count c.loop-serial.serial _ _ s o.vertices (sym (ap is_some c.kind.ensures) ∙ sym c.if-is_some.ensures) c.loop-serial.auto.serial in
-    let r = row_next (stored c.loop-serial.self) c.loop-serial.self.heap.table.free (stored c.args.self.now).triples o.count c.loop-serial.serial _ _ s n.0 n.1 o.few o.slots in
-    r.1
 
 pub open_principal-requires-clause-few : goal.open_principal-requires-clause-few
 open_principal-requires-clause-few c =
     let o = c.requires.opening in
-    let s = c.loop-serial.invariant.so_far o.count o.vertices o.slots in
-    let n = next_serial (stored c.loop-serial.self) c.loop-serial.self.heap.table.free (stored c.args.self.now).triples c.args.graph.now o.count c.loop-serial.serial _ _ s o.vertices (sym (ap is_some c.kind.ensures) ∙ sym c.if-is_some.ensures) c.loop-serial.auto.serial in
-    let r = row_next (stored c.loop-serial.self) c.loop-serial.self.heap.table.free (stored c.args.self.now).triples o.count c.loop-serial.serial _ _ s n.0 n.1 o.few o.slots in
-    r.2
+    let low = kind_low c.args.graph.now o.count c.loop-alloc.serial o.vertices (sym (ap is_some c.kind.ensures) ∙ sym c.is_some.ensures ∙ c.loop-alloc-test.true) in
+    let serial = c.loop-alloc.invariant.serial in
+    let few = o.few in
+    omega (arith, low, serial, few)
 
-pub loop-serial-preserved : goal.loop-serial-preserved
-loop-serial-preserved c = record {
-  whole = elim c.if-is_some.branch [
-    | then-is_some+in_ok-open_principal w ↦ subst Whole (sym w.self-is) w.in_ok-open_principal.ensures.whole
-    | else-is_some w ↦ subst Whole (sym w.self-is) c.loop-serial.invariant.whole
-  ];
-  so_far = λ count e fits.
-      let s = c.loop-serial.invariant.so_far count e fits in
-      elim c.if-is_some.branch [
-        | then-is_some+in_ok-open_principal w ↦
-            let n = next_serial (stored c.loop-serial.self) c.loop-serial.self.heap.table.free (stored c.args.self.now).triples c.args.graph.now count c.loop-serial.serial _ _ s e (sym (ap is_some c.kind.ensures) ∙ sym c.is_some.ensures ∙ w.if-is_some.true) c.loop-serial.auto.serial in
-            subst (λ (x : Machine). SoFar (stored x) x.heap.table.free (stored c.args.self.now).triples count (c.loop-serial.serial + 1) (length (stored c.args.self.now).marks) (stored c.args.self.now).cells) (sym w.self-is)
-            (so_far_more c.loop-serial.self w.open_principal.new.self (stored c.args.self.now).triples count c.loop-serial.serial _ _ s n.0 n.1 w.in_ok-open_principal.ensures.opened)
-        | else-is_some w ↦
-            let above = kind_none c.args.graph.now count c.loop-serial.serial e (sym (ap is_some c.kind.ensures) ∙ sym c.is_some.ensures ∙ w.if-is_some.false) c.loop-serial.auto.serial in
-            subst (λ (x : Machine). SoFar (stored x) x.heap.table.free (stored c.args.self.now).triples count (c.loop-serial.serial + 1) (length (stored c.args.self.now).marks) (stored c.args.self.now).cells) (sym w.self-is)
-            (so_far_same (stored c.loop-serial.self) c.loop-serial.self.heap.table.free (stored c.args.self.now).triples count c.loop-serial.serial _ _ s above)
-      ];
-}
+pub open_principal-requires-clause-room : goal.open_principal-requires-clause-room
+open_principal-requires-clause-room c =
+    let o = c.requires.opening in
+    let low = kind_low c.args.graph.now o.count c.loop-alloc.serial o.vertices (sym (ap is_some c.kind.ensures) ∙ sym c.is_some.ensures ∙ c.loop-alloc-test.true) in
+    let serial = c.loop-alloc.invariant.serial in
+    let fits = o.slots in
+    let size = c.loop-alloc.invariant.size.slots in
+    omega (arith, low, serial, fits, size)
+
+pub loop-alloc-preserved : goal.loop-alloc-preserved
+loop-alloc-preserved c =
+    let i = c.loop-alloc.invariant in
+    let n = c.in_ok-open_principal.ensures in
+    let serial = i.serial in
+    let more = n.more in
+    record {
+      first = n.first;
+      serial = omega (arith, serial, more);
+      few = λ count e.
+          let low = kind_low c.args.graph.now count c.loop-alloc.serial e (sym (ap is_some c.kind.ensures) ∙ sym c.is_some.ensures ∙ c.loop-alloc-test.true) in
+          omega (arith, low, serial, more);
+      size = record { slots = n.size.slots ∙ i.size.slots; cells = n.size.cells ∙ i.size.cells };
+    }
+
+pub returns : goal.returns
+returns c =
+    let o = c.requires.opening in
+    let i = c.loop-alloc.invariant in
+    let serial = i.serial in
+    let most = i.few o.count o.vertices in
+    let high = kind_high c.args.graph.now o.count c.loop-alloc.serial o.vertices (sym (ap is_some c.kind.ensures) ∙ sym c.is_some.ensures ∙ c.loop-alloc-test.false) (omega (arith, serial)) in
+    let all : o.count ≡ root_count c.loop-alloc.self = omega (arith, serial, most, high) in
+    record { first = i.first; vertices = o.vertices ∙ ap subjects all; size = i.size }

@@ -1,14 +1,16 @@
-use Rattle.std.proofs.Common.{◌≡◌, ◌≤◌, ℕ, length}
+use Rattle.std.proofs.Common.{◌≡◌, ◌≤◌, ◌+◌, ◌-◌, ℕ}
 use Rattle.tg_graph.specs.Opening.{subjects}
-use Rattle.tg_collect.specs.Names.{Whole}
-use Rattle.tg_collect.specs.Stored.{stored}
-use Rattle.tg_collect.proofs.OpeningLemmas.{SoFar}
+use Rattle.tg_collect.specs.OpeningSteps.{OpensFirst, KeepsSize, root_count}
 use Rattle.tg_collect.proofs.machine.Machine.open_principals.Given as goal
 
 -- The principals with the serials so far are there.
-abbrev pub invariant-loop-serial : goal.invariant-loop-serial
-invariant-loop-serial l = record {
-  whole : Whole l.self;
-  so_far : (count : ℕ) → l.graph.vertices ≡ subjects count → count ≤ length (stored l.fn.self).marks
-      → SoFar (stored l.self) l.self.heap.table.free (stored l.fn.self).triples count l.serial (length (stored l.fn.self).marks) (stored l.fn.self).cells;
+abbrev pub invariant-loop-alloc : goal.invariant-loop-alloc
+invariant-loop-alloc l = record {
+  first : OpensFirst l.self (root_count l.self);
+  serial : l.serial ≡ root_count l.self + 1;
+  few : (count : ℕ) → l.graph.vertices ≡ subjects count → root_count l.self ≤ count;
+  size : KeepsSize l.fn.self l.self;
 }
+
+abbrev pub decreases-loop-alloc : goal.decreases-loop-alloc
+decreases-loop-alloc l = 64 - root_count l.self

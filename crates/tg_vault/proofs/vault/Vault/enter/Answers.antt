@@ -1,7 +1,7 @@
 use Rattle.std.proofs.Common.{◌≡◌, refl, sym, subst, ◌∙◌, [], ◌∷◌, ◌++◌, Some}
-use Rattle.tg_collect.specs.Views.{IsHeldIn, InSet}
+use Rattle.tg_collect.specs.Readings.{IsHeldIn, IsParkedIn}
 use Rattle.tg_vault.specs.World.{Enters, at_seat}
-use Rattle.tg_vault.specs.Contents.{Contents, moment}
+use Rattle.tg_vault.specs.Contents.{Contents, contents, moment}
 use Rattle.tg_vault.specs.StoreSteps.{SessionStep}
 use Rattle.tg_vault.specs.Exact.{IsExact}
 use Rattle.tg_vault.specs.Agreement.{SameForAgreeing}
@@ -14,25 +14,13 @@ pub answer-requires-clause-unheld : goal.answer-requires-clause-unheld
 answer-requires-clause-unheld c = subst (λ n. IsHeldIn c.self.inside.store n → ⊥) (sym c.self.invariant.serial) (next_unheld _ c.self.invariant.joins c.soundness-2.ensures.sound)
 
 pub answer-requires-clause-unparked : goal.answer-requires-clause-unparked
-answer-requires-clause-unparked c = subst (λ n. InSet c.self.inside.store.parked n → ⊥) (sym c.self.invariant.serial) (next_unparked _ c.self.invariant.joins c.soundness-2.ensures.sound)
-
--- the vault before
-abbrev before : goal.In_ok-push → Contents
-before c = record {
-  opening = c.self.inside.opening;
-  names = c.self.inside.names.items;
-  limits = record { slots = c.self.inside.slots; cells = c.self.inside.cells };
-  seats = c.self.inside.seats.items;
-  store = c.self.inside.store;
-  history = c.self.inside.history.items;
-}
+answer-requires-clause-unparked c = subst (λ n. IsParkedIn c.self.inside.store n → ⊥) (sym c.self.invariant.serial) (next_unparked _ c.self.invariant.joins c.soundness-2.ensures.sound)
 
 pushed : (c : goal.In_ok-push) →
-    Pushed (before c) c.self.inside.next c.args.seat c.args.actor c.args.command c.in_ok-reply.reply c.answer.new.store c.answer.new.next (told c.in_ok-reply.reply) c.push.new.self.items
+    Pushed (contents c.self.inside) c.self.inside.next c.args.seat c.args.actor c.args.command c.in_ok-reply.reply c.answer.new.store c.answer.new.next (told c.in_ok-reply.reply) c.push.new.self.items
 pushed c = record {
   joined = c.self.invariant;
   store = c.soundness-2.ensures.sound;
-  counted = c.soundness-2.ensures.sound;
   within = c.requires.seat;
   seated = subst (λ (w : Contents). at_seat w.seats c.args.seat ≡ Some c.args.actor) (sym c.self.view_is) c.requires.seated;
   carried = c.in_ok-reply.ensures.carried;
@@ -43,24 +31,24 @@ pushed c = record {
 }
 
 pub invariant_of-self-2 : goal.invariant_of-self-2
-invariant_of-self-2 c = pushed_joined (before c) _ _ _ _ _ _ _ _ _ (pushed c)
+invariant_of-self-2 c = pushed_joined (contents c.self.inside) _ _ _ _ _ _ _ _ _ (pushed c)
 
 pub returns-clause-ok : goal.returns-clause-ok
 returns-clause-ok c =
-    subst (λ (w : Contents). Enters w.limits (moment w) c.args.seat c.args.actor c.args.command c.in_ok-reply.reply (moment (record (before c) { store = c.answer.new.store; history = c.push.new.self.items }))) c.self.view_is
-    (pushed_enters (before c) _ _ _ _ _ _ _ _ _ (pushed c))
+    subst (λ (w : Contents). Enters w.limits (moment w) c.args.seat c.args.actor c.args.command c.in_ok-reply.reply (moment (record (contents c.self.inside) { store = c.answer.new.store; history = c.push.new.self.items }))) c.self.view_is
+    (pushed_enters (contents c.self.inside) _ _ _ _ _ _ _ _ _ (pushed c))
 
 pub returns-clause-agrees : goal.returns-clause-agrees
 returns-clause-agrees c =
-    subst (λ (w : Contents). SameForAgreeing w (record (before c) { store = c.answer.new.store; history = c.push.new.self.items }) c.in_ok-reply.reply) c.self.view_is
-    (pushed_same (before c) _ _ _ _ _ _ _ _ _ (pushed c))
+    subst (λ (w : Contents). SameForAgreeing w (record (contents c.self.inside) { store = c.answer.new.store; history = c.push.new.self.items }) c.in_ok-reply.reply) c.self.view_is
+    (pushed_same (contents c.self.inside) _ _ _ _ _ _ _ _ _ (pushed c))
 
 pub returns-clause-exact : goal.returns-clause-exact
 returns-clause-exact c =
-    subst (λ (w : Contents). IsExact w (record (before c) { store = c.answer.new.store; history = c.push.new.self.items })) c.self.view_is
-    (pushed_exact (before c) _ _ _ _ _ _ _ _ _ (pushed c))
+    subst (λ (w : Contents). IsExact w (record (contents c.self.inside) { store = c.answer.new.store; history = c.push.new.self.items })) c.self.view_is
+    (pushed_exact (contents c.self.inside) _ _ _ _ _ _ _ _ _ (pushed c))
 
 pub returns-clause-acts : goal.returns-clause-acts
 returns-clause-acts c =
-    subst (λ (w : Contents). SessionStep w (record (before c) { store = c.answer.new.store; history = c.push.new.self.items })) c.self.view_is
-    (pushed_acts (before c) _ _ _ _ _ _ _ _ _ (pushed c))
+    subst (λ (w : Contents). SessionStep w (record (contents c.self.inside) { store = c.answer.new.store; history = c.push.new.self.items })) c.self.view_is
+    (pushed_acts (contents c.self.inside) _ _ _ _ _ _ _ _ _ (pushed c))

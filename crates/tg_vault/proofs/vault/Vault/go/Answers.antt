@@ -1,5 +1,4 @@
-use Rattle.std.proofs.Common.{◌+◌, ◌≤◌, ap, ◌∙◌, arith, length, List, [], ◌∷◌, ◌++◌}
-use Rattle.tg_vault.specs.declared.event.Answer.{Answer}
+use Rattle.std.proofs.Common.{◌+◌, ap, ◌∙◌, arith, length}
 use Rattle.tg_vault.proofs.CourseLemmas.{course_longer, keeps_on, one_more}
 use Rattle.tg_vault.proofs.vault.Vault.go.Goals as goal
 

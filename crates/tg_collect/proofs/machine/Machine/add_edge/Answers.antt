@@ -1,9 +1,0 @@
-use Rattle.std.proofs.Common.{refl}
-use Rattle.tg_collect.proofs.SessionLemmas.{kept-adds}
-use Rattle.tg_collect.proofs.machine.Machine.add_edge.Goals as goal
-
-pub returns-in-Ok-clause-kept : goal.returns-in-Ok-clause-kept
-returns-in-Ok-clause-kept c =
-    let added = c.in-Ok.ensures in
-    kept-adds c.args.self.now _ c.args.seat c.args.id added.0.serial c.args.target c.args.rights c.soundness.ensures.sound c.soundness-in-Ok.ensures.sound
-    c.requires.kept c.requires.owner c.requires.target c.requires.seat c.requires.idle_seat added.2 refl refl

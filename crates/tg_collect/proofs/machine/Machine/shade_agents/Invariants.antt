@@ -1,0 +1,10 @@
+use Rattle.std.proofs.Common.{◌≤◌, length}
+use Rattle.tg_collect.specs.Machine.{agent_slots}
+use Rattle.tg_collect.proofs.RootLemmas.{ShadedFrom}
+use Rattle.tg_collect.proofs.machine.Machine.shade_agents.Given as goal
+
+abbrev pub invariant-loop-left : goal.invariant-loop-left
+invariant-loop-left l = record { from : ShadedFrom l.fn.self l.self (agent_slots l.fn.self.roots) l.left; within : l.left ≤ length l.self.roots.agents.items }
+
+abbrev pub decreases-loop-left : goal.decreases-loop-left
+decreases-loop-left l = l.left

@@ -1,0 +1,142 @@
+-- what is read off the value of a store
+use Rattle.std.specs.Prelude.{◌≡◌, ℕ, suc, ◌+◌, ◌*◌, List, [], ◌∷◌, length, map, Option, Some, None, ◌⊎◌, true, get_or}
+use Rattle.std.specs.Option.{unwrap_or}
+use Rattle.std.specs.Ordering.{nat_cmp}
+use Rattle.std.specs.FinMap as finmap
+use Rattle.std.specs.FinSet as finset
+use Rattle.tg_rights.specs.Letters.{Right}
+use Rattle.tg_rights.specs.Membership.{Contains}
+use Rattle.tg_graph.specs.declared.vertex.Vertex.{Vertex}
+use Rattle.tg_graph.specs.Triples.{Triple, Triples}
+use Rattle.tg_graph.specs.Protection.{Protection}
+use Rattle.tg_slots.specs.Table as table
+use Rattle.tg_slots.specs.Table.{Has}
+use Rattle.tg_slots.specs.declared.colour.Colour.{Colour}
+use Rattle.tg_slots.specs.declared.colour.Colour.TheVariants.{Grey, Black}
+use Rattle.tg_marking.specs.Values as values
+use Rattle.tg_marking.specs.Values.{Spot, Stage, Progress, AtRest, Marking, Sweeping, Body, Kept, HasRoot}
+use Rattle.tg_marking.specs.Left.{total, free_one, parked_one, bound}
+use Rattle.tg_held.specs.Held as graph
+use Rattle.tg_collect.specs.declared.note.Phase.{Phase}
+use Rattle.tg_collect.specs.declared.note.Phase.TheVariants.{Idle, Mark, Sweep}
+use Rattle.tg_collect.specs.declared.machine.Root.{Root}
+use Rattle.tg_collect.specs.Machine.{bare}
+use Rattle.tg_collect.specs.Stored.{Stored}
+
+-- the phase, alone, and as a progress of which nobody sees the scan
+abbrev pub phase_in : Stage → Phase
+phase_in values.Idle = Idle
+phase_in values.Mark = Mark
+phase_in (values.Sweep k) = Sweep
+
+abbrev pub phase : Stored → Phase
+phase v = phase_in v.stage
+
+abbrev pub as_progress : Stage → Progress
+as_progress values.Idle = AtRest
+as_progress values.Mark = Marking None
+as_progress (values.Sweep k) = Sweeping k
+
+abbrev pub progress : Stored → Progress
+progress v = as_progress v.stage
+
+-- the slots and the roots, of which nobody sees in which order the grey ones wait
+abbrev pub shown : Stored → Body
+shown v = record { slots = v.slots; grey = []; roots = bare v.roots }
+
+-- by slots: what a slot holds, whether it is free or its colour, and what of it is held, without its colour
+abbrev pub spot : Stored → ℕ → Option Spot
+spot v i = values.spot (shown v) i
+
+abbrev pub mark_in : Stored → ℕ → table.Mark
+mark_in v i = values.mark (shown v) i
+
+abbrev pub name : Stored → ℕ → Option ℕ
+name v i = values.name (shown v) i
+
+abbrev pub kept : Stored → ℕ → Option Kept
+kept v i = values.kept (shown v) (progress v) i
+
+abbrev pub IsParkedAt : Stored → ℕ → Type 0
+IsParkedAt v i = values.Parked (shown v) (progress v) i
+
+abbrev pub IsRootAt : Stored → ℕ → Type 0
+IsRootAt v i = HasRoot (bare v.roots) i
+
+abbrev pub slot_count : Stored → ℕ
+slot_count v = length v.slots
+
+abbrev pub free_slots : Stored → ℕ
+free_slots v = total (λ i. free_one (spot v i)) (slot_count v)
+
+abbrev pub parked_count : Stored → ℕ
+parked_count v = total (λ i. parked_one (progress v) i (spot v i)) (slot_count v)
+
+-- the serial that a slot holds, if it holds one
+abbrev pub serial_of : Option Kept → Option ℕ
+serial_of None = None
+serial_of (Some k) = Some k.serial
+
+abbrev pub place : Stored → ℕ → Option ℕ
+place v i = serial_of (kept v i)
+
+abbrev pub serial_at : Stored → ℕ → ℕ
+serial_at v i = unwrap_or (place v i) 0
+
+-- what is held, slot by slot from number i on, and as a protection graph with this next serial
+abbrev pub kept_from : Progress → ℕ → List (Option Spot) → List (Option Kept)
+kept_from p i [] = []
+kept_from p i (o ∷ os) = values.seen p i o ∷ kept_from p (suc i) os
+
+abbrev pub held : Stored → ℕ → Protection
+held v next = graph.held (kept_from (progress v) 0 v.slots) next
+
+abbrev pub vertices : Stored → finmap.FinMap nat_cmp Vertex
+vertices v = (held v 0).vertices
+
+abbrev pub triples : Stored → Triples
+triples v = (held v 0).triples
+
+-- by serials: what is held, what is parked, the grey and the black ones
+abbrev pub IsHeldIn : Stored → ℕ → Type 0
+IsHeldIn v x = finmap.contains_key (vertices v) x ≡ true
+
+abbrev pub IsParkedIn : Stored → ℕ → Type 0
+IsParkedIn v x = (i : ℕ) × IsParkedAt v i × (name v i ≡ Some x)
+
+abbrev pub IsColoured : Colour → Stored → ℕ → Type 0
+IsColoured c v x = (i : ℕ) × (mark_in v i ≡ Has c) × (name v i ≡ Some x)
+
+abbrev pub IsGreyIn : Stored → ℕ → Type 0
+IsGreyIn v x = IsColoured Grey v x
+
+abbrev pub IsBlackIn : Stored → ℕ → Type 0
+IsBlackIn v x = IsColoured Black v x
+
+-- x has some right over y
+abbrev pub IsEdgeIn : Stored → ℕ → ℕ → Type 0
+IsEdgeIn v x y = (r : Right) × (finset.contains (triples v) (record { from = x; right = r; to = y }) ≡ true)
+
+-- the serials of the principals, and of each seat's target and agent; the roots are all of these
+abbrev pub root_serial : Option Root → Option ℕ
+root_serial None = None
+root_serial (Some r) = Some r.serial
+
+abbrev pub principals : Stored → List ℕ
+principals v = map (λ (r : Root). r.serial) v.roots.principals
+
+abbrev pub pending : Stored → List (Option ℕ)
+pending v = map (λ o. root_serial o) v.roots.targets
+
+abbrev pub pending_of : Stored → ℕ → Option ℕ
+pending_of v seat = get_or (pending v) seat None
+
+abbrev pub agents : Stored → List (Option ℕ)
+agents v = map (λ o. root_serial o) v.roots.agents
+
+abbrev pub IsRootIn : Stored → ℕ → Type 0
+IsRootIn v x = Contains (principals v) x ⊎ (Contains (pending v) (Some x) ⊎ Contains (agents v) (Some x))
+
+-- the most collector steps of a cycle, with this many slots and cells
+abbrev pub cycle_bound : (slots cells : ℕ) → ℕ
+cycle_bound slots cells = bound slots cells
