@@ -1,5 +1,7 @@
 -- A flat object: from the lexemes of its members to its value, and what is found in it.
-use Rattle.std.proofs.Common.{◌≡◌, ℕ, List, [], ◌∷◌, ◌++◌, Option, Some, None, IfSome, Ordering, Less, Equal, Greater, nat_cmp, is_eq, ◌&&◌, Bool, true, false, true≢false, max, option_map, option_and_then, drop, bytes_eq, if◌then◌else◌, refl, sym, ap, ◌∙◌, arith, append-nil}
+use Rattle.std.proofs.Common.{◌≡◌, ℕ, ◌+◌, ◌-◌, ◌<◌, ◌≤◌, get_or, take, length, List, [], ◌∷◌, ◌++◌, Option, Some, None, IfSome, Ordering, Less, Equal, Greater, nat_cmp, is_eq, ◌&&◌, Bool, true, false, true≢false, max, option_map, option_and_then, drop, bytes_eq, refl, sym, ap, ◌∙◌, arith, append-nil}
+use Rattle.std.proofs.lemmas.List.{take_more}
+use Rattle.std.proofs.Math.Seq.{take-length}
 use Rattle.std.specs.Prelude.{⊤}
 use Rattle.std.specs.List.{list_all}
 use Rattle.std.specs.Cmp.Lexicographic.{slice_cmp}
@@ -165,15 +167,25 @@ found_before : (ms : List Member) (m : Member) (name : List ℕ) → (key_text m
 found_before ms m name other =
     ap (get_member name) (put_all_last ms m no_members) ∙ get_member-put_other name (key_text m.key) (plain_data m.value) (put_all ms no_members) (λ e. other (sym e))
 
-found_either : (b : Bool) (ms : List Member) (m : Member) (name : List ℕ) (before : Option Plain) → bytes_eq (key_text m.key) name ≡ b
-    → option_map plain_data before ≡ get_member name (put_all ms no_members) → option_map plain_data (if b then Some m.value else before) ≡ get_member name (put_all (ms ++ m ∷ []) no_members)
-found_either true ms m name before is so = sym (found_here ms m name ((bytes_eq-Decides (key_text m.key) name).0 is))
-found_either false ms m name before is so = so ∙ sym (found_before ms m name (λ same. true≢false (sym ((bytes_eq-Decides (key_text m.key) name).1 same) ∙ is)))
+-- what is found among the first members, as many as that
+abbrev pub found_among : List Member → List ℕ → ℕ → Option Data
+found_among ms name n = get_member name (put_all (take n ms) no_members)
 
--- one more member is looked at
-pub found_later : (ms : List Member) (m : Member) (name : List ℕ) (before : Option Plain)
-    → option_map plain_data before ≡ get_member name (put_all ms no_members) → option_map plain_data (if bytes_eq (key_text m.key) name then Some m.value else before) ≡ get_member name (put_all (ms ++ m ∷ []) no_members)
-found_later ms m name before so = found_either (bytes_eq (key_text m.key) name) ms m name before refl so
+pub found_in_all : (ms : List Member) (name : List ℕ) → get_member name (put_all ms no_members) ≡ found_among ms name (length ms)
+found_in_all ms name = ap (λ l. get_member name (put_all l no_members)) (sym (take-length ms))
+
+-- A search from the last member on: the last of these members has the key, or those before it decide.
+module _ (ms : List Member) (n : ℕ) (d : Member) (name : List ℕ) (some : 0 < n) (within : n ≤ length ms) where
+  one_less : found_among ms name n ≡ get_member name (put_all (take (n - 1) ms ++ get_or ms (n - 1) d ∷ []) no_members)
+  one_less =
+      let more : n ≡ n - 1 + 1 = omega (arith, some) in
+      ap (found_among ms name) more ∙ ap (λ l. get_member name (put_all l no_members)) (take_more ms (n - 1) d (omega (arith, some, within)))
+
+  pub found_last : bytes_eq (key_text (get_or ms (n - 1) d).key) name ≡ true → found_among ms name n ≡ Some (plain_data (get_or ms (n - 1) d).value)
+  found_last is = one_less ∙ found_here (take (n - 1) ms) (get_or ms (n - 1) d) name ((bytes_eq-Decides _ name).0 is)
+
+  pub found_sooner : bytes_eq (key_text (get_or ms (n - 1) d).key) name ≡ false → found_among ms name n ≡ found_among ms name (n - 1)
+  found_sooner is = one_less ∙ found_before (take (n - 1) ms) (get_or ms (n - 1) d) name (λ same. true≢false (sym ((bytes_eq-Decides _ name).1 same) ∙ is))
 
 -- ---- no list is found
 

@@ -135,18 +135,6 @@ fn read_value<'a>(line: &'a str, at: usize) -> Option<(Plain<'a>, usize)>
     }
 }
 
-/// The value of the member if it has that key, else what was found before it.
-#[inline(always)]
-fn later<'a>(member: &Member<'a>, key: Key, before: Option<Plain<'a>>) -> Option<Plain<'a>>
-    ensures { result ≡ (if bytes_eq (key_text member.now.key) (key_text key) then Some member.now.value else before.entry) }
-{
-    if member.key.is(key) {
-        Some(member.value)
-    } else {
-        before
-    }
-}
-
 impl<'a> Flat<'a> {
     pub(crate) fn new(members: &'a [Member<'a>]) -> Flat<'a>
         ensures { result.members.now ≡ members.now }
@@ -158,12 +146,12 @@ impl<'a> Flat<'a> {
     pub(crate) fn get(&self, key: Key) -> Option<Plain<'a>>
         ensures { option_map plain_data result ≡ get (key_text key) (flat_data self.now.members.now) }
     {
-        let mut found = None;
-        let members = self.members;
-        for member in members {
-            found = later(member, key, found);
+        for at in (0..self.members.len()).rev() {
+            if self.members[at].key.is(key) {
+                return Some(self.members[at].value);
+            }
         }
-        found
+        None
     }
 
     pub(crate) fn number(&self, key: Key) -> Option<u64>

@@ -1,16 +1,23 @@
-use Rattle.std.proofs.Common.{take, option_map, sym, ap, ◌∙◌, arith}
-use Rattle.std.proofs.lemmas.List.{take_more}
-use Rattle.serde_json.specs.Data.{no_members}
-use Rattle.serde_json.specs.Find.{get_member}
-use Rattle.tg_wire.specs.Flat.{plain_data, put_all}
+use Rattle.std.proofs.Common.{◌≡◌, refl, sym, ap, ◌∙◌, arith}
 use Rattle.tg_wire.specs.Keys.{key_text}
-use Rattle.tg_wire.proofs.FlatLemmas.{found_later}
+use Rattle.tg_wire.proofs.FlatLemmas.{found_among, found_in_all, found_last, found_sooner}
 use Rattle.tg_wire.proofs.flat.Flat.get.Goals as goal
 
-pub loop-member-preserved : goal.loop-member-preserved
-loop-member-preserved c =
+pub loop-at-init : goal.loop-at-init
+loop-at-init c = refl
+
+pub loop-at-preserved : goal.loop-at-preserved
+loop-at-preserved c =
+    c.loop-at.invariant ∙ found_sooner c.args.self.now.members.now c.loop-at.at _ (key_text c.args.key) c.loop-at-test.true c.loop-at.auto.at (sym c.if-is.ensures)
+
+pub returns-then-is : goal.returns-then-is
+returns-then-is c =
     let ms = c.args.self.now.members.now in
-    let i = c.loop-member.member-index in
     let name = key_text c.args.key in
-    ap (option_map plain_data) c.later-found.ensures ∙ found_later (take i ms) _ name c.loop-member.found c.loop-member.invariant
-    ∙ ap (λ l. get_member name (put_all l no_members)) (sym (take_more ms i _ (omega arith)))
+    sym (found_in_all ms name ∙ c.loop-at.invariant ∙ found_last ms c.loop-at.at _ name c.loop-at-test.true c.loop-at.auto.at (sym c.if-is.ensures))
+
+pub returns : goal.returns
+returns c =
+    let none : c.loop-at.at ≡ 0 = let past = c.loop-at-test.false in omega (arith, past) in
+    let name = key_text c.args.key in
+    sym (found_in_all c.args.self.now.members.now name ∙ c.loop-at.invariant ∙ ap (found_among c.args.self.now.members.now name) none)
