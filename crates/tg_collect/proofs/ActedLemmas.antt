@@ -1,19 +1,18 @@
 -- Each session call is a session step of a run.
-use Rattle.std.proofs.Common.{◌≡◌, ◌≢◌, ℕ, zero, suc, ◌+◌, ◌<◌, ◌≤◌, List, [], ◌∷◌, length, map, Option, Some, None, ◌⊎◌, inl, inr, sym, ◌∙◌, subst, ap, refl, arith, get_or, set, length-set, get_or-set_same, get_or-set_other}
+use Rattle.std.proofs.Common.{◌≡◌, ℕ, zero, suc, List, [], ◌∷◌, map, Option, Some, None, ◌⊎◌, inl, inr, sym, ◌∙◌, subst, ap, refl, arith, get_or, set, length-set}
 use Rattle.tg_rights.specs.Letters.{Letters}
 use Rattle.tg_rights.specs.Membership.{Contains}
 use Rattle.tg_rights.proofs.MembershipLemmas.{contains_map}
 use Rattle.tg_rights.specs.declared.kind.Kind.{Kind}
-use Rattle.tg_slots.specs.declared.colour.Colour.TheVariants.{White, Grey}
+use Rattle.tg_slots.specs.declared.colour.Colour.TheVariants.{Grey}
 use Rattle.tg_cells.specs.Lists.{Edge}
 use Rattle.tg_marking.specs.Values.{Spot}
-use Rattle.tg_marking.specs.Steps.{shade, new_colour}
+use Rattle.tg_marking.specs.Steps.{new_colour}
 use Rattle.tg_marking.proofs.SpotLemmas.{put_each, shade_each, at_within}
 use Rattle.tg_collect.specs.declared.machine.Root.{Root}
-use Rattle.tg_collect.specs.Machine.{with_target}
 use Rattle.tg_collect.specs.Stored.{Stored}
 use Rattle.tg_collect.specs.Readings.{shown, spot, progress, pending, root_serial}
-use Rattle.tg_collect.specs.Sessions.{Leads, Shaded, EdgeStored, VertexStored, RightsRemoved, TextReplaced, Changes, same, shaded, regards, comes, Acted}
+use Rattle.tg_collect.specs.Sessions.{Shaded, EdgeStored, VertexStored, RightsRemoved, TextReplaced, Changes, same, shaded, regards, comes, Acted}
 use Rattle.tg_collect.proofs.SeatLemmas.{set_only, shade_size}
 
 pub acted_same : (v w : Stored) → w ≡ v → Acted v w None None

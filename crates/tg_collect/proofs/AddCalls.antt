@@ -1,30 +1,23 @@
 -- What the calls that add an edge, and a vertex with its edge, do to a store.
-use Rattle.std.proofs.Common.{◌≡◌, ◌≢◌, ℕ, zero, suc, ◌+◌, ◌<◌, ◌≤◌, List, [], ◌∷◌, length, Option, Some, None, Result, Ok, Err, ◌⊎◌, inl, inr, Bool, true, false, cond, sym, ◌∙◌, subst, ap, refl, arith, get_or, set, length-set, get_or-set_same, get_or-set_other}
+use Rattle.std.proofs.Common.{◌≡◌, ◌≢◌, ℕ, zero, suc, ◌<◌, List, [], ◌∷◌, length, Option, Some, None, Result, Ok, Err, true, false, sym, ◌∙◌, subst, ap, refl, arith, get_or}
 use Rattle.std.specs.Prelude.{OnOk, OnErr, IfErr}
-use Rattle.std.specs.Option.{is_some, unwrap_or}
+use Rattle.std.specs.Option.{is_some}
 use Rattle.std.proofs.lemmas.List.{length-map}
-use Rattle.std.specs.FinMap as finmap
-use Rattle.std.specs.FinSet as finset
 use Rattle.tg_rights.specs.declared.limits.TheConstants.{SEATS}
 use Rattle.tg_rights.specs.Letters.{Letters, is_none}
-use Rattle.tg_rights.specs.Membership.{Contains, Distinct}
-use Rattle.tg_rights.proofs.MembershipLemmas.{contains_map}
-use Rattle.tg_rights.specs.declared.kind.Kind.{Kind}
-use Rattle.tg_graph.specs.Triples.{edge}
+use Rattle.tg_rights.specs.Membership.{Contains}
 use Rattle.tg_slots.specs.declared.slots.Occupant.{Occupant}
-use Rattle.tg_slots.specs.Table.{Free, slot}
-use Rattle.tg_cells.specs.Lists.{Edge, cells, HasNone}
-use Rattle.tg_heap.specs.Graph.{HeapGraph, edges, mark_at, IsHeap}
+use Rattle.tg_cells.specs.Lists.{cells}
+use Rattle.tg_heap.specs.Graph.{IsHeap}
 use Rattle.tg_heap.specs.Calls.{IsAdded}
 use Rattle.tg_heap.specs.declared.heap.HeapFull.{HeapFull}
 use Rattle.tg_heap.specs.declared.heap.HeapFull.TheVariants as full
-use Rattle.tg_marking.specs.Values as values
 use Rattle.tg_marking.specs.Values.{Kept}
 use Rattle.tg_collect.specs.declared.machine.Root.{Root}
 use Rattle.tg_collect.specs.declared.machine.Machine.{Machine}
-use Rattle.tg_collect.specs.Machine.{slots_of, slot_of, lists_of, bare, body, progress_of, Whole}
+use Rattle.tg_collect.specs.Machine.{slots_of, slot_of, lists_of, bare, Whole}
 use Rattle.tg_collect.specs.Calls.{Adds}
-use Rattle.tg_collect.specs.Stored.{Stored, stored}
+use Rattle.tg_collect.specs.Stored.{stored}
 use Rattle.tg_collect.specs.Readings.{place, serial_at, pending_of, IsEdgeIn}
 use Rattle.tg_collect.specs.Sessions.{EdgeStored}
 use Rattle.tg_collect.proofs.StoreLemmas.{once_stored}

@@ -17,16 +17,15 @@ use Rattle.tg_cells.specs.Lists.{Edge, HasNone, Found}
 use Rattle.tg_heap.specs.Graph.{edges, mark_at, IsHeap}
 use Rattle.tg_marking.specs.Values as values
 use Rattle.tg_marking.specs.Values.{Spot, Kept, as_kept}
-use Rattle.tg_marking.specs.Invariant.{Leads}
 use Rattle.tg_collect.specs.declared.machine.Root.{Root}
 use Rattle.tg_collect.specs.declared.machine.Machine.{Machine}
-use Rattle.tg_collect.specs.Machine.{lists_of, body, progress_of, join, Whole}
+use Rattle.tg_collect.specs.Machine.{body, progress_of, join, Whole}
 use Rattle.tg_collect.specs.Stored.{Stored, stored}
-use Rattle.tg_collect.specs.Readings.{kept, place, serial_at, serial_of, root_serial, pending_of, pending, principals, triples, IsEdgeIn, progress, held}
+use Rattle.tg_collect.specs.Readings.{kept, place, serial_at, serial_of, root_serial, pending_of, principals, triples, IsEdgeIn, progress, held}
 use Rattle.tg_collect.proofs.ZipLemmas.{zip_at, zip_size, as_spot}
 use Rattle.tg_collect.proofs.RootLemmas.{kept_within}
-use Rattle.tg_collect.proofs.ShownLemmas.{Once, place_kept, vertex_found, triple_owned, held_at, says_triple, shown_edge}
-use Rattle.tg_collect.proofs.StoreLemmas.{kept_is, stored_kept, once_stored, closed_so, named_so, contains_mapped}
+use Rattle.tg_collect.proofs.ShownLemmas.{Once, place_kept, vertex_found, triple_owned, held_at, says_triple}
+use Rattle.tg_collect.proofs.StoreLemmas.{kept_is, stored_kept, once_stored, closed_so, named_so}
 
 -- A slot where something is held, with its vertex.
 pub record Holds (m : Machine) (i : ℕ) : Type 0 where

@@ -1,13 +1,13 @@
 -- How many slots and cells are in use.
-use Rattle.std.proofs.Common.{◌≡◌, ◌≢◌, ℕ, zero, suc, ◌+◌, ◌<◌, ◌≤◌, List, [], ◌∷◌, length, map, Option, Some, None, sym, ◌∙◌, subst, ap, refl, arith, get_or, sum_by}
+use Rattle.std.proofs.Common.{◌≡◌, ℕ, zero, suc, ◌+◌, List, [], ◌∷◌, length, map, Option, Some, None, sym, ◌∙◌, subst, ap, refl, arith, get_or, sum_by}
 use Rattle.std.proofs.lemmas.List.Sums.{sum_by-cons}
-use Rattle.tg_rights.specs.Membership.{Contains, Distinct}
+use Rattle.tg_rights.specs.Membership.{Distinct}
 use Rattle.tg_slots.specs.declared.slots.Occupant.{Occupant}
 use Rattle.tg_slots.specs.Table as table
 use Rattle.tg_slots.specs.Table.{Free, slot, if_free}
 use Rattle.tg_cells.specs.Lists.{Edge}
-use Rattle.tg_heap.specs.Graph.{HeapGraph, edges, mark_at, IsHeap}
-use Rattle.tg_marking.specs.Values.{Spot, Body, spot, out, edges_of}
+use Rattle.tg_heap.specs.Graph.{HeapGraph, edges, IsHeap}
+use Rattle.tg_marking.specs.Values.{spot, out, edges_of}
 use Rattle.tg_marking.specs.Left.{total, free_one, Celled}
 use Rattle.tg_collect.specs.Machine.{RootLists, join, zip, body_of}
 use Rattle.tg_collect.proofs.ZipLemmas.{zip_at, zip_size}

@@ -1,19 +1,15 @@
 -- What the calls that change a slot's edges do to a store.
-use Rattle.std.proofs.Common.{◌≡◌, ◌≢◌, ℕ, suc, ◌+◌, ◌<◌, ◌≤◌, List, [], ◌∷◌, ◌++◌, length, map, Option, Some, None, Result, Ok, Err, ◌⊎◌, inl, inr, Bool, true, false, sym, ◌∙◌, subst, ap, refl, arith, get_or, set, length-set, get_or-set_same}
+use Rattle.std.proofs.Common.{◌≡◌, ◌≢◌, ℕ, ◌+◌, ◌<◌, ◌≤◌, List, [], ◌∷◌, ◌++◌, length, Some, None, inl, inr, true, false, sym, ◌∙◌, subst, ap, refl, arith, get_or, set, get_or-set_same}
 use Rattle.std.specs.FinSet as finset
-use Rattle.tg_rights.specs.Letters.{Letters, is_none, none, joined, without}
+use Rattle.tg_rights.specs.Letters.{Letters, is_none, joined}
 use Rattle.tg_rights.specs.Membership.{Contains, Distinct}
-use Rattle.tg_rights.proofs.MembershipLemmas.{contains_middle, distinct_around, contains_map, map_append}
-use Rattle.tg_rights.proofs.LettersLemmas.{is_none-none}
+use Rattle.tg_rights.proofs.MembershipLemmas.{contains_middle, contains_map}
 use Rattle.tg_graph.specs.Triples.{edge}
 use Rattle.tg_slots.specs.declared.slots.Occupant.{Occupant}
 use Rattle.tg_slots.specs.Table.{slot}
 use Rattle.tg_cells.specs.Lists.{Edge, cells, HasNone, Found}
 use Rattle.tg_heap.specs.Graph.{HeapGraph, edges, IsHeap}
-use Rattle.tg_heap.specs.Calls.{IsAdded, IsDropped}
-use Rattle.tg_heap.specs.declared.heap.Dropped.{Dropped}
-use Rattle.tg_heap.specs.declared.heap.Dropped.TheVariants.{Kept as Stayed, Gone}
-use Rattle.tg_heap.specs.declared.heap.HeapFull.{HeapFull}
+use Rattle.tg_heap.specs.Calls.{IsAdded}
 use Rattle.tg_marking.specs.Values as values
 use Rattle.tg_marking.specs.Values.{Spot, Body, Kept, as_kept, name, name_of, seen, IsTarget}
 use Rattle.tg_marking.specs.Steps as steps
@@ -25,23 +21,21 @@ use Rattle.tg_marking.proofs.SessionLemmas.{reroots_keeps, puts_keeps}
 use Rattle.tg_marking.proofs.DropLemmas.{drops_keeps}
 use Rattle.tg_marking.proofs.CountLemmas.{same_roots, left_puts, left_drops}
 use Rattle.tg_held.specs.Held as graph
-use Rattle.tg_held.proofs.HeldLemmas.{gains, joins, drops}
+use Rattle.tg_held.proofs.HeldLemmas.{gains, joins}
 use Rattle.tg_collect.specs.declared.machine.Root.{Root}
 use Rattle.tg_collect.specs.declared.machine.Roots.{Roots}
 use Rattle.tg_collect.specs.declared.machine.Progress.{Progress}
 use Rattle.tg_collect.specs.declared.machine.Machine.{Machine}
-use Rattle.tg_collect.specs.Machine.{RootLists, lists_of, with_target, bare, zip, body_of, body, progress_in, progress_of, CursorFits, AreRoots, Whole}
-use Rattle.tg_collect.specs.Calls.{Adds, Removes, progress_without}
+use Rattle.tg_collect.specs.Machine.{RootLists, lists_of, with_target, bare, body_of, body, progress_in, progress_of, CursorFits, AreRoots, Whole}
 use Rattle.tg_collect.specs.Stored.{Stored, stored}
-use Rattle.tg_collect.specs.Readings.{as_progress, kept, kept_from, progress, spot, held, serial_at, place, IsEdgeIn}
+use Rattle.tg_collect.specs.Readings.{as_progress, kept, kept_from, progress, spot, held, IsEdgeIn}
 use Rattle.tg_collect.specs.Sessions.{Leads, EdgeStored}
 use Rattle.tg_collect.proofs.ZipLemmas.{as_spot, at_slot, put_list}
-use Rattle.tg_collect.proofs.RootLemmas.{kept_within}
-use Rattle.tg_collect.proofs.ShownLemmas.{Once, held_at, held_set, edge_shown}
-use Rattle.tg_collect.proofs.StoreLemmas.{kept_is, stored_kept, once_stored, closed_so}
+use Rattle.tg_collect.proofs.ShownLemmas.{held_at, held_set, edge_shown}
+use Rattle.tg_collect.proofs.StoreLemmas.{kept_is, stored_kept, once_stored}
 use Rattle.tg_collect.proofs.CallLemmas.{Holds, owned_here}
 use Rattle.tg_collect.proofs.SeatLemmas.{bare_seat, reroots_seat, roots_seat, roots_move, stored_is, same_stage}
-use Rattle.tg_collect.proofs.EdgeLemmas.{heap_with, at_here, puts_progress, relabels, leaves}
+use Rattle.tg_collect.proofs.EdgeLemmas.{heap_with, puts_progress, relabels}
 
 -- What is held after a slot has other edges or another text.
 pub regarded_at : (v : Stored) (i : ℕ) (s : Spot) (k : Kept) (es : List Edge) (text : List ℕ) → spot v i ≡ Some s → kept v i ≡ Some k → seen (progress v) i (Some (record s { edges = es; text = text })) ≡ Some (record k { edges = es; text = text })

@@ -1,8 +1,6 @@
 -- Each step of the machine is a line of the table.
-use Rattle.std.proofs.Common.{◌≡◌, ◌≢◌, ℕ, zero, suc, ◌+◌, ◌<◌, ◌≤◌, List, [], ◌∷◌, ◌++◌, length, map, drop, Option, Some, None, Bool, true, false, inl, inr, sym, ◌∙◌, subst, ap, refl, arith, get_or, set, eq-eqb, length-set}
+use Rattle.std.proofs.Common.{◌≡◌, ℕ, ◌+◌, ◌<◌, ◌≤◌, List, [], ◌∷◌, ◌++◌, length, map, Option, Some, None, Bool, true, false, sym, ◌∙◌, subst, ap, refl, arith, set, eq-eqb}
 use Rattle.tg_rights.specs.Membership.{Contains, Distinct}
-use Rattle.tg_slots.specs.declared.slots.Occupant.{Occupant}
-use Rattle.tg_slots.specs.declared.colour.Colour.{Colour}
 use Rattle.tg_slots.specs.declared.colour.Colour.TheVariants.{White, Grey, Black}
 use Rattle.tg_slots.specs.Table as table
 use Rattle.tg_slots.specs.Table.{Table, Free, Has, slot}
@@ -12,14 +10,12 @@ use Rattle.tg_heap.specs.Marking.{remaining, passed}
 use Rattle.tg_heap.proofs.CursorLemmas.{split_whole, remaining_split}
 use Rattle.tg_marking.specs.Values as values
 use Rattle.tg_marking.specs.Values.{Spot, Body, spot, mark, out, HasRoot}
-use Rattle.tg_marking.specs.Steps.{put, shade, shade_all, shade_root, Line, starts, scans, blackens, takes, shades_target, starts_sweep, skips, whitens, strips, frees, finishes}
-use Rattle.tg_marking.specs.Invariant.{Invariant, IsScanned}
-use Rattle.tg_collect.specs.declared.machine.Root.{Root}
-use Rattle.tg_collect.specs.declared.machine.Scan.{Scan}
+use Rattle.tg_marking.specs.Steps.{shade, shade_all, Line, starts, scans, blackens, takes, shades_target, starts_sweep, skips, whitens, strips, frees, finishes}
+use Rattle.tg_marking.specs.Invariant.{IsScanned}
 use Rattle.tg_collect.specs.declared.machine.Progress.{Progress}
 use Rattle.tg_collect.specs.declared.machine.Progress.TheVariants.{Idle, Marking, Sweeping}
 use Rattle.tg_collect.specs.declared.machine.Machine.{Machine}
-use Rattle.tg_collect.specs.Machine.{RootLists, lists_of, bare, slots_of, all_slots, body_of, body, progress_in, progress_of, CursorFits, Whole, Steps, NoneWhite, ShadesFirst, shaded_slot, all_shaded, with_shaded, AreWithin, agent_slots, principal_slots}
+use Rattle.tg_collect.specs.Machine.{RootLists, lists_of, bare, body_of, body, progress_in, progress_of, CursorFits, Whole, Steps, NoneWhite, ShadesFirst, shaded_slot, all_shaded, with_shaded, agent_slots, principal_slots}
 use Rattle.tg_collect.proofs.ZipLemmas.{zip_size, at_slot, at_free, coloured_so, mark_so, out_so, put_slot, put_list, painted_so, shaded_so}
 
 -- The edges before a cursor that names a cell, that cell's edge, and those after it.

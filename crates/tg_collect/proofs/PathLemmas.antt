@@ -1,17 +1,17 @@
 -- Paths of the plain graph are paths of a store's slots, and back.
-use Rattle.std.proofs.Common.{◌≡◌, ℕ, List, [], ◌∷◌, ◌++◌, Some, Bool, true, false, inl, inr, refl, sym, ◌∙◌, subst, ap}
+use Rattle.std.proofs.Common.{◌≡◌, ℕ, List, [], ◌∷◌, ◌++◌, Some, true, refl, sym, ◌∙◌, subst, ap}
 use Rattle.std.specs.FinSet as finset
-use Rattle.tg_rights.specs.Letters.{Right, read, write, take, grant, has, is_none}
+use Rattle.tg_rights.specs.Letters.{Right, read, write, take, grant, has}
 use Rattle.tg_rights.proofs.LettersLemmas.{some_right, right_some}
 use Rattle.tg_rights.specs.Membership.{Contains}
 use Rattle.tg_graph.specs.Protection.{Protection, label, IsEdge}
 use Rattle.tg_graph.specs.Paths.{Leads, Live}
 use Rattle.tg_cells.specs.Lists.{Edge}
-use Rattle.tg_marking.specs.Values.{Kept, edges_of, as_kept}
+use Rattle.tg_marking.specs.Values.{Kept, edges_of}
 use Rattle.tg_marking.specs.Invariant.{IsLive, at_root, along}
 use Rattle.tg_marking.specs.Runs.{IsLiveIn}
 use Rattle.tg_collect.specs.Stored.{Stored}
-use Rattle.tg_collect.specs.Readings.{kept, place, progress, shown, spot, triples, held, IsEdgeIn, IsRootIn, IsRootAt}
+use Rattle.tg_collect.specs.Readings.{kept, progress, shown, spot, triples, held, IsEdgeIn, IsRootIn}
 use Rattle.tg_collect.specs.Views.{IsStore}
 use Rattle.tg_collect.proofs.RootLemmas.{root_listed, listed_root}
 use Rattle.tg_collect.proofs.ShownLemmas.{Once, edge_shown, shown_edge, place_kept}

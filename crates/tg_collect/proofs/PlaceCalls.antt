@@ -1,26 +1,14 @@
 -- A new vertex comes into a free slot, as a seat's target, and then an edge to it.
-use Rattle.std.proofs.Common.{◌≡◌, ◌≢◌, ℕ, zero, suc, ◌+◌, ◌<◌, ◌≤◌, List, [], ◌∷◌, length, Option, Some, None, Result, Ok, Err, ◌⊎◌, inl, inr, Bool, true, false, cond, nat_lt, sym, ◌∙◌, subst, ap, refl, arith, get_or, set, length-set, get_or-set_same, get_or-set_other}
-use Rattle.std.specs.Option.{is_some, unwrap_or}
+use Rattle.std.proofs.Common.{◌≡◌, ◌≢◌, ℕ, ◌<◌, ◌≤◌, List, [], length, Option, Some, None, inl, Bool, true, false, cond, nat_lt, sym, ◌∙◌, subst, ap, refl, arith, get_or, set, get_or-set_same, get_or-set_other}
 use Rattle.std.specs.FinMap as finmap
-use Rattle.std.specs.FinSet as finset
-use Rattle.tg_rights.specs.declared.limits.TheConstants.{SEATS}
-use Rattle.tg_rights.specs.Letters.{Letters, is_none}
-use Rattle.tg_rights.specs.Membership.{Contains, Distinct}
-use Rattle.tg_rights.proofs.MembershipLemmas.{contains_map}
 use Rattle.tg_rights.specs.declared.kind.Kind.{Kind}
-use Rattle.tg_graph.specs.Triples.{edge}
-use Rattle.tg_slots.specs.declared.slots.Occupant.{Occupant}
 use Rattle.tg_slots.specs.declared.colour.Colour.TheVariants.{White, Black}
-use Rattle.tg_slots.specs.Table.{Free, slot}
-use Rattle.tg_cells.specs.Lists.{Edge, cells, HasNone, Found}
-use Rattle.tg_heap.specs.Graph.{HeapGraph, edges, mark_at, IsHeap}
-use Rattle.tg_heap.specs.Calls.{IsAdded}
+use Rattle.tg_slots.specs.Table.{Free}
+use Rattle.tg_heap.specs.Graph.{mark_at, IsHeap}
 use Rattle.tg_marking.specs.Values as values
 use Rattle.tg_marking.specs.Values.{Spot, Body, Kept, name, name_of, seen, as_kept, keeps, AtRest, Marking, Sweeping}
 use Rattle.tg_marking.specs.Steps as steps
 use Rattle.tg_marking.specs.Steps.{put, new_colour, Places}
-use Rattle.tg_marking.specs.Left.{left}
-use Rattle.tg_marking.proofs.SpotLemmas.{put_each, at_within}
 use Rattle.tg_marking.proofs.SessionLemmas.{places_keeps}
 use Rattle.tg_marking.proofs.CountLemmas.{left_places}
 use Rattle.tg_held.specs.Held as graph
@@ -29,13 +17,12 @@ use Rattle.tg_held.proofs.HeldLemmas.{comes}
 use Rattle.tg_collect.specs.declared.machine.Root.{Root}
 use Rattle.tg_collect.specs.declared.machine.Roots.{Roots}
 use Rattle.tg_collect.specs.declared.machine.Machine.{Machine}
-use Rattle.tg_collect.specs.Machine.{RootLists, IsListed, lists_of, with_target, bare, zip, join, body_of, body, progress_in, progress_of, AreRoots, Whole}
+use Rattle.tg_collect.specs.Machine.{RootLists, lists_of, with_target, bare, body, progress_of, AreRoots, Whole}
 use Rattle.tg_collect.specs.Stored.{Stored, stored}
-use Rattle.tg_collect.specs.Readings.{as_progress, kept, kept_from, progress, spot, held, place, serial_of, IsHeldIn, IsParkedIn}
-use Rattle.tg_collect.proofs.ZipLemmas.{as_spot, at_slot, at_free, put_slot, zip_size}
-use Rattle.tg_collect.proofs.RootLemmas.{listed_root}
-use Rattle.tg_collect.proofs.ShownLemmas.{Once, held_at, held_set, from_size, kept_held}
-use Rattle.tg_collect.proofs.StoreLemmas.{kept_is, kept_name, stored_kept, once_stored}
+use Rattle.tg_collect.specs.Readings.{as_progress, kept, kept_from, progress, held, IsHeldIn, IsParkedIn}
+use Rattle.tg_collect.proofs.ZipLemmas.{at_free, put_slot, zip_size}
+use Rattle.tg_collect.proofs.ShownLemmas.{held_at, held_set, from_size, kept_held}
+use Rattle.tg_collect.proofs.StoreLemmas.{kept_name, once_stored}
 use Rattle.tg_collect.proofs.SeatLemmas.{bare_seat, roots_seat, roots_move, same_progress, same_cursor, stored_is}
 
 -- A serial that is neither held nor parked is in no slot.

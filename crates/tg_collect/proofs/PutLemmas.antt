@@ -1,5 +1,5 @@
 -- A vertex that comes has the colour for its slot.
-use Rattle.std.proofs.Common.{◌≡◌, ℕ, ◌<◌, List, ◌∷◌, length, Option, Some, None, Ok, Bool, true, false, cond, nat_lt, sym, ◌∙◌, ap, refl, set, get_or, get_or-set_same}
+use Rattle.std.proofs.Common.{◌≡◌, ℕ, ◌<◌, List, ◌∷◌, length, Option, Some, None, Ok, Bool, true, false, cond, sym, ◌∙◌, ap, refl, set, get_or-set_same}
 use Rattle.std.proofs.lemmas.List.{set-set}
 use Rattle.tg_rights.specs.declared.kind.Kind.{Kind}
 use Rattle.tg_slots.specs.declared.slots.Occupant.{Occupant}

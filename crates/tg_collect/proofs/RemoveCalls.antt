@@ -1,13 +1,11 @@
 -- What the calls that take rights, add vertices and replace texts do to a store.
-use Rattle.std.proofs.Common.{◌≡◌, ◌≢◌, ℕ, suc, ◌+◌, ◌<◌, ◌≤◌, List, [], ◌∷◌, ◌++◌, length, map, Option, Some, None, ◌⊎◌, inl, inr, Bool, true, false, cond, eqb, ◌&&◌, sym, ◌∙◌, subst, ap, refl, arith, get_or, set, get_or-set_same}
+use Rattle.std.proofs.Common.{◌≡◌, ◌≢◌, ℕ, ◌+◌, ◌<◌, List, [], ◌∷◌, ◌++◌, length, Option, Some, None, ◌⊎◌, inl, inr, Bool, true, false, cond, eqb, ◌&&◌, sym, ◌∙◌, subst, ap, refl, arith, get_or, set, get_or-set_same}
 use Rattle.std.specs.FinSet as finset
 use Rattle.tg_rights.specs.Letters.{Letters, is_none, none, without}
 use Rattle.tg_rights.specs.Membership.{Contains, Distinct}
 use Rattle.tg_rights.proofs.MembershipLemmas.{contains_middle, contains_map, map_append, distinct_around}
 use Rattle.tg_rights.proofs.LettersLemmas.{is_none-none}
 use Rattle.tg_graph.specs.Triples.{edge}
-use Rattle.tg_slots.specs.declared.slots.Occupant.{Occupant}
-use Rattle.tg_slots.specs.Table.{slot}
 use Rattle.tg_cells.specs.Lists.{Edge, cells, serials, first_cell, Found}
 use Rattle.tg_heap.specs.Graph.{HeapGraph, edges, IsHeap}
 use Rattle.tg_heap.specs.Calls.{IsDropped}
@@ -22,8 +20,8 @@ use Rattle.tg_held.proofs.HeldLemmas.{drops}
 use Rattle.tg_collect.specs.declared.machine.Progress.{Progress}
 use Rattle.tg_collect.specs.declared.machine.Progress.TheVariants.{Idle, Marking, Sweeping}
 use Rattle.tg_collect.specs.declared.machine.Machine.{Machine}
-use Rattle.tg_collect.specs.Machine.{lists_of, body, progress_in, progress_of, Whole}
-use Rattle.tg_collect.specs.Calls.{is_at, progress_without, progress_dropped, Removes}
+use Rattle.tg_collect.specs.Machine.{lists_of, progress_in, Whole}
+use Rattle.tg_collect.specs.Calls.{is_at, progress_without, progress_dropped}
 use Rattle.tg_collect.specs.Stored.{Stored, stored}
 use Rattle.tg_collect.specs.Readings.{as_progress, kept, kept_from, progress, held, IsEdgeIn}
 use Rattle.tg_collect.specs.Sessions.{Leads, RightsRemoved}

@@ -1,18 +1,17 @@
 -- The roots of a machine: their slots and their serials.
-use Rattle.std.proofs.Common.{◌≡◌, ◌≢◌, ℕ, zero, suc, ◌+◌, ◌<◌, ◌≤◌, List, [], ◌∷◌, ◌++◌, length, map, drop, Option, Some, None, ◌⊎◌, inl, inr, sym, ◌∙◌, subst, ap, refl, arith, get_or, set, length-set}
+use Rattle.std.proofs.Common.{◌≡◌, ◌≢◌, ℕ, zero, suc, ◌+◌, ◌<◌, List, [], ◌∷◌, length, drop, Option, Some, None, inl, inr, sym, ◌∙◌, subst, ap, refl, arith, get_or, length-set}
 use Rattle.std.proofs.lemmas.List.{length-map}
 use Rattle.tg_rights.specs.Membership.{Contains}
 use Rattle.tg_rights.proofs.MembershipLemmas.{contains_left, contains_right, contains_append}
 use Rattle.tg_slots.specs.Table.{Table, Has, mark_of}
 use Rattle.tg_slots.specs.declared.colour.Colour.TheVariants.{White}
-use Rattle.tg_heap.specs.Graph.{HeapGraph, mark_at, shaded, shaded_by}
-use Rattle.tg_heap.specs.Graph as graph
+use Rattle.tg_heap.specs.Graph.{mark_at, shaded, shaded_by}
 use Rattle.tg_slots.specs.Table as table
-use Rattle.tg_marking.specs.Values.{Body, spot, mark, Kept, kept, seen, HasRoot, IsTarget, IsRoot, Progress}
+use Rattle.tg_marking.specs.Values.{Body, spot, mark, Kept, kept, seen, HasRoot, IsRoot, Progress}
 use Rattle.tg_marking.proofs.SpotLemmas.{at_within}
 use Rattle.tg_collect.specs.declared.machine.Root.{Root}
 use Rattle.tg_collect.specs.declared.machine.Machine.{Machine}
-use Rattle.tg_collect.specs.Machine.{RootLists, IsListed, lists_of, slot_of, slots_of, all_slots, bare, body, progress_of, Whole, NoneWhite, ShadesFirst, shaded_slot, all_shaded, with_shaded, AreWithin, agent_slots, principal_slots}
+use Rattle.tg_collect.specs.Machine.{RootLists, IsListed, lists_of, slot_of, slots_of, all_slots, bare, body, progress_of, Whole, NoneWhite, ShadesFirst, all_shaded, with_shaded, AreWithin, agent_slots, principal_slots}
 use Rattle.tg_collect.proofs.ZipLemmas.{zip_size, mark_so}
 
 -- The slot of a place of the targets, and back.

@@ -1,5 +1,5 @@
 -- A run of a store is a run of its slots; what was not live is gone, and there are few steps between two ends.
-use Rattle.std.proofs.Common.{◌≡◌, ◌≢◌, ℕ, zero, suc, ◌+◌, ◌<◌, ◌≤◌, List, [], ◌∷◌, length, map, Option, Some, None, ◌⊎◌, inl, inr, Bool, true, false, cond, nat_lt, sym, ◌∙◌, subst, ap, refl, arith, get_or}
+use Rattle.std.proofs.Common.{◌≡◌, ◌≢◌, ℕ, suc, ◌+◌, ◌<◌, ◌≤◌, List, [], ◌∷◌, Option, Some, ◌⊎◌, inl, inr, Bool, true, false, cond, nat_lt, sym, ◌∙◌, subst, ap, refl, arith}
 use Rattle.tg_rights.specs.Membership.{Contains}
 use Rattle.tg_slots.specs.declared.colour.Colour.TheVariants.{White, Grey, Black}
 use Rattle.tg_cells.specs.Lists.{Edge}
@@ -7,19 +7,18 @@ use Rattle.tg_graph.specs.Paths.{Live}
 use Rattle.tg_marking.specs.Values as values
 use Rattle.tg_marking.specs.Values.{Spot, Stage, Progress, AtRest, Marking, Sweeping, Body, Kept, as_kept, seen, keeps}
 use Rattle.tg_marking.specs.Steps.{new_colour}
-use Rattle.tg_marking.specs.Invariant.{at_root}
 use Rattle.tg_marking.specs.Runs as marking
 use Rattle.tg_marking.specs.Runs.{IsLiveIn, Sane, Run}
 use Rattle.tg_marking.proofs.RunLemmas as marked
 use Rattle.tg_collect.specs.declared.note.Phase.TheVariants as phase
 use Rattle.tg_collect.specs.Stored.{Stored}
-use Rattle.tg_collect.specs.Readings.{kept, place, name, progress, as_progress, phase_in, shown, spot, held, principals, pending, agents, slot_count, cycle_bound, IsHeldIn, IsParkedIn, IsRootIn, IsRootAt}
-use Rattle.tg_collect.specs.Views.{IsStore, Collected}
+use Rattle.tg_collect.specs.Readings.{kept, progress, as_progress, phase_in, shown, spot, held, slot_count, cycle_bound, IsHeldIn, IsParkedIn, IsRootIn}
+use Rattle.tg_collect.specs.Views.{IsStore}
 use Rattle.tg_collect.specs.Sessions.{Leads, Changes, same, shaded, regards, comes, Acted}
 use Rattle.tg_collect.specs.Runs.{StoreRun, start, acts, goes, ends, IsComplete, IsBounded}
 use Rattle.tg_collect.proofs.RootLemmas.{root_listed}
-use Rattle.tg_collect.proofs.ShownLemmas.{Once, held_kept, kept_held, place_kept}
-use Rattle.tg_collect.proofs.StoreLemmas.{kept_is, kept_name, once_so, in_root, contains_mapped}
+use Rattle.tg_collect.proofs.ShownLemmas.{held_kept, kept_held, place_kept}
+use Rattle.tg_collect.proofs.StoreLemmas.{kept_is, once_so, in_root, contains_mapped}
 use Rattle.tg_collect.proofs.PathLemmas.{live_slots, slots_live, root_live}
 
 at_rest : (g : Stage) → as_progress g ≡ AtRest → g ≡ values.Idle

@@ -1,10 +1,9 @@
 -- A seat's target comes or goes, and slots are shaded.
-use Rattle.std.proofs.Common.{◌≡◌, ◌≢◌, ℕ, zero, suc, ◌<◌, ◌≤◌, List, [], ◌∷◌, length, Option, Some, None, ◌⊎◌, inl, inr, sym, ◌∙◌, subst, ap, refl, arith, get_or, set, length-set, get_or-set_same}
-use Rattle.std.proofs.lemmas.List.{length-map}
+use Rattle.std.proofs.Common.{◌≡◌, ℕ, zero, suc, ◌<◌, ◌≤◌, List, [], ◌∷◌, length, Option, Some, None, ◌⊎◌, inl, inr, sym, ◌∙◌, subst, ap, refl, get_or, set, length-set, get_or-set_same}
 use Rattle.tg_rights.specs.Membership.{Contains}
 use Rattle.tg_slots.specs.declared.colour.Colour.{Colour}
 use Rattle.tg_slots.specs.declared.colour.Colour.TheVariants.{White, Grey, Black}
-use Rattle.tg_heap.specs.Graph.{HeapGraph, edges, shaded}
+use Rattle.tg_heap.specs.Graph.{HeapGraph, shaded}
 use Rattle.tg_heap.specs.Marking.{remaining}
 use Rattle.tg_cells.specs.Lists.{first_cell}
 use Rattle.tg_marking.specs.Values as values
@@ -20,15 +19,14 @@ use Rattle.tg_collect.specs.declared.machine.Roots.{Roots}
 use Rattle.tg_collect.specs.declared.machine.Progress.{Progress}
 use Rattle.tg_collect.specs.declared.machine.Progress.TheVariants.{Idle, Marking, Sweeping}
 use Rattle.tg_collect.specs.declared.machine.Machine.{Machine}
-use Rattle.tg_collect.specs.Machine.{RootLists, IsListed, with_target, lists_of, slot_of, slots_of, bare, zip, body_of, body, progress_in, progress_of, CursorFits, AreRoots, Whole}
+use Rattle.tg_collect.specs.Machine.{RootLists, IsListed, with_target, lists_of, slot_of, slots_of, bare, zip, body, progress_in, progress_of, CursorFits, AreRoots, Whole}
 use Rattle.tg_collect.specs.Calls.{ShadesSeat}
-use Rattle.tg_collect.specs.Stored.{Stored, stored}
+use Rattle.tg_collect.specs.Stored.{stored}
 use Rattle.tg_collect.specs.Readings.{shown, root_serial}
 use Rattle.tg_collect.specs.Sessions.{Shaded, TargetShaded}
 use Rattle.tg_collect.proofs.ZipLemmas.{shaded_so}
-use Rattle.tg_collect.proofs.RootLemmas.{seat_slot, seat_contains, listed_root, shaded_size}
+use Rattle.tg_collect.proofs.RootLemmas.{seat_slot, seat_contains, listed_root}
 use Rattle.tg_collect.proofs.StoreLemmas.{named_so, stored_kept}
-use Rattle.tg_collect.proofs.StepLemmas.{kept_so}
 use Rattle.tg_collect.proofs.ShownLemmas.{held_same}
 use Rattle.tg_collect.proofs.CallLemmas.{seat_shown}
 

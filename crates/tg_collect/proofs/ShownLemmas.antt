@@ -1,5 +1,5 @@
 -- What the graph of what is held says of the slots, and back.
-use Rattle.std.proofs.Common.{◌≡◌, ◌≢◌, ℕ, zero, suc, ◌+◌, ◌<◌, List, [], ◌∷◌, ◌++◌, length, map, Option, Some, None, ◌⊎◌, inl, inr, Bool, true, false, cond, ◌&&◌, ◌||◌, ◌==◌, eqb-true, eq-eqb, sym, ◌∙◌, subst, ap, refl, arith, get_or, set}
+use Rattle.std.proofs.Common.{◌≡◌, ℕ, zero, suc, ◌+◌, List, [], ◌∷◌, length, Option, Some, None, ◌⊎◌, inl, inr, Bool, true, false, cond, ◌&&◌, ◌||◌, ◌==◌, eqb-true, eq-eqb, sym, ◌∙◌, subst, ap, refl, arith, get_or, set}
 use Rattle.std.specs.Option.{is_some}
 use Rattle.std.specs.Ordering.{nat_cmp, eq_by_cmp}
 use Rattle.std.specs.Cmp.{nat_cmp_total, unsigned_tied}
@@ -12,7 +12,7 @@ use Rattle.tg_rights.proofs.LettersLemmas.{some_right}
 use Rattle.tg_graph.specs.declared.vertex.Vertex.{Vertex}
 use Rattle.tg_graph.specs.Triples.{Triple}
 use Rattle.tg_cells.specs.Lists.{Edge}
-use Rattle.tg_marking.specs.Values.{Spot, Progress, Kept, seen, kept}
+use Rattle.tg_marking.specs.Values.{Spot, Progress, Kept, seen}
 use Rattle.tg_held.specs.Held as graph
 use Rattle.tg_held.specs.Held.{vertex_of, entries}
 use Rattle.tg_held.proofs.HeldLemmas.{says_edge, says, contains-held}

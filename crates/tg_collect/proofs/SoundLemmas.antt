@@ -1,12 +1,11 @@
 -- Each machine's value is a store.
-use Rattle.std.proofs.Common.{◌≡◌, ◌≢◌, ℕ, zero, suc, ◌+◌, ◌<◌, ◌≤◌, List, [], ◌∷◌, length, map, Option, Some, None, inl, inr, Bool, true, false, cond, sym, ◌∙◌, subst, ap, refl, arith, get_or}
+use Rattle.std.proofs.Common.{◌≡◌, ℕ, zero, suc, ◌+◌, ◌≤◌, List, length, map, Option, Some, None, Bool, true, false, cond, sym, ◌∙◌, subst, ap, refl, arith}
 use Rattle.std.proofs.lemmas.List.{length-map}
-use Rattle.std.specs.FinSet as finset
 use Rattle.tg_rights.specs.Letters.{is_none}
 use Rattle.tg_rights.specs.Membership.{Contains, Distinct}
 use Rattle.tg_cells.specs.Lists.{Edge}
 use Rattle.tg_heap.specs.Graph.{edges, IsHeap}
-use Rattle.tg_graph.specs.Fullness.{vertex_count, edge_count}
+use Rattle.tg_graph.specs.Fullness.{edge_count}
 use Rattle.tg_marking.specs.Values as values
 use Rattle.tg_marking.specs.Values.{Spot, Progress, AtRest, Marking, Sweeping, Body, Kept, edges_of, as_kept, name_of}
 use Rattle.tg_marking.specs.Left.{total, left, parked_cells, held_cells}
@@ -15,8 +14,8 @@ use Rattle.tg_marking.proofs.CountLemmas.{counted}
 use Rattle.tg_collect.specs.declared.machine.Root.{Root}
 use Rattle.tg_collect.specs.declared.machine.Machine.{Machine}
 use Rattle.tg_collect.specs.Machine.{lists_of, body, progress_of, Whole}
-use Rattle.tg_collect.specs.Stored.{Stored, stored}
-use Rattle.tg_collect.specs.Readings.{kept, held, progress, shown, spot, name, root_serial, serial_of, IsHeldIn, IsParkedIn}
+use Rattle.tg_collect.specs.Stored.{stored}
+use Rattle.tg_collect.specs.Readings.{kept, held, progress, shown, spot, root_serial, serial_of, IsHeldIn, IsParkedIn}
 use Rattle.tg_collect.specs.Views.{IsStore}
 use Rattle.tg_collect.proofs.CountLemmas.{out_all, cells_so, celled, total_same}
 use Rattle.tg_collect.proofs.ShownLemmas.{place_kept, held_kept, kept_held}

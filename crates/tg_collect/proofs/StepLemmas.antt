@@ -1,11 +1,10 @@
 -- What a collector step leaves, and what contracts see of it.
-use Rattle.std.proofs.Common.{◌≡◌, ◌≢◌, ℕ, zero, suc, ◌+◌, ◌<◌, ◌≤◌, List, [], ◌∷◌, ◌++◌, length, map, Option, Some, None, ◌⊎◌, Bool, true, false, cond, nat_lt, inl, inr, sym, ◌∙◌, subst, ap, refl, arith, get_or, length-append}
+use Rattle.std.proofs.Common.{◌≡◌, ◌≢◌, ℕ, ◌+◌, ◌<◌, ◌≤◌, List, [], ◌∷◌, length, Option, Some, None, ◌⊎◌, Bool, true, false, inl, inr, sym, ◌∙◌, subst, ap, refl, arith, length-append}
 use Rattle.std.proofs.lemmas.Bool.{le-ltb}
 use Rattle.std.proofs.lemmas.List.{length-map}
 use Rattle.tg_rights.specs.declared.limits.TheConstants.{MAX_PRINCIPALS, SEATS}
 use Rattle.tg_rights.specs.Membership.{Contains}
-use Rattle.tg_slots.specs.declared.colour.Colour.{Colour}
-use Rattle.tg_slots.specs.declared.colour.Colour.TheVariants.{White, Grey, Black}
+use Rattle.tg_slots.specs.declared.colour.Colour.TheVariants.{Grey}
 use Rattle.tg_slots.specs.Table.{Has}
 use Rattle.tg_heap.specs.Graph.{mark_at, IsHeap}
 use Rattle.tg_marking.specs.Values as values
@@ -18,15 +17,13 @@ use Rattle.tg_marking.specs.Collected.{Turns, stays, greys, Follows, begins, mar
 use Rattle.tg_marking.proofs.SpotLemmas.{put_each, shade_each, at_within}
 use Rattle.tg_marking.proofs.KeepLemmas.{line_keeps, line_collected}
 use Rattle.tg_marking.proofs.LeftLemmas.{bounded}
-use Rattle.tg_collect.specs.declared.note.Phase.TheVariants as phase
 use Rattle.tg_collect.specs.declared.machine.Root.{Root}
 use Rattle.tg_collect.specs.declared.machine.Progress.TheVariants as course
 use Rattle.tg_collect.specs.declared.machine.Progress as declared
 use Rattle.tg_collect.specs.declared.machine.Machine.{Machine}
-use Rattle.tg_collect.specs.Machine.{RootLists, IsListed, lists_of, slot_of, slots_of, all_slots, bare, body, progress_in, progress_of, AreRoots, Whole, Steps, phase_of}
-use Rattle.tg_collect.specs.Stored.{Stored, stored}
+use Rattle.tg_collect.specs.Machine.{RootLists, IsListed, lists_of, slot_of, slots_of, all_slots, body, progress_in, progress_of, Whole, Steps}
+use Rattle.tg_collect.specs.Stored.{stored}
 use Rattle.tg_collect.specs.Readings.{as_progress, phase_in}
-use Rattle.tg_collect.specs.Readings as readings
 use Rattle.tg_collect.specs.Views as views
 use Rattle.tg_collect.specs.Views.{Collected, ChangesMarks, most_marks}
 use Rattle.tg_collect.proofs.ZipLemmas.{mark_so}

@@ -1,33 +1,23 @@
 -- What each store has.
-use Rattle.std.proofs.Common.{◌≡◌, ◌≢◌, ℕ, suc, ◌+◌, ◌<◌, ◌≤◌, List, [], ◌∷◌, length, map, Option, Some, None, ◌⊎◌, inl, inr, Bool, true, false, cond, sym, ◌∙◌, subst, ap, refl, arith, get_or}
-use Rattle.std.specs.Option.{is_some, unwrap_or}
-use Rattle.std.proofs.lemmas.List.{length-map}
+use Rattle.std.proofs.Common.{◌≡◌, ◌≢◌, ℕ, ◌<◌, ◌≤◌, List, [], ◌∷◌, map, Option, Some, None, inl, inr, Bool, true, false, cond, sym, ◌∙◌, subst, ap, refl}
 use Rattle.std.specs.FinSet as finset
-use Rattle.tg_rights.specs.Membership.{Contains, Distinct}
+use Rattle.tg_rights.specs.Membership.{Contains}
 use Rattle.tg_rights.proofs.MembershipLemmas.{contains_map}
-use Rattle.tg_slots.specs.Table.{Free, Has, slot}
-use Rattle.tg_slots.specs.Table as table
-use Rattle.tg_slots.specs.declared.slots.Occupant.{Occupant}
+use Rattle.tg_slots.specs.Table.{Has}
 use Rattle.tg_slots.specs.declared.colour.Colour.TheVariants.{Grey, Black}
 use Rattle.tg_graph.specs.Triples.{Triple}
-use Rattle.tg_cells.specs.Lists.{Edge}
-use Rattle.tg_heap.specs.Graph.{HeapGraph, edges, mark_at, IsHeap}
 use Rattle.tg_marking.specs.Values as values
 use Rattle.tg_marking.specs.Values.{Spot, Progress, AtRest, Marking, Sweeping, Body, Kept, as_kept, seen, name_of, mark}
-use Rattle.tg_marking.specs.Invariant.{Closed, Leads, Phased}
+use Rattle.tg_marking.specs.Invariant.{Closed, Phased}
 use Rattle.tg_marking.proofs.MoveLemmas.{closed_same}
 use Rattle.tg_collect.specs.declared.machine.Root.{Root}
 use Rattle.tg_collect.specs.declared.machine.Machine.{Machine}
-use Rattle.tg_collect.specs.Machine.{RootLists, IsListed, lists_of, bare, body, body_of, progress_of, join, Whole}
+use Rattle.tg_collect.specs.Machine.{IsListed, lists_of, body, progress_of, Whole}
 use Rattle.tg_collect.specs.Stored.{Stored, stored}
-use Rattle.tg_collect.specs.Readings.{kept, name, place, mark_in, root_serial, triples, serial_at, serial_of, IsHeldIn, IsParkedIn, IsRootIn, IsRootAt, progress, shown, spot}
-use Rattle.tg_collect.specs.Readings as readings
-use Rattle.tg_collect.specs.Views.{IsStore}
-use Rattle.tg_collect.proofs.ZipLemmas.{at_slot, zip_at}
-use Rattle.tg_collect.proofs.RootLemmas.{root_listed, listed_root}
-use Rattle.tg_collect.proofs.CountLemmas.{out_all}
+use Rattle.tg_collect.specs.Readings.{kept, name, place, root_serial, triples, serial_of, IsHeldIn, IsParkedIn, IsRootIn, IsRootAt, progress, spot}
+use Rattle.tg_collect.proofs.RootLemmas.{listed_root}
 use Rattle.tg_collect.proofs.StepLemmas.{kept_so}
-use Rattle.tg_collect.proofs.ShownLemmas.{Once, triple_owned, held_at, held_kept, kept_held, place_kept}
+use Rattle.tg_collect.proofs.ShownLemmas.{Once, triple_owned, held_at, held_kept, kept_held}
 
 -- What is held has the slot's serial, and is the slot's vertex.
 pub kept_is : (p : Progress) (i : ℕ) (o : Option Spot) (k : Kept) → seen p i o ≡ Some k → (s : Spot) × (o ≡ Some s) × (values.keeps p i s.colour ≡ true) × (as_kept s ≡ k)

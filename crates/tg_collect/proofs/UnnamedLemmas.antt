@@ -1,5 +1,5 @@
 -- A serial that no slot has is neither held nor parked.
-use Rattle.std.proofs.Common.{◌≡◌, ◌≢◌, ℕ, ◌<◌, List, length, Option, Some, None, sym, ◌∙◌, ap, refl}
+use Rattle.std.proofs.Common.{◌≡◌, ◌≢◌, ℕ, ◌<◌, length, Option, Some, None, sym, ◌∙◌, ap, refl}
 use Rattle.tg_slots.specs.declared.slots.Occupant.{Occupant}
 use Rattle.tg_slots.specs.Table.{slot, in_slot}
 use Rattle.tg_heap.specs.Graph.{edges}

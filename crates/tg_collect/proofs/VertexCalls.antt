@@ -1,43 +1,28 @@
 -- What a new vertex, and another text, do to a store.
-use Rattle.std.proofs.Common.{◌≡◌, ◌≢◌, ℕ, suc, ◌+◌, ◌<◌, ◌≤◌, List, [], ◌∷◌, ◌++◌, length, map, Option, Some, None, Ok, ◌⊎◌, inl, inr, Bool, true, false, sym, ◌∙◌, subst, ap, refl, arith, get_or, set, length-set, get_or-set_same, get_or-set_other}
-use Rattle.std.specs.Option.{is_some, unwrap_or}
-use Rattle.std.specs.FinMap as finmap
-use Rattle.std.specs.FinSet as finset
-use Rattle.tg_rights.specs.Letters.{Letters, is_none}
-use Rattle.tg_rights.specs.Membership.{Contains, Distinct}
-use Rattle.tg_rights.proofs.MembershipLemmas.{contains_map}
-use Rattle.tg_rights.specs.declared.kind.Kind.{Kind}
-use Rattle.tg_graph.specs.Triples.{edge}
+use Rattle.std.proofs.Common.{◌≡◌, ℕ, List, Some, inr, sym, ◌∙◌, subst, ap, refl, set}
 use Rattle.tg_slots.specs.declared.slots.Occupant.{Occupant}
-use Rattle.tg_slots.specs.Table.{Free, slot}
-use Rattle.tg_cells.specs.Lists.{Edge, cells, HasNone, Found}
-use Rattle.tg_heap.specs.Graph.{HeapGraph, edges, mark_at, IsHeap}
-use Rattle.tg_heap.specs.Calls.{IsAdded}
+use Rattle.tg_cells.specs.Lists.{Edge}
+use Rattle.tg_heap.specs.Graph.{HeapGraph, edges}
 use Rattle.tg_marking.specs.Values as values
 use Rattle.tg_marking.specs.Values.{Spot, Body, Kept, name, name_of, seen, as_kept}
-use Rattle.tg_marking.specs.Steps as steps
-use Rattle.tg_marking.specs.Steps.{put, new_colour, Places, Rewrites}
+use Rattle.tg_marking.specs.Steps.{put, Rewrites}
 use Rattle.tg_marking.proofs.SpotLemmas.{put_each, at_within}
-use Rattle.tg_marking.proofs.SessionLemmas.{places_keeps}
 use Rattle.tg_marking.proofs.DropLemmas.{rewrites_keeps}
-use Rattle.tg_marking.proofs.CountLemmas.{left_places, left_rewrites}
+use Rattle.tg_marking.proofs.CountLemmas.{left_rewrites}
 use Rattle.tg_held.specs.Held as graph
 use Rattle.tg_held.specs.Held.{vertex_of, Apart}
 use Rattle.tg_held.proofs.HeldLemmas.{comes}
-use Rattle.tg_collect.specs.declared.machine.Root.{Root}
-use Rattle.tg_collect.specs.declared.machine.Roots.{Roots}
 use Rattle.tg_collect.specs.declared.machine.Machine.{Machine}
-use Rattle.tg_collect.specs.Machine.{RootLists, IsListed, lists_of, with_target, bare, zip, body_of, body, progress_of, AreRoots, Whole}
+use Rattle.tg_collect.specs.Machine.{lists_of, body, progress_of, Whole}
 use Rattle.tg_collect.specs.Calls.{SetsText}
 use Rattle.tg_collect.specs.Stored.{Stored, stored}
-use Rattle.tg_collect.specs.Readings.{as_progress, kept, kept_from, progress, spot, held, place, serial_at, IsHeldIn, IsParkedIn}
+use Rattle.tg_collect.specs.Readings.{kept_from, progress}
 use Rattle.tg_collect.specs.Sessions.{TextReplaced}
-use Rattle.tg_collect.proofs.ZipLemmas.{as_spot, at_slot, at_free, put_slot}
-use Rattle.tg_collect.proofs.RootLemmas.{listed_root}
-use Rattle.tg_collect.proofs.ShownLemmas.{Once, held_at, held_set, from_size, vertex_found}
-use Rattle.tg_collect.proofs.StoreLemmas.{kept_is, kept_name, stored_kept, once_stored}
+use Rattle.tg_collect.proofs.ZipLemmas.{as_spot, at_slot, put_slot}
+use Rattle.tg_collect.proofs.ShownLemmas.{held_at, vertex_found}
+use Rattle.tg_collect.proofs.StoreLemmas.{once_stored}
 use Rattle.tg_collect.proofs.CallLemmas.{Holds}
-use Rattle.tg_collect.proofs.SeatLemmas.{bare_seat, roots_seat, roots_move, same_progress, same_cursor, stored_is}
+use Rattle.tg_collect.proofs.SeatLemmas.{roots_move, same_progress, same_cursor, stored_is}
 use Rattle.tg_collect.proofs.EdgeCalls.{regarded}
 use Rattle.tg_collect.proofs.RemoveCalls.{apart_so}
 

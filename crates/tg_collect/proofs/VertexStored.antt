@@ -1,17 +1,17 @@
 -- The whole call that adds a vertex with an edge to it.
-use Rattle.std.proofs.Common.{◌≡◌, ◌≢◌, ℕ, zero, suc, ◌+◌, ◌<◌, ◌≤◌, List, [], ◌∷◌, length, Option, Some, None, Ok, ◌⊎◌, inl, inr, true, sym, ◌∙◌, subst, ap, refl, arith, get_or, set, length-set, get_or-set_same, get_or-set_other}
+use Rattle.std.proofs.Common.{◌≡◌, ◌≢◌, ℕ, ◌+◌, ◌<◌, List, [], ◌∷◌, length, Option, Some, None, Ok, inl, inr, true, sym, ◌∙◌, subst, ap, refl, arith, get_or, set, get_or-set_same, get_or-set_other}
 use Rattle.std.specs.Option.{is_some, unwrap_or}
 use Rattle.std.specs.FinSet as finset
 use Rattle.tg_rights.specs.declared.limits.TheConstants.{SEATS}
-use Rattle.tg_rights.specs.Letters.{Letters, is_none}
+use Rattle.tg_rights.specs.Letters.{Letters}
 use Rattle.tg_rights.specs.Membership.{Contains, Distinct}
-use Rattle.tg_rights.proofs.MembershipLemmas.{contains_map, contains_middle}
+use Rattle.tg_rights.proofs.MembershipLemmas.{contains_map}
 use Rattle.tg_rights.specs.declared.kind.Kind.{Kind}
 use Rattle.tg_graph.specs.Triples.{edge}
 use Rattle.tg_graph.specs.Protection.{Protection}
 use Rattle.tg_slots.specs.declared.slots.Occupant.{Occupant}
 use Rattle.tg_slots.specs.Table.{Free, slot, mark_of}
-use Rattle.tg_cells.specs.Lists.{Edge, cells, HasNone, Found}
+use Rattle.tg_cells.specs.Lists.{Edge, cells, HasNone}
 use Rattle.tg_heap.specs.Graph.{HeapGraph, edges, mark_at, IsHeap}
 use Rattle.tg_heap.specs.Calls.{IsAdded}
 use Rattle.tg_marking.specs.Values as values
@@ -34,7 +34,7 @@ use Rattle.tg_collect.proofs.StoreLemmas.{stored_kept, once_stored, closed_so}
 use Rattle.tg_collect.proofs.CallLemmas.{Holds, holds, placed_mark, found_contains}
 use Rattle.tg_collect.proofs.SeatLemmas.{bare_seat}
 use Rattle.tg_collect.proofs.EdgeLemmas.{puts_progress}
-use Rattle.tg_collect.proofs.EdgeCalls.{Replaced, replaced_puts, regarded}
+use Rattle.tg_collect.proofs.EdgeCalls.{replaced_puts, regarded}
 use Rattle.tg_collect.proofs.AddCalls.{occupant_same, idle_slot, seat_inside}
 use Rattle.tg_collect.proofs.PlaceCalls as placed
 use Rattle.tg_collect.proofs.PlaceCalls.{placed_whole, placed_left, placed_is, placed_graph, placed_other, placed_here, new_same}

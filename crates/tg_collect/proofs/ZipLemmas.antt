@@ -1,5 +1,5 @@
 -- What each change of the heap is in one list of slots.
-use Rattle.std.proofs.Common.{◌≡◌, ◌≢◌, ℕ, zero, suc, ◌<◌, List, [], ◌∷◌, length, Option, Some, None, sym, ◌∙◌, ap, refl, arith, get_or, set}
+use Rattle.std.proofs.Common.{◌≡◌, ◌≢◌, ℕ, zero, suc, List, [], ◌∷◌, length, Option, Some, None, sym, ◌∙◌, ap, refl, arith, get_or, set}
 use Rattle.tg_slots.specs.declared.slots.Occupant.{Occupant}
 use Rattle.tg_slots.specs.declared.colour.Colour.{Colour}
 use Rattle.tg_slots.specs.declared.colour.Colour.TheVariants.{White, Grey, Black}
@@ -7,7 +7,7 @@ use Rattle.tg_slots.specs.Table as table
 use Rattle.tg_slots.specs.Table.{Table, Mark, Free, Has, coloured, slot}
 use Rattle.tg_cells.specs.Lists.{Edge}
 use Rattle.tg_heap.specs.Graph.{HeapGraph, edges, mark_at, shaded, shaded_by, painted}
-use Rattle.tg_marking.specs.Values.{Spot, Body, spot, mark, mark_of, out, edges_of}
+use Rattle.tg_marking.specs.Values.{Spot, spot, mark, mark_of, out, edges_of}
 use Rattle.tg_marking.specs.Steps.{put, shade, shade_spot, shade_in}
 use Rattle.tg_collect.specs.Machine.{RootLists, bare, join, zip, body_of}
 

@@ -1,5 +1,5 @@
 -- the session steps, over the machine as the crate sees it
-use Rattle.std.specs.Prelude.{◌≡◌, ℕ, ◌+◌, List, [], ◌∷◌, Option, Some, None, Result, Ok, Err, get_or, set, Bool, false, cond, eqb, ◌&&◌, nat_lt}
+use Rattle.std.specs.Prelude.{◌≡◌, ℕ, List, [], ◌∷◌, Option, Some, None, Result, Ok, Err, get_or, set, Bool, false, cond, eqb, ◌&&◌, nat_lt}
 use Rattle.tg_rights.specs.Letters.{Letters}
 use Rattle.tg_rights.specs.declared.kind.Kind.{Kind}
 use Rattle.tg_slots.specs.Table.{slot}

@@ -1,5 +1,5 @@
 -- what is read off the value of a store
-use Rattle.std.specs.Prelude.{◌≡◌, ℕ, suc, ◌+◌, ◌*◌, List, [], ◌∷◌, length, map, Option, Some, None, ◌⊎◌, true, get_or}
+use Rattle.std.specs.Prelude.{◌≡◌, ℕ, suc, List, [], ◌∷◌, length, map, Option, Some, None, ◌⊎◌, true, get_or}
 use Rattle.std.specs.Option.{unwrap_or}
 use Rattle.std.specs.Ordering.{nat_cmp}
 use Rattle.std.specs.FinMap as finmap
@@ -7,7 +7,7 @@ use Rattle.std.specs.FinSet as finset
 use Rattle.tg_rights.specs.Letters.{Right}
 use Rattle.tg_rights.specs.Membership.{Contains}
 use Rattle.tg_graph.specs.declared.vertex.Vertex.{Vertex}
-use Rattle.tg_graph.specs.Triples.{Triple, Triples}
+use Rattle.tg_graph.specs.Triples.{Triples}
 use Rattle.tg_graph.specs.Protection.{Protection}
 use Rattle.tg_slots.specs.Table as table
 use Rattle.tg_slots.specs.Table.{Has}

@@ -1,8 +1,8 @@
-use Rattle.std.proofs.Common.{◌≡◌, ◌+◌, ◌-◌, ◌<◌, ◌≤◌, Some, length, arith, sym, subst, ap, ◌∙◌}
+use Rattle.std.proofs.Common.{◌≡◌, ◌-◌, Some, length, arith, subst, ap}
 use Rattle.std.proofs.lemmas.List.{length-map}
 use Rattle.tg_collect.specs.declared.machine.Root.{Root}
 use Rattle.tg_collect.specs.declared.machine.Machine.{Machine}
-use Rattle.tg_collect.specs.Machine.{slot_of, principal_slots, with_shaded}
+use Rattle.tg_collect.specs.Machine.{principal_slots}
 use Rattle.tg_collect.proofs.RootLemmas.{ShadedFrom, shaded_none, principal_within, principal_more}
 use Rattle.tg_collect.proofs.machine.Machine.shade_principals.Goals as goal
 

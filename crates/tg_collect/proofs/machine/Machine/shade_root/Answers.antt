@@ -1,5 +1,5 @@
-use Rattle.std.proofs.Common.{inl, ap, sym, Option, ℕ, subst, ◌∙◌}
-use Rattle.tg_collect.specs.Machine.{slot_of, AreWithin, with_shaded}
+use Rattle.std.proofs.Common.{inl, ap, sym}
+use Rattle.tg_collect.specs.Machine.{slot_of}
 use Rattle.tg_collect.proofs.machine.Machine.shade_root.Goals as goal
 
 pub shade-requires : goal.shade-requires

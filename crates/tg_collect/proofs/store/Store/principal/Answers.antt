@@ -1,8 +1,7 @@
-use Rattle.std.proofs.Common.{ap, ◌∙◌, sym, List, arith, ◌<◌, length, get_or, subst, ◌≡◌}
-use Rattle.tg_collect.specs.Stored.{Stored, stored}
-use Rattle.tg_collect.specs.Readings.{place, principals}
+use Rattle.std.proofs.Common.{ap, ◌∙◌, List, arith, ◌<◌, length, get_or, subst, ◌≡◌}
+use Rattle.tg_collect.specs.Stored.{stored}
+use Rattle.tg_collect.specs.Readings.{place}
 use Rattle.tg_collect.specs.declared.machine.Root.{Root}
-use Rattle.tg_rights.specs.Membership.{Contains}
 use Rattle.tg_collect.proofs.CallLemmas.{principal_found, no_principal}
 use Rattle.tg_collect.proofs.store.Store.principal.Goals as goal
 

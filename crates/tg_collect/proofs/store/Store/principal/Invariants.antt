@@ -1,5 +1,4 @@
 use Rattle.std.proofs.Common.{◌≢◌, ℕ, ◌<◌, get_or}
-use Rattle.tg_collect.specs.declared.machine.Root.{Root}
 use Rattle.tg_collect.proofs.store.Store.principal.Given as goal
 
 -- None of the principals so far has the serial.

@@ -1,4 +1,4 @@
-use Rattle.std.proofs.Common.{subst, ◌≤◌, length, arith}
+use Rattle.std.proofs.Common.{subst, ◌≤◌, arith}
 use Rattle.tg_collect.specs.Stored.{Stored}
 use Rattle.tg_collect.specs.Readings.{slot_count}
 use Rattle.tg_collect.specs.Views.{IsStore}

@@ -1,4 +1,4 @@
-use Rattle.std.proofs.Common.{subst, sym, ◌∙◌, ◌≡◌, Some, None, ℕ, Option, refl, ap, Result, arith}
+use Rattle.std.proofs.Common.{subst, sym, ◌∙◌, ◌≡◌, Some, None, refl, arith}
 use Rattle.std.specs.Prelude.{IsSome, OnOk, OnErr, IfErr}
 use Rattle.tg_heap.specs.declared.heap.HeapFull.TheVariants as full
 use Rattle.tg_collect.specs.Stored.{Stored, stored}

@@ -1,11 +1,10 @@
-use Rattle.std.proofs.Common.{subst, sym, ◌∙◌, ◌≡◌, ◌≢◌, Some, None, ℕ, List, length, refl, ap, inl, arith}
+use Rattle.std.proofs.Common.{subst, sym, ◌≡◌, ◌≢◌, Some, None, arith}
 use Rattle.std.specs.Prelude.{IsSome}
 use Rattle.tg_collect.specs.Machine.{Whole, lists_of}
 use Rattle.tg_collect.specs.Stored.{Stored, stored}
 use Rattle.tg_collect.specs.Readings.{place, serial_at, pending_of, free_slots, IsHeldIn, IsParkedIn}
 use Rattle.tg_collect.specs.Sessions.{VertexStored, Acted}
 use Rattle.tg_collect.proofs.ActedLemmas.{acted_vertex}
-use Rattle.tg_collect.proofs.CallLemmas.{holds, placed_mark}
 use Rattle.tg_collect.proofs.CountLemmas.{free_so}
 use Rattle.tg_collect.proofs.VertexStored.{vertex_called, still_owner, still_none}
 use Rattle.tg_collect.proofs.store.Store.store_vertex.Goals as goal

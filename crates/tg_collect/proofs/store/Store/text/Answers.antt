@@ -1,4 +1,4 @@
-use Rattle.std.proofs.Common.{sym, ◌∙◌, refl, subst}
+use Rattle.std.proofs.Common.{sym, refl, subst}
 use Rattle.std.specs.Prelude.{IsSome}
 use Rattle.tg_collect.specs.Stored.{Stored}
 use Rattle.tg_collect.specs.Readings.{place}
