@@ -29,6 +29,7 @@ use Rattle.tg_collect.specs.Views.{Collected, ChangesMarks, most_marks}
 use Rattle.tg_collect.proofs.ZipLemmas.{mark_so}
 use Rattle.tg_collect.proofs.RootLemmas.{listed_root}
 use Rattle.tg_collect.proofs.CountLemmas.{celled, free_so}
+use Rattle.tg_collect.proofs.ShownLemmas.{held_same}
 
 -- The slot before the sweep is not grey.
 pub sweep_dark : (m : Machine) (k : ℕ) → m.progress ≡ course.Sweeping k → Whole m → mark_at m.heap k ≢ Has Grey
@@ -179,10 +180,22 @@ phase_follows b _ _ _ (sweeps k) = tt
 phase_follows b _ _ _ (passes k) = tt
 phase_follows b _ _ _ (ends k l) = tt
 
+stays_so : (g h : values.Stage) → views.Stays (phase_in g) (phase_in h) → Stays (as_progress g) (as_progress h)
+stays_so values.Idle values.Idle y = tt
+stays_so values.Idle values.Mark y = tt
+stays_so values.Idle (values.Sweep k) y = tt
+stays_so values.Mark values.Idle y = tt
+stays_so values.Mark values.Mark y = tt
+stays_so values.Mark (values.Sweep k) y = y
+stays_so (values.Sweep j) values.Idle y = tt
+stays_so (values.Sweep j) values.Mark y = tt
+stays_so (values.Sweep j) (values.Sweep k) y = tt
+
 pub collected : (m n : Machine) (freed : ℕ) (ended : Bool) → Steps m n freed ended → IsHeap m.heap → IsHeap n.heap → Whole m → Collected (stored m) (stored n) freed ended
 collected m n freed ended s ok ok' w = record {
   step = collected_so (body m) (body n) (progress_of m) (progress_of n) ended c;
   phases = phase_follows (body m) (progress_of m) (progress_of n) ended c.phases;
+  held = λ y. held_same (stored m) (stored n) c.size ((collected_so (body m) (body n) (progress_of m) (progress_of n) ended c).held (stays_so (values.shown (progress_of m)) (values.shown (progress_of n)) y));
   roots = ap lists_of s.roots;
   cells = s.cells;
   freed = elim counts [ inl none ↦ inr none | inr one ↦ inl (ap (λ (p : Progress). phase_in (values.shown p)) one.2) ];

@@ -86,6 +86,7 @@ pub record ChangesMarks (v w : Stored) (most : ℕ) : Type 0 where
 pub record Collected (v w : Stored) (count : ℕ) (ended : Bool) : Type 0 where
   pub step : marking.Collected (shown v) (progress v) (shown w) (progress w) ended
   pub phases : Follows (phase v) (phase w) ended
+  pub held : Stays (phase v) (phase w) → (next : ℕ) → held w next ≡ held v next
   pub roots : w.roots ≡ v.roots
   pub cells : w.cells ≡ v.cells
   pub freed : (phase v ≡ Sweep) ⊎ (count ≡ 0)

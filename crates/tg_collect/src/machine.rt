@@ -196,10 +196,10 @@ impl Machine {
     {
         match self.roots.targets[seat] {
             None => None,
-            Some(root) => {
-                self.heap.shade(root.slot);
+            Some(target) => {
+                self.heap.shade(target.slot);
                 self.roots.targets[seat] = None;
-                Some(root.serial)
+                Some(target.serial)
             }
         }
     }

@@ -100,7 +100,8 @@ impl Machine {
     fn open_edges(&mut self, graph: &Graph)
         requires { OpensEdges self.old graph.now (root_count self.old) 0 0 }
         ensures whole { Whole self.new }
-        ensures opened { Opened (stored self.new) graph.now (length self.old.heap.table.slots) self.old.heap.cell_count }
+        ensures opened { Opened (stored self.new) graph.now (length self.old.heap.table.slots)
+            self.old.heap.cell_count }
     {
         for from in 0..self.roots.principals.len() {
             self.open_edges_of(graph, from);
@@ -140,7 +141,7 @@ impl Machine {
     }
 }
 
-/// 64 seats without a target.
+/// 64 seats without a root.
 fn empty_seats(alloc: Global) -> Result<Vec<Option<Root>>, AllocError>
     ensures { IfOk result (λ seats. seats.items ≡ replicate SEATS None) }
 {
