@@ -325,8 +325,10 @@ class Trial:
             asked = [word for it in only for word in ("--only", it)]
             words = [rtlib.RATTLE, "check", *self.crate.words(FLAGS, keeps=False), *asked, "--incremental", f"{room}/kept"]
             done = ran(words, room, self.turns)
-            if is_first and os.path.isdir(f"{room}/kept"):
-                shutil.move(f"{room}/kept", self.kept)
+            if is_first:
+                # (of several that began without, the first one to end leaves its own)
+                with suppress(OSError):
+                    os.rename(f"{room}/kept", self.kept)
         self.checks += 1
         if self.log:
             Path(self.log, f"{self.crate.name}-{self.checks}").write_text(done.stdout, encoding="utf-8")
