@@ -1,7 +1,12 @@
--- Two arrays as one list of slots: what is read of it, and what each write leaves.
-use Rattle.std.proofs.Common.{◌≡◌, ◌≢◌, ℕ, zero, suc, ◌<◌, ◌≤◌, List, [], ◌∷◌, ◌++◌, length, Some, None, true, sym, ◌∙◌, ap, refl, set, get_or, min, arith, vec_capacity}
-use Rattle.std.proofs.Math.Nat.{le-min, min-le_left, min-le_right}
-use Rattle.std.specs.List.{slice_get}
+-- Tints beside forms as one list of slots: what is read of it, and what each write leaves.
+use Rattle.std.proofs.Common.{◌≡◌, ◌≢◌, ℕ, ◌<◌, ◌≤◌, List, [], ◌∷◌, ◌++◌, length, inl, inr, Some, None, true, sym, ◌∙◌, subst, ap, refl, set, arith}
+use Rattle.std.specs.List.{All, slice_get}
+use Rattle.std.proofs.lemmas.Bool.{cases_lt}
+use Rattle.std.proofs.lemmas.List.{get_or_past, length-map, map-append, map-set}
+use Rattle.std.proofs.lemmas.List.Elements.{All-append, All-cons, All-nil, All-set}
+use Rattle.std.proofs.lemmas.Option.{get_or_from_slice_get, slice_get_within}
+use Rattle.tg_rights.specs.Columns.{HasLeft, HasRight, with_left, with_right}
+use Rattle.tg_rights.proofs.ColumnsLemmas.{both_changed, beside, left_changed, right_changed, seen, there, with_both_set, with_left_set, with_right_set}
 use Rattle.tg_slots.specs.declared.colour.Colour.{Colour}
 use Rattle.tg_slots.specs.declared.colour.Colour.TheVariants.{White, Grey, Black}
 use Rattle.tg_slots.specs.declared.slots.Occupant.{Occupant}
@@ -9,34 +14,27 @@ use Rattle.tg_slots.specs.declared.shelf.Tint.{Tint}
 use Rattle.tg_slots.specs.declared.shelf.Tint.TheVariants as tint
 use Rattle.tg_slots.specs.declared.shelf.Form.{Form}
 use Rattle.tg_slots.specs.declared.shelf.Form.TheVariants as form
-use Rattle.tg_slots.specs.declared.shelf.Shelf.TheInside.{Inside}
 use Rattle.tg_slots.specs.Table.{coloured, in_slot, with_text}
-use Rattle.tg_slots.specs.Linked.{Linked, at, occupant_at}
-use Rattle.tg_slots.specs.Shelf.{Agree, all_linked, colour_of, is_coloured, is_taken, kind_of, leading, link_of, linked, serial_of, telling, text_of, tint_of}
+use Rattle.tg_slots.specs.Linked.{Linked, at, blank, occupant_at}
+use Rattle.tg_slots.specs.Shelf.{Agrees, all_linked, colour_of, is_coloured, is_taken, kind_of, leading, link_of, linked, serial_of, telling, text_of, tint_of}
 
--- Both arrays have as many slots as the list.
-pub tints_length : (ts : List Tint) (fs : List Form) → Agree ts fs → length (all_linked ts fs) ≡ length ts
-tints_length [] [] k = refl
-tints_length [] (f ∷ fs) k = absurd k
-tints_length (t ∷ ts) [] k = absurd k
-tints_length (t ∷ ts) (f ∷ fs) k = let rest = tints_length ts fs k.1 in omega (arith, rest)
+-- A slot of two halves.
+abbrev slot_of : Tint × Form → Linked
+slot_of p = linked p.0 p.1
 
-pub forms_length : (ts : List Tint) (fs : List Form) → Agree ts fs → length (all_linked ts fs) ≡ length fs
-forms_length [] [] k = refl
-forms_length [] (f ∷ fs) k = absurd k
-forms_length (t ∷ ts) [] k = absurd k
-forms_length (t ∷ ts) (f ∷ fs) k = let rest = forms_length ts fs k.1 in omega (arith, rest)
+-- The halves of a slot agree.
+agree_at : (ps : List (Tint × Form)) (i : ℕ) (p : Tint × Form) → All Agrees ps → slice_get ps i ≡ Some p → Agrees p
+agree_at ps i p k here = subst Agrees (get_or_from_slice_get ps i p p here) (k i p (slice_get_within ps i p here))
 
--- With room for one more slot, both arrays have room for it; and the room grows with theirs.
-pub both_room : (s : Inside) → Agree s.tints.items s.forms.items → length (all_linked s.tints.items s.forms.items) < min (vec_capacity s.tints) (vec_capacity s.forms)
-    → (length s.tints.items < vec_capacity s.tints) × (length s.forms.items < vec_capacity s.forms)
-both_room s k room =
-    let ts = tints_length s.tints.items s.forms.items k in
-    let fs = forms_length s.tints.items s.forms.items k in
-    (omega (arith, room, ts, min-le_left (vec_capacity s.tints) (vec_capacity s.forms)), omega (arith, room, fs, min-le_right (vec_capacity s.tints) (vec_capacity s.forms)))
+-- Past the last slot there is none, and a slot with a vertex is not past it.
+pub past : (ps : List (Tint × Form)) (i : ℕ) → length ps ≤ i → (length (all_linked ps) ≤ i) × (at (all_linked ps) i ≡ blank)
+past ps i k = let size = length-map ps slot_of in let past : length (all_linked ps) ≤ i = omega arith in (past, get_or_past (all_linked ps) i blank past)
 
-pub room_grows : (a b c d : ℕ) → a ≤ c → b ≤ d → min a b ≤ min c d
-room_grows a b c d tints forms = let left = min-le_left a b in let right = min-le_right a b in le-min (omega arith) (omega arith)
+pub some_within : (ps : List (Tint × Form)) (i : ℕ) → occupant_at (all_linked ps) i ≢ None → i < length ps
+some_within ps i some = elim (cases_lt i (length ps)) [ inl w ↦ w | inr k ↦ absurd (some (ap (λ (e : Linked). e.occupant) (past ps i k).1)) ]
+
+left_at : (ps : List (Tint × Form)) (i : ℕ) → occupant_at (all_linked ps) i ≢ None → (t : Tint) × HasLeft ps i t
+left_at ps i some = let pair = there ps i (some_within ps i some) in (pair.0.0, record { other = pair.0.1; here = pair.1 })
 
 -- The colour in a slot is that of its tint.
 one_colour : (t : Tint) (f : Form) → is_coloured t ≡ is_taken f → colour_of t ≡ in_slot (λ o. o.colour) (linked t f).occupant
@@ -49,85 +47,57 @@ one_colour tint.Grey (form.Taken kind link serial text) k = refl
 one_colour tint.Black (form.Free link) k = absurd (cc)
 one_colour tint.Black (form.Taken kind link serial text) k = refl
 
-pub colour_read : (ts : List Tint) (fs : List Form) (i : ℕ) → Agree ts fs → colour_of (get_or ts i tint.Free) ≡ in_slot (λ o. o.colour) (occupant_at (all_linked ts fs) i)
-colour_read [] [] i k = refl
-colour_read [] (f ∷ fs) i k = absurd k
-colour_read (t ∷ ts) [] i k = absurd k
-colour_read (t ∷ ts) (f ∷ fs) zero k = one_colour t f k.0
-colour_read (t ∷ ts) (f ∷ fs) (suc i) k = colour_read ts fs i k.1
+pub colour_read : (ps : List (Tint × Form)) (i : ℕ) (t : Tint) → All Agrees ps → HasLeft ps i t → colour_of t ≡ in_slot (λ o. o.colour) (occupant_at (all_linked ps) i)
+colour_read ps i t k h =
+    one_colour t h.other (agree_at ps i (t, h.other) k h.here)
+    ∙ ap (λ (e : Linked). in_slot (λ o. o.colour) e.occupant) (sym (seen slot_of ps i (t, h.other) blank h.here))
 
 -- What a form holds is what the slot of its index holds.
-pub record Holds (ts : List Tint) (fs : List Form) (i : ℕ) (f : Form) : Type 0 where
-  pub within : i < length (all_linked ts fs)
-  pub serial : serial_of f ≡ in_slot (λ o. o.serial) (occupant_at (all_linked ts fs) i)
-  pub kind : kind_of f ≡ in_slot (λ o. o.kind) (occupant_at (all_linked ts fs) i)
-  pub text : text_of f ≡ in_slot (λ o. o.text) (occupant_at (all_linked ts fs) i)
-  pub link : link_of f ≡ (at (all_linked ts fs) i).link
+pub record Holds (es : List Linked) (i : ℕ) (f : Form) : Type 0 where
+  pub within : i < length es
+  pub serial : serial_of f ≡ in_slot (λ o. o.serial) (occupant_at es i)
+  pub kind : kind_of f ≡ in_slot (λ o. o.kind) (occupant_at es i)
+  pub text : text_of f ≡ in_slot (λ o. o.text) (occupant_at es i)
+  pub link : link_of f ≡ (at es i).link
 
-form_read : (ts : List Tint) (fs : List Form) (i : ℕ) (f : Form) → Agree ts fs → Some f ≡ slice_get fs i → Holds ts fs i f
-form_read [] [] i f k is = absurd (cc)
-form_read [] (g ∷ fs) i f k is = absurd k
-form_read (t ∷ ts) [] i f k is = absurd k
-form_read (t ∷ ts) (g ∷ fs) (suc i) f k is =
-    let rest = form_read ts fs i f k.1 is in
-    let within = rest.within in
-    record { within = omega arith; serial = rest.serial; kind = rest.kind; text = rest.text; link = rest.link }
-form_read (t ∷ ts) (g ∷ fs) zero f k is = by f g (cc) where
-  by : (f g : Form) → g ≡ f → Holds (t ∷ ts) (g ∷ fs) zero f
-  by f g same = rw same (held f) where
-    held : (f : Form) → Holds (t ∷ ts) (f ∷ fs) zero f
-    held (form.Free link) = record { within = omega arith; serial = refl; kind = refl; text = refl; link = refl }
-    held (form.Taken kind link serial text) = record { within = omega arith; serial = refl; kind = refl; text = refl; link = refl }
+held : (es : List Linked) (i : ℕ) (t : Tint) (f : Form) → i < length es → at es i ≡ linked t f → Holds es i f
+held es i t (form.Free link) within is = record {
+  within = within;
+  serial = ap (λ (e : Linked). in_slot (λ o. o.serial) e.occupant) (sym is);
+  kind = ap (λ (e : Linked). in_slot (λ o. o.kind) e.occupant) (sym is);
+  text = ap (λ (e : Linked). in_slot (λ o. o.text) e.occupant) (sym is);
+  link = ap (λ (e : Linked). e.link) (sym is);
+}
+held es i t (form.Taken kind link serial text) within is = record {
+  within = within;
+  serial = ap (λ (e : Linked). in_slot (λ o. o.serial) e.occupant) (sym is);
+  kind = ap (λ (e : Linked). in_slot (λ o. o.kind) e.occupant) (sym is);
+  text = ap (λ (e : Linked). in_slot (λ o. o.text) e.occupant) (sym is);
+  link = ap (λ (e : Linked). e.link) (sym is);
+}
 
-pub read_form : (s : Inside) (i : ℕ) (f : Form) → Agree s.tints.items s.forms.items → Some f ≡ slice_get s.forms.items i → Holds s.tints.items s.forms.items i f
-read_form s i f k is = form_read s.tints.items s.forms.items i f k is
+pub read_form : (ps : List (Tint × Form)) (i : ℕ) (f : Form) → HasRight ps i f → Holds (all_linked ps) i f
+read_form ps i f h =
+    let size = length-map ps slot_of in
+    let within = slice_get_within ps i (h.other, f) h.here in
+    held (all_linked ps) i h.other f (omega arith) (seen slot_of ps i (h.other, f) blank h.here)
 
--- Past the last form there is no vertex.
-pub record Lacks (ts : List Tint) (fs : List Form) (i : ℕ) : Type 0 where
-  pub past : length (all_linked ts fs) ≤ i
-  pub none : None ≡ occupant_at (all_linked ts fs) i
+-- Pairs that agree, and the list that they are.
+pub record Becomes (ps : List (Tint × Form)) (es : List Linked) : Type 0 where
+  pub agree : All Agrees ps
+  pub is : all_linked ps ≡ es
 
-form_past : (ts : List Tint) (fs : List Form) (i : ℕ) → Agree ts fs → None ≡ slice_get fs i → Lacks ts fs i
-form_past [] [] i k is = record { past = omega arith; none = refl }
-form_past [] (g ∷ fs) i k is = absurd k
-form_past (t ∷ ts) [] i k is = absurd k
-form_past (t ∷ ts) (g ∷ fs) zero k is = absurd (cc)
-form_past (t ∷ ts) (g ∷ fs) (suc i) k is = let rest = form_past ts fs i k.1 is in let past = rest.past in record { past = omega arith; none = rest.none }
+-- A free slot is appended, or written.
+pub appended : (ps : List (Tint × Form)) (link : ℕ) → All Agrees ps → Becomes (ps ++ (tint.Free, form.Free link) ∷ []) (all_linked ps ++ record { occupant = None; link = link } ∷ [])
+appended ps link k = record {
+  agree = All-append Agrees ps ((tint.Free, form.Free link) ∷ []) k (All-cons Agrees (tint.Free, form.Free link) [] refl (All-nil Agrees));
+  is = map-append slot_of ps ((tint.Free, form.Free link) ∷ []);
+}
 
-pub past_forms : (s : Inside) (i : ℕ) → Agree s.tints.items s.forms.items → None ≡ slice_get s.forms.items i → Lacks s.tints.items s.forms.items i
-past_forms s i k is = form_past s.tints.items s.forms.items i k is
-
--- Two arrays that agree, and the list that they are.
-pub record Becomes (ts : List Tint) (fs : List Form) (es : List Linked) : Type 0 where
-  pub agree : Agree ts fs
-  pub is : all_linked ts fs ≡ es
-
--- A free slot is appended.
-pub appended : (ts : List Tint) (fs : List Form) (link : ℕ) → Agree ts fs → Becomes (ts ++ tint.Free ∷ []) (fs ++ form.Free link ∷ []) (all_linked ts fs ++ record { occupant = None; link = link } ∷ [])
-appended [] [] link k = record { agree = (refl, tt); is = refl }
-appended [] (f ∷ fs) link k = absurd k
-appended (t ∷ ts) [] link k = absurd k
-appended (t ∷ ts) (f ∷ fs) link k =
-    let rest = appended ts fs link k.1 in
-    record { agree = (k.0, rest.agree); is = ap (λ (l : List Linked). linked t f ∷ l) rest.is }
-
--- A slot is written in both arrays.
-pub both_set : (ts : List Tint) (fs : List Form) (i : ℕ) (t : Tint) (f : Form) → Agree ts fs → is_coloured t ≡ is_taken f → Becomes (set ts i t) (set fs i f) (set (all_linked ts fs) i (linked t f))
-both_set [] [] i t f k same = record { agree = k; is = refl }
-both_set [] (g ∷ fs) i t f k same = absurd k
-both_set (u ∷ ts) [] i t f k same = absurd k
-both_set (u ∷ ts) (g ∷ fs) zero t f k same = record { agree = (same, k.1); is = refl }
-both_set (u ∷ ts) (g ∷ fs) (suc i) t f k same =
-    let rest = both_set ts fs i t f k.1 same in
-    record { agree = (k.0, rest.agree); is = ap (λ (l : List Linked). linked u g ∷ l) rest.is }
+pub freed : (ps : List (Tint × Form)) (i link : ℕ) → All Agrees ps → Becomes (set ps i (tint.Free, form.Free link)) (set (all_linked ps) i (record { occupant = None; link = link }))
+freed ps i link k = record { agree = All-set Agrees ps i (tint.Free, form.Free link) refl k; is = map-set slot_of ps i (tint.Free, form.Free link) }
 
 -- A vertex is written, with the link that was there.
-link_there : (u : Tint) (f g : Form) → f ≡ g → link_of f ≡ (linked u g).link
-link_there u f g is = ap link_of is ∙ by g where
-  by : (g : Form) → link_of g ≡ (linked u g).link
-  by (form.Free link) = refl
-  by (form.Taken kind link serial text) = refl
-
 filled_one : (o : Occupant) (link : ℕ) → (is_coloured (tint_of o.colour) ≡ true) × (linked (tint_of o.colour) (form.Taken o.kind link o.serial o.text) ≡ record { occupant = Some o; link = link })
 filled_one o link = by o.colour where
   by : (c : Colour) → (is_coloured (tint_of c) ≡ true)
@@ -136,20 +106,15 @@ filled_one o link = by o.colour where
   by Grey = (refl, refl)
   by Black = (refl, refl)
 
-pub filled_slot : (ts : List Tint) (fs : List Form) (i : ℕ) (o : Occupant) (f : Form) → Agree ts fs → i < length fs → f ≡ get_or fs i f
-    → Becomes (set ts i (tint_of o.colour)) (set fs i (form.Taken o.kind (link_of f) o.serial o.text)) (set (all_linked ts fs) i (record { occupant = Some o; link = (at (all_linked ts fs) i).link }))
-filled_slot [] [] i o f k within is = record { agree = k; is = refl }
-filled_slot [] (g ∷ fs) i o f k within is = absurd k
-filled_slot (u ∷ ts) [] i o f k within is = absurd k
-filled_slot (u ∷ ts) (g ∷ fs) zero o f k within is =
+pub filled_slot : (ps : List (Tint × Form)) (i : ℕ) (o : Occupant) (f : Form) → All Agrees ps → HasRight ps i f
+    → Becomes (set ps i (tint_of o.colour, form.Taken o.kind (link_of f) o.serial o.text)) (set (all_linked ps) i (record { occupant = Some o; link = (at (all_linked ps) i).link }))
+filled_slot ps i o f k h =
     let new = filled_one o (link_of f) in
+    let whole : Tint × Form = (tint_of o.colour, form.Taken o.kind (link_of f) o.serial o.text) in
     record {
-      agree = (new.0, k.1);
-      is = ap (λ (e : Linked). e ∷ all_linked ts fs) (new.1 ∙ ap (λ (n : ℕ). record { occupant = Some o; link = n }) (link_there u f g is));
+      agree = All-set Agrees ps i whole new.0 k;
+      is = map-set slot_of ps i whole ∙ ap (set (all_linked ps) i) (new.1 ∙ ap (λ (n : ℕ). record { occupant = Some o; link = n }) (read_form ps i f h).link);
     }
-filled_slot (u ∷ ts) (g ∷ fs) (suc i) o f k within is =
-    let rest = filled_slot ts fs i o f k.1 (omega (arith, within)) is in
-    record { agree = (k.0, rest.agree); is = ap (λ (l : List Linked). linked u g ∷ l) rest.is }
 
 -- A tint is written.
 tinted : (c : Colour) (t : Tint) (f : Form) → is_taken f ≡ true → (is_coloured (tint_of c) ≡ is_taken f) × (linked (tint_of c) f ≡ record { occupant = coloured c (linked t f).occupant; link = (linked t f).link })
@@ -158,78 +123,59 @@ tinted Grey t (form.Taken kind link serial text) k = (refl, refl)
 tinted Black t (form.Taken kind link serial text) k = (refl, refl)
 tinted c t (form.Free link) k = absurd (cc)
 
-there : (t : Tint) (f : Form) → (linked t f).occupant ≢ None → is_taken f ≡ true
-there t (form.Free link) k = absurd (k refl)
-there t (form.Taken kind link serial text) k = refl
+has_form : (t : Tint) (f : Form) → (linked t f).occupant ≢ None → is_taken f ≡ true
+has_form t (form.Free link) k = absurd (k refl)
+has_form t (form.Taken kind link serial text) k = refl
 
-pub painted : (ts : List Tint) (fs : List Form) (i : ℕ) (c : Colour) → Agree ts fs → occupant_at (all_linked ts fs) i ≢ None
-    → Becomes (set ts i (tint_of c)) fs (set (all_linked ts fs) i (record { occupant = coloured c (occupant_at (all_linked ts fs) i); link = (at (all_linked ts fs) i).link }))
-painted [] [] i c k some = record { agree = k; is = refl }
-painted [] (g ∷ fs) i c k some = absurd k
-painted (u ∷ ts) [] i c k some = absurd k
-painted (u ∷ ts) (g ∷ fs) zero c k some =
-    let new = tinted c u g (there u g some) in
-    record { agree = (new.0, k.1); is = ap (λ (e : Linked). e ∷ all_linked ts fs) new.1 }
-painted (u ∷ ts) (g ∷ fs) (suc i) c k some =
-    let rest = painted ts fs i c k.1 some in
-    record { agree = (k.0, rest.agree); is = ap (λ (l : List Linked). linked u g ∷ l) rest.is }
+taken_at : (ps : List (Tint × Form)) (i : ℕ) (t : Tint) (f : Form) → slice_get ps i ≡ Some (t, f) → occupant_at (all_linked ps) i ≢ None → is_taken f ≡ true
+taken_at ps i t f here some = has_form t f (λ none. some (ap (λ (e : Linked). e.occupant) (seen slot_of ps i (t, f) blank here) ∙ none))
+
+pub painted : (ps : List (Tint × Form)) (i : ℕ) (c : Colour) → All Agrees ps → occupant_at (all_linked ps) i ≢ None
+    → Becomes (with_left ps i (tint_of c)) (set (all_linked ps) i (record { occupant = coloured c (occupant_at (all_linked ps) i); link = (at (all_linked ps) i).link }))
+painted ps i c k some =
+    let h = left_at ps i some in
+    let new = tinted c h.0 h.1.other (taken_at ps i h.0 h.1.other h.1.here some) in
+    record {
+      agree = subst (All Agrees) (sym (with_left_set ps i h.0 (tint_of c) h.1)) (All-set Agrees ps i (tint_of c, h.1.other) new.0 k);
+      is = left_changed slot_of (λ (e : Linked). record { occupant = coloured c e.occupant; link = e.link }) ps i h.0 (tint_of c) blank h.1 new.1;
+    }
 
 -- A tint is written, and a form that leads elsewhere.
 led : (t : Tint) (f : Form) (next : ℕ) → (is_taken (leading f next) ≡ is_taken f) × (linked t (leading f next) ≡ record { occupant = (linked t f).occupant; link = next })
 led t (form.Free link) next = (refl, refl)
 led t (form.Taken kind link serial text) next = (refl, refl)
 
-pub moved : (ts : List Tint) (fs : List Form) (i : ℕ) (c : Colour) (next : ℕ) (f : Form) → Agree ts fs → occupant_at (all_linked ts fs) i ≢ None → f ≡ get_or fs i f
-    → Becomes (set ts i (tint_of c)) (set fs i (leading f next)) (set (all_linked ts fs) i (record { occupant = coloured c (occupant_at (all_linked ts fs) i); link = next }))
-moved [] [] i c next f k some is = record { agree = k; is = refl }
-moved [] (g ∷ fs) i c next f k some is = absurd k
-moved (u ∷ ts) [] i c next f k some is = absurd k
-moved (u ∷ ts) (g ∷ fs) zero c next f k some is =
-    let taken = there u g some in
-    let new = led u g next in
-    let dyed = tinted c u (leading g next) (new.0 ∙ taken) in
-    rw is (record { agree = (dyed.0, k.1); is = ap (λ (e : Linked). e ∷ all_linked ts fs) (dyed.1 ∙ ap (λ (e : Linked). record { occupant = coloured c e.occupant; link = e.link }) new.1) })
-moved (u ∷ ts) (g ∷ fs) (suc i) c next f k some is =
-    let rest = moved ts fs i c next f k.1 some is in
-    record { agree = (k.0, rest.agree); is = ap (λ (l : List Linked). linked u g ∷ l) rest.is }
+pub moved : (ps : List (Tint × Form)) (i : ℕ) (c : Colour) (next : ℕ) (f : Form) → All Agrees ps → occupant_at (all_linked ps) i ≢ None → HasRight (with_left ps i (tint_of c)) i f
+    → Becomes (with_right (with_left ps i (tint_of c)) i (leading f next)) (set (all_linked ps) i (record { occupant = coloured c (occupant_at (all_linked ps) i); link = next }))
+moved ps i c next f k some h' =
+    let h = left_at ps i some in
+    let t = h.0 in
+    let new = led t f next in
+    let dyed = tinted c t (leading f next) (new.0 ∙ taken_at ps i t f (beside ps i t (tint_of c) f h.1 h') some) in
+    record {
+      agree = subst (All Agrees) (sym (with_both_set ps i (tint_of c) (leading f next))) (All-set Agrees ps i (tint_of c, leading f next) dyed.0 k);
+      is = both_changed slot_of (λ (e : Linked). record { occupant = coloured c e.occupant; link = next }) ps i t (tint_of c) f (leading f next) blank h.1 h'
+          (dyed.1 ∙ ap (λ (e : Linked). record { occupant = coloured c e.occupant; link = e.link }) new.1);
+    }
 
 told : (t : Tint) (f : Form) (new : List ℕ) → (is_taken (telling f new) ≡ is_taken f) × (linked t (telling f new) ≡ record { occupant = with_text new (linked t f).occupant; link = (linked t f).link })
 told t (form.Free link) new = (refl, refl)
 told t (form.Taken kind link serial text) new = (refl, refl)
 
 -- A text is replaced: there was one, and the vertex has the new one.
-pub record Tells (ts : List Tint) (fs : List Form) (i : ℕ) (new : List ℕ) (f : Form) : Type 0 where
+pub record Tells (ps : List (Tint × Form)) (i : ℕ) (new : List ℕ) (f : Form) : Type 0 where
   pub taken : is_taken f ≡ true
-  pub text : in_slot (λ o. o.text) (occupant_at (all_linked ts fs) i) ≡ text_of f
-  pub becomes : Becomes ts (set fs i (telling f new)) (set (all_linked ts fs) i (record { occupant = with_text new (occupant_at (all_linked ts fs) i); link = (at (all_linked ts fs) i).link }))
+  pub text : in_slot (λ o. o.text) (occupant_at (all_linked ps) i) ≡ text_of f
+  pub becomes : Becomes (with_right ps i (telling f new)) (set (all_linked ps) i (record { occupant = with_text new (occupant_at (all_linked ps) i); link = (at (all_linked ps) i).link }))
 
-text_there : (t : Tint) (f : Form) → in_slot (λ o. o.text) (linked t f).occupant ≡ text_of f
-text_there t (form.Free link) = refl
-text_there t (form.Taken kind link serial text) = refl
-
-pub tells : (ts : List Tint) (fs : List Form) (i : ℕ) (new : List ℕ) (f : Form) → Agree ts fs → occupant_at (all_linked ts fs) i ≢ None → f ≡ get_or fs i f → Tells ts fs i new f
-tells [] [] i new f k some is = absurd (some refl)
-tells [] (g ∷ fs) i new f k some is = absurd k
-tells (u ∷ ts) [] i new f k some is = absurd k
-tells (u ∷ ts) (g ∷ fs) zero new f k some is =
-    let n = told u g new in
-    rw is (record { taken = there u g some; text = text_there u g; becomes = record { agree = (k.0 ∙ sym n.0, k.1); is = ap (λ (e : Linked). e ∷ all_linked ts fs) n.1 } })
-tells (u ∷ ts) (g ∷ fs) (suc i) new f k some is =
-    let rest = tells ts fs i new f k.1 some is in
-    record { taken = rest.taken; text = rest.text; becomes = record { agree = (k.0, rest.becomes.agree); is = ap (λ (l : List Linked). linked u g ∷ l) rest.becomes.is } }
-
--- A slot with a vertex is one of both arrays.
-pub record IsInBoth (ts : List Tint) (fs : List Form) (i : ℕ) : Type 0 where
-  pub tint : i < length ts
-  pub form : i < length fs
-
-pub some_within : (ts : List Tint) (fs : List Form) (i : ℕ) → Agree ts fs → occupant_at (all_linked ts fs) i ≢ None → IsInBoth ts fs i
-some_within [] [] i k some = absurd (some refl)
-some_within [] (g ∷ fs) i k some = absurd k
-some_within (u ∷ ts) [] i k some = absurd k
-some_within (u ∷ ts) (g ∷ fs) zero k some = record { tint = omega arith; form = omega arith }
-some_within (u ∷ ts) (g ∷ fs) (suc i) k some =
-    let rest = some_within ts fs i k.1 some in
-    let tint = rest.tint in
-    let form = rest.form in
-    record { tint = omega arith; form = omega arith }
+pub tells : (ps : List (Tint × Form)) (i : ℕ) (new : List ℕ) (f : Form) → All Agrees ps → occupant_at (all_linked ps) i ≢ None → HasRight ps i f → Tells ps i new f
+tells ps i new f k some h =
+    let n = told h.other f new in
+    record {
+      taken = taken_at ps i h.other f h.here some;
+      text = sym (read_form ps i f h).text;
+      becomes = record {
+        agree = subst (All Agrees) (sym (with_right_set ps i f (telling f new) h)) (All-set Agrees ps i (h.other, telling f new) (agree_at ps i (h.other, f) k h.here ∙ sym n.0) k);
+        is = right_changed slot_of (λ (e : Linked). record { occupant = with_text new e.occupant; link = e.link }) ps i f (telling f new) blank h n.1;
+      };
+    }

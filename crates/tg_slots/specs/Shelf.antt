@@ -1,7 +1,5 @@
--- the slots that two arrays represent
-use Rattle.std.specs.Prelude.{◌≡◌, ℕ, Bool, true, false, map, min, List, [], ◌∷◌, Option, Some, None}
-use Rattle.std.specs.List.{zip}
-use Rattle.std.specs.Vec.{vec_capacity}
+-- the slots that two columns represent
+use Rattle.std.specs.Prelude.{◌≡◌, ℕ, Bool, true, false, map, List, Option, Some, None}
 use Rattle.tg_rights.specs.declared.kind.Kind.{Kind}
 use Rattle.tg_slots.specs.declared.colour.Colour.{Colour}
 use Rattle.tg_slots.specs.declared.colour.Colour.TheVariants as colour
@@ -70,15 +68,12 @@ abbrev pub linked : Tint → Form → Linked
 linked t (form.Free link) = record { occupant = None; link = link }
 linked t (form.Taken kind link serial text) = record { occupant = Some (record { serial = serial; kind = kind; colour = shade_of t; text = text }); link = link }
 
-abbrev pub all_linked : List Tint → List Form → List Linked
-all_linked ts fs = map (λ p. linked p.0 p.1) (zip ts fs)
+abbrev pub all_linked : List (Tint × Form) → List Linked
+all_linked ps = map (λ p. linked p.0 p.1) ps
 
 abbrev pub shelved : Inside → Shelved
-shelved s = record { items = all_linked s.tints.items s.forms.items; room = min (vec_capacity s.tints) (vec_capacity s.forms) }
+shelved s = record { items = all_linked s.slots.items; room = s.slots.room }
 
--- both arrays have the same slots, each with a vertex in both or in neither
-abbrev pub Agree : List Tint → List Form → Type 0
-Agree [] [] = Unit {0}
-Agree [] (f ∷ fs) = ⊥
-Agree (t ∷ ts) [] = ⊥
-Agree (t ∷ ts) (f ∷ fs) = (is_coloured t ≡ is_taken f) × Agree ts fs
+-- a slot has a vertex by its tint if it has one by what else it holds
+abbrev pub Agrees : Tint × Form → Type 0
+Agrees p = is_coloured p.0 ≡ is_taken p.1

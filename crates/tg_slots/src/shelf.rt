@@ -1,15 +1,16 @@
 //! The slots that were used so far, as they lie in memory.
-ghost use Rattle.std.specs.Prelude.{◌≡◌, ◌≢◌, ◌<◌, ◌≤◌, ◌++◌, ◌∷◌, [], IfOk, MatchOption, None, Some, get_or, length, set, slice_get, true};
+ghost use Rattle.std.specs.Prelude.{◌≡◌, ◌≢◌, ◌<◌, ◌≤◌, ◌++◌, ◌∷◌, [], IfOk, MatchOption, None, Some, length, set, true};
+ghost use Rattle.std.specs.List.{All};
 ghost use Rattle.std.specs.Option.{option_map};
-ghost use Rattle.std.specs.Vec.{vec_capacity};
+ghost use Rattle.tg_rights.specs.Columns.{HasRight};
 ghost use Rattle.tg_slots.specs.Table.{in_slot, with_text, coloured};
 ghost use Rattle.tg_slots.specs.Linked.{Shelved, at, occupant_at};
-ghost use Rattle.tg_slots.specs.Shelf.{Agree, colour_of, is_taken, kind_of, leading, link_of, serial_of, shelved, telling, text_of, tint_of};
+ghost use Rattle.tg_slots.specs.Shelf.{Agrees, colour_of, is_taken, kind_of, leading, link_of, serial_of, shelved, telling, text_of, tint_of};
 
 use crate::{Colour, Occupant};
 use std::alloc::{AllocError, Global};
 use std::marker::Model;
-use tg_rights::{Kind, Text};
+use tg_rights::{Columns, Kind, Text};
 
 // Whether a slot is free, or the colour of its vertex.
 #[derive(Clone, Copy, Drop)]
@@ -36,12 +37,11 @@ enum Form {
 
 /// Slots from index 0 on, with room for more: each has a vertex or is free, and leads to the next one of its list.
 ///
-/// The collector looks at colours far more often than at anything else, so these lie in an array of their own, a byte
+/// The collector looks at colours far more often than at anything else, so these lie in a column of their own, a byte
 /// for each slot.
 #[derive(Drop)]
 pub(crate) struct Shelf {
-    tints: Vec<Tint>,
-    forms: Vec<Form>,
+    slots: Columns<Tint, Form>,
 }
 
 impl Model for Shelf {
@@ -49,7 +49,7 @@ impl Model for Shelf {
 
     ghost view = { shelved };
 
-    ghost invariant = { λ s. Agree s.tints.items s.forms.items };
+    ghost invariant = { λ s. All Agrees s.slots.items };
 }
 
 impl Tint {
@@ -133,32 +133,14 @@ impl Form {
     }
 }
 
-// The tint of that index; a slot that is not there is free.
-fn tint_at(tints: &[Tint], id: u32) -> Tint
-    ensures { result ≡ get_or tints.now id Tint.Free }
+fn form_at(slots: &Columns<Tint, Form>, id: u32) -> Option<&Form>
+    ensures { MatchOption result (length slots.now.items ≤ id) (λ f. HasRight slots.now.items id f.now) }
 {
-    if (id as usize) < tints.len() {
-        tints[id as usize]
+    if (id as usize) < slots.len() {
+        Some(slots.right(id as usize))
     } else {
-        Tint::Free
+        None
     }
-}
-
-fn form_at(forms: &[Form], id: u32) -> Option<&Form>
-    ensures { option_map (λ f. f.now) result ≡ slice_get forms.now id }
-{
-    forms.get(id as usize)
-}
-
-// Appends an element for which there is room.
-fn append<T: Drop>(items: &mut Vec<T>, item: T)
-    requires { length items.old.items < vec_capacity items.old }
-    ensures items { items.new.items ≡ items.old.items ++ item ∷ [] }
-    ensures room { vec_capacity items.old ≤ vec_capacity items.new }
-{
-    let Ok(()) = items.push(item) else {
-        unreachable!();
-    };
 }
 
 impl Shelf {
@@ -167,30 +149,34 @@ impl Shelf {
         ensures none { IfOk result (λ s. s.items ≡ []) }
         ensures room { IfOk result (λ s. count ≤ s.room) }
     {
-        let tints = Vec::with_capacity(alloc, count as usize)?;
-        let forms = Vec::with_capacity(alloc, count as usize)?;
-        Ok(Shelf { tints, forms })
+        Ok(Shelf {
+            slots: Columns::new(alloc, count as usize)?,
+        })
     }
 
     /// How many slots there are.
     pub fn len(&self) -> usize
         ensures { result ≡ length self.now.items }
     {
-        self.tints.len()
+        self.slots.len()
     }
 
     /// The colour of the vertex; none if there is no vertex.
     pub fn colour(&self, id: u32) -> Option<Colour>
         ensures { result ≡ in_slot (λ o. o.colour) (occupant_at self.now.items id) }
     {
-        tint_at(&self.tints, id).colour()
+        if (id as usize) < self.slots.len() {
+            self.slots.left(id as usize).colour()
+        } else {
+            None
+        }
     }
 
     /// The serial of the vertex; none if there is no vertex.
     pub fn serial(&self, id: u32) -> Option<u64>
         ensures { result ≡ in_slot (λ o. o.serial) (occupant_at self.now.items id) }
     {
-        match form_at(&self.forms, id) {
+        match form_at(&self.slots, id) {
             Some(form) => form.serial(),
             None => None,
         }
@@ -200,7 +186,7 @@ impl Shelf {
     pub fn kind(&self, id: u32) -> Option<Kind>
         ensures { result ≡ in_slot (λ o. o.kind) (occupant_at self.now.items id) }
     {
-        match form_at(&self.forms, id) {
+        match form_at(&self.slots, id) {
             Some(form) => form.kind(),
             None => None,
         }
@@ -210,7 +196,7 @@ impl Shelf {
     pub fn text(&self, id: u32) -> Option<&Text>
         ensures { option_map (λ t. t.now) result ≡ in_slot (λ o. o.text) (occupant_at self.now.items id) }
     {
-        match form_at(&self.forms, id) {
+        match form_at(&self.slots, id) {
             Some(form) => form.text(),
             None => None,
         }
@@ -220,7 +206,7 @@ impl Shelf {
     pub fn link(&self, id: u32) -> Option<u32>
         ensures { MatchOption result (length self.now.items ≤ id) (λ next. (id < length self.now.items) × (next ≡ (at self.now.items id).link)) }
     {
-        match form_at(&self.forms, id) {
+        match form_at(&self.slots, id) {
             Some(form) => Some(form.link()),
             None => None,
         }
@@ -232,8 +218,7 @@ impl Shelf {
         ensures items { self.new.items ≡ self.old.items ++ record { occupant = None; link = link } ∷ [] }
         ensures room { self.old.room ≤ self.new.room }
     {
-        append(&mut self.tints, Tint::Free);
-        append(&mut self.forms, Form::Free { link });
+        self.slots.push(Tint::Free, Form::Free { link });
     }
 
     /// Makes a slot free; it then leads to the next one.
@@ -241,8 +226,7 @@ impl Shelf {
         requires { id < length self.old.items }
         ensures { self.new ≡ record self.old { items = set self.old.items id (record { occupant = None; link = link }) } }
     {
-        self.tints[id as usize] = Tint::Free;
-        self.forms[id as usize] = Form::Free { link };
+        self.slots.set(id as usize, Tint::Free, Form::Free { link });
     }
 
     /// Puts a vertex into a slot.
@@ -250,14 +234,13 @@ impl Shelf {
         requires { id < length self.old.items }
         ensures { self.new ≡ record self.old { items = set self.old.items id (record { occupant = Some occupant; link = (at self.old.items id).link }) } }
     {
-        self.tints[id as usize] = Tint::of(occupant.colour);
-        let link = self.forms[id as usize].link();
-        self.forms[id as usize] = Form::Taken {
+        let form = Form::Taken {
             kind: occupant.kind,
-            link,
+            link: self.slots.right(id as usize).link(),
             serial: occupant.serial,
             text: occupant.text,
         };
+        self.slots.set(id as usize, Tint::of(occupant.colour), form);
     }
 
     /// Gives the vertex in a slot a colour.
@@ -265,7 +248,7 @@ impl Shelf {
         requires { occupant_at self.old.items id ≢ None }
         ensures { self.new ≡ record self.old { items = set self.old.items id (record { occupant = coloured colour (occupant_at self.old.items id); link = (at self.old.items id).link }) } }
     {
-        self.tints[id as usize] = Tint::of(colour);
+        self.slots.set_left(id as usize, Tint::of(colour));
     }
 
     /// Gives the vertex in a slot a colour, and lets the slot lead to another one.
@@ -273,8 +256,8 @@ impl Shelf {
         requires { occupant_at self.old.items id ≢ None }
         ensures { self.new ≡ record self.old { items = set self.old.items id (record { occupant = coloured colour (occupant_at self.old.items id); link = next }) } }
     {
-        self.tints[id as usize] = Tint::of(colour);
-        self.forms[id as usize].lead_to(next);
+        self.slots.set_left(id as usize, Tint::of(colour));
+        self.slots.right_mut(id as usize).lead_to(next);
     }
 
     /// Replaces the text of the vertex in a slot, and returns the old one.
@@ -283,6 +266,6 @@ impl Shelf {
         ensures slot { self.new ≡ record self.old { items = set self.old.items id (record { occupant = with_text new (occupant_at self.old.items id); link = (at self.old.items id).link }) } }
         ensures old { in_slot (λ o. o.text) (occupant_at self.old.items id) ≡ Some result }
     {
-        self.forms[id as usize].set_text(new)
+        self.slots.right_mut(id as usize).set_text(new)
     }
 }

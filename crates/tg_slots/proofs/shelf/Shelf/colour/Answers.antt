@@ -1,12 +1,13 @@
-use Rattle.std.proofs.Common.{◌≡◌, ◌∙◌, ap, get_or, List}
-use Rattle.tg_slots.specs.declared.shelf.Tint.{Tint}
-use Rattle.tg_slots.specs.declared.shelf.Tint.TheVariants.{Free}
-use Rattle.tg_slots.specs.Shelf.{colour_of}
-use Rattle.tg_slots.proofs.ShelfLemmas.{colour_read}
+use Rattle.std.proofs.Common.{◌∙◌, ap, sym}
+use Rattle.tg_slots.specs.Table.{in_slot}
+use Rattle.tg_slots.specs.Linked.{Linked}
+use Rattle.tg_slots.proofs.ShelfLemmas.{colour_read, past}
 use Rattle.tg_slots.proofs.shelf.Shelf.colour.Goals as goal
 
-pub returns : goal.returns
-returns c =
-    let read : c.colour.result ≡ colour_of (get_or c.self.inside.tints.items c.args.id Free) =
-    c.colour.ensures ∙ ap colour_of (c.tint_at.ensures ∙ ap (λ (l : List Tint). get_or l c.args.id Free) c.deref.ensures.value) in
-    rw (← c.self.view_is) (read ∙ colour_read c.self.inside.tints.items c.self.inside.forms.items c.args.id c.self.invariant)
+pub returns-then-id-len : goal.returns-then-id-len
+returns-then-id-len c = rw (← c.self.view_is) (c.colour.ensures ∙ colour_read c.self.inside.slots.items c.args.id c.left.result.now c.self.invariant c.left.ensures)
+
+pub returns-else-id-len : goal.returns-else-id-len
+returns-else-id-len c =
+    let past = past c.self.inside.slots.items c.args.id (rw c.len.ensures at c.if-id-len.false) in
+    rw (← c.self.view_is) (ap (λ (e : Linked). in_slot (λ o. o.colour) e.occupant) (sym past.1))

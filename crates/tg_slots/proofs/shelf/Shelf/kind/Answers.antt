@@ -1,10 +1,11 @@
-use Rattle.std.proofs.Common.{◌∙◌, ap}
+use Rattle.std.proofs.Common.{◌∙◌, ap, sym}
 use Rattle.tg_slots.specs.Table.{in_slot}
-use Rattle.tg_slots.proofs.ShelfLemmas.{past_forms, read_form}
+use Rattle.tg_slots.specs.Linked.{Linked}
+use Rattle.tg_slots.proofs.ShelfLemmas.{past, read_form}
 use Rattle.tg_slots.proofs.shelf.Shelf.kind.Goals as goal
 
 pub returns-in-Some : goal.returns-in-Some
-returns-in-Some c = rw (← c.self.view_is) (c.kind.ensures ∙ (read_form c.self.inside c.args.id c.in-Some.form.now c.self.invariant (rw c.deref.ensures.value at c.in-Some.ensures)).kind)
+returns-in-Some c = rw (← c.self.view_is) (c.kind.ensures ∙ (read_form c.self.inside.slots.items c.args.id c.in-Some.form.now c.in-Some.ensures).kind)
 
 pub returns-in-None : goal.returns-in-None
-returns-in-None c = rw (← c.self.view_is) (ap (in_slot (λ o. o.kind)) (past_forms c.self.inside c.args.id c.self.invariant (rw c.deref.ensures.value at c.in-None.ensures)).none)
+returns-in-None c = rw (← c.self.view_is) (ap (λ (e : Linked). in_slot (λ o. o.kind) e.occupant) (sym (past c.self.inside.slots.items c.args.id c.in-None.ensures).1))

@@ -1,13 +1,13 @@
-use Rattle.std.proofs.Common.{List, ap, arith, min, vec_capacity}
+use Rattle.std.proofs.Common.{List, ap}
 use Rattle.tg_slots.specs.Linked.{Linked}
 use Rattle.tg_slots.proofs.ShelfLemmas.{painted, some_within}
 use Rattle.tg_slots.proofs.shelf.Shelf.paint.Goals as goal
 
-pub index_mut-requires : goal.index_mut-requires
-index_mut-requires c = let within = (some_within c.self.inside.tints.items c.self.inside.forms.items c.args.id c.self.invariant (rw (← c.self.view_is) at c.requires)).tint in omega arith
+pub set_left-requires : goal.set_left-requires
+set_left-requires c = some_within c.self.inside.slots.items c.args.id (rw (← c.self.view_is) at c.requires)
 
 pub invariant_of-self : goal.invariant_of-self
-invariant_of-self c = rw c.of.ensures (painted c.self.inside.tints.items c.self.inside.forms.items c.args.id c.args.colour c.self.invariant (rw (← c.self.view_is) at c.requires)).agree
+invariant_of-self c = rw (c.set_left.ensures, c.of.ensures) (painted c.self.inside.slots.items c.args.id c.args.colour c.self.invariant (rw (← c.self.view_is) at c.requires)).agree
 
 pub returns : goal.returns
-returns c = rw (← c.self.view_is, c.of.ensures) (ap (λ (l : List Linked). record { items = l; room = min (vec_capacity c.self.inside.tints) (vec_capacity c.self.inside.forms) }) (painted c.self.inside.tints.items c.self.inside.forms.items c.args.id c.args.colour c.self.invariant (rw (← c.self.view_is) at c.requires)).is)
+returns c = rw (← c.self.view_is, c.set_left.ensures, c.of.ensures) (ap (λ (l : List Linked). record { items = l; room = c.self.inside.slots.room }) (painted c.self.inside.slots.items c.args.id c.args.colour c.self.invariant (rw (← c.self.view_is) at c.requires)).is)

@@ -1,16 +1,22 @@
-use Rattle.std.proofs.Common.{List, ap, arith, min, vec_capacity}
+use Rattle.std.proofs.Common.{List, ap, arith}
+use Rattle.tg_rights.proofs.ColumnsLemmas.{with_left_length}
 use Rattle.tg_slots.specs.Linked.{Linked}
 use Rattle.tg_slots.proofs.ShelfLemmas.{moved, some_within}
 use Rattle.tg_slots.proofs.shelf.Shelf.paint_and_lead.Goals as goal
 
-pub index_mut-requires : goal.index_mut-requires
-index_mut-requires c = let within = (some_within c.self.inside.tints.items c.self.inside.forms.items c.args.id c.self.invariant (rw (← c.self.view_is) at c.requires)).tint in omega arith
+pub set_left-requires : goal.set_left-requires
+set_left-requires c = some_within c.self.inside.slots.items c.args.id (rw (← c.self.view_is) at c.requires)
 
-pub index_mut-requires-2 : goal.index_mut-requires-2
-index_mut-requires-2 c = let within = (some_within c.self.inside.tints.items c.self.inside.forms.items c.args.id c.self.invariant (rw (← c.self.view_is) at c.requires)).form in omega arith
+pub right_mut-requires : goal.right_mut-requires
+right_mut-requires c =
+    rw c.set_left.ensures (omega (arith, some_within c.self.inside.slots.items c.args.id (rw (← c.self.view_is) at c.requires), with_left_length c.self.inside.slots.items c.args.id c.of.result))
 
 pub invariant_of-self : goal.invariant_of-self
-invariant_of-self c = rw (c.of.ensures, c.lead_to.ensures) (moved c.self.inside.tints.items c.self.inside.forms.items c.args.id c.args.colour c.args.next c.index_mut-2.result.now c.self.invariant (rw (← c.self.view_is) at c.requires) c.index_mut-2.ensures.value).agree
+invariant_of-self c =
+    rw (c.lead_to.ensures, c.set_left.ensures, c.of.ensures)
+    (moved c.self.inside.slots.items c.args.id c.args.colour c.args.next c.right_mut.result.now c.self.invariant (rw (← c.self.view_is) at c.requires) (rw (c.set_left.ensures, c.of.ensures) at c.right_mut.ensures.value)).agree
 
 pub returns : goal.returns
-returns c = rw (← c.self.view_is, c.of.ensures, c.lead_to.ensures) (ap (λ (l : List Linked). record { items = l; room = min (vec_capacity c.self.inside.tints) (vec_capacity c.self.inside.forms) }) (moved c.self.inside.tints.items c.self.inside.forms.items c.args.id c.args.colour c.args.next c.index_mut-2.result.now c.self.invariant (rw (← c.self.view_is) at c.requires) c.index_mut-2.ensures.value).is)
+returns c =
+    rw (← c.self.view_is, c.lead_to.ensures, c.set_left.ensures, c.of.ensures)
+    (ap (λ (l : List Linked). record { items = l; room = c.self.inside.slots.room }) (moved c.self.inside.slots.items c.args.id c.args.colour c.args.next c.right_mut.result.now c.self.invariant (rw (← c.self.view_is) at c.requires) (rw (c.set_left.ensures, c.of.ensures) at c.right_mut.ensures.value)).is)
