@@ -168,7 +168,7 @@ impl Cells {
             return false;
         }
         let head = self.heads[owner as usize];
-        self.free = self.cells.next(number);
+        self.free = self.cells.hop(number).next;
         self.free_count -= 1;
         let cell = Cell {
             owner,
@@ -194,9 +194,9 @@ impl Cells {
     {
         let end = self.size;
         let owners = self.heads.len() as u32;
-        let previous = self.cells.previous(cell);
-        let next = self.cells.next(cell);
-        let serial = self.cells.serial(cell);
+        let previous = self.cells.rest(cell).previous;
+        let next = self.cells.hop(cell).next;
+        let serial = self.cells.rest(cell).serial;
         self.index.soundness();
         let bucket = bucket_of(self.key, owner, serial, self.index.buckets());
         self.index.take(bucket, cell);
@@ -238,7 +238,7 @@ impl Cells {
         requires { IsLinked self.now.lists cell }
         ensures { (i : ℕ) (p : List Edge) (e : Edge) (r : List Edge) → Stands self.now.lists cell i p e r → result ≡ first_cell r }
     {
-        cell_or_none(&self.cells, self.cells.next(cell))
+        cell_or_none(&self.cells, self.cells.hop(cell).next)
     }
 
     /// The slot that the cell's edge leads to.
@@ -246,7 +246,7 @@ impl Cells {
         requires { IsLinked self.now.lists cell }
         ensures { (i : ℕ) (p : List Edge) (e : Edge) (r : List Edge) → Stands self.now.lists cell i p e r → result ≡ e.target }
     {
-        self.cells.target(cell)
+        self.cells.hop(cell).target
     }
 
     /// The serial of the vertex that the cell's edge leads to.
@@ -254,7 +254,7 @@ impl Cells {
         requires { IsLinked self.now.lists cell }
         ensures { (i : ℕ) (p : List Edge) (e : Edge) (r : List Edge) → Stands self.now.lists cell i p e r → result ≡ e.serial }
     {
-        self.cells.serial(cell)
+        self.cells.rest(cell).serial
     }
 
     /// The rights on the cell's edge, its label.
@@ -262,7 +262,7 @@ impl Cells {
         requires { IsLinked self.now.lists cell }
         ensures { (i : ℕ) (p : List Edge) (e : Edge) (r : List Edge) → Stands self.now.lists cell i p e r → result ≡ e.rights }
     {
-        self.cells.rights(cell)
+        self.cells.rest(cell).rights
     }
 
     /// Replaces the rights on the cell's edge by others that are not empty.

@@ -1,12 +1,11 @@
 //! The cells that were used so far, as they lie in memory.
 ghost use Rattle.std.specs.Prelude.{◌≡◌, ◌<◌, ◌≤◌, ◌++◌, ◌∷◌, ◌&&◌, [], IfOk, eqb, length, set};
-ghost use Rattle.std.specs.Vec.{vec_capacity};
 ghost use Rattle.tg_cells.specs.Chain.{Pooled, cell_at, with_next, with_previous};
-ghost use Rattle.tg_cells.specs.Pool.{pooled};
+ghost use Rattle.tg_cells.specs.Pool.{hop_of, pooled, rest_of};
 
 use std::alloc::{AllocError, Global};
 use std::marker::Model;
-use tg_rights::Rights;
+use tg_rights::{Columns, Rights};
 
 /// A cell, and its neighbours in its list. A free cell has the number of owners as its owner.
 #[derive(Drop)]
@@ -19,57 +18,55 @@ pub(crate) struct Cell {
     pub previous: u32,
 }
 
-// What a walk over a list reads of a cell.
+/// What a walk over a list reads of a cell.
 #[derive(Drop)]
-struct Hop {
-    next: u32,
-    target: u32,
+pub(crate) struct Hop {
+    pub next: u32,
+    pub target: u32,
 }
 
-// What else a cell holds.
+/// What else a cell holds.
 #[derive(Drop)]
-struct Rest {
-    serial: u64,
-    owner: u32,
-    previous: u32,
-    rights: Rights,
-}
-
-impl Rest {
-    fn is_of(&self, owner: u32, serial: u64) -> bool
-        ensures { result ≡ (eqb self.now.serial serial && eqb self.now.owner owner) }
-    {
-        self.serial == serial && self.owner == owner
-    }
+pub(crate) struct Rest {
+    pub serial: u64,
+    pub owner: u32,
+    pub previous: u32,
+    pub rights: Rights,
 }
 
 /// Cells from number 0 on, with room for more.
 ///
-/// The collector walks over lists, and reads nothing else of a cell. So what it reads lies in an array of its own, in 8
+/// The collector walks over lists, and reads nothing else of a cell. So what it reads lies in a column of its own, in 8
 /// bytes for each cell.
 #[derive(Drop)]
 pub(crate) struct Pool {
-    hops: Vec<Hop>,
-    rests: Vec<Rest>,
+    cells: Columns<Hop, Rest>,
 }
 
 impl Model for Pool {
     ghost Value = { Pooled };
 
     ghost view = { pooled };
-
-    ghost invariant = { λ p. length p.hops.items ≡ length p.rests.items };
 }
 
-// Appends an element for which there is room.
-fn append<T: Drop>(items: &mut Vec<T>, item: T)
-    requires { length items.old.items < vec_capacity items.old }
-    ensures items { items.new.items ≡ items.old.items ++ item ∷ [] }
-    ensures room { vec_capacity items.old ≤ vec_capacity items.new }
-{
-    let Ok(()) = items.push(item) else {
-        unreachable!();
-    };
+impl Cell {
+    // The cell as it lies in the two columns.
+    fn halves(self) -> (Hop, Rest)
+        ensures hop { result.0 ≡ hop_of self }
+        ensures rest { result.1 ≡ rest_of self }
+    {
+        let hop = Hop {
+            next: self.next,
+            target: self.target,
+        };
+        let rest = Rest {
+            serial: self.serial,
+            owner: self.owner,
+            previous: self.previous,
+            rights: self.rights,
+        };
+        (hop, rest)
+    }
 }
 
 impl Pool {
@@ -78,56 +75,31 @@ impl Pool {
         ensures none { IfOk result (λ p. p.items ≡ []) }
         ensures room { IfOk result (λ p. count ≤ p.room) }
     {
-        let hops = Vec::with_capacity(alloc, count as usize)?;
-        let rests = Vec::with_capacity(alloc, count as usize)?;
-        Ok(Pool { hops, rests })
+        let cells = Columns::new(alloc, count as usize)?;
+        Ok(Pool { cells })
     }
 
     /// How many cells there are.
     pub fn len(&self) -> usize
         ensures { result ≡ length self.now.items }
     {
-        self.hops.len()
+        self.cells.len()
     }
 
-    /// The next cell of the cell's list.
-    pub fn next(&self, number: u32) -> u32
+    /// What a walk reads of the cell: the next one of its list, and the slot that its edge leads to.
+    pub fn hop(&self, number: u32) -> &Hop
         requires { number < length self.now.items }
-        ensures { result ≡ (cell_at self.now.items number).next }
+        ensures { result.now ≡ hop_of (cell_at self.now.items number) }
     {
-        self.hops[number as usize].next
+        self.cells.left(number as usize)
     }
 
-    /// The slot that the cell's edge leads to.
-    pub fn target(&self, number: u32) -> u32
+    /// What else the cell holds.
+    pub fn rest(&self, number: u32) -> &Rest
         requires { number < length self.now.items }
-        ensures { result ≡ (cell_at self.now.items number).target }
+        ensures { result.now ≡ rest_of (cell_at self.now.items number) }
     {
-        self.hops[number as usize].target
-    }
-
-    /// The serial of the vertex that the cell's edge leads to.
-    pub fn serial(&self, number: u32) -> u64
-        requires { number < length self.now.items }
-        ensures { result ≡ (cell_at self.now.items number).serial }
-    {
-        self.rests[number as usize].serial
-    }
-
-    /// The rights on the cell's edge.
-    pub fn rights(&self, number: u32) -> Rights
-        requires { number < length self.now.items }
-        ensures { result ≡ (cell_at self.now.items number).rights }
-    {
-        self.rests[number as usize].rights
-    }
-
-    /// The cell before it in the cell's list.
-    pub fn previous(&self, number: u32) -> u32
-        requires { number < length self.now.items }
-        ensures { result ≡ (cell_at self.now.items number).previous }
-    {
-        self.rests[number as usize].previous
+        self.cells.right(number as usize)
     }
 
     /// Whether the cell is the owner's, with that serial.
@@ -135,7 +107,8 @@ impl Pool {
         requires { number < length self.now.items }
         ensures { result ≡ (eqb (cell_at self.now.items number).serial serial && eqb (cell_at self.now.items number).owner owner) }
     {
-        self.rests[number as usize].is_of(owner, serial)
+        let rest = self.rest(number);
+        rest.serial == serial && rest.owner == owner
     }
 
     /// Appends a cell.
@@ -144,18 +117,8 @@ impl Pool {
         ensures items { self.new.items ≡ self.old.items ++ cell ∷ [] }
         ensures room { self.old.room ≤ self.new.room }
     {
-        let hop = Hop {
-            next: cell.next,
-            target: cell.target,
-        };
-        let rest = Rest {
-            serial: cell.serial,
-            owner: cell.owner,
-            previous: cell.previous,
-            rights: cell.rights,
-        };
-        append(&mut self.hops, hop);
-        append(&mut self.rests, rest);
+        let (hop, rest) = cell.halves();
+        self.cells.push(hop, rest);
     }
 
     /// Writes a cell in place of another.
@@ -163,24 +126,17 @@ impl Pool {
         requires { number < length self.old.items }
         ensures { self.new ≡ record self.old { items = set self.old.items number cell } }
     {
-        self.hops[number as usize] = Hop {
-            next: cell.next,
-            target: cell.target,
-        };
-        self.rests[number as usize] = Rest {
-            serial: cell.serial,
-            owner: cell.owner,
-            previous: cell.previous,
-            rights: cell.rights,
-        };
+        let (hop, rest) = cell.halves();
+        self.cells.set(number as usize, hop, rest);
     }
 
     /// Links the cell of that number, if there is one, on to another.
     pub fn set_next(&mut self, number: u32, next: u32)
         ensures { self.new ≡ record self.old { items = with_next self.old.items number next } }
     {
-        if (number as usize) < self.hops.len() {
-            self.hops[number as usize].next = next;
+        if (number as usize) < self.cells.len() {
+            let target = self.cells.left(number as usize).target;
+            self.cells.set_left(number as usize, Hop { next, target });
         }
     }
 
@@ -188,8 +144,8 @@ impl Pool {
     pub fn set_previous(&mut self, number: u32, previous: u32)
         ensures { self.new ≡ record self.old { items = with_previous self.old.items number previous } }
     {
-        if (number as usize) < self.rests.len() {
-            self.rests[number as usize].previous = previous;
+        if (number as usize) < self.cells.len() {
+            self.cells.right_mut(number as usize).previous = previous;
         }
     }
 
@@ -198,8 +154,9 @@ impl Pool {
         requires { number < length self.old.items }
         ensures { self.new ≡ record self.old { items = set self.old.items number (record (cell_at self.old.items number) { owner = owners; next = next }) } }
     {
-        self.hops[number as usize].next = next;
-        self.rests[number as usize].owner = owners;
+        let target = self.cells.left(number as usize).target;
+        self.cells.set_left(number as usize, Hop { next, target });
+        self.cells.right_mut(number as usize).owner = owners;
     }
 
     /// Replaces the rights on the cell's edge.
@@ -207,6 +164,6 @@ impl Pool {
         requires { number < length self.old.items }
         ensures { self.new ≡ record self.old { items = set self.old.items number (record (cell_at self.old.items number) { rights = rights }) } }
     {
-        self.rests[number as usize].rights = rights;
+        self.cells.right_mut(number as usize).rights = rights;
     }
 }

@@ -1,8 +1,11 @@
-use Rattle.tg_cells.proofs.PoolLemmas.{next_set, none_set}
+use Rattle.std.proofs.Common.{List, ap, refl}
+use Rattle.tg_rights.proofs.ColumnsLemmas.{left_changed}
+use Rattle.tg_cells.specs.declared.pool.Cell.{Cell}
+use Rattle.tg_cells.specs.Pool.{whole}
 use Rattle.tg_cells.proofs.pool.Pool.set_next.Goals as goal
 
 pub returns-then-number-len : goal.returns-then-number-len
-returns-then-number-len c = rw (← c.self.view_is) (next_set c.self.inside c.args.number c.args.next c.index_mut.result.now c.self.invariant (rw c.len.ensures at c.if-number-len.true) c.index_mut.ensures.value)
-
-pub returns-else-number-len : goal.returns-else-number-len
-returns-else-number-len c = rw (← c.self.view_is) (none_set c.self.inside c.args.number _ c.self.invariant (rw c.len.ensures at c.if-number-len.false))
+returns-then-number-len c =
+    rw (← c.self.view_is, c.set_left.ensures)
+    (ap (λ (l : List Cell). record { items = l; room = c.self.inside.cells.room })
+    (left_changed whole (λ (x : Cell). record x { next = c.args.next }) c.self.inside.cells.items c.args.number c.left.result.now (record c.left.result.now { next = c.args.next }) _ c.left.ensures refl))

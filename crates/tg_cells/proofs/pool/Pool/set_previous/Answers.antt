@@ -1,12 +1,11 @@
-use Rattle.std.proofs.Common.{arith}
-use Rattle.tg_cells.proofs.PoolLemmas.{none_set, previous_set}
+use Rattle.std.proofs.Common.{List, ap, refl}
+use Rattle.tg_rights.proofs.ColumnsLemmas.{right_changed}
+use Rattle.tg_cells.specs.declared.pool.Cell.{Cell}
+use Rattle.tg_cells.specs.Pool.{whole}
 use Rattle.tg_cells.proofs.pool.Pool.set_previous.Goals as goal
 
 pub returns-then-number-len : goal.returns-then-number-len
-returns-then-number-len c = rw (← c.self.view_is) (previous_set c.self.inside c.args.number c.args.previous c.index_mut.result.now c.self.invariant (rw c.len.ensures at c.if-number-len.true) c.index_mut.ensures.value)
-
-pub returns-else-number-len : goal.returns-else-number-len
-returns-else-number-len c =
-    let past = rw c.len.ensures at c.if-number-len.false in
-    let same = c.self.invariant in
-    rw (← c.self.view_is) (none_set c.self.inside c.args.number _ same (omega arith))
+returns-then-number-len c =
+    rw (← c.self.view_is)
+    (ap (λ (l : List Cell). record { items = l; room = c.self.inside.cells.room })
+    (right_changed whole (λ (x : Cell). record x { previous = c.args.previous }) c.self.inside.cells.items c.args.number c.right_mut.result.now (record c.right_mut.result.now { previous = c.args.previous }) _ c.right_mut.ensures.value refl))

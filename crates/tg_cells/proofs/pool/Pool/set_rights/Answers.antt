@@ -1,10 +1,11 @@
-use Rattle.std.proofs.Common.{List, ap, arith, min, vec_capacity}
+use Rattle.std.proofs.Common.{List, ap, refl}
+use Rattle.tg_rights.proofs.ColumnsLemmas.{right_changed}
 use Rattle.tg_cells.specs.declared.pool.Cell.{Cell}
-use Rattle.tg_cells.proofs.PoolLemmas.{rests_length, rights_set}
+use Rattle.tg_cells.specs.Pool.{whole}
 use Rattle.tg_cells.proofs.pool.Pool.set_rights.Goals as goal
 
-pub index_mut-requires : goal.index_mut-requires
-index_mut-requires c = let within = rw (← c.self.view_is) at c.requires in let same = rests_length c.self.inside.hops.items c.self.inside.rests.items c.self.invariant in omega arith
-
 pub returns : goal.returns
-returns c = rw (← c.self.view_is) (ap (λ (l : List Cell). record { items = l; room = min (vec_capacity c.self.inside.hops) (vec_capacity c.self.inside.rests) }) (rights_set c.self.inside.hops.items c.self.inside.rests.items c.args.number c.args.rights c.index_mut.result.now c.self.invariant (rw (← c.self.view_is) at c.requires) c.index_mut.ensures.value))
+returns c =
+    rw (← c.self.view_is)
+    (ap (λ (l : List Cell). record { items = l; room = c.self.inside.cells.room })
+    (right_changed whole (λ (x : Cell). record x { rights = c.args.rights }) c.self.inside.cells.items c.args.number c.right_mut.result.now (record c.right_mut.result.now { rights = c.args.rights }) _ c.right_mut.ensures.value refl))
