@@ -1,203 +1,382 @@
--- What the readers of a store answer.
-use Rattle.std.proofs.Common.{◌≡◌, ◌≢◌, ℕ, zero, suc, ◌<◌, List, [], ◌∷◌, length, map, Option, Some, None, MatchOption, inl, inr, Bool, true, false, sym, ◌∙◌, subst, ap, refl, arith, get_or}
-use Rattle.std.specs.Option.{is_some, unwrap_or, option_map}
-use Rattle.std.specs.FinMap as finmap
+-- What the calls that add an edge, and a vertex with its edge, do to a store.
+use Rattle.std.proofs.Common.{◌≡◌, ◌≢◌, ℕ, zero, suc, ◌<◌, List, [], ◌∷◌, length, Option, Some, None, Result, Ok, Err, true, false, sym, ◌∙◌, subst, ap, refl, arith, get_or, ◌+◌, ◌++◌, ◌⊎◌, inl, inr, Bool, cond, eqb, ◌&&◌, set, get_or-set_same, get_or-set_other}
+use Rattle.tg_collect.proofs.Common.{is_some, length-map, SEATS, Letters, is_none, Contains, Occupant, IsHeap, IsAdded, Kept, Root, Machine, slots_of, slot_of, lists_of, bare, Whole, stored, place, pending_of, IsEdgeIn, EdgeStored, Distinct, contains_middle, contains_map, edge, Edge, first_cell, Found, HeapGraph, edges, at_within, Progress, Idle, Marking, Sweeping, progress_in, Stored, as_progress, kept, kept_from, progress, held, Leads, RightsRemoved, Spot, Body, name, name_of, seen, as_kept, put, put_each, vertex_of, comes, body, progress_of, TextReplaced, Kind, Protection, Free, slot, HasNone, mark_at, new_colour, gains, with_target, body_of, Puts, spot, serial_of, IsHeldIn, IsParkedIn, VertexStored}
+use Rattle.tg_heap.specs.declared.heap.HeapFull.TheVariants as full
 use Rattle.std.specs.FinSet as finset
-use Rattle.tg_rights.specs.Letters.{Letters, Right, has, is_none, none, includes}
-use Rattle.tg_rights.specs.Letters as right
-use Rattle.tg_rights.specs.Membership.{Contains, Distinct}
-use Rattle.tg_rights.proofs.MembershipLemmas.{contains_map, contains_middle, same_by, split_at}
-use Rattle.tg_graph.specs.Triples.{Triple}
-use Rattle.tg_graph.specs.Protection.{label}
-use Rattle.tg_held.specs.Held.{vertex_of}
-use Rattle.tg_slots.specs.Table as table
-use Rattle.tg_slots.specs.Table.{Free, slot, in_slot}
-use Rattle.tg_slots.specs.declared.slots.Occupant.{Occupant}
-use Rattle.tg_cells.specs.Lists.{Edge, HasNone, Found}
-use Rattle.tg_heap.specs.Graph.{edges, mark_at, IsHeap}
 use Rattle.tg_marking.specs.Values as values
-use Rattle.tg_marking.specs.Values.{Spot, Kept, as_kept}
-use Rattle.tg_collect.specs.declared.machine.Root.{Root}
-use Rattle.tg_collect.specs.declared.machine.Machine.{Machine}
-use Rattle.tg_collect.specs.Machine.{body, progress_of, join, Whole}
-use Rattle.tg_collect.specs.Stored.{Stored, stored}
-use Rattle.tg_collect.specs.Readings.{kept, place, serial_at, serial_of, root_serial, pending_of, principals, triples, IsEdgeIn, progress, held}
-use Rattle.tg_collect.proofs.ZipLemmas.{zip_at, zip_size, as_spot}
-use Rattle.tg_collect.proofs.RootLemmas.{kept_within}
-use Rattle.tg_collect.proofs.ShownLemmas.{Once, place_kept, vertex_found, triple_owned, held_at, says_triple}
-use Rattle.tg_collect.proofs.StoreLemmas.{kept_is, stored_kept, once_stored, closed_so, named_so}
+use Rattle.tg_held.specs.Held as graph
+use Rattle.tg_collect.proofs.SeatLemmas as placed
+use Rattle.std.specs.Prelude.{OnOk, OnErr, IfErr}
+use Rattle.tg_cells.specs.Lists.{cells, serials}
+use Rattle.tg_heap.specs.declared.heap.HeapFull.{HeapFull}
+use Rattle.tg_collect.specs.Calls.{Adds, is_at, progress_without, progress_dropped, SetsText, Links}
+use Rattle.tg_collect.specs.Readings.{serial_at}
+use Rattle.tg_collect.proofs.StoreLemmas.{once_stored, Holds, holds, owned_here, idle_seat, stored_kept, closed_so, placed_mark, found_contains}
+use Rattle.tg_collect.proofs.EdgeLemmas.{added, relabels, leaves, Replaced, replaced_drops, regarded, regarded_at, still_leads, fewer_lead, puts_progress, replaced_puts}
+use Rattle.tg_rights.specs.Letters.{none, without}
+use Rattle.tg_rights.proofs.MembershipLemmas.{map_append, distinct_around}
+use Rattle.tg_rights.proofs.LettersLemmas.{is_none-none}
+use Rattle.tg_heap.specs.Calls.{IsDropped}
+use Rattle.tg_heap.specs.declared.heap.Dropped.{Dropped}
+use Rattle.tg_heap.specs.declared.heap.Dropped.TheVariants.{Kept as Stayed, Gone}
+use Rattle.tg_held.specs.Held.{Apart}
+use Rattle.tg_held.proofs.HeldLemmas.{drops}
+use Rattle.tg_collect.proofs.SlotLemmas.{as_spot, at_slot, put_slot, at_free, free_so}
+use Rattle.tg_collect.proofs.ShownLemmas.{Once, held_at, held_set, edge_shown, vertex_found, kept_held}
+use Rattle.tg_collect.proofs.SeatLemmas.{same_stage, roots_move, same_progress, same_cursor, stored_is, bare_seat, placed_whole, placed_left, placed_is, placed_graph, placed_other, placed_here, new_same}
+use Rattle.tg_marking.specs.Steps.{Rewrites}
+use Rattle.tg_marking.proofs.DropLemmas.{rewrites_keeps}
+use Rattle.tg_marking.proofs.CountLemmas.{left_rewrites}
+use Rattle.std.specs.Option.{unwrap_or}
+use Rattle.tg_slots.specs.Table.{mark_of}
+use Rattle.tg_marking.specs.Values.{IsTarget}
 
--- A slot where something is held, with its vertex.
-pub record Holds (m : Machine) (i : ℕ) : Type 0 where
-  pub what : Kept
-  pub shows : kept (stored m) i ≡ Some what
-  pub serial : serial_at (stored m) i ≡ what.serial
-  pub occupant : Occupant
-  pub is : slot m.heap.table i ≡ Some occupant
-  pub same : as_kept (as_spot occupant (edges m.heap i)) ≡ what
+seat_none : (xs : List (Option Root)) (k : ℕ) → get_or xs k None ≡ None → get_or (slots_of xs) k None ≡ None
+seat_none [] k e = refl
+seat_none (x ∷ xs) zero e = ap slot_of e
+seat_none (x ∷ xs) (suc k) e = seat_none xs k e
 
-pub some_of : (o : Option ℕ) → is_some o ≡ true → o ≡ Some (unwrap_or o 0)
-some_of None e = absurd (cc)
-some_of (Some x) e = refl
+pub idle_slot : (m : Machine) (seat : ℕ) → pending_of (stored m) seat ≡ None → get_or (bare (lists_of m.roots)).targets seat None ≡ None
+idle_slot m seat e = seat_none m.roots.targets.items seat (idle_seat m seat e)
 
-pub holds : (m : Machine) (i : ℕ) → is_some (place (stored m) i) ≡ true → Holds m i
-holds m i e = by (slot m.heap.table i) refl (sym (zip_at m.heap.table.slots m.heap.lists i) ∙ r.1) where
-  k : (k : Kept) × (kept (stored m) i ≡ Some k) × (k.serial ≡ serial_at (stored m) i)
-  k = place_kept (stored m) i (serial_at (stored m) i) (some_of (place (stored m) i) e)
+pub seat_inside : (m : Machine) (seat : ℕ) → Whole m → seat < SEATS → seat < length (bare (lists_of m.roots)).targets
+seat_inside m seat w l = let z = length-map m.roots.targets.items (λ o. slot_of o) in let s = w.roots.seats in omega (arith, l, z, s)
 
-  r : (s : Spot) × (values.spot (body m) i ≡ Some s) × (values.keeps (progress (stored m)) i s.colour ≡ true) × (as_kept s ≡ k.0)
-  r = kept_is (progress (stored m)) i (values.spot (body m) i) k.0 k.1
+pub occupant_same : (a b : Occupant) → Some a ≡ Some b → a ≡ b
+occupant_same a b e = cc
 
-  spots : (a b : Spot) → Some a ≡ Some b → a ≡ b
-  spots a b e = cc
+-- The whole call that adds rights.
+pub record AddCalled {U : Type 0} (m n : Machine) (seat id target : ℕ) (rights : Letters) (r : Result U HeapFull) : Type 0 where
+  pub whole : Whole n
+  pub ok : OnOk r (EdgeStored (stored m) (stored n) seat (serial_at (stored m) id) (serial_at (stored m) target) rights)
+  pub full : IfErr r (λ e. (e ≡ full.Cells) × ((stored m).free_cells ≡ 0) × (IsEdgeIn (stored m) (serial_at (stored m) id) (serial_at (stored m) target) → ⊥))
+  pub unchanged : OnErr r (stored n ≡ stored m)
 
-  by : (o : Option Occupant) → slot m.heap.table i ≡ o → join (slot m.heap.table i) (edges m.heap i) ≡ Some r.0 → Holds m i
-  by None is at = absurd (let u : None ≡ Some r.0 = sym (ap (λ q. join q (edges m.heap i)) is) ∙ at in cc)
-  by (Some o) is at = record {
-    what = k.0;
-    shows = k.1;
-    serial = sym k.2;
-    occupant = o;
-    is = is;
-    same = ap as_kept (spots (as_spot o (edges m.heap i)) r.0 (sym (ap (λ q. join q (edges m.heap i)) is) ∙ at)) ∙ r.3;
+pub add_called : {U : Type 0} (m n : Machine) (seat id target : ℕ) (rights : Letters) (r : Result U HeapFull) → IsHeap m.heap → IsHeap n.heap → Whole m → is_some (place (stored m) id) ≡ true → is_some (place (stored m) target) ≡ true → target ≢ id
+    → pending_of (stored m) seat ≡ None → seat < SEATS → is_none rights ≡ false → (t : Root) → t.slot ≡ target → t.serial ≡ serial_at (stored m) target → Adds m seat id t rights r n → AddCalled m n seat id target rights r
+add_called m n seat id target rights (Ok u) ok ok' w source held apart idle l some t slot_is serial_is (o, is, new, roots, shape) =
+    let h = holds m id source in
+    let d = subst (Holds m) (sym slot_is) (holds m target held) in
+    let same : d.what.serial ≡ t.serial = sym d.serial ∙ ap (serial_at (stored m)) slot_is ∙ sym serial_is in
+    let named : o.serial ≡ t.serial = ap (λ (q : Occupant). q.serial) (occupant_same o d.occupant (sym is ∙ d.is)) ∙ ap (λ (k : Kept). k.serial) d.same ∙ same in
+    let e = added m n seat id t rights ok ok' w h d same (λ q. apart (sym slot_is ∙ q)) (idle_slot m seat idle) (seat_inside m seat w l) some (subst (λ (x : ℕ). IsAdded m.heap n.heap id t.slot x rights) named new) roots shape in
+    record {
+      whole = e.0;
+      ok = subst (λ (y : ℕ). EdgeStored (stored m) (stored n) seat (serial_at (stored m) id) y rights) serial_is (subst (λ (x : ℕ). EdgeStored (stored m) (stored n) seat x t.serial rights) (sym h.serial) e.1);
+      full = tt;
+      unchanged = tt;
+    }
+add_called m n seat id target rights (Err e) ok ok' w source held apart idle l some t slot_is serial_is (cells, o, is, absent, none, same) =
+    let h = holds m id source in
+    let d = subst (Holds m) (sym slot_is) (holds m target held) in
+    let named : o.serial ≡ serial_at (stored m) target = ap (λ (q : Occupant). q.serial) (occupant_same o d.occupant (sym is ∙ d.is)) ∙ ap (λ (k : Kept). k.serial) d.same ∙ sym d.serial ∙ ap (serial_at (stored m)) slot_is in
+    record {
+      whole = subst Whole (sym same) w;
+      ok = tt;
+      full = (
+        cells,
+        none,
+        λ q.
+            let x = owned_here (stored m) 0 id h.what (once_stored m w) h.shows (record { from = serial_at (stored m) id; right = q.0; to = serial_at (stored m) target }) q.1 h.serial in
+            absent x.0 (subst (λ (k : Kept). Contains k.edges x.0) (sym h.same) x.1) (sym x.2 ∙ sym named),
+      );
+      unchanged = ap stored same;
+    }
+
+-- What follows if a call is Ok.
+pub on_ok : {T E : Type 0} (r : Result T E) (P Q : Type 0) → (P → Q) → OnOk r P → OnOk r Q
+on_ok (Ok t) P Q f h = f h
+on_ok (Err e) P Q f h = h
+
+-- What the calls that take rights, add vertices and replace texts do to a store.
+pub apart_so : (v : Stored) (i : ℕ) (k : Kept) → Once v → kept v i ≡ Some k → Apart (kept_from (progress v) 0 v.slots) i k.serial
+apart_so v i k once is j t n e s = n (once j i t k (sym (held_at v j) ∙ e) is s)
+
+without_stage : (h : HeapGraph) (p : Progress) (i c : ℕ) (n : Option ℕ) → values.shown (progress_in h (progress_without p i c n)) ≡ values.shown (progress_in h p)
+without_stage h Idle i c n = refl
+without_stage h (Sweeping k) i c n = refl
+without_stage h (Marking None) i c n = refl
+without_stage h (Marking (Some s)) i c n = by (eqb s.slot i && is_at s.cursor c) where
+  by : (b : Bool) → values.shown (progress_in h (cond b (Marking (Some (record { slot = i; cursor = n }))) (Marking (Some s)))) ≡ values.Mark
+  by true = refl
+  by false = refl
+
+module _ (m n : Machine) (id y : ℕ) (rights : Letters) (ok : IsHeap m.heap) (ok' : IsHeap n.heap) (w : Whole m) (h : Holds m id) where
+  abbrev Removal : Machine → Type 0
+  Removal x = Whole x × RightsRemoved (stored m) (stored x) h.what.serial y rights
+
+  within : id < length m.heap.lists
+  within = let z = at_within m.heap.table.slots id h.occupant h.is in let o = ok.owners in omega (arith, z, o)
+
+  edges_is : (f : Found (edges m.heap id) y) → h.what.edges ≡ f.before ++ f.edge ∷ f.after
+  edges_is f = ap (λ (k : Kept). k.edges) (sym h.same) ∙ f.is
+
+  -- What is shown of the slot afterwards.
+  after_shows : (v : Stored) (es : List Edge) → v.stage ≡ (stored m).stage → v.slots ≡ set (stored m).slots id (Some (record (as_spot h.occupant (edges m.heap id)) { edges = es })) → kept v id ≡ Some (record h.what { edges = es })
+  after_shows v es stage slots =
+      sym (held_at v id)
+      ∙ (λ n. get_or (kept_from (as_progress (stage n)) 0 (slots n)) id None)
+      ∙ ap (λ os. get_or os id None) (held_set (progress (stored m)) id (stored m).slots (Some (record (as_spot h.occupant (edges m.heap id)) { edges = es })))
+      ∙ get_or-set_same (kept_from (progress (stored m)) 0 (stored m).slots) id _ None inside
+      ∙ regarded_at (stored m) id (as_spot h.occupant (edges m.heap id)) h.what es h.occupant.text (at_slot m.heap (lists_of m.roots) id h.occupant h.is) h.shows
+      ∙ ap (λ (u : List ℕ). Some (record h.what { edges = es; text = u })) (ap (λ (k : Kept). k.text) h.same)
+    where
+      inside : id < length (kept_from (progress (stored m)) 0 (stored m).slots)
+      inside = at_within (kept_from (progress (stored m)) 0 (stored m).slots) id h.what (held_at (stored m) id ∙ h.shows)
+
+  removed_by : (f : Found (edges m.heap id) y) (news es : List Edge) (k : ℕ) (q : Progress) → es ≡ f.before ++ (news ++ f.after) → (x : Machine) → x ≡ record m { heap = record m.heap { lists = set m.heap.lists id es; free_cells = k }; progress = q } → Replaced m x (lists_of m.roots) id (as_spot h.occupant (edges m.heap id)) es
+      → (es ≡ f.before ++ record f.edge { rights = without f.edge.rights rights } ∷ f.after) ⊎ ((es ≡ f.before ++ f.after) × (without f.edge.rights rights ≡ none))
+      → (IsEdgeIn (stored x) h.what.serial y → k ≡ m.heap.free_cells) → ((IsEdgeIn (stored x) h.what.serial y → ⊥) → k ≡ m.heap.free_cells + 1) → Removal x
+  removed_by f news es k q is x shape c cut stays gone = (
+    c.whole,
+    record {
+      graph = λ next. regarded (stored m) (stored x) id (as_spot h.occupant (edges m.heap id)) h.what es h.occupant.text (at_slot m.heap (lists_of m.roots) id h.occupant h.is) h.shows (ap (λ (v : Stored). v.stage) c.is) (ap (λ (v : Stored). v.slots) c.is) next
+          ∙ ap (λ (u : List ℕ). graph.held (set (kept_from (progress (stored m)) 0 (stored m).slots) id (Some (record h.what { edges = es; text = u }))) next) (ap (λ (z : Kept). z.text) h.same)
+          ∙ drops (kept_from (progress (stored m)) 0 (stored m).slots) id next h.what f.before f.edge f.after es rights (held_at (stored m) id ∙ h.shows) (edges_is f)
+          (subst (λ (l : List Edge). Distinct (serials l)) (ap (λ (z : Kept). z.edges) h.same) (ok.cells.serial_once id)) (apart_so (stored m) id h.what (once_stored m w) h.shows) cut
+          ∙ ap (λ (z : ℕ). record (held (stored m) next) { triples = finset.difference (held (stored m) next).triples (edge h.what.serial rights z) }) f.here;
+      kept = λ e. ap (λ (z : Machine). z.heap.free_cells) shape ∙ stays e;
+      gone = λ e. ap (λ (z : Machine). z.heap.free_cells) shape ∙ gone e;
+      left = c.left;
+      slot = id;
+      owner = as_spot h.occupant (edges m.heap id);
+      at = at_slot m.heap (lists_of m.roots) id h.occupant h.is;
+      edges = es;
+      leads = λ x h. subst (λ (l : List Edge). Leads l x) (sym f.is) (elim cut [
+        | inl is ↦ still_leads f.before f.after (record f.edge { rights = without f.edge.rights rights }) f.edge refl x (subst (λ (l : List Edge). Contains l x) is h)
+        | inr is ↦ fewer_lead f.before f.after f.edge x (subst (λ (l : List Edge). Contains l x) is.0 h)
+      ]);
+      is = c.is;
+    },
+  )
+
+  stayed_so : (f : Found (edges m.heap id) y) → without f.edge.rights rights ≢ none → IsHeap (record m.heap { lists = set m.heap.lists id (f.before ++ record f.edge { rights = without f.edge.rights rights } ∷ f.after) })
+      → Removal (record m { heap = record m.heap { lists = set m.heap.lists id (f.before ++ record f.edge { rights = without f.edge.rights rights } ∷ f.after) } })
+  stayed_so f some heap =
+      let z : Edge = record f.edge { rights = without f.edge.rights rights } in
+      let es = f.before ++ z ∷ f.after in
+      let after : Machine = record m { heap = record m.heap { lists = set m.heap.lists id (f.before ++ record f.edge { rights = without f.edge.rights rights } ∷ f.after) } } in
+      let once : Distinct (cells es) = subst (λ (l : List Edge). Distinct (cells l)) (get_or-set_same m.heap.lists id es [] within) (heap.cells.cell_once id) in
+      let c = replaced_drops m ok w (lists_of m.roots) m.roots refl id m.heap.free_cells h.occupant h.is es m.progress w.roots w.kept f.before f.edge (z ∷ []) f.after f.is refl
+      (λ a q. elim q [ inl is ↦ (ap (λ (e : Edge). e.target) is, ap (λ (e : Edge). e.serial) is) | inr bad ↦ absurd bad ]) (omega arith)
+      (relabels m.heap id m.heap.free_cells es within f.before f.edge (z ∷ []) f.after f.is refl once z m.progress refl refl w.cursor) (same_stage m.heap after.heap m.progress) in
+      let shown : IsEdgeIn (stored after) h.what.serial y = subst (IsEdgeIn (stored after) h.what.serial) f.here
+      (edge_shown (stored after) id (record h.what { edges = es }) z (after_shows (stored after) es (ap (λ (v : Stored). v.stage) c.is) (ap (λ (v : Stored). v.slots) c.is)) (contains_middle f.before f.after z) (not_none z.rights some)) in
+      removed_by f (z ∷ []) es m.heap.free_cells m.progress refl after refl c (inl refl) (λ e. refl) (λ e. absurd (e shown))
+    where
+      not_none : (l : Letters) → l ≢ none → is_none l ≡ false
+      not_none l n = elim (is_none l) as (λ b. is_none l ≡ b → is_none l ≡ false) [
+        | true ↦ λ b. absurd (n (is_none-none l b))
+        | false ↦ λ b. b
+      ] refl
+
+  gone_so : (f : Found (edges m.heap id) y) → without f.edge.rights rights ≡ none → IsHeap (record m.heap { lists = set m.heap.lists id (f.before ++ f.after); free_cells = m.heap.free_cells + 1 })
+      → Removal (record m { heap = record m.heap { lists = set m.heap.lists id (f.before ++ f.after); free_cells = m.heap.free_cells + 1 }; progress = progress_without m.progress id f.edge.cell (first_cell f.after) })
+  gone_so f empty heap =
+      let es = f.before ++ f.after in
+      let k = m.heap.free_cells + 1 in
+      let q : Progress = progress_without m.progress id f.edge.cell (first_cell f.after) in
+      let after : Machine = record m { heap = record m.heap { lists = set m.heap.lists id (f.before ++ f.after); free_cells = m.heap.free_cells + 1 }; progress = progress_without m.progress id f.edge.cell (first_cell f.after) } in
+      let once : Distinct (cells es) = subst (λ (l : List Edge). Distinct (cells l)) (get_or-set_same m.heap.lists id es [] within) (heap.cells.cell_once id) in
+      let c = replaced_drops m ok w (lists_of m.roots) m.roots refl id k h.occupant h.is es q w.roots w.kept f.before f.edge [] f.after f.is refl (λ a bad. absurd bad) (omega arith)
+      (leaves m.heap id k es within f.before f.edge [] f.after f.is refl once m.progress refl (ok.cells.cell_once id) w.cursor) (without_stage after.heap m.progress id f.edge.cell (first_cell f.after) ∙ same_stage m.heap after.heap m.progress) in
+      let absent : IsEdgeIn (stored after) h.what.serial y → ⊥ = (λ e.
+      let o = owned_here (stored after) 0 id (record h.what { edges = es }) (once_stored after c.whole) (after_shows (stored after) es (ap (λ (v : Stored). v.stage) c.is) (ap (λ (v : Stored). v.slots) c.is)) (record { from = h.what.serial; right = e.0; to = y }) e.1 refl in
+      let d = distinct_around (serials f.before) (serials f.after) f.edge.serial (subst (λ (l : List ℕ). Distinct l) (ap serials f.is ∙ map_append (λ (x : Edge). x.serial) f.before (f.edge ∷ f.after)) (ok.cells.serial_once id)) in
+      d.1 (subst (Contains (serials f.before ++ serials f.after)) (sym o.2 ∙ sym f.here) (subst (λ (l : List ℕ). Contains l o.0.serial) (map_append (λ (x : Edge). x.serial) f.before f.after) (contains_map (λ (x : Edge). x.serial) es o.0 o.1)))) in
+      removed_by f [] es k q refl after refl c (inr (refl, empty)) (λ e. absurd (absent e)) (λ e. refl)
+
+  pub removed : (d : Dropped) → IsDropped m.heap n.heap id y rights d → n ≡ record m { heap = n.heap; progress = progress_dropped m.progress id d } → Removal n
+  removed Stayed (f, some, is) shape = subst Removal (sym shape) (subst (λ (x : HeapGraph). Removal (record m { heap = x })) (sym is) (stayed_so f some (subst IsHeap is ok')))
+  removed (Gone cell next) (f, empty, here, then, is) shape = subst Removal (sym shape) (subst (λ (x : HeapGraph). Removal (record m { heap = x; progress = progress_without m.progress id cell next })) (sym is)
+      (subst (λ (c : ℕ). Removal (record m { heap = record m.heap { lists = set m.heap.lists id (f.before ++ f.after); free_cells = m.heap.free_cells + 1 }; progress = progress_without m.progress id c next })) (sym here)
+      (subst (λ (c : Option ℕ). Removal (record m { heap = record m.heap { lists = set m.heap.lists id (f.before ++ f.after); free_cells = m.heap.free_cells + 1 }; progress = progress_without m.progress id f.edge.cell c })) (sym then) (gone_so f empty (subst IsHeap is ok')))))
+
+-- What a new vertex, and another text, do to a store.
+-- The text of a held slot is replaced.
+module _ (m : Machine) (id : ℕ) (text : List ℕ) (w : Whole m) (h : Holds m id) where
+  abbrev pub g : HeapGraph
+  g = record m.heap { table = record m.heap.table { slots = set m.heap.table.slots id (Some (record h.occupant { text = text })) } }
+
+  abbrev pub n : Machine
+  n = record m { heap = record m.heap { table = record m.heap.table { slots = set m.heap.table.slots id (Some (record h.occupant { text = text })) } } }
+
+  there : values.spot (body m) id ≡ Some (as_spot h.occupant (edges m.heap id))
+  there = at_slot m.heap (lists_of m.roots) id h.occupant h.is
+
+  shows : body n ≡ put (body m) id (Some (as_spot (record h.occupant { text = text }) (edges m.heap id)))
+  shows = put_slot m.heap (lists_of m.roots) id (Some (record h.occupant { text = text })) m.heap.table.free
+
+  step : Rewrites (body m) id text (body n)
+  step = record { owner = as_spot h.occupant (edges m.heap id); at = there; is = shows }
+
+  same : progress_of n ≡ progress_of m
+  same = same_progress m.heap n.heap m.progress refl
+
+  names : (j : ℕ) → name (body n) j ≡ name (body m) j
+  names j = ap (λ (b : Body). name b j) shows ∙ put_each (λ j x. name_of x ≡ name (body m) j) (body m) id (Some (as_spot (record h.occupant { text = text }) (edges m.heap id))) (at_within (body m).slots id _ there) (ap name_of (sym there)) (λ j d. refl) j
+
+  pub text_whole : Whole n
+  text_whole = record {
+    kept = rw same (rewrites_keeps (body m) (body n) (progress_of m) id text step w.kept);
+    cursor = same_cursor m.heap n.heap m.progress refl w.cursor;
+    roots = roots_move (lists_of m.roots) (body m) (body n) (λ j d. names j) w.roots;
   }
 
-module _ (m : Machine) (i : ℕ) (e : is_some (place (stored m) i) ≡ true) where
-  pub placed_within : i < length m.heap.table.slots
-  placed_within = let h = holds m i e in let l = kept_within (body m) (progress_of m) i h.what (sym (stored_kept m i) ∙ h.shows) in let z = zip_size m.heap.table.slots m.heap.lists in omega (arith, l, z)
+  pub text_replaced : TextReplaced (stored m) (stored n) h.what.serial text h.occupant.text
+  text_replaced = record {
+    vertex = vertex_of h.what;
+    was = λ next. vertex_found (stored m) next id h.what (once_stored m w) h.shows;
+    old = ap (λ (k : Kept). k.text) h.same;
+    graph = λ next. regarded (stored m) (stored n) id (as_spot h.occupant (edges m.heap id)) h.what (edges m.heap id) text there h.shows (ap (λ (v : Stored). v.stage) is) (ap (λ (v : Stored). v.slots) is) next
+        ∙ ap (λ (es : List Edge). graph.held (set (kept_from (progress (stored m)) 0 (stored m).slots) id (Some (record h.what { edges = es; text = text }))) next) (ap (λ (k : Kept). k.edges) h.same)
+        ∙ comes (kept_from (progress (stored m)) 0 (stored m).slots) id next (record h.what { text = text }) (at_within (kept_from (progress (stored m)) 0 (stored m).slots) id h.what (held_at (stored m) id ∙ h.shows))
+        (apart_so (stored m) id h.what (once_stored m w) h.shows) (inr (h.what, held_at (stored m) id ∙ h.shows, refl, refl));
+    left = rw same (left_rewrites (body m) (body n) (progress_of m) id m.heap.cell_count text step);
+    slot = id;
+    owner = as_spot h.occupant (edges m.heap id);
+    at = there;
+    is = is;
+  } where
+    is : stored n ≡ record (stored m) { slots = set (stored m).slots id (Some (as_spot (record h.occupant { text = text }) (edges m.heap id))); left = (stored n).left }
+    is = stored_is m n.heap m.progress m.roots (lists_of m.roots) (set (stored m).slots id (Some (as_spot (record h.occupant { text = text }) (edges m.heap id)))) (ap (λ (b : Body). b.slots) shows) (ap values.shown same) refl refl
 
-  pub placed_mark : mark_at m.heap i ≢ Free
-  placed_mark f = let h = holds m i e in let u : Free ≡ table.Has h.occupant.colour = sym f ∙ ap table.mark_of h.is in cc
+pub text_set : (m k : Machine) (id : ℕ) (text old : List ℕ) → Whole m → (h : Holds m id) → SetsText m id text old k → Whole k × TextReplaced (stored m) (stored k) h.what.serial text old
+text_set m k id text old w h (o, is, was, shape) =
+    let same : h.occupant ≡ o = occupants h.occupant o (sym h.is ∙ is) in
+    let done : Whole k × TextReplaced (stored m) (stored k) h.what.serial text h.occupant.text =
+    subst (λ (x : Machine). Whole x × TextReplaced (stored m) (stored x) h.what.serial text h.occupant.text) (ap (λ (q : Occupant). record m { heap = record m.heap { table = record m.heap.table { slots = set m.heap.table.slots id (Some (record q { text = text })) } } }) same ∙ sym shape)
+    (text_whole m id text w h, text_replaced m id text w h) in
+    (done.0, subst (λ (t : List ℕ). TextReplaced (stored m) (stored k) h.what.serial text t) (ap (λ (q : Occupant). q.text) same ∙ sym was) done.1)
+  where
+    occupants : (a b : Occupant) → Some a ≡ Some b → a ≡ b
+    occupants a b e = cc
 
-  pub found_in : {X : Type 0} (f : Occupant → X) (r : Option X) → r ≡ in_slot f (slot m.heap.table i) → is_some r ≡ true
-  found_in f r is = ap is_some (is ∙ ap (in_slot f) (holds m i e).is)
+-- The whole call that adds a vertex with an edge to it.
+-- No edge leads to a serial that is not held.
+pub no_edge_to : (m : Machine) (id serial : ℕ) → Whole m → Holds m id → (IsHeldIn (stored m) serial → ⊥) → HasNone (edges m.heap id) serial
+no_edge_to m id serial w h unheld e c is =
+    let l = (closed_so m w).edges id h.what e h.shows (subst (λ (k : Kept). Contains k.edges e) h.same c) in
+    unheld (subst (IsHeldIn (stored m)) (l.2 ∙ is) (kept_held (stored m) e.target l.0 (once_stored m w) l.1))
 
-  pub serial_found : (x : ℕ) → in_slot (λ o. o.serial) (slot m.heap.table i) ≡ Some x → x ≡ serial_at (stored m) i
-  serial_found x f = let h = holds m i e in let u : Some x ≡ Some h.occupant.serial = sym f ∙ ap (in_slot (λ o. o.serial)) h.is in let v : x ≡ h.occupant.serial = cc in v ∙ ap (λ (k : Kept). k.serial) h.same ∙ sym h.serial
+module _ (m k : Machine) (seat id i serial : ℕ) (kind : Kind) (text rest : List ℕ) (rights : Letters) (ok : IsHeap m.heap) (ok' : IsHeap k.heap) (w : Whole m) (source : is_some (place (stored m) id) ≡ true)
+    (idle : get_or (bare (lists_of m.roots)).targets seat None ≡ None) (l : seat < length (bare (lists_of m.roots)).targets) (free : mark_at m.heap i ≡ Free) (within : i < length m.heap.table.slots)
+    (unheld : IsHeldIn (stored m) serial → ⊥) (unparked : IsParkedIn (stored m) serial → ⊥) (listed : m.heap.table.free ≡ i ∷ rest) where
+  abbrev occupant : Occupant
+  occupant = record { serial = serial; kind = kind; colour = new_colour (progress_of m) i; text = text }
 
-  pub text_found : {X : Type 0} (r : Option X) (get : X → List ℕ) → MatchOption r (mark_at m.heap i ≡ Free) (λ t. in_slot (λ o. o.text) (slot m.heap.table i) ≡ Some (get t)) → is_some r ≡ true
-  text_found None get is = absurd (placed_mark is)
-  text_found (Some t) get is = refl
+  abbrev heap : HeapGraph
+  heap = record m.heap { table = record m.heap.table { slots = set m.heap.table.slots i (Some (record { serial = serial; kind = kind; colour = new_colour (progress_of m) i; text = text })); free = rest } }
 
-  -- A field of what a slot's vertex shows.
-  pub field_shown : {X : Type 0} (f : Occupant → X) (g : _ → X) (x : X) → Whole m → ((o : Occupant) → g (vertex_of (as_kept (as_spot o (edges m.heap i)))) ≡ f o) → in_slot f (slot m.heap.table i) ≡ Some x
-      → option_map g (finmap.get (held (stored m) 0).vertices (serial_at (stored m) i)) ≡ Some x
-  field_shown f g x w same is =
-      let h = holds m i e in
-      ap (λ (y : ℕ). option_map g (finmap.get (held (stored m) 0).vertices y)) h.serial ∙ ap (option_map g) (vertex_found (stored m) 0 i h.what (once_stored m w) h.shows ∙ ap (λ (k : Kept). Some (vertex_of k)) (sym h.same))
-      ∙ ap (λ (y : _). Some y) (same h.occupant) ∙ sym (ap (in_slot f) h.is) ∙ is
+  abbrev t : Root
+  t = record { serial = serial; slot = i }
 
--- A label by its four rights.
-label_is : (v : Stored) (next x y : ℕ) (l : Letters) → ((r : Right) → finset.contains (triples v) (record { from = x; right = r; to = y }) ≡ has l r) → label (held v next) x y ≡ l
-unfolding label
-label_is v next x y l e = λ i. record { read = e right.read i; write = e right.write i; take = e right.take i; grant = e right.grant i }
+  apart : id ≢ i
+  apart e = placed_mark m id source (subst (λ (j : ℕ). mark_at m.heap j ≡ Free) (sym e) free)
 
-pub same_truth : (a b : Bool) → (a ≡ true → b ≡ true) → (b ≡ true → a ≡ true) → a ≡ b
-same_truth true b f g = sym (f refl)
-same_truth false true f g = g refl
-same_truth false false f g = refl
+  abbrev Created : Machine → Type 0
+  Created x = Whole x × VertexStored (stored m) (stored x) seat (serial_at (stored m) id) serial kind text rights
 
-has_none : (r : Right) → has none r ≡ false
-has_none right.read = refl
-has_none right.write = refl
-has_none right.take = refl
-has_none right.grant = refl
+  module _ (roots : lists_of k.roots ≡ with_target (lists_of m.roots) seat (Some (record { serial = serial; slot = i }))) (ok1 : IsHeap heap) where
+    abbrev m1 : Machine
+    m1 = record m { heap = heap; roots = k.roots }
 
-kept_same : (k t : Kept) → Some k ≡ Some t → k ≡ t
-kept_same k t e = cc
+    w1 : Whole m1
+    w1 = placed_whole m seat i serial kind text rest ok w k.roots roots idle l free within unheld unparked
 
-module _ (v : Stored) (next i : ℕ) (k : Kept) (once : Once v) (is : kept v i ≡ Some k) where
-  pub owned_here : (t : Triple) (h : finset.contains (triples v) t ≡ true) → t.from ≡ k.serial → (e : Edge) × Contains k.edges e × (t.to ≡ e.serial) × (has e.rights t.right ≡ true)
-  owned_here t h from =
-      let o = triple_owned v t h in
-      let there : kept v o.at ≡ Some o.kept = sym (held_at v o.at) ∙ o.is in
-      let at : o.at ≡ i = once o.at i o.kept k there is (sym o.from ∙ from) in
-      let same : o.kept ≡ k = kept_same o.kept k (sym (subst (λ (j : ℕ). kept v j ≡ Some o.kept) at there) ∙ is) in
-      (o.edge, subst (λ (q : Kept). Contains q.edges o.edge) same o.owned, o.to, o.right)
+    place_same : place (stored m1) id ≡ place (stored m) id
+    place_same = ap serial_of (placed_other m seat i serial kind text rest ok w k.roots roots idle l free within unheld unparked id apart)
 
-  pub label_edge : (e : Edge) → Distinct (map (λ (d : Edge). d.serial) k.edges) → Contains k.edges e → label (held v next) k.serial e.serial ≡ e.rights
-  label_edge e serials c = label_is v next k.serial e.serial e.rights (λ r. same_truth _ _
-      (λ h. let o = owned_here (record { from = k.serial; right = r; to = e.serial }) h refl in
-      let same : o.0 ≡ e = same_by (λ (d : Edge). d.serial) k.edges o.0 e serials o.1 c (sym o.2) in
-      subst (λ (d : Edge). has d.rights r ≡ true) same o.3)
-      (λ h. says_triple v i k e r is c h))
+    h : Holds m1 id
+    h = holds m1 id (ap is_some place_same ∙ source)
 
-  pub label_none : (y : ℕ) → HasNone k.edges y → label (held v next) k.serial y ≡ none
-  label_none y n = label_is v next k.serial y none (λ r. same_truth _ _
-      (λ h. let o = owned_here (record { from = k.serial; right = r; to = y }) h refl in absurd (n o.0 o.1 (sym o.2)))
-      (λ h. let f = has_none r in let u : true ≡ false = sym h ∙ f in absurd (cc)))
+    serial_same : h.what.serial ≡ serial_at (stored m) id
+    serial_same = sym h.serial ∙ ap (λ (o : Option ℕ). unwrap_or o 0) place_same
 
-pub found_contains : (es : List Edge) (y : ℕ) (f : Found es y) → Contains es f.edge
-found_contains es y f = subst (λ (l : List Edge). Contains l f.edge) (sym f.is) (contains_middle f.before f.after f.edge)
+    occupied : slot m.heap.table id ≡ Some h.occupant
+    occupied = sym (get_or-set_other m.heap.table.slots i id (Some occupant) None apart) ∙ h.is
 
--- An edge that is looked up, as the label of what is held.
-pub edge_looked_up : (m : Machine) (id y : ℕ) (r : Option (ℕ × Letters)) → IsHeap m.heap → Whole m → is_some (place (stored m) id) ≡ true
-    → MatchOption r (HasNone (edges m.heap id) y) (λ t. (f : Found (edges m.heap id) y) × (t.0 ≡ f.edge.target) × (t.1 ≡ f.edge.rights))
-    → MatchOption r ((next : ℕ) → label (held (stored m) next) (serial_at (stored m) id) y ≡ none)
-    (λ t. (place (stored m) t.0 ≡ Some y) × (is_none t.1 ≡ false) × ((next : ℕ) → label (held (stored m) next) (serial_at (stored m) id) y ≡ t.1))
-edge_looked_up m id y None ok w at n = λ next.
-    let h = holds m id at in
-    subst (λ (x : ℕ). label (held (stored m) next) x y ≡ none) (sym h.serial) (label_none (stored m) next id h.what (once_stored m w) h.shows y (subst (λ (k : Kept). HasNone k.edges y) h.same n))
-edge_looked_up m id y (Some t) ok w at (f, to, rights) =
-    let h = holds m id at in
-    let owned = subst (λ (k : Kept). Contains k.edges f.edge) h.same (found_contains (edges m.heap id) y f) in
-    let l = (closed_so m w).edges id h.what f.edge h.shows owned in (
-      ap (place (stored m)) to ∙ ap serial_of l.1 ∙ ap (λ (x : ℕ). Some x) (l.2 ∙ f.here),
-      ap is_none rights ∙ ok.cells.labelled id f.edge (found_contains (edges m.heap id) y f),
-      λ next. ap (λ (x : ℕ). label (held (stored m) next) x y) h.serial ∙ subst (λ (z : ℕ). label (held (stored m) next) h.what.serial z ≡ f.edge.rights) f.here
-          (label_edge (stored m) next id h.what (once_stored m w) h.shows f.edge (subst (λ (k : Kept). Distinct (map (λ (d : Edge). d.serial) k.edges)) h.same (ok.cells.serial_once id)) owned) ∙ sym rights,
-    )
+    target_held : kept (stored m1) i ≡ Some (record { serial = serial; kind = kind; text = text; edges = [] })
+    target_held = placed_here m seat i serial kind text rest ok w k.roots roots idle l free within unheld unparked
 
--- An edge that is visible is found, with the rights of its label.
-pub found_edge : (m : Machine) (id y : ℕ) (rights : Letters) → IsHeap m.heap → Whole m → is_some (place (stored m) id) ≡ true → IsEdgeIn (stored m) (serial_at (stored m) id) y
-    → includes (label (held (stored m) 0) (serial_at (stored m) id) y) rights ≡ true → (f : Found (edges m.heap id) y) × (includes f.edge.rights rights ≡ true)
-found_edge m id y rights ok w at t i =
-    let h = holds m id at in
-    let o = owned_here (stored m) 0 id h.what (once_stored m w) h.shows (record { from = serial_at (stored m) id; right = t.0; to = y }) t.1 h.serial in
-    let e : Edge = o.0 in
-    let mine : Contains (edges m.heap id) e = subst (λ (k : Kept). Contains k.edges e) (sym h.same) o.1 in
-    let s = split_at (edges m.heap id) e mine in
-    let l : label (held (stored m) 0) (serial_at (stored m) id) y ≡ e.rights = ap (λ (x : ℕ). label (held (stored m) 0) x y) h.serial ∙ subst (λ (z : ℕ). label (held (stored m) 0) h.what.serial z ≡ e.rights) (sym o.2)
-    (label_edge (stored m) 0 id h.what (once_stored m w) h.shows e (subst (λ (k : Kept). Distinct (map (λ (d : Edge). d.serial) k.edges)) h.same (ok.cells.serial_once id)) o.1) in
-    (record { before = s.before; edge = e; after = s.after; is = s.is; here = sym o.2 }, subst (λ (r : Letters). includes r rights ≡ true) l i)
+    rooted : IsTarget (body_of heap (lists_of k.roots)) i
+    rooted = subst (λ (q : values.Roots). values.HasTarget q i) (sym (ap bare roots ∙ bare_seat (lists_of m.roots) seat (Some t))) (seat, get_or-set_same (bare (lists_of m.roots)).targets seat (Some i) None l)
 
--- The seats, and the principals by their serials.
-seat_at : (os : List (Option Root)) (k : ℕ) → get_or (map (λ o. root_serial o) os) k None ≡ root_serial (get_or os k None)
-seat_at [] k = refl
-seat_at (o ∷ os) zero = refl
-seat_at (o ∷ os) (suc k) = seat_at os k
+    linked : (e : Edge) (free_cells : ℕ) → e.target ≡ i → e.serial ≡ serial → e.rights ≡ rights → m.heap.free_cells ≡ free_cells + 1 → IsHeap (record heap { lists = set m.heap.lists id (e ∷ edges m.heap id); free_cells = free_cells })
+        → Created (record m { heap = record heap { lists = set m.heap.lists id (e ∷ edges m.heap id); free_cells = free_cells }; roots = k.roots })
+    linked e free_cells to named label more ok2 =
+        let es = e ∷ edges m.heap id in
+        let n2 : Machine = record m { heap = record heap { lists = set m.heap.lists id (e ∷ edges m.heap id); free_cells = free_cells }; roots = k.roots } in
+        let inside : id < length m.heap.lists = (let z = at_within heap.table.slots id h.occupant h.is in let o = ok1.owners in omega (arith, z, o)) in
+        let once : Distinct (cells es) = subst (λ (q : List Edge). Distinct (cells q)) (get_or-set_same m.heap.lists id es [] inside) (ok2.cells.cell_once id) in
+        let there : values.kept (body m1) (progress_of m1) e.target ≡ Some (record { serial = serial; kind = kind; text = text; edges = [] }) =
+        subst (λ (j : ℕ). values.kept (body m1) (progress_of m1) j ≡ Some (record { serial = serial; kind = kind; text = text; edges = [] })) (sym to) (sym (stored_kept m1 i) ∙ target_held) in
+        let c = replaced_puts m1 ok1 w1 (lists_of k.roots) k.roots refl id free_cells h.occupant h.is es m.progress w1.roots w1.kept e refl h.what (sym (stored_kept m1 id) ∙ h.shows) _ there (sym named) (λ q. apart (sym q ∙ to))
+        (subst (IsTarget (body_of heap (lists_of k.roots))) (sym to) rooted) (puts_progress heap id free_cells es inside e m.progress refl once w1.cursor) in
+        let edges_is : edges m.heap id ≡ h.what.edges = ap (λ (z : Kept). z.edges) h.same in
+        let before = placed_is m seat i serial kind text rest ok w k.roots roots idle l free within unheld unparked in
+        let at : spot (stored m) id ≡ Some (as_spot h.occupant (edges m.heap id)) = at_slot m.heap (lists_of m.roots) id h.occupant occupied in (
+          c.whole,
+          record {
+            graph = λ next. regarded (stored m1) (stored n2) id (as_spot h.occupant (edges m.heap id)) h.what es h.occupant.text (at_slot heap (lists_of k.roots) id h.occupant h.is) h.shows (ap (λ (v : Stored). v.stage) c.is) (ap (λ (v : Stored). v.slots) c.is) next
+                ∙ (λ n. graph.held (set (kept_from (progress (stored m1)) 0 (stored m1).slots) id (Some (record h.what { edges = e ∷ edges_is n; text = ap (λ (z : Kept). z.text) h.same n }))) next)
+                ∙ gains (kept_from (progress (stored m1)) 0 (stored m1).slots) id next h.what e (held_at (stored m1) id ∙ h.shows)
+                ∙ (λ n. record (held (stored m1) next) { triples = finset.union (held (stored m1) next).triples (edge (serial_same n) (label n) (named n)) })
+                ∙ ap (λ (H : Protection). record H { triples = finset.union H.triples (edge (serial_at (stored m) id) rights serial) }) (placed_graph m seat i serial kind text rest ok w k.roots roots idle l free within unheld unparked next);
+            new = i;
+            within = let z = placed.inside m seat i serial kind text rest ok w k.roots roots idle l free within unheld unparked in z;
+            free = at_free m.heap (lists_of m.roots) i free;
+            free_slots = let a = free_so m.heap (lists_of m.roots) ok in let b = free_so n2.heap (lists_of k.roots) ok2 in let f = ap length listed in omega (arith, a, b, f);
+            free_cells = more;
+            left = let a = c.left in let b = placed_left m seat i serial kind text rest ok w k.roots roots idle l free within unheld unparked in omega (arith, a, b);
+            slot = id;
+            owner = as_spot h.occupant (edges m.heap id);
+            at = at;
+            edges = es;
+            leads = λ q q_in. elim q_in [ inl is ↦ inr (ap (λ (d : Edge). d.serial) is ∙ named) | inr old ↦ inl (contains_map (λ (d : Edge). d.serial) (edges m.heap id) q old) ];
+            is = c.is ∙ (λ n. record {
+              slots = set ((ap (λ (v : Stored). v.slots) before ∙ ap (λ q. set (stored m).slots i (Some (record { serial = serial; kind = kind; text = text; edges = []; colour = q }))) (sym (new_same (progress_of m) i))) n) id (Some (record (as_spot h.occupant (edges m.heap id)) { edges = es }));
+              stage = ap (λ (v : Stored). v.stage) before n;
+              roots = roots n;
+              free_cells = free_cells;
+              cells = m.heap.cell_count;
+              left = (stored n2).left;
+            });
+          },
+        )
 
-pub seat_shown : (m : Machine) (seat : ℕ) → pending_of (stored m) seat ≡ root_serial (get_or m.roots.targets.items seat None)
-seat_shown m seat = seat_at m.roots.targets.items seat
+    pub vertex_added : (o : Occupant) → slot heap.table i ≡ Some o → IsAdded heap k.heap id i o.serial rights → k ≡ record m { heap = k.heap; roots = k.roots } → Created k
+    vertex_added o is a shape = by a where
+      same : o.serial ≡ serial
+      same = ap (λ (q : Occupant). q.serial) (occupant_same o occupant (sym is ∙ get_or-set_same m.heap.table.slots i (Some occupant) None within))
 
-pub idle_seat : (m : Machine) (seat : ℕ) → pending_of (stored m) seat ≡ None → get_or m.roots.targets.items seat None ≡ None
-idle_seat m seat e = by (get_or m.roots.targets.items seat None) (sym (seat_shown m seat) ∙ e) where
-  by : (r : Option Root) → root_serial r ≡ None → r ≡ None
-  by None e = refl
-  by (Some r) e = absurd (cc)
+      by : IsAdded heap k.heap id i o.serial rights → Created k
+      by (inl (f, x)) = absurd (no_edge_to m id serial w (holds m id source) unheld f.edge (found_contains (edges m.heap id) o.serial f) (f.here ∙ same))
+      by (inr (e, absent, fresh, to, named, label, more, x)) = subst Created (sym shape) (subst (λ (y : HeapGraph). Created (record m { heap = y; roots = k.roots })) (sym x) (linked e k.heap.free_cells to (named ∙ same) label more (subst IsHeap x ok')))
 
-at_index : {X : Type 0} (xs : List X) (k : ℕ) (d : X) → k < length xs → Contains xs (get_or xs k d)
-at_index [] k d b = absurd (omega (arith, b))
-at_index (x ∷ xs) zero d b = inl refl
-at_index (x ∷ xs) (suc k) d b = inr (at_index xs k d (omega (arith, b)))
+pub vertex_called : (m n k : Machine) (seat id i serial : ℕ) (kind : Kind) (text : List ℕ) (rights : Letters) → IsHeap m.heap → IsHeap n.heap → IsHeap k.heap → Whole m → is_some (place (stored m) id) ≡ true → pending_of (stored m) seat ≡ None → seat < SEATS
+    → (IsHeldIn (stored m) serial → ⊥) → (IsParkedIn (stored m) serial → ⊥) → Puts m serial kind text (Ok i) n → Links n seat id (record { serial = serial; slot = i }) rights k
+    → Whole k × VertexStored (stored m) (stored k) seat (serial_at (stored m) id) serial kind text rights
+vertex_called m n k seat id i serial kind text rights ok ok1 ok' w source idle l unheld unparked (rest, listed, put) links =
+    let inside = ok.table.listed_free i (subst (λ (q : List ℕ). Contains q i) (sym listed) (inl refl)) in
+    by n put ok1 links inside.1 inside.0
+  where
+    by : (n : Machine) → n ≡ record m { heap = record m.heap { table = record m.heap.table { slots = set m.heap.table.slots i (Some (record { serial = serial; kind = kind; colour = new_colour (progress_of m) i; text = text })); free = rest } } } → IsHeap n.heap
+        → Links n seat id (record { serial = serial; slot = i }) rights k → mark_at m.heap i ≡ Free → i < length m.heap.table.slots → Whole k × VertexStored (stored m) (stored k) seat (serial_at (stored m) id) serial kind text rights
+    by n put heap links free within =
+        let s = subst (λ (x : Machine). IsHeap x.heap × Links x seat id (record { serial = serial; slot = i }) rights k) put (heap, links) in
+        vertex_added m k seat id i serial kind text rest rights ok ok' w source (idle_slot m seat idle) (seat_inside m seat w l) free within unheld unparked listed s.1.3 s.0 s.1.0 s.1.1 s.1.2 s.1.4
 
-pub principal_found : (m : Machine) (k : ℕ) (d : Root) → Whole m → k < length m.roots.principals.items → (x : ℕ) → (get_or m.roots.principals.items k d).serial ≡ x
-    → Contains (principals (stored m)) x × (place (stored m) (get_or m.roots.principals.items k d).slot ≡ Some x)
-principal_found m k d w b x e =
-    let r : Root = get_or m.roots.principals.items k d in
-    let listed = at_index m.roots.principals.items k d b in
-    (subst (Contains (principals (stored m))) e (contains_map (λ (q : Root). q.serial) m.roots.principals.items r listed), named_so m w r (inr (inl listed)) ∙ ap (λ (y : ℕ). Some y) e)
+-- What the edge to the new vertex requires.
+pub still_owner : (m n : Machine) (id i serial : ℕ) (kind : Kind) (text : List ℕ) → IsHeap m.heap → is_some (place (stored m) id) ≡ true → Puts m serial kind text (Ok i) n → mark_at n.heap id ≢ Free
+still_owner m n id i serial kind text ok source (rest, listed, put) f =
+    let free = (ok.table.listed_free i (subst (λ (q : List ℕ). Contains q i) (sym listed) (inl refl))).1 in
+    let other : id ≢ i = (λ e. placed_mark m id source (subst (λ (j : ℕ). mark_at m.heap j ≡ Free) (sym e) free)) in
+    placed_mark m id source (ap mark_of (sym (get_or-set_other m.heap.table.slots i id _ None other) ∙ sym (ap (λ (x : Machine). slot x.heap.table id) put)) ∙ f)
 
-pub no_principal : (m : Machine) (x : ℕ) (d : Root) → ((k : ℕ) → k < length m.roots.principals.items → (get_or m.roots.principals.items k d).serial ≢ x) → Contains (principals (stored m)) x → ⊥
-no_principal m x d none h = go m.roots.principals.items none h where
-  go : (rs : List Root) → ((k : ℕ) → k < length rs → (get_or rs k d).serial ≢ x) → Contains (map (λ (r : Root). r.serial) rs) x → ⊥
-  go [] n h = h
-  go (r ∷ rs) n (inl e) = n 0 (omega arith) (sym e)
-  go (r ∷ rs) n (inr h) = go rs (λ k b. n (suc k) (omega (arith, b))) h
-
--- What is looked up at a place, in the words of its serial.
-pub read_edge : (v : Stored) (at serial to : ℕ) (r : Option (ℕ × Letters)) → place v at ≡ Some serial
-    → MatchOption r ((next : ℕ) → label (held v next) (serial_at v at) to ≡ none) (λ t. (place v t.0 ≡ Some to) × (is_none t.1 ≡ false) × ((next : ℕ) → label (held v next) (serial_at v at) to ≡ t.1))
-    → MatchOption r (label (held v 0) serial to ≡ none) (λ t. (place v t.0 ≡ Some to) × (t.1 ≡ label (held v 0) serial to))
-read_edge v at serial to None e n = subst (λ (x : ℕ). label (held v 0) x to ≡ none) (ap (λ (o : Option ℕ). unwrap_or o 0) e) (n 0)
-read_edge v at serial to (Some t) e (there, some, is) = (there, sym (subst (λ (x : ℕ). label (held v 0) x to ≡ t.1) (ap (λ (o : Option ℕ). unwrap_or o 0) e) (is 0)))
+pub still_none : (m n : Machine) (id i serial : ℕ) (kind : Kind) (text : List ℕ) → IsHeap m.heap → Whole m → is_some (place (stored m) id) ≡ true → (IsHeldIn (stored m) serial → ⊥) → Puts m serial kind text (Ok i) n
+    → (o : Occupant) → slot n.heap.table i ≡ Some o → HasNone (edges n.heap id) o.serial
+still_none m n id i serial kind text ok w source unheld (rest, listed, put) o is e c e_is =
+    let within = (ok.table.listed_free i (subst (λ (q : List ℕ). Contains q i) (sym listed) (inl refl))).0 in
+    let same : o.serial ≡ serial = ap (λ (q : Occupant). q.serial) (occupant_same o _ (sym is ∙ ap (λ (x : Machine). slot x.heap.table i) put ∙ get_or-set_same m.heap.table.slots i _ None within)) in
+    no_edge_to m id serial w (holds m id source) unheld e (subst (λ (x : Machine). Contains (edges x.heap id) e) put c) (e_is ∙ same)

@@ -1,47 +1,31 @@
 -- A graph is opened: its edges, pair by pair, once the principals are there.
 use Rattle.std.proofs.Common.{◌≡◌, ◌≢◌, ℕ, zero, suc, ◌+◌, ◌<◌, ◌≤◌, List, [], ◌∷◌, length, Option, Some, None, ◌⊎◌, inl, inr, Bool, true, false, cond, ◌&&◌, ◌||◌, ◌==◌, eqb-true, eq-eqb, sym, ◌∙◌, subst, ap, refl, arith, get_or, set, sum_by}
-use Rattle.std.proofs.lemmas.Bool.{cases_eq, cases_lt, or_cases, or_left, or_right, and_parts, and_from}
-use Rattle.std.proofs.lemmas.List.Sums.{sum_by-le-sum_by}
-use Rattle.std.specs.Option.{is_some, option_map}
-use Rattle.std.specs.Ordering.{nat_cmp}
+use Rattle.tg_collect.proofs.Common.{cases_eq, is_some, nat_cmp, Letters, Right, has, is_none, Contains, contains_middle, some_right, slot, Occupant, Grey, Black, Triple, edge, Protection, Edge, HasNone, HeapGraph, edges, IsHeap, IsAdded, Spot, AtRest, Kept, as_kept, seen, mark, mark_of, at_within, gains, Root, Progress, Machine, RootLists, lists_of, body, progress_in, stored, as_progress, kept_from, spot, held, vertices, triples, IsEdgeIn}
 use Rattle.std.specs.FinMap as finmap
-use Rattle.std.specs.FinMap.{get-empty}
 use Rattle.std.specs.FinSet as finset
+use Rattle.tg_marking.specs.Values as values
+use Rattle.tg_collect.specs.Readings as readings
+use Rattle.std.proofs.lemmas.Bool.{cases_lt, or_cases, or_left, or_right, and_parts, and_from}
+use Rattle.std.proofs.lemmas.List.Sums.{sum_by-le-sum_by}
+use Rattle.std.specs.Option.{option_map}
+use Rattle.std.specs.FinMap.{get-empty}
 use Rattle.std.specs.FinSet.{contains-empty, contains-union}
-use Rattle.tg_rights.specs.Letters.{Letters, Right, has, is_none, joined}
-use Rattle.tg_rights.specs.Membership.{Contains}
+use Rattle.tg_rights.specs.Letters.{joined}
 use Rattle.tg_rights.specs.declared.kind.Kind.TheVariants.{Subject}
-use Rattle.tg_rights.proofs.MembershipLemmas.{contains_middle}
-use Rattle.tg_rights.proofs.LettersLemmas.{some_right, right_some, is_none-none}
-use Rattle.tg_slots.specs.Table.{slot}
-use Rattle.tg_slots.specs.declared.slots.Occupant.{Occupant}
-use Rattle.tg_slots.specs.declared.colour.Colour.TheVariants.{Grey, Black}
+use Rattle.tg_rights.proofs.LettersLemmas.{right_some, is_none-none}
 use Rattle.tg_graph.specs.declared.vertex.Vertex.{Vertex}
-use Rattle.tg_graph.specs.Triples.{Triple, Triples, triple_cmp, edge}
-use Rattle.tg_graph.specs.Protection.{Protection, IsGraph, kind_of, label}
+use Rattle.tg_graph.specs.Triples.{Triples, triple_cmp}
+use Rattle.tg_graph.specs.Protection.{IsGraph, kind_of, label}
 use Rattle.tg_graph.specs.Opening.{subjects}
 use Rattle.tg_graph.specs.Fullness.{edge_count, edges_at}
 use Rattle.tg_graph.proofs.TriplesLemmas.{triple_cmp_total, same_triples, contains-edge}
 use Rattle.tg_graph.proofs.VertexLemmas.{IsVertex-insert}
 use Rattle.tg_graph.proofs.LabelLemmas.{contains-label}
 use Rattle.tg_graph.proofs.EdgesAreCountedLemmas.{edge_count-sums, edge_count-union, edge_count-bare}
-use Rattle.tg_cells.specs.Lists.{Edge, HasNone}
-use Rattle.tg_heap.specs.Graph.{HeapGraph, edges, IsHeap}
-use Rattle.tg_heap.specs.Calls.{IsAdded}
-use Rattle.tg_marking.specs.Values as values
-use Rattle.tg_marking.specs.Values.{Spot, AtRest, Kept, as_kept, seen, mark, mark_of}
-use Rattle.tg_marking.proofs.SpotLemmas.{at_within}
-use Rattle.tg_held.proofs.HeldLemmas.{gains}
-use Rattle.tg_collect.specs.declared.machine.Root.{Root}
-use Rattle.tg_collect.specs.declared.machine.Progress.{Progress}
-use Rattle.tg_collect.specs.declared.machine.Machine.{Machine}
-use Rattle.tg_collect.specs.Machine.{RootLists, lists_of, body, progress_in}
-use Rattle.tg_collect.specs.Stored.{stored}
-use Rattle.tg_collect.specs.Readings as readings
-use Rattle.tg_collect.specs.Readings.{as_progress, kept_from, spot, held, vertices, triples, IsEdgeIn, IsParkedAt}
+use Rattle.tg_collect.specs.Readings.{IsParkedAt}
 use Rattle.tg_collect.specs.Openings.{Opened}
 use Rattle.tg_collect.specs.OpeningSteps.{subject, first_root, HoldsSubject, OpensFirst, OpensEdges, Before, root_count}
-use Rattle.tg_collect.proofs.ZipLemmas.{as_spot, put_list}
+use Rattle.tg_collect.proofs.SlotLemmas.{as_spot, put_list}
 use Rattle.tg_collect.proofs.ShownLemmas.{edge_shown}
 use Rattle.tg_collect.proofs.OpeningLemmas.{first_at, kept_rest, held_rest, rest_at, white, principal_at, opened_opens, put_in, held_in}
 

@@ -1,44 +1,27 @@
 -- A machine that holds the first principals, before any cycle.
 use Rattle.std.proofs.Common.{◌≡◌, ◌≢◌, ℕ, zero, suc, ◌+◌, ◌<◌, ◌≤◌, List, [], ◌∷◌, ◌++◌, length, map, replicate, Option, Some, None, ◌⊎◌, inl, inr, Ok, sym, ◌∙◌, subst, ap, refl, arith, get_or, set, length-set, length-append}
+use Rattle.tg_collect.proofs.Common.{SEATS, Contains, Distinct, Table, Free, Has, slot, Colour, White, Occupant, Edge, edges, mark_at, IsHeap, Spot, AtRest, Kept, as_kept, seen, name, name_of, mark, mark_of, HasRoot, new_colour, put_each, comes, Root, Roots, Progress, Idle, Machine, RootLists, IsListed, lists_of, body, progress_in, progress_of, CursorFits, Whole, stored, as_progress, kept_from, spot, held, serial_of, root_serial, Puts}
+use Rattle.std.specs.FinMap as finmap
+use Rattle.std.specs.FinSet as finset
+use Rattle.tg_slots.specs.Table as table
+use Rattle.tg_marking.specs.Values as values
+use Rattle.tg_held.specs.Held as graph
+use Rattle.tg_graph.proofs.OpeningsFitLemmas as fitting
 use Rattle.std.proofs.lemmas.Bool.{cases_lt}
 use Rattle.std.proofs.lemmas.List.{length-replicate, get_or_append_left}
 use Rattle.std.proofs.Math.Seq.{get_or-append_seam}
-use Rattle.std.specs.FinMap as finmap
-use Rattle.std.specs.FinSet as finset
-use Rattle.tg_rights.specs.declared.limits.TheConstants.{SEATS}
-use Rattle.tg_rights.specs.Membership.{Contains, Distinct}
 use Rattle.tg_rights.proofs.MembershipLemmas.{contains_append, map_append}
 use Rattle.tg_rights.specs.declared.kind.Kind.TheVariants.{Subject}
-use Rattle.tg_slots.specs.Table as table
-use Rattle.tg_slots.specs.Table.{Table, Free, Has, slot, nones, indices, fresh}
-use Rattle.tg_slots.specs.declared.colour.Colour.{Colour}
-use Rattle.tg_slots.specs.declared.colour.Colour.TheVariants.{White}
-use Rattle.tg_slots.specs.declared.slots.Occupant.{Occupant}
-use Rattle.tg_cells.specs.Lists.{Edge}
-use Rattle.tg_heap.specs.Graph.{edges, mark_at, IsHeap}
-use Rattle.tg_marking.specs.Values as values
-use Rattle.tg_marking.specs.Values.{Spot, AtRest, Kept, as_kept, kept, seen, name, name_of, mark, mark_of, HasRoot}
-use Rattle.tg_marking.specs.Steps.{new_colour}
+use Rattle.tg_slots.specs.Table.{nones, indices, fresh}
+use Rattle.tg_marking.specs.Values.{kept}
 use Rattle.tg_marking.specs.Invariant.{Invariant}
-use Rattle.tg_marking.proofs.SpotLemmas.{put_each}
-use Rattle.tg_held.specs.Held as graph
-use Rattle.tg_held.proofs.HeldLemmas.{comes}
-use Rattle.tg_collect.specs.declared.machine.Root.{Root}
-use Rattle.tg_collect.specs.declared.machine.Roots.{Roots}
-use Rattle.tg_collect.specs.declared.machine.Progress.{Progress}
-use Rattle.tg_collect.specs.declared.machine.Progress.TheVariants.{Idle}
-use Rattle.tg_collect.specs.declared.machine.Machine.{Machine}
-use Rattle.tg_collect.specs.Machine.{RootLists, IsListed, lists_of, body, progress_in, progress_of, CursorFits, Whole}
-use Rattle.tg_collect.specs.Stored.{stored}
-use Rattle.tg_collect.specs.Readings.{as_progress, kept_from, spot, held, serial_of, root_serial}
-use Rattle.tg_collect.specs.Calls.{Puts}
-use Rattle.tg_collect.specs.Openings.{first_serials, Opens}
+use Rattle.tg_collect.specs.Openings.{first_serials, Opens, OpeningsCanBeStored}
 use Rattle.tg_collect.specs.OpeningSteps.{subject, first_root, first_roots, AreFrom, HoldsSubject, HasOpened, OpensFirst, OpensNext, root_count}
 use Rattle.tg_slots.proofs.FreshLemmas.{nones_length, nones_free, indices_length}
-use Rattle.tg_collect.proofs.ZipLemmas.{zip_slot, zip_size, at_slot, at_free, mark_so, occupied, as_spot}
-use Rattle.tg_collect.proofs.RootLemmas.{root_listed}
-use Rattle.tg_collect.proofs.CountLemmas.{free_so}
+use Rattle.tg_collect.proofs.SlotLemmas.{zip_slot, zip_size, at_slot, at_free, mark_so, occupied, as_spot, root_listed, free_so}
 use Rattle.tg_collect.proofs.ShownLemmas.{held_at, held_set, from_size}
+use Rattle.tg_graph.specs.Opening.{principal_count, opening}
+use Rattle.tg_graph.proofs.CommandsKeepGraphsLemmas.{principals_are_few}
 
 -- Seats without a root, and the first principals.
 no_seat : {X : Type 0} (n : ℕ) (x : X) → Contains (replicate n None) (Some x) → ⊥
@@ -295,3 +278,22 @@ principal_opens m a rs serial i text ok f room named bare p roots = record {
 
   grown : root_count (record a { roots = rs }) ≡ suc (root_count m)
   grown = let l = ap (λ (r : RootLists). length r.principals) shown in let s = length-append m.roots.principals.items (first_root (root_count m) ∷ []) in omega (arith, l, s)
+
+-- A configuration without a fault opens a graph that a store can open.
+pub openings_can_be_stored : OpeningsCanBeStored
+unfolding opening
+openings_can_be_stored c sound =
+    let fit = fitting.openings_fit c sound in
+    record {
+      low_slots = fit.4;
+      high_slots = fit.5;
+      low_cells = fit.6;
+      high_cells = fit.7;
+      opening = record {
+        count = principal_count c;
+        few = principals_are_few c sound;
+        vertices = refl;
+        slots = fit.2;
+        cells = let few = fit.1 in let most = fit.3 in omega arith;
+      };
+    }

@@ -21,9 +21,9 @@ use Rattle.tg_graph.specs.Rules.{Allowed, answered, denial, done, is_new, text_o
 use Rattle.tg_collect.specs.Stored.{Stored}
 use Rattle.tg_collect.specs.Readings.{held, pending, free_slots, place, serial_at}
 use Rattle.tg_collect.specs.Sessions.{EdgeStored, RightsRemoved, TextReplaced, Acted}
-use Rattle.tg_collect.proofs.ActedLemmas.{acted_same}
-use Rattle.tg_collect.proofs.GraphLemmas.{acted_slots, edge_pending, vertex_pending, removed_pending, text_graph, text_pending, text_cells}
-use Rattle.tg_collect.proofs.PathLemmas.{edge_in, in_edge}
+use Rattle.tg_collect.proofs.SeatLemmas.{acted_same}
+use Rattle.tg_collect.proofs.RunLemmas.{acted_slots, edge_pending, vertex_pending, removed_pending, text_graph, text_pending, text_cells}
+use Rattle.tg_collect.proofs.StoreLemmas.{edge_in, in_edge}
 use Rattle.tg_vault.specs.World.{new_target, with_target}
 use Rattle.tg_vault.specs.CarriedOut.{CarriedOut, EdgeMoves, Joined, Made, NoRoom, IsUsedUp, serial_of}
 use Rattle.tg_vault.proofs.EdgeLemmas.{joined_some, label_cut}

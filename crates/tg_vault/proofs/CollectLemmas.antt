@@ -8,8 +8,8 @@ use Rattle.tg_collect.specs.Stored.{Stored}
 use Rattle.tg_collect.specs.Readings.{held, IsParkedIn, free_slots, agents, pending, pending_of, principals, slot_count}
 use Rattle.tg_collect.specs.Sessions.{Shaded, Acted}
 use Rattle.tg_collect.specs.Views.{IsStore, Collected}
-use Rattle.tg_collect.proofs.ActedLemmas.{acted_same}
-use Rattle.tg_collect.proofs.GraphLemmas.{acted_parked, acted_slots, collected_agents, collected_parked, collected_part, collected_pending, collected_principals, shaded_cells, shaded_graph, shaded_pending, shaded_was}
+use Rattle.tg_collect.proofs.SeatLemmas.{acted_same}
+use Rattle.tg_collect.proofs.RunLemmas.{acted_parked, acted_slots, collected_agents, collected_parked, collected_part, collected_pending, collected_principals, shaded_cells, shaded_graph, shaded_pending, shaded_was}
 use Rattle.tg_vault.specs.History.{IsPrincipal}
 use Rattle.tg_vault.specs.World.{at_seat, with_pending, with_used}
 use Rattle.tg_vault.specs.Contents.{Contents, graph_now, moment}

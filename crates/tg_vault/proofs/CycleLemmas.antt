@@ -21,7 +21,7 @@ use Rattle.tg_collect.specs.Readings.{held, IsHeldIn, IsRootIn, agents, cycle_bo
 use Rattle.tg_collect.specs.Views.{IsStore, Collected, Follows}
 use Rattle.tg_collect.specs.Runs.{StoreRun, start, acts, goes, ends}
 use Rattle.tg_collect.specs.Runs as runs
-use Rattle.tg_collect.proofs.GraphLemmas.{acted_phase}
+use Rattle.tg_collect.proofs.RunLemmas.{acted_phase}
 use Rattle.tg_vault.specs.History.{graph_of}
 use Rattle.tg_vault.specs.World.{Run, at_seat}
 use Rattle.tg_vault.specs.Contents.{Contents, RunOf, Keeps, graph_now, held_now, moment}

@@ -21,7 +21,7 @@ use Rattle.tg_graph.proofs.ExactlyOneOutcomeLemmas.{verdict-Judged}
 use Rattle.tg_graph.proofs.RepliesAgreeLemmas.{same_reply}
 use Rattle.tg_collect.specs.Readings.{IsHeldIn, IsRootIn}
 use Rattle.tg_collect.specs.Views.{IsStore}
-use Rattle.tg_collect.proofs.GraphLemmas.{held_graph}
+use Rattle.tg_collect.proofs.RunLemmas.{held_graph}
 use Rattle.tg_vault.specs.History.{IsPrincipal}
 use Rattle.tg_vault.specs.World.{ExactSlots, World}
 use Rattle.tg_vault.specs.Contents.{Contents, graph_now, held_now}

@@ -23,7 +23,7 @@ use Rattle.tg_vault.specs.declared.entry.Entry.{Entry}
 use Rattle.tg_collect.specs.Stored.{Stored}
 use Rattle.tg_collect.specs.Readings.{held, IsRootIn, IsParkedIn, pending, free_slots}
 use Rattle.tg_collect.specs.Views.{IsStore}
-use Rattle.tg_collect.proofs.GraphLemmas.{acted_parked}
+use Rattle.tg_collect.proofs.RunLemmas.{acted_parked}
 use Rattle.tg_vault.specs.History.{IsPrincipal}
 use Rattle.tg_vault.specs.World.{at_seat, new_target, target_of, with_target, slots_taken, entered, Enters}
 use Rattle.tg_vault.specs.Contents.{Contents, IsVault, graph_now, held_now, moment}

@@ -19,8 +19,8 @@ use Rattle.tg_graph.specs.Fullness.{vertex_count, edge_count}
 use Rattle.tg_graph.proofs.FullnessLemmas.{length-keys}
 use Rattle.tg_graph.proofs.ProtectionLemmas.{edge_to}
 use Rattle.tg_graph.proofs.OpeningsFitLemmas.{len-subjects}
-use Rattle.tg_collect.proofs.FitLemmas.{openings_can_be_stored}
-use Rattle.tg_collect.proofs.GraphLemmas.{opened_graph, opened_phase, opened_subjects}
+use Rattle.tg_collect.proofs.OpeningLemmas.{openings_can_be_stored}
+use Rattle.tg_collect.proofs.RunLemmas.{opened_graph, opened_phase, opened_subjects}
 use Rattle.tg_graph.proofs.LawsLemmas.{opened}
 use Rattle.tg_graph.proofs.CommandsKeepGraphsLemmas.{principal_is_subject, principals_are_few}
 use Rattle.tg_graph.proofs.VertexLemmas.{IsVertex-insert, IsVertex-from_kind}

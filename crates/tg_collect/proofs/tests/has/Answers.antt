@@ -1,5 +1,5 @@
 use Rattle.std.proofs.Common.{arith}
-use Rattle.tg_collect.proofs.UnnamedLemmas.{unnamed}
+use Rattle.tg_collect.proofs.StoreLemmas.{unnamed}
 use Rattle.tg_collect.proofs.tests.has.Goals as goal
 
 pub returns : goal.returns

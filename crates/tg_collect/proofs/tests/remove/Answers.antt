@@ -1,7 +1,7 @@
 use Rattle.std.proofs.Common.{ap, ◌∙◌}
 use Rattle.tg_rights.specs.Letters.{is_none}
 use Rattle.tg_collect.specs.Readings.{serial_at}
-use Rattle.tg_collect.proofs.PathLemmas.{edge_in}
+use Rattle.tg_collect.proofs.StoreLemmas.{edge_in}
 use Rattle.tg_collect.proofs.tests.remove.Goals as goal
 
 pub remove_rights-requires-clause-edge : goal.remove_rights-requires-clause-edge

@@ -6,7 +6,7 @@ use Rattle.tg_graph.specs.Terms.{text_in}
 use Rattle.tg_graph.specs.Rules.{edges_of, text_of}
 use Rattle.tg_collect.specs.Readings.{held, IsEdgeIn, place, serial_at}
 use Rattle.tg_collect.specs.Sessions.{RightsRemoved, TextReplaced}
-use Rattle.tg_collect.proofs.PathLemmas.{edge_in}
+use Rattle.tg_collect.proofs.StoreLemmas.{edge_in}
 use Rattle.tg_vault.specs.CarriedOut.{CarriedOut, Joined, Made}
 use Rattle.tg_vault.proofs.CarriedOutLemmas.{carried_by, denial_next, denied_carried, drop_done, join_done, list_done, make_done, placed, rewrite_carried, serial_found, tell_done}
 use Rattle.tg_vault.proofs.FoundLemmas.{dropped_edge, joined_apart, joined_named}

@@ -2,7 +2,7 @@ use Rattle.std.proofs.Common.{◌≡◌, ◌-◌, length, arith, subst, ap}
 use Rattle.std.proofs.lemmas.List.{length-map}
 use Rattle.tg_collect.specs.declared.machine.Machine.{Machine}
 use Rattle.tg_collect.specs.Machine.{slot_of, agent_slots}
-use Rattle.tg_collect.proofs.RootLemmas.{ShadedFrom, shaded_none, agent_within, agent_more}
+use Rattle.tg_collect.proofs.SlotLemmas.{ShadedFrom, shaded_none, agent_within, agent_more}
 use Rattle.tg_collect.proofs.machine.Machine.shade_agents.Goals as goal
 
 pub loop-left-init : goal.loop-left-init

@@ -3,7 +3,7 @@ use Rattle.std.proofs.lemmas.List.{length-map}
 use Rattle.tg_collect.specs.declared.machine.Root.{Root}
 use Rattle.tg_collect.specs.declared.machine.Machine.{Machine}
 use Rattle.tg_collect.specs.Machine.{principal_slots}
-use Rattle.tg_collect.proofs.RootLemmas.{ShadedFrom, shaded_none, principal_within, principal_more}
+use Rattle.tg_collect.proofs.SlotLemmas.{ShadedFrom, shaded_none, principal_within, principal_more}
 use Rattle.tg_collect.proofs.machine.Machine.shade_principals.Goals as goal
 
 pub loop-left-init : goal.loop-left-init

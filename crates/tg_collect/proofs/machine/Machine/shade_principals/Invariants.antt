@@ -1,6 +1,6 @@
 use Rattle.std.proofs.Common.{◌≤◌, length}
 use Rattle.tg_collect.specs.Machine.{principal_slots}
-use Rattle.tg_collect.proofs.RootLemmas.{ShadedFrom}
+use Rattle.tg_collect.proofs.SlotLemmas.{ShadedFrom}
 use Rattle.tg_collect.proofs.machine.Machine.shade_principals.Given as goal
 
 abbrev pub invariant-loop-left : goal.invariant-loop-left

@@ -1,5 +1,5 @@
 use Rattle.tg_collect.proofs.LineLemmas.{step_starts}
-use Rattle.tg_collect.proofs.RootLemmas.{start_within}
+use Rattle.tg_collect.proofs.SlotLemmas.{start_within}
 use Rattle.tg_collect.proofs.machine.Machine.start.Goals as goal
 
 pub shade_agents-requires : goal.shade_agents-requires

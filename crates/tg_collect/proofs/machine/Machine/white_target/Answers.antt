@@ -1,6 +1,6 @@
 use Rattle.std.proofs.Common.{inl, ◌<◌, length, ◌∙◌, ap, arith}
 use Rattle.tg_slots.specs.Table.{Has}
-use Rattle.tg_collect.proofs.RootLemmas.{at_seat, seat_slot, root_within, none_white, first_white}
+use Rattle.tg_collect.proofs.SlotLemmas.{at_seat, seat_slot, root_within, none_white, first_white}
 use Rattle.tg_collect.proofs.machine.Machine.white_target.Goals as goal
 
 pub colour-requires : goal.colour-requires

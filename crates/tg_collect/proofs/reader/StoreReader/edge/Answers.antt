@@ -1,4 +1,4 @@
-use Rattle.tg_collect.proofs.CallLemmas.{read_edge}
+use Rattle.tg_collect.proofs.StoreLemmas.{read_edge}
 use Rattle.tg_collect.proofs.reader.StoreReader.edge.Goals as goal
 
 pub returns : goal.returns

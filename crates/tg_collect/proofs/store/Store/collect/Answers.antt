@@ -1,7 +1,7 @@
 use Rattle.std.proofs.Common.{subst}
 use Rattle.tg_collect.specs.Stored.{Stored, stored}
 use Rattle.tg_collect.specs.Views.{Collected}
-use Rattle.tg_collect.proofs.StepLemmas.{collected, whole_steps}
+use Rattle.tg_collect.proofs.LineLemmas.{collected, whole_steps}
 use Rattle.tg_collect.proofs.store.Store.collect.Goals as goal
 
 pub returns-clause-collected : goal.returns-clause-collected

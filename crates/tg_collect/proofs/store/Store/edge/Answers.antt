@@ -2,7 +2,7 @@ use Rattle.std.proofs.Common.{sym, subst}
 use Rattle.std.specs.Prelude.{IsSome}
 use Rattle.tg_collect.specs.Stored.{Stored}
 use Rattle.tg_collect.specs.Readings.{place}
-use Rattle.tg_collect.proofs.CallLemmas.{placed_within, edge_looked_up}
+use Rattle.tg_collect.proofs.StoreLemmas.{placed_within, edge_looked_up}
 use Rattle.tg_collect.proofs.store.Store.edge.Goals as goal
 
 pub edge-requires : goal.edge-requires

@@ -7,10 +7,8 @@ use Rattle.tg_marking.specs.Values.{Kept}
 use Rattle.tg_graph.specs.Rules.{edges_of}
 use Rattle.tg_collect.specs.Stored.{Stored, stored}
 use Rattle.tg_collect.specs.Readings.{place, held}
-use Rattle.tg_collect.proofs.CallLemmas.{holds, placed_within}
-use Rattle.tg_collect.proofs.StoreLemmas.{once_stored, closed_so}
-use Rattle.tg_collect.proofs.SoundLemmas.{what_once, what_some}
-use Rattle.tg_collect.proofs.ListedLemmas.{pairs_of, edges_listed}
+use Rattle.tg_collect.proofs.StoreLemmas.{holds, placed_within, once_stored, closed_so}
+use Rattle.tg_collect.proofs.EdgesLemmas.{what_once, what_some, pairs_of, edges_listed}
 use Rattle.tg_collect.proofs.store.Store.edges.Goals as goal
 
 pub edge_list-requires : goal.edge_list-requires

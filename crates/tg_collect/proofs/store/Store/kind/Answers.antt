@@ -2,7 +2,7 @@ use Rattle.std.proofs.Common.{sym, ◌∙◌, refl, subst}
 use Rattle.std.specs.Prelude.{IsSome}
 use Rattle.tg_collect.specs.Stored.{Stored}
 use Rattle.tg_collect.specs.Readings.{place}
-use Rattle.tg_collect.proofs.CallLemmas.{placed_within, found_in, field_shown}
+use Rattle.tg_collect.proofs.StoreLemmas.{placed_within, found_in, field_shown}
 use Rattle.tg_collect.proofs.store.Store.kind.Goals as goal
 
 pub kind-requires : goal.kind-requires

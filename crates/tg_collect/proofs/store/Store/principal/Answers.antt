@@ -2,7 +2,7 @@ use Rattle.std.proofs.Common.{ap, ◌∙◌, List, arith, ◌<◌, length, get_o
 use Rattle.tg_collect.specs.Stored.{stored}
 use Rattle.tg_collect.specs.Readings.{place}
 use Rattle.tg_collect.specs.declared.machine.Root.{Root}
-use Rattle.tg_collect.proofs.CallLemmas.{principal_found, no_principal}
+use Rattle.tg_collect.proofs.StoreLemmas.{principal_found, no_principal}
 use Rattle.tg_collect.proofs.store.Store.principal.Goals as goal
 
 pub returns-then-root-serial : goal.returns-then-root-serial

@@ -6,9 +6,9 @@ use Rattle.tg_collect.specs.Machine.{Whole}
 use Rattle.tg_collect.specs.Stored.{Stored, stored}
 use Rattle.tg_collect.specs.Readings.{place, serial_at, held, IsEdgeIn}
 use Rattle.tg_collect.specs.Sessions.{RightsRemoved, Acted}
-use Rattle.tg_collect.proofs.ActedLemmas.{acted_removed}
-use Rattle.tg_collect.proofs.CallLemmas.{holds, found_edge}
-use Rattle.tg_collect.proofs.RemoveCalls.{removed}
+use Rattle.tg_collect.proofs.SeatLemmas.{acted_removed}
+use Rattle.tg_collect.proofs.StoreLemmas.{holds, found_edge}
+use Rattle.tg_collect.proofs.CallLemmas.{removed}
 use Rattle.tg_collect.proofs.store.Store.remove_rights.Goals as goal
 
 pub remove_rights-requires : goal.remove_rights-requires

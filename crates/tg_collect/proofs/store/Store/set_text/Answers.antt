@@ -4,9 +4,9 @@ use Rattle.tg_collect.specs.Machine.{Whole}
 use Rattle.tg_collect.specs.Stored.{Stored, stored}
 use Rattle.tg_collect.specs.Readings.{place, serial_at}
 use Rattle.tg_collect.specs.Sessions.{TextReplaced, Acted}
-use Rattle.tg_collect.proofs.ActedLemmas.{acted_text}
-use Rattle.tg_collect.proofs.CallLemmas.{holds, placed_mark}
-use Rattle.tg_collect.proofs.VertexCalls.{text_set}
+use Rattle.tg_collect.proofs.SeatLemmas.{acted_text}
+use Rattle.tg_collect.proofs.StoreLemmas.{holds, placed_mark}
+use Rattle.tg_collect.proofs.CallLemmas.{text_set}
 use Rattle.tg_collect.proofs.store.Store.set_text.Goals as goal
 
 pub set_text-requires : goal.set_text-requires

@@ -1,8 +1,7 @@
 use Rattle.std.proofs.Common.{subst, None}
 use Rattle.tg_collect.specs.Stored.{Stored, stored}
 use Rattle.tg_collect.specs.Sessions.{Shaded, Acted}
-use Rattle.tg_collect.proofs.ActedLemmas.{acted_shaded}
-use Rattle.tg_collect.proofs.SeatLemmas.{shade_called}
+use Rattle.tg_collect.proofs.SeatLemmas.{acted_shaded, shade_called}
 use Rattle.tg_collect.proofs.store.Store.shade.Goals as goal
 
 pub invariant_of-self : goal.invariant_of-self

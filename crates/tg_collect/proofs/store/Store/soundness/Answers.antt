@@ -2,8 +2,8 @@ use Rattle.std.proofs.Common.{subst, ◌≤◌, arith}
 use Rattle.tg_collect.specs.Stored.{Stored}
 use Rattle.tg_collect.specs.Readings.{slot_count}
 use Rattle.tg_collect.specs.Views.{IsStore}
-use Rattle.tg_collect.proofs.ZipLemmas.{zip_size}
-use Rattle.tg_collect.proofs.SoundLemmas.{is_store}
+use Rattle.tg_collect.proofs.SlotLemmas.{zip_size}
+use Rattle.tg_collect.proofs.EdgesLemmas.{is_store}
 use Rattle.tg_collect.proofs.store.Store.soundness.Goals as goal
 
 pub returns-clause-sound : goal.returns-clause-sound

@@ -4,9 +4,9 @@ use Rattle.tg_heap.specs.declared.heap.HeapFull.TheVariants as full
 use Rattle.tg_collect.specs.Stored.{Stored, stored}
 use Rattle.tg_collect.specs.Readings.{place, serial_at, pending_of, IsEdgeIn}
 use Rattle.tg_collect.specs.Sessions.{EdgeStored, Acted}
-use Rattle.tg_collect.proofs.ActedLemmas.{acted_edge}
-use Rattle.tg_collect.proofs.AddCalls.{AddCalled, add_called, on_ok}
-use Rattle.tg_collect.proofs.CallLemmas.{placed_within, placed_mark, found_in, serial_found}
+use Rattle.tg_collect.proofs.SeatLemmas.{acted_edge}
+use Rattle.tg_collect.proofs.CallLemmas.{AddCalled, add_called, on_ok}
+use Rattle.tg_collect.proofs.StoreLemmas.{placed_within, placed_mark, found_in, serial_found}
 use Rattle.tg_collect.proofs.store.Store.store_edge.Goals as goal
 
 pub serial-requires : goal.serial-requires

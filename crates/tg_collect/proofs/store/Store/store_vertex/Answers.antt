@@ -4,9 +4,9 @@ use Rattle.tg_collect.specs.Machine.{Whole, lists_of}
 use Rattle.tg_collect.specs.Stored.{Stored, stored}
 use Rattle.tg_collect.specs.Readings.{place, serial_at, pending_of, free_slots, IsHeldIn, IsParkedIn}
 use Rattle.tg_collect.specs.Sessions.{VertexStored, Acted}
-use Rattle.tg_collect.proofs.ActedLemmas.{acted_vertex}
-use Rattle.tg_collect.proofs.CountLemmas.{free_so}
-use Rattle.tg_collect.proofs.VertexStored.{vertex_called, still_owner, still_none}
+use Rattle.tg_collect.proofs.SeatLemmas.{acted_vertex}
+use Rattle.tg_collect.proofs.SlotLemmas.{free_so}
+use Rattle.tg_collect.proofs.CallLemmas.{vertex_called, still_owner, still_none}
 use Rattle.tg_collect.proofs.store.Store.store_vertex.Goals as goal
 
 pub returns-then-free_slots-eq0-clause-slots : goal.returns-then-free_slots-eq0-clause-slots

@@ -1,6 +1,6 @@
 use Rattle.std.proofs.Common.{◌≤◌, sym, subst, arith}
 use Rattle.tg_rights.specs.declared.limits.TheConstants.{MAX_CELLS, MAX_SLOTS}
-use Rattle.tg_collect.proofs.FitLemmas.{openings_can_be_stored}
+use Rattle.tg_collect.proofs.OpeningLemmas.{openings_can_be_stored}
 use Rattle.tg_vault.specs.Contents.{Contents, IsFresh}
 use Rattle.tg_vault.specs.Fits.{IsTied}
 use Rattle.tg_vault.proofs.FreshLemmas.{opening_fits, fresh_joined, fresh_is}
