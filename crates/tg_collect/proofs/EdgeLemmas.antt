@@ -5,20 +5,20 @@ use Rattle.tg_marking.specs.Values as values
 use Rattle.tg_marking.specs.Steps as steps
 use Rattle.std.specs.FinSet as finset
 use Rattle.tg_held.specs.Held as graph
+use Rattle.tg_rights.specs.Letters.{joined}
 use Rattle.tg_cells.specs.Lists.{cells}
 use Rattle.tg_heap.specs.Marking.{passed}
 use Rattle.tg_heap.proofs.CursorLemmas.{split_whole, remaining_split}
 use Rattle.tg_marking.specs.Steps.{Trims, sweeping, unscanned, elsewhere, ahead, DropsEdge, PutsEdge}
-use Rattle.tg_collect.specs.declared.machine.Scan.{Scan}
-use Rattle.tg_collect.specs.Machine.{scan_in, AreRoots}
-use Rattle.tg_collect.specs.Calls.{is_at, progress_without}
-use Rattle.tg_rights.specs.Letters.{joined}
 use Rattle.tg_marking.specs.Values.{IsTarget}
 use Rattle.tg_marking.specs.Invariant.{Invariant}
 use Rattle.tg_marking.proofs.SessionLemmas.{reroots_keeps, puts_keeps}
 use Rattle.tg_marking.proofs.DropLemmas.{drops_keeps}
 use Rattle.tg_marking.proofs.CountLemmas.{same_roots, left_puts, left_drops}
 use Rattle.tg_held.proofs.HeldLemmas.{joins}
+use Rattle.tg_collect.specs.declared.machine.Scan.{Scan}
+use Rattle.tg_collect.specs.Machine.{scan_in, AreRoots}
+use Rattle.tg_collect.specs.Calls.{is_at, progress_without}
 use Rattle.tg_collect.proofs.SlotLemmas.{as_spot, at_slot, put_list}
 use Rattle.tg_collect.proofs.ShownLemmas.{held_at, held_set, edge_shown}
 use Rattle.tg_collect.proofs.StoreLemmas.{kept_is, stored_kept, once_stored, Holds, owned_here}

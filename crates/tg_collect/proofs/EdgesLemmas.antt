@@ -1,30 +1,132 @@
 -- How many vertices and edges the graph of what is held has.
-use Rattle.std.proofs.Common.{◌≡◌, ◌≢◌, ℕ, zero, suc, List, [], ◌∷◌, length, map, Option, Some, None, inl, inr, true, false, sym, ◌∙◌, subst, ap, refl, arith, get_or, sum_by, ◌<◌, ◌≤◌, Bool, cond, eqb, eqb-true, eq-eqb, T, ◌&&◌, ◌+◌}
-use Rattle.tg_collect.proofs.Common.{length-map, sum_by-cons, cases_eq, is_none, Contains, Distinct, contains_map, Edge, Kept, total, Stored, kept, kept_from, progress, vertices, held, nat_cmp, Letters, edges, IsHeap, Spot, AtRest, Body, as_kept, name_of, left, Root, Machine, lists_of, body, progress_of, Whole, stored, shown, spot, root_serial, serial_of, IsHeldIn, IsParkedIn, IsStore}
+use Rattle.std.proofs.Common.{◌≡◌, ◌==◌, ◌≢◌, ℕ, zero, suc, List, [], ◌∷◌, length, map, Option, Some, None, inl, inr, true, false, sym, ◌∙◌, subst, ap, refl, arith, get_or, sum_by, ◌<◌, ◌≤◌, Bool, cond, eqb, eq-eqb, T, ◌+◌}
+use Rattle.tg_collect.proofs.Common.{length-map, sum_by-cons, cases_eq, is_none, Contains, Distinct, contains_map, Edge, Kept, total, Stored, kept, kept_from, progress, vertices, held, nat_cmp, Letters, edges, IsHeap, Spot, AtRest, Body, name_of, left, Root, Machine, lists_of, body, progress_of, Whole, stored, shown, spot, root_serial, serial_of, IsHeldIn, IsParkedIn, IsStore}
 use Rattle.std.specs.FinMap as finmap
 use Rattle.tg_marking.specs.Values as values
-use Rattle.std.specs.Prelude.{◌⊎◌, Contains as IsElement}
-use Rattle.tg_graph.specs.Protection.{label}
+use Rattle.std.specs.Prelude.{Contains as IsElement, nat_lt, ◌↔◌}
+use Rattle.std.specs.List.Sorted.{IsPermutation, IsNonDecreasingBy}
+use Rattle.std.proofs.lemmas.List.Sorted.{IsPermutation-sym, IsPermutation-map, Contains-permutation}
+use Rattle.std.specs.Ordering.{is_lt}
+use Rattle.std.specs.Cmp.{nat_cmp_is}
+use Rattle.std.specs.declared.cmp.Ordering.{Ordering}
+use Rattle.std.specs.declared.cmp.Ordering.TheVariants.{Less, Equal, Greater}
+use Rattle.std.specs.FinMap.Entries.{below_all}
+use Rattle.std.proofs.lemmas.Bool.{ltb-true, ne_eqb}
+use Rattle.std.specs.List.{AllPairs}
+use Rattle.std.proofs.lemmas.Map.Keys.{IsDistinct-IsPermutation}
+use Rattle.std.proofs.lemmas.Map.Made.{AllPairs-from_IsDistinct, IsDistinct-from_AllPairs}
+use Rattle.std.proofs.lemmas.Bool.Decides.{Decides-eqb}
+use Rattle.tg_rights.proofs.Bools.{true_first, true_second, true_both}
+use Rattle.tg_graph.specs.Protection.{label, Protection, IsGraph}
 use Rattle.tg_graph.specs.Rules.{labelled, edges_of}
 use Rattle.tg_graph.specs.Fullness.{vertex_count, edge_count}
+use Rattle.tg_graph.proofs.LawsLemmas.{edge_list}
+use Rattle.tg_graph.proofs.EdgesAreCountedLemmas.{keys_occur_once}
 use Rattle.tg_cells.specs.Lists.{serials}
 use Rattle.tg_marking.specs.Left.{held_one, held_cells, parked_cells}
 use Rattle.tg_marking.specs.Invariant.{Closed}
-use Rattle.tg_collect.specs.Readings.{IsRootAt}
-use Rattle.tg_collect.proofs.SlotLemmas.{total_list, total_same, out_all, cells_so, celled}
-use Rattle.tg_collect.proofs.ShownLemmas.{Once, held_at, held_kept, kept_held, from_size, same_sum, same_length, keys_once, contains_keys, keys_contains, labelled_contains, contains_labelled, labelled_once, same_key, key_same, place_kept}
-use Rattle.tg_collect.proofs.StoreLemmas.{label_edge, label_none, kept_is, closed_so, named_so, once_stored, no_black, swept_so, from_held, to_held, distinct, root_in, apart_so}
-use Rattle.std.specs.List.Sorted.{IsPermutation, IsNonDecreasingBy}
-use Rattle.std.proofs.lemmas.List.Sorted.{sum_by-IsPermutation, IsPermutation-sym, Contains-permutation}
-use Rattle.std.specs.Ordering.{eq_by_cmp, is_lt}
-use Rattle.std.specs.Cmp.{nat_cmp_total, nat_cmp_is}
-use Rattle.std.specs.declared.cmp.Ordering.{Ordering}
-use Rattle.std.specs.declared.cmp.Ordering.TheVariants.{Less}
-use Rattle.std.specs.FinMap.{find, same_map, get-from_sorted, entries-from_sorted, nat_cmp-IsAntisymmetric}
-use Rattle.std.specs.FinMap.Entries.{below_all}
 use Rattle.tg_marking.specs.Values.{Progress, Marking, Sweeping}
 use Rattle.tg_marking.proofs.LeftLemmas.{left_most}
 use Rattle.tg_marking.proofs.CountLemmas.{counted}
+use Rattle.tg_collect.specs.Readings.{IsRootAt}
+use Rattle.tg_collect.proofs.SlotLemmas.{total_list, total_same, out_all, cells_so, celled}
+use Rattle.tg_collect.proofs.ShownLemmas.{Once, held_at, held_kept, kept_held, from_size, same_sum, same_length, contains_keys, keys_contains, place_kept}
+use Rattle.tg_collect.proofs.StoreLemmas.{at_index, label_edge, kept_is, closed_so, named_so, once_stored, no_black, swept_so, from_held, to_held, distinct, root_in, apart_so, edge_in, owned_here, contains_mapped}
+
+below_sum : (xs : List ℕ) (x : ℕ) → Contains xs x → x ≤ sum_by (λ y. y) xs
+below_sum [] x h = absurd h
+below_sum (y ∷ xs) x (inl is) = let a = sum_by-cons (λ z. z) y xs in omega (arith, is, a)
+below_sum (y ∷ xs) x (inr h) = let a = sum_by-cons (λ z. z) y xs in let r = below_sum xs x h in omega (arith, a, r)
+
+-- Pairs of a serial and a label, sorted by serials.
+abbrev Pairs : Type 0
+Pairs = List (ℕ × Letters)
+
+abbrev pub pairs_of : List Edge → Pairs
+pairs_of es = map (λ (e : Edge). (e.serial, e.rights)) es
+
+keys_pairs : (es : List Edge) → map (λ (e : ℕ × Letters). e.0) (pairs_of es) ≡ serials es
+keys_pairs [] = refl
+keys_pairs (e ∷ es) = ap (λ (l : List ℕ). e.serial ∷ l) (keys_pairs es)
+
+above : (x : ℕ) (es : Pairs) → T (below_all nat_cmp x es) → (p : ℕ × Letters) → Contains es p → x < p.0
+above x [] t p h = absurd h
+above x (e ∷ es) t p (inl is) = subst (λ (q : ℕ × Letters). x < q.0) (sym is) (less (nat_lt x e.0) refl (true_first _ _ t)) where
+  less : (b : Bool) → nat_lt x e.0 ≡ b → T (is_lt (cond b Less (cond (x == e.0) Equal Greater))) → x < e.0
+  less true l t = ltb-true x e.0 l
+  less false l t = absurd (not_less (x == e.0) t) where
+    not_less : (b : Bool) → T (is_lt (cond b Equal Greater)) → ⊥
+    not_less true t = t
+    not_less false t = t
+above x (e ∷ es) t p (inr h) = above x es (true_second _ _ t) p h
+
+sorted_once : (es : Pairs) → T (finmap.is_sorted nat_cmp es) → Distinct es
+sorted_once [] t = tt
+sorted_once (e ∷ es) t = (λ h. let l = above e.0 es (true_first _ _ t) e h in absurd (omega (arith, l)), sorted_once es (true_second _ _ t))
+
+pairs_once : (es : List Edge) → Distinct (serials es) → Distinct (pairs_of es)
+pairs_once [] d = tt
+pairs_once (e ∷ es) d = (
+  λ h. let x = contains_mapped (λ (q : Edge). (q.serial, q.rights)) es (e.serial, e.rights) h in d.0 (subst (Contains (serials es)) (ap (λ (q : ℕ × Letters). q.0) x.2) (contains_map (λ (q : Edge). q.serial) es x.0 x.1)),
+  pairs_once es d.1,
+)
+
+-- Two sorted lists with the same pairs are equal.
+same_order : (xs ys : Pairs) → T (finmap.is_sorted nat_cmp xs) → T (finmap.is_sorted nat_cmp ys) → ((p : ℕ × Letters) → Contains xs p → Contains ys p) → ((p : ℕ × Letters) → Contains ys p → Contains xs p) → xs ≡ ys
+same_order [] [] s t f g = refl
+same_order [] (y ∷ ys) s t f g = absurd (g y (inl refl))
+same_order (x ∷ xs) [] s t f g = absurd (f x (inl refl))
+same_order (x ∷ xs) (y ∷ ys) s t f g = λ n. head n ∷ same_order xs ys (true_second _ _ s) (true_second _ _ t) (rest x y xs ys (true_first _ _ s) head f) (rest y x ys xs (true_first _ _ t) (sym head) g) n where
+  head : x ≡ y
+  head = elim (f x (inl refl)) [
+    | inl is ↦ is
+    | inr h ↦ elim (g y (inl refl)) [
+      | inl is ↦ sym is
+      | inr k ↦ absurd (let a = above y.0 ys (true_first _ _ t) x h in let b = above x.0 xs (true_first _ _ s) y k in omega (arith, a, b))
+    ]
+  ]
+
+  rest : (a b : ℕ × Letters) (ps qs : Pairs) → T (below_all nat_cmp a.0 ps) → a ≡ b → ((p : ℕ × Letters) → Contains (a ∷ ps) p → Contains (b ∷ qs) p) → (p : ℕ × Letters) → Contains ps p → Contains qs p
+  rest a b ps qs low is f p h = elim (f p (inr h)) [ inl here ↦ absurd (let l = above a.0 ps low p h in let e = ap (λ (q : ℕ × Letters). q.0) (here ∙ sym is) in omega (arith, l, e)) | inr there ↦ there ]
+
+-- Serials of their own, which stay so in another order.
+eqb_flips : (x y : ℕ) → eqb x y ≡ eqb y x
+eqb_flips x y = elim (cases_eq x y) [
+  | inl is ↦ eq-eqb x y is ∙ sym (eq-eqb y x (sym is))
+  | inr other ↦ ne_eqb x y other ∙ sym (ne_eqb y x (λ e. other (sym e)))
+]
+
+all_apart : (ks : List ℕ) → Distinct ks → AllPairs (λ x y. x ≢ y) ks
+all_apart [] d i j e a b q = absurd (omega (arith, b))
+all_apart (k ∷ ks) d i zero e a b q = absurd (omega (arith, a))
+all_apart (k ∷ ks) d zero (suc j) e a b q = d.0 (subst (Contains ks) (sym q) (at_index ks j e (omega (arith, b))))
+all_apart (k ∷ ks) d (suc i) (suc j) e a b q = all_apart ks d.1 i j e (omega (arith, a)) (omega (arith, b)) q
+
+still_apart : (ks ls : List ℕ) → IsPermutation ks ls → Distinct ks → AllPairs (λ x y. x ≢ y) ls
+still_apart ks ls p d = AllPairs-from_IsDistinct Decides-eqb ls (IsDistinct-IsPermutation eqb eqb_flips ks ls p (IsDistinct-from_AllPairs Decides-eqb ks (all_apart ks d)))
+
+in_order : (es : Pairs) → IsNonDecreasingBy (λ (e : ℕ × Letters). e.0) es → AllPairs (λ x y. x ≢ y) (map (λ (e : ℕ × Letters). e.0) es) → T (finmap.is_sorted nat_cmp es)
+in_order [] f d = tt
+in_order (e ∷ es) f d = true_both _ _ (below es (λ k b. f 0 (suc k) e (omega arith) (omega (arith, b))) (λ k b. d 0 (suc k) 0 (omega arith) (omega (arith, b))))
+    (in_order es (λ i j v a b. f (suc i) (suc j) v (omega (arith, a)) (omega (arith, b))) (λ i j v a b. d (suc i) (suc j) v (omega (arith, a)) (omega (arith, b))))
+  where
+    below : (ds : Pairs) → ((k : ℕ) → k < length ds → e.0 ≤ (get_or ds k e).0) → ((k : ℕ) → k < length (map (λ (q : ℕ × Letters). q.0) ds) → e.0 ≢ get_or (map (λ (q : ℕ × Letters). q.0) ds) k 0) → T (below_all nat_cmp e.0 ds)
+    below [] f n = tt
+    below (d ∷ ds) f n = true_both _ _
+        (let l : e.0 < d.0 = (let a = f 0 (omega arith) in let b : e.0 ≢ d.0 = n 0 (omega arith) in omega (arith, a, b)) in subst (λ (o : Ordering). T (is_lt o)) (nat_cmp_is e.0 d.0 Less l) tt)
+        (below ds (λ k b. f (suc k) (omega (arith, b))) (λ k b. n (suc k) (omega (arith, b))))
+
+permuted : (xs ys : Pairs) (x : ℕ × Letters) → IsPermutation xs ys → Contains xs x → Contains ys x
+permuted xs ys x p h = from ys (Contains-permutation xs ys x p (to xs h)) where
+  to : (zs : Pairs) → Contains zs x → IsElement zs x
+  to [] h = absurd h
+  to (z ∷ zs) (inl e) = (0, omega arith, sym e)
+  to (z ∷ zs) (inr h) = let r = to zs h in let b : suc r.0 < suc (length zs) = (let l = r.1 in omega (arith, l)) in (suc r.0, b, r.2)
+
+  from : (zs : Pairs) → IsElement zs x → Contains zs x
+  from [] c = absurd (let l = c.1 in omega (arith, l))
+  from (z ∷ zs) (zero, l, e) = inl (sym e)
+  from (z ∷ zs) (suc k, l, e) = inr (from zs (k, omega (arith, l), e))
 
 -- The serials of what is held, slot by slot.
 abbrev serials_in : List (Option Kept) → List ℕ
@@ -80,7 +182,7 @@ module _ (v : Stored) (once : Once v) where
   -- A sum over the vertices of the graph is one over the slots.
   sum_held : (g : ℕ → ℕ) (f : Option Kept → ℕ) → f None ≡ 0 → ((i : ℕ) (k : Kept) → kept v i ≡ Some k → g k.serial ≡ f (Some k)) → sum_by g (finmap.keys (vertices v)) ≡ total (λ i. f (kept v i)) (length v.slots)
   sum_held g f z e =
-      same_sum g (finmap.keys (vertices v)) (serials_in os) (keys_once (vertices v)) (serials_once os once_here) from_keys to_keys
+      same_sum g (finmap.keys (vertices v)) (serials_in os) (keys_occur_once (held v 0)) (serials_once os once_here) from_keys to_keys
       ∙ sum_serials g f os z (λ i k h. e i k (sym (held_at v i) ∙ h)) ∙ sym (total_list f os None)
       ∙ ap (total (λ i. f (get_or os i None))) (from_size (progress v) 0 v.slots)
       ∙ total_same (λ i. f (get_or os i None)) (λ i. f (kept v i)) (length v.slots) (λ i. ap f (held_at v i))
@@ -92,269 +194,59 @@ module _ (v : Stored) (once : Once v) where
     ones (x ∷ xs) = let a = sum_by-cons (λ (y : ℕ). 1) x xs in let b = ones xs in omega (arith, a, b)
 
   -- A held slot has an edge to whatever its vertex's label over is not empty.
-  pub edge_with : (next i : ℕ) (k : Kept) → kept v i ≡ Some k → (y : ℕ) → is_none (label (held v next) k.serial y) ≡ false → (e : Edge) × Contains k.edges e × (e.serial ≡ y)
-  edge_with next i k is y n = by (is_in k.edges y) where
-    is_in : (es : List Edge) (y : ℕ) → ((e : Edge) × Contains es e × (e.serial ≡ y)) ⊎ ((e : Edge) → Contains es e → e.serial ≢ y)
-    is_in [] y = inr (λ e h. absurd h)
-    is_in (e ∷ es) y = elim (cases_eq e.serial y) [
-      | inl here ↦ inl (e, inl refl, here)
-      | inr other ↦ elim (is_in es y) [ inl there ↦ inl (there.0, inr there.1, there.2) | inr none ↦ inr (λ d h. elim h [ inl q ↦ (λ s. other (ap (λ (z : Edge). z.serial) (sym q) ∙ s)) | inr r ↦ none d r ]) ]
-    ]
+  edge_with : (next i : ℕ) (k : Kept) → kept v i ≡ Some k → (y : ℕ) → is_none (label (held v next) k.serial y) ≡ false → (e : Edge) × Contains k.edges e × (e.serial ≡ y)
+  edge_with next i k is y some =
+      let t = edge_in v next k.serial y some in
+      let o = owned_here v next i k once is (record { from = k.serial; right = t.0; to = y }) t.1 refl in
+      (o.0, o.1, sym o.2)
 
-    by : ((e : Edge) × Contains k.edges e × (e.serial ≡ y)) ⊎ ((e : Edge) → Contains k.edges e → e.serial ≢ y) → (e : Edge) × Contains k.edges e × (e.serial ≡ y)
-    by (inl h) = h
-    by (inr none) = absurd (let u = ap is_none (label_none v next i k once is y none) in let z : true ≡ false = sym u ∙ n in cc)
-
-  -- A held vertex has as many edges in the graph as its slot has.
-  module _ (closed : Closed (kept v) (IsRootAt v)) (distinct : (i : ℕ) (k : Kept) → kept v i ≡ Some k → Distinct (map (λ (e : Edge). e.serial) k.edges))
+  module _ (closed : Closed (kept v) (IsRootAt v)) (serial_once : (i : ℕ) (k : Kept) → kept v i ≡ Some k → Distinct (serials k.edges))
       (some : (i : ℕ) (k : Kept) (e : Edge) → kept v i ≡ Some k → Contains k.edges e → is_none e.rights ≡ false) where
-    edges_here : (next i : ℕ) (k : Kept) → kept v i ≡ Some k → length (edges_of (held v next) k.serial) ≡ length k.edges
-    unfolding edges_of
-    edges_here next i k is =
-        let keys : List ℕ = finmap.keys (vertices v) in
-        let l = λ (y : ℕ). label (held v next) k.serial y in
-        let same = same_length (map (λ e. e.0) (labelled l keys)) (serials k.edges) (labelled_once l keys (keys_once (vertices v))) (distinct i k is)
-        (λ y h. let e = edge_with next i k is y (labelled_contains l keys y h).1 in subst (Contains (serials k.edges)) e.2 (contains_map (λ (x : Edge). x.serial) k.edges e.0 e.1))
-        (λ y h. (
-        let e = listed k.edges y h in
-        let there = closed.edges i k e.0 is e.1 in
-        let key = contains_keys (vertices v) e.0.serial (subst (λ (z : ℕ). finmap.contains_key (vertices v) z ≡ true) there.2 (kept_held v e.0.target there.0 once there.1)) in
-        subst (Contains (map (λ e. e.0) (labelled l keys))) e.2 (contains_labelled l keys e.0.serial key (ap is_none (label_edge v next i k once is e.0 (distinct i k is) e.1) ∙ some i k e.0 is e.1)))) in
-        sym (length-map (labelled l keys) (λ e. e.0)) ∙ same ∙ length-map k.edges (λ (e : Edge). e.serial)
-      where
-        listed : (es : List Edge) (y : ℕ) → Contains (serials es) y → (e : Edge) × Contains es e × (e.serial ≡ y)
-        listed [] y h = absurd h
-        listed (e ∷ es) y (inl is) = (e, inl refl, sym is)
-        listed (e ∷ es) y (inr h) = let r = listed es y h in (r.0, inr r.1, r.2)
+    -- The graph, with a next serial above all of it; a vertex's edges do not depend on that.
+    abbrev whole : Protection
+    whole = held v (suc (sum_by (λ x. x) (finmap.keys (vertices v))))
+
+    whole_graph : IsGraph whole
+    whole_graph = record {
+      below_next = λ x h. let l = below_sum (finmap.keys (vertices v)) x (contains_keys (vertices v) x h) in omega (arith, l);
+      from_vertex = from_held v closed once;
+      to_vertex = to_held v closed once;
+      distinct = distinct v closed once;
+    }
+
+    edges_same : (next x : ℕ) → edges_of (held v next) x ≡ edges_of whole x
+    unfolding label edges_of
+    edges_same next x = refl
+
+    -- A held vertex has the edges in the graph that its slot has.
+    pairs_here : (i : ℕ) (k : Kept) → kept v i ≡ Some k → (p : ℕ × Letters) → Contains (edges_of whole k.serial) p ↔ Contains (pairs_of k.edges) p
+    pairs_here i k is p = (
+      λ h.
+          let r = ((edge_list whole k.serial whole_graph).edges p.0 p.1).0 h in
+          let e = edge_with whole.next i k is p.0 r.1 in
+          let rights = sym (rights_of e.0 e.1) ∙ ap (label whole k.serial) e.2 ∙ sym r.0 in
+          subst (Contains (pairs_of k.edges)) (λ n. (e.2 n, rights n)) (contains_map (λ (x : Edge). (x.serial, x.rights)) k.edges e.0 e.1),
+      λ h.
+          let e = contains_mapped (λ (x : Edge). (x.serial, x.rights)) k.edges p h in
+          let rights = rights_of e.0 e.1 in
+          subst (Contains (edges_of whole k.serial)) e.2 (((edge_list whole k.serial whole_graph).edges e.0.serial e.0.rights).1 (sym rights, ap is_none rights ∙ some i k e.0 is e.1)),
+    ) where
+      rights_of : (e : Edge) → Contains k.edges e → label whole k.serial e.serial ≡ e.rights
+      rights_of e c = label_edge v whole.next i k once is e (serial_once i k is) c
+
+    rising_here : (x : ℕ) → T (finmap.is_sorted nat_cmp (edges_of whole x))
+    rising_here x = subst T (sym (edge_list whole x whole_graph).rising) tt
 
     pub edges_counted : (next : ℕ) → edge_count (held v next) ≡ total (λ i. held_cells (kept v i)) (length v.slots)
-    edges_counted next = sum_held (λ x. length (edges_of (held v next) x)) held_cells refl (λ i k is. edges_here next i k is)
+    edges_counted next = sum_held (λ x. length (edges_of (held v next) x)) held_cells refl (λ i k is. ap length (edges_same next k.serial) ∙ edges_here i k is) where
+      edges_here : (i : ℕ) (k : Kept) → kept v i ≡ Some k → length (edges_of whole k.serial) ≡ length k.edges
+      edges_here i k is = same_length (edges_of whole k.serial) (pairs_of k.edges) (sorted_once _ (rising_here k.serial)) (pairs_once k.edges (serial_once i k is)) (λ p. (pairs_here i k is p).0) (λ p. (pairs_here i k is p).1)
+          ∙ length-map k.edges (λ (x : Edge). (x.serial, x.rights))
 
--- A vertex's edges by rising serial.
-contains_index : {X : Type 0} (xs : List X) (x d : X) → Contains xs x → (k : ℕ) × (k < length xs) × (get_or xs k d ≡ x)
-contains_index [] x d h = absurd h
-contains_index (y ∷ xs) x d (inl e) = (0, omega arith, sym e)
-contains_index (y ∷ xs) x d (inr h) = let r = contains_index xs x d h in let b : suc r.0 < suc (length xs) = (let l = r.1 in omega (arith, l)) in (suc r.0, b, r.2)
-
-pub index_contains : {X : Type 0} (xs : List X) (x d : X) (k : ℕ) → k < length xs → get_or xs k d ≡ x → Contains xs x
-index_contains [] x d k h e = absurd (omega arith)
-index_contains (y ∷ xs) x d zero h e = inl (sym e)
-index_contains (y ∷ xs) x d (suc k) h e = inr (index_contains xs x d k (omega arith) e)
-
-same_found : {X : Type 0} (a b : Option X) → ((w : X) → a ≡ Some w → b ≡ Some w) → ((w : X) → b ≡ Some w → a ≡ Some w) → a ≡ b
-same_found None None f g = refl
-same_found None (Some w) f g = g w refl
-same_found (Some w) b f g = sym (f w refl)
-
-some_same : {X : Type 0} (a b : X) → Some a ≡ Some b → a ≡ b
-some_same a b e = cc
-
-find_contains : {X : Type 0} (es : List (ℕ × X)) (q : ℕ) (w : X) → find nat_cmp q es ≡ Some w → Contains es (q, w)
-find_contains [] q w e = absurd (cc)
-find_contains ((k, v) ∷ es) q w e =
-    elim (eq_by_cmp nat_cmp q k) as (λ b. eq_by_cmp nat_cmp q k ≡ b → cond b (Some v) (find nat_cmp q es) ≡ Some w → Contains ((k, v) ∷ es) (q, w)) [
-      | true ↦ λ t f. let a : q ≡ k = same_key q k t in let b : v ≡ w = some_same v w f in inl (cc)
-      | false ↦ λ t f. inr (find_contains es q w f)
-    ] refl e
-
-abbrev Pairs : Type 0
-Pairs = List (ℕ × Letters)
-
--- How often a key occurs in a list, and how often a pair's list has it.
-abbrev keyed : ℕ → (ℕ × Letters) → ℕ
-keyed y e = cond (eqb e.0 y) 1 0
-
-none_keyed : (es : Pairs) (y : ℕ) → sum_by (keyed y) es ≡ 0 → Contains (map (λ (e : ℕ × Letters). e.0) es) y → ⊥
-none_keyed [] y z h = h
-none_keyed (e ∷ es) y z (inl is) =
-    let a = sum_by-cons (keyed y) e es in
-    let b : keyed y e ≡ 1 = ap (λ (t : Bool). cond t 1 0) (eq-eqb e.0 y (sym is)) in
-    omega (arith, a, b, z)
-none_keyed (e ∷ es) y z (inr h) = (let a = sum_by-cons (keyed y) e es in none_keyed es y (omega (arith, a, z)) h)
-
-other_key : (x y : ℕ) → x ≢ y → ◌≡◌ {A = ℕ} (cond (eqb x y) 1 0) 0
-other_key x y n = by (eqb x y) refl where
-  by : (t : Bool) → eqb x y ≡ t → ◌≡◌ {A = ℕ} (cond t 1 0) 0
-  by true e = absurd (n (eqb-true x y e))
-  by false e = refl
-
-keyed_none : (es : Pairs) (y : ℕ) → (Contains (map (λ (e : ℕ × Letters). e.0) es) y → ⊥) → sum_by (keyed y) es ≡ 0
-keyed_none [] y n = refl
-keyed_none (e ∷ es) y n =
-    let a = sum_by-cons (keyed y) e es in
-    let r = keyed_none es y (λ h. n (inr h)) in
-    let b : keyed y e ≡ 0 = other_key e.0 y (λ q. n (inl (sym q))) in
-    omega (arith, a, r, b)
-
-keyed_once : (es : Pairs) (y : ℕ) → Distinct (map (λ (e : ℕ × Letters). e.0) es) → sum_by (keyed y) es ≤ 1
-keyed_once [] y d = omega arith
-keyed_once (e ∷ es) y d =
-    let a = sum_by-cons (keyed y) e es in
-    elim (cases_eq e.0 y) [
-      | inl is ↦
-          let z = keyed_none es y (λ h. d.0 (subst (Contains (map (λ (x : ℕ × Letters). x.0) es)) (sym is) h)) in
-          let b : keyed y e ≤ 1 = one (eqb e.0 y) in omega (arith, a, z, b)
-      | inr other ↦
-          let r = keyed_once es y d.1 in
-          let b : keyed y e ≡ 0 = other_key e.0 y other in
-          omega (arith, a, r, b)
-    ]
-  where
-    one : (t : Bool) → cond t 1 0 ≤ 1
-    one true = omega arith
-    one false = omega arith
-
-once_keyed : (es : Pairs) → ((y : ℕ) → sum_by (keyed y) es ≤ 1) → Distinct (map (λ (e : ℕ × Letters). e.0) es)
-once_keyed [] f = tt
-once_keyed (e ∷ es) f = (
-  λ h. none_keyed es e.0 (let a = sum_by-cons (keyed e.0) e es in let b : keyed e.0 e ≡ 1 = ap (λ (t : Bool). cond t 1 0) (eq-eqb e.0 e.0 refl) in let c = f e.0 in omega (arith, a, b, c)) h,
-  once_keyed es (λ y. let a = sum_by-cons (keyed y) e es in let c = f y in omega (arith, a, c)),
-)
-
-pub keys_permuted : (xs ys : Pairs) → IsPermutation xs ys → Distinct (map (λ (e : ℕ × Letters). e.0) xs) → Distinct (map (λ (e : ℕ × Letters). e.0) ys)
-keys_permuted xs ys p d = once_keyed ys (λ y. let s = sum_by-IsPermutation (keyed y) xs ys p in let o = keyed_once xs y d in omega (arith, s, o))
-
--- A list whose keys do not fall and occur once is in order.
-both : (a b : Bool) → T a → T b → T (a && b)
-both true b p q = q
-both false b p q = p
-
-below : (x y : ℕ) → x < y → T (is_lt (nat_cmp x y))
-below x y l = subst (λ (o : Ordering). T (is_lt o)) (nat_cmp_is x y Less l) tt
-
-below_rest : (x : ℕ) (es : Pairs) → ((k : ℕ) → k < length es → x ≤ (get_or es k (0, record { read = false; write = false; take = false; grant = false })).0) → (Contains (map (λ (e : ℕ × Letters). e.0) es) x → ⊥) → T (below_all nat_cmp x es)
-below_rest x [] f n = tt
-below_rest x (e ∷ es) f n = both _ _
-    (below x e.0 (let a = f 0 (omega arith) in let b : e.0 ≢ x = λ q. n (inl (sym q)) in omega (arith, a, b)))
-    (below_rest x es (λ k b. f (suc k) (omega (arith, b))) (λ h. n (inr h)))
-
-pub in_order : (es : Pairs) → IsNonDecreasingBy (λ (e : ℕ × Letters). e.0) es → Distinct (map (λ (e : ℕ × Letters). e.0) es) → T (finmap.is_sorted nat_cmp es)
-in_order [] f d = tt
-in_order (e ∷ es) f d = both _ _
-    (below_rest e.0 es (λ k b. f 0 (suc k) (0, record { read = false; write = false; take = false; grant = false }) (omega arith) (omega (arith, b))) d.0)
-    (in_order es (λ i j v a b. f (suc i) (suc j) v (omega (arith, a)) (omega (arith, b))) d.1)
-
--- If keys occur once, a pair of the list is what is found.
-contains_find : (es : Pairs) (q : ℕ) (w : Letters) → Distinct (map (λ (e : ℕ × Letters). e.0) es) → Contains {X = ℕ × Letters} es (q, w) → find nat_cmp q es ≡ Some w
-contains_find [] q w d h = absurd h
-contains_find ((k, v) ∷ es) q w d (inl is) =
-    let same : q ≡ k = ap (λ (p : ℕ × Letters). p.0) is in
-    let value : w ≡ v = ap (λ (p : ℕ × Letters). p.1) is in
-    ap (λ (b : Bool). cond b (Some v) (find nat_cmp q es)) (key_same q k same) ∙ ap Some (sym value)
-contains_find ((k, v) ∷ es) q w d (inr h) = by (eq_by_cmp nat_cmp q k) refl (contains_find es q w d.1 h) where
-  by : (b : Bool) → eq_by_cmp nat_cmp q k ≡ b → find nat_cmp q es ≡ Some w → cond b (Some v) (find nat_cmp q es) ≡ Some w
-  by true t r = absurd (d.0 (subst (Contains (map (λ (e : ℕ × Letters). e.0) es)) (same_key q k t) (contains_map (λ (e : ℕ × Letters). e.0) es (q, w) h)))
-  by false t r = r
-
--- The pairs of a list of labels.
-labelled_pair : (l : ℕ → Letters) (ks : List ℕ) (y : ℕ) (w : Letters) → Contains {X = ℕ × Letters} (labelled l ks) (y, w) → Contains ks y × (w ≡ l y) × (is_none (l y) ≡ false)
-labelled_pair l [] y w h = absurd h
-labelled_pair l (k ∷ ks) y w h = by (is_none (l k)) refl h (labelled_pair l ks y w) where
-  by : (b : Bool) → is_none (l k) ≡ b → Contains {X = ℕ × Letters} (cond b (labelled l ks) ((k, l k) ∷ labelled l ks)) (y, w)
-      → (Contains {X = ℕ × Letters} (labelled l ks) (y, w) → Contains ks y × (w ≡ l y) × (is_none (l y) ≡ false)) → Contains (k ∷ ks) y × (w ≡ l y) × (is_none (l y) ≡ false)
-  by true e h rest = let r = rest h in (inr r.0, r.1, r.2)
-  by false e (inl is) rest =
-      let same : y ≡ k = ap (λ (p : ℕ × Letters). p.0) is in
-      (inl same, ap (λ (p : ℕ × Letters). p.1) is ∙ ap l (sym same), ap (λ (z : ℕ). is_none (l z)) same ∙ e)
-  by false e (inr h) rest = let r = rest h in (inr r.0, r.1, r.2)
-
-pair_labelled : (l : ℕ → Letters) (ks : List ℕ) (y : ℕ) → Contains ks y → is_none (l y) ≡ false → Contains {X = ℕ × Letters} (labelled l ks) (y, l y)
-pair_labelled l [] y h some = absurd h
-pair_labelled l (k ∷ ks) y h some = by (is_none (l k)) refl h (pair_labelled l ks y) where
-  by : (b : Bool) → is_none (l k) ≡ b → Contains (k ∷ ks) y → (Contains ks y → is_none (l y) ≡ false → Contains {X = ℕ × Letters} (labelled l ks) (y, l y))
-      → Contains {X = ℕ × Letters} (cond b (labelled l ks) ((k, l k) ∷ labelled l ks)) (y, l y)
-  by true e (inl is) rest = absurd (let a = ap (λ (z : ℕ). is_none (l z)) is ∙ e in let u : true ≡ false = sym a ∙ some in cc)
-  by true e (inr h) rest = rest h some
-  by false e (inl is) rest = inl (λ i. (is i, l (is i)))
-  by false e (inr h) rest = inr (rest h some)
-
--- Labels in the order of the keys.
-fst : (a b : Bool) → T (a && b) → T a
-fst true b t = tt
-fst false b t = absurd t
-
-snd : (a b : Bool) → T (a && b) → T b
-snd true b t = t
-snd false b t = absurd t
-
-below_labelled : {X : Type 0} (l : ℕ → Letters) (x : ℕ) (es : List (ℕ × X)) → T (below_all nat_cmp x es) → T (below_all nat_cmp x (labelled l (map (λ e. e.0) es)))
-below_labelled l x [] t = tt
-below_labelled l x (e ∷ es) t = by (is_none (l e.0)) (below_labelled l x es (snd _ _ t)) where
-  by : (b : Bool) → T (below_all nat_cmp x (labelled l (map (λ e. e.0) es))) → T (below_all nat_cmp x (cond b (labelled l (map (λ e. e.0) es)) ((e.0, l e.0) ∷ labelled l (map (λ e. e.0) es))))
-  by true r = r
-  by false r = both _ _ (fst _ _ t) r
-
-sorted_labelled : {X : Type 0} (l : ℕ → Letters) (es : List (ℕ × X)) → T (finmap.is_sorted nat_cmp es) → T (finmap.is_sorted nat_cmp (labelled l (map (λ e. e.0) es)))
-sorted_labelled l [] t = tt
-sorted_labelled l (e ∷ es) t = by (is_none (l e.0)) (sorted_labelled l es (snd _ _ t)) (below_labelled l e.0 es (fst _ _ t)) where
-  by : (b : Bool) → T (finmap.is_sorted nat_cmp (labelled l (map (λ e. e.0) es))) → T (below_all nat_cmp e.0 (labelled l (map (λ e. e.0) es)))
-      → T (finmap.is_sorted nat_cmp (cond b (labelled l (map (λ e. e.0) es)) ((e.0, l e.0) ∷ labelled l (map (λ e. e.0) es))))
-  by true r s = r
-  by false r s = both _ _ s r
-
--- A list with the same elements in another order has the same members.
-permuted : {X : Type 0} (xs ys : List X) (x : X) → IsPermutation xs ys → Contains xs x → Contains ys x
-permuted xs ys x p h = from (Contains-permutation xs ys x p (to h)) where
-  to : Contains xs x → IsElement xs x
-  to h = contains_index xs x x h
-
-  from : IsElement ys x → Contains ys x
-  from c = index_contains ys x x c.0 c.1 c.2
-
--- Two lists in order with the same pairs are equal.
-same_order : (xs ys : Pairs) → T (finmap.is_sorted nat_cmp xs) → T (finmap.is_sorted nat_cmp ys) → ((q : ℕ) → find nat_cmp q xs ≡ find nat_cmp q ys) → xs ≡ ys
-same_order xs ys s t f =
-    sym (entries-from_sorted nat_cmp xs s)
-    ∙ ap finmap.entries (same_map nat_cmp_total nat_cmp-IsAntisymmetric (finmap.from_sorted xs) (finmap.from_sorted ys) (λ q. get-from_sorted nat_cmp xs q s ∙ f q ∙ sym (get-from_sorted nat_cmp ys q t)))
-    ∙ entries-from_sorted nat_cmp ys t
-
-abbrev pub pairs_of : List Edge → Pairs
-pairs_of es = map (λ (e : Edge). (e.serial, e.rights)) es
-
-pair_edge : (es : List Edge) (q : ℕ) (w : Letters) → Contains {X = ℕ × Letters} (pairs_of es) (q, w) → (e : Edge) × Contains es e × (e.serial ≡ q) × (e.rights ≡ w)
-pair_edge [] q w h = absurd h
-pair_edge (e ∷ es) q w (inl is) = (e, inl refl, ap (λ (p : ℕ × Letters). p.0) (sym is), ap (λ (p : ℕ × Letters). p.1) (sym is))
-pair_edge (e ∷ es) q w (inr h) = let r = pair_edge es q w h in (r.0, inr r.1, r.2, r.3)
-
-keys_pairs : (es : List Edge) → map (λ (e : ℕ × Letters). e.0) (pairs_of es) ≡ serials es
-keys_pairs [] = refl
-keys_pairs (e ∷ es) = ap (λ (l : List ℕ). e.serial ∷ l) (keys_pairs es)
-
--- The edges of a held slot in order are the edges of its vertex in the graph.
-module _ (v : Stored) (once : Once v) (closed : Closed (kept v) (IsRootAt v)) (distinct : (i : ℕ) (k : Kept) → kept v i ≡ Some k → Distinct (map (λ (e : Edge). e.serial) k.edges))
-    (some : (i : ℕ) (k : Kept) (e : Edge) → kept v i ≡ Some k → Contains k.edges e → is_none e.rights ≡ false) where
-  pub edges_listed : (next i : ℕ) (k : Kept) (ys : Pairs) → kept v i ≡ Some k → IsPermutation (pairs_of k.edges) ys → IsNonDecreasingBy (λ (e : ℕ × Letters). e.0) ys → ys ≡ edges_of (held v next) k.serial
-  unfolding edges_of
-  edges_listed next i k ys is p rising = same_order ys zs (in_order ys rising once_listed) (sorted_labelled l (finmap.entries (vertices v)) (finmap.entries_sorted (vertices v))) (λ q.
-      same_found (find nat_cmp q ys) (find nat_cmp q zs)
-      (λ u f.
-      let e = pair_edge k.edges q u (permuted ys (pairs_of k.edges) (q, u) (IsPermutation-sym (pairs_of k.edges) ys p) (find_contains ys q u f)) in
-      let label_is : l q ≡ u = ap l (sym e.2) ∙ label_edge v next i k once is e.0 (distinct i k is) e.1 ∙ e.3 in
-      let not_none : is_none (l q) ≡ false = ap (λ (y : ℕ). is_none (l y)) (sym e.2) ∙ ap is_none (label_edge v next i k once is e.0 (distinct i k is) e.1) ∙ some i k e.0 is e.1 in
-      let there = closed.edges i k e.0 is e.1 in
-      let key = contains_keys (vertices v) q (subst (λ (y : ℕ). finmap.contains_key (vertices v) y ≡ true) (there.2 ∙ e.2) (kept_held v e.0.target there.0 once there.1)) in
-      contains_find zs q u once_labelled (subst (λ (x : Letters). Contains {X = ℕ × Letters} zs (q, x)) label_is (pair_labelled l keys q key not_none)))
-      (λ u f.
-      let r = labelled_pair l keys q u (find_contains zs q u f) in
-      let e = edge_with v once next i k is q r.2 in
-      let here : e.0.rights ≡ u = sym (ap l (sym e.2) ∙ label_edge v next i k once is e.0 (distinct i k is) e.1) ∙ sym r.1 in
-      contains_find ys q u once_listed (permuted (pairs_of k.edges) ys (q, u) p (subst (λ (x : Letters). Contains {X = ℕ × Letters} (pairs_of k.edges) (q, x)) here
-      (subst (λ (y : ℕ). Contains {X = ℕ × Letters} (pairs_of k.edges) (y, e.0.rights)) e.2 (contains_map (λ (x : Edge). (x.serial, x.rights)) k.edges e.0 e.1))))))
-    where
-      l : ℕ → Letters
-      l y = label (held v next) k.serial y
-
-      keys : List ℕ
-      keys = finmap.keys (vertices v)
-
-      zs : Pairs
-      zs = labelled l keys
-
-      once_listed : Distinct (map (λ (e : ℕ × Letters). e.0) ys)
-      once_listed = keys_permuted (pairs_of k.edges) ys p (subst Distinct (sym (keys_pairs k.edges)) (distinct i k is))
-
-      once_labelled : Distinct (map (λ (e : ℕ × Letters). e.0) zs)
-      once_labelled = labelled_once l keys (keys_once (vertices v))
+    -- The slot's edges in the order of their serials are the vertex's.
+    pub edges_listed : (next i : ℕ) (k : Kept) (ys : Pairs) → kept v i ≡ Some k → IsPermutation (pairs_of k.edges) ys → IsNonDecreasingBy (λ (e : ℕ × Letters). e.0) ys → ys ≡ edges_of (held v next) k.serial
+    edges_listed next i k ys is p rising = same_order ys (edges_of whole k.serial) (in_order ys rising (still_apart _ (map (λ (e : ℕ × Letters). e.0) ys) (IsPermutation-map (λ (e : ℕ × Letters). e.0) (pairs_of k.edges) ys p) (subst Distinct (sym (keys_pairs k.edges)) (serial_once i k is)))) (rising_here k.serial)
+        (λ q h. (pairs_here i k is q).1 (permuted ys (pairs_of k.edges) q (IsPermutation-sym (pairs_of k.edges) ys p) h)) (λ q h. permuted (pairs_of k.edges) ys q p ((pairs_here i k is q).0 h)) ∙ sym (edges_same next k.serial)
 
 -- Each machine's value is a store.
 left_some : (b : Body) (p : Progress) (cells : ℕ) → 1 ≤ left cells b p

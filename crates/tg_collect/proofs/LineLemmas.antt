@@ -1,12 +1,14 @@
 -- Each step of the machine is a line of the table.
 use Rattle.std.proofs.Common.{◌≡◌, ℕ, ◌+◌, ◌<◌, ◌≤◌, List, [], ◌∷◌, ◌++◌, length, map, Option, Some, None, Bool, true, false, sym, ◌∙◌, subst, ap, refl, arith, set, eq-eqb, ◌≢◌, ◌⊎◌, inl, inr, length-append}
-use Rattle.tg_collect.proofs.Common.{Contains, Distinct, White, Grey, Black, Table, Free, Has, slot, Edge, first_cell, HeapGraph, edges, mark_at, shaded, IsHeap, remaining, Spot, Body, mark, HasRoot, shade, Machine, RootLists, lists_of, bare, body_of, body, progress_in, progress_of, CursorFits, Whole, length-map, SEATS, AtRest, Kept, mark_of, name, name_of, seen, as_kept, put, left, put_each, at_within, Root, IsListed, slot_of, slots_of, stored, as_progress}
+use Rattle.tg_collect.proofs.Common.{Contains, Distinct, White, Grey, Black, Table, Free, Has, slot, Edge, first_cell, HeapGraph, edges, mark_at, shaded, IsHeap, remaining, Spot, Body, mark, shade, Machine, RootLists, lists_of, bare, body_of, body, progress_in, progress_of, CursorFits, Whole, length-map, SEATS, AtRest, Kept, mark_of, name_of, seen, put, left, put_each, at_within, Root, IsListed, slot_of, slots_of, stored, as_progress}
 use Rattle.tg_slots.specs.Table as table
 use Rattle.tg_marking.specs.Values as values
 use Rattle.tg_collect.specs.declared.machine.Progress.TheVariants as course
 use Rattle.tg_collect.specs.declared.machine.Progress as declared
 use Rattle.tg_marking.specs.Collected as marking
 use Rattle.tg_collect.specs.Views as views
+use Rattle.std.proofs.lemmas.Bool.{le-ltb}
+use Rattle.tg_rights.specs.declared.limits.TheConstants.{MAX_PRINCIPALS}
 use Rattle.tg_cells.specs.Lists.{Stands}
 use Rattle.tg_heap.specs.Graph.{shaded_by, painted}
 use Rattle.tg_heap.specs.Marking.{passed}
@@ -14,16 +16,14 @@ use Rattle.tg_heap.proofs.CursorLemmas.{split_whole, remaining_split}
 use Rattle.tg_marking.specs.Values.{spot, out, Scan, Progress, Marking, Sweeping, kept}
 use Rattle.tg_marking.specs.Steps.{shade_all, Line, starts, scans, blackens, takes, shades_target, starts_sweep, skips, whitens, strips, frees, finishes}
 use Rattle.tg_marking.specs.Invariant.{IsScanned, Phased}
-use Rattle.tg_collect.specs.Machine.{Steps, NoneWhite, ShadesFirst, shaded_slot, all_shaded, with_shaded, agent_slots, principal_slots, all_slots}
-use Rattle.tg_collect.proofs.SlotLemmas.{zip_size, at_slot, at_free, coloured_so, mark_so, out_so, put_slot, put_list, painted_so, shaded_so, listed_root, celled, free_so}
-use Rattle.std.proofs.lemmas.Bool.{le-ltb}
-use Rattle.tg_rights.specs.declared.limits.TheConstants.{MAX_PRINCIPALS}
 use Rattle.tg_marking.specs.Collected.{Turns, stays, greys, Follows, begins, marks, parks, sweeps, passes, ends, Stays}
 use Rattle.tg_marking.proofs.SpotLemmas.{shade_each}
 use Rattle.tg_marking.proofs.KeepLemmas.{line_keeps, line_collected}
 use Rattle.tg_marking.proofs.LeftLemmas.{bounded}
+use Rattle.tg_collect.specs.Machine.{Steps, NoneWhite, ShadesFirst, shaded_slot, all_shaded, with_shaded, agent_slots, principal_slots, all_slots}
+use Rattle.tg_collect.proofs.SlotLemmas.{zip_size, at_slot, at_free, coloured_so, mark_so, out_so, put_slot, put_list, painted_so, shaded_so, listed_root, celled, free_so}
 use Rattle.tg_collect.specs.Readings.{phase_in}
-use Rattle.tg_collect.specs.Views.{Collected, ChangesMarks, most_marks}
+use Rattle.tg_collect.specs.Views.{Collected, most_marks}
 use Rattle.tg_collect.proofs.ShownLemmas.{held_same}
 
 -- The edges before a cursor that names a cell, that cell's edge, and those after it.

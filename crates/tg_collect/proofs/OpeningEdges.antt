@@ -1,6 +1,6 @@
 -- A graph is opened: its edges, pair by pair, once the principals are there.
 use Rattle.std.proofs.Common.{◌≡◌, ◌≢◌, ℕ, zero, suc, ◌+◌, ◌<◌, ◌≤◌, List, [], ◌∷◌, length, Option, Some, None, ◌⊎◌, inl, inr, Bool, true, false, cond, ◌&&◌, ◌||◌, ◌==◌, eqb-true, eq-eqb, sym, ◌∙◌, subst, ap, refl, arith, get_or, set, sum_by}
-use Rattle.tg_collect.proofs.Common.{cases_eq, is_some, nat_cmp, Letters, Right, has, is_none, Contains, contains_middle, some_right, slot, Occupant, Grey, Black, Triple, edge, Protection, Edge, HasNone, HeapGraph, edges, IsHeap, IsAdded, Spot, AtRest, Kept, as_kept, seen, mark, mark_of, at_within, gains, Root, Progress, Machine, RootLists, lists_of, body, progress_in, stored, as_progress, kept_from, spot, held, vertices, triples, IsEdgeIn}
+use Rattle.tg_collect.proofs.Common.{cases_eq, is_some, nat_cmp, Letters, Right, has, is_none, Contains, contains_middle, some_right, slot, Occupant, Grey, Black, Triple, edge, Protection, Edge, HasNone, HeapGraph, edges, IsHeap, IsAdded, Spot, AtRest, as_kept, seen, at_within, gains, Root, Progress, Machine, RootLists, lists_of, body, progress_in, stored, as_progress, spot, held, vertices, triples, IsEdgeIn}
 use Rattle.std.specs.FinMap as finmap
 use Rattle.std.specs.FinSet as finset
 use Rattle.tg_marking.specs.Values as values
@@ -22,7 +22,6 @@ use Rattle.tg_graph.proofs.TriplesLemmas.{triple_cmp_total, same_triples, contai
 use Rattle.tg_graph.proofs.VertexLemmas.{IsVertex-insert}
 use Rattle.tg_graph.proofs.LabelLemmas.{contains-label}
 use Rattle.tg_graph.proofs.EdgesAreCountedLemmas.{edge_count-sums, edge_count-union, edge_count-bare}
-use Rattle.tg_collect.specs.Readings.{IsParkedAt}
 use Rattle.tg_collect.specs.Openings.{Opened}
 use Rattle.tg_collect.specs.OpeningSteps.{subject, first_root, HoldsSubject, OpensFirst, OpensEdges, Before, root_count}
 use Rattle.tg_collect.proofs.SlotLemmas.{as_spot, put_list}

@@ -1,6 +1,6 @@
 -- A machine that holds the first principals, before any cycle.
 use Rattle.std.proofs.Common.{◌≡◌, ◌≢◌, ℕ, zero, suc, ◌+◌, ◌<◌, ◌≤◌, List, [], ◌∷◌, ◌++◌, length, map, replicate, Option, Some, None, ◌⊎◌, inl, inr, Ok, sym, ◌∙◌, subst, ap, refl, arith, get_or, set, length-set, length-append}
-use Rattle.tg_collect.proofs.Common.{SEATS, Contains, Distinct, Table, Free, Has, slot, Colour, White, Occupant, Edge, edges, mark_at, IsHeap, Spot, AtRest, Kept, as_kept, seen, name, name_of, mark, mark_of, HasRoot, new_colour, put_each, comes, Root, Roots, Progress, Idle, Machine, RootLists, IsListed, lists_of, body, progress_in, progress_of, CursorFits, Whole, stored, as_progress, kept_from, spot, held, serial_of, root_serial, Puts}
+use Rattle.tg_collect.proofs.Common.{SEATS, Contains, Distinct, Table, Free, Has, slot, Colour, White, Occupant, Edge, edges, mark_at, IsHeap, Spot, AtRest, Kept, as_kept, seen, name, name_of, mark, mark_of, new_colour, put_each, comes, Root, Roots, Progress, Idle, Machine, RootLists, IsListed, lists_of, body, progress_in, progress_of, CursorFits, Whole, stored, as_progress, kept_from, spot, held, serial_of, root_serial, Puts}
 use Rattle.std.specs.FinMap as finmap
 use Rattle.std.specs.FinSet as finset
 use Rattle.tg_slots.specs.Table as table
@@ -12,16 +12,16 @@ use Rattle.std.proofs.lemmas.List.{length-replicate, get_or_append_left}
 use Rattle.std.proofs.Math.Seq.{get_or-append_seam}
 use Rattle.tg_rights.proofs.MembershipLemmas.{contains_append, map_append}
 use Rattle.tg_rights.specs.declared.kind.Kind.TheVariants.{Subject}
-use Rattle.tg_slots.specs.Table.{nones, indices, fresh}
+use Rattle.tg_graph.specs.Opening.{principal_count, opening}
+use Rattle.tg_graph.proofs.CommandsKeepGraphsLemmas.{principals_are_few}
+use Rattle.tg_slots.specs.Table.{indices, fresh}
+use Rattle.tg_slots.proofs.FreshLemmas.{nones_length, nones_free, indices_length}
 use Rattle.tg_marking.specs.Values.{kept}
 use Rattle.tg_marking.specs.Invariant.{Invariant}
 use Rattle.tg_collect.specs.Openings.{first_serials, Opens, OpeningsCanBeStored}
 use Rattle.tg_collect.specs.OpeningSteps.{subject, first_root, first_roots, AreFrom, HoldsSubject, HasOpened, OpensFirst, OpensNext, root_count}
-use Rattle.tg_slots.proofs.FreshLemmas.{nones_length, nones_free, indices_length}
 use Rattle.tg_collect.proofs.SlotLemmas.{zip_slot, zip_size, at_slot, at_free, mark_so, occupied, as_spot, root_listed, free_so}
 use Rattle.tg_collect.proofs.ShownLemmas.{held_at, held_set, from_size}
-use Rattle.tg_graph.specs.Opening.{principal_count, opening}
-use Rattle.tg_graph.proofs.CommandsKeepGraphsLemmas.{principals_are_few}
 
 -- Seats without a root, and the first principals.
 no_seat : {X : Type 0} (n : ℕ) (x : X) → Contains (replicate n None) (Some x) → ⊥

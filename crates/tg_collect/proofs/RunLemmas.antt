@@ -8,21 +8,21 @@ use Rattle.tg_collect.specs.declared.note.Phase.TheVariants as phases
 use Rattle.std.specs.FinSet as finset
 use Rattle.tg_marking.specs.Collected as marking
 use Rattle.tg_collect.specs.Sessions as sessions
+use Rattle.std.proofs.lemmas.List.{map-set, set-get_or}
+use Rattle.tg_rights.specs.Letters.{rights_where}
 use Rattle.tg_graph.specs.Paths.{Live, IsPart}
+use Rattle.tg_graph.specs.Protection.{IsGraph, label, vertex}
+use Rattle.tg_graph.specs.Rules.{with_text}
+use Rattle.tg_graph.specs.Opening.{subjects}
 use Rattle.tg_marking.specs.Values.{Stage, Progress, Marking, Sweeping, keeps, Scan}
 use Rattle.tg_marking.specs.Runs.{IsLiveIn, Sane, Run}
+use Rattle.tg_marking.specs.Left.{free_one}
 use Rattle.tg_collect.specs.Readings.{phase_in, slot_count, cycle_bound, IsRootIn, phase, name, principals, pending, agents, free_slots}
 use Rattle.tg_collect.specs.Sessions.{Changes, Acted, Shaded}
 use Rattle.tg_collect.specs.Runs.{StoreRun, start, acts, goes, ends, IsComplete, IsBounded}
 use Rattle.tg_collect.proofs.SlotLemmas.{root_listed}
 use Rattle.tg_collect.proofs.ShownLemmas.{held_kept, kept_held, place_kept, Once, held_at, held_same, says_triple, triple_owned, vertex_found}
 use Rattle.tg_collect.proofs.StoreLemmas.{kept_is, once_so, in_root, contains_mapped, live_slots, slots_live, root_live, same_truth, edge_in}
-use Rattle.std.proofs.lemmas.List.{map-set, set-get_or}
-use Rattle.tg_rights.specs.Letters.{rights_where}
-use Rattle.tg_graph.specs.Protection.{IsGraph, label, vertex}
-use Rattle.tg_graph.specs.Rules.{with_text}
-use Rattle.tg_graph.specs.Opening.{subjects}
-use Rattle.tg_marking.specs.Left.{free_one}
 use Rattle.tg_collect.specs.declared.note.Phase.TheVariants.{Idle}
 use Rattle.tg_collect.specs.Views.{Collected}
 use Rattle.tg_collect.specs.Openings.{Opened}

@@ -1,24 +1,22 @@
 -- What the graph of what is held says of the slots, and back.
-use Rattle.std.proofs.Common.{◌≡◌, ℕ, zero, suc, ◌+◌, List, [], ◌∷◌, length, Option, Some, None, ◌⊎◌, inl, inr, Bool, true, false, cond, ◌&&◌, ◌||◌, ◌==◌, eqb-true, eq-eqb, sym, ◌∙◌, subst, ap, refl, arith, get_or, set, ◌++◌, map, sum_by, T}
-use Rattle.tg_collect.proofs.Common.{is_some, nat_cmp, Right, has, is_none, Contains, some_right, Triple, Edge, Spot, Kept, seen, vertex_of, Stored, kept_from, progress, spot, serial_of, place, held, vertices, triples, IsHeldIn, IsEdgeIn, sum_by-cons, Letters, Distinct}
+use Rattle.std.proofs.Common.{◌≡◌, ℕ, zero, suc, ◌+◌, List, [], ◌∷◌, length, Option, Some, None, inl, inr, Bool, true, false, cond, ◌&&◌, ◌==◌, eqb-true, eq-eqb, sym, ◌∙◌, subst, ap, refl, arith, get_or, set, ◌++◌, sum_by}
+use Rattle.tg_collect.proofs.Common.{is_some, nat_cmp, Right, has, is_none, Contains, some_right, Triple, Edge, Spot, Kept, seen, vertex_of, Stored, kept_from, progress, serial_of, place, held, vertices, triples, IsHeldIn, IsEdgeIn, sum_by-cons, Distinct}
 use Rattle.std.specs.FinMap as finmap
 use Rattle.std.specs.FinSet as finset
 use Rattle.tg_held.specs.Held as graph
 use Rattle.tg_collect.specs.Readings as readings
-use Rattle.std.specs.Ordering.{eq_by_cmp, is_lt}
+use Rattle.std.specs.Ordering.{eq_by_cmp}
 use Rattle.std.specs.Cmp.{nat_cmp_total, unsigned_tied}
 use Rattle.std.specs.FinMap.{find, get-from_entries, contains_key-keys}
+use Rattle.std.proofs.lemmas.List.Sums.{sum_by-append}
+use Rattle.std.specs.List.{list_any}
+use Rattle.std.proofs.lemmas.Bool.{or_right}
+use Rattle.tg_rights.proofs.MembershipLemmas.{split_at, distinct_around, contains_around, contains_append, contains_left, contains_right}
+use Rattle.tg_rights.proofs.Bools.{or_either, or_join, and_both}
 use Rattle.tg_graph.specs.declared.vertex.Vertex.{Vertex}
 use Rattle.tg_marking.specs.Values.{Progress}
 use Rattle.tg_held.specs.Held.{entries}
 use Rattle.tg_held.proofs.HeldLemmas.{says_edge, says, contains-held}
-use Rattle.std.proofs.lemmas.List.Sums.{sum_by-append}
-use Rattle.std.specs.List.{list_any}
-use Rattle.std.specs.declared.cmp.Ordering.{Ordering}
-use Rattle.std.specs.declared.cmp.Ordering.TheVariants.{Less, Equal, Greater}
-use Rattle.std.specs.FinMap.Entries.{below_all}
-use Rattle.tg_rights.proofs.MembershipLemmas.{split_at, distinct_around, contains_around}
-use Rattle.tg_graph.specs.Rules.{labelled}
 
 -- What is held at an index, and after a slot was set.
 from_at : (p : Progress) (k j i : ℕ) (os : List (Option Spot)) → j ≡ k + i → get_or (kept_from p k os) i None ≡ seen p j (get_or os i None)
@@ -55,15 +53,6 @@ from_same p q k (o ∷ os) (x ∷ ps) l e =
 pub held_same : (v w : Stored) → length w.slots ≡ length v.slots → ((i : ℕ) → readings.kept w i ≡ readings.kept v i) → (next : ℕ) → held w next ≡ held v next
 held_same v w size e next = ap (λ os. graph.held os next) (from_same (progress w) (progress v) 0 w.slots v.slots size (λ i. let z : 0 + i ≡ i = omega arith in subst (λ (n : ℕ). seen (progress w) n (get_or w.slots i None) ≡ seen (progress v) n (get_or v.slots i None)) (sym z) (e i)))
 
--- Bits of a conjunction.
-both : (a b : Bool) → (a && b) ≡ true → (a ≡ true) × (b ≡ true)
-both true b e = (refl, e)
-both false b e = absurd (cc)
-
-either : (a b : Bool) → (a || b) ≡ true → (a ≡ true) ⊎ (b ≡ true)
-either true b e = inl refl
-either false b e = inr e
-
 -- A triple is a right of some edge of some slot.
 pub record Owns (os : List (Option Kept)) (t : Triple) : Type 0 where
   pub at : ℕ
@@ -77,17 +66,17 @@ pub record Owns (os : List (Option Kept)) (t : Triple) : Type 0 where
 
 edge_says : (es : List Edge) (t : Triple) → says_edge es t ≡ true → (e : Edge) × Contains es e × (t.to ≡ e.serial) × (has e.rights t.right ≡ true)
 edge_says [] t h = absurd (cc)
-edge_says (e ∷ es) t h = elim (either ((t.to == e.serial) && has e.rights t.right) (says_edge es t) h) [
-  | inl here ↦ (let b = both (t.to == e.serial) (has e.rights t.right) here in (e, inl refl, eqb-true t.to e.serial b.0, b.1))
+edge_says (e ∷ es) t h = elim (or_either ((t.to == e.serial) && has e.rights t.right) (says_edge es t) h) [
+  | inl here ↦ (let b = and_both (t.to == e.serial) (has e.rights t.right) here in (e, inl refl, eqb-true t.to e.serial b.0, b.1))
   | inr there ↦ (let r = edge_says es t there in (r.0, inr r.1, r.2, r.3))
 ]
 
 slot_says : (os : List (Option Kept)) (t : Triple) → says os t ≡ true → Owns os t
 slot_says [] t h = absurd (cc)
 slot_says (None ∷ os) t h = let r = slot_says os t h in record { at = suc r.at; kept = r.kept; is = r.is; edge = r.edge; owned = r.owned; from = r.from; to = r.to; right = r.right }
-slot_says (Some k ∷ os) t h = elim (either ((t.from == k.serial) && says_edge k.edges t) (says os t) h) [
+slot_says (Some k ∷ os) t h = elim (or_either ((t.from == k.serial) && says_edge k.edges t) (says os t) h) [
   | inl here ↦ (
-      let b = both (t.from == k.serial) (says_edge k.edges t) here in
+      let b = and_both (t.from == k.serial) (says_edge k.edges t) here in
       let e = edge_says k.edges t b.1 in
       record { at = 0; kept = k; is = refl; edge = e.0; owned = e.1; from = eqb-true t.from k.serial b.0; to = e.2; right = e.3 })
   | inr there ↦ (let r = slot_says os t there in record { at = suc r.at; kept = r.kept; is = r.is; edge = r.edge; owned = r.owned; from = r.from; to = r.to; right = r.right })
@@ -96,20 +85,14 @@ slot_says (Some k ∷ os) t h = elim (either ((t.from == k.serial) && says_edge 
 says_it : (es : List Edge) (e : Edge) (x : ℕ) (r : Right) → Contains es e → has e.rights r ≡ true → says_edge es (record { from = x; right = r; to = e.serial }) ≡ true
 says_it [] e x r c h = absurd c
 says_it (d ∷ es) e x r (inl is) h = rw (sym is, eq-eqb e.serial e.serial refl, h) refl
-says_it (d ∷ es) e x r (inr c) h = rw (says_it es e x r c h) (or_true ((e.serial == d.serial) && has d.rights r)) where
-  or_true : (b : Bool) → (b || true) ≡ true
-  or_true true = refl
-  or_true false = refl
+says_it (d ∷ es) e x r (inr c) h = or_right _ _ (says_it es e x r c h)
 
 slot_says_it : (os : List (Option Kept)) (i : ℕ) (k : Kept) (e : Edge) (r : Right) → get_or os i None ≡ Some k → Contains k.edges e → has e.rights r ≡ true → says os (record { from = k.serial; right = r; to = e.serial }) ≡ true
 slot_says_it [] i k e r is c h = absurd (cc)
 slot_says_it (None ∷ os) zero k e r is c h = absurd (cc)
 slot_says_it (None ∷ os) (suc i) k e r is c h = slot_says_it os i k e r is c h
 slot_says_it (Some j ∷ os) zero k e r is c h = let same : j ≡ k = cc in rw (same, eq-eqb k.serial k.serial refl, says_it k.edges e k.serial r c h) refl
-slot_says_it (Some j ∷ os) (suc i) k e r is c h = rw (slot_says_it os i k e r is c h) (or_true ((k.serial == j.serial) && says_edge j.edges (record { from = k.serial; right = r; to = e.serial }))) where
-  or_true : (b : Bool) → (b || true) ≡ true
-  or_true true = refl
-  or_true false = refl
+slot_says_it (Some j ∷ os) (suc i) k e r is c h = or_right _ _ (slot_says_it os i k e r is c h)
 
 pub triple_owned : (v : Stored) (t : Triple) → finset.contains (triples v) t ≡ true → Owns (kept_from (progress v) 0 v.slots) t
 triple_owned v t h = slot_says (kept_from (progress v) 0 v.slots) t (sym (contains-held (kept_from (progress v) 0 v.slots) 0 t) ∙ h)
@@ -185,7 +168,10 @@ same_sum f (x ∷ xs) ys d e to from =
     let s = split_at ys x (to x (inl refl)) in
     let around = distinct_around s.before s.after x (subst Distinct s.is e) in
     let rest = same_sum f xs (s.before ++ s.after) d.1 around.0
-    (λ z h. left s.before s.after x z (λ is. d.0 (subst (Contains xs) is h)) (subst (λ (l : List _). Contains l z) s.is (to z (inr h))))
+    (λ z h. elim (contains_append s.before (x ∷ s.after) z (subst (λ (l : List _). Contains l z) s.is (to z (inr h)))) [
+      | inl a ↦ contains_left s.before s.after z a
+      | inr b ↦ elim b [ inl is ↦ absurd (d.0 (subst (Contains xs) is h)) | inr c ↦ contains_right s.before s.after z c ]
+    ])
     (λ z h. elim (from z (subst (λ (l : List _). Contains l z) (sym s.is) (contains_around s.before s.after x z h))) [
       | inl is ↦ absurd (around.1 (subst (Contains (s.before ++ s.after)) is h))
       | inr later ↦ later
@@ -196,12 +182,6 @@ same_sum f (x ∷ xs) ys d e to from =
     let d' = sum_by-cons f x xs in
     let g : sum_by f ys ≡ sum_by f (s.before ++ x ∷ s.after) = ap (sum_by f) s.is in
     omega (arith, rest, a, b, c, d', g)
-  where
-    left : {X : Type 0} (p r : List X) (x z : X) → (z ≡ x → ⊥) → Contains (p ++ x ∷ r) z → Contains (p ++ r) z
-    left {X = X} [] r x z n (inl is) = absurd (n is)
-    left {X = X} [] r x z n (inr h) = h
-    left {X = X} (y ∷ p) r x z n (inl is) = inl is
-    left {X = X} (y ∷ p) r x z n (inr h) = inr (left p r x z n h)
 
 ones : {X : Type 0} (xs : List X) → sum_by (λ x. 1) xs ≡ length xs
 ones [] = refl
@@ -210,78 +190,17 @@ ones (x ∷ xs) = (let a = sum_by-cons (λ (y : _). 1) x xs in let b = ones xs i
 pub same_length : {X : Type 0} (xs ys : List X) → Distinct xs → Distinct ys → ((x : X) → Contains xs x → Contains ys x) → ((x : X) → Contains ys x → Contains xs x) → length xs ≡ length ys
 same_length xs ys d e to from = sym (ones xs) ∙ same_sum (λ x. 1) xs ys d e to from ∙ ones ys
 
--- The keys of a map occur once.
-both_true : (a b : Bool) → T (a && b) → T a × T b
-both_true true b t = (tt, t)
-both_true false b t = absurd t
-
-own_less : (x : ℕ) → is_lt (nat_cmp x x) ≡ true → ⊥
-own_less x e = by (nat_cmp x x) (key_same x x refl) e where
-  by : (o : Ordering) → (elim o [ Less ↦ false | Equal ↦ true | Greater ↦ false ]) ≡ true → is_lt o ≡ true → ⊥
-  by Less a b = cc
-  by Equal a b = cc
-  by Greater a b = cc
-
-truth : (b : Bool) → T b → b ≡ true
-truth true t = refl
-truth false t = absurd t
-
-above : {X : Type 0} (x : ℕ) (es : List (ℕ × X)) → T (below_all nat_cmp x es) → Contains (map (λ e. e.0) es) x → ⊥
-above x [] t h = h
-above x (e ∷ es) t (inl is) = own_less x (truth _ (subst (λ (k : ℕ). T (is_lt (nat_cmp x k))) (sym is) (both_true _ _ t).0))
-above x (e ∷ es) t (inr h) = above x es (both_true _ _ t).1 h
-
-once_sorted : {X : Type 0} (es : List (ℕ × X)) → T (finmap.is_sorted nat_cmp es) → Distinct (map (λ e. e.0) es)
-once_sorted [] t = tt
-once_sorted (e ∷ es) t = let p = both_true _ _ t in (above e.0 es p.0, once_sorted es p.1)
-
-pub keys_once : {X : Type 0} (m : finmap.FinMap nat_cmp X) → Distinct (finmap.keys m)
-keys_once m = once_sorted (finmap.entries m) (finmap.entries_sorted m)
-
+-- The keys of a map.
 any_key : (ks : List ℕ) (x : ℕ) → list_any (eq_by_cmp nat_cmp x) ks ≡ true → Contains ks x
 any_key [] x t = absurd (cc)
-any_key (k ∷ ks) x t = elim (eq_by_cmp nat_cmp x k) as (λ b. eq_by_cmp nat_cmp x k ≡ b → (b || list_any (eq_by_cmp nat_cmp x) ks) ≡ true → Contains (k ∷ ks) x) [
-  | true ↦ λ e u. inl (same_key x k e)
-  | false ↦ λ e u. inr (any_key ks x u)
-] refl t
+any_key (k ∷ ks) x t = elim (or_either _ _ t) [ inl e ↦ inl (same_key x k e) | inr u ↦ inr (any_key ks x u) ]
 
 key_any : (ks : List ℕ) (x : ℕ) → Contains ks x → list_any (eq_by_cmp nat_cmp x) ks ≡ true
 key_any [] x h = absurd h
-key_any (k ∷ ks) x (inl e) = rw (key_same x k e) refl
-key_any (k ∷ ks) x (inr h) = elim (eq_by_cmp nat_cmp x k) as (λ b. (b || list_any (eq_by_cmp nat_cmp x) ks) ≡ true) [
-  | true ↦ refl
-  | false ↦ key_any ks x h
-]
+key_any (k ∷ ks) x h = or_join _ _ (elim h [ inl e ↦ inl (key_same x k e) | inr r ↦ inr (key_any ks x r) ])
 
 pub contains_keys : {X : Type 0} (m : finmap.FinMap nat_cmp X) (x : ℕ) → finmap.contains_key m x ≡ true → Contains (finmap.keys m) x
 contains_keys m x t = any_key (finmap.keys m) x (sym (contains_key-keys m x) ∙ t)
 
 pub keys_contains : {X : Type 0} (m : finmap.FinMap nat_cmp X) (x : ℕ) → Contains (finmap.keys m) x → finmap.contains_key m x ≡ true
 keys_contains m x h = contains_key-keys m x ∙ key_any (finmap.keys m) x h
-
--- The vertices that a list of labels has.
-pub labelled_contains : (l : ℕ → Letters) (ks : List ℕ) (y : ℕ) → Contains (map (λ e. e.0) (labelled l ks)) y → Contains ks y × (is_none (l y) ≡ false)
-labelled_contains l [] y h = absurd h
-labelled_contains l (k ∷ ks) y h = by (is_none (l k)) refl h (labelled_contains l ks y) where
-  by : (b : Bool) → is_none (l k) ≡ b → Contains (map (λ e. e.0) (cond b (labelled l ks) ((k, l k) ∷ labelled l ks))) y
-      → (Contains (map (λ e. e.0) (labelled l ks)) y → Contains ks y × (is_none (l y) ≡ false)) → Contains (k ∷ ks) y × (is_none (l y) ≡ false)
-  by true e h rest = let r = rest h in (inr r.0, r.1)
-  by false e (inl is) rest = (inl is, ap (λ (z : ℕ). is_none (l z)) is ∙ e)
-  by false e (inr h) rest = let r = rest h in (inr r.0, r.1)
-
-pub contains_labelled : (l : ℕ → Letters) (ks : List ℕ) (y : ℕ) → Contains ks y → is_none (l y) ≡ false → Contains (map (λ e. e.0) (labelled l ks)) y
-contains_labelled l [] y h some = absurd h
-contains_labelled l (k ∷ ks) y h some = by (is_none (l k)) refl h (contains_labelled l ks y) where
-  by : (b : Bool) → is_none (l k) ≡ b → Contains (k ∷ ks) y → (Contains ks y → is_none (l y) ≡ false → Contains (map (λ e. e.0) (labelled l ks)) y)
-      → Contains (map (λ e. e.0) (cond b (labelled l ks) ((k, l k) ∷ labelled l ks))) y
-  by true e (inl is) rest = absurd (let a = ap (λ (z : ℕ). is_none (l z)) is ∙ e in let u : true ≡ false = sym a ∙ some in cc)
-  by true e (inr h) rest = rest h some
-  by false e (inl is) rest = inl is
-  by false e (inr h) rest = inr (rest h some)
-
-pub labelled_once : (l : ℕ → Letters) (ks : List ℕ) → Distinct ks → Distinct (map (λ e. e.0) (labelled l ks))
-labelled_once l [] d = tt
-labelled_once l (k ∷ ks) d = by (is_none (l k)) (labelled_once l ks d.1) (λ h. d.0 (labelled_contains l ks k h).0) where
-  by : (b : Bool) → Distinct (map (λ e. e.0) (labelled l ks)) → (Contains (map (λ e. e.0) (labelled l ks)) k → ⊥) → Distinct (map (λ e. e.0) (cond b (labelled l ks) ((k, l k) ∷ labelled l ks)))
-  by true r n = r
-  by false r n = (n, r)

@@ -3,14 +3,14 @@ use Rattle.std.proofs.Common.{◌≡◌, ◌≢◌, ℕ, zero, suc, List, [], �
 use Rattle.tg_collect.proofs.Common.{Occupant, Colour, White, Grey, Black, Table, Free, Has, slot, Edge, HeapGraph, edges, mark_at, shaded, Spot, mark, mark_of, put, shade, RootLists, bare, body_of, length-map, Contains, Body, Kept, seen, HasRoot, at_within, Root, Machine, IsListed, lists_of, slot_of, slots_of, body, progress_of, Whole, sum_by-cons, Distinct, IsHeap, total, Kind, new_colour, Progress, Idle, Marking, Sweeping, progress_in, Puts}
 use Rattle.tg_slots.specs.Table as table
 use Rattle.tg_marking.specs.Values as values
+use Rattle.std.proofs.lemmas.List.{set-set}
+use Rattle.tg_rights.proofs.MembershipLemmas.{contains_left, contains_right, contains_append}
 use Rattle.tg_slots.specs.Table.{Mark, coloured, if_free}
 use Rattle.tg_heap.specs.Graph.{shaded_by, painted}
 use Rattle.tg_marking.specs.Values.{spot, out, edges_of, kept, IsRoot}
 use Rattle.tg_marking.specs.Steps.{shade_spot, shade_in}
-use Rattle.tg_collect.specs.Machine.{join, zip, all_slots, NoneWhite, ShadesFirst, all_shaded, with_shaded, AreWithin, agent_slots, principal_slots}
-use Rattle.tg_rights.proofs.MembershipLemmas.{contains_left, contains_right, contains_append}
 use Rattle.tg_marking.specs.Left.{free_one, Celled}
-use Rattle.std.proofs.lemmas.List.{set-set}
+use Rattle.tg_collect.specs.Machine.{join, zip, all_slots, NoneWhite, ShadesFirst, all_shaded, with_shaded, AreWithin, agent_slots, principal_slots}
 use Rattle.tg_collect.specs.Calls.{has_passed, colour_ahead}
 
 pub zip_at : (os : List (Option Occupant)) (ls : List (List Edge)) (i : ℕ) → get_or (zip os ls) i None ≡ join (get_or os i None) (get_or ls i [])

@@ -7,22 +7,22 @@ use Rattle.tg_collect.specs.Readings as readings
 use Rattle.std.specs.FinMap as finmap
 use Rattle.tg_rights.specs.Letters as right
 use Rattle.tg_slots.specs.Table as table
+use Rattle.std.specs.Option.{unwrap_or, option_map}
+use Rattle.tg_rights.specs.Letters.{none, includes, read, write, take, grant}
+use Rattle.tg_rights.proofs.MembershipLemmas.{same_by, split_at}
+use Rattle.tg_rights.proofs.LettersLemmas.{right_some}
+use Rattle.tg_graph.specs.Protection.{label, IsEdge}
+use Rattle.tg_graph.specs.Paths.{Leads, Live}
+use Rattle.tg_slots.specs.Table.{in_slot}
 use Rattle.tg_marking.specs.Values.{Progress, Marking, Sweeping, edges_of}
 use Rattle.tg_marking.specs.Invariant.{Closed, Phased, IsLive, at_root, along}
 use Rattle.tg_marking.proofs.MoveLemmas.{closed_same}
+use Rattle.tg_marking.specs.Runs.{IsLiveIn}
 use Rattle.tg_collect.specs.Readings.{IsRootIn, IsRootAt, serial_at, principals}
 use Rattle.tg_collect.proofs.SlotLemmas.{listed_root, zip_at, zip_size, as_spot, kept_within, root_listed}
 use Rattle.tg_collect.proofs.LineLemmas.{kept_so}
 use Rattle.tg_collect.proofs.ShownLemmas.{Once, triple_owned, held_at, held_kept, kept_held, place_kept, vertex_found, says_triple, edge_shown, shown_edge}
-use Rattle.std.specs.Option.{unwrap_or, option_map}
-use Rattle.tg_rights.specs.Letters.{none, includes, read, write, take, grant}
-use Rattle.tg_rights.proofs.MembershipLemmas.{same_by, split_at}
-use Rattle.tg_graph.specs.Protection.{label, IsEdge}
-use Rattle.tg_slots.specs.Table.{in_slot}
 use Rattle.tg_collect.specs.Machine.{join}
-use Rattle.tg_rights.proofs.LettersLemmas.{right_some}
-use Rattle.tg_graph.specs.Paths.{Leads, Live}
-use Rattle.tg_marking.specs.Runs.{IsLiveIn}
 
 -- What is held has the slot's serial, and is the slot's vertex.
 pub kept_is : (p : Progress) (i : ℕ) (o : Option Spot) (k : Kept) → seen p i o ≡ Some k → (s : Spot) × (o ≡ Some s) × (values.keeps p i s.colour ≡ true) × (as_kept s ≡ k)
@@ -269,7 +269,7 @@ idle_seat m seat e = by (get_or m.roots.targets.items seat None) (sym (seat_show
   by None e = refl
   by (Some r) e = absurd (cc)
 
-at_index : {X : Type 0} (xs : List X) (k : ℕ) (d : X) → k < length xs → Contains xs (get_or xs k d)
+pub at_index : {X : Type 0} (xs : List X) (k : ℕ) (d : X) → k < length xs → Contains xs (get_or xs k d)
 at_index [] k d b = absurd (omega (arith, b))
 at_index (x ∷ xs) zero d b = inl refl
 at_index (x ∷ xs) (suc k) d b = inr (at_index xs k d (omega (arith, b)))
