@@ -1,6 +1,6 @@
 -- What the calls that add an edge, and a vertex with its edge, do to a store.
-use Rattle.std.proofs.Common.{◌≡◌, ◌≢◌, ℕ, zero, suc, ◌<◌, List, [], ◌∷◌, length, Option, Some, None, Result, Ok, Err, true, false, sym, ◌∙◌, subst, ap, refl, arith, get_or, ◌+◌, ◌++◌, ◌⊎◌, inl, inr, Bool, cond, eqb, ◌&&◌, set, get_or-set_same, get_or-set_other}
-use Rattle.tg_collect.proofs.Common.{is_some, length-map, SEATS, Letters, is_none, Contains, Occupant, IsHeap, IsAdded, Kept, Root, Machine, slots_of, slot_of, lists_of, bare, Whole, stored, place, pending_of, IsEdgeIn, EdgeStored, Distinct, contains_middle, contains_map, edge, Edge, first_cell, Found, HeapGraph, edges, at_within, Progress, Idle, Marking, Sweeping, progress_in, Stored, as_progress, kept, kept_from, progress, held, Leads, RightsRemoved, Body, name, name_of, put, put_each, vertex_of, comes, body, progress_of, TextReplaced, Kind, Protection, Free, slot, HasNone, mark_at, new_colour, gains, with_target, body_of, Puts, spot, serial_of, IsHeldIn, IsParkedIn, VertexStored}
+use Rattle.std.proofs.Common.{◌≡◌, ◌≢◌, ℕ, ◌<◌, List, [], ◌∷◌, length, Option, Some, None, Result, Ok, Err, true, false, sym, ◌∙◌, subst, ap, refl, arith, get_or, ◌+◌, ◌++◌, ◌⊎◌, inl, inr, Bool, cond, eqb, ◌&&◌, set, get_or-set_same, get_or-set_other}
+use Rattle.tg_collect.proofs.Common.{is_some, length-map, SEATS, Letters, is_none, Contains, Occupant, IsHeap, IsAdded, Kept, Root, Machine, slot_of, lists_of, bare, Whole, stored, place, pending_of, IsEdgeIn, EdgeStored, Distinct, contains_middle, contains_map, edge, Edge, first_cell, Found, HeapGraph, edges, at_within, Progress, Idle, Marking, Sweeping, progress_in, Stored, as_progress, kept, kept_from, progress, held, Leads, RightsRemoved, Body, name, name_of, put, put_each, vertex_of, comes, body, progress_of, TextReplaced, Kind, Protection, Free, slot, HasNone, mark_at, new_colour, gains, with_target, body_of, Puts, spot, serial_of, IsHeldIn, IsParkedIn, VertexStored}
 use Rattle.tg_heap.specs.declared.heap.HeapFull.TheVariants as full
 use Rattle.std.specs.FinSet as finset
 use Rattle.tg_marking.specs.Values as values
@@ -27,17 +27,12 @@ use Rattle.tg_collect.specs.Calls.{Adds, is_at, progress_without, progress_dropp
 use Rattle.tg_collect.specs.Readings.{serial_at}
 use Rattle.tg_collect.proofs.StoreLemmas.{once_stored, Holds, holds, owned_here, idle_seat, stored_kept, closed_so, placed_mark, found_contains}
 use Rattle.tg_collect.proofs.EdgeLemmas.{added, relabels, leaves, Replaced, replaced_drops, regarded, regarded_at, still_leads, fewer_lead, puts_progress, replaced_puts}
-use Rattle.tg_collect.proofs.SlotLemmas.{as_spot, at_slot, put_slot, at_free, free_so}
+use Rattle.tg_collect.proofs.SlotLemmas.{as_spot, at_slot, put_slot, at_free, free_so, slots_at}
 use Rattle.tg_collect.proofs.ShownLemmas.{Once, held_at, held_set, edge_shown, vertex_found, kept_held}
 use Rattle.tg_collect.proofs.SeatLemmas.{same_stage, roots_move, same_progress, same_cursor, stored_is, bare_seat, placed_whole, placed_left, placed_is, placed_graph, placed_other, placed_here, new_same}
 
-seat_none : (xs : List (Option Root)) (k : ℕ) → get_or xs k None ≡ None → get_or (slots_of xs) k None ≡ None
-seat_none [] k e = refl
-seat_none (x ∷ xs) zero e = ap slot_of e
-seat_none (x ∷ xs) (suc k) e = seat_none xs k e
-
 pub idle_slot : (m : Machine) (seat : ℕ) → pending_of (stored m) seat ≡ None → get_or (bare (lists_of m.roots)).targets seat None ≡ None
-idle_slot m seat e = seat_none m.roots.targets.items seat (idle_seat m seat e)
+idle_slot m seat e = slots_at m.roots.targets.items seat ∙ ap slot_of (idle_seat m seat e)
 
 pub seat_inside : (m : Machine) (seat : ℕ) → Whole m → seat < SEATS → seat < length (bare (lists_of m.roots)).targets
 seat_inside m seat w l = let z = length-map m.roots.targets.items (λ o. slot_of o) in let s = w.roots.seats in omega (arith, l, z, s)

@@ -29,9 +29,9 @@ use Rattle.tg_marking.specs.Values.{Progress, Marking, Sweeping}
 use Rattle.tg_marking.proofs.LeftLemmas.{left_most}
 use Rattle.tg_marking.proofs.CountLemmas.{counted}
 use Rattle.tg_collect.specs.Readings.{IsRootAt}
-use Rattle.tg_collect.proofs.SlotLemmas.{total_list, total_same, out_all, cells_so, celled}
+use Rattle.tg_collect.proofs.SlotLemmas.{contains_mapped, total_list, total_same, out_all, cells_so, celled}
 use Rattle.tg_collect.proofs.ShownLemmas.{Once, held_at, held_kept, kept_held, from_size, same_sum, same_length, contains_keys, keys_contains, place_kept}
-use Rattle.tg_collect.proofs.StoreLemmas.{at_index, label_edge, kept_is, closed_so, named_so, once_stored, no_black, swept_so, from_held, to_held, distinct, root_in, apart_so, edge_in, owned_here, contains_mapped}
+use Rattle.tg_collect.proofs.StoreLemmas.{at_index, label_edge, kept_is, closed_so, named_so, once_stored, no_black, swept_so, from_held, to_held, distinct, root_in, apart_so, edge_in, owned_here}
 
 below_sum : (xs : List ℕ) (x : ℕ) → Contains xs x → x ≤ sum_by (λ y. y) xs
 below_sum [] x h = absurd h

@@ -1,6 +1,6 @@
 -- Each step of the machine is a line of the table.
-use Rattle.std.proofs.Common.{◌≡◌, ℕ, ◌+◌, ◌<◌, ◌≤◌, List, [], ◌∷◌, ◌++◌, length, map, Option, Some, None, Bool, true, false, sym, ◌∙◌, subst, ap, refl, arith, set, eq-eqb, ◌≢◌, ◌⊎◌, inl, inr, length-append}
-use Rattle.tg_collect.proofs.Common.{Contains, Distinct, White, Grey, Black, Table, Free, Has, slot, Edge, first_cell, HeapGraph, edges, mark_at, shaded, IsHeap, remaining, Spot, Body, mark, shade, Machine, RootLists, lists_of, bare, body_of, body, progress_in, progress_of, CursorFits, Whole, length-map, SEATS, AtRest, Kept, mark_of, name_of, seen, put, left, put_each, at_within, Root, IsListed, slot_of, slots_of, stored, as_progress}
+use Rattle.std.proofs.Common.{◌≡◌, ℕ, ◌+◌, ◌<◌, ◌≤◌, List, [], ◌∷◌, ◌++◌, length, map, Option, Some, None, Bool, true, false, sym, ◌∙◌, subst, ap, refl, arith, set, eq-eqb, ◌≢◌, ◌⊎◌, inl, inr}
+use Rattle.tg_collect.proofs.Common.{Contains, Distinct, White, Grey, Black, Table, Free, Has, slot, Edge, first_cell, HeapGraph, edges, mark_at, shaded, IsHeap, remaining, Spot, Body, mark, shade, Machine, RootLists, lists_of, body_of, body, progress_in, progress_of, CursorFits, Whole, SEATS, AtRest, Kept, mark_of, name_of, seen, put, left, put_each, at_within, IsListed, stored, as_progress}
 use Rattle.tg_slots.specs.Table as table
 use Rattle.tg_marking.specs.Values as values
 use Rattle.tg_collect.specs.declared.machine.Progress.TheVariants as course
@@ -20,8 +20,8 @@ use Rattle.tg_marking.specs.Collected.{Turns, stays, greys, Follows, begins, mar
 use Rattle.tg_marking.proofs.SpotLemmas.{shade_each}
 use Rattle.tg_marking.proofs.KeepLemmas.{line_keeps, line_collected}
 use Rattle.tg_marking.proofs.LeftLemmas.{bounded}
-use Rattle.tg_collect.specs.Machine.{Steps, NoneWhite, ShadesFirst, shaded_slot, all_shaded, with_shaded, agent_slots, principal_slots, all_slots}
-use Rattle.tg_collect.proofs.SlotLemmas.{zip_size, at_slot, at_free, coloured_so, mark_so, out_so, put_slot, put_list, painted_so, shaded_so, listed_root, celled, free_so}
+use Rattle.tg_collect.specs.Machine.{Steps, NoneWhite, ShadesFirst, shaded_slot, all_shaded, with_shaded, other_slots}
+use Rattle.tg_collect.proofs.SlotLemmas.{other_count, zip_size, at_slot, at_free, coloured_so, mark_so, out_so, put_slot, put_list, painted_so, shaded_so, listed_root, celled, free_so}
 use Rattle.tg_collect.specs.Readings.{phase_in}
 use Rattle.tg_collect.specs.Views.{Collected, most_marks}
 use Rattle.tg_collect.proofs.ShownLemmas.{held_same}
@@ -181,11 +181,9 @@ all_so h rs [] = refl
 all_so h rs (None ∷ xs) = all_so h rs xs
 all_so h rs (Some i ∷ xs) = shaded_so (record h { table = all_shaded xs h.table }) rs i ∙ ap (λ (b : Body). shade b i) (all_so h rs xs)
 
-pub step_starts : (m : Machine) → m.progress ≡ course.Idle
-    → Steps m (record (with_shaded (with_shaded m (agent_slots m.roots)) (principal_slots m.roots)) { progress = course.Marking None }) 0 false
-step_starts m at = subst (λ (t : Table). Steps m (record m { heap = record m.heap { table = t }; progress = course.Marking None }) 0 false) (all_shaded_append (principal_slots m.roots) (agent_slots m.roots) m.heap.table)
-    (step_of m _ _ _ 0 false at (subst (λ (b : Body). Line (body m) values.AtRest b (values.Marking None) 0 false) (sym (all_so m.heap (lists_of m.roots) (bare (lists_of m.roots)).others)) starts)
-    tt refl (let f = ap length (all_free (bare (lists_of m.roots)).others m.heap.table) in omega (arith, f)) (same_cells m.heap.free_cells))
+pub step_starts : (m : Machine) → m.progress ≡ course.Idle → Steps m (record (with_shaded m (other_slots m.roots)) { progress = course.Marking None }) 0 false
+step_starts m at = step_of m _ _ _ 0 false at (subst (λ (b : Body). Line (body m) values.AtRest b (values.Marking None) 0 false) (sym (all_so m.heap (lists_of m.roots) (other_slots m.roots))) starts)
+    tt refl (let f = ap length (all_free (other_slots m.roots) m.heap.table) in omega (arith, f)) (same_cells m.heap.free_cells)
 
 -- What a collector step leaves, and what contracts see of it.
 -- The slot before the sweep is not grey.
@@ -372,13 +370,7 @@ collected m n freed ended s ok ok' w = record {
   stay = line_marks (body m) (body n) (progress_of m) (progress_of n) freed ended s.line
 
   few_roots : length (body m).roots.others ≤ MAX_PRINCIPALS + SEATS
-  few_roots =
-      let a = length-append (all_slots m.roots.principals.items) (slots_of m.roots.agents.items) in
-      let p = length-map m.roots.principals.items (λ (r : Root). Some r.slot) in
-      let g = length-map m.roots.agents.items (λ o. slot_of o) in
-      let few = w.roots.few in
-      let seats = w.roots.agents in
-      omega (arith, a, p, g, few, seats)
+  few_roots = let a = other_count m.roots in let few = w.roots.few in let seats = w.roots.agents in omega (arith, a, few, seats)
 
   most : (p : Progress) {k : ℕ} → k ≤ most_at p (body m).roots.others → k ≤ most_marks (phase_in (values.shown p))
   most AtRest l = omega (arith, l, few_roots)

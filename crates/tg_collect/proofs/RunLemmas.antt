@@ -20,9 +20,9 @@ use Rattle.tg_marking.specs.Left.{free_one}
 use Rattle.tg_collect.specs.Readings.{phase_in, slot_count, cycle_bound, IsRootIn, phase, name, principals, pending, agents, free_slots}
 use Rattle.tg_collect.specs.Sessions.{Changes, Acted, Shaded}
 use Rattle.tg_collect.specs.Runs.{StoreRun, start, acts, goes, ends, IsComplete, IsBounded}
-use Rattle.tg_collect.proofs.SlotLemmas.{root_listed}
+use Rattle.tg_collect.proofs.SlotLemmas.{contains_mapped, root_listed}
 use Rattle.tg_collect.proofs.ShownLemmas.{held_kept, kept_held, place_kept, Once, held_at, held_same, says_triple, triple_owned, vertex_found}
-use Rattle.tg_collect.proofs.StoreLemmas.{kept_is, once_so, in_root, contains_mapped, live_slots, slots_live, root_live, same_truth, edge_in}
+use Rattle.tg_collect.proofs.StoreLemmas.{kept_is, once_so, in_root, live_slots, slots_live, root_live, same_truth, edge_in}
 use Rattle.tg_collect.specs.declared.note.Phase.TheVariants.{Idle}
 use Rattle.tg_collect.specs.Views.{Collected}
 use Rattle.tg_collect.specs.Openings.{Opened}

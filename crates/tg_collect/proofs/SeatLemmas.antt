@@ -1,12 +1,13 @@
 -- A seat's target comes or goes, and slots are shaded.
 use Rattle.std.proofs.Common.{◌≡◌, ℕ, zero, suc, ◌<◌, ◌≤◌, List, [], ◌∷◌, length, Option, Some, None, ◌⊎◌, inl, inr, sym, ◌∙◌, subst, ap, refl, get_or, set, length-set, get_or-set_same, ◌≢◌, Bool, true, false, cond, nat_lt, arith, get_or-set_other, map}
-use Rattle.tg_collect.proofs.Common.{Contains, Colour, White, Grey, Black, HeapGraph, shaded, remaining, first_cell, Spot, Body, HasRoot, Kept, name, shade, left, Root, Roots, Progress, Idle, Marking, Sweeping, Machine, RootLists, IsListed, with_target, lists_of, slot_of, slots_of, bare, body, progress_in, progress_of, CursorFits, Whole, stored, shown, root_serial, Kind, Free, mark_at, IsHeap, name_of, seen, as_kept, put, new_colour, comes, Stored, as_progress, kept, kept_from, progress, held, IsHeldIn, IsParkedIn, Letters, contains_map, Edge, put_each, at_within, EdgeStored, VertexStored, RightsRemoved, TextReplaced}
+use Rattle.tg_collect.proofs.Common.{Contains, Colour, White, Grey, Black, HeapGraph, shaded, remaining, first_cell, Spot, Body, HasRoot, Kept, name, shade, left, Root, Roots, Progress, Idle, Marking, Sweeping, Machine, RootLists, IsListed, with_target, lists_of, slot_of, bare, body, progress_in, progress_of, CursorFits, Whole, stored, shown, root_serial, Kind, Free, mark_at, IsHeap, name_of, seen, as_kept, put, new_colour, comes, Stored, as_progress, kept, kept_from, progress, held, IsHeldIn, IsParkedIn, Letters, contains_map, Edge, put_each, at_within, EdgeStored, VertexStored, RightsRemoved, TextReplaced}
 use Rattle.tg_marking.specs.Values as values
 use Rattle.tg_marking.specs.Steps as steps
 use Rattle.std.specs.FinMap as finmap
 use Rattle.tg_held.specs.Held as graph
 use Rattle.tg_collect.specs.Sessions as sessions
 use Rattle.tg_collect.specs.Readings as readings
+use Rattle.std.proofs.lemmas.List.{map-set}
 use Rattle.tg_marking.specs.Values.{spot, keeps}
 use Rattle.tg_marking.specs.Steps.{shade_spot, shade_in, Reroots, ShadesTarget, Places}
 use Rattle.tg_marking.proofs.MoveLemmas.{shade_name, shade_kept}
@@ -23,13 +24,8 @@ use Rattle.tg_collect.proofs.ShownLemmas.{held_same, held_at, held_set, from_siz
 use Rattle.tg_collect.specs.Readings.{pending}
 
 -- The slots of a seat's new target.
-slots_set : (xs : List (Option Root)) (k : ℕ) (x : Option Root) → slots_of (set xs k x) ≡ set (slots_of xs) k (slot_of x)
-slots_set [] k x = refl
-slots_set (y ∷ xs) zero x = refl
-slots_set (y ∷ xs) (suc k) x = ap (λ zs. slot_of y ∷ zs) (slots_set xs k x)
-
 pub bare_seat : (rs : RootLists) (seat : ℕ) (x : Option Root) → bare (with_target rs seat x) ≡ steps.with_target (bare rs) seat (slot_of x)
-bare_seat rs seat x = λ n. record { targets = slots_set rs.targets seat x n; others = (bare rs).others }
+bare_seat rs seat x = λ n. record { targets = map-set (λ o. slot_of o) rs.targets seat x n; others = (bare rs).others }
 
 -- Who is in a list after a place was set.
 pub set_only : {X : Type 0} (xs : List X) (k : ℕ) (v z : X) → Contains (set xs k v) z → Contains xs z ⊎ (v ≡ z)
@@ -287,13 +283,8 @@ acted_same v w is = subst (λ (z : Stored). Acted v z None None) (sym is)
     (record { stage = refl; principals = refl; agents = refl; pending = λ x h. inl h; slots = refl; changes = λ i. sessions.same (readings.spot v i); cells = refl; left = omega arith })
 
 -- The targets after a seat's was set.
-seats_set : (xs : List (Option Root)) (k : ℕ) (x : Option Root) → map (λ o. root_serial o) (set xs k x) ≡ set (map (λ o. root_serial o) xs) k (root_serial x)
-seats_set [] k x = refl
-seats_set (y ∷ xs) zero x = refl
-seats_set (y ∷ xs) (suc k) x = ap (λ zs. root_serial y ∷ zs) (seats_set xs k x)
-
 pending_set : (v : Stored) (seat : ℕ) (t : Option Root) (x : ℕ) → Contains (map (λ o. root_serial o) (set v.roots.targets seat t)) (Some x) → Contains (pending v) (Some x) ⊎ (root_serial t ≡ Some x)
-pending_set v seat t x h = set_only (pending v) seat (root_serial t) (Some x) (subst (λ l. Contains l (Some x)) (seats_set v.roots.targets seat t) h)
+pending_set v seat t x h = set_only (pending v) seat (root_serial t) (Some x) (subst (λ l. Contains l (Some x)) (map-set (λ o. root_serial o) v.roots.targets seat t) h)
 
 -- One slot changes.
 one_changes : (v : Stored) (new target : Option ℕ) (i : ℕ) (s : Spot) (o : Option Spot) → readings.spot v i ≡ Some s → Changes v new target i (Some s) o → (j : ℕ) → Changes v new target j (readings.spot v j) (get_or (set v.slots i o) j None)

@@ -1,17 +1,20 @@
 -- What each change of the heap is in one list of slots.
-use Rattle.std.proofs.Common.{◌≡◌, ◌≢◌, ℕ, zero, suc, List, [], ◌∷◌, length, Option, Some, None, sym, ◌∙◌, ap, refl, arith, get_or, set, ◌+◌, ◌<◌, drop, inl, inr, subst, length-set, map, sum_by, Ok, Bool, true, false, cond, get_or-set_same}
-use Rattle.tg_collect.proofs.Common.{Occupant, Colour, White, Grey, Black, Table, Free, Has, slot, Edge, HeapGraph, edges, mark_at, shaded, Spot, mark, mark_of, put, shade, RootLists, bare, body_of, length-map, Contains, Body, Kept, seen, HasRoot, at_within, Root, Machine, IsListed, lists_of, slot_of, slots_of, body, progress_of, Whole, sum_by-cons, Distinct, IsHeap, total, Kind, new_colour, Progress, Idle, Marking, Sweeping, progress_in, Puts}
+use Rattle.std.proofs.Common.{◌≡◌, ◌≢◌, ℕ, zero, suc, List, [], ◌∷◌, length, Option, Some, None, sym, ◌∙◌, ap, refl, arith, get_or, set, ◌+◌, ◌<◌, drop, inl, inr, subst, length-set, map, Ok, Bool, true, false, cond, get_or-set_same, drop-cons, length-append, ◌-◌, ◌≤◌, sum_by}
+use Rattle.tg_collect.proofs.Common.{Occupant, Colour, White, Grey, Black, Table, Free, Has, slot, Edge, HeapGraph, edges, mark_at, shaded, Spot, mark, mark_of, put, shade, RootLists, bare, body_of, length-map, Contains, Body, Kept, seen, HasRoot, at_within, Root, Machine, IsListed, lists_of, slot_of, slots_of, body, progress_of, Whole, Kind, new_colour, Progress, Idle, Marking, Sweeping, progress_in, Puts, sum_by-cons, Distinct, IsHeap, total}
 use Rattle.tg_slots.specs.Table as table
 use Rattle.tg_marking.specs.Values as values
-use Rattle.std.proofs.lemmas.List.{set-set}
-use Rattle.tg_rights.proofs.MembershipLemmas.{contains_left, contains_right, contains_append}
+use Rattle.std.proofs.lemmas.List.{set-set, get_or_default, drop_all}
+use Rattle.std.proofs.Math.ListN.{get_or-map}
+use Rattle.std.proofs.lemmas.Option.{same_Some}
+use Rattle.tg_rights.proofs.MembershipLemmas.{contains_left, contains_right, contains_append, contains_map}
 use Rattle.tg_slots.specs.Table.{Mark, coloured, if_free}
 use Rattle.tg_heap.specs.Graph.{shaded_by, painted}
 use Rattle.tg_marking.specs.Values.{spot, out, edges_of, kept, IsRoot}
 use Rattle.tg_marking.specs.Steps.{shade_spot, shade_in}
 use Rattle.tg_marking.specs.Left.{free_one, Celled}
-use Rattle.tg_collect.specs.Machine.{join, zip, all_slots, NoneWhite, ShadesFirst, all_shaded, with_shaded, AreWithin, agent_slots, principal_slots}
+use Rattle.tg_collect.specs.Machine.{join, zip, all_slots, NoneWhite, ShadesFirst, all_shaded, with_shaded, AreWithin, other_slots}
 use Rattle.tg_collect.specs.Calls.{has_passed, colour_ahead}
+use Rattle.tg_collect.specs.declared.machine.Roots.{Roots}
 
 pub zip_at : (os : List (Option Occupant)) (ls : List (List Edge)) (i : ℕ) → get_or (zip os ls) i None ≡ join (get_or os i None) (get_or ls i [])
 zip_at [] ls i = refl
@@ -96,17 +99,20 @@ shaded_so h rs i = at (slot h.table i) refl ∙ ap (shade_in (body_of h rs) i) (
     by Black c = refl
 
 -- The roots of a machine: their slots and their serials.
--- The slot of a place of the targets, and back.
-pub seat_slot : (xs : List (Option Root)) (k : ℕ) (r : Root) → get_or xs k None ≡ Some r → get_or (slots_of xs) k None ≡ Some r.slot
-seat_slot [] k r e = absurd (cc)
-seat_slot (x ∷ xs) zero r e = ap slot_of e
-seat_slot (x ∷ xs) (suc k) r e = seat_slot xs k r e
+-- A root by its slot.
+some_slot : (o : Option Root) (i : ℕ) → slot_of o ≡ Some i → (r : Root) × (o ≡ Some r) × (r.slot ≡ i)
+some_slot None i e = absurd (cc)
+some_slot (Some r) i e = (r, refl, same_Some r.slot i e)
 
-pub slot_seat : (xs : List (Option Root)) (k i : ℕ) → get_or (slots_of xs) k None ≡ Some i → (r : Root) × (get_or xs k None ≡ Some r) × (r.slot ≡ i)
-slot_seat [] k i e = absurd (cc)
-slot_seat (None ∷ xs) zero i e = absurd (cc)
-slot_seat (Some r ∷ xs) zero i e = (r, refl, (let u : Some r.slot ≡ Some i = e in cc))
-slot_seat (x ∷ xs) (suc k) i e = slot_seat xs k i e
+-- The slot of a place of the targets, and back.
+pub slots_at : (xs : List (Option Root)) (k : ℕ) → get_or (slots_of xs) k None ≡ slot_of (get_or xs k None)
+slots_at xs k = get_or-map slot_of xs k None
+
+pub seat_slot : (xs : List (Option Root)) (k : ℕ) (r : Root) → get_or xs k None ≡ Some r → get_or (slots_of xs) k None ≡ Some r.slot
+seat_slot xs k r e = slots_at xs k ∙ ap slot_of e
+
+slot_seat : (xs : List (Option Root)) (k i : ℕ) → get_or (slots_of xs) k None ≡ Some i → (r : Root) × (get_or xs k None ≡ Some r) × (r.slot ≡ i)
+slot_seat xs k i e = some_slot (get_or xs k None) i (sym (slots_at xs k) ∙ e)
 
 pub seat_contains : {X : Type 0} (xs : List (Option X)) (k : ℕ) (r : X) → get_or xs k None ≡ Some r → Contains xs (Some r)
 seat_contains [] k r e = absurd (cc)
@@ -120,48 +126,25 @@ contains_seat (x ∷ xs) r (inr h) = let s = contains_seat xs r h in (suc s.0, s
 
 -- What indexing a list says, whatever stands behind its end.
 pub at_seat : {X : Type 0} (xs : List (Option X)) (k : ℕ) (x : Option X) (r : X) → k < length xs → x ≡ get_or xs k x → x ≡ Some r → get_or xs k None ≡ Some r
-at_seat [] k x r b e is = absurd (omega (arith, b))
-at_seat (y ∷ xs) zero x r b e is = sym e ∙ is
-at_seat (y ∷ xs) (suc k) x r b e is = at_seat xs k x r (omega (arith, b)) e is
+at_seat xs k x r b e is = get_or_default xs k None x b ∙ sym e ∙ is
 
-pub at_none : {X : Type 0} (xs : List (Option X)) (k : ℕ) (x : Option X) → k < length xs → x ≡ get_or xs k x → x ≡ None → get_or xs k None ≡ None
-at_none [] k x b e is = refl
-at_none (y ∷ xs) zero x b e is = sym e ∙ is
-at_none (y ∷ xs) (suc k) x b e is = at_none xs k x (omega (arith, b)) e is
-
-contains_slots : (xs : List (Option Root)) (i : ℕ) → Contains (slots_of xs) (Some i) → (r : Root) × Contains xs (Some r) × (r.slot ≡ i)
-contains_slots [] i h = absurd h
-contains_slots (None ∷ xs) i (inl e) = absurd (cc)
-contains_slots (Some r ∷ xs) i (inl e) = (r, inl refl, (let u : Some i ≡ Some r.slot = e in cc))
-contains_slots (x ∷ xs) i (inr h) = let r = contains_slots xs i h in (r.0, inr r.1, r.2)
-
-contains_all : (xs : List Root) (i : ℕ) → Contains (all_slots xs) (Some i) → (r : Root) × Contains xs r × (r.slot ≡ i)
-contains_all [] i h = absurd h
-contains_all (r ∷ xs) i (inl e) = (r, inl refl, (let u : Some i ≡ Some r.slot = e in cc))
-contains_all (x ∷ xs) i (inr h) = let r = contains_all xs i h in (r.0, inr r.1, r.2)
-
-slots_contain : (xs : List (Option Root)) (r : Root) → Contains xs (Some r) → Contains (slots_of xs) (Some r.slot)
-slots_contain [] r h = absurd h
-slots_contain (x ∷ xs) r (inl e) = inl (ap slot_of e)
-slots_contain (x ∷ xs) r (inr h) = inr (slots_contain xs r h)
-
-all_contain : (xs : List Root) (r : Root) → Contains xs r → Contains (all_slots xs) (Some r.slot)
-all_contain [] r h = absurd h
-all_contain (x ∷ xs) r (inl e) = inl (ap (λ (q : Root). Some q.slot) e)
-all_contain (x ∷ xs) r (inr h) = inr (all_contain xs r h)
+pub contains_mapped : {X Y : Type 0} (f : X → Y) (xs : List X) (y : Y) → Contains (map f xs) y → (x : X) × Contains xs x × (f x ≡ y)
+contains_mapped f [] y h = absurd h
+contains_mapped f (x ∷ xs) y (inl e) = (x, inl refl, sym e)
+contains_mapped f (x ∷ xs) y (inr h) = let r = contains_mapped f xs y h in (r.0, inr r.1, r.2)
 
 -- A root of the bare lists is one of the lists, and back.
 pub root_listed : (rs : RootLists) (i : ℕ) → HasRoot (bare rs) i → (r : Root) × IsListed rs r × (r.slot ≡ i)
 root_listed rs i (inl (k, e)) = let r = slot_seat rs.targets k i e in (r.0, inl (seat_contains rs.targets k r.0 r.1), r.2)
 root_listed rs i (inr h) = elim (contains_append (all_slots rs.principals) (slots_of rs.agents) (Some i) h) [
-  | inl p ↦ (let r = contains_all rs.principals i p in (r.0, inr (inl r.1), r.2))
-  | inr a ↦ (let r = contains_slots rs.agents i a in (r.0, inr (inr r.1), r.2))
+  | inl p ↦ (let r = contains_mapped (λ (q : Root). Some q.slot) rs.principals (Some i) p in (r.0, inr (inl r.1), same_Some r.0.slot i r.2))
+  | inr a ↦ (let o = contains_mapped slot_of rs.agents (Some i) a in let r = some_slot o.0 i o.2 in (r.0, inr (inr (subst (Contains rs.agents) r.1 o.1)), r.2))
 ]
 
 pub listed_root : (rs : RootLists) (r : Root) → IsListed rs r → HasRoot (bare rs) r.slot
 listed_root rs r (inl h) = let s = contains_seat rs.targets r h in inl (s.0, seat_slot rs.targets s.0 r s.1)
-listed_root rs r (inr (inl h)) = inr (contains_left (all_slots rs.principals) (slots_of rs.agents) (Some r.slot) (all_contain rs.principals r h))
-listed_root rs r (inr (inr h)) = inr (contains_right (all_slots rs.principals) (slots_of rs.agents) (Some r.slot) (slots_contain rs.agents r h))
+listed_root rs r (inr (inl h)) = inr (contains_left (all_slots rs.principals) (slots_of rs.agents) (Some r.slot) (contains_map (λ (q : Root). Some q.slot) rs.principals r h))
+listed_root rs r (inr (inr h)) = inr (contains_right (all_slots rs.principals) (slots_of rs.agents) (Some r.slot) (contains_map slot_of rs.agents (Some r) h))
 
 -- A root's slot is one of the table's.
 pub kept_within : (b : Body) (p : values.Progress) (i : ℕ) (k : Kept) → kept b p i ≡ Some k → i < length b.slots
@@ -203,92 +186,37 @@ all_size [] t = refl
 all_size (None ∷ xs) t = all_size xs t
 all_size (Some i ∷ xs) t = shaded_size (all_shaded xs t) i ∙ all_size xs t
 
-pub drop_all : {X : Type 0} (xs : List X) (n : ℕ) → n ≡ length xs → drop n xs ≡ []
-drop_all [] zero e = refl
-drop_all [] (suc n) e = refl
-drop_all (x ∷ xs) zero e = absurd (omega (arith, e))
-drop_all (x ∷ xs) (suc n) e = drop_all xs n (omega (arith, e))
-
-drop_one : {X : Type 0} (xs : List X) (k : ℕ) (x : X) → k < length xs → x ≡ get_or xs k x → drop k xs ≡ x ∷ drop (suc k) xs
-drop_one [] k x b e = absurd (omega arith)
-drop_one (y ∷ xs) zero x b e = ap (λ z. z ∷ xs) (sym e)
-drop_one (y ∷ xs) (suc k) x b e = drop_one xs k x (omega (arith, b)) e
-
 -- The roots from an index on were shaded, and nothing else changed.
-abbrev pub ShadedFrom : (m n : Machine) → List (Option ℕ) → ℕ → Type 0
-ShadedFrom m n xs left = n ≡ with_shaded m (drop left xs)
+abbrev pub ShadedFrom : (m n : Machine) → ℕ → Type 0
+ShadedFrom m n left = n ≡ with_shaded m (drop left (other_slots m.roots))
 
-pub shaded_none : (m : Machine) (xs : List (Option ℕ)) (left : ℕ) → left ≡ length xs → ShadedFrom m m xs left
-shaded_none m xs left e = ap (with_shaded m) (sym (drop_all xs left e))
+pub other_count : (rs : Roots) → length (other_slots rs) ≡ length rs.principals.items + length rs.agents.items
+other_count rs =
+    let a = length-append (all_slots rs.principals.items) (slots_of rs.agents.items) in
+    let p = length-map rs.principals.items (λ (r : Root). Some r.slot) in
+    let g = length-map rs.agents.items (λ o. slot_of o) in
+    omega (arith, a, p, g)
 
-pub shaded_more : (m n k : Machine) (xs : List (Option ℕ)) (x : Option ℕ) (left next : ℕ) → ShadedFrom m n xs left → next + 1 ≡ left → next < length xs → x ≡ get_or xs next x
-    → k ≡ with_shaded n (x ∷ []) → ShadedFrom m k xs next
-shaded_more m n k xs x left next s e b at is =
-    let list : drop next xs ≡ x ∷ drop left xs = drop_one xs next x b at ∙ ap (λ (j : ℕ). x ∷ drop j xs) (let same : suc next ≡ left = omega (arith, e) in same) in
-    is ∙ ap (λ (y : Machine). with_shaded y (x ∷ [])) s ∙ ap (with_shaded m) (sym list)
+-- The loop that starts a cycle: at first no root is shaded, and then one more.
+pub shaded_none : (m : Machine) (left : ℕ) → length (other_slots m.roots) ≤ left → ShadedFrom m m left
+shaded_none m left most = ap (with_shaded m) (sym (drop_all left (other_slots m.roots) most))
 
-pub within_here : (m n : Machine) (xs : List (Option ℕ)) (x : Option ℕ) (left next : ℕ) → ShadedFrom m n xs left → AreWithin xs m.heap.table → next < length xs → x ≡ get_or xs next x → AreWithin (x ∷ []) n.heap.table
-within_here m n xs x left next s w b at i (inl e) =
-    let size = ap (λ (y : Machine). length y.heap.table.slots) s ∙ all_size (drop left xs) m.heap.table in
-    let l = w i (subst (Contains xs) (sym e) (contains xs next b at)) in omega (arith, size, l)
-  where
-    contains : (ys : List (Option ℕ)) (k : ℕ) → k < length ys → x ≡ get_or ys k x → Contains ys x
-    contains [] k b e = absurd (omega (arith, b))
-    contains (y ∷ ys) zero b e = inl e
-    contains (y ∷ ys) (suc k) b e = inr (contains ys k (omega (arith, b)) e)
-within_here m n xs x left next s w b at i (inr h) = absurd h
+module _ (m n : Machine) (left next : ℕ) (o : Option Root) (one : next + 1 ≡ left) (from : ShadedFrom m n left) (below : next < length (other_slots m.roots)) (at : slot_of o ≡ get_or (other_slots n.roots) next None) where
+  shaded_so_far : n ≡ with_shaded m (drop (suc next) (other_slots m.roots))
+  shaded_so_far = let e : left ≡ suc next = omega (arith, one) in subst (ShadedFrom m n) e from
 
--- The slots at an index.
-pub slots_at : (xs : List (Option Root)) (k : ℕ) (x : Option Root) → k < length xs → x ≡ get_or xs k x → slot_of x ≡ get_or (slots_of xs) k (slot_of x)
-slots_at [] k x b e = refl
-slots_at (y ∷ xs) zero x b e = ap slot_of e
-slots_at (y ∷ xs) (suc k) x b e = slots_at xs k x (omega (arith, b)) e
+  here : slot_of o ≡ get_or (other_slots m.roots) next None
+  here = at ∙ ap (λ (y : Machine). get_or (other_slots y.roots) next None) from
 
-pub all_at : (xs : List Root) (k : ℕ) (x : Root) → k < length xs → x ≡ get_or xs k x → Some x.slot ≡ get_or (all_slots xs) k (Some x.slot)
-all_at [] k x b e = refl
-all_at (y ∷ xs) zero x b e = ap (λ (r : Root). Some r.slot) e
-all_at (y ∷ xs) (suc k) x b e = all_at xs k x (omega (arith, b)) e
+  pub other_within : AreWithin (other_slots m.roots) m.heap.table → AreWithin (slot_of o ∷ []) n.heap.table
+  other_within w i (inl e) =
+      let size = ap (λ (y : Machine). length y.heap.table.slots) from ∙ all_size (drop left (other_slots m.roots)) m.heap.table in
+      let l = w i (seat_contains (other_slots m.roots) next i (sym here ∙ sym e)) in omega (arith, size, l)
+  other_within w i (inr h) = absurd h
 
--- The two loops read slots of the table.
-pub start_within : (m : Machine) → Whole m → AreWithin (agent_slots m.roots) m.heap.table × AreWithin (principal_slots m.roots) (all_shaded (agent_slots m.roots) m.heap.table)
-start_within m w = (
-  λ i h. root_within m i w (inr (contains_right (principal_slots m.roots) (agent_slots m.roots) (Some i) h)),
-  λ i h. let l = root_within m i w (inr (contains_left (principal_slots m.roots) (agent_slots m.roots) (Some i) h)) in let z = all_size (agent_slots m.roots) m.heap.table in omega (arith, l, z),
-)
-
--- A step of each loop.
-module _ (m n : Machine) (left next : ℕ) (one : next + 1 ≡ left) where
-  pub agent_within : (x : Option Root) → ShadedFrom m n (agent_slots m.roots) left → AreWithin (agent_slots m.roots) m.heap.table → next < length n.roots.agents.items → x ≡ get_or n.roots.agents.items next x
-      → AreWithin (slot_of x ∷ []) n.heap.table
-  agent_within x s w b at =
-      let same = ap (λ (y : Machine). y.roots.agents.items) s in
-      let below : next < length m.roots.agents.items = subst (λ (l : List (Option Root)). next < length l) same b in
-      let size = length-map m.roots.agents.items (λ o. slot_of o) in
-      within_here m n (agent_slots m.roots) (slot_of x) left next s w (omega (arith, below, size)) (slots_at m.roots.agents.items next x below (subst (λ (l : List (Option Root)). x ≡ get_or l next x) same at))
-
-  pub agent_more : (k : Machine) (x : Option Root) → ShadedFrom m n (agent_slots m.roots) left → next < length n.roots.agents.items → x ≡ get_or n.roots.agents.items next x
-      → k ≡ with_shaded n (slot_of x ∷ []) → ShadedFrom m k (agent_slots m.roots) next
-  agent_more k x s b at is =
-      let same = ap (λ (y : Machine). y.roots.agents.items) s in
-      let below : next < length m.roots.agents.items = subst (λ (l : List (Option Root)). next < length l) same b in
-      let size = length-map m.roots.agents.items (λ o. slot_of o) in
-      shaded_more m n k (agent_slots m.roots) (slot_of x) left next s one (omega (arith, below, size)) (slots_at m.roots.agents.items next x below (subst (λ (l : List (Option Root)). x ≡ get_or l next x) same at)) is
-
-  pub principal_within : (x : Root) → ShadedFrom m n (principal_slots m.roots) left → AreWithin (principal_slots m.roots) m.heap.table → next < length n.roots.principals.items → x ≡ get_or n.roots.principals.items next x
-      → AreWithin (Some x.slot ∷ []) n.heap.table
-  principal_within x s w b at =
-      let same = ap (λ (y : Machine). y.roots.principals.items) s in
-      let below : next < length m.roots.principals.items = subst (λ (l : List Root). next < length l) same b in
-      let size = length-map m.roots.principals.items (λ (r : Root). Some r.slot) in
-      within_here m n (principal_slots m.roots) (Some x.slot) left next s w (omega (arith, below, size)) (all_at m.roots.principals.items next x below (subst (λ (l : List Root). x ≡ get_or l next x) same at))
-
-  pub principal_more : (k : Machine) (x : Root) → ShadedFrom m n (principal_slots m.roots) left → next < length n.roots.principals.items → x ≡ get_or n.roots.principals.items next x
-      → k ≡ with_shaded n (Some x.slot ∷ []) → ShadedFrom m k (principal_slots m.roots) next
-  principal_more k x s b at is =
-      let same = ap (λ (y : Machine). y.roots.principals.items) s in
-      let below : next < length m.roots.principals.items = subst (λ (l : List Root). next < length l) same b in
-      let size = length-map m.roots.principals.items (λ (r : Root). Some r.slot) in
-      shaded_more m n k (principal_slots m.roots) (Some x.slot) left next s one (omega (arith, below, size)) (all_at m.roots.principals.items next x below (subst (λ (l : List Root). x ≡ get_or l next x) same at)) is
+  pub other_shaded : (k : Machine) → k ≡ with_shaded n (slot_of o ∷ []) → ShadedFrom m k next
+  other_shaded k is = is ∙ ap (λ (y : Machine). with_shaded y (slot_of o ∷ [])) shaded_so_far
+      ∙ ap (with_shaded m) (ap (λ x. x ∷ drop (suc next) (other_slots m.roots)) here ∙ sym (drop-cons (other_slots m.roots) next None below))
 
 -- How many slots and cells are in use.
 -- A sum over indices is the list's.

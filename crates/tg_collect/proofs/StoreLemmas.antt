@@ -8,6 +8,8 @@ use Rattle.std.specs.FinMap as finmap
 use Rattle.tg_rights.specs.Letters as right
 use Rattle.tg_slots.specs.Table as table
 use Rattle.std.specs.Option.{unwrap_or, option_map}
+use Rattle.std.proofs.Math.ListN.{get_or-map}
+use Rattle.std.proofs.lemmas.Option.{same_Some}
 use Rattle.tg_rights.specs.Letters.{none, includes, read, write, take, grant}
 use Rattle.tg_rights.proofs.MembershipLemmas.{same_by, split_at}
 use Rattle.tg_rights.proofs.LettersLemmas.{right_some}
@@ -19,7 +21,7 @@ use Rattle.tg_marking.specs.Invariant.{Closed, Phased, IsLive, at_root, along}
 use Rattle.tg_marking.proofs.MoveLemmas.{closed_same}
 use Rattle.tg_marking.specs.Runs.{IsLiveIn}
 use Rattle.tg_collect.specs.Readings.{IsRootIn, IsRootAt, serial_at, principals}
-use Rattle.tg_collect.proofs.SlotLemmas.{listed_root, zip_at, zip_size, as_spot, kept_within, root_listed}
+use Rattle.tg_collect.proofs.SlotLemmas.{listed_root, zip_at, zip_size, as_spot, kept_within, root_listed, contains_mapped}
 use Rattle.tg_collect.proofs.LineLemmas.{kept_so}
 use Rattle.tg_collect.proofs.ShownLemmas.{Once, triple_owned, held_at, held_kept, kept_held, place_kept, vertex_found, says_triple, edge_shown, shown_edge}
 use Rattle.tg_collect.specs.Machine.{join}
@@ -43,32 +45,21 @@ stored_kept m i = kept_so (progress_of m) i (values.spot (body m) i)
 pub once_so : (v : Stored) → ((i j x : ℕ) → readings.name v i ≡ Some x → readings.name v j ≡ Some x → i ≡ j) → Once v
 once_so v once i j k t e f s = once i j k.serial (kept_name (progress v) i (spot v i) k e) (kept_name (progress v) j (spot v j) t f ∙ ap (λ (x : ℕ). Some x) (sym s))
 
--- An element of a list of readings.
-pub contains_mapped : {X Y : Type 0} (f : X → Y) (xs : List X) (y : Y) → Contains (map f xs) y → (x : X) × Contains xs x × (f x ≡ y)
-contains_mapped f [] y h = absurd h
-contains_mapped f (x ∷ xs) y (inl e) = (x, inl refl, sym e)
-contains_mapped f (x ∷ xs) y (inr h) = let r = contains_mapped f xs y h in (r.0, inr r.1, r.2)
-
 serial_root : (os : List (Option Root)) (x : ℕ) → Contains (map (λ o. root_serial o) os) (Some x) → (r : Root) × Contains os (Some r) × (r.serial ≡ x)
-serial_root [] x h = absurd h
-serial_root (None ∷ os) x (inl e) = absurd (cc)
-serial_root (Some r ∷ os) x (inl e) = (r, inl refl, (let u : Some x ≡ Some r.serial = e in cc))
-serial_root (o ∷ os) x (inr h) = let r = serial_root os x h in (r.0, inr r.1, r.2)
+serial_root os x h = let o = contains_mapped (λ o. root_serial o) os (Some x) h in by o.0 o.1 o.2 where
+  by : (o : Option Root) → Contains os o → root_serial o ≡ Some x → (r : Root) × Contains os (Some r) × (r.serial ≡ x)
+  by None c e = absurd (cc)
+  by (Some r) c e = (r, c, same_Some r.serial x e)
 
 pub root_in : (v : Stored) (x : ℕ) → IsRootIn v x → (r : Root) × IsListed v.roots r × (r.serial ≡ x)
 root_in v x (inl p) = let r = contains_mapped (λ (r : Root). r.serial) v.roots.principals x p in (r.0, inr (inl r.1), r.2)
 root_in v x (inr (inl t)) = let r = serial_root v.roots.targets x t in (r.0, inl r.1, r.2)
 root_in v x (inr (inr a)) = let r = serial_root v.roots.agents x a in (r.0, inr (inr r.1), r.2)
 
-root_serials : (os : List (Option Root)) (r : Root) → Contains os (Some r) → Contains (map (λ o. root_serial o) os) (Some r.serial)
-root_serials [] r h = absurd h
-root_serials (o ∷ os) r (inl e) = inl (ap root_serial e)
-root_serials (o ∷ os) r (inr h) = inr (root_serials os r h)
-
 pub in_root : (v : Stored) (r : Root) → IsListed v.roots r → IsRootIn v r.serial
-in_root v r (inl h) = inr (inl (root_serials v.roots.targets r h))
+in_root v r (inl h) = inr (inl (contains_map (λ o. root_serial o) v.roots.targets (Some r) h))
 in_root v r (inr (inl h)) = inl (contains_map (λ (q : Root). q.serial) v.roots.principals r h)
-in_root v r (inr (inr h)) = inr (inr (root_serials v.roots.agents r h))
+in_root v r (inr (inr h)) = inr (inr (contains_map (λ o. root_serial o) v.roots.agents (Some r) h))
 
 -- Facts by slots.
 pub closed_so : (m : Machine) → Whole m → Closed (kept (stored m)) (IsRootAt (stored m))
@@ -255,13 +246,8 @@ found_edge m id y rights ok w at t i =
     (record { before = s.before; edge = e; after = s.after; is = s.is; here = sym o.2 }, subst (λ (r : Letters). includes r rights ≡ true) l i)
 
 -- The seats, and the principals by their serials.
-seat_at : (os : List (Option Root)) (k : ℕ) → get_or (map (λ o. root_serial o) os) k None ≡ root_serial (get_or os k None)
-seat_at [] k = refl
-seat_at (o ∷ os) zero = refl
-seat_at (o ∷ os) (suc k) = seat_at os k
-
 pub seat_shown : (m : Machine) (seat : ℕ) → pending_of (stored m) seat ≡ root_serial (get_or m.roots.targets.items seat None)
-seat_shown m seat = seat_at m.roots.targets.items seat
+seat_shown m seat = get_or-map (λ o. root_serial o) m.roots.targets.items seat None
 
 pub idle_seat : (m : Machine) (seat : ℕ) → pending_of (stored m) seat ≡ None → get_or m.roots.targets.items seat None ≡ None
 idle_seat m seat e = by (get_or m.roots.targets.items seat None) (sym (seat_shown m seat) ∙ e) where

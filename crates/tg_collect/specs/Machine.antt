@@ -133,11 +133,9 @@ with_shaded m rs = record m { heap = record m.heap { table = all_shaded rs m.hea
 abbrev pub AreWithin : List (Option ℕ) → Table → Type 0
 AreWithin rs t = (i : ℕ) → Contains rs (Some i) → i < length t.slots
 
-abbrev pub agent_slots : Roots → List (Option ℕ)
-agent_slots r = slots_of r.agents.items
-
-abbrev pub principal_slots : Roots → List (Option ℕ)
-principal_slots r = all_slots r.principals.items
+-- the slots of the principals, and then of the agents
+abbrev pub other_slots : Roots → List (Option ℕ)
+other_slots r = (bare (lists_of r)).others
 
 -- the phase that others see
 abbrev pub phase_of : Progress → Phase

@@ -8,7 +8,7 @@ ghost use Rattle.tg_slots.specs.Table.{Free, Has, slot};
 ghost use Rattle.tg_slots.specs.declared.slots.Occupant.{Occupant};
 ghost use Rattle.tg_cells.specs.Lists.{HasNone, Found};
 ghost use Rattle.tg_heap.specs.Graph.{edges, mark_at};
-ghost use Rattle.tg_collect.specs.Machine.{Whole, Steps, phase_of, ShadesFirst, NoneWhite, AreWithin, slot_of, agent_slots, principal_slots, with_shaded};
+ghost use Rattle.tg_collect.specs.Machine.{Whole, Steps, phase_of, ShadesFirst, NoneWhite, AreWithin, slot_of, other_slots, with_shaded};
 ghost use Rattle.tg_collect.specs.Calls.{Adds, Links, Removes, Puts, SetsText, ShadesSeat, progress_without, has_passed, colour_ahead};
 
 use crate::course::Course;
@@ -45,6 +45,21 @@ pub(crate) struct Roots {
     pub targets: Vec<Option<Root>>,
     pub principals: Vec<Root>,
     pub agents: Vec<Option<Root>>,
+}
+
+impl Roots {
+    /// The root at an index of those that a cycle starts with: the principals, and then the agents.
+    fn other(&self, index: usize) -> Option<Root>
+        requires { index < length self.now.principals.items + length self.now.agents.items }
+        ensures { slot_of result ≡ get_or (other_slots self.now) index None }
+    {
+        let principals = self.principals.len();
+        if index < principals {
+            Some(self.principals[index])
+        } else {
+            self.agents[index - principals]
+        }
+    }
 }
 
 /// The heap with its roots and the collector's progress.
@@ -287,32 +302,20 @@ impl Machine {
         requires whole { Whole self.old }
         ensures line { Steps self.old self.new 0 false }
     {
-        self.shade_agents();
-        self.shade_principals();
+        self.shade_others();
         self.progress = Course::of(Progress::Marking(None));
     }
 
-    fn shade_agents(&mut self)
-        requires within { AreWithin (agent_slots self.old.roots) self.old.heap.table }
-        ensures step { self.new ≡ with_shaded self.old (agent_slots self.old.roots) }
+    /// Shades the principals and the agents, from the last agent on.
+    fn shade_others(&mut self)
+        requires within { AreWithin (other_slots self.old.roots) self.old.heap.table }
+        ensures step { self.new ≡ with_shaded self.old (other_slots self.old.roots) }
     {
-        let mut left = self.roots.agents.len();
+        let mut left = self.roots.principals.len() + self.roots.agents.len();
         while left > 0 {
             left -= 1;
-            let agent = self.roots.agents[left];
-            self.shade_root(agent);
-        }
-    }
-
-    fn shade_principals(&mut self)
-        requires within { AreWithin (principal_slots self.old.roots) self.old.heap.table }
-        ensures step { self.new ≡ with_shaded self.old (principal_slots self.old.roots) }
-    {
-        let mut left = self.roots.principals.len();
-        while left > 0 {
-            left -= 1;
-            let principal = self.roots.principals[left];
-            self.shade_root(Some(principal));
+            let root = self.roots.other(left);
+            self.shade_root(root);
         }
     }
 
