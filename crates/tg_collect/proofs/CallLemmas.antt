@@ -8,6 +8,7 @@ use Rattle.tg_held.specs.Held as graph
 use Rattle.tg_collect.proofs.SeatLemmas as placed
 use Rattle.std.specs.Prelude.{OnOk, OnErr, IfErr}
 use Rattle.std.specs.Option.{unwrap_or}
+use Rattle.std.proofs.lemmas.Option.{same_Some}
 use Rattle.tg_rights.specs.Letters.{none, without}
 use Rattle.tg_rights.proofs.MembershipLemmas.{map_append, distinct_around}
 use Rattle.tg_rights.proofs.LettersLemmas.{is_none-none}
@@ -37,9 +38,6 @@ idle_slot m seat e = slots_at m.roots.targets.items seat ∙ ap slot_of (idle_se
 pub seat_inside : (m : Machine) (seat : ℕ) → Whole m → seat < SEATS → seat < length (bare (lists_of m.roots)).targets
 seat_inside m seat w l = let z = length-map m.roots.targets.items (λ o. slot_of o) in let s = w.roots.seats in omega (arith, l, z, s)
 
-pub occupant_same : (a b : Occupant) → Some a ≡ Some b → a ≡ b
-occupant_same a b e = cc
-
 -- The whole call that adds rights.
 pub record AddCalled {U : Type 0} (m n : Machine) (seat id target : ℕ) (rights : Letters) (r : Result U HeapFull) : Type 0 where
   pub whole : Whole n
@@ -53,7 +51,7 @@ add_called m n seat id target rights (Ok u) ok ok' w source held apart idle l so
     let h = holds m id source in
     let d = subst (Holds m) (sym slot_is) (holds m target held) in
     let same : d.what.serial ≡ t.serial = sym d.serial ∙ ap (serial_at (stored m)) slot_is ∙ sym serial_is in
-    let named : o.serial ≡ t.serial = ap (λ (q : Occupant). q.serial) (occupant_same o d.occupant (sym is ∙ d.is)) ∙ ap (λ (k : Kept). k.serial) d.same ∙ same in
+    let named : o.serial ≡ t.serial = ap (λ (q : Occupant). q.serial) (same_Some o d.occupant (sym is ∙ d.is)) ∙ ap (λ (k : Kept). k.serial) d.same ∙ same in
     let e = added m n seat id t rights ok ok' w h d same (λ q. apart (sym slot_is ∙ q)) (idle_slot m seat idle) (seat_inside m seat w l) some (subst (λ (x : ℕ). IsAdded m.heap n.heap id t.slot x rights) named new) roots shape in
     record {
       whole = e.0;
@@ -64,7 +62,7 @@ add_called m n seat id target rights (Ok u) ok ok' w source held apart idle l so
 add_called m n seat id target rights (Err e) ok ok' w source held apart idle l some t slot_is serial_is (cells, o, is, absent, none, same) =
     let h = holds m id source in
     let d = subst (Holds m) (sym slot_is) (holds m target held) in
-    let named : o.serial ≡ serial_at (stored m) target = ap (λ (q : Occupant). q.serial) (occupant_same o d.occupant (sym is ∙ d.is)) ∙ ap (λ (k : Kept). k.serial) d.same ∙ sym d.serial ∙ ap (serial_at (stored m)) slot_is in
+    let named : o.serial ≡ serial_at (stored m) target = ap (λ (q : Occupant). q.serial) (same_Some o d.occupant (sym is ∙ d.is)) ∙ ap (λ (k : Kept). k.serial) d.same ∙ sym d.serial ∙ ap (serial_at (stored m)) slot_is in
     record {
       whole = subst Whole (sym same) w;
       ok = tt;
@@ -238,14 +236,11 @@ module _ (m : Machine) (id : ℕ) (text : List ℕ) (w : Whole m) (h : Holds m i
 
 pub text_set : (m k : Machine) (id : ℕ) (text old : List ℕ) → Whole m → (h : Holds m id) → SetsText m id text old k → Whole k × TextReplaced (stored m) (stored k) h.what.serial text old
 text_set m k id text old w h (o, is, was, shape) =
-    let same : h.occupant ≡ o = occupants h.occupant o (sym h.is ∙ is) in
+    let same : h.occupant ≡ o = same_Some h.occupant o (sym h.is ∙ is) in
     let done : Whole k × TextReplaced (stored m) (stored k) h.what.serial text h.occupant.text =
     subst (λ (x : Machine). Whole x × TextReplaced (stored m) (stored x) h.what.serial text h.occupant.text) (ap (λ (q : Occupant). record m { heap = record m.heap { table = record m.heap.table { slots = set m.heap.table.slots id (Some (record q { text = text })) } } }) same ∙ sym shape)
     (text_whole m id text w h, text_replaced m id text w h) in
     (done.0, subst (λ (t : List ℕ). TextReplaced (stored m) (stored k) h.what.serial text t) (ap (λ (q : Occupant). q.text) same ∙ sym was) done.1)
-  where
-    occupants : (a b : Occupant) → Some a ≡ Some b → a ≡ b
-    occupants a b e = cc
 
 -- The whole call that adds a vertex with an edge to it.
 -- No edge leads to a serial that is not held.
@@ -343,7 +338,7 @@ module _ (m k : Machine) (seat id i serial : ℕ) (kind : Kind) (text rest : Lis
     pub vertex_added : (o : Occupant) → slot heap.table i ≡ Some o → IsAdded heap k.heap id i o.serial rights → k ≡ record m { heap = k.heap; roots = k.roots } → Created k
     vertex_added o is a shape = by a where
       same : o.serial ≡ serial
-      same = ap (λ (q : Occupant). q.serial) (occupant_same o occupant (sym is ∙ get_or-set_same m.heap.table.slots i (Some occupant) None within))
+      same = ap (λ (q : Occupant). q.serial) (same_Some o occupant (sym is ∙ get_or-set_same m.heap.table.slots i (Some occupant) None within))
 
       by : IsAdded heap k.heap id i o.serial rights → Created k
       by (inl (f, x)) = absurd (no_edge_to m id serial w (holds m id source) unheld f.edge (found_contains (edges m.heap id) o.serial f) (f.here ∙ same))
@@ -373,5 +368,5 @@ pub still_none : (m n : Machine) (id i serial : ℕ) (kind : Kind) (text : List 
     → (o : Occupant) → slot n.heap.table i ≡ Some o → HasNone (edges n.heap id) o.serial
 still_none m n id i serial kind text ok w source unheld (rest, listed, put) o is e c e_is =
     let within = (ok.table.listed_free i (subst (λ (q : List ℕ). Contains q i) (sym listed) (inl refl))).0 in
-    let same : o.serial ≡ serial = ap (λ (q : Occupant). q.serial) (occupant_same o _ (sym is ∙ ap (λ (x : Machine). slot x.heap.table i) put ∙ get_or-set_same m.heap.table.slots i _ None within)) in
+    let same : o.serial ≡ serial = ap (λ (q : Occupant). q.serial) (same_Some o _ (sym is ∙ ap (λ (x : Machine). slot x.heap.table i) put ∙ get_or-set_same m.heap.table.slots i _ None within)) in
     no_edge_to m id serial w (holds m id source) unheld e (subst (λ (x : Machine). Contains (edges x.heap id) e) put c) (e_is ∙ same)

@@ -1,10 +1,12 @@
 -- An edge comes, changes its label or goes.
-use Rattle.std.proofs.Common.{◌≡◌, ◌≢◌, ℕ, ◌<◌, List, [], ◌∷◌, ◌++◌, length, append_assoc, Option, Some, None, ◌⊎◌, inl, inr, Bool, true, false, cond, eqb, eqb-true, eq-eqb, sym, ◌∙◌, subst, ap, refl, set, get_or-set_same, get_or-set_other, ◌+◌, ◌≤◌, arith, get_or}
+use Rattle.std.proofs.Common.{◌≡◌, ◌≢◌, ℕ, ◌<◌, List, [], ◌∷◌, ◌++◌, length, append_assoc, Option, Some, None, ◌⊎◌, inl, inr, Bool, true, false, cond, eq-eqb, sym, ◌∙◌, subst, ap, refl, set, get_or-set_same, get_or-set_other, ◌+◌, ◌≤◌, arith, get_or}
 use Rattle.tg_collect.proofs.Common.{cases_eq, Contains, Distinct, Edge, first_cell, HeapGraph, edges, remaining, Progress, Idle, Marking, Sweeping, progress_in, CursorFits, Letters, is_none, contains_middle, contains_map, edge, Occupant, slot, HasNone, Found, IsHeap, IsAdded, Spot, Body, Kept, as_kept, name, name_of, seen, put, left, put_each, at_within, gains, Root, Roots, Machine, RootLists, lists_of, with_target, bare, body_of, body, progress_of, Whole, Stored, stored, as_progress, kept, kept_from, progress, spot, held, IsEdgeIn, Leads, EdgeStored}
 use Rattle.tg_marking.specs.Values as values
 use Rattle.tg_marking.specs.Steps as steps
 use Rattle.std.specs.FinSet as finset
 use Rattle.tg_held.specs.Held as graph
+use Rattle.std.proofs.lemmas.Option.{same_Some}
+use Rattle.std.proofs.lemmas.Bool.{ne_eqb}
 use Rattle.tg_rights.specs.Letters.{joined}
 use Rattle.tg_cells.specs.Lists.{cells}
 use Rattle.tg_heap.specs.Marking.{passed}
@@ -53,12 +55,6 @@ module _ (i : ℕ) (es es' before : List Edge) (e : Edge) (news after : List Edg
   ]
 
 -- Cells of a list without repetition.
-no_eqb : (a b : ℕ) → a ≢ b → eqb a b ≡ false
-no_eqb a b n = elim (eqb a b) as (λ t. eqb a b ≡ t → eqb a b ≡ false) [
-  | true ↦ λ t. absurd (n (eqb-true a b t))
-  | false ↦ λ t. t
-] refl
-
 right_once : (p r : List Edge) → Distinct (cells (p ++ r)) → Distinct (cells r)
 right_once [] r d = d
 right_once (x ∷ p) r d = right_once p r d.1
@@ -134,7 +130,7 @@ module _ (h : HeapGraph) (i k : ℕ) (es' : List Edge) (within : i < length h.li
     ])
 
     stays : (x : ℕ) (c : Option ℕ) → c ≡ Some x → x ≢ e.cell → moved c ≡ c
-    stays x c at n = rw at (ap (λ (b : Bool). cond b (first_cell after) (Some x)) (no_eqb x e.cell n))
+    stays x c at n = rw at (ap (λ (b : Bool). cond b (first_cell after) (Some x)) (ne_eqb x e.cell n))
 
     at_it : (c : Option ℕ) (mid : List Edge) → news ≡ [] → Distinct (cells (edges h i)) → remaining c (edges h i) ≡ mid ++ e ∷ after → c ≡ first_cell (remaining c (edges h i)) → moved c ≡ first_cell (mid ++ (news ++ after))
     at_it c [] none d r fits = rw (fits ∙ ap first_cell r, eq-eqb e.cell e.cell refl, none) refl
@@ -155,7 +151,7 @@ module _ (h : HeapGraph) (i k : ℕ) (es' : List Edge) (within : i < length h.li
     leaves (Marking None) none d f = (unscanned, tt)
     leaves (Sweeping j) none d f = (sweeping j, tt)
     leaves (Marking (Some s)) none d f = elim (cases_eq i s.slot) [
-      | inr other ↦ rw (no_eqb s.slot i (λ q. other (sym q))) (other_scan s other f)
+      | inr other ↦ rw (ne_eqb s.slot i (λ q. other (sym q))) (other_scan s other f)
       | inl here ↦ (
           let fits : s.cursor ≡ first_cell (remaining s.cursor (edges h i)) = subst (λ (n : ℕ). s.cursor ≡ first_cell (remaining s.cursor (edges h n))) (sym here) f in
           let t = this_scan s (moved s.cursor) here (λ mid r. at_it s.cursor mid none d r fits) (λ mid r. past s.cursor mid (remaining s.cursor (edges h i)) d r fits) in
@@ -167,11 +163,8 @@ module _ (h : HeapGraph) (i k : ℕ) (es' : List Edge) (within : i < length h.li
 pub regarded_at : (v : Stored) (i : ℕ) (s : Spot) (k : Kept) (es : List Edge) (text : List ℕ) → spot v i ≡ Some s → kept v i ≡ Some k → seen (progress v) i (Some (record s { edges = es; text = text })) ≡ Some (record k { edges = es; text = text })
 regarded_at v i s k es text at is =
     let r = kept_is (progress v) i (spot v i) k is in
-    let same : r.0 ≡ s = spots r.0 s (sym r.1 ∙ at) in
+    let same : r.0 ≡ s = same_Some r.0 s (sym r.1 ∙ at) in
     rw (subst (λ (t : Spot). values.keeps (progress v) i t.colour ≡ true) same r.2) (ap (λ (t : Kept). Some (record t { edges = es; text = text })) (subst (λ (t : Spot). as_kept t ≡ k) same r.3))
-  where
-    spots : (a b : Spot) → Some a ≡ Some b → a ≡ b
-    spots a b e = cc
 
 pub regarded : (v w : Stored) (i : ℕ) (s : Spot) (k : Kept) (es : List Edge) (text : List ℕ) → spot v i ≡ Some s → kept v i ≡ Some k → w.stage ≡ v.stage → w.slots ≡ set v.slots i (Some (record s { edges = es; text = text }))
     → (next : ℕ) → held w next ≡ graph.held (set (kept_from (progress v) 0 v.slots) i (Some (record k { edges = es; text = text }))) next

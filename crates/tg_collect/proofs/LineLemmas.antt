@@ -8,6 +8,7 @@ use Rattle.tg_collect.specs.declared.machine.Progress as declared
 use Rattle.tg_marking.specs.Collected as marking
 use Rattle.tg_collect.specs.Views as views
 use Rattle.std.proofs.lemmas.Bool.{le-ltb}
+use Rattle.std.proofs.lemmas.Option.{same_Some}
 use Rattle.tg_rights.specs.declared.limits.TheConstants.{MAX_PRINCIPALS}
 use Rattle.tg_cells.specs.Lists.{Stands}
 use Rattle.tg_heap.specs.Graph.{shaded_by, painted}
@@ -37,12 +38,9 @@ pub record Split (es : List Edge) (cursor : ℕ) : Type 0 where
 
 pub split_at : (es : List Edge) (c : ℕ) → Some c ≡ first_cell (remaining (Some c) es) → Split es c
 split_at es c e = by (remaining (Some c) es) refl where
-  some_is : (a b : ℕ) → Some a ≡ Some b → b ≡ a
-  some_is a b e = cc
-
   by : (r : List Edge) → remaining (Some c) es ≡ r → Split es c
   by [] is = absurd (let u : Some c ≡ None = e ∙ ap first_cell is in cc)
-  by (x ∷ r) is = record { before = passed (Some c) es; edge = x; after = r; ahead = is; whole = sym (split_whole (Some c) es) ∙ ap (λ (a : List Edge). passed (Some c) es ++ a) is; here = some_is c x.cell (e ∙ ap first_cell is) }
+  by (x ∷ r) is = record { before = passed (Some c) es; edge = x; after = r; ahead = is; whole = sym (split_whole (Some c) es) ∙ ap (λ (a : List Edge). passed (Some c) es ++ a) is; here = sym (same_Some c x.cell (e ∙ ap first_cell is)) }
 
 pub scan_split : (m : Machine) (i c : ℕ) → m.progress ≡ course.Marking (Some (record { slot = i; cursor = Some c })) → Whole m → Split (edges m.heap i) c
 scan_split m i c at w = split_at (edges m.heap i) c (subst (CursorFits m.heap) at w.cursor)

@@ -27,6 +27,7 @@ use Rattle.tg_collect.specs.OpeningSteps.{subject, first_root, HoldsSubject, Ope
 use Rattle.tg_collect.proofs.SlotLemmas.{as_spot, put_list}
 use Rattle.tg_collect.proofs.ShownLemmas.{edge_shown}
 use Rattle.tg_collect.proofs.OpeningLemmas.{first_at, kept_rest, held_rest, rest_at, white, principal_at, opened_opens, put_in, held_in}
+use Rattle.tg_collect.proofs.StoreLemmas.{same_truth}
 
 -- The serials of the subjects.
 subject_low : (count x : ℕ) → finmap.contains_key (subjects count) x ≡ true → (1 ≤ x) × (x ≤ count)
@@ -93,18 +94,13 @@ module _ (m : Machine) (G : Protection) (count : ℕ) (e : G.vertices ≡ subjec
   pub rows_done : (slots cells : ℕ) → OpensEdges m G count count 0 → IsHeap m.heap → length m.heap.table.slots ≡ slots → m.heap.cell_count ≡ cells → Opened (stored m) G slots cells
   rows_done slots cells o ok es ec = record {
     vertices = o.opens.opened.vertices ∙ sym e;
-    triples = same_triples (triples (stored m)) G.triples (λ t. same _ _ (λ h. (o.before t h).0) (λ h. o.there t h (inl (ends_in t h).0.1)));
+    triples = same_triples (triples (stored m)) G.triples (λ t. same_truth _ _ (λ h. (o.before t h).0) (λ h. o.there t h (inl (ends_in t h).0.1)));
     parked = λ x p. by p.0 (subst (λ (q : Progress). (s : Spot) × (spot (stored m) p.0 ≡ Some s) × (values.keeps (as_progress (values.shown (progress_in m.heap q))) p.0 s.colour ≡ false)) o.opens.opened.progress p.1);
     grey = λ x c. let w = white m count o.opens.opened c.0 Grey c.1 in cc;
     black = λ x c. let w = white m count o.opens.opened c.0 Black c.1 in cc;
     count = count;
     opens = opened_opens m count o.opens.opened slots cells ok es ec;
   } where
-    same : (a b : Bool) → (a ≡ true → b ≡ true) → (b ≡ true → a ≡ true) → a ≡ b
-    same true b f g = sym (f refl)
-    same false true f g = g refl
-    same false false f g = refl
-
     by : (i : ℕ) → (s : Spot) × (spot (stored m) i ≡ Some s) × (true ≡ false) → ⊥
     by i (s, at, never) = cc
 

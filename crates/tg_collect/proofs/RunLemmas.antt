@@ -9,6 +9,7 @@ use Rattle.std.specs.FinSet as finset
 use Rattle.tg_marking.specs.Collected as marking
 use Rattle.tg_collect.specs.Sessions as sessions
 use Rattle.std.proofs.lemmas.List.{map-set, set-get_or}
+use Rattle.std.proofs.lemmas.Option.{same_Some}
 use Rattle.tg_rights.specs.Letters.{rights_where}
 use Rattle.tg_graph.specs.Paths.{Live, IsPart}
 use Rattle.tg_graph.specs.Protection.{IsGraph, label, vertex}
@@ -35,9 +36,6 @@ at_rest (values.Sweep k) e = absurd (cc)
 
 sane : (v : Stored) → IsStore v → Sane (shown v) (progress v)
 sane v s = record { closed = s.closed; once = s.once; idle = λ e. s.idle (at_rest v.stage e) }
-
-kept_same : (a b : Kept) → Some a ≡ Some b → a ≡ b
-kept_same a b e = cc
 
 -- A session step of a store is one of its slots.
 module _ (v w : Stored) (new target : Option ℕ) (next : ℕ) (s : IsStore v) (t : IsStore w) (a : Acted v w new target) (news : (x : ℕ) → new ≡ Some x → next ≤ x)
@@ -86,29 +84,20 @@ module _ (v w : Stored) (new target : Option ℕ) (next : ℕ) (s : IsStore v) (
       let q = s.closed.roots i r in
       let b = kept_is (progress v) i (Some (record x { colour = Grey })) k e in
       let old = kept_is (progress v) i (spot v i) q.0 q.1 in
-      let here : x ≡ old.0 = spots x old.0 (sym at ∙ old.1) in
-      let now : record x { colour = Grey } ≡ b.0 = spots (record x { colour = Grey }) b.0 b.1 in
+      let here : x ≡ old.0 = same_Some x old.0 (sym at ∙ old.1) in
+      let now : record x { colour = Grey } ≡ b.0 = same_Some (record x { colour = Grey }) b.0 b.1 in
       let what : q.0 ≡ k = sym old.3 ∙ ap as_kept (sym here) ∙ ap as_kept now ∙ b.3 in
       inl (q.0, q.1, ap (λ (z : Kept). z.serial) what, λ d h. inl (led q.0.edges d (subst (λ (z : Kept). Contains z.edges d) (sym what) h)))
-    where
-      spots : (a b : Spot) → Some a ≡ Some b → a ≡ b
-      spots a b e = cc
   slot_was i _ _ k at e (sessions.regards x es text f) =
       let b = kept_is (progress v) i (Some (record x { edges = es; text = text })) k e in
-      let now : record x { edges = es; text = text } ≡ b.0 = spots (record x { edges = es; text = text }) b.0 b.1 in
+      let now : record x { edges = es; text = text } ≡ b.0 = same_Some (record x { edges = es; text = text }) b.0 b.1 in
       let held_too : keeps (progress v) i x.colour ≡ true = ap (keeps (progress v) i) (ap (λ (z : Spot). z.colour) now) ∙ b.2 in
       let what : as_kept (record x { edges = es; text = text }) ≡ k = ap as_kept now ∙ b.3 in
       inl (as_kept x, ap (seen (progress v) i) at ∙ rw held_too refl, ap (λ (z : Kept). z.serial) what, λ d h. f d (subst (λ (z : Kept). Contains z.edges d) (sym what) h))
-    where
-      spots : (a b : Spot) → Some a ≡ Some b → a ≡ b
-      spots a b e = cc
   slot_was i _ _ k at e (sessions.comes x n c f) =
       let b = kept_is (progress v) i (Some x) k e in
-      let what : as_kept x ≡ k = ap as_kept (spots x b.0 b.1) ∙ b.3 in
+      let what : as_kept x ≡ k = ap as_kept (same_Some x b.0 b.1) ∙ b.3 in
       inr (news k.serial (n ∙ ap (λ (z : Kept). Some z.serial) what), λ d h. f d (subst (λ (z : Kept). Contains z.edges d) (sym what) h))
-    where
-      spots : (a b : Spot) → Some a ≡ Some b → a ≡ b
-      spots a b e = cc
 
   was : (i : ℕ) (k : Kept) → values.kept (shown w) (progress v) i ≡ Some k → Was i k
   was i k e = slot_was i (spot v i) (spot w i) k refl e (a.changes i)
@@ -122,7 +111,7 @@ module _ (v w : Stored) (new target : Option ℕ) (next : ℕ) (s : IsStore v) (
         let q = root_listed w.roots i r in
         let p = place_kept w q.0.slot q.0.serial (t.named q.0 q.1) in
         let here : kept w q.0.slot ≡ Some k = subst (λ (j : ℕ). kept w j ≡ Some k) (sym q.2) (ap (λ (z : Progress). values.kept (shown w) z i) same_progress ∙ h) in
-        let serial : q.0.serial ≡ k.serial = sym p.2 ∙ ap (λ (z : Kept). z.serial) (kept_same p.0 k (sym p.1 ∙ here)) in
+        let serial : q.0.serial ≡ k.serial = sym p.2 ∙ ap (λ (z : Kept). z.serial) (same_Some p.0 k (sym p.1 ∙ here)) in
         subst Wanted serial (root_before q.0.serial (in_root w q.0 q.1)));
     slots = λ i. slot_changes i (spot v i) (spot w i) (a.changes i);
     held = λ i k h. elim (was i k h) [ inl old ↦ inl (old.0, old.1, old.2) | inr n ↦ inr n.0 ];
@@ -167,12 +156,9 @@ complete v w u next ended since count s idle c t below r two x has =
       | inr n ↦ inr (subst (λ (y : ℕ). next ≤ y) at.3 n)
     ]
   where
-    serials : (a : Spot) (y : ℕ) → Some a.serial ≡ Some y → a.serial ≡ y
-    serials a y e = cc
-
     slot_of : IsHeldIn u x ⊎ IsParkedIn u x → (i : ℕ) × (z : Spot) × (spot u i ≡ Some z) × (z.serial ≡ x)
     slot_of (inl h) = let k = held_kept u x h in let b = kept_is (progress u) k.0 (spot u k.0) k.1 k.2 in (k.0, b.0, b.1, ap (λ (q : Kept). q.serial) b.3 ∙ k.3)
-    slot_of (inr (i, (z, e, dark), n)) = (i, z, e, serials z x (sym (ap values.name_of e) ∙ n))
+    slot_of (inr (i, (z, e, dark), n)) = (i, z, e, same_Some z.serial x (sym (ap values.name_of e) ∙ n))
 
 -- Collector steps since an end, and what is left, are at most the number of a cycle's steps.
 same_bound : (next : ℕ) (first v : Stored) (ended since : ℕ) → StoreRun next first v ended since → (slot_count v ≡ slot_count first) × (v.cells ≡ first.cells)
@@ -240,21 +226,18 @@ keeps_grey AtRest i = refl
 keeps_grey (Marking s) i = refl
 keeps_grey (Sweeping k) i = refl
 
-spot_is : (s t : Spot) → Some s ≡ Some t → s ≡ t
-spot_is s t e = cc
-
 -- what was parked, where a vertex is parked after a session step
 was_parked : (v : Stored) (new target : Option ℕ) (i : ℕ) (o p : Option Spot) → Changes v new target i o p → (s : Spot) → p ≡ Some s → keeps (progress v) i s.colour ≡ false
     → (t : Spot) × (o ≡ Some t) × (keeps (progress v) i t.colour ≡ false) × (t.serial ≡ s.serial)
 was_parked v new target i _ _ (sessions.same o) s at gone = (s, at, gone, refl)
 was_parked v new target i _ _ (sessions.shaded t white root) s at gone =
-    let away : keeps (progress v) i Grey ≡ false = ap (λ (q : Spot). keeps (progress v) i q.colour) (spot_is (record t { colour = Grey }) s at) ∙ gone in
+    let away : keeps (progress v) i Grey ≡ false = ap (λ (q : Spot). keeps (progress v) i q.colour) (same_Some (record t { colour = Grey }) s at) ∙ gone in
     absurd (cc (away, keeps_grey (progress v) i))
 was_parked v new target i _ _ (sessions.regards t es text to) s at gone =
-    let is = spot_is (record t { edges = es; text = text }) s at in
+    let is = same_Some (record t { edges = es; text = text }) s at in
     (t, refl, ap (λ (q : Spot). keeps (progress v) i q.colour) is ∙ gone, ap (λ (q : Spot). q.serial) is)
 was_parked v new target i _ _ (sessions.comes t named colour to) s at gone =
-    let away : keeps (progress v) i t.colour ≡ false = ap (λ (q : Spot). keeps (progress v) i q.colour) (spot_is t s at) ∙ gone in
+    let away : keeps (progress v) i t.colour ≡ false = ap (λ (q : Spot). keeps (progress v) i q.colour) (same_Some t s at) ∙ gone in
     absurd (cc (away, new_held (progress v) i t colour))
 
 still_free : (v : Stored) (target : Option ℕ) (i : ℕ) (o p : Option Spot) → Changes v None target i o p → free_one p ≡ free_one o
@@ -293,14 +276,11 @@ stays_or b _ _ _ (marking.ends k last) = inl tt
 -- a collector step changes no serial
 was_there : (b : Body) (p : Progress) (i : ℕ) (o q : Option Spot) → marking.Turns b p i o q → (s : Spot) → q ≡ Some s → (t : Spot) × (o ≡ Some t) × (t.serial ≡ s.serial)
 was_there b p i _ _ (marking.stays o) s at = (s, at, refl)
-was_there b p i _ _ (marking.greys t white early called) s at = (t, refl, ap (λ (q : Spot). q.serial) (spot_is (record t { colour = Grey }) s at))
-was_there b p i _ _ (marking.blackens t grey early) s at = (t, refl, ap (λ (q : Spot). q.serial) (spot_is (record t { colour = Black }) s at))
-was_there b p i _ _ (marking.whitens t black here) s at = (t, refl, ap (λ (q : Spot). q.serial) (spot_is (record t { colour = White }) s at))
-was_there b p i _ _ (marking.strips t e r white here has) s at = (t, refl, ap (λ (q : Spot). q.serial) (spot_is (record t { edges = r }) s at))
+was_there b p i _ _ (marking.greys t white early called) s at = (t, refl, ap (λ (q : Spot). q.serial) (same_Some (record t { colour = Grey }) s at))
+was_there b p i _ _ (marking.blackens t grey early) s at = (t, refl, ap (λ (q : Spot). q.serial) (same_Some (record t { colour = Black }) s at))
+was_there b p i _ _ (marking.whitens t black here) s at = (t, refl, ap (λ (q : Spot). q.serial) (same_Some (record t { colour = White }) s at))
+was_there b p i _ _ (marking.strips t e r white here has) s at = (t, refl, ap (λ (q : Spot). q.serial) (same_Some (record t { edges = r }) s at))
 was_there b p i _ _ (marking.frees t white here bare) s at = absurd (cc at)
-
-same_kept : (k t : Kept) → Some k ≡ Some t → k ≡ t
-same_kept k t e = cc
 
 -- after a collector step, what is held is still a part of the graph: the same, or once the rest was parked what is black
 module _ {v w : Stored} {count : ℕ} {ended : Bool} (c : Collected v w count ended) where
@@ -344,7 +324,7 @@ module _ {v w : Stored} {count : ℕ} {ended : Bool} (c : Collected v w count en
           let r = held_kept w x held in
           let was : kept v o.at ≡ Some o.kept = sym (held_at v o.at) ∙ o.is in
           let at : o.at ≡ r.0 = once_v o.at r.0 o.kept r.1 was (was_kept r.0 r.1 r.2) (sym o.from ∙ sym r.3) in
-          let same : r.1 ≡ o.kept = same_kept r.1 o.kept (sym (was_kept r.0 r.1 r.2) ∙ sym (ap (kept v) at) ∙ was) in
+          let same : r.1 ≡ o.kept = same_Some r.1 o.kept (sym (was_kept r.0 r.1 r.2) ∙ sym (ap (kept v) at) ∙ was) in
           let now : kept w o.at ≡ Some o.kept = ap (kept w) at ∙ r.2 ∙ ap (λ k. Some k) same in
           subst (λ (t : Triple). finset.contains (triples w) t ≡ true) (λ i. record { from = sym o.from i; right = right; to = sym o.to i }) (says_triple w o.at o.kept o.edge right now o.owned o.right)
 

@@ -17,7 +17,7 @@ use Rattle.tg_marking.proofs.SpotLemmas.{shade_each}
 use Rattle.tg_held.specs.Held.{Apart}
 use Rattle.tg_collect.specs.Machine.{zip, AreRoots}
 use Rattle.tg_collect.specs.Calls.{ShadesSeat}
-use Rattle.tg_collect.specs.Sessions.{Shaded, TargetShaded, Changes, Acted}
+use Rattle.tg_collect.specs.Sessions.{Shaded, TargetShaded, Changes, Acted, Leads}
 use Rattle.tg_collect.proofs.SlotLemmas.{shaded_so, seat_slot, seat_contains, listed_root, at_free, put_slot, zip_size}
 use Rattle.tg_collect.proofs.StoreLemmas.{named_so, stored_kept, seat_shown, kept_name, once_stored}
 use Rattle.tg_collect.proofs.ShownLemmas.{held_same, held_at, held_set, from_size, kept_held}
@@ -278,10 +278,6 @@ module _ (m : Machine) (seat i serial : ℕ) (kind : Kind) (text rest : List ℕ
       ∙ rw (new_held (progress (stored m)) i vertex (sym (new_same (progress_of m) i))) refl
 
 -- Each session call is a session step of a run.
-pub acted_same : (v w : Stored) → w ≡ v → Acted v w None None
-acted_same v w is = subst (λ (z : Stored). Acted v z None None) (sym is)
-    (record { stage = refl; principals = refl; agents = refl; pending = λ x h. inl h; slots = refl; changes = λ i. sessions.same (readings.spot v i); cells = refl; left = omega arith })
-
 -- The targets after a seat's was set.
 pending_set : (v : Stored) (seat : ℕ) (t : Option Root) (x : ℕ) → Contains (map (λ o. root_serial o) (set v.roots.targets seat t)) (Some x) → Contains (pending v) (Some x) ⊎ (root_serial t ≡ Some x)
 pending_set v seat t x h = set_only (pending v) seat (root_serial t) (Some x) (subst (λ l. Contains l (Some x)) (map-set (λ o. root_serial o) v.roots.targets seat t) h)
@@ -290,70 +286,48 @@ pending_set v seat t x h = set_only (pending v) seat (root_serial t) (Some x) (s
 one_changes : (v : Stored) (new target : Option ℕ) (i : ℕ) (s : Spot) (o : Option Spot) → readings.spot v i ≡ Some s → Changes v new target i (Some s) o → (j : ℕ) → Changes v new target j (readings.spot v j) (get_or (set v.slots i o) j None)
 one_changes v new target i s o at c = put_each (λ j x. Changes v new target j (readings.spot v j) x) (shown v) i o (at_within v.slots i s at) (subst (λ (q : Option Spot). Changes v new target i q o) (sym at) c) (λ j n. sessions.same (readings.spot v j))
 
+-- A step that leaves the phase, the principals, the agents and the number of cells.
+acted_by : (v : Stored) (slots : List (Option Spot)) (targets : List (Option Root)) (free left : ℕ) (new target : Option ℕ)
+    → ((x : ℕ) → Contains (map (λ o. root_serial o) targets) (Some x) → Contains (pending v) (Some x) ⊎ (target ≡ Some x)) → length slots ≡ length v.slots
+    → ((i : ℕ) → Changes v new target i (readings.spot v i) (get_or slots i None)) → left ≤ v.left → Acted v (record v { slots = slots; roots = record v.roots { targets = targets }; free_cells = free; left = left }) new target
+acted_by v slots targets free left new target seats size each lower = record { stage = refl; principals = refl; agents = refl; pending = seats; slots = size; changes = each; cells = refl; left = lower }
+
+pub acted_same : (v w : Stored) → w ≡ v → Acted v w None None
+acted_same v w is = subst (λ (z : Stored). Acted v z None None) (sym is) (acted_by v v.slots v.roots.targets v.free_cells v.left None None (λ x h. inl h) refl (λ i. sessions.same (readings.spot v i)) (omega arith))
+
+-- New edges lead to what the old ones did, or to the target.
+led_to : (es : List Edge) (y : ℕ) (e : Edge) → Leads es e ⊎ (e.serial ≡ y) → Leads es e ⊎ (Some y ≡ Some e.serial)
+led_to es y e (inl old) = inl old
+led_to es y e (inr new) = inr (ap (λ (n : ℕ). Some n) (sym new))
+
 pub acted_shaded : (v w : Stored) (seat : ℕ) (answer : Option ℕ) → Shaded v w seat answer → Acted v w None None
 acted_shaded v w seat None s = acted_same v w s.1
-acted_shaded v w seat (Some x) s = subst (λ (z : Stored). Acted v z None None) (sym s.is) (record {
-  stage = refl;
-  principals = refl;
-  agents = refl;
-  pending = λ y h. elim (pending_set v seat None y h) [ inl old ↦ inl old | inr bad ↦ absurd (cc) ];
-  slots = shade_size (shown v) s.slot;
-  changes = shade_each (λ j o. Changes v None None j (readings.spot v j) o) (shown v) s.slot (λ t e c. subst (λ (q : Option Spot). Changes v None None s.slot q (Some (record t { colour = Grey }))) (sym e) (sessions.shaded t c s.root)) (λ j. sessions.same (readings.spot v j));
-  cells = refl;
-  left = s.left;
-})
+acted_shaded v w seat (Some x) s = subst (λ (z : Stored). Acted v z None None) (sym s.is) (acted_by v (shade (shown v) s.slot).slots (set v.roots.targets seat None) v.free_cells w.left None None
+    (λ y h. elim (pending_set v seat None y h) [ inl old ↦ inl old | inr bad ↦ absurd (cc) ]) (shade_size (shown v) s.slot)
+    (shade_each (λ j o. Changes v None None j (readings.spot v j) o) (shown v) s.slot (λ t e c. subst (λ (q : Option Spot). Changes v None None s.slot q (Some (record t { colour = Grey }))) (sym e) (sessions.shaded t c s.root)) (λ j. sessions.same (readings.spot v j))) s.left)
 
 pub acted_edge : (v w : Stored) (seat x y : ℕ) (rights : Letters) → EdgeStored v w seat x y rights → Acted v w None (Some y)
-acted_edge v w seat x y rights s = subst (λ (z : Stored). Acted v z None (Some y)) (sym s.is) (record {
-  stage = refl;
-  principals = refl;
-  agents = refl;
-  pending = λ z h. elim (pending_set v seat (Some s.target) z h) [ inl old ↦ inl old | inr new ↦ inr (ap (λ (n : ℕ). Some n) (sym s.named) ∙ new) ];
-  slots = length-set v.slots s.slot _;
-  changes = one_changes v None (Some y) s.slot s.owner _ s.at (sessions.regards s.owner s.edges s.owner.text (λ e h. elim (s.leads e h) [ inl old ↦ inl old | inr new ↦ inr (ap (λ (n : ℕ). Some n) (sym new)) ]));
-  cells = refl;
-  left = s.left;
-})
+acted_edge v w seat x y rights s = subst (λ (z : Stored). Acted v z None (Some y)) (sym s.is) (acted_by v (set v.slots s.slot (Some (record s.owner { edges = s.edges }))) (set v.roots.targets seat (Some s.target)) w.free_cells w.left None (Some y)
+    (λ z h. elim (pending_set v seat (Some s.target) z h) [ inl old ↦ inl old | inr new ↦ inr (ap (λ (n : ℕ). Some n) (sym s.named) ∙ new) ]) (length-set v.slots s.slot _)
+    (one_changes v None (Some y) s.slot s.owner _ s.at (sessions.regards s.owner s.edges s.owner.text (λ e h. led_to s.owner.edges y e (s.leads e h)))) s.left)
 
 pub acted_removed : (v w : Stored) (x y : ℕ) (rights : Letters) → RightsRemoved v w x y rights → Acted v w None None
-acted_removed v w x y rights s = subst (λ (z : Stored). Acted v z None None) (sym s.is) (record {
-  stage = refl;
-  principals = refl;
-  agents = refl;
-  pending = λ z h. inl h;
-  slots = length-set v.slots s.slot _;
-  changes = one_changes v None None s.slot s.owner _ s.at (sessions.regards s.owner s.edges s.owner.text (λ e h. inl (s.leads e h)));
-  cells = refl;
-  left = s.left;
-})
+acted_removed v w x y rights s = subst (λ (z : Stored). Acted v z None None) (sym s.is) (acted_by v (set v.slots s.slot (Some (record s.owner { edges = s.edges }))) v.roots.targets w.free_cells w.left None None (λ z h. inl h) (length-set v.slots s.slot _)
+    (one_changes v None None s.slot s.owner _ s.at (sessions.regards s.owner s.edges s.owner.text (λ e h. inl (s.leads e h)))) s.left)
 
 pub acted_text : (v w : Stored) (x : ℕ) (text answer : List ℕ) → TextReplaced v w x text answer → Acted v w None None
-acted_text v w x text answer s = subst (λ (z : Stored). Acted v z None None) (sym s.is) (record {
-  stage = refl;
-  principals = refl;
-  agents = refl;
-  pending = λ z h. inl h;
-  slots = length-set v.slots s.slot _;
-  changes = one_changes v None None s.slot s.owner _ s.at (sessions.regards s.owner s.owner.edges text (λ e h. inl (contains_map (λ (d : Edge). d.serial) s.owner.edges e h)));
-  cells = refl;
-  left = s.left;
-})
+acted_text v w x text answer s = subst (λ (z : Stored). Acted v z None None) (sym s.is) (acted_by v (set v.slots s.slot (Some (record s.owner { text = text }))) v.roots.targets v.free_cells w.left None None (λ z h. inl h) (length-set v.slots s.slot _)
+    (one_changes v None None s.slot s.owner _ s.at (sessions.regards s.owner s.owner.edges text (λ e h. inl (contains_map (λ (d : Edge). d.serial) s.owner.edges e h)))) s.left)
 
 pub acted_vertex : (v w : Stored) (seat x serial : ℕ) (kind : Kind) (text : List ℕ) (rights : Letters) → VertexStored v w seat x serial kind text rights → Acted v w (Some serial) (Some serial)
 acted_vertex v w seat x serial kind text rights s =
     let vertex : Spot = record { serial = serial; kind = kind; text = text; edges = []; colour = new_colour (progress v) s.new } in
-    subst (λ (z : Stored). Acted v z (Some serial) (Some serial)) (sym s.is) (record {
-      stage = refl;
-      principals = refl;
-      agents = refl;
-      pending = λ z h. pending_set v seat (Some (record { serial = serial; slot = s.new })) z h;
-      slots = length-set (set v.slots s.new (Some vertex)) s.slot _ ∙ length-set v.slots s.new _;
-      changes = put_each (λ j o. Changes v (Some serial) (Some serial) j (readings.spot v j) o) (record (shown v) { slots = set v.slots s.new (Some vertex) }) s.slot (Some (record s.owner { edges = s.edges }))
-          (let b = at_within v.slots s.slot s.owner s.at in let l = length-set v.slots s.new (Some vertex) in omega (arith, b, l))
-          (subst (λ (q : Option Spot). Changes v (Some serial) (Some serial) s.slot q (Some (record s.owner { edges = s.edges }))) (sym s.at)
-          (sessions.regards s.owner s.edges s.owner.text (λ e h. elim (s.leads e h) [ inl old ↦ inl old | inr new ↦ inr (ap (λ (n : ℕ). Some n) (sym new)) ])))
-          (λ j n. put_each (λ k o. Changes v (Some serial) (Some serial) k (readings.spot v k) o) (shown v) s.new (Some vertex) s.within
-          (subst (λ (q : Option Spot). Changes v (Some serial) (Some serial) s.new q (Some vertex)) (sym s.free) (sessions.comes vertex refl refl (λ e bad. absurd bad))) (λ k n. sessions.same (readings.spot v k)) j);
-      cells = refl;
-      left = s.left;
-    })
+    subst (λ (z : Stored). Acted v z (Some serial) (Some serial)) (sym s.is)
+    (acted_by v (set (set v.slots s.new (Some vertex)) s.slot (Some (record s.owner { edges = s.edges }))) (set v.roots.targets seat (Some (record { serial = serial; slot = s.new }))) w.free_cells w.left (Some serial) (Some serial)
+    (pending_set v seat (Some (record { serial = serial; slot = s.new }))) (length-set (set v.slots s.new (Some vertex)) s.slot _ ∙ length-set v.slots s.new _)
+    (put_each (λ j o. Changes v (Some serial) (Some serial) j (readings.spot v j) o) (record (shown v) { slots = set v.slots s.new (Some vertex) }) s.slot (Some (record s.owner { edges = s.edges }))
+    (let b = at_within v.slots s.slot s.owner s.at in let l = length-set v.slots s.new (Some vertex) in omega (arith, b, l))
+    (subst (λ (q : Option Spot). Changes v (Some serial) (Some serial) s.slot q (Some (record s.owner { edges = s.edges }))) (sym s.at)
+    (sessions.regards s.owner s.edges s.owner.text (λ e h. led_to s.owner.edges serial e (s.leads e h))))
+    (λ j n. put_each (λ k o. Changes v (Some serial) (Some serial) k (readings.spot v k) o) (shown v) s.new (Some vertex) s.within
+    (subst (λ (q : Option Spot). Changes v (Some serial) (Some serial) s.new q (Some vertex)) (sym s.free) (sessions.comes vertex refl refl (λ e bad. absurd bad))) (λ k n. sessions.same (readings.spot v k)) j)) s.left)

@@ -1,6 +1,6 @@
 -- What each store has.
 use Rattle.std.proofs.Common.{◌≡◌, ◌≢◌, ℕ, ◌<◌, ◌≤◌, List, [], ◌∷◌, map, Option, Some, None, inl, inr, Bool, true, false, cond, sym, ◌∙◌, subst, ap, refl, zero, suc, length, MatchOption, arith, get_or, ◌++◌}
-use Rattle.tg_collect.proofs.Common.{Contains, contains_map, Has, Grey, Black, Triple, Spot, AtRest, Body, Kept, as_kept, seen, name_of, mark, Root, Machine, IsListed, lists_of, body, progress_of, Whole, Stored, stored, kept, place, root_serial, triples, serial_of, IsHeldIn, IsParkedIn, progress, spot, is_some, Letters, Right, has, is_none, Distinct, contains_middle, vertex_of, Free, slot, Occupant, Edge, HasNone, Found, edges, mark_at, IsHeap, pending_of, IsEdgeIn, held, name, at_within, some_right, Protection, shown, IsStore}
+use Rattle.tg_collect.proofs.Common.{Contains, contains_map, Has, Grey, Black, Triple, Spot, AtRest, Body, Kept, as_kept, seen, name_of, mark, Root, Machine, IsListed, lists_of, body, progress_of, Whole, Stored, stored, kept, place, root_serial, triples, serial_of, IsHeldIn, IsParkedIn, progress, spot, is_some, Letters, Right, has, is_none, Distinct, contains_middle, vertex_of, Free, slot, Occupant, Edge, HasNone, Found, edges, mark_at, IsHeap, pending_of, IsEdgeIn, held, name, at_within, some_right, shown, IsStore}
 use Rattle.std.specs.FinSet as finset
 use Rattle.tg_marking.specs.Values as values
 use Rattle.tg_collect.specs.Readings as readings
@@ -15,6 +15,8 @@ use Rattle.tg_rights.proofs.MembershipLemmas.{same_by, split_at}
 use Rattle.tg_rights.proofs.LettersLemmas.{right_some}
 use Rattle.tg_graph.specs.Protection.{label, IsEdge}
 use Rattle.tg_graph.specs.Paths.{Leads, Live}
+use Rattle.tg_graph.proofs.OutcomesAgreeLemmas.{leads_on}
+use Rattle.tg_graph.proofs.LabelLemmas.{contains-label}
 use Rattle.tg_slots.specs.Table.{in_slot}
 use Rattle.tg_marking.specs.Values.{Progress, Marking, Sweeping, edges_of}
 use Rattle.tg_marking.specs.Invariant.{Closed, Phased, IsLive, at_root, along}
@@ -31,9 +33,7 @@ pub kept_is : (p : Progress) (i : ℕ) (o : Option Spot) (k : Kept) → seen p i
 kept_is p i None k e = absurd (cc)
 kept_is p i (Some s) k e = let r = by (values.keeps p i s.colour) e in (s, refl, r.0, r.1) where
   by : (b : Bool) → cond b (Some (as_kept s)) None ≡ Some k → (b ≡ true) × (as_kept s ≡ k)
-  by true e = (refl, same (as_kept s) k e) where
-    same : (a c : Kept) → Some a ≡ Some c → a ≡ c
-    same a c e = cc
+  by true e = (refl, same_Some (as_kept s) k e)
   by false e = absurd (cc)
 
 pub kept_name : (p : Progress) (i : ℕ) (o : Option Spot) (k : Kept) → seen p i o ≡ Some k → name_of o ≡ Some k.serial
@@ -132,9 +132,6 @@ holds m i e = by (slot m.heap.table i) refl (sym (zip_at m.heap.table.slots m.he
   r : (s : Spot) × (values.spot (body m) i ≡ Some s) × (values.keeps (progress (stored m)) i s.colour ≡ true) × (as_kept s ≡ k.0)
   r = kept_is (progress (stored m)) i (values.spot (body m) i) k.0 k.1
 
-  spots : (a b : Spot) → Some a ≡ Some b → a ≡ b
-  spots a b e = cc
-
   by : (o : Option Occupant) → slot m.heap.table i ≡ o → join (slot m.heap.table i) (edges m.heap i) ≡ Some r.0 → Holds m i
   by None is at = absurd (let u : None ≡ Some r.0 = sym (ap (λ q. join q (edges m.heap i)) is) ∙ at in cc)
   by (Some o) is at = record {
@@ -143,7 +140,7 @@ holds m i e = by (slot m.heap.table i) refl (sym (zip_at m.heap.table.slots m.he
     serial = sym k.2;
     occupant = o;
     is = is;
-    same = ap as_kept (spots (as_spot o (edges m.heap i)) r.0 (sym (ap (λ q. join q (edges m.heap i)) is) ∙ at)) ∙ r.3;
+    same = ap as_kept (same_Some (as_spot o (edges m.heap i)) r.0 (sym (ap (λ q. join q (edges m.heap i)) is) ∙ at)) ∙ r.3;
   }
 
 module _ (m : Machine) (i : ℕ) (e : is_some (place (stored m) i) ≡ true) where
@@ -187,16 +184,13 @@ has_none right.write = refl
 has_none right.take = refl
 has_none right.grant = refl
 
-kept_same : (k t : Kept) → Some k ≡ Some t → k ≡ t
-kept_same k t e = cc
-
 module _ (v : Stored) (next i : ℕ) (k : Kept) (once : Once v) (is : kept v i ≡ Some k) where
   pub owned_here : (t : Triple) (h : finset.contains (triples v) t ≡ true) → t.from ≡ k.serial → (e : Edge) × Contains k.edges e × (t.to ≡ e.serial) × (has e.rights t.right ≡ true)
   owned_here t h from =
       let o = triple_owned v t h in
       let there : kept v o.at ≡ Some o.kept = sym (held_at v o.at) ∙ o.is in
       let at : o.at ≡ i = once o.at i o.kept k there is (sym o.from ∙ from) in
-      let same : o.kept ≡ k = kept_same o.kept k (sym (subst (λ (j : ℕ). kept v j ≡ Some o.kept) at there) ∙ is) in
+      let same : o.kept ≡ k = same_Some o.kept k (sym (subst (λ (j : ℕ). kept v j ≡ Some o.kept) at there) ∙ is) in
       (o.edge, subst (λ (q : Kept). Contains q.edges o.edge) same o.owned, o.to, o.right)
 
   pub label_edge : (e : Edge) → Distinct (map (λ (d : Edge). d.serial) k.edges) → Contains k.edges e → label (held v next) k.serial e.serial ≡ e.rights
@@ -295,22 +289,10 @@ unnamed m x none = (
 
 -- Paths of the plain graph are paths of a store's slots, and back.
 pub edge_in : (v : Stored) (next x y : ℕ) → IsEdge (held v next) x y → IsEdgeIn v x y
-unfolding label
-edge_in v next x y e = let s = some_right (label (held v next) x y) e in (s.0, by s.0 s.1) where
-  by : (s : Right) → has (label (held v next) x y) s ≡ true → finset.contains (triples v) (record { from = x; right = s; to = y }) ≡ true
-  by read e = e
-  by write e = e
-  by take e = e
-  by grant e = e
+edge_in v next x y e = let s = some_right (label (held v next) x y) e in (s.0, contains-label (held v next) (record { from = x; right = s.0; to = y }) ∙ s.1)
 
 pub in_edge : (v : Stored) (next x y : ℕ) → IsEdgeIn v x y → IsEdge (held v next) x y
-unfolding label
-in_edge v next x y e = right_some (label (held v next) x y) e.0 (by e.0 e.1) where
-  by : (s : Right) → finset.contains (triples v) (record { from = x; right = s; to = y }) ≡ true → has (label (held v next) x y) s ≡ true
-  by read e = e
-  by write e = e
-  by take e = e
-  by grant e = e
+in_edge v next x y e = right_some (label (held v next) x y) e.0 (sym (contains-label (held v next) (record { from = x; right = e.0; to = y })) ∙ e.1)
 
 module _ (v : Stored) (s : IsStore v) where
   once : Once v
@@ -333,32 +315,22 @@ module _ (v : Stored) (s : IsStore v) where
   pub live_slots : (next x : ℕ) → Live (held v next) (IsRootIn v) x → LiveAt x
   live_slots next x l = leads_live next l.0 l.2.0 x (root_live l.0 l.1) l.2.1.1
 
-  leads_more : (G : Protection) (x : ℕ) (later : List ℕ) (y z : ℕ) → Leads G x later y → IsEdge G y z → Leads G x (later ++ z ∷ []) z
-  leads_more G x [] y z p e = (subst (λ (k : ℕ). IsEdge G k z) (sym p) e, refl)
-  leads_more G x (k ∷ ks) y z p e = (p.0, leads_more G k ks y z p.1 e)
-
   slot_live : (next i : ℕ) (k : Kept) → IsLive (shown v) (progress v) i → kept v i ≡ Some k → Live (held v next) (IsRootIn v) k.serial
   slot_live next i k (at_root _ r) h =
       let q = root_listed v.roots i r in
       let p = place_kept v q.0.slot q.0.serial (s.named q.0 q.1) in
-      let same : p.0 ≡ k = kepts p.0 k (sym p.1 ∙ subst (λ (j : ℕ). kept v j ≡ Some k) (sym q.2) h) in
+      let same : p.0 ≡ k = same_Some p.0 k (sym p.1 ∙ subst (λ (j : ℕ). kept v j ≡ Some k) (sym q.2) h) in
       let root : IsRootIn v k.serial = subst (IsRootIn v) (sym p.2 ∙ ap (λ (z : Kept). z.serial) same) (in_root v q.0 q.1) in
       (k.serial, root, ([], (s.roots_held k.serial root, refl)))
-    where
-      kepts : (a b : Kept) → Some a ≡ Some b → a ≡ b
-      kepts a b e = cc
   slot_live next _ k (along i t e r is c) h =
       let l = slot_live next i t r is in
       let there = s.closed.edges i t e is c in
-      let same : there.0 ≡ k = kepts there.0 k (sym there.1 ∙ h) in
+      let same : there.0 ≡ k = same_Some there.0 k (sym there.1 ∙ h) in
       let to : e.serial ≡ k.serial = sym there.2 ∙ ap (λ (z : Kept). z.serial) same in
       let o = kept_is (progress v) i (spot v i) t is in
       let mine : Contains (edges_of (spot v i)) e = subst (λ (es : List Edge). Contains es e) (ap (λ (z : Kept). z.edges) (sym o.3) ∙ sym (ap edges_of o.1)) c in
       let step : IsEdge (held v next) t.serial k.serial = in_edge v next t.serial k.serial (subst (IsEdgeIn v t.serial) to (edge_shown v i t e is c (s.labelled i e mine))) in
-      (l.0, l.1, (l.2.0 ++ k.serial ∷ [], (l.2.1.0, leads_more (held v next) l.0 l.2.0 t.serial k.serial l.2.1.1 step)))
-    where
-      kepts : (a b : Kept) → Some a ≡ Some b → a ≡ b
-      kepts a b e = cc
+      (l.0, l.1, (l.2.0 ++ k.serial ∷ [], (l.2.1.0, leads_on (held v next) l.2.0 l.0 t.serial k.serial l.2.1.1 step)))
 
   pub slots_live : (next x : ℕ) → LiveAt x → Live (held v next) (IsRootIn v) x
   slots_live next x l = subst (Live (held v next) (IsRootIn v)) l.4 (slot_live next l.0 l.1 l.2 l.3)
