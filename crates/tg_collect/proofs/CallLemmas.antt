@@ -1,31 +1,16 @@
 -- What the calls that add an edge, and a vertex with its edge, do to a store.
 use Rattle.std.proofs.Common.{◌≡◌, ◌≢◌, ℕ, ◌<◌, List, [], ◌∷◌, length, Option, Some, None, Result, Ok, Err, true, false, sym, ◌∙◌, subst, ap, refl, arith, get_or, ◌+◌, ◌++◌, ◌⊎◌, inl, inr, Bool, cond, eqb, ◌&&◌, set, get_or-set_same, get_or-set_other}
-use Rattle.tg_collect.proofs.Common.{is_some, length-map, SEATS, Letters, is_none, Contains, Occupant, IsHeap, IsAdded, Kept, Root, Machine, slot_of, lists_of, bare, Whole, stored, place, pending_of, IsEdgeIn, EdgeStored, Distinct, contains_middle, contains_map, edge, Edge, first_cell, Found, HeapGraph, edges, at_within, Progress, Idle, Marking, Sweeping, progress_in, Stored, as_progress, kept, kept_from, progress, held, Leads, RightsRemoved, Body, name, name_of, put, put_each, vertex_of, comes, body, progress_of, TextReplaced, Kind, Protection, Free, slot, HasNone, mark_at, new_colour, gains, with_target, body_of, Puts, spot, serial_of, IsHeldIn, IsParkedIn, VertexStored}
+use Rattle.tg_collect.proofs.Common.{is_some, length-map, SEATS, Letters, is_none, Contains, Occupant, IsHeap, IsAdded, Kept, Root, Machine, slot_of, lists_of, bare, Whole, stored, place, pending_of, IsEdgeIn, EdgeStored, Distinct}
+use Rattle.tg_collect.proofs.Common.{contains_middle, contains_map, edge, Edge, first_cell, Found, HeapGraph, edges, at_within, Progress, Idle, Marking, Sweeping, progress_in, Stored, as_progress, kept, kept_from, progress, held, Leads}
+use Rattle.tg_collect.proofs.Common.{RightsRemoved, Body, name, name_of, put, put_each, vertex_of, comes, body, progress_of, TextReplaced, Kind, Protection, Free, slot, HasNone, mark_at, new_colour, gains, with_target, body_of, Puts, spot}
+use Rattle.tg_collect.proofs.Common.{serial_of, IsHeldIn, IsParkedIn, VertexStored, OnOk, OnErr, IfErr, unwrap_or, same_Some, none, without, map_append, distinct_around, is_none-none, cells, serials, HeapFull, IsDropped, Dropped, Stayed}
+use Rattle.tg_collect.proofs.Common.{Gone, Rewrites, rewrites_keeps, left_rewrites, IsTarget, Apart, drops, Adds, is_at, progress_without, progress_dropped, SetsText, Links, serial_at}
 use Rattle.tg_heap.specs.declared.heap.HeapFull.TheVariants as full
 use Rattle.std.specs.FinSet as finset
 use Rattle.tg_marking.specs.Values as values
 use Rattle.tg_held.specs.Held as graph
 use Rattle.tg_collect.proofs.SeatLemmas as placed
-use Rattle.std.specs.Prelude.{OnOk, OnErr, IfErr}
-use Rattle.std.specs.Option.{unwrap_or}
-use Rattle.std.proofs.lemmas.Option.{same_Some}
-use Rattle.tg_rights.specs.Letters.{none, without}
-use Rattle.tg_rights.proofs.MembershipLemmas.{map_append, distinct_around}
-use Rattle.tg_rights.proofs.LettersLemmas.{is_none-none}
 use Rattle.tg_slots.specs.Table.{mark_of}
-use Rattle.tg_cells.specs.Lists.{cells, serials}
-use Rattle.tg_heap.specs.declared.heap.HeapFull.{HeapFull}
-use Rattle.tg_heap.specs.Calls.{IsDropped}
-use Rattle.tg_heap.specs.declared.heap.Dropped.{Dropped}
-use Rattle.tg_heap.specs.declared.heap.Dropped.TheVariants.{Kept as Stayed, Gone}
-use Rattle.tg_marking.specs.Steps.{Rewrites}
-use Rattle.tg_marking.proofs.DropLemmas.{rewrites_keeps}
-use Rattle.tg_marking.proofs.CountLemmas.{left_rewrites}
-use Rattle.tg_marking.specs.Values.{IsTarget}
-use Rattle.tg_held.specs.Held.{Apart}
-use Rattle.tg_held.proofs.HeldLemmas.{drops}
-use Rattle.tg_collect.specs.Calls.{Adds, is_at, progress_without, progress_dropped, SetsText, Links}
-use Rattle.tg_collect.specs.Readings.{serial_at}
 use Rattle.tg_collect.proofs.StoreLemmas.{once_stored, Holds, holds, owned_here, idle_seat, stored_kept, closed_so, placed_mark, found_contains}
 use Rattle.tg_collect.proofs.EdgeLemmas.{added, relabels, leaves, Replaced, replaced_drops, regarded, regarded_at, still_leads, fewer_lead, puts_progress, replaced_puts}
 use Rattle.tg_collect.proofs.SlotLemmas.{as_spot, at_slot, put_slot, at_free, free_so, slots_at}

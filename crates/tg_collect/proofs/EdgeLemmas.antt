@@ -1,26 +1,15 @@
 -- An edge comes, changes its label or goes.
 use Rattle.std.proofs.Common.{◌≡◌, ◌≢◌, ℕ, ◌<◌, List, [], ◌∷◌, ◌++◌, length, append_assoc, Option, Some, None, ◌⊎◌, inl, inr, Bool, true, false, cond, eq-eqb, sym, ◌∙◌, subst, ap, refl, set, get_or-set_same, get_or-set_other, ◌+◌, ◌≤◌, arith, get_or}
-use Rattle.tg_collect.proofs.Common.{cases_eq, Contains, Distinct, Edge, first_cell, HeapGraph, edges, remaining, Progress, Idle, Marking, Sweeping, progress_in, CursorFits, Letters, is_none, contains_middle, contains_map, edge, Occupant, slot, HasNone, Found, IsHeap, IsAdded, Spot, Body, Kept, as_kept, name, name_of, seen, put, left, put_each, at_within, gains, Root, Roots, Machine, RootLists, lists_of, with_target, bare, body_of, body, progress_of, Whole, Stored, stored, as_progress, kept, kept_from, progress, spot, held, IsEdgeIn, Leads, EdgeStored}
+use Rattle.tg_collect.proofs.Common.{cases_eq, Contains, Distinct, Edge, first_cell, HeapGraph, edges, remaining, Progress, Idle, Marking, Sweeping, progress_in, CursorFits, Letters, is_none, contains_middle, contains_map, edge, Occupant}
+use Rattle.tg_collect.proofs.Common.{slot, HasNone, Found, IsHeap, IsAdded, Spot, Body, Kept, as_kept, name, name_of, seen, put, left, put_each, at_within, gains, Root, Roots, Machine, RootLists, lists_of, with_target, bare, body_of, body}
+use Rattle.tg_collect.proofs.Common.{progress_of, Whole, Stored, stored, as_progress, kept, kept_from, progress, spot, held, IsEdgeIn, Leads, EdgeStored, same_Some, ne_eqb, joined, cells, passed, split_whole, remaining_split, Trims}
+use Rattle.tg_collect.proofs.Common.{sweeping, unscanned, elsewhere, ahead, DropsEdge, PutsEdge, IsTarget, Invariant, reroots_keeps, puts_keeps, drops_keeps, same_roots, left_puts, left_drops, joins, scan_in, AreRoots, is_at}
+use Rattle.tg_collect.proofs.Common.{progress_without}
 use Rattle.tg_marking.specs.Values as values
 use Rattle.tg_marking.specs.Steps as steps
 use Rattle.std.specs.FinSet as finset
 use Rattle.tg_held.specs.Held as graph
-use Rattle.std.proofs.lemmas.Option.{same_Some}
-use Rattle.std.proofs.lemmas.Bool.{ne_eqb}
-use Rattle.tg_rights.specs.Letters.{joined}
-use Rattle.tg_cells.specs.Lists.{cells}
-use Rattle.tg_heap.specs.Marking.{passed}
-use Rattle.tg_heap.proofs.CursorLemmas.{split_whole, remaining_split}
-use Rattle.tg_marking.specs.Steps.{Trims, sweeping, unscanned, elsewhere, ahead, DropsEdge, PutsEdge}
-use Rattle.tg_marking.specs.Values.{IsTarget}
-use Rattle.tg_marking.specs.Invariant.{Invariant}
-use Rattle.tg_marking.proofs.SessionLemmas.{reroots_keeps, puts_keeps}
-use Rattle.tg_marking.proofs.DropLemmas.{drops_keeps}
-use Rattle.tg_marking.proofs.CountLemmas.{same_roots, left_puts, left_drops}
-use Rattle.tg_held.proofs.HeldLemmas.{joins}
 use Rattle.tg_collect.specs.declared.machine.Scan.{Scan}
-use Rattle.tg_collect.specs.Machine.{scan_in, AreRoots}
-use Rattle.tg_collect.specs.Calls.{is_at, progress_without}
 use Rattle.tg_collect.proofs.SlotLemmas.{as_spot, at_slot, put_list}
 use Rattle.tg_collect.proofs.ShownLemmas.{held_at, held_set, edge_shown}
 use Rattle.tg_collect.proofs.StoreLemmas.{kept_is, stored_kept, once_stored, Holds, owned_here}

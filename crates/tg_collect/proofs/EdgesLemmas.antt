@@ -1,34 +1,15 @@
 -- How many vertices and edges the graph of what is held has.
 use Rattle.std.proofs.Common.{◌≡◌, ◌==◌, ◌≢◌, ℕ, zero, suc, List, [], ◌∷◌, length, map, Option, Some, None, inl, inr, true, false, sym, ◌∙◌, subst, ap, refl, arith, get_or, sum_by, ◌<◌, ◌≤◌, Bool, cond, eqb, eq-eqb, T, ◌+◌}
-use Rattle.tg_collect.proofs.Common.{length-map, sum_by-cons, cases_eq, is_none, Contains, Distinct, contains_map, Edge, Kept, total, Stored, kept, kept_from, progress, vertices, held, nat_cmp, Letters, edges, IsHeap, Spot, AtRest, Body, name_of, left, Root, Machine, lists_of, body, progress_of, Whole, stored, shown, spot, root_serial, serial_of, IsHeldIn, IsParkedIn, IsStore}
+use Rattle.tg_collect.proofs.Common.{length-map, sum_by-cons, cases_eq, is_none, Contains, Distinct, contains_map, Edge, Kept, total, Stored, kept, kept_from, progress, vertices, held, nat_cmp, Letters, edges, IsHeap, Spot, AtRest, Body}
+use Rattle.tg_collect.proofs.Common.{name_of, left, Root, Machine, lists_of, body, progress_of, Whole, stored, shown, spot, root_serial, serial_of, IsHeldIn, IsParkedIn, IsStore, IsElement, nat_lt, ◌↔◌, IsPermutation, IsNonDecreasingBy}
+use Rattle.tg_collect.proofs.Common.{IsPermutation-sym, IsPermutation-map, Contains-permutation, is_lt, nat_cmp_is, Ordering, Less, Equal, Greater, below_all, ltb-true, ne_eqb, AllPairs, IsDistinct-IsPermutation, AllPairs-from_IsDistinct}
+use Rattle.tg_collect.proofs.Common.{IsDistinct-from_AllPairs, Decides-eqb, true_first, true_second, true_both, Protection, IsGraph, labelled, vertex_count, edge_count, edge_list, keys_occur_once, serials, held_one, held_cells}
+use Rattle.tg_collect.proofs.Common.{parked_cells, Closed, left_most, counted, IsRootAt}
 use Rattle.std.specs.FinMap as finmap
 use Rattle.tg_marking.specs.Values as values
-use Rattle.std.specs.Prelude.{Contains as IsElement, nat_lt, ◌↔◌}
-use Rattle.std.specs.List.Sorted.{IsPermutation, IsNonDecreasingBy}
-use Rattle.std.proofs.lemmas.List.Sorted.{IsPermutation-sym, IsPermutation-map, Contains-permutation}
-use Rattle.std.specs.Ordering.{is_lt}
-use Rattle.std.specs.Cmp.{nat_cmp_is}
-use Rattle.std.specs.declared.cmp.Ordering.{Ordering}
-use Rattle.std.specs.declared.cmp.Ordering.TheVariants.{Less, Equal, Greater}
-use Rattle.std.specs.FinMap.Entries.{below_all}
-use Rattle.std.proofs.lemmas.Bool.{ltb-true, ne_eqb}
-use Rattle.std.specs.List.{AllPairs}
-use Rattle.std.proofs.lemmas.Map.Keys.{IsDistinct-IsPermutation}
-use Rattle.std.proofs.lemmas.Map.Made.{AllPairs-from_IsDistinct, IsDistinct-from_AllPairs}
-use Rattle.std.proofs.lemmas.Bool.Decides.{Decides-eqb}
-use Rattle.tg_rights.proofs.Bools.{true_first, true_second, true_both}
-use Rattle.tg_graph.specs.Protection.{label, Protection, IsGraph}
-use Rattle.tg_graph.specs.Rules.{labelled, edges_of}
-use Rattle.tg_graph.specs.Fullness.{vertex_count, edge_count}
-use Rattle.tg_graph.proofs.LawsLemmas.{edge_list}
-use Rattle.tg_graph.proofs.EdgesAreCountedLemmas.{keys_occur_once}
-use Rattle.tg_cells.specs.Lists.{serials}
-use Rattle.tg_marking.specs.Left.{held_one, held_cells, parked_cells}
-use Rattle.tg_marking.specs.Invariant.{Closed}
+use Rattle.tg_graph.specs.Protection.{label}
+use Rattle.tg_graph.specs.Rules.{edges_of}
 use Rattle.tg_marking.specs.Values.{Progress, Marking, Sweeping}
-use Rattle.tg_marking.proofs.LeftLemmas.{left_most}
-use Rattle.tg_marking.proofs.CountLemmas.{counted}
-use Rattle.tg_collect.specs.Readings.{IsRootAt}
 use Rattle.tg_collect.proofs.SlotLemmas.{contains_mapped, total_list, total_same, out_all, cells_so, celled}
 use Rattle.tg_collect.proofs.ShownLemmas.{Once, held_at, held_kept, kept_held, from_size, same_sum, same_length, contains_keys, keys_contains, place_kept}
 use Rattle.tg_collect.proofs.StoreLemmas.{at_index, label_edge, kept_is, closed_so, named_so, once_stored, no_black, swept_so, from_held, to_held, distinct, root_in, apart_so, edge_in, owned_here}

@@ -1,30 +1,18 @@
 -- Each step of the machine is a line of the table.
 use Rattle.std.proofs.Common.{◌≡◌, ℕ, ◌+◌, ◌<◌, ◌≤◌, List, [], ◌∷◌, ◌++◌, length, map, Option, Some, None, Bool, true, false, sym, ◌∙◌, subst, ap, refl, arith, set, eq-eqb, ◌≢◌, ◌⊎◌, inl, inr}
-use Rattle.tg_collect.proofs.Common.{Contains, Distinct, White, Grey, Black, Table, Free, Has, slot, Edge, first_cell, HeapGraph, edges, mark_at, shaded, IsHeap, remaining, Spot, Body, mark, shade, Machine, RootLists, lists_of, body_of, body, progress_in, progress_of, CursorFits, Whole, SEATS, AtRest, Kept, mark_of, name_of, seen, put, left, put_each, at_within, IsListed, stored, as_progress}
+use Rattle.tg_collect.proofs.Common.{Contains, Distinct, White, Grey, Black, Table, Free, Has, slot, Edge, first_cell, HeapGraph, edges, mark_at, shaded, IsHeap, remaining, Spot, Body, mark, shade, Machine, RootLists, lists_of, body_of}
+use Rattle.tg_collect.proofs.Common.{body, progress_in, progress_of, CursorFits, Whole, SEATS, AtRest, Kept, mark_of, name_of, seen, put, left, put_each, at_within, IsListed, stored, as_progress, le-ltb, same_Some, MAX_PRINCIPALS, Stands}
+use Rattle.tg_collect.proofs.Common.{shaded_by, painted, passed, split_whole, remaining_split, out, Scan, shade_all, Line, starts, scans, blackens, takes, shades_target, starts_sweep, skips, whitens, strips, frees, finishes, IsScanned}
+use Rattle.tg_collect.proofs.Common.{Phased, Turns, stays, greys, Follows, begins, marks, parks, sweeps, passes, ends, Stays, shade_each, line_keeps, line_collected, bounded, Steps, NoneWhite, ShadesFirst, shaded_slot, all_shaded}
+use Rattle.tg_collect.proofs.Common.{with_shaded, other_slots, phase_in, Collected, most_marks}
 use Rattle.tg_slots.specs.Table as table
 use Rattle.tg_marking.specs.Values as values
 use Rattle.tg_collect.specs.declared.machine.Progress.TheVariants as course
 use Rattle.tg_collect.specs.declared.machine.Progress as declared
 use Rattle.tg_marking.specs.Collected as marking
 use Rattle.tg_collect.specs.Views as views
-use Rattle.std.proofs.lemmas.Bool.{le-ltb}
-use Rattle.std.proofs.lemmas.Option.{same_Some}
-use Rattle.tg_rights.specs.declared.limits.TheConstants.{MAX_PRINCIPALS}
-use Rattle.tg_cells.specs.Lists.{Stands}
-use Rattle.tg_heap.specs.Graph.{shaded_by, painted}
-use Rattle.tg_heap.specs.Marking.{passed}
-use Rattle.tg_heap.proofs.CursorLemmas.{split_whole, remaining_split}
-use Rattle.tg_marking.specs.Values.{spot, out, Scan, Progress, Marking, Sweeping, kept}
-use Rattle.tg_marking.specs.Steps.{shade_all, Line, starts, scans, blackens, takes, shades_target, starts_sweep, skips, whitens, strips, frees, finishes}
-use Rattle.tg_marking.specs.Invariant.{IsScanned, Phased}
-use Rattle.tg_marking.specs.Collected.{Turns, stays, greys, Follows, begins, marks, parks, sweeps, passes, ends, Stays}
-use Rattle.tg_marking.proofs.SpotLemmas.{shade_each}
-use Rattle.tg_marking.proofs.KeepLemmas.{line_keeps, line_collected}
-use Rattle.tg_marking.proofs.LeftLemmas.{bounded}
-use Rattle.tg_collect.specs.Machine.{Steps, NoneWhite, ShadesFirst, shaded_slot, all_shaded, with_shaded, other_slots}
+use Rattle.tg_marking.specs.Values.{spot, Progress, Marking, Sweeping, kept}
 use Rattle.tg_collect.proofs.SlotLemmas.{other_count, zip_size, at_slot, at_free, coloured_so, mark_so, out_so, put_slot, put_list, painted_so, shaded_so, listed_root, celled, free_so}
-use Rattle.tg_collect.specs.Readings.{phase_in}
-use Rattle.tg_collect.specs.Views.{Collected, most_marks}
 use Rattle.tg_collect.proofs.ShownLemmas.{held_same}
 
 -- The edges before a cursor that names a cell, that cell's edge, and those after it.

@@ -1,29 +1,15 @@
 -- A graph is opened: its edges, pair by pair, once the principals are there.
 use Rattle.std.proofs.Common.{◌≡◌, ◌≢◌, ℕ, zero, suc, ◌+◌, ◌<◌, ◌≤◌, List, [], ◌∷◌, length, Option, Some, None, ◌⊎◌, inl, inr, Bool, true, false, cond, ◌&&◌, ◌||◌, ◌==◌, eqb-true, eq-eqb, sym, ◌∙◌, subst, ap, refl, arith, get_or, set, sum_by}
-use Rattle.tg_collect.proofs.Common.{cases_eq, is_some, nat_cmp, Letters, Right, has, is_none, Contains, contains_middle, some_right, slot, Occupant, Grey, Black, Triple, edge, Protection, Edge, HasNone, HeapGraph, edges, IsHeap, IsAdded, Spot, AtRest, as_kept, seen, at_within, gains, Root, Progress, Machine, RootLists, lists_of, body, progress_in, stored, as_progress, spot, held, vertices, triples, IsEdgeIn}
+use Rattle.tg_collect.proofs.Common.{cases_eq, is_some, nat_cmp, Letters, Right, has, is_none, Contains, contains_middle, some_right, slot, Occupant, Grey, Black, Triple, edge, Protection, Edge, HasNone, HeapGraph, edges, IsHeap, IsAdded}
+use Rattle.tg_collect.proofs.Common.{Spot, AtRest, as_kept, seen, at_within, gains, Root, Progress, Machine, RootLists, lists_of, body, progress_in, stored, as_progress, spot, held, vertices, triples, IsEdgeIn, cases_lt, or_cases, or_left}
+use Rattle.tg_collect.proofs.Common.{or_right, and_parts, and_from, sum_by-le-sum_by, option_map, get-empty, contains-empty, contains-union, joined, Subject, right_some, is_none-none, Vertex, Triples, triple_cmp, IsGraph, kind_of, subjects}
+use Rattle.tg_collect.proofs.Common.{edge_count, edges_at, triple_cmp_total, same_triples, contains-edge, IsVertex-insert, contains-label, edge_count-sums, edge_count-union, edge_count-bare, Opened, subject, first_root, HoldsSubject}
+use Rattle.tg_collect.proofs.Common.{OpensFirst, OpensEdges, Before, root_count}
 use Rattle.std.specs.FinMap as finmap
 use Rattle.std.specs.FinSet as finset
 use Rattle.tg_marking.specs.Values as values
 use Rattle.tg_collect.specs.Readings as readings
-use Rattle.std.proofs.lemmas.Bool.{cases_lt, or_cases, or_left, or_right, and_parts, and_from}
-use Rattle.std.proofs.lemmas.List.Sums.{sum_by-le-sum_by}
-use Rattle.std.specs.Option.{option_map}
-use Rattle.std.specs.FinMap.{get-empty}
-use Rattle.std.specs.FinSet.{contains-empty, contains-union}
-use Rattle.tg_rights.specs.Letters.{joined}
-use Rattle.tg_rights.specs.declared.kind.Kind.TheVariants.{Subject}
-use Rattle.tg_rights.proofs.LettersLemmas.{right_some, is_none-none}
-use Rattle.tg_graph.specs.declared.vertex.Vertex.{Vertex}
-use Rattle.tg_graph.specs.Triples.{Triples, triple_cmp}
-use Rattle.tg_graph.specs.Protection.{IsGraph, kind_of, label}
-use Rattle.tg_graph.specs.Opening.{subjects}
-use Rattle.tg_graph.specs.Fullness.{edge_count, edges_at}
-use Rattle.tg_graph.proofs.TriplesLemmas.{triple_cmp_total, same_triples, contains-edge}
-use Rattle.tg_graph.proofs.VertexLemmas.{IsVertex-insert}
-use Rattle.tg_graph.proofs.LabelLemmas.{contains-label}
-use Rattle.tg_graph.proofs.EdgesAreCountedLemmas.{edge_count-sums, edge_count-union, edge_count-bare}
-use Rattle.tg_collect.specs.Openings.{Opened}
-use Rattle.tg_collect.specs.OpeningSteps.{subject, first_root, HoldsSubject, OpensFirst, OpensEdges, Before, root_count}
+use Rattle.tg_graph.specs.Protection.{label}
 use Rattle.tg_collect.proofs.SlotLemmas.{as_spot, put_list}
 use Rattle.tg_collect.proofs.ShownLemmas.{edge_shown}
 use Rattle.tg_collect.proofs.OpeningLemmas.{first_at, kept_rest, held_rest, rest_at, white, principal_at, opened_opens, put_in, held_in}
@@ -270,7 +256,7 @@ module _ (m : Machine) (G : Protection) (count from to : ℕ) (o : OpensEdges m 
         edge_opens cells = record {
           opens = record {
             opened = record {
-              few = o.opens.opened.few;
+              most = o.opens.opened.most;
               here = each (λ j s. j < count → HoldsSubject count j s) (λ b. record { edges = e ∷ owner.edges; is = refl; lead = leads }) (λ j n b. o.opens.opened.here j b);
               others = each (λ j s. count ≤ j → s ≡ None) (λ b. absurd (omega (arith, b, bf))) (λ j n b. o.opens.opened.others j b);
               vertices = ap (λ (g : Protection). g.vertices) graph_is ∙ o.opens.opened.vertices;

@@ -1,25 +1,17 @@
 -- A machine that holds the first principals, before any cycle.
 use Rattle.std.proofs.Common.{◌≡◌, ◌≢◌, ℕ, zero, suc, ◌+◌, ◌<◌, ◌≤◌, List, [], ◌∷◌, ◌++◌, length, map, replicate, Option, Some, None, ◌⊎◌, inl, inr, Ok, sym, ◌∙◌, subst, ap, refl, arith, get_or, set, length-set, length-append}
-use Rattle.tg_collect.proofs.Common.{SEATS, Contains, Distinct, Table, Free, Has, slot, Colour, White, Occupant, Edge, edges, mark_at, IsHeap, Spot, AtRest, Kept, as_kept, seen, name, name_of, mark, mark_of, new_colour, put_each, comes, Root, Roots, Progress, Idle, Machine, RootLists, IsListed, lists_of, body, progress_in, progress_of, CursorFits, Whole, stored, as_progress, kept_from, spot, held, serial_of, root_serial, Puts}
+use Rattle.tg_collect.proofs.Common.{SEATS, Contains, Distinct, Table, Free, Has, slot, Colour, White, Occupant, Edge, edges, mark_at, IsHeap, Spot, AtRest, Kept, as_kept, seen, name, name_of, mark, mark_of, new_colour, put_each, comes}
+use Rattle.tg_collect.proofs.Common.{Root, Roots, Progress, Idle, Machine, RootLists, IsListed, lists_of, body, progress_in, progress_of, CursorFits, Whole, stored, as_progress, kept_from, spot, held, serial_of, root_serial, Puts, cases_lt}
+use Rattle.tg_collect.proofs.Common.{length-replicate, get_or_append_left, get_or-append_seam, contains_append, map_append, Subject, principal_count, principals_are_few, indices, fresh, nones_length, nones_free, indices_length, Invariant}
+use Rattle.tg_collect.proofs.Common.{first_serials, Opens, OpeningsCanBeStored, subject, first_root, first_roots, AreFrom, HoldsSubject, HasOpened, OpensFirst, OpensNext, root_count}
 use Rattle.std.specs.FinMap as finmap
 use Rattle.std.specs.FinSet as finset
 use Rattle.tg_slots.specs.Table as table
 use Rattle.tg_marking.specs.Values as values
 use Rattle.tg_held.specs.Held as graph
 use Rattle.tg_graph.proofs.OpeningsFitLemmas as fitting
-use Rattle.std.proofs.lemmas.Bool.{cases_lt}
-use Rattle.std.proofs.lemmas.List.{length-replicate, get_or_append_left}
-use Rattle.std.proofs.Math.Seq.{get_or-append_seam}
-use Rattle.tg_rights.proofs.MembershipLemmas.{contains_append, map_append}
-use Rattle.tg_rights.specs.declared.kind.Kind.TheVariants.{Subject}
-use Rattle.tg_graph.specs.Opening.{principal_count, opening}
-use Rattle.tg_graph.proofs.CommandsKeepGraphsLemmas.{principals_are_few}
-use Rattle.tg_slots.specs.Table.{indices, fresh}
-use Rattle.tg_slots.proofs.FreshLemmas.{nones_length, nones_free, indices_length}
+use Rattle.tg_graph.specs.Opening.{opening}
 use Rattle.tg_marking.specs.Values.{kept}
-use Rattle.tg_marking.specs.Invariant.{Invariant}
-use Rattle.tg_collect.specs.Openings.{first_serials, Opens, OpeningsCanBeStored}
-use Rattle.tg_collect.specs.OpeningSteps.{subject, first_root, first_roots, AreFrom, HoldsSubject, HasOpened, OpensFirst, OpensNext, root_count}
 use Rattle.tg_collect.proofs.SlotLemmas.{zip_slot, zip_size, at_slot, at_free, mark_so, occupied, as_spot, root_listed, free_so}
 use Rattle.tg_collect.proofs.ShownLemmas.{held_at, held_set, from_size}
 
@@ -132,7 +124,7 @@ module _ (m : Machine) (count : ℕ) (o : HasOpened m count) where
     cursor = subst (CursorFits m.heap) (sym o.progress) tt;
     roots = record {
       seats = ap (λ (r : RootLists). length r.targets) o.roots ∙ length-replicate {A = Option Root} SEATS None;
-      few = let e = ap (λ (r : RootLists). length r.principals) o.roots in let s = length-first count in let f = o.few in omega (arith, e, s, f);
+      few = let e = ap (λ (r : RootLists). length r.principals) o.roots in let s = length-first count in let f = o.most in omega (arith, e, s, f);
       agents = ap (λ (r : RootLists). length r.agents) o.roots ∙ length-replicate {A = Option Root} SEATS None;
       named = λ r h. let l = listed r h in ap name_of (o.here r.slot l.0).is ∙ ap Some (sym l.1);
     };
@@ -185,7 +177,7 @@ pub blank_first : (m : Machine) (slots : ℕ) → m.heap.table ≡ fresh slots �
     → lists_of m.roots ≡ record { targets = replicate SEATS None; principals = []; agents = replicate SEATS None } → OpensFirst m 0
 blank_first m slots is cells idle roots = record {
   opened = record {
-    few = omega arith;
+    most = omega arith;
     here = λ i b. absurd (omega (arith, b));
     others = λ i b. none i;
     vertices = ap (λ g. g.vertices) (held_rest m idle) ∙ ap (λ es. finmap.from_entries es) (none_kept 0 (stored m).slots none).0;
@@ -239,7 +231,7 @@ module _ (m : Machine) (rs : Roots) (k : ℕ) (rest : List ℕ) (ok : IsHeap m.h
   first_after : AreFrom (suc k) rest → OpensFirst after (suc k)
   first_after next = record {
     opened = record {
-      few = room;
+      most = room;
       here = each (λ j s. j < suc k → HoldsSubject (suc k) j s) (λ b. record { edges = []; is = refl; lead = λ e h. absurd h })
           (λ j n b. let s = o.here j (omega (arith, b, n)) in record { edges = s.edges; is = s.is; lead = λ e h. let l = s.lead e h in let t = l.0 in (omega (arith, t), l.1, l.2) });
       others = each (λ j s. suc k ≤ j → s ≡ None) (λ b. absurd (omega (arith, b))) (λ j n b. o.others j (omega (arith, b)));

@@ -1,6 +1,9 @@
 -- A run of a store is a run of its slots; what was not live is gone, and there are few steps between two ends.
 use Rattle.std.proofs.Common.{◌≡◌, ◌≢◌, ℕ, suc, ◌+◌, ◌<◌, ◌≤◌, List, [], ◌∷◌, Option, Some, ◌⊎◌, inl, inr, Bool, true, false, cond, nat_lt, sym, ◌∙◌, subst, ap, refl, arith, map, None, set}
-use Rattle.tg_collect.proofs.Common.{Contains, White, Grey, Black, Edge, Spot, AtRest, Body, Kept, as_kept, seen, new_colour, Stored, kept, progress, as_progress, shown, spot, held, IsHeldIn, IsParkedIn, IsStore, Leads, is_some, Letters, Right, is_none, Kind, Triple, Protection, name_of, total, Root, serial_of, triples, root_serial, pending_of, EdgeStored, VertexStored, RightsRemoved, TextReplaced}
+use Rattle.tg_collect.proofs.Common.{Contains, White, Grey, Black, Edge, Spot, AtRest, Body, Kept, as_kept, seen, new_colour, Stored, kept, progress, as_progress, shown, spot, held, IsHeldIn, IsParkedIn, IsStore, Leads, is_some, Letters}
+use Rattle.tg_collect.proofs.Common.{Right, is_none, Kind, Triple, Protection, name_of, total, Root, serial_of, triples, root_serial, pending_of, EdgeStored, VertexStored, RightsRemoved, TextReplaced, map-set, set-get_or, same_Some}
+use Rattle.tg_collect.proofs.Common.{rights_where, Live, IsPart, IsGraph, vertex, with_text, subjects, Stage, keeps, Scan, IsLiveIn, Sane, Run, free_one, phase_in, slot_count, cycle_bound, IsRootIn, phase, principals, pending, agents}
+use Rattle.tg_collect.proofs.Common.{free_slots, Changes, Acted, Shaded, StoreRun, start, acts, goes, IsComplete, IsBounded, Collected, Opened}
 use Rattle.tg_marking.specs.Values as values
 use Rattle.tg_marking.specs.Runs as runs
 use Rattle.tg_marking.proofs.RunLemmas as marked
@@ -8,25 +11,14 @@ use Rattle.tg_collect.specs.declared.note.Phase.TheVariants as phases
 use Rattle.std.specs.FinSet as finset
 use Rattle.tg_marking.specs.Collected as marking
 use Rattle.tg_collect.specs.Sessions as sessions
-use Rattle.std.proofs.lemmas.List.{map-set, set-get_or}
-use Rattle.std.proofs.lemmas.Option.{same_Some}
-use Rattle.tg_rights.specs.Letters.{rights_where}
-use Rattle.tg_graph.specs.Paths.{Live, IsPart}
-use Rattle.tg_graph.specs.Protection.{IsGraph, label, vertex}
-use Rattle.tg_graph.specs.Rules.{with_text}
-use Rattle.tg_graph.specs.Opening.{subjects}
-use Rattle.tg_marking.specs.Values.{Stage, Progress, Marking, Sweeping, keeps, Scan}
-use Rattle.tg_marking.specs.Runs.{IsLiveIn, Sane, Run}
-use Rattle.tg_marking.specs.Left.{free_one}
-use Rattle.tg_collect.specs.Readings.{phase_in, slot_count, cycle_bound, IsRootIn, phase, name, principals, pending, agents, free_slots}
-use Rattle.tg_collect.specs.Sessions.{Changes, Acted, Shaded}
-use Rattle.tg_collect.specs.Runs.{StoreRun, start, acts, goes, ends, IsComplete, IsBounded}
+use Rattle.tg_graph.specs.Protection.{label}
+use Rattle.tg_marking.specs.Values.{Progress, Marking, Sweeping}
+use Rattle.tg_collect.specs.Readings.{name}
+use Rattle.tg_collect.specs.Runs.{ends}
 use Rattle.tg_collect.proofs.SlotLemmas.{contains_mapped, root_listed}
 use Rattle.tg_collect.proofs.ShownLemmas.{held_kept, kept_held, place_kept, Once, held_at, held_same, says_triple, triple_owned, vertex_found}
 use Rattle.tg_collect.proofs.StoreLemmas.{kept_is, once_so, in_root, live_slots, slots_live, root_live, same_truth, edge_in}
 use Rattle.tg_collect.specs.declared.note.Phase.TheVariants.{Idle}
-use Rattle.tg_collect.specs.Views.{Collected}
-use Rattle.tg_collect.specs.Openings.{Opened}
 use Rattle.tg_collect.proofs.SeatLemmas.{new_held}
 
 at_rest : (g : Stage) → as_progress g ≡ AtRest → g ≡ values.Idle

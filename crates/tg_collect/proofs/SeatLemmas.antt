@@ -1,27 +1,20 @@
 -- A seat's target comes or goes, and slots are shaded.
 use Rattle.std.proofs.Common.{◌≡◌, ℕ, zero, suc, ◌<◌, ◌≤◌, List, [], ◌∷◌, length, Option, Some, None, ◌⊎◌, inl, inr, sym, ◌∙◌, subst, ap, refl, get_or, set, length-set, get_or-set_same, ◌≢◌, Bool, true, false, cond, nat_lt, arith, get_or-set_other, map}
-use Rattle.tg_collect.proofs.Common.{Contains, Colour, White, Grey, Black, HeapGraph, shaded, remaining, first_cell, Spot, Body, HasRoot, Kept, name, shade, left, Root, Roots, Progress, Idle, Marking, Sweeping, Machine, RootLists, IsListed, with_target, lists_of, slot_of, bare, body, progress_in, progress_of, CursorFits, Whole, stored, shown, root_serial, Kind, Free, mark_at, IsHeap, name_of, seen, as_kept, put, new_colour, comes, Stored, as_progress, kept, kept_from, progress, held, IsHeldIn, IsParkedIn, Letters, contains_map, Edge, put_each, at_within, EdgeStored, VertexStored, RightsRemoved, TextReplaced}
+use Rattle.tg_collect.proofs.Common.{Contains, Colour, White, Grey, Black, HeapGraph, shaded, remaining, first_cell, Spot, Body, HasRoot, Kept, name, shade, left, Root, Roots, Progress, Idle, Marking, Sweeping, Machine, RootLists, IsListed}
+use Rattle.tg_collect.proofs.Common.{with_target, lists_of, slot_of, bare, body, progress_in, progress_of, CursorFits, Whole, stored, shown, root_serial, Kind, Free, mark_at, IsHeap, name_of, seen, as_kept, put, new_colour, comes, Stored}
+use Rattle.tg_collect.proofs.Common.{as_progress, kept, kept_from, progress, held, IsHeldIn, IsParkedIn, Letters, contains_map, Edge, put_each, at_within, EdgeStored, VertexStored, RightsRemoved, TextReplaced, map-set, keeps, shade_spot}
+use Rattle.tg_collect.proofs.Common.{shade_in, Reroots, ShadesTarget, Places, shade_name, shade_kept, root_before, idle_stays, held_keeps, shades_keeps, places_keeps, same_roots, left_shade, left_places, shade_each, Apart, zip, AreRoots}
+use Rattle.tg_collect.proofs.Common.{ShadesSeat, Shaded, TargetShaded, Changes, Acted, Leads, pending}
 use Rattle.tg_marking.specs.Values as values
 use Rattle.tg_marking.specs.Steps as steps
 use Rattle.std.specs.FinMap as finmap
 use Rattle.tg_held.specs.Held as graph
 use Rattle.tg_collect.specs.Sessions as sessions
 use Rattle.tg_collect.specs.Readings as readings
-use Rattle.std.proofs.lemmas.List.{map-set}
-use Rattle.tg_marking.specs.Values.{spot, keeps}
-use Rattle.tg_marking.specs.Steps.{shade_spot, shade_in, Reroots, ShadesTarget, Places}
-use Rattle.tg_marking.proofs.MoveLemmas.{shade_name, shade_kept}
-use Rattle.tg_marking.proofs.SessionLemmas.{root_before, idle_stays, held_keeps, shades_keeps, places_keeps}
-use Rattle.tg_marking.proofs.CountLemmas.{same_roots, left_shade, left_places}
-use Rattle.tg_marking.proofs.SpotLemmas.{shade_each}
-use Rattle.tg_held.specs.Held.{Apart}
-use Rattle.tg_collect.specs.Machine.{zip, AreRoots}
-use Rattle.tg_collect.specs.Calls.{ShadesSeat}
-use Rattle.tg_collect.specs.Sessions.{Shaded, TargetShaded, Changes, Acted, Leads}
+use Rattle.tg_marking.specs.Values.{spot}
 use Rattle.tg_collect.proofs.SlotLemmas.{shaded_so, seat_slot, seat_contains, listed_root, at_free, put_slot, zip_size}
 use Rattle.tg_collect.proofs.StoreLemmas.{named_so, stored_kept, seat_shown, kept_name, once_stored}
 use Rattle.tg_collect.proofs.ShownLemmas.{held_same, held_at, held_set, from_size, kept_held}
-use Rattle.tg_collect.specs.Readings.{pending}
 
 -- The slots of a seat's new target.
 pub bare_seat : (rs : RootLists) (seat : ℕ) (x : Option Root) → bare (with_target rs seat x) ≡ steps.with_target (bare rs) seat (slot_of x)

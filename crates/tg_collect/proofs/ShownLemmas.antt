@@ -1,22 +1,13 @@
 -- What the graph of what is held says of the slots, and back.
 use Rattle.std.proofs.Common.{◌≡◌, ℕ, zero, suc, ◌+◌, List, [], ◌∷◌, length, Option, Some, None, inl, inr, Bool, true, false, cond, ◌&&◌, ◌==◌, eqb-true, eq-eqb, sym, ◌∙◌, subst, ap, refl, arith, get_or, set, ◌++◌, sum_by}
-use Rattle.tg_collect.proofs.Common.{is_some, nat_cmp, Right, has, is_none, Contains, some_right, Triple, Edge, Spot, Kept, seen, vertex_of, Stored, kept_from, progress, serial_of, place, held, vertices, triples, IsHeldIn, IsEdgeIn, sum_by-cons, Distinct}
+use Rattle.tg_collect.proofs.Common.{is_some, nat_cmp, Right, has, is_none, Contains, some_right, Triple, Edge, Spot, Kept, seen, vertex_of, Stored, kept_from, progress, serial_of, place, held, vertices, triples, IsHeldIn, IsEdgeIn}
+use Rattle.tg_collect.proofs.Common.{sum_by-cons, Distinct, eq_by_cmp, nat_cmp_total, unsigned_tied, find, get-from_entries, contains_key-keys, sum_by-append, list_any, or_right, split_at, distinct_around, contains_around, contains_append}
+use Rattle.tg_collect.proofs.Common.{contains_left, contains_right, or_either, or_join, and_both, Vertex, entries, says_edge, says, contains-held}
 use Rattle.std.specs.FinMap as finmap
 use Rattle.std.specs.FinSet as finset
 use Rattle.tg_held.specs.Held as graph
 use Rattle.tg_collect.specs.Readings as readings
-use Rattle.std.specs.Ordering.{eq_by_cmp}
-use Rattle.std.specs.Cmp.{nat_cmp_total, unsigned_tied}
-use Rattle.std.specs.FinMap.{find, get-from_entries, contains_key-keys}
-use Rattle.std.proofs.lemmas.List.Sums.{sum_by-append}
-use Rattle.std.specs.List.{list_any}
-use Rattle.std.proofs.lemmas.Bool.{or_right}
-use Rattle.tg_rights.proofs.MembershipLemmas.{split_at, distinct_around, contains_around, contains_append, contains_left, contains_right}
-use Rattle.tg_rights.proofs.Bools.{or_either, or_join, and_both}
-use Rattle.tg_graph.specs.declared.vertex.Vertex.{Vertex}
 use Rattle.tg_marking.specs.Values.{Progress}
-use Rattle.tg_held.specs.Held.{entries}
-use Rattle.tg_held.proofs.HeldLemmas.{says_edge, says, contains-held}
 
 -- What is held at an index, and after a slot was set.
 from_at : (p : Progress) (k j i : ℕ) (os : List (Option Spot)) → j ≡ k + i → get_or (kept_from p k os) i None ≡ seen p j (get_or os i None)

@@ -1,20 +1,12 @@
 -- What each change of the heap is in one list of slots.
 use Rattle.std.proofs.Common.{◌≡◌, ◌≢◌, ℕ, zero, suc, List, [], ◌∷◌, length, Option, Some, None, sym, ◌∙◌, ap, refl, arith, get_or, set, ◌+◌, ◌<◌, drop, inl, inr, subst, length-set, map, Ok, Bool, true, false, cond, get_or-set_same, drop-cons, length-append, ◌-◌, ◌≤◌, sum_by}
-use Rattle.tg_collect.proofs.Common.{Occupant, Colour, White, Grey, Black, Table, Free, Has, slot, Edge, HeapGraph, edges, mark_at, shaded, Spot, mark, mark_of, put, shade, RootLists, bare, body_of, length-map, Contains, Body, Kept, seen, HasRoot, at_within, Root, Machine, IsListed, lists_of, slot_of, slots_of, body, progress_of, Whole, Kind, new_colour, Progress, Idle, Marking, Sweeping, progress_in, Puts, sum_by-cons, Distinct, IsHeap, total}
+use Rattle.tg_collect.proofs.Common.{Occupant, Colour, White, Grey, Black, Table, Free, Has, slot, Edge, HeapGraph, edges, mark_at, shaded, Spot, mark, mark_of, put, shade, RootLists, bare, body_of, length-map, Contains, Body, Kept, seen}
+use Rattle.tg_collect.proofs.Common.{HasRoot, at_within, Root, Machine, IsListed, lists_of, slot_of, slots_of, body, progress_of, Whole, Kind, new_colour, Progress, Idle, Marking, Sweeping, progress_in, Puts, sum_by-cons, Distinct, IsHeap}
+use Rattle.tg_collect.proofs.Common.{total, set-set, get_or_default, drop_all, get_or-map, same_Some, contains_left, contains_right, contains_append, contains_map, Mark, coloured, if_free, shaded_by, painted, out, IsRoot, shade_spot}
+use Rattle.tg_collect.proofs.Common.{shade_in, free_one, Celled, join, zip, all_slots, NoneWhite, ShadesFirst, all_shaded, with_shaded, AreWithin, other_slots, has_passed, colour_ahead, Roots}
 use Rattle.tg_slots.specs.Table as table
 use Rattle.tg_marking.specs.Values as values
-use Rattle.std.proofs.lemmas.List.{set-set, get_or_default, drop_all}
-use Rattle.std.proofs.Math.ListN.{get_or-map}
-use Rattle.std.proofs.lemmas.Option.{same_Some}
-use Rattle.tg_rights.proofs.MembershipLemmas.{contains_left, contains_right, contains_append, contains_map}
-use Rattle.tg_slots.specs.Table.{Mark, coloured, if_free}
-use Rattle.tg_heap.specs.Graph.{shaded_by, painted}
-use Rattle.tg_marking.specs.Values.{spot, out, edges_of, kept, IsRoot}
-use Rattle.tg_marking.specs.Steps.{shade_spot, shade_in}
-use Rattle.tg_marking.specs.Left.{free_one, Celled}
-use Rattle.tg_collect.specs.Machine.{join, zip, all_slots, NoneWhite, ShadesFirst, all_shaded, with_shaded, AreWithin, other_slots}
-use Rattle.tg_collect.specs.Calls.{has_passed, colour_ahead}
-use Rattle.tg_collect.specs.declared.machine.Roots.{Roots}
+use Rattle.tg_marking.specs.Values.{spot, edges_of, kept}
 
 pub zip_at : (os : List (Option Occupant)) (ls : List (List Edge)) (i : ℕ) → get_or (zip os ls) i None ≡ join (get_or os i None) (get_or ls i [])
 zip_at [] ls i = refl

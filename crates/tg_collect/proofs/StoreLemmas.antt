@@ -1,32 +1,21 @@
 -- What each store has.
 use Rattle.std.proofs.Common.{◌≡◌, ◌≢◌, ℕ, ◌<◌, ◌≤◌, List, [], ◌∷◌, map, Option, Some, None, inl, inr, Bool, true, false, cond, sym, ◌∙◌, subst, ap, refl, zero, suc, length, MatchOption, arith, get_or, ◌++◌}
-use Rattle.tg_collect.proofs.Common.{Contains, contains_map, Has, Grey, Black, Triple, Spot, AtRest, Body, Kept, as_kept, seen, name_of, mark, Root, Machine, IsListed, lists_of, body, progress_of, Whole, Stored, stored, kept, place, root_serial, triples, serial_of, IsHeldIn, IsParkedIn, progress, spot, is_some, Letters, Right, has, is_none, Distinct, contains_middle, vertex_of, Free, slot, Occupant, Edge, HasNone, Found, edges, mark_at, IsHeap, pending_of, IsEdgeIn, held, name, at_within, some_right, shown, IsStore}
+use Rattle.tg_collect.proofs.Common.{Contains, contains_map, Has, Grey, Black, Triple, Spot, AtRest, Body, Kept, as_kept, seen, name_of, mark, Root, Machine, IsListed, lists_of, body, progress_of, Whole, Stored, stored, kept, place}
+use Rattle.tg_collect.proofs.Common.{root_serial, triples, serial_of, IsHeldIn, IsParkedIn, progress, spot, is_some, Letters, Right, has, is_none, Distinct, contains_middle, vertex_of, Free, slot, Occupant, Edge, HasNone, Found, edges}
+use Rattle.tg_collect.proofs.Common.{mark_at, IsHeap, pending_of, IsEdgeIn, held, name, at_within, some_right, shown, IsStore, unwrap_or, option_map, get_or-map, same_Some, none, includes, read, write, take, grant, same_by, split_at}
+use Rattle.tg_collect.proofs.Common.{right_some, IsEdge, Live, leads_on, contains-label, in_slot, Closed, Phased, IsLive, at_root, along, closed_same, IsLiveIn, IsRootIn, IsRootAt, serial_at, principals, join}
 use Rattle.std.specs.FinSet as finset
 use Rattle.tg_marking.specs.Values as values
 use Rattle.tg_collect.specs.Readings as readings
 use Rattle.std.specs.FinMap as finmap
 use Rattle.tg_rights.specs.Letters as right
 use Rattle.tg_slots.specs.Table as table
-use Rattle.std.specs.Option.{unwrap_or, option_map}
-use Rattle.std.proofs.Math.ListN.{get_or-map}
-use Rattle.std.proofs.lemmas.Option.{same_Some}
-use Rattle.tg_rights.specs.Letters.{none, includes, read, write, take, grant}
-use Rattle.tg_rights.proofs.MembershipLemmas.{same_by, split_at}
-use Rattle.tg_rights.proofs.LettersLemmas.{right_some}
-use Rattle.tg_graph.specs.Protection.{label, IsEdge}
-use Rattle.tg_graph.specs.Paths.{Leads, Live}
-use Rattle.tg_graph.proofs.OutcomesAgreeLemmas.{leads_on}
-use Rattle.tg_graph.proofs.LabelLemmas.{contains-label}
-use Rattle.tg_slots.specs.Table.{in_slot}
+use Rattle.tg_graph.specs.Protection.{label}
+use Rattle.tg_graph.specs.Paths.{Leads}
 use Rattle.tg_marking.specs.Values.{Progress, Marking, Sweeping, edges_of}
-use Rattle.tg_marking.specs.Invariant.{Closed, Phased, IsLive, at_root, along}
-use Rattle.tg_marking.proofs.MoveLemmas.{closed_same}
-use Rattle.tg_marking.specs.Runs.{IsLiveIn}
-use Rattle.tg_collect.specs.Readings.{IsRootIn, IsRootAt, serial_at, principals}
 use Rattle.tg_collect.proofs.SlotLemmas.{listed_root, zip_at, zip_size, as_spot, kept_within, root_listed, contains_mapped}
 use Rattle.tg_collect.proofs.LineLemmas.{kept_so}
 use Rattle.tg_collect.proofs.ShownLemmas.{Once, triple_owned, held_at, held_kept, kept_held, place_kept, vertex_found, says_triple, edge_shown, shown_edge}
-use Rattle.tg_collect.specs.Machine.{join}
 
 -- What is held has the slot's serial, and is the slot's vertex.
 pub kept_is : (p : Progress) (i : ℕ) (o : Option Spot) (k : Kept) → seen p i o ≡ Some k → (s : Spot) × (o ≡ Some s) × (values.keeps p i s.colour ≡ true) × (as_kept s ≡ k)

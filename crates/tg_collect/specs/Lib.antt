@@ -1,10 +1,8 @@
 pub mod Machine
 pub mod Course
-pub mod Calls
 pub mod Stored
 pub mod Readings
 pub mod Views
 pub mod Sessions
 pub mod Runs
 pub mod Openings
-pub mod OpeningSteps

@@ -8,8 +8,7 @@ ghost use Rattle.tg_slots.specs.Table.{Free, Has, slot};
 ghost use Rattle.tg_slots.specs.declared.slots.Occupant.{Occupant};
 ghost use Rattle.tg_cells.specs.Lists.{HasNone, Found};
 ghost use Rattle.tg_heap.specs.Graph.{edges, mark_at};
-ghost use Rattle.tg_collect.specs.Machine.{Whole, Steps, phase_of, ShadesFirst, NoneWhite, AreWithin, slot_of, other_slots, with_shaded};
-ghost use Rattle.tg_collect.specs.Calls.{Adds, Links, Removes, Puts, SetsText, ShadesSeat, progress_without, has_passed, colour_ahead};
+ghost use Rattle.tg_collect.specs.Machine.{Whole, Steps, phase_of, ShadesFirst, NoneWhite, AreWithin, slot_of, other_slots, with_shaded, Adds, Links, Removes, Puts, SetsText, ShadesSeat, progress_without, has_passed, colour_ahead};
 
 use crate::course::Course;
 use crate::note::{Note, Phase};

@@ -3,8 +3,7 @@ ghost use Rattle.std.specs.Prelude.{◌≡◌, ℕ, ◌<◌, ◌≤◌, ◌+◌,
 ghost use Rattle.tg_rights.specs.declared.limits.TheConstants.{MAX_CELLS, MAX_PRINCIPALS, MAX_SLOTS, SEATS};
 ghost use Rattle.tg_collect.specs.Machine.{Whole};
 ghost use Rattle.tg_collect.specs.Stored.{stored};
-ghost use Rattle.tg_collect.specs.Openings.{IsOpening, Opened};
-ghost use Rattle.tg_collect.specs.OpeningSteps.{OpensFirst, OpensNext, OpensAll, OpensEdges, KeepsSize, root_count};
+ghost use Rattle.tg_collect.specs.Openings.{IsOpening, Opened, OpensFirst, OpensNext, OpensAll, OpensEdges, KeepsSize, root_count};
 
 use crate::course::Course;
 use crate::machine::{Machine, Progress, Root, Roots};

@@ -1,5 +1,5 @@
 use Rattle.std.proofs.Common.{subst, ℕ, ◌≡◌, arith}
-use Rattle.tg_collect.specs.OpeningSteps.{OpensEdges, root_count}
+use Rattle.tg_collect.specs.Openings.{OpensEdges, root_count}
 use Rattle.tg_collect.proofs.OpeningEdges.{row_done}
 use Rattle.tg_collect.proofs.machine.Machine.open_edges_of.Goals as goal
 

@@ -3,7 +3,7 @@ use Rattle.tg_rights.specs.Letters.{is_none}
 use Rattle.tg_slots.specs.Table.{slot}
 use Rattle.tg_heap.specs.Calls.{IsAdded}
 use Rattle.tg_collect.specs.declared.machine.Root.{Root}
-use Rattle.tg_collect.specs.OpeningSteps.{root_count}
+use Rattle.tg_collect.specs.Openings.{root_count}
 use Rattle.tg_collect.proofs.OpeningLemmas.{principal_mark}
 use Rattle.tg_collect.proofs.OpeningEdges.{ends, pair_empty, pair_room, pair_none, pair_opened}
 use Rattle.tg_collect.proofs.machine.Machine.open_pair.Goals as goal

@@ -1,7 +1,7 @@
 use Rattle.std.proofs.Common.{◌≡◌, ◌∙◌, sym, ap, arith}
 use Rattle.std.specs.Option.{is_some}
 use Rattle.tg_graph.specs.Opening.{subjects}
-use Rattle.tg_collect.specs.OpeningSteps.{root_count}
+use Rattle.tg_collect.specs.Openings.{root_count}
 use Rattle.tg_collect.proofs.OpeningEdges.{kind_low, kind_high}
 use Rattle.tg_collect.proofs.machine.Machine.open_principals.Goals as goal
 

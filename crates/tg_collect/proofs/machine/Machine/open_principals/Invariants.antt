@@ -1,6 +1,6 @@
 use Rattle.std.proofs.Common.{◌≡◌, ◌≤◌, ◌+◌, ◌-◌, ℕ}
 use Rattle.tg_graph.specs.Opening.{subjects}
-use Rattle.tg_collect.specs.OpeningSteps.{OpensFirst, KeepsSize, root_count}
+use Rattle.tg_collect.specs.Openings.{OpensFirst, KeepsSize, root_count}
 use Rattle.tg_collect.proofs.machine.Machine.open_principals.Given as goal
 
 -- The principals with the serials so far are there.

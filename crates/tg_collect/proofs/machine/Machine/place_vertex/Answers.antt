@@ -3,7 +3,7 @@ use Rattle.tg_rights.specs.Membership.{Contains}
 use Rattle.tg_heap.specs.Graph.{HeapGraph}
 use Rattle.tg_collect.specs.declared.machine.Machine.{Machine}
 use Rattle.tg_collect.specs.declared.machine.Progress.{Progress}
-use Rattle.tg_collect.specs.Calls.{Puts, has_passed, colour_ahead}
+use Rattle.tg_collect.specs.Machine.{Puts, has_passed, colour_ahead}
 use Rattle.tg_collect.proofs.SlotLemmas.{put_ahead, put_behind}
 use Rattle.tg_collect.proofs.machine.Machine.place_vertex.Goals as goal
 use Rattle.tg_collect.proofs.machine.Machine.place_vertex.Goals.{then-has_passed, else-has_passed}
