@@ -5,22 +5,16 @@ use Rattle.tg_collect.specs.Openings.{root_count}
 use Rattle.tg_collect.proofs.OpeningEdges.{kind_low, kind_high}
 use Rattle.tg_collect.proofs.machine.Machine.open_principals.Goals as goal
 
-pub open_principal-requires-clause-few : goal.open_principal-requires-clause-few
-open_principal-requires-clause-few c =
+pub open_principal-requires : goal.open_principal-requires
+open_principal-requires c =
     let o = c.requires.opening in
+    let i = c.loop-alloc.invariant in
     let low = kind_low c.args.graph.now o.count c.loop-alloc.serial o.vertices (sym (ap is_some c.kind.ensures) ∙ sym c.is_some.ensures ∙ c.loop-alloc-test.true) in
-    let serial = c.loop-alloc.invariant.serial in
+    let serial = i.serial in
     let few = o.few in
-    omega (arith, low, serial, few)
-
-pub open_principal-requires-clause-room : goal.open_principal-requires-clause-room
-open_principal-requires-clause-room c =
-    let o = c.requires.opening in
-    let low = kind_low c.args.graph.now o.count c.loop-alloc.serial o.vertices (sym (ap is_some c.kind.ensures) ∙ sym c.is_some.ensures ∙ c.loop-alloc-test.true) in
-    let serial = c.loop-alloc.invariant.serial in
     let fits = o.slots in
-    let size = c.loop-alloc.invariant.size.slots in
-    omega (arith, low, serial, fits, size)
+    let size = i.size.slots in
+    record { first = i.first; serial = serial; few = omega (arith, low, serial, few); room = omega (arith, low, serial, fits, size) }
 
 pub loop-alloc-preserved : goal.loop-alloc-preserved
 loop-alloc-preserved c =
