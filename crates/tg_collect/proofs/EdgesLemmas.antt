@@ -10,9 +10,9 @@ use Rattle.tg_marking.specs.Values as values
 use Rattle.tg_graph.specs.Protection.{label}
 use Rattle.tg_graph.specs.Rules.{edges_of}
 use Rattle.tg_marking.specs.Values.{Progress, Marking, Sweeping}
-use Rattle.tg_collect.proofs.SlotLemmas.{contains_mapped, total_list, total_same, out_all, cells_so, celled}
-use Rattle.tg_collect.proofs.ShownLemmas.{Once, held_at, held_kept, kept_held, from_size, same_sum, same_length, contains_keys, keys_contains, place_kept}
-use Rattle.tg_collect.proofs.StoreLemmas.{at_index, label_edge, kept_is, closed_so, named_so, once_stored, no_black, swept_so, from_held, to_held, distinct, root_in, apart_so, edge_in, owned_here}
+use Rattle.tg_collect.proofs.SlotLemmas.{at_index, contains_mapped, total_list, total_same, out_all, cells_so, celled}
+use Rattle.tg_collect.proofs.ShownLemmas.{ones, Once, held_at, held_kept, kept_held, from_size, same_sum, same_length, contains_keys, keys_contains, place_kept}
+use Rattle.tg_collect.proofs.StoreLemmas.{label_edge, kept_is, closed_so, named_so, once_stored, no_black, swept_so, from_held, to_held, distinct, root_in, apart_so, edge_in, owned_here}
 
 below_sum : (xs : List ℕ) (x : ℕ) → Contains xs x → x ≤ sum_by (λ y. y) xs
 below_sum [] x h = absurd h
@@ -169,10 +169,7 @@ module _ (v : Stored) (once : Once v) where
       ∙ total_same (λ i. f (get_or os i None)) (λ i. f (kept v i)) (length v.slots) (λ i. ap f (held_at v i))
 
   pub vertices_counted : (next : ℕ) → vertex_count (held v next) ≡ total (λ i. held_one (kept v i)) (length v.slots)
-  vertices_counted next = sym (ones (finmap.keys (vertices v))) ∙ sum_held (λ x. 1) held_one refl (λ i k e. refl) where
-    ones : (xs : List ℕ) → sum_by (λ x. 1) xs ≡ length xs
-    ones [] = refl
-    ones (x ∷ xs) = let a = sum_by-cons (λ (y : ℕ). 1) x xs in let b = ones xs in omega (arith, a, b)
+  vertices_counted next = sym (ones (finmap.keys (vertices v))) ∙ sum_held (λ x. 1) held_one refl (λ i k e. refl)
 
   -- A held slot has an edge to whatever its vertex's label over is not empty.
   edge_with : (next i : ℕ) (k : Kept) → kept v i ≡ Some k → (y : ℕ) → is_none (label (held v next) k.serial y) ≡ false → (e : Edge) × Contains k.edges e × (e.serial ≡ y)

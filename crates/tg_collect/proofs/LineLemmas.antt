@@ -45,9 +45,6 @@ module _ (m : Machine) (i : ℕ) (c : Option ℕ) (at : m.progress ≡ course.Ma
   scanned_taken = (w.kept.greys.scanned i (subst (λ (p : declared.Progress). IsScanned (progress_in m.heap p) i) (sym at) refl)).1
 
 -- A machine's step from a line, where the heap's numbers are known.
-abbrev LineOf : (m n : Machine) → ℕ → Bool → Type 0
-LineOf m n freed ended = Line (body m) (progress_of m) (body n) (progress_of n) freed ended
-
 step_of : (m : Machine) (h : HeapGraph) (p : declared.Progress) (q : declared.Progress) (freed : ℕ) (ended : Bool) → m.progress ≡ q
     → Line (body m) (progress_in m.heap q) (body_of h (lists_of m.roots)) (progress_in h p) freed ended → CursorFits h p → h.cell_count ≡ m.heap.cell_count
     → length h.table.free ≡ length m.heap.table.free + freed → (m.heap.free_cells ≤ h.free_cells) × (h.free_cells ≤ m.heap.free_cells + 1) → Steps m (record m { heap = h; progress = p }) freed ended

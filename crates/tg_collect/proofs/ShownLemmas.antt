@@ -174,7 +174,7 @@ same_sum f (x ∷ xs) ys d e to from =
     let g : sum_by f ys ≡ sum_by f (s.before ++ x ∷ s.after) = ap (sum_by f) s.is in
     omega (arith, rest, a, b, c, d', g)
 
-ones : {X : Type 0} (xs : List X) → sum_by (λ x. 1) xs ≡ length xs
+pub ones : {X : Type 0} (xs : List X) → sum_by (λ x. 1) xs ≡ length xs
 ones [] = refl
 ones (x ∷ xs) = (let a = sum_by-cons (λ (y : _). 1) x xs in let b = ones xs in omega (arith, a, b))
 

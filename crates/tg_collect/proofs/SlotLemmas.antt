@@ -106,10 +106,13 @@ seat_slot xs k r e = slots_at xs k ∙ ap slot_of e
 slot_seat : (xs : List (Option Root)) (k i : ℕ) → get_or (slots_of xs) k None ≡ Some i → (r : Root) × (get_or xs k None ≡ Some r) × (r.slot ≡ i)
 slot_seat xs k i e = some_slot (get_or xs k None) i (sym (slots_at xs k) ∙ e)
 
+pub at_index : {X : Type 0} (xs : List X) (k : ℕ) (d : X) → k < length xs → Contains xs (get_or xs k d)
+at_index [] k d b = absurd (omega (arith, b))
+at_index (x ∷ xs) zero d b = inl refl
+at_index (x ∷ xs) (suc k) d b = inr (at_index xs k d (omega (arith, b)))
+
 pub seat_contains : {X : Type 0} (xs : List (Option X)) (k : ℕ) (r : X) → get_or xs k None ≡ Some r → Contains xs (Some r)
-seat_contains [] k r e = absurd (cc)
-seat_contains (x ∷ xs) zero r e = inl (sym e)
-seat_contains (x ∷ xs) (suc k) r e = inr (seat_contains xs k r e)
+seat_contains xs k r e = subst (Contains xs) e (at_index xs k None (at_within xs k r e))
 
 pub contains_seat : {X : Type 0} (xs : List (Option X)) (r : X) → Contains xs (Some r) → (k : ℕ) × (get_or xs k None ≡ Some r)
 contains_seat [] r h = absurd h

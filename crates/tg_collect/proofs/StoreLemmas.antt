@@ -13,7 +13,7 @@ use Rattle.tg_slots.specs.Table as table
 use Rattle.tg_graph.specs.Protection.{label}
 use Rattle.tg_graph.specs.Paths.{Leads}
 use Rattle.tg_marking.specs.Values.{Progress, Marking, Sweeping, edges_of}
-use Rattle.tg_collect.proofs.SlotLemmas.{listed_root, zip_at, zip_size, as_spot, kept_within, root_listed, contains_mapped}
+use Rattle.tg_collect.proofs.SlotLemmas.{at_index, listed_root, zip_at, zip_size, as_spot, kept_within, root_listed, contains_mapped}
 use Rattle.tg_collect.proofs.LineLemmas.{kept_so}
 use Rattle.tg_collect.proofs.ShownLemmas.{Once, triple_owned, held_at, held_kept, kept_held, place_kept, vertex_found, says_triple, edge_shown, shown_edge}
 
@@ -237,11 +237,6 @@ idle_seat m seat e = by (get_or m.roots.targets.items seat None) (sym (seat_show
   by : (r : Option Root) → root_serial r ≡ None → r ≡ None
   by None e = refl
   by (Some r) e = absurd (cc)
-
-pub at_index : {X : Type 0} (xs : List X) (k : ℕ) (d : X) → k < length xs → Contains xs (get_or xs k d)
-at_index [] k d b = absurd (omega (arith, b))
-at_index (x ∷ xs) zero d b = inl refl
-at_index (x ∷ xs) (suc k) d b = inr (at_index xs k d (omega (arith, b)))
 
 pub principal_found : (m : Machine) (k : ℕ) (d : Root) → Whole m → k < length m.roots.principals.items → (x : ℕ) → (get_or m.roots.principals.items k d).serial ≡ x
     → Contains (principals (stored m)) x × (place (stored m) (get_or m.roots.principals.items k d).slot ≡ Some x)
