@@ -1,20 +1,21 @@
 -- What the calls that add an edge, and a vertex with its edge, do to a store.
-use Rattle.std.proofs.Common.{◌≡◌, ◌≢◌, ℕ, ◌<◌, List, [], ◌∷◌, length, Option, Some, None, Result, Ok, Err, true, false, sym, ◌∙◌, subst, ap, refl, arith, get_or, ◌+◌, ◌++◌, ◌⊎◌, inl, inr, Bool, cond, eqb, ◌&&◌, set, get_or-set_same, get_or-set_other}
+use Rattle.std.proofs.Common.{◌≡◌, ◌≢◌, ℕ, ◌<◌, List, [], ◌∷◌, length, Option, Some, None, Result, Ok, Err, true, false, sym, ◌∙◌, subst, ap, refl, arith, get_or, ◌+◌, ◌++◌, ◌⊎◌, inl, inr, Bool, cond, eqb, ◌&&◌, set, get_or-set_same, get_or-set_other, eq-eqb}
 use Rattle.tg_collect.proofs.Common.{is_some, length-map, SEATS, Letters, is_none, Contains, Occupant, IsHeap, IsAdded, Kept, Root, Machine, slot_of, lists_of, bare, Whole, stored, place, pending_of, IsEdgeIn, EdgeStored, Distinct}
-use Rattle.tg_collect.proofs.Common.{contains_middle, contains_map, edge, Edge, first_cell, Found, HeapGraph, edges, at_within, Progress, Idle, Marking, Sweeping, progress_in, Stored, as_progress, kept, kept_from, progress, held, Leads}
-use Rattle.tg_collect.proofs.Common.{RightsRemoved, Body, name, name_of, put, put_each, vertex_of, comes, body, progress_of, TextReplaced, Kind, Protection, Free, slot, HasNone, mark_at, new_colour, gains, with_target, body_of, Puts, spot}
-use Rattle.tg_collect.proofs.Common.{serial_of, IsHeldIn, IsParkedIn, VertexStored, OnOk, OnErr, IfErr, unwrap_or, same_Some, none, without, map_append, distinct_around, is_none-none, cells, serials, HeapFull, IsDropped, Dropped, Stayed}
-use Rattle.tg_collect.proofs.Common.{Gone, Rewrites, rewrites_keeps, left_rewrites, IsTarget, Apart, drops, Adds, is_at, progress_without, progress_dropped, SetsText, Links, serial_at}
+use Rattle.tg_collect.proofs.Common.{contains_middle, contains_map, edge, Edge, first_cell, Found, HeapGraph, edges, at_within, Progress, Idle, Marking, Sweeping, progress_in, Stored, kept, kept_from, progress, held, Leads, RightsRemoved}
+use Rattle.tg_collect.proofs.Common.{Body, name, name_of, put, put_each, vertex_of, comes, body, progress_of, TextReplaced, Kind, Protection, Free, slot, HasNone, mark_at, new_colour, gains, with_target, body_of, Puts, spot, serial_of}
+use Rattle.tg_collect.proofs.Common.{IsHeldIn, IsParkedIn, VertexStored, OnOk, OnErr, IfErr, unwrap_or, same_Some, none, without, is_none-none, cells, serials, HeapFull, IsDropped, Dropped, Stayed, Gone, Rewrites, rewrites_keeps}
+use Rattle.tg_collect.proofs.Common.{left_rewrites, IsTarget, Apart, drops, Adds, is_at, progress_without, progress_dropped, SetsText, Links, serial_at, label-relabelled, difference-Relabels}
 use Rattle.tg_heap.specs.declared.heap.HeapFull.TheVariants as full
 use Rattle.std.specs.FinSet as finset
 use Rattle.tg_marking.specs.Values as values
 use Rattle.tg_held.specs.Held as graph
 use Rattle.tg_collect.proofs.SeatLemmas as placed
+use Rattle.tg_graph.specs.Protection.{label}
 use Rattle.tg_slots.specs.Table.{mark_of}
-use Rattle.tg_collect.proofs.StoreLemmas.{once_stored, Holds, holds, owned_here, idle_seat, stored_kept, closed_so, placed_mark, found_contains}
-use Rattle.tg_collect.proofs.EdgeLemmas.{added, relabels, leaves, Replaced, replaced_drops, regarded, regarded_at, still_leads, fewer_lead, puts_progress, replaced_puts}
+use Rattle.tg_collect.proofs.StoreLemmas.{once_stored, Holds, holds, owned_here, idle_seat, stored_kept, closed_so, placed_mark, found_contains, edge_in, in_edge, label_edge}
+use Rattle.tg_collect.proofs.EdgeLemmas.{added, relabels, leaves, Replaced, replaced_drops, regarded, still_leads, fewer_lead, puts_progress, replaced_puts, graph_after}
 use Rattle.tg_collect.proofs.SlotLemmas.{as_spot, at_slot, put_slot, at_free, free_so, slots_at}
-use Rattle.tg_collect.proofs.ShownLemmas.{Once, held_at, held_set, edge_shown, vertex_found, kept_held}
+use Rattle.tg_collect.proofs.ShownLemmas.{Once, held_at, vertex_found, kept_held}
 use Rattle.tg_collect.proofs.SeatLemmas.{same_stage, roots_move, same_progress, same_cursor, stored_is, bare_seat, placed_whole, placed_left, placed_is, placed_graph, placed_other, placed_here, new_same}
 
 pub idle_slot : (m : Machine) (seat : ℕ) → pending_of (stored m) seat ≡ None → get_or (bare (lists_of m.roots)).targets seat None ≡ None
@@ -89,44 +90,49 @@ module _ (m n : Machine) (id y : ℕ) (rights : Letters) (ok : IsHeap m.heap) (o
   edges_is : (f : Found (edges m.heap id) y) → h.what.edges ≡ f.before ++ f.edge ∷ f.after
   edges_is f = ap (λ (k : Kept). k.edges) (sym h.same) ∙ f.is
 
-  -- What is shown of the slot afterwards.
-  after_shows : (v : Stored) (es : List Edge) → v.stage ≡ (stored m).stage → v.slots ≡ set (stored m).slots id (Some (record (as_spot h.occupant (edges m.heap id)) { edges = es })) → kept v id ≡ Some (record h.what { edges = es })
-  after_shows v es stage slots =
-      sym (held_at v id)
-      ∙ (λ n. get_or (kept_from (as_progress (stage n)) 0 (slots n)) id None)
-      ∙ ap (λ os. get_or os id None) (held_set (progress (stored m)) id (stored m).slots (Some (record (as_spot h.occupant (edges m.heap id)) { edges = es })))
-      ∙ get_or-set_same (kept_from (progress (stored m)) 0 (stored m).slots) id _ None inside
-      ∙ regarded_at (stored m) id (as_spot h.occupant (edges m.heap id)) h.what es h.occupant.text (at_slot m.heap (lists_of m.roots) id h.occupant h.is) h.shows
-      ∙ ap (λ (u : List ℕ). Some (record h.what { edges = es; text = u })) (ap (λ (k : Kept). k.text) h.same)
-    where
-      inside : id < length (kept_from (progress (stored m)) 0 (stored m).slots)
-      inside = at_within (kept_from (progress (stored m)) 0 (stored m).slots) id h.what (held_at (stored m) id ∙ h.shows)
-
-  removed_by : (f : Found (edges m.heap id) y) (news es : List Edge) (k : ℕ) (q : Progress) → es ≡ f.before ++ (news ++ f.after) → (x : Machine) → x ≡ record m { heap = record m.heap { lists = set m.heap.lists id es; free_cells = k }; progress = q } → Replaced m x (lists_of m.roots) id (as_spot h.occupant (edges m.heap id)) es
-      → (es ≡ f.before ++ record f.edge { rights = without f.edge.rights rights } ∷ f.after) ⊎ ((es ≡ f.before ++ f.after) × (without f.edge.rights rights ≡ none))
-      → (IsEdgeIn (stored x) h.what.serial y → k ≡ m.heap.free_cells) → ((IsEdgeIn (stored x) h.what.serial y → ⊥) → k ≡ m.heap.free_cells + 1) → Removal x
-  removed_by f news es k q is x shape c cut stays gone = (
+  -- What is left of the label: an edge, or none.
+  removed_by : (f : Found (edges m.heap id) y) (es : List Edge) (x : Machine) → Replaced m x (lists_of m.roots) id (as_spot h.occupant (edges m.heap id)) es
+      → ((es ≡ f.before ++ record f.edge { rights = without f.edge.rights rights } ∷ f.after) × (without f.edge.rights rights ≢ none) × (x.heap.free_cells ≡ m.heap.free_cells))
+      ⊎ ((es ≡ f.before ++ f.after) × (without f.edge.rights rights ≡ none) × (x.heap.free_cells ≡ m.heap.free_cells + 1)) → Removal x
+  removed_by f es x c cut = (
     c.whole,
     record {
-      graph = λ next. regarded (stored m) (stored x) id (as_spot h.occupant (edges m.heap id)) h.what es h.occupant.text (at_slot m.heap (lists_of m.roots) id h.occupant h.is) h.shows (ap (λ (v : Stored). v.stage) c.is) (ap (λ (v : Stored). v.slots) c.is) next
-          ∙ ap (λ (u : List ℕ). graph.held (set (kept_from (progress (stored m)) 0 (stored m).slots) id (Some (record h.what { edges = es; text = u }))) next) (ap (λ (z : Kept). z.text) h.same)
-          ∙ drops (kept_from (progress (stored m)) 0 (stored m).slots) id next h.what f.before f.edge f.after es rights (held_at (stored m) id ∙ h.shows) (edges_is f)
-          (subst (λ (l : List Edge). Distinct (serials l)) (ap (λ (z : Kept). z.edges) h.same) (ok.cells.serial_once id)) (apart_so (stored m) id h.what (once_stored m w) h.shows) cut
-          ∙ ap (λ (z : ℕ). record (held (stored m) next) { triples = finset.difference (held (stored m) next).triples (edge h.what.serial rights z) }) f.here;
-      kept = λ e. ap (λ (z : Machine). z.heap.free_cells) shape ∙ stays e;
-      gone = λ e. ap (λ (z : Machine). z.heap.free_cells) shape ∙ gone e;
+      graph = graph_is;
+      kept = λ e. elim cut [ inl stays ↦ stays.2 | inr goes ↦ absurd (none_left goes.1 e) ];
+      gone = λ n. elim cut [ inl stays ↦ absurd (n (some_left (is_none (without f.edge.rights rights)) refl stays.1)) | inr goes ↦ goes.2 ];
       left = c.left;
       slot = id;
       owner = as_spot h.occupant (edges m.heap id);
       at = at_slot m.heap (lists_of m.roots) id h.occupant h.is;
       edges = es;
-      leads = λ x h. subst (λ (l : List Edge). Leads l x) (sym f.is) (elim cut [
-        | inl is ↦ still_leads f.before f.after (record f.edge { rights = without f.edge.rights rights }) f.edge refl x (subst (λ (l : List Edge). Contains l x) is h)
-        | inr is ↦ fewer_lead f.before f.after f.edge x (subst (λ (l : List Edge). Contains l x) is.0 h)
+      leads = λ e q. subst (λ (l : List Edge). Leads l e) (sym f.is) (elim cut [
+        | inl stays ↦ still_leads f.before f.after (record f.edge { rights = without f.edge.rights rights }) f.edge refl e (subst (λ (l : List Edge). Contains l e) stays.0 q)
+        | inr goes ↦ fewer_lead f.before f.after f.edge e (subst (λ (l : List Edge). Contains l e) goes.0 q)
       ]);
       is = c.is;
     },
-  )
+  ) where
+    once : Distinct (serials h.what.edges)
+    once = subst (λ (l : List Edge). Distinct (serials l)) (ap (λ (z : Kept). z.edges) h.same) (ok.cells.serial_once id)
+
+    graph_is : (next : ℕ) → held (stored x) next ≡ record (held (stored m) next) { triples = finset.difference (held (stored m) next).triples (edge h.what.serial rights y) }
+    graph_is next = graph_after m x (lists_of m.roots) id h es c next
+        ∙ drops (kept_from (progress (stored m)) 0 (stored m).slots) id next h.what f.before f.edge f.after es rights (held_at (stored m) id ∙ h.shows) (edges_is f) once (apart_so (stored m) id h.what (once_stored m w) h.shows)
+        (elim cut [ inl stays ↦ inl stays.0 | inr goes ↦ inr (goes.0, goes.1) ])
+        ∙ ap (λ (z : ℕ). record (held (stored m) next) { triples = finset.difference (held (stored m) next).triples (edge h.what.serial rights z) }) f.here
+
+    label_is : label (held (stored x) 0) h.what.serial y ≡ without f.edge.rights rights
+    label_is = ap (λ (g : Protection). label g h.what.serial y) (graph_is 0)
+        ∙ label-relabelled (held (stored m) 0) _ h.what.serial y _ (difference-Relabels (held (stored m) 0) h.what.serial y rights) h.what.serial y
+        ∙ rw (eq-eqb h.what.serial h.what.serial refl, eq-eqb y y refl) (ap (λ (l : Letters). without l rights) (ap (label (held (stored m) 0) h.what.serial) (sym f.here)
+        ∙ label_edge (stored m) 0 id h.what (once_stored m w) h.shows f.edge once (subst (λ (l : List Edge). Contains l f.edge) (sym (edges_is f)) (contains_middle f.before f.after f.edge))))
+
+    some_left : (b : Bool) → is_none (without f.edge.rights rights) ≡ b → without f.edge.rights rights ≢ none → IsEdgeIn (stored x) h.what.serial y
+    some_left true e n = absurd (n (is_none-none (without f.edge.rights rights) e))
+    some_left false e n = edge_in (stored x) 0 h.what.serial y (ap is_none label_is ∙ e)
+
+    none_left : without f.edge.rights rights ≡ none → IsEdgeIn (stored x) h.what.serial y → ⊥
+    none_left z e = let a = in_edge (stored x) 0 h.what.serial y e in let b : is_none (label (held (stored x) 0) h.what.serial y) ≡ true = ap is_none (label_is ∙ z) in let u : true ≡ false = sym b ∙ a in cc
 
   stayed_so : (f : Found (edges m.heap id) y) → without f.edge.rights rights ≢ none → IsHeap (record m.heap { lists = set m.heap.lists id (f.before ++ record f.edge { rights = without f.edge.rights rights } ∷ f.after) })
       → Removal (record m { heap = record m.heap { lists = set m.heap.lists id (f.before ++ record f.edge { rights = without f.edge.rights rights } ∷ f.after) } })
@@ -138,15 +144,7 @@ module _ (m n : Machine) (id y : ℕ) (rights : Letters) (ok : IsHeap m.heap) (o
       let c = replaced_drops m ok w (lists_of m.roots) m.roots refl id m.heap.free_cells h.occupant h.is es m.progress w.roots w.kept f.before f.edge (z ∷ []) f.after f.is refl
       (λ a q. elim q [ inl is ↦ (ap (λ (e : Edge). e.target) is, ap (λ (e : Edge). e.serial) is) | inr bad ↦ absurd bad ]) (omega arith)
       (relabels m.heap id m.heap.free_cells es within f.before f.edge (z ∷ []) f.after f.is refl once z m.progress refl refl w.cursor) (same_stage m.heap after.heap m.progress) in
-      let shown : IsEdgeIn (stored after) h.what.serial y = subst (IsEdgeIn (stored after) h.what.serial) f.here
-      (edge_shown (stored after) id (record h.what { edges = es }) z (after_shows (stored after) es (ap (λ (v : Stored). v.stage) c.is) (ap (λ (v : Stored). v.slots) c.is)) (contains_middle f.before f.after z) (not_none z.rights some)) in
-      removed_by f (z ∷ []) es m.heap.free_cells m.progress refl after refl c (inl refl) (λ e. refl) (λ e. absurd (e shown))
-    where
-      not_none : (l : Letters) → l ≢ none → is_none l ≡ false
-      not_none l n = elim (is_none l) as (λ b. is_none l ≡ b → is_none l ≡ false) [
-        | true ↦ λ b. absurd (n (is_none-none l b))
-        | false ↦ λ b. b
-      ] refl
+      removed_by f es after c (inl (refl, some, refl))
 
   gone_so : (f : Found (edges m.heap id) y) → without f.edge.rights rights ≡ none → IsHeap (record m.heap { lists = set m.heap.lists id (f.before ++ f.after); free_cells = m.heap.free_cells + 1 })
       → Removal (record m { heap = record m.heap { lists = set m.heap.lists id (f.before ++ f.after); free_cells = m.heap.free_cells + 1 }; progress = progress_without m.progress id f.edge.cell (first_cell f.after) })
@@ -158,11 +156,7 @@ module _ (m n : Machine) (id y : ℕ) (rights : Letters) (ok : IsHeap m.heap) (o
       let once : Distinct (cells es) = subst (λ (l : List Edge). Distinct (cells l)) (get_or-set_same m.heap.lists id es [] within) (heap.cells.cell_once id) in
       let c = replaced_drops m ok w (lists_of m.roots) m.roots refl id k h.occupant h.is es q w.roots w.kept f.before f.edge [] f.after f.is refl (λ a bad. absurd bad) (omega arith)
       (leaves m.heap id k es within f.before f.edge [] f.after f.is refl once m.progress refl (ok.cells.cell_once id) w.cursor) (without_stage after.heap m.progress id f.edge.cell (first_cell f.after) ∙ same_stage m.heap after.heap m.progress) in
-      let absent : IsEdgeIn (stored after) h.what.serial y → ⊥ = (λ e.
-      let o = owned_here (stored after) 0 id (record h.what { edges = es }) (once_stored after c.whole) (after_shows (stored after) es (ap (λ (v : Stored). v.stage) c.is) (ap (λ (v : Stored). v.slots) c.is)) (record { from = h.what.serial; right = e.0; to = y }) e.1 refl in
-      let d = distinct_around (serials f.before) (serials f.after) f.edge.serial (subst (λ (l : List ℕ). Distinct l) (ap serials f.is ∙ map_append (λ (x : Edge). x.serial) f.before (f.edge ∷ f.after)) (ok.cells.serial_once id)) in
-      d.1 (subst (Contains (serials f.before ++ serials f.after)) (sym o.2 ∙ sym f.here) (subst (λ (l : List ℕ). Contains l o.0.serial) (map_append (λ (x : Edge). x.serial) f.before f.after) (contains_map (λ (x : Edge). x.serial) es o.0 o.1)))) in
-      removed_by f [] es k q refl after refl c (inr (refl, empty)) (λ e. absurd (absent e)) (λ e. refl)
+      removed_by f es after c (inr (refl, empty, refl))
 
   pub removed : (d : Dropped) → IsDropped m.heap n.heap id y rights d → n ≡ record m { heap = n.heap; progress = progress_dropped m.progress id d } → Removal n
   removed Stayed (f, some, is) shape = subst Removal (sym shape) (subst (λ (x : HeapGraph). Removal (record m { heap = x })) (sym is) (stayed_so f some (subst IsHeap is ok')))
@@ -293,8 +287,8 @@ module _ (m k : Machine) (seat id i serial : ℕ) (kind : Kind) (text rest : Lis
         let at : spot (stored m) id ≡ Some (as_spot h.occupant (edges m.heap id)) = at_slot m.heap (lists_of m.roots) id h.occupant occupied in (
           c.whole,
           record {
-            graph = λ next. regarded (stored m1) (stored n2) id (as_spot h.occupant (edges m.heap id)) h.what es h.occupant.text (at_slot heap (lists_of k.roots) id h.occupant h.is) h.shows (ap (λ (v : Stored). v.stage) c.is) (ap (λ (v : Stored). v.slots) c.is) next
-                ∙ (λ n. graph.held (set (kept_from (progress (stored m1)) 0 (stored m1).slots) id (Some (record h.what { edges = e ∷ edges_is n; text = ap (λ (z : Kept). z.text) h.same n }))) next)
+            graph = λ next. graph_after m1 n2 (lists_of k.roots) id h es c next
+                ∙ ap (λ (l : List Edge). graph.held (set (kept_from (progress (stored m1)) 0 (stored m1).slots) id (Some (record h.what { edges = e ∷ l }))) next) edges_is
                 ∙ gains (kept_from (progress (stored m1)) 0 (stored m1).slots) id next h.what e (held_at (stored m1) id ∙ h.shows)
                 ∙ (λ n. record (held (stored m1) next) { triples = finset.union (held (stored m1) next).triples (edge (serial_same n) (label n) (named n)) })
                 ∙ ap (λ (H : Protection). record H { triples = finset.union H.triples (edge (serial_at (stored m) id) rights serial) }) (placed_graph m seat i serial kind text rest ok w k.roots roots idle l free within unheld unparked next);

@@ -30,9 +30,10 @@ pub use Rattle.tg_rights.specs.declared.kind.Kind.TheVariants.{Subject}
 pub use Rattle.tg_rights.specs.declared.limits.TheConstants.{MAX_PRINCIPALS, SEATS}
 pub use Rattle.tg_graph.proofs.CommandsKeepGraphsLemmas.{principals_are_few}
 pub use Rattle.tg_graph.proofs.EdgesAreCountedLemmas.{edge_count-bare, edge_count-sums, edge_count-union, keys_occur_once}
-pub use Rattle.tg_graph.proofs.LabelLemmas.{contains-label}
+pub use Rattle.tg_graph.proofs.LabelLemmas.{contains-label, difference-Relabels}
 pub use Rattle.tg_graph.proofs.LawsLemmas.{edge_list}
 pub use Rattle.tg_graph.proofs.OutcomesAgreeLemmas.{leads_on}
+pub use Rattle.tg_graph.proofs.PartsStayLemmas.{label-relabelled}
 pub use Rattle.tg_graph.proofs.TriplesLemmas.{contains-edge, same_triples, triple_cmp_total}
 pub use Rattle.tg_graph.proofs.VertexLemmas.{IsVertex-insert}
 pub use Rattle.tg_graph.specs.Fullness.{edge_count, edges_at, vertex_count}

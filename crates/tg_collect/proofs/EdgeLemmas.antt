@@ -230,6 +230,13 @@ module _ (m : Machine) (ok : IsHeap m.heap) (w : Whole m) (rs : RootLists) (r : 
       replaced (rw p.0 (puts_keeps old (body_of n.heap rs) (progress_of m) i e step inv)) p.1 (ap values.shown p.0)
       (rw p.0 (left_puts old (body_of n.heap rs) (progress_of m) i m.heap.cell_count e step))
 
+-- The graph once a held slot has other edges.
+pub graph_after : (m n : Machine) (rs : RootLists) (id : ℕ) (h : Holds m id) (es : List Edge) → Replaced m n rs id (as_spot h.occupant (edges m.heap id)) es
+    → (next : ℕ) → held (stored n) next ≡ graph.held (set (kept_from (progress (stored m)) 0 (stored m).slots) id (Some (record h.what { edges = es }))) next
+graph_after m n rs id h es c next =
+    regarded (stored m) (stored n) id (as_spot h.occupant (edges m.heap id)) h.what es h.occupant.text (at_slot m.heap (lists_of m.roots) id h.occupant h.is) h.shows (ap (λ (v : Stored). v.stage) c.is) (ap (λ (v : Stored). v.slots) c.is) next
+    ∙ ap (λ (u : List ℕ). graph.held (set (kept_from (progress (stored m)) 0 (stored m).slots) id (Some (record h.what { edges = es; text = u }))) next) (ap (λ (k : Kept). k.text) h.same)
+
 -- The seat has a target that is held.
 pub seat_invariant : (m : Machine) (seat : ℕ) (t : Root) (k : Kept) → Whole m → get_or (bare (lists_of m.roots)).targets seat None ≡ None → seat < length (bare (lists_of m.roots)).targets → values.kept (body m) (progress_of m) t.slot ≡ Some k
     → Invariant (body_of m.heap (with_target (lists_of m.roots) seat (Some t))) (progress_of m)
@@ -276,8 +283,7 @@ module _ (m n : Machine) (seat id : ℕ) (t : Root) (rights : Letters) (ok : IsH
       let there : IsEdgeIn (stored m) h.what.serial t.serial = subst (IsEdgeIn (stored m) h.what.serial) f.here (edge_shown (stored m) id h.what f.edge h.shows owned (ok.cells.labelled id f.edge mine)) in (
         c.whole,
         record {
-          graph = λ next. regarded (stored m) (stored after) id (as_spot h.occupant (edges m.heap id)) h.what es h.occupant.text (at_slot m.heap (lists_of m.roots) id h.occupant h.is) h.shows (ap (λ (v : Stored). v.stage) c.is) (ap (λ (v : Stored). v.slots) c.is) next
-              ∙ ap (λ (u : List ℕ). graph.held (set (kept_from (progress (stored m)) 0 (stored m).slots) id (Some (record h.what { edges = es; text = u }))) next) (ap (λ (k : Kept). k.text) h.same)
+          graph = λ next. graph_after m after rs id h es c next
               ∙ joins (kept_from (progress (stored m)) 0 (stored m).slots) id next h.what f.before f.edge f.after rights (held_at (stored m) id ∙ h.shows) edges_is
               ∙ ap (λ (z : ℕ). record (held (stored m) next) { triples = finset.union (held (stored m) next).triples (edge h.what.serial rights z) }) f.here;
           joined = λ e. refl;
@@ -308,8 +314,8 @@ module _ (m n : Machine) (seat id : ℕ) (t : Root) (rights : Letters) (ok : IsH
       absent o.0 (subst (λ (z : List Edge). Contains z o.0) (sym edges_is) o.1) (sym o.2)) in (
         c.whole,
         record {
-          graph = λ next. regarded (stored m) (stored after) id (as_spot h.occupant (edges m.heap id)) h.what es h.occupant.text (at_slot m.heap (lists_of m.roots) id h.occupant h.is) h.shows (ap (λ (v : Stored). v.stage) c.is) (ap (λ (v : Stored). v.slots) c.is) next
-              ∙ (λ n. graph.held (set (kept_from (progress (stored m)) 0 (stored m).slots) id (Some (record h.what { edges = e ∷ edges_is n; text = ap (λ (z : Kept). z.text) h.same n }))) next)
+          graph = λ next. graph_after m after rs id h es c next
+              ∙ ap (λ (l : List Edge). graph.held (set (kept_from (progress (stored m)) 0 (stored m).slots) id (Some (record h.what { edges = e ∷ l }))) next) edges_is
               ∙ gains (kept_from (progress (stored m)) 0 (stored m).slots) id next h.what e (held_at (stored m) id ∙ h.shows)
               ∙ (λ n. record (held (stored m) next) { triples = finset.union (held (stored m) next).triples (edge h.what.serial (label n) (serial n)) });
           joined = λ q. absurd (not_there q);
