@@ -1,7 +1,7 @@
 //! Calls whose allocations fail: what they leave, and the same calls made again. tests/faults/growths.py makes each
 //! allocation of a test fail in turn.
 use crate::Store;
-use crate::tests::Act::{Create, Cycle, FreeCells, FreeSlots, Join, Make, Remove, Shade};
+use crate::tests::Act::{Create, Cycle, FreeCells, FreeSlots, Join, Remove, Shade};
 use crate::tests::{PLAIN, Script, at, graph, open, play, rights};
 use std::alloc::{AllocError, Global};
 use std::process::Abort;
@@ -15,7 +15,8 @@ const GARBAGE: &Script = &Script {
     acts: &[
         FreeSlots(1),
         FreeCells(4),
-        Make(0, 1, 3, "r"),
+        Create(0, 1, 3, "r", None),
+        Shade(0, Some(3)),
         Remove(1, 3, "r"),
         Create(0, 1, 4, "r", Some(HeapFull::Slots)),
         Cycle(7, 4),
@@ -28,7 +29,8 @@ const JOINED: &Script = &Script {
     edges: &[(1, "tg", 2)],
     slots: 8,
     acts: &[
-        Make(1, 2, 3, "rwg"),
+        Create(1, 2, 3, "rwg", None),
+        Shade(1, Some(3)),
         Join(0, (1, 1), (2, 3), "r", None),
         Shade(0, Some(3)),
         Join(0, (1, 1), (2, 3), "w", None),

@@ -1,6 +1,6 @@
 //! The scripts of calls, with every note of the collector in the steps that were worked out by hand.
 use crate::tests::Act::{
-    At, Create, Cycle, Edge, End, FreeCells, FreeSlots, Join, Make, Mark, Pending, Reads, Reclaim,
+    At, Create, Cycle, Edge, End, FreeCells, FreeSlots, Join, Mark, Pending, Reads, Reclaim,
     Remove, Shade, Sweep, Write,
 };
 use crate::tests::{PLAIN, Script};
@@ -11,7 +11,8 @@ pub const SCRIPTS: &[Script] = &[
         name: "garbage needs two cycles",
         cells: 4,
         acts: &[
-            Make(0, 1, 3, "r"),
+            Create(0, 1, 3, "r", None),
+            Shade(0, Some(3)),
             Remove(1, 3, "r"),
             Create(0, 1, 4, "r", Some(HeapFull::Slots)),
             Cycle(7, 4),
@@ -48,7 +49,8 @@ pub const SCRIPTS: &[Script] = &[
         name: "take from a white edge during marking",
         edges: &[(1, "tg", 2)],
         acts: &[
-            Make(1, 2, 3, "rw"),
+            Create(1, 2, 3, "rw", None),
+            Shade(1, Some(3)),
             Write(2, 3, "hi", ""),
             Cycle(9, 4),
             Mark(4),
@@ -64,7 +66,8 @@ pub const SCRIPTS: &[Script] = &[
         name: "create during the sweep",
         slots: 5,
         acts: &[
-            Make(0, 1, 3, "r"),
+            Create(0, 1, 3, "r", None),
+            Shade(0, Some(3)),
             Remove(1, 3, "r"),
             Cycle(7, 6),
             Mark(5),
@@ -87,8 +90,10 @@ pub const SCRIPTS: &[Script] = &[
         name: "a ring of documents is freed",
         slots: 4,
         acts: &[
-            Make(0, 1, 3, "rg"),
-            Make(0, 1, 4, "rg"),
+            Create(0, 1, 3, "rg", None),
+            Shade(0, Some(3)),
+            Create(0, 1, 4, "rg", None),
+            Shade(0, Some(4)),
             Join(0, (1, 3), (1, 4), "r", None),
             Shade(0, Some(4)),
             Join(0, (1, 4), (1, 3), "r", None),
@@ -127,7 +132,12 @@ pub const SCRIPTS: &[Script] = &[
     Script {
         name: "the last principal is shaded first",
         cells: 4,
-        acts: &[Mark(3), Make(0, 1, 3, "r"), Cycle(4, 4)],
+        acts: &[
+            Mark(3),
+            Create(0, 1, 3, "r", None),
+            Shade(0, Some(3)),
+            Cycle(4, 4),
+        ],
         ..PLAIN
     },
     // only its seat leads to the vertex: the marking shades it, and then scans it
@@ -174,9 +184,12 @@ pub const SCRIPTS: &[Script] = &[
         name: "a cursor moves to the next cell",
         slots: 5,
         acts: &[
-            Make(0, 1, 3, "r"),
-            Make(0, 1, 4, "r"),
-            Make(0, 1, 5, "r"),
+            Create(0, 1, 3, "r", None),
+            Shade(0, Some(3)),
+            Create(0, 1, 4, "r", None),
+            Shade(0, Some(4)),
+            Create(0, 1, 5, "r", None),
+            Shade(0, Some(5)),
             Cycle(14, 6),
             Mark(3),
             Remove(1, 4, "r"),

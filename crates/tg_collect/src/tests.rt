@@ -32,8 +32,6 @@ pub(crate) fn has(machine: &Machine, serial: u64) -> bool
 pub enum Act {
     /// A principal's new document: seat, principal, serial, rights, and what is full.
     Create(u64, u64, u64, &'static str, Option<HeapFull>),
-    /// A principal's new document, which the seat shades: seat, principal, serial and rights.
-    Make(u64, u64, u64, &'static str),
     /// An edge gains rights: seat, its two ends, each with a principal that has a right over it, rights, and what is
     /// full.
     Join(u64, (u64, u64), (u64, u64), &'static str, Option<HeapFull>),
@@ -65,7 +63,7 @@ pub enum Act {
 }
 
 use Act::{
-    At, Create, Cycle, Edge, End, FreeCells, FreeSlots, Join, Make, Mark, Pending, Reads, Reclaim,
+    At, Create, Cycle, Edge, End, FreeCells, FreeSlots, Join, Mark, Pending, Reads, Reclaim,
     Remove, Shade, Sweep, Write,
 };
 
@@ -297,20 +295,6 @@ fn cycles(store: &mut Store, marked: u32, swept: u32) -> bool {
         && steps(store, 1, Phase::Idle, 0, true)
 }
 
-/// Whether a principal's document is made and then shaded.
-fn makes(
-    rt: &impl Abort,
-    alloc: Global,
-    store: &mut Store,
-    seat: u64,
-    principal: u64,
-    serial: u64,
-    letters: &str,
-) -> bool {
-    let made = create(rt, alloc, store, seat, principal, serial, rights(letters));
-    made.is_ok() && shade(rt, store, seat) == Some(serial)
-}
-
 /// Carries out one line of a script; returns whether it goes as it says.
 fn goes(rt: &impl Abort, alloc: Global, store: &mut Store, act: &Act) -> Result<bool, AllocError> {
     match act {
@@ -329,9 +313,6 @@ fn goes(rt: &impl Abort, alloc: Global, store: &mut Store, act: &Act) -> Result<
         Join(seat, from, to, letters, full) => {
             let joined = join(rt, store, *seat, *from, *to, rights(letters));
             Ok(joined.err() == *full)
-        }
-        Make(seat, principal, serial, letters) => {
-            Ok(makes(rt, alloc, store, *seat, *principal, *serial, letters))
         }
         Remove(principal, serial, letters) => {
             remove(rt, store, *principal, *serial, rights(letters));
