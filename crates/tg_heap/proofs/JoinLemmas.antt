@@ -1,9 +1,9 @@
 -- What keeps slots and cells joined.
-use Rattle.std.proofs.Common.{◌≡◌, ◌≢◌, ℕ, ◌<◌, List, [], ◌∷◌, ◌++◌, length, Option, Some, None, inl, inr, sym, ◌∙◌, subst, ap, refl, set, Bool, true, false, ◌||◌, ◌&&◌, not, length-set, get_or-set_same, get_or-set_other}
+use Rattle.std.proofs.Common.{◌≡◌, ◌≢◌, ℕ, ◌<◌, List, [], ◌∷◌, ◌++◌, length, Option, Some, None, inl, inr, sym, ◌∙◌, subst, ap, refl, set, Bool, true, false, ◌&&◌, not, length-set, get_or-set_same, get_or-set_other}
 use Rattle.std.proofs.lemmas.Bool.{cases_eq, cases_lt}
 use Rattle.std.proofs.lemmas.List.{get_or_past}
 use Rattle.tg_rights.specs.Membership.{Contains}
-use Rattle.tg_rights.specs.Letters.{Letters, joined, none, is_none}
+use Rattle.tg_rights.specs.Letters.{Letters, none, is_none}
 use Rattle.tg_rights.proofs.MembershipLemmas.{contains_append, contains_left, contains_right, contains_middle, contains_around}
 use Rattle.tg_slots.specs.Table.{Table, Free, mark, in_slot}
 use Rattle.tg_slots.specs.declared.slots.Occupant.{Occupant}
@@ -85,19 +85,6 @@ none_true l e = tested l.read l.write l.take l.grant e where
 
 pub none_false : (l : Letters) → is_none l ≡ false → l ≢ none
 none_false l e is = let test : is_none l ≡ true = ap is_none is in absurd (cc)
-
--- A label that gained a right is not empty.
-pub joined_some : (a b : Letters) → is_none b ≡ false → is_none (joined a b) ≡ false
-joined_some a b some = tested a.read b.read a.write b.write a.take b.take a.grant b.grant some where
-  tested : (r s w x t u g h : Bool) → not s && not x && not u && not h ≡ false → not (r || s) && not (w || x) && not (t || u) && not (g || h) ≡ false
-  tested true s w x t u g h some = refl
-  tested false true w x t u g h some = refl
-  tested false false true x t u g h some = refl
-  tested false false false true t u g h some = refl
-  tested false false false false true u g h some = refl
-  tested false false false false false true g h some = refl
-  tested false false false false false false true h some = refl
-  tested false false false false false false false h some = some
 
 -- The vertex whose field was read.
 pub record Reads {X : Type 0} (f : Occupant → X) (o : Option Occupant) (x : X) : Type 0 where
