@@ -56,13 +56,10 @@ pub use Rattle.tg_heap.specs.Marking.{passed, remaining}
 pub use Rattle.tg_heap.specs.declared.heap.Dropped.{Dropped}
 pub use Rattle.tg_heap.specs.declared.heap.Dropped.TheVariants.{Gone, Kept as Stayed}
 pub use Rattle.tg_heap.specs.declared.heap.HeapFull.{HeapFull}
-pub use Rattle.tg_marking.proofs.CountLemmas.{counted, left_drops, left_places, left_puts, left_rewrites, left_shade, same_roots}
-pub use Rattle.tg_marking.proofs.DropLemmas.{drops_keeps, rewrites_keeps}
+pub use Rattle.tg_marking.proofs.LeftLemmas.{bounded, counted, left_drops, left_most, left_places, left_puts, left_rewrites, left_shade, same_roots}
+pub use Rattle.tg_marking.proofs.SessionLemmas.{drops_keeps, idle_stays, places_keeps, puts_keeps, reroots_keeps, rewrites_keeps, root_before, shades_keeps}
 pub use Rattle.tg_marking.proofs.KeepLemmas.{line_collected, line_keeps}
-pub use Rattle.tg_marking.proofs.LeftLemmas.{bounded, left_most}
-pub use Rattle.tg_marking.proofs.MoveLemmas.{closed_same, shade_kept, shade_name}
-pub use Rattle.tg_marking.proofs.SessionLemmas.{held_keeps, idle_stays, places_keeps, puts_keeps, reroots_keeps, root_before, shades_keeps}
-pub use Rattle.tg_marking.proofs.SpotLemmas.{at_within, put_each, shade_each}
+pub use Rattle.tg_marking.proofs.SpotLemmas.{at_within, closed_same, held_keeps, put_each, shade_each, shade_kept, shade_name}
 pub use Rattle.tg_marking.specs.Collected.{Follows, Stays, Turns, begins, ends, greys, marks, parks, passes, stays, sweeps}
 pub use Rattle.tg_marking.specs.Invariant.{Closed, Invariant, IsLive, IsScanned, Phased, along, at_root}
 pub use Rattle.tg_marking.specs.Left.{Celled, free_one, held_cells, held_one, left, parked_cells, total}

@@ -1,11 +1,5 @@
 pub mod SpotLemmas
-pub mod MoveLemmas
-pub mod LineLemmas
 pub mod KeepLemmas
 pub mod SessionLemmas
-pub mod RunLemmas
 pub mod LeftLemmas
-pub mod RegardLemmas
-pub mod DropLemmas
-pub mod CountLemmas
-pub mod ActLemmas
+pub mod RunLemmas

@@ -1,17 +1,17 @@
 -- The session steps keep the invariant.
 use Rattle.std.proofs.Common.{◌≡◌, ◌≢◌, ℕ, zero, suc, ◌<◌, ◌≤◌, List, [], ◌∷◌, ◌++◌, length, get_or, set, replicate, length-set, get_or-set_same, get_or-set_other, Bool, true, false, nat_lt, cond, Option, Some, None, ◌⊎◌, inl, inr, sym, ◌∙◌, subst, ap, refl, arith}
-use Rattle.std.proofs.lemmas.Bool.{cases_eq, lt-ltb, ltb-true, ltb-false}
+use Rattle.std.proofs.lemmas.Bool.{cases_eq, lt-ltb, ltb-true}
+use Rattle.std.proofs.lemmas.List.{append_assoc, append_cancel_right}
 use Rattle.tg_slots.specs.declared.colour.Colour.TheVariants.{White, Grey, Black}
-use Rattle.tg_slots.specs.Table.{Free, Has}
+use Rattle.tg_slots.specs.Table.{Has}
 use Rattle.tg_cells.specs.Lists.{Edge}
 use Rattle.tg_rights.specs.Membership.{Contains}
 use Rattle.tg_rights.specs.declared.kind.Kind.{Kind}
-use Rattle.tg_marking.specs.Values.{Spot, Progress, AtRest, Marking, Sweeping, Body, Roots, HasRoot, HasTarget, spot, mark, mark_of, out, edges_of, name, name_of, IsRoot, IsTarget, keeps, seen, Kept, as_kept, kept}
-use Rattle.tg_marking.specs.Steps.{put, shade, new_colour, with_target, Reroots, PutsEdge, ShadesTarget, Places}
-use Rattle.tg_marking.specs.Invariant.{IsScanned, Greys, Covered, Phased, Invariant}
-use Rattle.tg_marking.proofs.SpotLemmas.{put_each, shade_done, at_within}
-use Rattle.tg_marking.proofs.MoveLemmas.{Whites, tricolour_moves, scan_moves, closed_same, closed_moves, still, shade_greys, shade_tricolour, shade_kept, shade_roots, shade_name, black_before, shade_marks, same_root}
-use Rattle.tg_marking.proofs.KeepLemmas.{put_greys}
+use Rattle.tg_rights.proofs.MembershipLemmas.{contains_append, contains_left, contains_right, contains_middle}
+use Rattle.tg_marking.specs.Values.{Spot, Progress, AtRest, Marking, Sweeping, Body, Roots, HasRoot, HasTarget, shown, spot, mark, mark_of, out, edges_of, name, name_of, IsRoot, IsTarget, keeps, seen, seen_at, Kept, as_kept, kept}
+use Rattle.tg_marking.specs.Steps.{put, shade, new_colour, with_target, Reroots, PutsEdge, ShadesTarget, Places, Trims, idle, sweeping, unscanned, elsewhere, passed, ahead, DropsEdge, Rewrites}
+use Rattle.tg_marking.specs.Invariant.{Leads, IsScanned, Greys, Covered, ScanFits, Phased, Invariant}
+use Rattle.tg_marking.proofs.SpotLemmas.{at_within, kept_is, held_keeps, put_each, put_greys, shade_done, shade_marks, shade_name, shade_roots, shade_kept, black_before, same_root, Whites, covered_moves, tricolour_moves, scan_moves, still, closed_same, closed_moves, shade_greys, shade_tricolour}
 
 -- Roots may come that are held and targets, and go where no white target goes.
 rooted : (b : Body) (p : Progress) (rs : Roots) → ((i : ℕ) → HasRoot rs i → IsRoot b i ⊎ (HasTarget rs i × (k : Kept) × (kept b p i ≡ Some k)))
@@ -32,9 +32,8 @@ rooted b p rs come stay g = record {
   whites i w = inl (w, stay i w)
 
   by : (p : Progress) → Phased b p → ((i : ℕ) → HasRoot rs i → IsRoot b i ⊎ (HasTarget rs i × (k : Kept) × (kept b p i ≡ Some k))) → Phased after p
-  by AtRest f come = f
-  by (Sweeping k) f come = f
   by (Marking s) f come = tricolour_moves b after s s whites (λ i r. elim (come i r) [ inl old ↦ inl old | inr new ↦ inr (λ w. new.0) ]) (λ i e d o. inl (d, o)) (scan_moves b after s whites (λ i x. still b after i refl) f.scanned) f
+  by q f come = f
 
 pub reroots_keeps : (b b' : Body) (p : Progress) (rs : Roots) → Reroots b p rs b' → Invariant b p → Invariant b' p
 reroots_keeps b b' p rs s g = rw s.is (rooted b p rs s.comes s.stays g)
@@ -42,10 +41,7 @@ reroots_keeps b b' p rs s g = rw s.is (rooted b p rs s.comes s.stays g)
 -- A place of the targets was set: it, or another that stays.
 set_at : (ts : List (Option ℕ)) (k : ℕ) (v : Option ℕ) (j i : ℕ) → get_or (set ts k v) j None ≡ Some i → ((j ≡ k) × (v ≡ Some i)) ⊎ (get_or ts j None ≡ Some i)
 set_at ts k v j i e = elim (cases_eq j k) [
-  | inl is ↦ elim (nat_lt k (length ts)) as (λ t. nat_lt k (length ts) ≡ t → ((j ≡ k) × (v ≡ Some i)) ⊎ (get_or ts j None ≡ Some i)) [
-    | true ↦ λ t. inl (is, sym (get_or-set_same ts k v None (ltb-true k (length ts) t)) ∙ subst (λ (n : ℕ). get_or (set ts k v) n None ≡ Some i) is e)
-    | false ↦ λ t. (let h = at_within (set ts k v) j i e in let l = length-set ts k v in let o = ltb-false k (length ts) t in absurd (omega (arith, h, l, o, is)))
-  ] refl
+  | inl is ↦ inl (is, sym (get_or-set_same ts k v None (let h = at_within (set ts k v) j i e in let l = length-set ts k v in omega (arith, h, l, is))) ∙ subst (λ (n : ℕ). get_or (set ts k v) n None ≡ Some i) is e)
   | inr other ↦ inr (sym (get_or-set_other ts k j v None other) ∙ e)
 ]
 
@@ -54,19 +50,13 @@ root_before r k v i (inl (j, e)) = elim (set_at r.targets k v j i e) [ inl here 
 root_before r k v i (inr c) = inr (inr c)
 
 -- A target whose place was not set stays one; so does any if the place had none.
-pub target_stays : (r : Roots) (k : ℕ) (v : Option ℕ) (i : ℕ) → (t : HasTarget r i) → t.0 ≢ k → HasTarget (with_target r k v) i
+target_stays : (r : Roots) (k : ℕ) (v : Option ℕ) (i : ℕ) → (t : HasTarget r i) → t.0 ≢ k → HasTarget (with_target r k v) i
 target_stays r k v i (j, e) n = (j, get_or-set_other r.targets k j v None n ∙ e)
 
 pub idle_stays : (r : Roots) (k : ℕ) (v : Option ℕ) (i : ℕ) → get_or r.targets k None ≡ None → HasTarget r i → HasTarget (with_target r k v) i
 idle_stays r k v i none t = target_stays r k v i t (λ is. let same : get_or r.targets k None ≡ Some i = subst (λ (n : ℕ). get_or r.targets n None ≡ Some i) is t.1 in cc)
 
 -- A held slot is shaded.
-pub held_keeps : (b : Body) (p : Progress) (i : ℕ) (k : Kept) → kept b p i ≡ Some k → (s : Spot) → spot b i ≡ Some s → keeps p i s.colour ≡ true
-held_keeps b p i k h s e = by (keeps p i s.colour) (ap (seen p i) (sym e) ∙ h) where
-  by : (t : Bool) → cond t (Some (as_kept s)) None ≡ Some k → t ≡ true
-  by true e = refl
-  by false e = absurd (cc)
-
 shade_keeps : (b : Body) (p : Progress) (i : ℕ) (k : Kept) → kept b p i ≡ Some k → Invariant b p → Invariant (shade b i) p
 shade_keeps b p i k held g = record {
   closed = closed_same (kept b p) (kept (shade b i) p) (IsRoot b) (IsRoot (shade b i)) (shade_kept b p i white) (λ j r. same_root b (shade b i) j (shade_roots b i) r) g.closed;
@@ -84,15 +74,14 @@ shade_keeps b p i k held g = record {
     λ j h d. f.0 j h (black_before b i j d),
     λ j h d. elim (shade_marks b i j) [
       | inl same ↦ f.1 j h (sym same ∙ d)
-      | inr turned ↦ behind (spot b i) refl j h turned.2 turned.0
+      | inr turned ↦
+          let r = kept_is p i (spot b i) _ held in
+          let m : mark b i ≡ Has White = subst (λ (n : ℕ). mark b n ≡ Has White) turned.2 turned.0 in
+          let c : r.0.colour ≡ White = (let u = ap mark_of r.1 in cc) in
+          let l = ltb-true i k (w r.0 r.1 c) in
+          let is = turned.2 in omega (arith, l, h, is)
     ],
-  ) where
-    behind : (o : Option Spot) → spot b i ≡ o → (j : ℕ) → k ≤ j → j ≡ i → mark b j ≡ Has White → ⊥
-    behind None e j h is m = let u : mark b j ≡ Free = subst (λ (n : ℕ). mark b n ≡ Free) (sym is) (ap mark_of e) in cc
-    behind (Some s) e j h is m =
-        let u : mark b j ≡ Has s.colour = subst (λ (n : ℕ). mark b n ≡ Has s.colour) (sym is) (ap mark_of e) in
-        let c : s.colour ≡ White = cc in
-        let l = ltb-true i k (w s e c) in omega (arith, l, h, is)
+  )
 
 -- The session shades its target, and clears it.
 pub shades_keeps : (b b' : Body) (p : Progress) (seat i : ℕ) → ShadesTarget b seat i b' → Invariant b p → Invariant b' p
@@ -109,79 +98,179 @@ shades_keeps b b' p seat i s g =
         let here : j ≡ i = (let was = s.was in cc) in
         shade_done b i (subst (λ (m : ℕ). mark (shade b i) m ≡ Has White) here w)
 
--- A held slot's edges lead to a seat's target first.
-pub puts_keeps : (b b' : Body) (p : Progress) (i : ℕ) (new : Edge) → PutsEdge b p i new b' → Invariant b p → Invariant b' p
-puts_keeps b b' p i new s g = rw s.is (record {
-  closed = closed_moves (kept b p) (kept after p) (IsRoot b) (IsRoot after)
-      (λ n t h. elim (cases_eq n i) [
-        | inl is ↦ (let mine : kept b p i ≡ Some t = subst (λ (m : ℕ). kept b p m ≡ Some t) is h in (as_kept spot', subst (λ (m : ℕ). kept after p m ≡ Some (as_kept spot')) (sym is) here, serial_of t mine))
-        | inr other ↦ (t, ap (seen p n) (there n other) ∙ h, refl)
-      ])
-      (λ n t' e h o. elim (cases_eq n i) [
-        | inl is ↦ (
-            let mine : as_kept spot' ≡ t' = (let u = subst (λ (m : ℕ). kept after p m ≡ Some t') is h in let v = here in cc) in
-            let o' : Contains (new ∷ s.owner.edges) e = subst (λ (q : Kept). Contains q.edges e) (sym mine) o in
-            elim o' [
-              | inl e_is ↦ inr (
-                s.there.0,
-                subst (λ (x : Edge). kept after p x.target ≡ Some s.there.0) (sym e_is) (ap (seen p new.target) (there new.target s.apart) ∙ s.there.1),
-                s.there.2 ∙ ap (λ (x : Edge). x.serial) (sym e_is),
-                λ loop. s.apart (ap (λ (x : Edge). x.target) (sym e_is) ∙ loop ∙ is),
-              )
-              | inr old ↦ inl (as_kept s.owner, e, subst (λ (m : ℕ). kept b p m ≡ Some (as_kept s.owner)) (sym is) was, old, refl, refl)
-            ])
-        | inr other ↦ inl (t', e, sym (ap (seen p n) (there n other)) ∙ h, o, refl, refl)
-      ])
-      (λ n r. inl r) g.closed;
-  once = λ a c x h l. g.once a c x (sym (names a) ∙ h) (sym (names c) ∙ l);
-  greys = record { waits = λ n w. marks n ∙ g.greys.waits n w; once = g.greys.once; known = λ n d. g.greys.known n (sym (marks n) ∙ d); scanned = λ n x. (marks n ∙ (g.greys.scanned n x).0, (g.greys.scanned n x).1) };
-  phase = by p g.phase;
-}) where
-  spot' : Spot
-  spot' = record s.owner { edges = new ∷ s.owner.edges }
+-- One vertex's edges or text change, and each of its edges was there, or one to the same vertex was, or it leads to a
+-- target.
+abbrev Like : List Edge → Edge → Type 0
+Like es x = (d : Edge) × Contains es d × (d.target ≡ x.target) × (d.serial ≡ x.serial)
 
-  after : Body
-  after = put b i (Some spot')
+module _ (b : Body) (p p' : Progress) (i : ℕ) (owner : Spot) (es : List Edge) (text : List ℕ) (at : spot b i ≡ Some owner) (stage : shown p' ≡ shown p)
+    (like : (x : Edge) → Contains es x → Like owner.edges x ⊎ (Leads (kept b p) i x × IsTarget b x.target)) where
+  abbrev owner' : Spot
+  owner' = record owner { edges = es; text = text }
+
+  abbrev new : Body
+  new = put b i (Some owner')
 
   within : i < length b.slots
-  within = at_within b.slots i s.owner s.at
+  within = at_within b.slots i owner at
 
-  there : (n : ℕ) → n ≢ i → spot after n ≡ spot b n
-  there n o = get_or-set_other b.slots i n (Some spot') None o
+  seen_same : (n : ℕ) (o : Option Spot) → seen p' n o ≡ seen p n o
+  seen_same n o = ap (λ g. seen_at g n o) stage
 
-  keeps_it : keeps p i s.owner.colour ≡ true
-  keeps_it = held_keeps b p i s.held.0 s.held.1 s.owner s.at
+  here : (t : Kept) → seen p i (Some owner) ≡ Some t → (t' : Kept) × (seen p' i (Some owner') ≡ Some t') × (t'.serial ≡ t.serial)
+  here t h = let r = kept_is p i (Some owner) t h in (as_kept owner', seen_same i (Some owner') ∙ rw (held_keeps b p i t (ap (seen p i) at ∙ h) owner at) refl, serial r.0 r.1 ∙ ap (λ (k : Kept). k.serial) r.3) where
+    serial : (s : Spot) → Some owner ≡ Some s → owner.serial ≡ s.serial
+    serial s e = cc
 
-  here : kept after p i ≡ Some (as_kept spot')
-  here = ap (seen p i) (get_or-set_same b.slots i (Some spot') None within) ∙ rw keeps_it refl
+  back : (t' : Kept) → seen p' i (Some owner') ≡ Some t' → (kept b p i ≡ Some (as_kept owner)) × (as_kept owner' ≡ t')
+  back t' h = by (keeps p i owner.colour) refl (sym (seen_same i (Some owner')) ∙ h) where
+    by : (k : Bool) → keeps p i owner.colour ≡ k → cond k (Some (as_kept owner')) None ≡ Some t' → (kept b p i ≡ Some (as_kept owner)) × (as_kept owner' ≡ t')
+    by true k h = (ap (seen p i) at ∙ rw k refl, cc)
+    by false k h = absurd (cc)
 
-  was : kept b p i ≡ Some (as_kept s.owner)
-  was = ap (seen p i) s.at ∙ rw keeps_it refl
+  marks : (n : ℕ) → mark new n ≡ mark b n
+  marks = put_each (λ n o. mark_of o ≡ mark b n) b i (Some owner') within (ap mark_of (sym at)) (λ n o. refl)
 
-  serial_of : (t : Kept) → kept b p i ≡ Some t → s.owner.serial ≡ t.serial
-  serial_of t h = let u : as_kept s.owner ≡ t = (let v = was in cc) in ap (λ (k : Kept). k.serial) u
+  names : (n : ℕ) → name new n ≡ name b n
+  names = put_each (λ n o. name_of o ≡ name b n) b i (Some owner') within (ap name_of (sym at)) (λ n o. refl)
 
-  marks : (n : ℕ) → mark after n ≡ mark b n
-  marks = put_each (λ n o. mark_of o ≡ mark b n) b i (Some spot') within (ap mark_of (sym s.at)) (λ n o. refl)
+  pub regards_whites : Whites b new
+  regards_whites n w = inl (sym (marks n) ∙ w, λ t. t)
 
-  names : (n : ℕ) → name after n ≡ name b n
-  names = put_each (λ n o. name_of o ≡ name b n) b i (Some spot') within (ap name_of (sym s.at)) (λ n o. refl)
+  -- What is known of the scan afterwards.
+  abbrev pub Scans : Progress → Progress → Type 0
+  Scans (Marking c) (Marking d) = ScanFits b c → ScanFits new d
+  Scans q q' = Unit {0}
 
-  whites : Whites b after
-  whites n w = inl (sym (marks n) ∙ w, λ t. t)
+  phase : (q q' : Progress) → shown q' ≡ shown q → Scans q q' → Phased b q → Phased new q'
+  phase AtRest AtRest e fits f = λ n d. f n (sym (marks n) ∙ d)
+  phase (Sweeping k) (Sweeping l) e fits f = let same : l ≡ k = cc in rw same (λ n h d. f.0 n h (sym (marks n) ∙ d), λ n h d. f.1 n h (sym (marks n) ∙ d))
+  phase (Marking c) (Marking d) e fits f = tricolour_moves b new c d regards_whites (λ n r. inl r)
+      (λ n x m. put_each (λ n o. mark_of o ≡ Has Black → Contains (edges_of o) x → ((mark b n ≡ Has Black) × Contains (out b n) x) ⊎ Covered new x.target) b i (Some owner') within
+      (λ m o. elim (like x o) [
+        | inl old ↦ (
+            let was = f.black i old.0 (ap mark_of at ∙ m) (subst (λ (l : List Edge). Contains l old.0) (ap edges_of (sym at)) old.1) in
+            inr (covered_moves b new x.target regards_whites (subst (Covered b) old.2 was)))
+        | inr y ↦ inr (λ w. y.1)
+      ]) (λ n o m c. inl (m, c)) n m)
+      (fits f.scanned) f
+  phase q q' e fits f = absurd (cc)
 
-  by : (p : Progress) → Phased b p → Phased after p
-  by AtRest f = λ n d. f n (sym (marks n) ∙ d)
-  by (Sweeping k) f = (λ n h d. f.0 n h (sym (marks n) ∙ d), λ n h d. f.1 n h (sym (marks n) ∙ d))
-  by (Marking c) f = tricolour_moves b after c c whites (λ n r. inl r)
-      (λ n e d. put_each (λ n o. mark_of o ≡ Has Black → Contains (edges_of o) e → ((mark b n ≡ Has Black) × Contains (out b n) e) ⊎ Covered after e.target) b i (Some spot') within
-      (λ d o. elim o [
-        | inl is ↦ inr (λ w. subst (λ (x : Edge). IsTarget after x.target) (sym is) s.target)
-        | inr old ↦ inl (ap mark_of s.at ∙ d, subst (λ (es : List Edge). Contains es e) (ap edges_of (sym s.at)) old)
-      ]) (λ n o d c. inl (d, c)) n d)
-      (scan_moves b after c whites (λ n x. put_each (λ n o. (more : List Edge) × (edges_of o ≡ more ++ out b n) × ((e : Edge) → Contains more e → Covered after e.target)) b i (Some spot') within
+  pub regards_keeps : ((j : ℕ) → IsScanned p' j ≡ IsScanned p j) → Scans p p' → Invariant b p → Invariant new p'
+  regards_keeps scanned_same fits g = record {
+    closed = closed_moves (kept b p) (kept new p') (IsRoot b) (IsRoot new)
+        (λ n t h. put_each (λ n o. seen p n (spot b n) ≡ Some t → (t' : Kept) × (seen p' n o ≡ Some t') × (t'.serial ≡ t.serial)) b i (Some owner') within
+        (λ h. here t (ap (seen p i) (sym at) ∙ h)) (λ n o h. (t, seen_same n (spot b n) ∙ h, refl)) n h)
+        (λ n t' x h o. put_each (λ n q. seen p' n q ≡ Some t' → ((t : Kept) × (d : Edge) × (kept b p n ≡ Some t) × Contains t.edges d × (d.target ≡ x.target) × (d.serial ≡ x.serial)) ⊎ Leads (kept new p') n x) b i (Some owner') within
+        (λ h. let k = back t' h in elim (like x (subst (λ (q : Kept). Contains q.edges x) (sym k.1) o)) [
+          | inl old ↦ inl (as_kept owner, old.0, k.0, old.1, old.2, old.3)
+          | inr (l, t) ↦ inr (l.0, ap (seen p' x.target) (get_or-set_other b.slots i x.target (Some owner') None l.3) ∙ seen_same x.target (spot b x.target) ∙ l.1, l.2, l.3)
+        ])
+        (λ n m h. inl (t', x, sym (seen_same n (spot b n)) ∙ h, o, refl, refl)) n h)
+        (λ n r. inl r) g.closed;
+    once = λ a c x h l. g.once a c x (sym (names a) ∙ h) (sym (names c) ∙ l);
+    greys = record {
+      waits = λ n w. marks n ∙ g.greys.waits n w;
+      once = g.greys.once;
+      known = λ n d. elim (g.greys.known n (sym (marks n) ∙ d)) [ inl w ↦ inl w | inr x ↦ inr (subst (λ X. X) (sym (scanned_same n)) x) ];
+      scanned = λ n x. let y = g.greys.scanned n (subst (λ X. X) (scanned_same n) x) in (marks n ∙ y.0, y.1);
+    };
+    phase = phase p p' stage fits g.phase;
+  }
+
+-- A held slot's edges lead to a seat's target first.
+pub puts_keeps : (b b' : Body) (p : Progress) (i : ℕ) (new : Edge) → PutsEdge b p i new b' → Invariant b p → Invariant b' p
+puts_keeps b b' p i new s g = rw s.is (regards_keeps b p p i s.owner (new ∷ s.owner.edges) s.owner.text s.at refl like (λ j. refl) (by p) g) where
+  after : Body
+  after = put b i (Some (record s.owner { edges = new ∷ s.owner.edges }))
+
+  like : (x : Edge) → Contains (new ∷ s.owner.edges) x → Like s.owner.edges x ⊎ (Leads (kept b p) i x × IsTarget b x.target)
+  like x (inl is) = inr (subst (λ (e : Edge). Leads (kept b p) i e × IsTarget b e.target) (sym is) ((s.there.0, s.there.1, s.there.2, s.apart), s.target))
+  like x (inr c) = inl (x, c, refl, refl)
+
+  longer : (n : ℕ) → (more : List Edge) × (out after n ≡ more ++ out b n) × ((e : Edge) → Contains more e → Covered after e.target)
+  longer = put_each (λ n o. (more : List Edge) × (edges_of o ≡ more ++ out b n) × ((e : Edge) → Contains more e → Covered after e.target)) b i _ (at_within b.slots i s.owner s.at)
       (new ∷ [], ap (λ (o : Option Spot). new ∷ edges_of o) (sym s.at), λ e o w. elim o [ inl is ↦ subst (λ (x : Edge). IsTarget after x.target) (sym is) s.target | inr bad ↦ absurd bad ])
-      (λ n o. ([], refl, λ e bad. absurd bad)) n) f.scanned) f
+      (λ n o. ([], refl, λ e bad. absurd bad))
+
+  by : (q : Progress) → Scans b p p i s.owner (new ∷ s.owner.edges) s.owner.text s.at refl like q q
+  by (Marking c) = scan_moves b after c (regards_whites b p p i s.owner (new ∷ s.owner.edges) s.owner.text s.at refl like) (λ n x. longer n)
+  by q = tt
+
+-- An edge leaves its list, or its label changes.
+trims_stage : (i : ℕ) (before : List Edge) (e : Edge) (news after : List Edge) (p p' : Progress) → Trims i before e news after p p' → shown p' ≡ shown p
+trims_stage i before e news after _ _ idle = refl
+trims_stage i before e news after _ _ t = refl
+
+trims_scanned : (i : ℕ) (before : List Edge) (e : Edge) (news after : List Edge) (p p' : Progress) → Trims i before e news after p p' → (j : ℕ) → IsScanned p' j ≡ IsScanned p j
+trims_scanned i before e news after _ _ idle j = refl
+trims_scanned i before e news after _ _ t j = refl
+
+without_one : (p news r : List Edge) (e x : Edge) → ((y : Edge) → Contains news y → (y.target ≡ e.target) × (y.serial ≡ e.serial)) → Contains (p ++ (news ++ r)) x → Like (p ++ e ∷ r) x
+without_one p news r e x alike c = elim (contains_append p (news ++ r) x c) [
+  | inl l ↦ (x, contains_left p (e ∷ r) x l, refl, refl)
+  | inr l ↦ elim (contains_append news r x l) [
+    | inl n ↦ (let a = alike x n in (e, contains_middle p r e, sym a.0, sym a.1))
+    | inr k ↦ (x, contains_right p (e ∷ r) x (inr k), refl, refl)
+  ]
+]
+
+pub drops_keeps : (b b' : Body) (p p' : Progress) (i : ℕ) (before : List Edge) (e : Edge) (news after : List Edge) → DropsEdge b p i before e news after b' p' → Invariant b p → Invariant b' p'
+drops_keeps b b' p p' i before e news after s g = rw s.is (regards_keeps b p p' i s.owner es s.owner.text s.at stage like (trims_scanned i before e news after p p' s.stage) (by p p' s.stage) g) where
+  es : List Edge
+  es = before ++ (news ++ after)
+
+  new : Body
+  new = put b i (Some (record s.owner { edges = es }))
+
+  stage : shown p' ≡ shown p
+  stage = trims_stage i before e news after p p' s.stage
+
+  like : (x : Edge) → Contains es x → Like s.owner.edges x ⊎ (Leads (kept b p) i x × IsTarget b x.target)
+  like x c = let old = without_one before news after e x s.alike c in inl (old.0, subst (λ (l : List Edge). Contains l old.0) (sym s.edges) old.1, old.2, old.3)
+
+  whites : Whites b new
+  whites = regards_whites b p p' i s.owner es s.owner.text s.at stage like
+
+  all_edges : out b i ≡ before ++ e ∷ after
+  all_edges = ap edges_of s.at ∙ s.edges
+
+  new_edges : out new i ≡ es
+  new_edges = ap edges_of (get_or-set_same b.slots i (Some (record s.owner { edges = es })) None (at_within b.slots i s.owner s.at))
+
+  by : (q q' : Progress) → Trims i before e news after q q' → Scans b p p' i s.owner es s.owner.text s.at stage like q q'
+  by _ _ idle = tt
+  by _ _ (sweeping k) = tt
+  by _ _ unscanned = λ f. tt
+  by _ _ (elsewhere c n) = scan_moves b new (Some c) whites (λ m x. still b new m (ap edges_of (get_or-set_other b.slots i m (Some (record s.owner { edges = es })) None (λ is. n (sym is ∙ x)))))
+  by _ _ (passed rest mid a) = λ f.
+      let was : f.passed ≡ before ++ e ∷ mid = append_cancel_right f.passed (before ++ e ∷ mid) rest (sym f.all ∙ all_edges ∙ ap (λ (l : List Edge). before ++ e ∷ l) a ∙ sym (append_assoc before (e ∷ mid) rest)) in
+      record {
+        passed = before ++ (news ++ mid);
+        all = new_edges ∙ ap (λ (l : List Edge). before ++ (news ++ l)) a ∙ ap (λ (l : List Edge). before ++ l) (sym (append_assoc news mid rest)) ∙ sym (append_assoc before (news ++ mid) rest);
+        behind = λ x o.
+            let old = without_one before news mid e x s.alike o in
+            covered_moves b new x.target whites (subst (Covered b) old.2 (f.behind old.0 (subst (λ (l : List Edge). Contains l old.0) (sym was) old.1)));
+      }
+  by _ _ (ahead mid done d) = λ f.
+      let was : f.passed ≡ done = append_cancel_right f.passed done (mid ++ e ∷ after) (sym f.all ∙ all_edges ∙ ap (λ (l : List Edge). l ++ e ∷ after) d ∙ append_assoc done mid (e ∷ after)) in
+      record {
+        passed = done;
+        all = new_edges ∙ ap (λ (l : List Edge). l ++ (news ++ after)) d ∙ append_assoc done mid (news ++ after);
+        behind = λ x o. covered_moves b new x.target whites (f.behind x (subst (λ (l : List Edge). Contains l x) (sym was) o));
+      }
+
+pub rewrites_keeps : (b b' : Body) (p : Progress) (i : ℕ) (text : List ℕ) → Rewrites b i text b' → Invariant b p → Invariant b' p
+rewrites_keeps b b' p i text s g = rw s.is (regards_keeps b p p i s.owner s.owner.edges text s.at refl like (λ j. refl) (by p) g) where
+  like : (x : Edge) → Contains s.owner.edges x → Like s.owner.edges x ⊎ (Leads (kept b p) i x × IsTarget b x.target)
+  like x c = inl (x, c, refl, refl)
+
+  edges : (n : ℕ) → out (put b i (Some (record s.owner { text = text }))) n ≡ out b n
+  edges = put_each (λ n o. edges_of o ≡ out b n) b i (Some (record s.owner { text = text })) (at_within b.slots i s.owner s.at) (ap edges_of (sym s.at)) (λ n o. refl)
+
+  by : (q : Progress) → Scans b p p i s.owner s.owner.edges text s.at refl like q q
+  by (Marking c) = scan_moves b (put b i (Some (record s.owner { text = text }))) c (regards_whites b p p i s.owner s.owner.edges text s.at refl like) (λ n x. still b (put b i (Some (record s.owner { text = text }))) n (edges n))
+  by q = tt
 
 -- A vertex without edges comes into a free slot, as the seat's target.
 pub places_keeps : (b b' : Body) (p : Progress) (seat i serial : ℕ) (kind : Kind) (text : List ℕ) → Places b p seat i serial kind text b' → Invariant b p → Invariant b' p

@@ -4,10 +4,8 @@ use Rattle.tg_slots.specs.declared.colour.Colour.TheVariants.{White, Grey, Black
 use Rattle.tg_slots.specs.Table.{Has}
 use Rattle.tg_cells.specs.Lists.{Edge}
 use Rattle.tg_rights.specs.Membership.{Contains}
-use Rattle.tg_rights.specs.declared.kind.Kind.{Kind}
-use Rattle.tg_marking.specs.Values.{Roots, HasRoot, Spot, Progress, AtRest, Body, spot, mark, name, IsRoot, Kept, kept}
-use Rattle.tg_marking.specs.Steps.{Reroots, PutsEdge, ShadesTarget, Places, DropsEdge, Rewrites}
-use Rattle.tg_marking.specs.Invariant.{Closed, Invariant, IsLive}
+use Rattle.tg_marking.specs.Values.{Spot, Progress, AtRest, Body, spot, mark, name, IsRoot, Kept, kept}
+use Rattle.tg_marking.specs.Invariant.{Closed, IsLive}
 use Rattle.tg_marking.specs.Collected.{Collected}
 
 -- a serial is held in a live slot
@@ -35,18 +33,22 @@ pub record Sane (b : Body) (p : Progress) : Type 0 where
   pub once : (i j x : ℕ) → name b i ≡ Some x → name b j ≡ Some x → i ≡ j
   pub idle : p ≡ AtRest → (i : ℕ) → mark b i ≢ Has Black
 
--- a run after a value: its last value, and the cycles that have ended
-pub data Run (next : ℕ) (b : Body) (p : Progress) : Body → Progress → ℕ → Type 0 where
-  begin : Run next b p b p 0
-  acts : (c d : Body) (q : Progress) (n : ℕ) → Run next b p c q n → Acted c q d next → Sane d q → Run next b p d q n
-  goes : (c d : Body) (q r : Progress) (n : ℕ) → Run next b p c q n → Collected c q d r false → Sane d r → Run next b p d r n
-  ends : (c d : Body) (q r : Progress) (n : ℕ) → Run next b p c q n → Collected c q d r true → Sane d r → Run next b p d r (suc n)
+-- a run after a value, with session steps of a kind: its last value, and the cycles that have ended
+pub data RunOf (Session : Body → Progress → Body → Type 0) (b : Body) (p : Progress) : Body → Progress → ℕ → Type 0 where
+  begin : RunOf Session b p b p 0
+  acts : (c d : Body) (q : Progress) (n : ℕ) → RunOf Session b p c q n → Session c q d → Sane d q → RunOf Session b p d q n
+  goes : (c d : Body) (q r : Progress) (n : ℕ) → RunOf Session b p c q n → Collected c q d r false → Sane d r → RunOf Session b p d r n
+  ends : (c d : Body) (q r : Progress) (n : ℕ) → RunOf Session b p c q n → Collected c q d r true → Sane d r → RunOf Session b p d r (suc n)
 
--- the same without session steps
-pub data Cycles (b : Body) (p : Progress) : Body → Progress → ℕ → Type 0 where
-  first : Cycles b p b p 0
-  more : (c d : Body) (q r : Progress) (n : ℕ) → Cycles b p c q n → Collected c q d r false → Sane d r → Cycles b p d r n
-  over : (c d : Body) (q r : Progress) (n : ℕ) → Cycles b p c q n → Collected c q d r true → Sane d r → Cycles b p d r (suc n)
+abbrev pub Run : ℕ → Body → Progress → Body → Progress → ℕ → Type 0
+Run next b p c q n = RunOf (λ c q d. Acted c q d next) b p c q n
+
+-- without session steps
+abbrev pub NoSession : Body → Progress → Body → Type 0
+NoSession b p b' = ⊥
+
+abbrev pub Cycles : Body → Progress → Body → Progress → ℕ → Type 0
+Cycles b p c q n = RunOf NoSession b p c q n
 
 -- what is not live in an idle store has no slot once two cycles have ended, however sessions act
 abbrev pub IsComplete : Type 0
@@ -56,15 +58,3 @@ IsComplete = (b c : Body) (q : Progress) (next n : ℕ) → Sane b AtRest → ((
 -- three cycles without sessions leave exactly what is live
 abbrev pub Settles : Type 0
 Settles = (b c : Body) (p q : Progress) → Sane b p → Cycles b p c q 3 → (i : ℕ) (s : Spot) → spot c i ≡ Some s → IsLive c q i
-
--- the exact session steps are steps of a run, where targets are live or new
-abbrev pub Wanted : Body → Progress → ℕ → ℕ → Type 0
-Wanted b p next x = IsLiveIn b p x ⊎ (next ≤ x)
-
-pub record StepsAct : Type 0 where
-  pub reroots : (b b' : Body) (p : Progress) (rs : Roots) (next : ℕ) → Reroots b p rs b' → ((i : ℕ) (k : Kept) → HasRoot rs i → kept b p i ≡ Some k → IsRoot b i ⊎ Wanted b p next k.serial) → Acted b p b' next
-  pub puts_edge : (b b' : Body) (p : Progress) (i next : ℕ) (new : Edge) → PutsEdge b p i new b' → Acted b p b' next
-  pub shades : (b b' : Body) (p : Progress) (seat i next : ℕ) → ShadesTarget b seat i b' → Invariant b p → Acted b p b' next
-  pub places : (b b' : Body) (p : Progress) (seat i serial next : ℕ) (kind : Kind) (text : List ℕ) → Places b p seat i serial kind text b' → Invariant b p → next ≤ serial → Acted b p b' next
-  pub drops_edge : (b b' : Body) (p p' : Progress) (i : ℕ) (before : List Edge) (e : Edge) (news after : List Edge) (next : ℕ) → DropsEdge b p i before e news after b' p' → Acted b p b' next
-  pub rewrites : (b b' : Body) (p : Progress) (i : ℕ) (text : List ℕ) (next : ℕ) → Rewrites b i text b' → Acted b p b' next

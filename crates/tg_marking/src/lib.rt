@@ -5,7 +5,7 @@
 #![tactic(auto)]
 
 ghost use Rattle.tg_marking.specs.Laws.{LinesKeep, SessionsKeep};
-ghost use Rattle.tg_marking.specs.Runs.{IsComplete, Settles, StepsAct};
+ghost use Rattle.tg_marking.specs.Runs.{IsComplete, Settles};
 ghost use Rattle.tg_marking.specs.Left.{IsBounded, NeverRaises, IsCounted};
 
 /// A law: each line of the step table keeps the invariant, and does to each slot what callers see.
@@ -23,7 +23,6 @@ pub fn sessions_keep()
 pub fn runs_are_complete()
     ensures complete { IsComplete }
     ensures settles { Settles }
-    ensures acts { StepsAct }
 {}
 
 /// A law: each collector step lowers the number of steps that a cycle may still take, unless it ends the cycle, and no

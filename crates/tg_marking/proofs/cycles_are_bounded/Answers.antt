@@ -1,5 +1,4 @@
-use Rattle.tg_marking.proofs.LeftLemmas.{bounded}
-use Rattle.tg_marking.proofs.CountLemmas.{never_raises, counted}
+use Rattle.tg_marking.proofs.LeftLemmas.{bounded, never_raises, counted}
 use Rattle.tg_marking.proofs.cycles_are_bounded.Goals as goal
 
 pub returns-clause-lower : goal.returns-clause-lower

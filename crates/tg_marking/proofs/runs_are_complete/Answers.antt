@@ -1,5 +1,4 @@
 use Rattle.tg_marking.proofs.RunLemmas.{complete, settles}
-use Rattle.tg_marking.proofs.ActLemmas.{steps_act}
 use Rattle.tg_marking.proofs.runs_are_complete.Goals as goal
 
 pub returns-clause-complete : goal.returns-clause-complete
@@ -7,6 +6,3 @@ returns-clause-complete c = complete
 
 pub returns-clause-settles : goal.returns-clause-settles
 returns-clause-settles c = settles
-
-pub returns-clause-acts : goal.returns-clause-acts
-returns-clause-acts c = steps_act

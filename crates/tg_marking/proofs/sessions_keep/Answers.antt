@@ -1,5 +1,4 @@
-use Rattle.tg_marking.proofs.SessionLemmas.{reroots_keeps, puts_keeps, shades_keeps, places_keeps, blank_keeps}
-use Rattle.tg_marking.proofs.DropLemmas.{drops_keeps, rewrites_keeps}
+use Rattle.tg_marking.proofs.SessionLemmas.{reroots_keeps, puts_keeps, shades_keeps, places_keeps, drops_keeps, rewrites_keeps, blank_keeps}
 use Rattle.tg_marking.proofs.sessions_keep.Goals as goal
 
 pub returns : goal.returns
