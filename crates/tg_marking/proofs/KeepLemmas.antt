@@ -50,26 +50,20 @@ seen_next : (k j : ℕ) (o : Option Spot) → j ≢ k → seen (Sweeping (k + 1)
 seen_next k j None n = refl
 seen_next k j (Some s) n = ap (λ t. cond t (Some (as_kept s)) None) (keeps_next k j s.colour n)
 
--- Outside the sweep every occupied slot is held.
-marking_same : (b : Body) (s : Option Scan) (i : ℕ) → kept b (Marking s) i ≡ kept b AtRest i
-marking_same b s i = by (spot b i) where
-  by : (o : Option Spot) → seen (Marking s) i o ≡ seen AtRest i o
-  by None = refl
-  by (Some t) = refl
-
 -- Each line leaves what is held, but for the one that starts the sweep.
 line_kept : (b b' : Body) (p p' : Progress) (n : ℕ) (e : Bool) → Line b p b' p' n e → Stays p p' → (j : ℕ) → kept b' p' j ≡ kept b p j
-line_kept b _ _ _ _ _ starts y j = marking_same (shade_all b b.roots.others) None j ∙ by (spot (shade_all b b.roots.others) j) (started b j) where
-  by : (o : Option Spot) → Started b j o → seen AtRest j o ≡ kept b AtRest j
-  by o (inl same) = ap (seen AtRest j) same
+line_kept b _ _ _ _ _ starts y j = by (spot (shade_all b b.roots.others) j) (started b j) where
+  marked : (o : Option Spot) → seen (Marking None) j o ≡ seen AtRest j o
+  marked None = refl
+  marked (Some t) = refl
+
+  by : (o : Option Spot) → Started b j o → seen (Marking None) j o ≡ kept b AtRest j
+  by o (inl same) = marked o ∙ ap (seen AtRest j) same
   by o (inr turned) = rw (turned.3, turned.1) refl
-line_kept b _ _ _ _ _ (scans i e r) y j =
-    shade_kept b (Marking (Some (record { slot = i; rest = r }))) e.target (λ s e c. refl) j
-    ∙ marking_same b (Some (record { slot = i; rest = r })) j ∙ sym (marking_same b (Some (record { slot = i; rest = e ∷ r })) j)
+line_kept b _ _ _ _ _ (scans i e r) y j = shade_kept b (Marking None) e.target (λ s e c. refl) j
 line_kept b _ _ _ _ _ (blackens i s is) y j =
-    put_each (λ k o. seen (Marking None) k o ≡ kept b (Marking (Some (record { slot = i; rest = [] }))) k) b i (Some (record s { colour = Black })) (at_within b.slots i s is)
-    (rw is refl) (λ k n. marking_same b None k ∙ sym (marking_same b (Some (record { slot = i; rest = [] })) k)) j
-line_kept b _ _ _ _ _ (takes i rest g) y j = marking_same b (Some (record { slot = i; rest = out b i })) j ∙ sym (marking_same b None j)
+    put_each (λ k o. seen (Marking None) k o ≡ kept b (Marking None) k) b i (Some (record s { colour = Black })) (at_within b.slots i s is) (rw is refl) (λ k n. refl) j
+line_kept b _ _ _ _ _ (takes i rest g) y j = refl
 line_kept b _ _ _ _ _ (shades_target k i g r w least) y j = shade_kept b (Marking None) i (λ s e c. refl) j
 line_kept b _ _ _ _ _ (starts_sweep g t) y j = absurd y
 line_kept b _ _ _ _ _ (skips k l is) y j = elim (cases_eq j k) [ inl here ↦ rw (here, is) refl | inr other ↦ seen_next k j (spot b j) other ]

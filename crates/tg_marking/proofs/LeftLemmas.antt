@@ -1,5 +1,5 @@
 -- What is left of a cycle falls with each collector step, and no session step raises it; and how much is in use.
-use Rattle.std.proofs.Common.{◌≡◌, ◌≢◌, ℕ, zero, suc, ◌+◌, ◌*◌, ◌<◌, ◌≤◌, List, [], ◌∷◌, ◌++◌, length, map, length-set, length-append, get_or-set_same, Bool, true, false, cond, eqb, nat_lt, Option, Some, None, inl, inr, sym, ◌∙◌, subst, ap, refl, arith}
+use Rattle.std.proofs.Common.{◌≡◌, ◌≢◌, ℕ, zero, suc, ◌+◌, ◌*◌, ◌<◌, ◌≤◌, List, [], ◌∷◌, ◌++◌, length, map, length-set, length-append, get_or-set_same, Bool, true, false, cond, eqb, Option, Some, None, inl, inr, sym, ◌∙◌, subst, ap, refl, arith}
 use Rattle.std.proofs.lemmas.Bool.{cases_eq, lt-ltb, le-ltb, eq-eqb, ne_eqb}
 use Rattle.std.proofs.lemmas.List.{length-map}
 use Rattle.std.proofs.Math.Nat.{suc-mul, mul-add}
@@ -14,7 +14,7 @@ use Rattle.tg_marking.specs.Values.{Roots, Spot, Scan, Progress, AtRest, Marking
 use Rattle.tg_marking.specs.Steps.{put, shade, shade_all, new_colour, with_target, Line, starts, scans, blackens, takes, shades_target, starts_sweep, skips, whitens, strips, frees, finishes, PutsEdge, Places, DropsEdge, Rewrites, Trims, ahead}
 use Rattle.tg_marking.specs.Invariant.{Invariant, Leads, IsScanned}
 use Rattle.tg_marking.specs.Left.{total, weight, parked_cells, bound, left, Celled, IsBounded, free_one, held_one, parked_one, held_cells, IsCounted, NeverRaises}
-use Rattle.tg_marking.proofs.SpotLemmas.{at_within, mark_is, kept_within, held_keeps, keeps_grey, put_each, shade_each, shade_done, shade_size, shade_marks, grey_after}
+use Rattle.tg_marking.proofs.SpotLemmas.{at_within, mark_is, kept_within, held_keeps, keeps_grey, new_is, put_each, shade_each, shade_done, shade_size, shade_marks, grey_after}
 use Rattle.tg_marking.proofs.KeepLemmas.{keeps_next, line_size}
 
 total_le : (f g : ℕ → ℕ) (n : ℕ) → ((i : ℕ) → i < n → f i ≤ g i) → total f n ≤ total g n
@@ -251,18 +251,10 @@ left_puts b b' p i cells new s = rw s.is (left_put b p i cells (Some (record s.o
 
 pub left_places : (b b' : Body) (p : Progress) (seat i serial cells : ℕ) (kind : Kind) (text : List ℕ) → Places b p seat i serial kind text b' → left cells b' p ≤ left cells b p
 left_places b b' p seat i serial cells kind text s = rw (s.is, same_roots (put b i (Some new)) p cells (with_target b.roots seat (Some i))) (left_put b p i cells (Some new) s.inside
-    (λ c. rw s.free (white c p)) (λ k is. by k (keeps (Sweeping k) i (new_colour p i))))
+    (λ c. rw s.free (elim (new_is p i) [ inl w ↦ rw w.0 (omega arith) | inr n ↦ rw n.3 (omega arith) ])) (λ k is. by k (keeps (Sweeping k) i (new_colour p i))))
   where
     new : Spot
     new = record { serial = serial; kind = kind; text = text; edges = []; colour = new_colour p i }
-
-    white : (c : Option Scan) (q : Progress) → weight (length b.slots) c i (Has (new_colour q i)) ≤ length b.slots + 2
-    white c AtRest = omega arith
-    white c (Marking s) = omega arith
-    white c (Sweeping k) = of (nat_lt i k) where
-      of : (t : Bool) → weight (length b.slots) c i (Has (cond t White Black)) ≤ length b.slots + 2
-      of true = omega arith
-      of false = omega arith
 
     by : (k : ℕ) (t : Bool) → cond t 0 0 ≤ parked_cells (Sweeping k) i (spot b i)
     by k true = omega arith

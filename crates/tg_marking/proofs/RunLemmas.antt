@@ -8,7 +8,7 @@ use Rattle.tg_rights.specs.Membership.{Contains}
 use Rattle.tg_marking.specs.Values.{Scan, Roots, HasRoot, Spot, Progress, AtRest, Marking, Sweeping, Body, spot, mark_of, name_of, IsRoot, seen, Kept, as_kept, kept}
 use Rattle.tg_marking.specs.Invariant.{at_root, along, IsLive}
 use Rattle.tg_marking.specs.Collected.{IsCalled, Turns, stays, greys, blackens, whitens, strips, frees, Stays, Follows, parks, sweeps, passes, ends as ended, Parks, Collected}
-use Rattle.tg_marking.specs.Runs.{Sane, IsLiveIn, Changes, same, shaded, regards, comes, Acted, RunOf, begin, acts, goes, ends, Cycles, NoSession, IsComplete, Settles}
+use Rattle.tg_marking.specs.Runs.{Sane, IsLiveIn, Changes, same, shaded, regards, comes, Acted, RunOf, begin, acts, goes, ends, Cycles, IsComplete, Settles}
 use Rattle.tg_marking.proofs.SpotLemmas.{mark_is, kept_name}
 
 -- Roots are good, and edges of good ones lead to good ones.
@@ -237,8 +237,8 @@ complete b c q next (suc (suc n)) g below r two i s is = (run_progress (λ c q d
 cycles_live : (b : Body) (p : Progress) (c : Body) (q : Progress) (n : ℕ) → Sane b p → Cycles b p c q n → (x : ℕ) → IsLiveIn b p x → IsLiveIn c q x
 cycles_live b p _ _ _ g begin x l = l
 cycles_live b p _ _ _ g (acts c d q n w a k) x l = absurd a
-cycles_live b p _ _ _ g (goes c d q r n w a k) x l = live_in_stays c d q r false (run_keeps NoSession n b c p q g w) k a x (cycles_live b p c q n g w x l)
-cycles_live b p _ _ _ g (ends c d q r n w a k) x l = live_in_stays c d q r true (run_keeps NoSession n b c p q g w) k a x (cycles_live b p c q n g w x l)
+cycles_live b p _ _ _ g (goes c d q r n w a k) x l = live_in_stays c d q r false (run_keeps (λ c q d. ⊥) n b c p q g w) k a x (cycles_live b p c q n g w x l)
+cycles_live b p _ _ _ g (ends c d q r n w a k) x l = live_in_stays c d q r true (run_keeps (λ c q d. ⊥) n b c p q g w) k a x (cycles_live b p c q n g w x l)
 
 follows_ends : (b : Body) (p q : Progress) (e : Bool) → Follows b p q e → e ≡ true → q ≡ AtRest
 follows_ends b _ _ _ (ended k l) o = refl
@@ -257,8 +257,8 @@ after_first b p _ _ _ (suc m) e (ends c d q r n w a k) = let u = after_first b p
 pub settles : Settles
 settles b c p q g w i s is =
     let u = after_first b p c q 3 2 refl w in
-    let last = run_keeps NoSession 2 u.0 c AtRest q u.1 u.2 in
-    let good = run_progress NoSession (IsLiveIn u.0 AtRest) (λ c d q bad k f. absurd bad) u.0 c q 2 u.1 (live_fence u.0 u.1) u.2 in
+    let last = run_keeps (λ c q d. ⊥) 2 u.0 c AtRest q u.1 u.2 in
+    let good = run_progress (λ c q d. ⊥) (IsLiveIn u.0 AtRest) (λ c d q bad k f. absurd bad) u.0 c q 2 u.1 (live_fence u.0 u.1) u.2 in
     let now = cycles_live u.0 AtRest c q 2 u.1 u.2 s.serial (good.1 i s is) in
     let here : now.0 ≡ i = last.once now.0 i s.serial (kept_name q now.0 (spot c now.0) now.1 now.3 ∙ ap (λ (x : ℕ). Some x) now.4) (ap name_of is) in
     subst (IsLive c q) here now.2

@@ -1,6 +1,6 @@
 -- The session steps keep the invariant.
-use Rattle.std.proofs.Common.{◌≡◌, ◌≢◌, ℕ, zero, suc, ◌<◌, ◌≤◌, List, [], ◌∷◌, ◌++◌, length, get_or, set, replicate, length-set, get_or-set_same, get_or-set_other, Bool, true, false, nat_lt, cond, Option, Some, None, ◌⊎◌, inl, inr, sym, ◌∙◌, subst, ap, refl, arith}
-use Rattle.std.proofs.lemmas.Bool.{cases_eq, lt-ltb, ltb-true}
+use Rattle.std.proofs.Common.{◌≡◌, ◌≢◌, ℕ, zero, suc, ◌<◌, ◌≤◌, List, [], ◌∷◌, ◌++◌, length, get_or, set, replicate, length-set, get_or-set_same, get_or-set_other, Bool, true, false, cond, Option, Some, None, ◌⊎◌, inl, inr, sym, ◌∙◌, subst, ap, refl, arith}
+use Rattle.std.proofs.lemmas.Bool.{cases_eq, ltb-true}
 use Rattle.std.proofs.lemmas.List.{append_assoc, append_cancel_right}
 use Rattle.tg_slots.specs.declared.colour.Colour.TheVariants.{White, Grey, Black}
 use Rattle.tg_slots.specs.Table.{Has}
@@ -11,7 +11,7 @@ use Rattle.tg_rights.proofs.MembershipLemmas.{contains_append, contains_left, co
 use Rattle.tg_marking.specs.Values.{Spot, Progress, AtRest, Marking, Sweeping, Body, Roots, HasRoot, HasTarget, shown, spot, mark, mark_of, out, edges_of, name, name_of, IsRoot, IsTarget, keeps, seen, seen_at, Kept, as_kept, kept}
 use Rattle.tg_marking.specs.Steps.{put, shade, new_colour, with_target, Reroots, PutsEdge, ShadesTarget, Places, Trims, idle, sweeping, unscanned, elsewhere, passed, ahead, DropsEdge, Rewrites}
 use Rattle.tg_marking.specs.Invariant.{Leads, IsScanned, Greys, Covered, ScanFits, Phased, Invariant}
-use Rattle.tg_marking.proofs.SpotLemmas.{at_within, kept_is, held_keeps, put_each, put_greys, shade_done, shade_marks, shade_name, shade_roots, shade_kept, black_before, same_root, Whites, covered_moves, tricolour_moves, scan_moves, still, closed_same, closed_moves, shade_greys, shade_tricolour}
+use Rattle.tg_marking.proofs.SpotLemmas.{at_within, kept_is, kept_edges, held_keeps, new_is, put_each, put_greys, shade_done, shade_marks, shade_name, shade_roots, shade_kept, black_before, same_root, Whites, covered_moves, tricolour_moves, scan_moves, still, closed_same, closed_moves, shade_greys, shade_tricolour}
 
 -- Roots may come that are held and targets, and go where no white target goes.
 rooted : (b : Body) (p : Progress) (rs : Roots) → ((i : ℕ) → HasRoot rs i → IsRoot b i ⊎ (HasTarget rs i × (k : Kept) × (kept b p i ≡ Some k)))
@@ -276,17 +276,16 @@ rewrites_keeps b b' p i text s g = rw s.is (regards_keeps b p p i s.owner s.owne
 pub places_keeps : (b b' : Body) (p : Progress) (seat i serial : ℕ) (kind : Kind) (text : List ℕ) → Places b p seat i serial kind text b' → Invariant b p → Invariant b' p
 places_keeps b b' p seat i serial kind text s g = rw s.is (record {
   closed = closed_moves (kept b p) (kept after p) (IsRoot b) (IsRoot after)
-      (λ n t h. (t, ap (seen p n) (there n (occupied n t h)) ∙ h, refl))
-      (λ n t' e h o. elim (cases_eq n i) [
-        | inl is ↦ absurd (let mine : as_kept spot' ≡ t' = (let u = subst (λ (m : ℕ). kept after p m ≡ Some t') is h in let v = here in cc) in subst (λ (q : Kept). Contains q.edges e) (sym mine) o)
-        | inr other ↦ inl (t', e, sym (ap (seen p n) (there n other)) ∙ h, o, refl, refl)
-      ])
-      (λ n r. elim (root_before b.roots seat (Some i) n r) [ inl is ↦ inr (as_kept spot', mine n is) | inr old ↦ inl old ]) g.closed;
+      (put_each (λ n o. (t : Kept) → kept b p n ≡ Some t → (t' : Kept) × (seen p n o ≡ Some t') × (t'.serial ≡ t.serial)) b i (Some spot') s.inside
+      (λ t h. absurd (let f = ap (seen p i) s.free in cc)) (λ n o t h. (t, h, refl)))
+      (put_each (λ n o. (t' : Kept) (e : Edge) → seen p n o ≡ Some t' → Contains t'.edges e → ((t : Kept) × (d : Edge) × (kept b p n ≡ Some t) × Contains t.edges d × (d.target ≡ e.target) × (d.serial ≡ e.serial)) ⊎ Leads (kept after p) n e) b i (Some spot') s.inside
+      (λ t' e h o. absurd (subst (λ (es : List Edge). Contains es e) (sym (kept_edges p i (Some spot') t' h)) o)) (λ n m t' e h o. inl (t', e, h, o, refl, refl)))
+      (λ n r. elim (root_before b.roots seat (Some i) n r) [ inl is ↦ inr (as_kept spot', subst (λ (m : ℕ). kept after p m ≡ Some (as_kept spot')) (same n is) here) | inr old ↦ inl old ]) g.closed;
   once = λ a c x h l. elim (named a x h) [
     | inl old ↦ elim (named c x l) [ inl too ↦ g.once a c x old too | inr new ↦ absurd (s.new a (old ∙ ap (λ (y : ℕ). Some y) new.1)) ]
     | inr new ↦ elim (named c x l) [ inl old ↦ absurd (s.new c (old ∙ ap (λ (y : ℕ). Some y) new.1)) | inr too ↦ new.0 ∙ sym too.0 ]
   ];
-  greys = greys_kept (put_greys b i (Some spot') (IsScanned p) (IsScanned p) s.inside (not_grey p) unlisted (λ j n x. x) (λ j x. (x, λ is. let d = (g.greys.scanned j x).0 in let f = subst (λ (m : ℕ). spot b m ≡ None) (sym is) s.free in let k = ap mark_of f in cc)) g.greys);
+  greys = greys_kept (put_greys b i (Some spot') (IsScanned p) (IsScanned p) s.inside not_grey unlisted (λ j n x. x) (λ j x. (x, λ is. let d = (g.greys.scanned j x).0 in let f = subst (λ (m : ℕ). spot b m ≡ None) (sym is) s.free in let k = ap mark_of f in cc)) g.greys);
   phase = by p refl g.phase;
 }) where
   spot' : Spot
@@ -295,47 +294,23 @@ places_keeps b b' p seat i serial kind text s g = rw s.is (record {
   after : Body
   after = record b { slots = set b.slots i (Some spot'); roots = with_target b.roots seat (Some i) }
 
+  same : (n : ℕ) → Some i ≡ Some n → i ≡ n
+  same n is = cc
+
   greys_kept : Greys (put b i (Some spot')) (IsScanned p) → Greys after (IsScanned p)
   greys_kept k = record { waits = k.waits; once = k.once; known = k.known; scanned = k.scanned }
-
-  there : (n : ℕ) → n ≢ i → spot after n ≡ spot b n
-  there n o = get_or-set_other b.slots i n (Some spot') None o
-
-  occupied : (n : ℕ) (t : Kept) → kept b p n ≡ Some t → n ≢ i
-  occupied n t h is = let f = ap (seen p n) (subst (λ (m : ℕ). spot b m ≡ None) (sym is) s.free) in cc
 
   unlisted : Contains b.grey i → ⊥
   unlisted w = let d = g.greys.waits i w in let f = ap mark_of s.free in cc
 
-  not_grey : (q : Progress) → Has (new_colour q i) ≢ Has Grey
-  not_grey AtRest e = cc
-  not_grey (Marking c) e = cc
-  not_grey (Sweeping k) e = by (nat_lt i k) e where
-    by : (t : Bool) → Has (cond t White Black) ≢ Has Grey
-    by true e = cc
-    by false e = cc
+  not_grey : Has (new_colour p i) ≢ Has Grey
+  not_grey e = elim (new_is p i) [ inl w ↦ (let u = w.0 in cc) | inr n ↦ (let u = n.3 in cc) ]
 
-  new_white : (q : Progress) → ((k : ℕ) → q ≢ Sweeping k) → Has (new_colour q i) ≡ Has White
-  new_white AtRest n = refl
-  new_white (Marking c) n = refl
-  new_white (Sweeping k) n = absurd (n k refl)
-
-  new_black : (k : ℕ) → i < k → new_colour (Sweeping k) i ≡ White
-  new_black k l = rw (lt-ltb i k l) refl
-
-  held_new : (q : Progress) → seen q i (Some (record { serial = serial; kind = kind; text = text; edges = []; colour = new_colour q i })) ≡ Some (as_kept spot')
-  held_new AtRest = refl
-  held_new (Marking c) = refl
-  held_new (Sweeping k) = elim (nat_lt i k) as (λ t. nat_lt i k ≡ t → seen (Sweeping k) i (Some (record { serial = serial; kind = kind; text = text; edges = []; colour = cond t White Black })) ≡ Some (as_kept spot')) [
-    | true ↦ λ t. rw t refl
-    | false ↦ λ t. refl
-  ] refl
+  held : keeps p i (new_colour p i) ≡ true
+  held = elim (new_is p i) [ inl w ↦ rw w.0 w.1 | inr n ↦ rw (n.3, n.1) refl ]
 
   here : kept after p i ≡ Some (as_kept spot')
-  here = ap (seen p i) (get_or-set_same b.slots i (Some spot') None s.inside) ∙ held_new p
-
-  mine : (n : ℕ) → Some i ≡ Some n → kept after p n ≡ Some (as_kept spot')
-  mine n is = let e : i ≡ n = cc in subst (λ (m : ℕ). kept after p m ≡ Some (as_kept spot')) e here
+  here = ap (seen p i) (get_or-set_same b.slots i (Some spot') None s.inside) ∙ rw held refl
 
   named : (n x : ℕ) → name after n ≡ Some x → (name b n ≡ Some x) ⊎ ((n ≡ i) × (x ≡ serial))
   named n x = put_each (λ n o. name_of o ≡ Some x → (name b n ≡ Some x) ⊎ ((n ≡ i) × (x ≡ serial))) b i (Some spot') s.inside (λ e. inr (refl, (let u : Some serial ≡ Some x = e in cc))) (λ n o e. inl e) n
@@ -348,16 +323,16 @@ places_keeps b b' p seat i serial kind text s g = rw s.is (record {
       (λ n o w. inl (w, idle_stays b.roots seat (Some i) n s.idle))
 
   by : (q : Progress) → p ≡ q → Phased b q → Phased after q
-  by AtRest e f = put_each (λ n o. mark_of o ≢ Has Black) b i (Some spot') s.inside (λ d. let w = new_white p (λ k h. cc) in cc) (λ n o. f n)
+  by AtRest e f = put_each (λ n o. mark_of o ≢ Has Black) b i (Some spot') s.inside (λ d. elim (new_is p i) [ inl w ↦ (let u = w.0 in cc) | inr n ↦ (let u : AtRest ≡ Sweeping n.0 = sym e ∙ n.1 in cc) ]) (λ n o. f n)
   by (Sweeping k) e f = (
-    put_each (λ n o. n < k → mark_of o ≢ Has Black) b i (Some spot') s.inside (λ l d. let w : new_colour p i ≡ White = rw e (new_black k l) in cc) (λ n o. f.0 n),
-    put_each (λ n o. k ≤ n → mark_of o ≢ Has Grey) b i (Some spot') s.inside (λ l d. not_grey p d) (λ n o. f.1 n),
+    put_each (λ n o. n < k → mark_of o ≢ Has Black) b i (Some spot') s.inside
+        (λ l d. elim (new_is p i) [ inl w ↦ (let u = w.0 in cc) | inr n ↦ (let u : Sweeping k ≡ Sweeping n.0 = sym e ∙ n.1 in let v : k ≡ n.0 = cc in let m = n.2 in omega (arith, l, m, v)) ]) (λ n o. f.0 n),
+    put_each (λ n o. k ≤ n → mark_of o ≢ Has Grey) b i (Some spot') s.inside (λ l. not_grey) (λ n o. f.1 n),
   )
   by (Marking c) e f = tricolour_moves b after c c whites
-      (λ n r. elim (root_before b.roots seat (Some i) n r) [ inl is ↦ inr (λ w. let h : i ≡ n = cc in subst (IsTarget after) h target) | inr old ↦ inl old ])
+      (λ n r. elim (root_before b.roots seat (Some i) n r) [ inl is ↦ inr (λ w. subst (IsTarget after) (same n is) target) | inr old ↦ inl old ])
       (λ n x d. put_each (λ n o. mark_of o ≡ Has Black → Contains (edges_of o) x → ((mark b n ≡ Has Black) × Contains (out b n) x) ⊎ Covered after x.target) b i (Some spot') s.inside (λ d o. absurd o) (λ n o d c. inl (d, c)) n d)
-      (scan_moves b after c whites (λ n x. put_each (λ n o. (more : List Edge) × (edges_of o ≡ more ++ out b n) × ((y : Edge) → Contains more y → Covered after y.target)) b i (Some spot') s.inside
-      ([], ap edges_of (sym s.free), λ y bad. absurd bad) (λ n o. ([], refl, λ y bad. absurd bad)) n) f.scanned) f
+      (scan_moves b after c whites (λ n x. still b after n (put_each (λ n o. edges_of o ≡ out b n) b i (Some spot') s.inside (ap edges_of (sym s.free)) (λ n o. refl) n)) f.scanned) f
 
 -- Nothing is there.
 none_there : {X : Type 0} (n i : ℕ) → get_or (replicate {A = Option X} n None) i None ≡ None

@@ -1,6 +1,6 @@
 -- One slot changes: what holds of each slot afterwards, and what keeps each part of the invariant.
-use Rattle.std.proofs.Common.{◌≡◌, ◌≢◌, ℕ, zero, suc, ◌<◌, List, [], ◌∷◌, ◌++◌, length, length-set, Bool, true, false, cond, Option, Some, None, ◌⊎◌, inl, inr, sym, ◌∙◌, subst, ap, refl, arith, set, get_or, get_or-set_same, get_or-set_other}
-use Rattle.std.proofs.lemmas.Bool.{cases_eq}
+use Rattle.std.proofs.Common.{◌≡◌, ◌≢◌, ℕ, zero, suc, ◌<◌, ◌≤◌, nat_lt, List, [], ◌∷◌, ◌++◌, length, length-set, Bool, true, false, cond, Option, Some, None, ◌⊎◌, inl, inr, sym, ◌∙◌, subst, ap, refl, arith, set, get_or, get_or-set_same, get_or-set_other}
+use Rattle.std.proofs.lemmas.Bool.{cases_eq, ltb-false}
 use Rattle.std.proofs.lemmas.List.{append_assoc}
 use Rattle.tg_slots.specs.declared.colour.Colour.{Colour}
 use Rattle.tg_slots.specs.declared.colour.Colour.TheVariants.{White, Grey, Black}
@@ -9,7 +9,7 @@ use Rattle.tg_cells.specs.Lists.{Edge}
 use Rattle.tg_rights.specs.Membership.{Contains}
 use Rattle.tg_rights.proofs.MembershipLemmas.{contains_append}
 use Rattle.tg_marking.specs.Values.{Roots, HasRoot, HasTarget, Spot, Scan, Progress, AtRest, Marking, Sweeping, Body, spot, mark, mark_of, out, edges_of, name, name_of, IsRoot, IsTarget, keeps, seen, Kept, as_kept, kept}
-use Rattle.tg_marking.specs.Steps.{put, shade, shade_spot, shade_in}
+use Rattle.tg_marking.specs.Steps.{put, shade, shade_spot, shade_in, new_colour}
 use Rattle.tg_marking.specs.Invariant.{Leads, Closed, IsScanned, Greys, Covered, ScanFits, Tricolour}
 
 -- A place of a list beyond its end has the default.
@@ -51,6 +51,14 @@ pub keeps_grey : (p : Progress) (i : ℕ) → keeps p i Grey ≡ true
 keeps_grey AtRest i = refl
 keeps_grey (Marking s) i = refl
 keeps_grey (Sweeping k) i = refl
+
+-- A new vertex is white and held, or black in a slot that the sweep has yet to reach.
+pub new_is : (p : Progress) (i : ℕ) → ((new_colour p i ≡ White) × (keeps p i White ≡ true)) ⊎ ((k : ℕ) × (p ≡ Sweeping k) × (k ≤ i) × (new_colour p i ≡ Black))
+new_is (Sweeping k) i = elim (nat_lt i k) as (λ t. nat_lt i k ≡ t → ((cond t White Black ≡ White) × (t ≡ true)) ⊎ ((l : ℕ) × (Sweeping k ≡ Sweeping l) × (l ≤ i) × (cond t White Black ≡ Black))) [
+  | true ↦ λ e. inl (refl, refl)
+  | false ↦ λ e. inr (k, refl, ltb-false i k e, refl)
+] refl
+new_is p i = inl (refl, refl)
 
 -- Each slot after one was put: it, or another that stays.
 pub put_each : (P : ℕ → Option Spot → Type 0) (b : Body) (i : ℕ) (o : Option Spot) → i < length b.slots → P i o → ((j : ℕ) → j ≢ i → P j (spot b j)) → (j : ℕ) → P j (spot (put b i o) j)

@@ -5,7 +5,8 @@ use Rattle.tg_slots.specs.declared.colour.Colour.TheVariants.{White, Grey, Black
 use Rattle.tg_slots.specs.Table.{Has}
 use Rattle.tg_cells.specs.Lists.{Edge}
 use Rattle.tg_rights.specs.Membership.{Contains}
-use Rattle.tg_marking.specs.Invariant.{IsLive}
+use Rattle.tg_marking.specs.Steps.{Line}
+use Rattle.tg_marking.specs.Invariant.{IsLive, Invariant}
 
 -- why a collector step makes a slot grey: a root, or an edge from a grey slot leads to it
 abbrev pub IsCalled : Body → ℕ → Type 0
@@ -51,3 +52,7 @@ pub record Collected (b : Body) (p : Progress) (b' : Body) (p' : Progress) (ende
   pub turns : (i : ℕ) → Turns b p i (spot b i) (spot b' i)
   pub held : Stays p p' → (i : ℕ) → kept b' p' i ≡ kept b p i
   pub parks : (s : Option Scan) → p ≡ Marking s → p' ≡ Sweeping 0 → Parks b b' p p'
+
+-- each line of the step table keeps the invariant, and is a collector step
+abbrev pub LinesKeep : Type 0
+LinesKeep = (b b' : Body) (p p' : Progress) (n : ℕ) (e : Bool) → Line b p b' p' n e → Invariant b p → Invariant b' p' × Collected b p b' p' e

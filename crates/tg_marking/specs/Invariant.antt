@@ -1,10 +1,12 @@
--- what holds between any two steps, and what callers see of a collector step
-use Rattle.std.specs.Prelude.{◌≡◌, ◌≢◌, ℕ, ◌<◌, ◌≤◌, List, ◌++◌, Option, Some, None, ◌⊎◌}
-use Rattle.tg_marking.specs.Values.{Scan, Progress, AtRest, Marking, Sweeping, Body, mark, out, name, IsRoot, IsTarget, Kept, kept}
+-- what holds between any two steps, and that each session step keeps it
+use Rattle.std.specs.Prelude.{◌≡◌, ◌≢◌, ℕ, ◌<◌, ◌≤◌, List, [], ◌++◌, replicate, Option, Some, None, ◌⊎◌}
+use Rattle.tg_marking.specs.Values.{Roots, Scan, Progress, AtRest, Marking, Sweeping, Body, mark, out, name, IsRoot, IsTarget, Kept, kept}
 use Rattle.tg_slots.specs.declared.colour.Colour.TheVariants.{White, Grey, Black}
 use Rattle.tg_slots.specs.Table.{Has}
 use Rattle.tg_cells.specs.Lists.{Edge}
+use Rattle.tg_rights.specs.declared.kind.Kind.{Kind}
 use Rattle.tg_rights.specs.Membership.{Contains, Distinct}
+use Rattle.tg_marking.specs.Steps.{Reroots, PutsEdge, ShadesTarget, Places, DropsEdge, Rewrites}
 
 -- an edge leads to a held slot of its serial, which is not its owner's
 abbrev pub Leads : (ℕ → Option Kept) → ℕ → Edge → Type 0
@@ -16,10 +18,8 @@ pub record Closed (held : ℕ → Option Kept) (Root : ℕ → Type 0) : Type 0 
   pub edges : (i : ℕ) (k : Kept) (e : Edge) → held i ≡ Some k → Contains k.edges e → Leads held i e
 
 abbrev pub IsScanned : Progress → ℕ → Type 0
-IsScanned AtRest i = ⊥
-IsScanned (Marking None) i = ⊥
 IsScanned (Marking (Some s)) i = i ≡ s.slot
-IsScanned (Sweeping k) i = ⊥
+IsScanned p i = ⊥
 
 -- what waits is grey, each slot once, and what is grey waits or is under scan
 pub record Greys (b : Body) (Scanned : ℕ → Type 0) : Type 0 where
@@ -65,3 +65,13 @@ pub data Reached (held : ℕ → Option Kept) (Root : ℕ → Type 0) : ℕ → 
 
 abbrev pub IsLive : Body → Progress → ℕ → Type 0
 IsLive b p i = Reached (kept b p) (IsRoot b) i
+
+-- each session step keeps it, and a blank store has it
+pub record SessionsKeep : Type 0 where
+  pub reroots : (b b' : Body) (p : Progress) (rs : Roots) → Reroots b p rs b' → Invariant b p → Invariant b' p
+  pub puts_edge : (b b' : Body) (p : Progress) (i : ℕ) (new : Edge) → PutsEdge b p i new b' → Invariant b p → Invariant b' p
+  pub shades : (b b' : Body) (p : Progress) (seat i : ℕ) → ShadesTarget b seat i b' → Invariant b p → Invariant b' p
+  pub places : (b b' : Body) (p : Progress) (seat i serial : ℕ) (kind : Kind) (text : List ℕ) → Places b p seat i serial kind text b' → Invariant b p → Invariant b' p
+  pub drops_edge : (b b' : Body) (p p' : Progress) (i : ℕ) (before : List Edge) (e : Edge) (news after : List Edge) → DropsEdge b p i before e news after b' p' → Invariant b p → Invariant b' p'
+  pub rewrites : (b b' : Body) (p : Progress) (i : ℕ) (text : List ℕ) → Rewrites b i text b' → Invariant b p → Invariant b' p
+  pub blank : (slots seats : ℕ) → Invariant (record { slots = replicate slots None; grey = []; roots = record { targets = replicate seats None; others = [] } }) AtRest

@@ -15,15 +15,12 @@ total f zero = 0
 total f (suc n) = total f n + f n
 
 -- the steps that a slot may still take while marking
-abbrev pub scan_weight : Option Scan → ℕ → ℕ → ℕ
-scan_weight None i other = other
-scan_weight (Some s) i other = cond (eqb i s.slot) (1 + length s.rest) other
-
 abbrev pub weight : ℕ → Option Scan → ℕ → Mark → ℕ
 weight size scan i Free = size + 2
 weight size scan i (Has White) = size + 2
-weight size scan i (Has Grey) = scan_weight scan i (size + 1)
 weight size scan i (Has Black) = 0
+weight size None i (Has Grey) = size + 1
+weight size (Some s) i (Has Grey) = cond (eqb i s.slot) (1 + length s.rest) (size + 1)
 
 abbrev pub parked_cells : Progress → ℕ → Option Spot → ℕ
 parked_cells p i None = 0

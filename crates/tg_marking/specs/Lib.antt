@@ -4,4 +4,3 @@ pub mod Invariant
 pub mod Collected
 pub mod Runs
 pub mod Left
-pub mod Laws

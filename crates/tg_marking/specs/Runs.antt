@@ -44,11 +44,8 @@ abbrev pub Run : ℕ → Body → Progress → Body → Progress → ℕ → Typ
 Run next b p c q n = RunOf (λ c q d. Acted c q d next) b p c q n
 
 -- without session steps
-abbrev pub NoSession : Body → Progress → Body → Type 0
-NoSession b p b' = ⊥
-
 abbrev pub Cycles : Body → Progress → Body → Progress → ℕ → Type 0
-Cycles b p c q n = RunOf NoSession b p c q n
+Cycles b p c q n = RunOf (λ c q d. ⊥) b p c q n
 
 -- what is not live in an idle store has no slot once two cycles have ended, however sessions act
 abbrev pub IsComplete : Type 0

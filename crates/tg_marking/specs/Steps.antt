@@ -14,8 +14,7 @@ put b i o = record b { slots = set b.slots i o }
 -- a white slot turns grey and waits; others stay
 abbrev pub shade_spot : Body → ℕ → Spot → Colour → Body
 shade_spot b i s White = record b { slots = set b.slots i (Some (record s { colour = Grey })); grey = i ∷ b.grey }
-shade_spot b i s Grey = b
-shade_spot b i s Black = b
+shade_spot b i s c = b
 
 abbrev pub shade_in : Body → ℕ → Option Spot → Body
 shade_in b i None = b
@@ -24,14 +23,11 @@ shade_in b i (Some s) = shade_spot b i s s.colour
 abbrev pub shade : Body → ℕ → Body
 shade b i = shade_in b i (spot b i)
 
-abbrev pub shade_root : Body → Option ℕ → Body
-shade_root b None = b
-shade_root b (Some i) = shade b i
-
 -- roots are shaded, from the last to the first
 abbrev pub shade_all : Body → List (Option ℕ) → Body
 shade_all b [] = b
-shade_all b (r ∷ rs) = shade_root (shade_all b rs) r
+shade_all b (None ∷ rs) = shade_all b rs
+shade_all b (Some i ∷ rs) = shade (shade_all b rs) i
 
 -- one line of the collector's table: the value before and after, slots freed, whether the cycle ended
 pub data Line (b : Body) : Progress → Body → Progress → ℕ → Bool → Type 0 where
@@ -51,9 +47,8 @@ pub data Line (b : Body) : Progress → Body → Progress → ℕ → Bool → T
 
 -- the colour of a vertex that comes into a slot
 abbrev pub new_colour : Progress → ℕ → Colour
-new_colour AtRest i = White
-new_colour (Marking s) i = White
 new_colour (Sweeping k) i = cond (nat_lt i k) White Black
+new_colour p i = White
 
 -- a seat's target is another
 abbrev pub with_target : Roots → ℕ → Option ℕ → Roots

@@ -2,7 +2,7 @@
 use Rattle.std.specs.Prelude.{◌≡◌, ℕ, List, [], Option, Some, None, ◌⊎◌, Bool, true, false, cond, get_or, nat_lt}
 use Rattle.tg_rights.specs.declared.kind.Kind.{Kind}
 use Rattle.tg_slots.specs.declared.colour.Colour.{Colour}
-use Rattle.tg_slots.specs.declared.colour.Colour.TheVariants.{White, Grey, Black}
+use Rattle.tg_slots.specs.declared.colour.Colour.TheVariants.{White}
 use Rattle.tg_slots.specs.Table as table
 use Rattle.tg_slots.specs.Table.{Free, Has}
 use Rattle.tg_cells.specs.Lists.{Edge}
@@ -89,11 +89,8 @@ IsRoot b i = HasRoot b.roots i
 
 -- whether a slot of this colour is held, or parked until the sweep comes to it
 abbrev pub keeps_at : Stage → ℕ → Colour → Bool
-keeps_at Idle i c = true
-keeps_at Mark i c = true
 keeps_at (Sweep k) i White = nat_lt i k
-keeps_at (Sweep k) i Grey = true
-keeps_at (Sweep k) i Black = true
+keeps_at g i c = true
 
 abbrev pub keeps : Progress → ℕ → Colour → Bool
 keeps p i c = keeps_at (shown p) i c

@@ -4,7 +4,8 @@
 //! The collector is the one of Dijkstra, Lamport, Martin, Scholten and Steffens (1978), with a list of grey slots.
 #![tactic(auto)]
 
-ghost use Rattle.tg_marking.specs.Laws.{LinesKeep, SessionsKeep};
+ghost use Rattle.tg_marking.specs.Invariant.{SessionsKeep};
+ghost use Rattle.tg_marking.specs.Collected.{LinesKeep};
 ghost use Rattle.tg_marking.specs.Runs.{IsComplete, Settles};
 ghost use Rattle.tg_marking.specs.Left.{IsBounded, NeverRaises, IsCounted};
 
