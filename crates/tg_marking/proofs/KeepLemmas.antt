@@ -11,7 +11,7 @@ use Rattle.tg_marking.specs.Values.{Spot, Scan, Progress, AtRest, Marking, Sweep
 use Rattle.tg_marking.specs.Steps.{put, shade, shade_all, Line, starts, scans, blackens, takes, shades_target, starts_sweep, skips, whitens, strips, frees, finishes}
 use Rattle.tg_marking.specs.Invariant.{Leads, Closed, IsScanned, Greys, Covered, Phased, Invariant, at_root, along, IsLive}
 use Rattle.tg_marking.specs.Collected.{IsCalled, Turns, stays, greys, blackens as turns_black, whitens as turns_white, strips as loses_edge, frees as turns_free, Stays, Follows, begins, marks, parks, sweeps, passes, ends, Parks, Collected}
-use Rattle.tg_marking.proofs.SpotLemmas.{at_within, kept_edges, put_each, shade_each, shade_done, shade_roots, shade_size, shade_kept, white_before, same_target, same_root, Whites, covered_moves, tricolour_moves, closed_same, shade_greys, shade_tricolour, put_greys}
+use Rattle.tg_marking.proofs.SpotLemmas.{at_within, mark_is, kept_edges, put_each, shade_each, shade_done, shade_roots, shade_size, shade_kept, white_before, same_target, same_root, Whites, covered_moves, tricolour_moves, closed_same, shade_greys, shade_tricolour, put_greys}
 
 -- The roots that start a cycle are shaded one after the other.
 shade_all_keeps : (Q : Body → Type 0) (b : Body) (rs : List (Option ℕ)) → ((c : Body) (i : ℕ) → Contains rs (Some i) → Q c → Q (shade c i)) → Q b → Q (shade_all b rs)
@@ -97,13 +97,10 @@ line_turns b _ _ _ _ _ starts g j = by (spot (shade_all b b.roots.others) j) (st
   by : (o : Option Spot) → Started b j o → Turns b AtRest j (spot b j) o
   by o (inl same) = subst (Turns b AtRest j (spot b j)) (sym same) (stays (spot b j))
   by o (inr (s, is, c, now, root)) = rw (is, now) (greys s c (λ k e. cc) (inl root))
-line_turns b _ _ _ _ _ (scans i e r) g j = shade_turns b (Marking (Some (record { slot = i; rest = e ∷ r }))) e.target (λ k e. cc) (inr (owner (spot b i) refl (g.greys.scanned i refl).0)) j where
-  mine : (s : Spot) → spot b i ≡ Some s → Contains s.edges e
-  mine s is = subst (λ (es : List Edge). Contains es e) (sym (g.phase.scanned.all) ∙ ap edges_of is) (contains_middle g.phase.scanned.passed r e)
-
-  owner : (o : Option Spot) → spot b i ≡ o → mark_of o ≡ Has Grey → (k : ℕ) × (s : Spot) × (x : Edge) × (spot b k ≡ Some s) × (s.colour ≡ Grey) × Contains s.edges x × (x.target ≡ e.target)
-  owner None is m = absurd (cc)
-  owner (Some s) is m = (i, s, e, is, (cc), mine s is, refl)
+line_turns b _ _ _ _ _ (scans i e r) g j =
+    let s = mark_is (spot b i) Grey (g.greys.scanned i refl).0 in
+    let mine : Contains s.0.edges e = subst (λ (es : List Edge). Contains es e) (sym (g.phase.scanned.all) ∙ ap edges_of s.1) (contains_middle g.phase.scanned.passed r e) in
+    shade_turns b (Marking (Some (record { slot = i; rest = e ∷ r }))) e.target (λ k e. cc) (inr (i, s.0, e, s.1, s.2, mine, refl)) j
 line_turns b _ _ _ _ _ (blackens i s is) g j = put_turns b (Marking (Some (record { slot = i; rest = [] }))) i s (Some (record s { colour = Black })) is
     (turns_black s (let m = (g.greys.scanned i refl).0 in let k = ap mark_of is in cc) (λ k e. cc)) j
 line_turns b _ _ _ _ _ (shades_target k i l r w least) g j = shade_turns b (Marking None) i (λ k e. cc) (inl (inl (k, r))) j
@@ -224,10 +221,7 @@ line_phase b _ _ _ _ _ (skips k l is) g = (
 line_phase b _ _ _ _ _ (whitens k s is c) g = swept b k (k + 1) s (Some (record s { colour = White })) is (omega arith) (omega arith) (λ d. cc) (λ d. cc) g.phase
 line_phase b _ _ _ _ _ (strips k s e r is c m) g = swept b k k s (Some (record s { edges = r })) is (omega arith) (omega arith) (λ d. cc) (λ d. cc) g.phase
 line_phase b _ _ _ _ _ (frees k s is c m) g = swept b k (k + 1) s None is (omega arith) (omega arith) (λ d. cc) (λ d. cc) g.phase
-line_phase b _ _ _ _ _ (finishes k l) g = λ i d. by i (spot b i) refl d where
-  by : (i : ℕ) (o : Option Spot) → spot b i ≡ o → mark_of o ≡ Has Black → ⊥
-  by i None e d = cc
-  by i (Some s) e d = let h = at_within b.slots i s e in g.phase.0 i (omega arith) (ap mark_of e ∙ d)
+line_phase b _ _ _ _ _ (finishes k l) g = λ i d. let s = mark_is (spot b i) Black d in let h = at_within b.slots i s.0 s.1 in g.phase.0 i (omega (arith, h, l)) d
 
 -- The step into the sweep: what is held afterwards was black, and what is black stays held.
 module _ (b : Body) (g : Invariant b (Marking None)) (l : b.grey ≡ []) (t : (i : ℕ) → IsTarget b i → mark b i ≡ Has White → ⊥) where

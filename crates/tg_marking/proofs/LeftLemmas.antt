@@ -9,12 +9,13 @@ use Rattle.tg_slots.specs.Table.{Mark, Has}
 use Rattle.tg_cells.specs.Lists.{Edge}
 use Rattle.tg_rights.specs.Membership.{Contains, Distinct}
 use Rattle.tg_rights.specs.declared.kind.Kind.{Kind}
+use Rattle.tg_rights.proofs.MembershipLemmas.{contains_map}
 use Rattle.tg_index.proofs.RowLemmas.{few}
 use Rattle.tg_marking.specs.Values.{Roots, Spot, Scan, Progress, AtRest, Marking, Sweeping, Body, spot, mark, mark_of, out, edges_of, keeps, seen, Kept, as_kept, kept}
 use Rattle.tg_marking.specs.Steps.{put, shade, shade_all, new_colour, with_target, Line, starts, scans, blackens, takes, shades_target, starts_sweep, skips, whitens, strips, frees, finishes, PutsEdge, Places, DropsEdge, Rewrites, Trims, ahead}
 use Rattle.tg_marking.specs.Invariant.{Invariant, Leads, IsScanned}
 use Rattle.tg_marking.specs.Left.{total, weight, parked_cells, bound, left, Celled, IsBounded, free_one, held_one, parked_one, held_cells, IsCounted, NeverRaises}
-use Rattle.tg_marking.proofs.SpotLemmas.{at_within, mark_is, kept_within, held_keeps, keeps_grey, new_is, put_each, shade_each, shade_done, shade_size, shade_marks, grey_after}
+use Rattle.tg_marking.proofs.SpotLemmas.{at_within, contains_mapped, mark_is, kept_within, held_keeps, keeps_grey, new_is, put_each, shade_each, shade_done, shade_size, shade_marks, grey_after}
 use Rattle.tg_marking.proofs.KeepLemmas.{keeps_next, line_size}
 
 total_le : (f g : ℕ → ℕ) (n : ℕ) → ((i : ℕ) → i < n → f i ≤ g i) → total f n ≤ total g n
@@ -39,30 +40,25 @@ total_two f g k (suc n) e = let rest = total_two f g k n e in let last = e n in 
 -- A held slot has fewer edges than there are slots: they lead to other slots, each to its own.
 few_edges : (b : Body) (p : Progress) (i : ℕ) (k : Kept) → Invariant b p → kept b p i ≡ Some k → Distinct (map (λ (e : Edge). e.serial) k.edges) → length k.edges < length b.slots
 few_edges b p i k g h d =
-    let apart = others k.edges (λ e o. g.closed.edges i k e h o) d in
-    let all = few (length b.slots) (i ∷ map (λ (e : Edge). e.target) k.edges) (λ c. (apart.0 i c).1 refl, apart.1)
-    (λ x c. elim c [ inl is ↦ subst (λ (n : ℕ). n < length b.slots) (sym is) (kept_within b p i k h) | inr o ↦ (apart.0 x o).0 ]) in
+    let leads : (e : Edge) → Contains k.edges e → Leads (kept b p) i e = λ e o. g.closed.edges i k e h o in
+    let all = few (length b.slots) (i ∷ map (λ (e : Edge). e.target) k.edges)
+    (λ c. let m = contains_mapped (λ (e : Edge). e.target) k.edges i c in (leads m.0 m.1).3 m.2, apart k.edges leads d)
+    (λ x c. elim c [
+      | inl is ↦ subst (λ (n : ℕ). n < length b.slots) (sym is) (kept_within b p i k h)
+      | inr o ↦ (let m = contains_mapped (λ (e : Edge). e.target) k.edges x o in let l = leads m.0 m.1 in subst (λ (n : ℕ). n < length b.slots) m.2 (kept_within b p m.0.target l.0 l.1))
+    ]) in
     let size = length-map k.edges (λ (e : Edge). e.target) in omega (arith, all, size)
   where
-    -- The targets are slots other than the owner, and distinct.
-    others : (es : List Edge) → ((e : Edge) → Contains es e → Leads (kept b p) i e) → Distinct (map (λ (e : Edge). e.serial) es)
-        → ((x : ℕ) → Contains (map (λ (e : Edge). e.target) es) x → (x < length b.slots) × (x ≢ i)) × Distinct (map (λ (e : Edge). e.target) es)
-    others [] f d = (λ x c. absurd c, tt)
-    others (e ∷ es) f d =
-        let l = f e (inl refl) in
-        let rest = others es (λ x o. f x (inr o)) d.1 in (
-          λ x c. elim c [ inl is ↦ (subst (λ (n : ℕ). n < length b.slots) (sym is) (kept_within b p e.target l.0 l.1), λ loop. l.3 (sym is ∙ loop)) | inr o ↦ rest.0 x o ],
-          (λ c. d.0 (among es (λ x o. f x (inr o)) c), rest.1),
-        )
-      where
-        among : (xs : List Edge) → ((x : Edge) → Contains xs x → Leads (kept b p) i x) → Contains (map (λ (x : Edge). x.target) xs) e.target → Contains (map (λ (x : Edge). x.serial) xs) e.serial
-        among [] m c = c
-        among (x ∷ xs) m (inl is) =
-            let a = f e (inl refl) in
-            let z = m x (inl refl) in
-            let same : a.0 ≡ z.0 = (let u = a.1 in let v = subst (λ (n : ℕ). kept b p n ≡ Some z.0) (sym is) z.1 in cc) in
-            inl (sym a.2 ∙ ap (λ (t : Kept). t.serial) same ∙ z.2)
-        among (x ∷ xs) m (inr c) = inr (among xs (λ y o. m y (inr o)) c)
+    apart : (es : List Edge) → ((e : Edge) → Contains es e → Leads (kept b p) i e) → Distinct (map (λ (e : Edge). e.serial) es) → Distinct (map (λ (e : Edge). e.target) es)
+    apart [] leads d = tt
+    apart (e ∷ es) leads d = (other, apart es (λ x o. leads x (inr o)) d.1) where
+      other : Contains (map (λ (x : Edge). x.target) es) e.target → ⊥
+      other c =
+          let m = contains_mapped (λ (x : Edge). x.target) es e.target c in
+          let a = leads e (inl refl) in
+          let z = leads m.0 (inr m.1) in
+          let same : a.0 ≡ z.0 = (let u = a.1 in let v = subst (λ (n : ℕ). kept b p n ≡ Some z.0) m.2 z.1 in cc) in
+          d.0 (subst (Contains (map (λ (x : Edge). x.serial) es)) (sym z.2 ∙ sym (ap (λ (t : Kept). t.serial) same) ∙ a.2) (contains_map (λ (x : Edge). x.serial) es m.0 m.1))
 
 -- A grey slot is held.
 out_few : (b : Body) (p : Progress) (i : ℕ) → Invariant b p → mark b i ≡ Has Grey → ((i : ℕ) → Distinct (map (λ (e : Edge). e.serial) (out b i))) → length (out b i) < length b.slots

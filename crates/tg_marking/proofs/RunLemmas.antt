@@ -103,14 +103,14 @@ module _ (b b' : Body) (p p' : Progress) (e : Bool) (g : Sane b p) (g' : Sane b'
 
   -- What has a slot afterwards had it, and kept its colour or took its turn.
   abbrev Turned : ℕ → Spot → Spot → Type 0
-  Turned i t s = ((s.colour ≡ Grey) × ((k : ℕ) → p ≢ Sweeping k) × IsCalled b i) ⊎ (((s.colour ≡ Black) × (t.colour ≡ Grey)) ⊎ (s.colour ≡ White))
+  Turned i t s = (((k : ℕ) → p ≢ Sweeping k) × IsCalled b i) ⊎ ((t.colour ≡ Grey) ⊎ (s.colour ≡ White))
 
   slot_back : (i : ℕ) (s : Spot) → spot b' i ≡ Some s → (t : Spot) × (spot b i ≡ Some t) × (t.serial ≡ s.serial) × ((t.colour ≡ s.colour) ⊎ Turned i t s)
   slot_back i s is = by (spot b i) (spot b' i) refl is (c.turns i) where
     by : (o o' : Option Spot) → spot b i ≡ o → o' ≡ Some s → Turns b p i o o' → (t : Spot) × (spot b i ≡ Some t) × (t.serial ≡ s.serial) × ((t.colour ≡ s.colour) ⊎ Turned i t s)
     by _ _ e e' (stays o) = (s, e ∙ e', refl, inl refl)
-    by _ _ e e' (greys t w m l) = (t, e, (cc), inr (inl ((cc), m, l)))
-    by _ _ e e' (blackens t w m) = (t, e, (cc), inr (inr (inl ((cc), w))))
+    by _ _ e e' (greys t w m l) = (t, e, (cc), inr (inl (m, l)))
+    by _ _ e e' (blackens t w m) = (t, e, (cc), inr (inr (inl w)))
     by _ _ e e' (whitens t w m) = (t, e, (cc), inr (inr (inr (cc))))
     by _ _ e e' (strips t x r w m l) = (t, e, (cc), inl (cc))
     by _ _ e e' (frees t w m l) = absurd (cc)
@@ -139,21 +139,16 @@ module _ (b b' : Body) (p p' : Progress) (e : Bool) (g : Sane b p) (g' : Sane b'
         let mine : there.0 ≡ as_kept t = (let a = there.1 in let d = subst (λ (k : ℕ). kept b p k ≡ Some (as_kept t)) (sym to) (occupied p m b i t e) in cc) in
         subst good (sym there.2 ∙ ap (λ (k : Kept). k.serial) mine) (f.edges j (as_kept y) x owner (h j y at grey) o)
 
-    grey_goes : Coloured good Grey b → Coloured good Grey b'
-    grey_goes h i s is w = let t = slot_back i s is in elim t.3 [
-      | inl old ↦ subst good t.2 (h i t.0 t.1 (old ∙ w))
-      | inr (inl now) ↦ subst good t.2 (called_good h now.1 i t.0 t.1 now.2)
-      | inr (inr (inl now)) ↦ absurd (let u : Black ≡ Grey = sym now.0 ∙ w in cc)
-      | inr (inr (inr now)) ↦ absurd (let u : White ≡ Grey = sym now ∙ w in cc)
-    ]
+    coloured_goes : (c : Colour) → c ≢ White → Coloured good Grey b → Coloured good c b → Coloured good c b'
+    coloured_goes c n d h i s is w = let t = slot_back i s is in subst good t.2 (elim t.3 [
+      | inl old ↦ h i t.0 t.1 (old ∙ w)
+      | inr (inl now) ↦ called_good d now.0 i t.0 t.1 now.1
+      | inr (inr (inl now)) ↦ d i t.0 t.1 now
+      | inr (inr (inr now)) ↦ absurd (n (sym w ∙ now))
+    ])
 
-    black_goes : Coloured good Grey b → Coloured good Black b → Coloured good Black b'
-    black_goes d h i s is w = let t = slot_back i s is in elim t.3 [
-      | inl old ↦ subst good t.2 (h i t.0 t.1 (old ∙ w))
-      | inr (inl now) ↦ absurd (let u : Grey ≡ Black = sym now.0 ∙ w in cc)
-      | inr (inr (inl now)) ↦ subst good t.2 (d i t.0 t.1 now.1)
-      | inr (inr (inr now)) ↦ absurd (let u : White ≡ Black = sym now ∙ w in cc)
-    ]
+    grey_goes : Coloured good Grey b → Coloured good Grey b'
+    grey_goes h = coloured_goes Grey (λ e. cc) h h
 
     held_goes : AllHeld good b p → AllHeld good b' p'
     held_goes h i k is = h i k (held_back i k is)
@@ -182,7 +177,7 @@ module _ (b b' : Body) (p p' : Progress) (e : Bool) (g : Sane b p) (g' : Sane b'
       by (suc zero) _ _ _ (sweeps k) a a' h = (grey_goes h.0, held_goes h.1)
       by (suc zero) _ _ _ (passes k) a a' h = (grey_goes h.0, held_goes h.1)
       by (suc zero) _ _ _ (ended k l) a a' h = λ i s is. held_goes h.1 i (as_kept s) (occupied p' (λ m z. (let u : AtRest ≡ Sweeping m = sym a' ∙ z in cc)) b' i s is)
-      by (suc zero) _ _ _ s a a' h = (grey_goes h.0, black_goes h.0 h.1)
+      by (suc zero) _ _ _ s a a' h = (grey_goes h.0, coloured_goes Black (λ e. cc) h.0 h.1)
       by (suc (suc n)) _ _ true s a a' h = slots_goes h
       by (suc (suc n)) _ _ false s a a' h = slots_goes h
 

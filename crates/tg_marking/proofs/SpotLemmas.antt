@@ -1,5 +1,5 @@
 -- One slot changes: what holds of each slot afterwards, and what keeps each part of the invariant.
-use Rattle.std.proofs.Common.{◌≡◌, ◌≢◌, ℕ, zero, suc, ◌<◌, ◌≤◌, nat_lt, List, [], ◌∷◌, ◌++◌, length, length-set, Bool, true, false, cond, Option, Some, None, ◌⊎◌, inl, inr, sym, ◌∙◌, subst, ap, refl, arith, set, get_or, get_or-set_same, get_or-set_other}
+use Rattle.std.proofs.Common.{◌≡◌, ◌≢◌, ℕ, zero, suc, ◌<◌, ◌≤◌, nat_lt, List, [], ◌∷◌, ◌++◌, length, length-set, map, Bool, true, false, cond, Option, Some, None, ◌⊎◌, inl, inr, sym, ◌∙◌, subst, ap, refl, arith, set, get_or, get_or-set_same, get_or-set_other}
 use Rattle.std.proofs.lemmas.Bool.{cases_eq, ltb-false}
 use Rattle.std.proofs.lemmas.List.{append_assoc}
 use Rattle.tg_slots.specs.declared.colour.Colour.{Colour}
@@ -17,6 +17,11 @@ pub at_within : {X : Type 0} (xs : List (Option X)) (i : ℕ) (x : X) → get_or
 at_within [] i x e = absurd (cc)
 at_within (y ∷ xs) zero x e = omega arith
 at_within (y ∷ xs) (suc i) x e = let h = at_within xs i x e in omega (arith, h)
+
+pub contains_mapped : {X Y : Type 0} (f : X → Y) (xs : List X) (y : Y) → Contains (map f xs) y → (x : X) × Contains xs x × (f x ≡ y)
+contains_mapped f [] y c = absurd c
+contains_mapped f (x ∷ xs) y (inl e) = (x, inl refl, sym e)
+contains_mapped f (x ∷ xs) y (inr c) = let r = contains_mapped f xs y c in (r.0, inr r.1, r.2)
 
 -- The slot of a mark, and of what is held.
 pub mark_is : (o : Option Spot) (c : Colour) → mark_of o ≡ Has c → (s : Spot) × (o ≡ Some s) × (s.colour ≡ c)

@@ -1,8 +1,5 @@
 use Rattle.tg_marking.proofs.RunLemmas.{complete, settles}
 use Rattle.tg_marking.proofs.runs_are_complete.Goals as goal
 
-pub returns-clause-complete : goal.returns-clause-complete
-returns-clause-complete c = complete
-
-pub returns-clause-settles : goal.returns-clause-settles
-returns-clause-settles c = settles
+pub returns : goal.returns
+returns c = record { complete = complete; settles = settles }
