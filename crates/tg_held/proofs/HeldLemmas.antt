@@ -1,7 +1,7 @@
 -- What a change of one slot does to the graph of what is held.
 use Rattle.std.proofs.Common.{◌≡◌, ◌≢◌, ℕ, zero, suc, ◌<◌, List, [], ◌∷◌, ◌++◌, length, map, Option, Some, None, ◌⊎◌, inl, inr, sym, ◌∙◌, subst, ap, refl, arith, get_or, set, Bool, true, false, cond, ◌&&◌, ◌||◌, not, ◌==◌, eqb-true, get_or-set_same, get_or-set_other}
 use Rattle.std.specs.List.{list_any}
-use Rattle.std.proofs.lemmas.Bool.{cases_eq}
+use Rattle.std.proofs.lemmas.Bool.{cases_eq, ne_eqb, or_from, and_left}
 use Rattle.std.proofs.Math.Bool.{or_assoc, or_comm, or-false, and-false, and-or_distrib_left}
 use Rattle.std.proofs.lemmas.List.{set-get_or}
 use Rattle.std.proofs.lemmas.List.Folds.{list_any-append}
@@ -114,18 +114,12 @@ serials es = map (λ (e : Edge). e.serial) es
 
 no_edge : (es : List Edge) (t : Triple) → (Contains (serials es) t.to → ⊥) → says_edge es t ≡ false
 no_edge [] t n = refl
-no_edge (e ∷ es) t n = elim (t.to == e.serial) as (λ b. (t.to == e.serial) ≡ b → ((b && has e.rights t.right) || says_edge es t) ≡ false) [
-  | true ↦ λ h. absurd (n (inl (eqb-true t.to e.serial h)))
-  | false ↦ λ h. no_edge es t (λ c. n (inr c))
-] refl
+no_edge (e ∷ es) t n = or_from _ _ (and_left _ _ (ne_eqb t.to e.serial (λ h. n (inl h)))) (no_edge es t (λ c. n (inr c)))
 
 no_slot : (os : List (Option Kept)) (t : Triple) → ((j : ℕ) (k : Kept) → get_or os j None ≡ Some k → k.serial ≢ t.from) → says os t ≡ false
 no_slot [] t n = refl
 no_slot (None ∷ os) t n = no_slot os t (λ j k h. n (suc j) k h)
-no_slot (Some k ∷ os) t n = elim (t.from == k.serial) as (λ b. (t.from == k.serial) ≡ b → ((b && says_edge k.edges t) || says os t) ≡ false) [
-  | true ↦ λ h. absurd (n zero k refl (sym (eqb-true t.from k.serial h)))
-  | false ↦ λ h. no_slot os t (λ j k h. n (suc j) k h)
-] refl
+no_slot (Some k ∷ os) t n = or_from _ _ (and_left _ _ (ne_eqb t.from k.serial (λ h. n zero k refl (sym h)))) (no_slot os t (λ j k h. n (suc j) k h))
 
 -- What is first loses what nothing else says.
 here_less : (b h g s : Bool) → (b ≡ true → s ≡ false) → ((b && (h && not g)) || s) ≡ (((b && h) || s) && not (b && g))
