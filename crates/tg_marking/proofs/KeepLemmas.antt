@@ -1,13 +1,8 @@
 -- Each line of the table keeps the invariant, and does to each slot what callers see.
 use Rattle.std.proofs.Common.{◌≡◌, ◌≢◌, ℕ, ◌+◌, ◌<◌, ◌≤◌, List, [], ◌∷◌, ◌++◌, length, length-set, append_assoc, Bool, true, false, nat_lt, cond, Option, Some, None, ◌⊎◌, inl, inr, sym, ◌∙◌, subst, ap, refl, arith}
 use Rattle.std.proofs.lemmas.Bool.{cases_eq, lt-ltb, le-ltb, ltb-true, ltb-false}
-use Rattle.tg_slots.specs.declared.colour.Colour.{Colour}
-use Rattle.tg_slots.specs.declared.colour.Colour.TheVariants.{White, Grey, Black}
-use Rattle.tg_slots.specs.Table.{Free, Has}
-use Rattle.tg_cells.specs.Lists.{Edge}
-use Rattle.tg_rights.specs.Membership.{Contains, Distinct}
 use Rattle.tg_rights.proofs.MembershipLemmas.{contains_append, contains_middle}
-use Rattle.tg_marking.specs.Values.{Spot, Scan, Progress, AtRest, Marking, Sweeping, Body, spot, mark, mark_of, out, edges_of, name_of, IsRoot, IsTarget, keeps, seen, Kept, as_kept, kept, Parked}
+use Rattle.tg_marking.specs.Values.{Colour, White, Grey, Black, Free, Has, Edge, Contains, Distinct, Spot, Scan, Progress, AtRest, Marking, Sweeping, Body, spot, mark, mark_of, out, edges_of, name_of, IsRoot, IsTarget, keeps, seen, Kept, as_kept, kept, Parked}
 use Rattle.tg_marking.specs.Steps.{put, shade, shade_all, Line, starts, scans, blackens, takes, shades_target, starts_sweep, skips, whitens, strips, frees, finishes}
 use Rattle.tg_marking.specs.Invariant.{Leads, Closed, IsScanned, Greys, Covered, Phased, Invariant, at_root, along, IsLive}
 use Rattle.tg_marking.specs.Collected.{IsCalled, Turns, stays, greys, blackens as turns_black, whitens as turns_white, strips as loses_edge, frees as turns_free, Stays, Follows, begins, marks, parks, sweeps, passes, ends, Parks, Collected}

@@ -3,15 +3,10 @@ use Rattle.std.proofs.Common.{◌≡◌, ◌≢◌, ℕ, zero, suc, ◌+◌, ◌
 use Rattle.std.proofs.lemmas.Bool.{cases_eq, lt-ltb, le-ltb, eq-eqb, ne_eqb}
 use Rattle.std.proofs.lemmas.List.{length-map}
 use Rattle.std.proofs.Math.Nat.{suc-mul, mul-add}
-use Rattle.tg_slots.specs.declared.colour.Colour.{Colour}
-use Rattle.tg_slots.specs.declared.colour.Colour.TheVariants.{White, Grey, Black}
-use Rattle.tg_slots.specs.Table.{Mark, Has}
-use Rattle.tg_cells.specs.Lists.{Edge}
-use Rattle.tg_rights.specs.Membership.{Contains, Distinct}
-use Rattle.tg_rights.specs.declared.kind.Kind.{Kind}
+use Rattle.tg_slots.specs.Table.{Mark}
 use Rattle.tg_rights.proofs.MembershipLemmas.{contains_map}
 use Rattle.tg_index.proofs.RowLemmas.{few}
-use Rattle.tg_marking.specs.Values.{Roots, Spot, Scan, Progress, AtRest, Marking, Sweeping, Body, spot, mark, mark_of, out, edges_of, keeps, seen, Kept, as_kept, kept}
+use Rattle.tg_marking.specs.Values.{Colour, White, Grey, Black, Has, Edge, Contains, Distinct, Kind, Roots, Spot, Scan, Progress, AtRest, Marking, Sweeping, Body, spot, mark, mark_of, out, edges_of, keeps, seen, Kept, as_kept, kept}
 use Rattle.tg_marking.specs.Steps.{put, shade, shade_all, new_colour, with_target, Line, starts, scans, blackens, takes, shades_target, starts_sweep, skips, whitens, strips, frees, finishes, PutsEdge, Places, DropsEdge, Rewrites, Trims, ahead}
 use Rattle.tg_marking.specs.Invariant.{Invariant, Leads, IsScanned}
 use Rattle.tg_marking.specs.Left.{total, weight, parked_cells, bound, left, Celled, IsBounded, free_one, held_one, parked_one, held_cells, IsCounted, NeverRaises}

@@ -1,11 +1,6 @@
 -- What was not live has no slot once two cycles have ended; without sessions three cycles leave what is live.
 use Rattle.std.proofs.Common.{◌≡◌, ◌≢◌, ℕ, zero, suc, ◌≤◌, Bool, true, false, cond, Option, Some, None, ◌⊎◌, inl, inr, sym, ◌∙◌, subst, ap, refl, arith}
-use Rattle.tg_slots.specs.declared.colour.Colour.{Colour}
-use Rattle.tg_slots.specs.declared.colour.Colour.TheVariants.{White, Grey, Black}
-use Rattle.tg_slots.specs.Table.{Has}
-use Rattle.tg_cells.specs.Lists.{Edge}
-use Rattle.tg_rights.specs.Membership.{Contains}
-use Rattle.tg_marking.specs.Values.{Scan, Roots, HasRoot, Spot, Progress, AtRest, Marking, Sweeping, Body, spot, mark_of, name_of, IsRoot, seen, Kept, as_kept, kept}
+use Rattle.tg_marking.specs.Values.{Colour, White, Grey, Black, Has, Edge, Contains, Scan, Roots, HasRoot, Spot, Progress, AtRest, Marking, Sweeping, Body, spot, mark_of, name_of, IsRoot, seen, Kept, as_kept, kept}
 use Rattle.tg_marking.specs.Invariant.{at_root, along, IsLive}
 use Rattle.tg_marking.specs.Collected.{IsCalled, Turns, stays, greys, blackens, whitens, strips, frees, Stays, Follows, parks, sweeps, passes, ends as ended, Parks, Collected}
 use Rattle.tg_marking.specs.Runs.{Sane, IsLiveIn, Changes, same, shaded, regards, comes, Acted, RunOf, begin, acts, goes, ends, Cycles, IsComplete, Settles}

@@ -2,13 +2,8 @@
 use Rattle.std.proofs.Common.{◌≡◌, ◌≢◌, ℕ, zero, suc, ◌<◌, ◌≤◌, List, [], ◌∷◌, ◌++◌, length, get_or, set, replicate, length-set, get_or-set_same, get_or-set_other, Bool, true, false, cond, Option, Some, None, ◌⊎◌, inl, inr, sym, ◌∙◌, subst, ap, refl, arith}
 use Rattle.std.proofs.lemmas.Bool.{cases_eq, ltb-true}
 use Rattle.std.proofs.lemmas.List.{append_assoc, append_cancel_right}
-use Rattle.tg_slots.specs.declared.colour.Colour.TheVariants.{White, Grey, Black}
-use Rattle.tg_slots.specs.Table.{Has}
-use Rattle.tg_cells.specs.Lists.{Edge}
-use Rattle.tg_rights.specs.Membership.{Contains}
-use Rattle.tg_rights.specs.declared.kind.Kind.{Kind}
 use Rattle.tg_rights.proofs.MembershipLemmas.{contains_append, contains_left, contains_right, contains_middle}
-use Rattle.tg_marking.specs.Values.{Spot, Progress, AtRest, Marking, Sweeping, Body, Roots, HasRoot, HasTarget, shown, spot, mark, mark_of, out, edges_of, name, name_of, IsRoot, IsTarget, keeps, seen, seen_at, Kept, as_kept, kept}
+use Rattle.tg_marking.specs.Values.{White, Grey, Black, Has, Edge, Contains, Kind, Spot, Progress, AtRest, Marking, Sweeping, Body, Roots, HasRoot, HasTarget, shown, spot, mark, mark_of, out, edges_of, name, name_of, IsRoot, IsTarget, keeps, seen, seen_at, Kept, as_kept, kept}
 use Rattle.tg_marking.specs.Steps.{put, shade, new_colour, with_target, Reroots, PutsEdge, ShadesTarget, Places, Trims, idle, sweeping, unscanned, elsewhere, passed, ahead, DropsEdge, Rewrites}
 use Rattle.tg_marking.specs.Invariant.{Leads, IsScanned, Greys, Covered, ScanFits, Phased, Invariant}
 use Rattle.tg_marking.proofs.SpotLemmas.{at_within, kept_is, kept_edges, held_keeps, new_is, put_each, put_greys, shade_done, shade_marks, shade_name, shade_roots, shade_kept, black_before, same_root, Whites, covered_moves, tricolour_moves, scan_moves, still, closed_same, closed_moves, shade_greys, shade_tricolour}

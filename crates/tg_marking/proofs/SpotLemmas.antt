@@ -2,13 +2,8 @@
 use Rattle.std.proofs.Common.{◌≡◌, ◌≢◌, ℕ, zero, suc, ◌<◌, ◌≤◌, nat_lt, List, [], ◌∷◌, ◌++◌, length, length-set, map, Bool, true, false, cond, Option, Some, None, ◌⊎◌, inl, inr, sym, ◌∙◌, subst, ap, refl, arith, set, get_or, get_or-set_same, get_or-set_other}
 use Rattle.std.proofs.lemmas.Bool.{cases_eq, ltb-false}
 use Rattle.std.proofs.lemmas.List.{append_assoc}
-use Rattle.tg_slots.specs.declared.colour.Colour.{Colour}
-use Rattle.tg_slots.specs.declared.colour.Colour.TheVariants.{White, Grey, Black}
-use Rattle.tg_slots.specs.Table.{Has}
-use Rattle.tg_cells.specs.Lists.{Edge}
-use Rattle.tg_rights.specs.Membership.{Contains}
 use Rattle.tg_rights.proofs.MembershipLemmas.{contains_append}
-use Rattle.tg_marking.specs.Values.{Roots, HasRoot, HasTarget, Spot, Scan, Progress, AtRest, Marking, Sweeping, Body, spot, mark, mark_of, out, edges_of, name, name_of, IsRoot, IsTarget, keeps, seen, Kept, as_kept, kept}
+use Rattle.tg_marking.specs.Values.{Colour, White, Grey, Black, Has, Edge, Contains, Roots, HasRoot, HasTarget, Spot, Scan, Progress, AtRest, Marking, Sweeping, Body, spot, mark, mark_of, out, edges_of, name, name_of, IsRoot, IsTarget, keeps, seen, Kept, as_kept, kept}
 use Rattle.tg_marking.specs.Steps.{put, shade, shade_spot, shade_in, new_colour}
 use Rattle.tg_marking.specs.Invariant.{Leads, Closed, IsScanned, Greys, Covered, ScanFits, Tricolour}
 

@@ -1,10 +1,6 @@
 -- what callers see of a collector step
 use Rattle.std.specs.Prelude.{◌≡◌, ◌≢◌, ℕ, ◌+◌, ◌≤◌, List, [], ◌∷◌, length, Option, Some, None, ◌⊎◌, Bool, true, false}
-use Rattle.tg_marking.specs.Values.{Spot, Scan, Progress, AtRest, Marking, Sweeping, Body, spot, mark, IsRoot, Kept, kept, Parked}
-use Rattle.tg_slots.specs.declared.colour.Colour.TheVariants.{White, Grey, Black}
-use Rattle.tg_slots.specs.Table.{Has}
-use Rattle.tg_cells.specs.Lists.{Edge}
-use Rattle.tg_rights.specs.Membership.{Contains}
+use Rattle.tg_marking.specs.Values.{White, Grey, Black, Has, Edge, Contains, Spot, Scan, Progress, AtRest, Marking, Sweeping, Body, spot, mark, IsRoot, Kept, kept, Parked}
 use Rattle.tg_marking.specs.Steps.{Line}
 use Rattle.tg_marking.specs.Invariant.{IsLive, Invariant}
 

@@ -1,11 +1,6 @@
 -- what holds between any two steps, and that each session step keeps it
 use Rattle.std.specs.Prelude.{◌≡◌, ◌≢◌, ℕ, ◌<◌, ◌≤◌, List, [], ◌++◌, replicate, Option, Some, None, ◌⊎◌}
-use Rattle.tg_marking.specs.Values.{Roots, Scan, Progress, AtRest, Marking, Sweeping, Body, mark, out, name, IsRoot, IsTarget, Kept, kept}
-use Rattle.tg_slots.specs.declared.colour.Colour.TheVariants.{White, Grey, Black}
-use Rattle.tg_slots.specs.Table.{Has}
-use Rattle.tg_cells.specs.Lists.{Edge}
-use Rattle.tg_rights.specs.declared.kind.Kind.{Kind}
-use Rattle.tg_rights.specs.Membership.{Contains, Distinct}
+use Rattle.tg_marking.specs.Values.{White, Grey, Black, Has, Edge, Kind, Contains, Distinct, Roots, Scan, Progress, AtRest, Marking, Sweeping, Body, mark, out, name, IsRoot, IsTarget, Kept, kept}
 use Rattle.tg_marking.specs.Steps.{Reroots, PutsEdge, ShadesTarget, Places, DropsEdge, Rewrites}
 
 -- an edge leads to a held slot of its serial, which is not its owner's

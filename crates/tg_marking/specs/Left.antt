@@ -1,11 +1,7 @@
 -- what is left of a cycle
 use Rattle.std.specs.Prelude.{◌≡◌, ℕ, zero, suc, ◌+◌, ◌-◌, ◌*◌, ◌<◌, ◌≤◌, List, length, map, Option, Some, None, false, cond, eqb}
-use Rattle.tg_slots.specs.declared.colour.Colour.TheVariants.{White, Grey, Black}
-use Rattle.tg_slots.specs.Table.{Mark, Free, Has}
-use Rattle.tg_cells.specs.Lists.{Edge}
-use Rattle.tg_rights.specs.Membership.{Distinct}
-use Rattle.tg_rights.specs.declared.kind.Kind.{Kind}
-use Rattle.tg_marking.specs.Values.{Roots, Spot, Scan, Progress, AtRest, Marking, Sweeping, Body, spot, mark, out, keeps, Kept, kept}
+use Rattle.tg_slots.specs.Table.{Mark}
+use Rattle.tg_marking.specs.Values.{White, Grey, Black, Free, Has, Edge, Distinct, Kind, Roots, Spot, Scan, Progress, AtRest, Marking, Sweeping, Body, spot, mark, out, keeps, Kept, kept}
 use Rattle.tg_marking.specs.Steps.{Line, shade, PutsEdge, Places, DropsEdge, Rewrites}
 use Rattle.tg_marking.specs.Invariant.{Invariant}
 

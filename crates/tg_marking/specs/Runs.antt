@@ -1,10 +1,6 @@
 -- runs of session steps and collector steps, by what callers see
 use Rattle.std.specs.Prelude.{◌≡◌, ◌≢◌, ℕ, suc, ◌<◌, ◌≤◌, List, Option, Some, None, ◌⊎◌, true, false}
-use Rattle.tg_slots.specs.declared.colour.Colour.TheVariants.{White, Grey, Black}
-use Rattle.tg_slots.specs.Table.{Has}
-use Rattle.tg_cells.specs.Lists.{Edge}
-use Rattle.tg_rights.specs.Membership.{Contains}
-use Rattle.tg_marking.specs.Values.{Spot, Progress, AtRest, Body, spot, mark, name, IsRoot, Kept, kept}
+use Rattle.tg_marking.specs.Values.{White, Grey, Black, Has, Edge, Contains, Spot, Progress, AtRest, Body, spot, mark, name, IsRoot, Kept, kept}
 use Rattle.tg_marking.specs.Invariant.{Closed, IsLive}
 use Rattle.tg_marking.specs.Collected.{Collected}
 

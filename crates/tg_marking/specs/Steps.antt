@@ -1,12 +1,6 @@
 -- the steps, each an exact change of the value
 use Rattle.std.specs.Prelude.{◌≡◌, ◌≢◌, ℕ, ◌+◌, ◌<◌, ◌≤◌, List, [], ◌∷◌, ◌++◌, length, Option, Some, None, ◌⊎◌, Bool, true, false, cond, get_or, set, nat_lt}
-use Rattle.tg_slots.specs.declared.colour.Colour.{Colour}
-use Rattle.tg_slots.specs.declared.colour.Colour.TheVariants.{White, Grey, Black}
-use Rattle.tg_slots.specs.Table.{Has}
-use Rattle.tg_cells.specs.Lists.{Edge}
-use Rattle.tg_rights.specs.Membership.{Contains}
-use Rattle.tg_rights.specs.declared.kind.Kind.{Kind}
-use Rattle.tg_marking.specs.Values.{Spot, Scan, Progress, AtRest, Marking, Sweeping, Body, Roots, HasRoot, HasTarget, spot, mark, out, name, IsRoot, IsTarget, Kept, kept}
+use Rattle.tg_marking.specs.Values.{Colour, White, Grey, Black, Has, Edge, Contains, Kind, Spot, Scan, Progress, AtRest, Marking, Sweeping, Body, Roots, HasRoot, HasTarget, spot, mark, out, name, IsRoot, IsTarget, Kept, kept}
 
 abbrev pub put : Body → ℕ → Option Spot → Body
 put b i o = record b { slots = set b.slots i o }

@@ -1,12 +1,12 @@
--- the value of a store, and what is read off it
+-- the value of a store, what is read off it, and the words of the crates below that it is told in
 use Rattle.std.specs.Prelude.{◌≡◌, ℕ, List, [], Option, Some, None, ◌⊎◌, Bool, true, false, cond, get_or, nat_lt}
-use Rattle.tg_rights.specs.declared.kind.Kind.{Kind}
-use Rattle.tg_slots.specs.declared.colour.Colour.{Colour}
-use Rattle.tg_slots.specs.declared.colour.Colour.TheVariants.{White}
+pub use Rattle.tg_rights.specs.declared.kind.Kind.{Kind}
+pub use Rattle.tg_slots.specs.declared.colour.Colour.{Colour}
+pub use Rattle.tg_slots.specs.declared.colour.Colour.TheVariants.{White, Grey, Black}
 use Rattle.tg_slots.specs.Table as table
-use Rattle.tg_slots.specs.Table.{Free, Has}
-use Rattle.tg_cells.specs.Lists.{Edge}
-use Rattle.tg_rights.specs.Membership.{Contains}
+pub use Rattle.tg_slots.specs.Table.{Free, Has}
+pub use Rattle.tg_cells.specs.Lists.{Edge}
+pub use Rattle.tg_rights.specs.Membership.{Contains, Distinct}
 
 -- what a slot holds
 pub record Spot : Type 0 where
