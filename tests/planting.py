@@ -2,15 +2,21 @@
 
 An edit in the body of a function is made in a copy of the function, placed next to it under a name of its own, with its contract and
 a copy of its written proofs. Nothing calls a copy, and a copy calls what the function calls; so no edit can change the result of another,
-and one check, which is asked only for the copies, judges many. A copy with no edit, the control, is placed next to the others of its function.
-An edit is refused if in that check the control is proved, nothing but copies is refused, and of the edited copy a goal fails, or a
-written proof no longer fits it.
+and one check, which is asked only for the copies, judges many. A copy with no edit, the control, is placed next to the others of its
+function. An edit is refused if in that check the control is proved, nothing but what is edited is refused, and of the edited copy a goal
+fails, or a written proof no longer fits it. An edit of a constant is made in a copy of the constant, and of each function that names it.
 
-All else is tried alone: what a check of copies does not clearly refuse, and each edit of anything but a body, of a trait's method, of a
-method at chosen type arguments and of a cycle of calls. It is first tried on the functions that it is about, and if those do not refuse
-it, by the toolchain's own rule, over what the crate's checks have kept and then from nothing. So only that rule ever says that an edit is
-not refused, or cannot be made. An edit that is refused only because a written proof names what it took away shows little of the contract;
-it counts as failed.
+A function that one edit changes, and that no other function of the check may call, is edited in its place instead, and needs no
+control: so the toolchain's own rule would try it. A trait's method and a method at chosen type arguments cannot be copied, and are always
+edited in their place, in checks without copies; other edits go with them that so need no copy either.
+
+If nothing is kept of the crate's checks, the functions that are only called are not proved once more: each gets a hole for its proof, and a
+caller knows its contract all the same. That they are proved is what the crate's own check says.
+
+All else is tried alone: what such a check does not clearly refuse, and each edit of anything but a body, of a trait's default and of
+a cycle of calls. It is first tried on the functions that it is about, and if those do not refuse it, by the toolchain's own rule, over what
+the crate's checks have kept and then from nothing. So only that rule ever says that an edit is not refused, or cannot be made. An edit
+that is refused only because a written proof names what it took away shows little of the contract; it counts as failed.
 """
 
 import heapq
@@ -23,20 +29,37 @@ import tempfile
 import threading
 import time
 import types
+from collections import Counter
 from concurrent.futures import ThreadPoolExecutor, as_completed
 from contextlib import contextmanager, suppress
 from importlib.machinery import SourceFileLoader
 from pathlib import Path
 
-FLAGS, MOST = ["--jobs", "1"], 24
+# The edits that one check tries at most, how many that then need no copy are worth a check of their own, and the functions that may name
+# a constant whose edit is tried with others.
+FLAGS, MOST, APART, USERS = ["--jobs", "1"], 40, 10, 3
 # Words of items and contracts, with which an edit may change more than a body.
 ITEMS = re.compile(r"\b(?:fn|impl|struct|enum|trait|mod|use|const|static|extern|macro_rules|ghost|requires|ensures|prove)\b|#\s*!?\[")
 CONSTANT = re.compile(rb"\s*(?:pub(?:\([a-z]+\))? )?const (\w+):")
+# A constant that means the same in each file of the crate.
+PLAIN = re.compile(rb"(?:pub(?:\([a-z]+\))? )?(const (\w+): (?:&str|bool|char|[iu](?:8|16|32|64|size)) = [\w.\"']+;)$")
+# What names a constant and does nothing with it.
+IDLE = re.compile(rb"//[^\n]*|\buse [^;]*;")
 # What a report says of a written proof that names what an edit took away, and what the toolchain's rule says of such an edit.
 NAMES = re.compile(r"has no field|is not in scope|has no `|was not admitted")
 BY_FORM = "only because a proof file names what the edit took away"
 ERROR = re.compile(r"(?:\./)?((?:src|specs|proofs)/\S+?):(\d+):\d+: error")
 TOLD = re.compile(r"(?:note: )?\S+:\d+:\d+:")
+# What stands for a copy with no edit: its number, and the edit.
+CONTROL = 0, None
+# A proof that is a hole, and thus takes no time.
+HOLE = """use Rattle.{crate}.proofs.{module}.Statement.{{statement}}
+
+pub {name}_spec : {{M : Type 1}} → statement M
+{name}_spec = ?
+"""
+# What a report says of a function that is proved, given the contracts of those whose proof is a hole.
+PROVED = r"(?:proved|no holes$|depends on a hole in )"
 
 
 def load(file):
@@ -74,10 +97,14 @@ def shape(row):
     return [row.count(a) - row.count(b) for a, b in (b"()", b"[]", b"{}")], ITEMS.findall(row.decode())
 
 
+def can_be_edited(f):
+    """Whether an edit of the function's body changes its own proof alone: it is no trait's default, and in no cycle of calls."""
+    return f.has_body and not f.in_cycle and not (f.block and f.block.is_trait)
+
+
 def can_stand_twice(f):
-    """Whether a copy of the function can be placed next to it: it is no trait's, in no cycle, and its impl is of no
-    chosen type arguments."""
-    if f.in_trait or f.in_cycle or not f.has_body:
+    """Whether a copy of the function can be placed next to it: it is no trait's, and its impl is of no chosen type arguments."""
+    if f.in_trait or not can_be_edited(f):
         return False
     words = f.block.ty[1:] if f.block else []
     names = [it for before, it in zip(["", *words], words) if it.isidentifier() and before != "'"]
@@ -94,6 +121,14 @@ def are_left(crates, since=0):
 def jobs_now():
     """How many checks processors and memory allow at once."""
     return max(1, min(rt.processors(), int(rt.free() / 4e9)))
+
+
+def may_call(body, f):
+    """Whether the body may name the function: by a path, on a value, or, if it is no method, alone."""
+    name = re.escape(f.name.encode())
+    if not f.block:
+        return bool(re.search(rb"(?<![.\w])%s\b" % name, body))
+    return bool(re.search(rb"::\s*%s\b" % name, body) or f.takes_self and re.search(rb"\.\s*%s\s*(?:\(|::)" % name, body))
 
 
 def edits_of(crate, parts):
@@ -128,36 +163,63 @@ def set_niceness(process, niceness):
 
 
 class Edit:
-    """A planted bug, and the functions whose bodies it changes, each with the bytes that it replaces there."""
+    """A planted bug, and the functions whose bodies it changes, each with the bytes that it replaces there, and the constants."""
 
     def __init__(self, crate, path):
-        self.seconds = 0
+        self.seconds, self.constants = 0, {}
         self.path, self.name, self.spans = path, f"{crate.name}/{os.path.basename(path)[: -len('.edit')]}", {}
         self.texts, why = rt.read_edit(path, crate.folder)
         self.result = (False, f"BAD EDIT: {why}") if why else None
 
     def fits(self, source):
-        """Finds what differs, and returns whether all of it lies in bodies of functions that can stand twice."""
+        """Finds what differs, and returns whether all of it lies in bodies of functions, or in constants that they alone name."""
         for file, text in self.texts.items():
             at, old, new = 0, source.data.get(file, b"").split(b"\n"), text.encode().split(b"\n")
             if len(old) != len(new):
                 return False
             for was, row in zip(old, new):
-                if was != row:
-                    first = at + len(os.path.commonprefix([was, row]))
-                    end = max(first, at + len(was) - len(os.path.commonprefix([was[::-1], row[::-1]])))
-                    found = [f for f in source.functions if f.file == file and f.has_body and f.opens < first and end < f.end]
-                    if len(found) != 1 or not can_stand_twice(found[0]) or shape(was) != shape(row):
-                        return False
-                    self.spans.setdefault(found[0], []).append((at, at + len(was), row))
+                if was != row and not self.is_in_a_body(source, (file, at), was, row) and not self.is_a_constant(source, was, row):
+                    return False
                 at += len(was) + 1
-        return bool(self.spans)
+        return self.can_be_copied() or len(self.spans) == 1 and not self.constants
+
+    def is_in_a_body(self, source, place, was, row):
+        """Whether the line's change lies in the body of a function, which is noted."""
+        file, at = place
+        first = at + len(os.path.commonprefix([was, row]))
+        end = max(first, at + len(was) - len(os.path.commonprefix([was[::-1], row[::-1]])))
+        found = [f for f in source.functions if f.file == file and f.has_body and f.opens < first and end < f.end]
+        if len(found) != 1 or not can_be_edited(found[0]) or shape(was) != shape(row):
+            return False
+        self.spans.setdefault(found[0], []).append((at, at + len(was), row))
+        return True
+
+    def is_a_constant(self, source, was, row):
+        """Whether the line is a plain constant that a few functions name in their bodies, and nothing else does; it and they are noted."""
+        old, new = PLAIN.match(was), PLAIN.match(row)
+        if not old or not new or old[2] != new[2]:
+            return False
+        word = re.compile(rb"\b%s\b" % new[2])
+        named = lambda text: len(word.findall(IDLE.sub(b"", text)))
+        users = {f: named(source.data[f.file][f.opens : f.end]) for f in source.functions if f.has_body}
+        users = {f: times for f, times in users.items() if times}
+        every = sum(map(named, source.data.values()))
+        if not 0 < len(users) <= USERS or every != sum(users.values()) + 1 or not all(map(can_stand_twice, users)):
+            return False
+        self.constants[new[2]] = new[1]
+        for f in users:
+            self.spans.setdefault(f, [])
+        return True
+
+    def can_be_copied(self):
+        """Whether each function that the edit changes can be."""
+        return bool(self.spans) and all(map(can_stand_twice, self.spans))
 
 
 class Report:
-    """What a check said of a crate with copies: the faults of each copy, the copies that are proved, and what else is wrong."""
+    """What a check said of a crate with edited functions: the faults of each, those that are proved, and what else is wrong."""
 
-    def __init__(self, crate, ran, lines, symbols):
+    def __init__(self, crate, ran, lines, symbols, holes):
         self.faults, self.proved, self.unread, self.stray = {}, set(), set(), []
         said, notes = ran.stdout.rstrip("\n").split("\n"), []
         for line in said:
@@ -173,10 +235,12 @@ class Report:
             elif line.startswith("note: src/") and ": it is not proved" in line:
                 notes.append(line)
             elif copy and not error:
-                self.proved |= {copy} if line.startswith(f"fn {copy}: proved") else set()
+                self.proved |= {copy} if re.match(rf"fn {re.escape(copy)}: {PROVED}", line) else set()
                 own = [*notes, *[line] * ("; `search` did not prove" in line)]
-                self.faults.setdefault(copy, []).extend([] if "not proved" in line.partition("; it calls ")[2] else own)
-            elif error or re.match(r"(fn|impl) \S+: (?!proved|assumed)", line):
+                calls = line.partition("; it calls ")[2]
+                waits = "not proved" in calls and not {*re.findall("`([^`]+)`", calls)} <= holes
+                self.faults.setdefault(copy, []).extend([] if waits else own)
+            elif error or re.match(rf"(fn|impl) \S+: (?!assumed|{PROVED})", line) or "has not tried the goals of" in line:
                 self.stray.append(line)
             notes = [] if line.startswith("fn ") else notes
         ended = ran.returncode in (0, 1) and said[-1].startswith("only=") and not rtlib.STALE.search(ran.stdout)
@@ -261,7 +325,7 @@ class Trial:
         self.crate, self.edits, self.turns, self.rank, self.log, self.checks = crate, edits, turns, rank, log, 0
         places = [f"{crate.folder}/{rtlib.KEPT[1]}", *[f"{it}/{crate.name}" for it in [seeds] if it]]
         self.were = [it for it in places if os.path.isdir(it)]
-        self.source, self.stem, self.kept = bodies.Source(crate.folder), "_planted", ""
+        self.source, self.stem, self.kept, self.reaches = bodies.Source(crate.folder), "_planted", "", {}
         self.source.read("src/main.rt" if crate.is_program else "src/lib.rt")
         while any(self.stem.encode() in it for it in self.source.data.values()):
             self.stem += "_"
@@ -272,34 +336,107 @@ class Trial:
         module = f.module if f.module in homes or not homes else homes[0]
         return [*module, *[f.owner] * bool(f.block), f.name]
 
-    def symbol(self, f, number):
-        """The name by which a report calls the copy of the function."""
-        return "::".join([self.crate.name, *self.path(f)]) + f"{self.stem}{number}"
+    def symbol(self, f, ending=""):
+        """The name by which a report calls the function, or the copy of it whose name has this ending."""
+        if f.in_trait:
+            trait = bodies.named(f.block.trait)[0]
+            return "::".join([self.crate.name, *f.module, f"{f.owner}{trait}", f.name])
+        return "::".join([self.crate.name, *self.path(f)]) + ending
 
-    def copies(self, edits):
-        """The texts of the files with the copies, and of each line of a copy its function and its number, 0 for the control."""
-        texts, lines = {}, {}
-        functions = dict.fromkeys(f for it in edits for f in it.spans)
-        wanted = [(f, number, it.spans[f]) for number, it in enumerate(edits, 1) for f in it.spans]
-        for file in {f.file for f in functions}:
-            text, done = b"", 0
-            for f in sorted((f for f in functions if f.file == file), key=lambda f: f.end):
-                text, done = text + self.source.data[file][done : f.end], f.end
-                for number, spans in [(0, []), *[it[1:] for it in wanted if it[0] is f]]:
-                    first = text.count(b"\n") + 2
-                    text += b"\n" + self.copy(f, number, spans)
-                    lines.update({(file, line): (f, number) for line in range(first, text.count(b"\n") + 2)})
-            texts[file] = (text + self.source.data[file][done:]).decode()
-        for f, number, _ in [*[(f, 0, None) for f in functions], *wanted]:
-            texts.update(self.proofs(f, number))
-        return texts, lines
+    def called(self, edits, f):
+        """The functions that the function, as it stands or with one of the edits, may call, and those that these may call, or a method of a
+        trait, which may be called by no name."""
+        rows = [row for it in edits for _, _, row in it.spans.get(f, [])]
+        named = {it for it in self.source.functions if any(may_call(row, it) for row in rows)}
+        unnamed = set().union(*(self.reached(it) for it in self.source.functions if it.in_trait and it.has_body))
+        return named.union({it for it in unnamed if not it.in_trait}, *map(self.reached, [f, *named]))
 
-    def copy(self, f, number, spans):
-        """The text of a copy of the function, with these spans of its file replaced."""
+    def reached(self, f):
+        """The functions that the function, as it stands, may call, and those that these may call."""
+        if f not in self.reaches:
+            found, left = set(), [f]
+            while left:
+                g = left.pop()
+                body = self.source.data[g.file][g.opens : g.end]
+                more = {it for it in self.source.functions if it not in found and may_call(body, it)}
+                found |= more
+                left += more
+            self.reaches[f] = found
+        return self.reaches[f]
+
+    def placed(self, edits):
+        """Those of the edits that can be made in the functions themselves, and these: each is the only edit of the only function that it
+        changes, which none of the other functions may call."""
+        times = Counter(f for it in edits for f in it.spans)
+        called = {f: self.called(edits, f) for f in times}
+        own = {it: next(iter(it.spans)) for it in edits if len(it.spans) == 1 and not it.constants}
+        return {it: f for it, f in own.items() if times[f] == 1 and not any(f in called[g] for g in times if g is not f)}
+
+    def parts(self, edits):
+        """What stands for each function that the edits change, as numbers and edits: the edit in its place, or copies and a control."""
+        placed = self.placed(edits).values()
+        found = {f: [] if f in placed else [CONTROL] for it in edits for f in it.spans}
+        for number, edit in enumerate(edits, 1):
+            for f in edit.spans:
+                found[f].append((number, edit))
+        return found
+
+    def written(self, file, parts):
+        """The text of a file with what stands for its functions, and of each line of that the function and the number."""
+        text, done, lines = b"", 0, {}
+        for f in sorted((it for it in parts if it.file == file), key=lambda it: it.end):
+            is_copied = CONTROL in parts[f]
+            text, done = text + self.source.data[file][done : f.end if is_copied else f.first], f.end
+            for number, edit in parts[f]:
+                text += b"\n" * is_copied
+                first = text.count(b"\n") + 1
+                text += self.edited(f, edit, f"{self.stem}{number}" * is_copied)
+                lines.update({(file, line): (f, number) for line in range(first, text.count(b"\n") + 2)})
+        return text + self.source.data[file][done:], lines
+
+    def made(self, edits):
+        """The texts of a check of the edits, of each line of an edited function that function and its number, and the names by which
+        a report calls these functions."""
+        parts, lines, names = self.parts(edits), {}, {}
+        texts = {} if self.were else self.holes([f for f, some in parts.items() if CONTROL not in some])
+        for file in {f.file for f in parts}:
+            text, found = self.written(file, parts)
+            lines.update(found)
+            for number, edit in enumerate(edits, 1):
+                rows = edit.constants.values() if any(f.file == file for f in edit.spans) else []
+                text += b"".join(self.renamed(edit, row + b"\n", f"{self.stem}{number}") for row in rows)
+            texts[file] = text.decode()
+        for f, some in parts.items():
+            for number, _ in some:
+                names[f, number] = self.symbol(f, f"{self.stem}{number}" * (CONTROL in some))
+                texts.update(self.proofs(f, number) if CONTROL in some else {})
+        return texts, lines, names
+
+    def renamed(self, edit, data, ending):
+        """The bytes, where the names of the constants that the edit changes have this ending."""
+        for it in edit.constants:
+            data = re.sub(rb"\b%s\b" % it, it + ending.encode(), data)
+        return data
+
+    def edited(self, f, edit, ending):
+        """The text of the function with the edit, if there is one, under its name with this ending."""
         data = self.source.data[f.file][: f.end]
-        for start, end, new in sorted([*spans, (*f.named, f"{f.name}{self.stem}{number}".encode())], reverse=True):
+        spans = edit.spans[f] if edit else []
+        for start, end, new in sorted([*spans, (*f.named, f"{f.name}{ending}".encode())], reverse=True):
             data = data[:start] + new + data[end:]
-        return data[f.first :]
+        return self.renamed(edit, data[f.first :], ending) if edit else data[f.first :]
+
+    def holes(self, placed):
+        """A hole in place of the written proof of each function but these, so that a check of those that call it need not prove it."""
+        texts = {}
+        for f in self.source.functions:
+            if can_be_edited(f) and not f.in_trait and f not in placed:
+                path = self.path(f)
+                written = "/".join(["proofs", *path])
+                for name in ("Invariants.antt", "Answers.antt"):
+                    texts[f"{written}/{name}"] = None
+                texts[f"{written}/Proof.antt"] = HOLE.format(module=".".join(path), name=f.name, crate=self.crate.name)
+        return texts
 
     def proofs(self, f, number):
         """The written proofs of the function, for a copy: each file's path and text, where it names its own modules anew."""
@@ -319,11 +456,13 @@ class Trial:
                 shutil.copytree(part, f"{room}/{os.path.basename(part)}")
             for path, text in texts.items():
                 os.makedirs(os.path.dirname(f"{room}/{path}"), exist_ok=True)
-                Path(room, path).write_text(text, encoding="utf-8")
+                Path(room, path).unlink(missing_ok=True)
+                text is None or Path(room, path).write_text(text, encoding="utf-8")
             is_first = not os.path.isdir(self.kept)
             is_first or linked(self.kept, f"{room}/kept")
             asked = [word for it in only for word in ("--only", it)]
-            words = [rtlib.RATTLE, "check", *self.crate.words(FLAGS, keeps=False), *asked, "--incremental", f"{room}/kept"]
+            flags = [*FLAGS, "--allow-holes"] if None in texts.values() else FLAGS
+            words = [rtlib.RATTLE, "check", *self.crate.words(flags, keeps=False), *asked, "--incremental", f"{room}/kept"]
             done = ran(words, room, self.turns)
             if is_first:
                 # (of several that began without, the first one to end leaves its own)
@@ -335,11 +474,12 @@ class Trial:
         return done
 
     def batch(self, edits):
-        """Tries the edits in one check of their copies. Those that it does not refuse for certain get no result."""
-        texts, lines = self.copies(edits)
-        symbols = {self.symbol(f, number) for f, number in lines.values()}
+        """Tries the edits in one check. Those that it does not refuse for certain get no result."""
+        texts, lines, names = self.made(edits)
+        symbols = {*names.values()}
         done = self.check(texts, [it.partition("::")[2] for it in sorted(symbols)])
-        report = Report(self.crate, done, lines, symbols)
+        holes = {self.symbol(f) for f in self.source.functions} - symbols if not self.were else set()
+        report = Report(self.crate, done, lines, symbols, holes)
         if report.unread:
             rest = [it for number, it in enumerate(edits, 1) if not any({(f, number), (f, 0)} & report.unread for f in it.spans)]
             if rest:
@@ -349,15 +489,16 @@ class Trial:
             for half in (edits[: len(edits) // 2], edits[len(edits) // 2 :]) * (len(edits) > 1):
                 self.batch(half)
         else:
-            self.judge(edits, report, done.seconds)
+            self.judge(edits, names, report, done.seconds)
 
-    def judge(self, edits, report, seconds):
-        """Gives their result to the edits that the report refuses for certain, and to each how long its copies took."""
+    def judge(self, edits, names, report, seconds):
+        """Gives their result to the edits that the report refuses for certain, and to each how long its functions took."""
         for number, edit in enumerate(edits, 1):
             for f in edit.spans:
-                edit.seconds += seconds.get(self.symbol(f, number), 0)
-                own = [it for it in report.faults.get(self.symbol(f, number), []) if not NAMES.search(it)]
-                if own and self.symbol(f, 0) in report.proved and self.symbol(f, number) not in report.proved:
+                name = names[f, number]
+                edit.seconds += seconds.get(name, 0)
+                own = [it for it in report.faults.get(name, []) if not NAMES.search(it)]
+                if own and names.get((f, 0)) in {None, *report.proved} and name not in report.proved:
                     edit.result = True, f"refused: {own[0][:160]}"
 
     def constants(self, edit):
@@ -407,17 +548,41 @@ class Trial:
         said = re.sub(r"^must-fail \S+: ", "", said)
         edit.result = is_refused and BY_FORM not in said, f"BY FORM ALONE: {said}" if BY_FORM in said else f"alone: {said}"
 
+    def batches(self, edits):
+        """The edits that are tried in one check each: those that cannot be made in copies, and with them, or by themselves if they are
+        enough, those that need no copy there; and all others."""
+        copied = [it for it in edits if it.can_be_copied()]
+        # (a function's edits follow one another, so that it has one control)
+        copied.sort(key=lambda it: min((f.file, f.start) for f in it.spans))
+        left, apart = [it for it in edits if it not in copied], []
+        while left or len(self.together([], self.inner(copied))) >= APART:
+            room = self.together([], left)
+            left = [it for it in left if it not in room]
+            room = self.together(room, self.inner(copied))
+            copied = [it for it in copied if it not in room]
+            apart.append(room)
+        count = -(-len(copied) // MOST)
+        return [*(copied[at * len(copied) // count : (at + 1) * len(copied) // count] for at in range(count)), *apart]
+
+    def inner(self, edits):
+        """Those of the edits that cannot be made in the functions themselves if all of them are tried at once."""
+        placed = self.placed(edits)
+        return [it for it in edits if it not in placed]
+
+    def together(self, room, edits):
+        """The room, and as many of the edits as can be made in the functions themselves in one check with it."""
+        for edit in edits:
+            if len(room) < MOST and len(self.placed([*room, edit])) > len(room):
+                room = [*room, edit]
+        return room
+
     def run(self, pool):
         """Tries all the edits."""
         with tempfile.TemporaryDirectory(prefix="planted-") as room:
             self.kept = f"{room}/kept"
             if self.were:
                 linked(self.were[-1], self.kept)
-            fit = [it for it in self.edits if not it.result and it.fits(self.source)]
-            # (a function's edits follow one another, so that it has one control)
-            fit.sort(key=lambda it: min((f.file, f.start) for f in it.spans))
-            count = -(-len(fit) // MOST)
-            batches = [fit[at * len(fit) // count : (at + 1) * len(fit) // count] for at in range(count)]
+            batches = self.batches([it for it in self.edits if not it.result and it.fits(self.source)])
             if not self.were and batches:
                 # (it makes what the others begin with)
                 self.batch(batches.pop(0))

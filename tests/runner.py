@@ -14,10 +14,52 @@ SOURCE = """//! A number and its echo.
 ghost use Rattle.std.specs.Prelude.{◌≡◌};
 ghost use Rattle.tiny.specs.Echo.{echo_of};
 
+/// The most that is counted.
+const MOST: usize = 7;
+
 /// The echo of three is three.
 pub fn echo_of_three()
     ensures { echo_of 3 ≡ 3 }
 {}
+
+/// The most that is counted.
+pub fn most() -> usize
+    ensures { result ≡ 7 }
+{
+    MOST
+}
+
+/// Something that rings.
+pub trait Rings {
+    /// How often it rings.
+    fn times(&self) -> usize
+        ensures { result ≡ 3 };
+}
+
+/// What rings three times.
+pub struct Bell {}
+
+impl Rings for Bell {
+    fn times(&self) -> usize {
+        3
+    }
+}
+
+/// The number, by a function that nothing calls.
+pub fn kept(number: usize) -> usize
+    ensures { result ≡ number }
+{
+    let kept_number = number;
+    kept_number
+}
+
+/// The number, by another.
+pub fn shown(number: usize) -> usize
+    ensures { result ≡ number }
+{
+    let shown_number = number;
+    shown_number
+}
 
 /// The number's echo.
 pub fn echo(number: usize) -> usize
@@ -82,6 +124,12 @@ FILES = {
 EDITS = [
     ("echo-of-nothing", "src/lib.rt", "let heard = number;", "let heard = 0;", "refused: "),
     ("law-echo-is-four", "specs/Echo.antt", "echo_of number = number", "echo_of number = 4", "refused, alone: "),
+    # a constant; a function that nothing calls, and a trait's method, which need no control
+    ("seven-is-eight", "src/lib.rt", "const MOST: usize = 7;", "const MOST: usize = 8;", "refused: "),
+    ("kept-is-nothing", "src/lib.rt", "let kept_number = number;", "let kept_number = 0;", "refused: "),
+    ("rings-four-times", "src/lib.rt", "        3", "        4", "refused: "),
+    # it means the same, in a function that nothing calls
+    ("harmless-in-its-place", "src/lib.rt", "let shown_number = number;", "let shown_number = (number);", "alone: NOT REFUSED"),
     # it means the same, and what it calls is broken by the first
     ("harmless-beside-a-bug", "src/lib.rt", "let answer = echo(number);", "let answer = (echo(number));", "alone: NOT REFUSED"),
     ("text-that-is-not-there", "src/lib.rt", "let heard = nothing;", "let heard = 0;", "BAD EDIT"),
@@ -97,17 +145,17 @@ def said(line):
 
 
 def edits_of_a_crate_are_told_apart(program):
-    """Two bugs are refused; a harmless edit, an absent text and an edit that only a proof's names refuse count as failed."""
+    """Five bugs are refused; a harmless edit, an absent text and an edit that only a proof's names refuse count as failed."""
     with tempfile.TemporaryDirectory() as folder:
         edits = {f"crates/tiny/planted/{name}.edit": f"file: {file}\nold: {old}\nnew: {new}\n" for name, file, old, new, _ in EDITS}
         for path, text in (FILES | edits).items():
             Path(folder, path).parent.mkdir(parents=True, exist_ok=True)
             Path(folder, path).write_text(text, encoding="utf-8")
-        ran = subprocess.run([str(program), "--jobs", "1"], cwd=folder, capture_output=True, text=True, timeout=300)
+        ran = subprocess.run([str(program), "--jobs", "1"], cwd=folder, capture_output=True, text=True, timeout=900)
     lines = ran.stdout.splitlines()
     found = dict(said(line) for line in lines if line.startswith("planted tiny/"))
     wrong = [name for name, _, _, _, begins in EDITS if not found.get(name, "").startswith(begins)]
-    if wrong or lines[-1:] != ["2 passed, 3 failed"] or ran.returncode != 1:
+    if wrong or lines[-1:] != ["5 passed, 4 failed"] or ran.returncode != 1:
         print(f"  not as wanted: {wrong}, status {ran.returncode}", *lines, ran.stderr, sep="\n    ")
         return False
     return True
