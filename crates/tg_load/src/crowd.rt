@@ -75,10 +75,7 @@ pub fn hold<L: Ledger, R: Wait + Clock>(
     };
     let mut is_whole = true;
     for _ in 0..load.held {
-        let command = Command::Create {
-            kind: Kind::Document,
-            rights: Rights::read(),
-        };
+        let command = Command::create(Kind::Document, Rights::read());
         is_whole = session.submit(rt, command, &Open).is_ok() && is_whole;
     }
     let ended = session.end(rt);

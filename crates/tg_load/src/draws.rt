@@ -69,31 +69,20 @@ impl Drawn {
             other,
         } = *self;
         Ok(match rule {
-            Rule::Take => Command::Take {
-                rights,
-                over,
-                from: other,
-            },
-            Rule::Grant => Command::Grant {
-                rights,
-                over,
-                to: other,
-            },
-            Rule::Create => Command::Create {
-                kind: Kind::Document,
-                rights,
-            },
-            Rule::Remove => Command::Remove { rights, over },
-            Rule::Read => Command::Read { over },
+            Rule::Take => Command::take(rights, over, other),
+            Rule::Grant => Command::grant(rights, over, other),
+            Rule::Create => Command::create(Kind::Document, rights),
+            Rule::Remove => Command::remove(rights, over),
+            Rule::Read => Command::read(over),
             Rule::Write => {
                 let content = String::from_str(alloc, "written")?;
                 let text = match Text::new(content) {
                     Ok(text) => text,
                     Err(_) => Text::empty(alloc),
                 };
-                Command::Write { over, text }
+                Command::write(over, text)
             }
-            Rule::Look => Command::Look { at: over },
+            Rule::Look => Command::look(over),
         })
     }
 }
