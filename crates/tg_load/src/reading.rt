@@ -6,27 +6,72 @@ use clap::{Arg, ArgAction, ArgMatches, Command, Error};
 use std::alloc::{AllocError, Global};
 use tg_rights::MAX_SLOTS;
 
-/// One more than there are principals at the start.
-const LEAST_SLOTS: u64 = 10;
-
-const MOST_COMMANDS: u64 = 100_000_000;
-
 /// An option with a number.
-fn number<'a>(
-    alloc: Global,
-    name: &'a str,
+struct Numbered {
+    name: &'static str,
     least: u64,
     most: u64,
-    usual: &'a str,
-    about: &'a str,
-) -> Arg<'a> {
-    Arg::new(alloc, name)
-        .long(name)
-        .value_name("N")
-        .value_parser(ValueParser::unsigned(least, most))
-        .default_value(usual)
-        .help(about)
+    usual: &'static str,
+    about: &'static str,
 }
+
+impl Numbered {
+    fn arg<'a>(&self, alloc: Global) -> Arg<'a> {
+        Arg::new(alloc, self.name)
+            .long(self.name)
+            .value_name("N")
+            .value_parser(ValueParser::unsigned(self.least, self.most))
+            .default_value(self.usual)
+            .help(self.about)
+    }
+}
+
+/// The options with numbers.
+const NUMBERED: &[Numbered] = &[
+    Numbered {
+        name: "sessions",
+        least: 1,
+        most: 63,
+        usual: "63",
+        about: "Sessions at once",
+    },
+    Numbered {
+        name: "commands",
+        least: 0,
+        most: 100_000_000,
+        usual: "2000",
+        about: "Commands of each session",
+    },
+    // One more than there are principals at the start.
+    Numbered {
+        name: "slots",
+        least: 10,
+        most: MAX_SLOTS as u64,
+        usual: "48",
+        about: "Slots of the vault",
+    },
+    Numbered {
+        name: "held",
+        least: 0,
+        most: MAX_SLOTS as u64,
+        usual: "0",
+        about: "Documents that are made before, and held",
+    },
+    Numbered {
+        name: "runs",
+        least: 1,
+        most: 1_000_000,
+        usual: "1",
+        about: "Runs, one after the other",
+    },
+    Numbered {
+        name: "seed",
+        least: 0,
+        most: u64::MAX,
+        usual: "0",
+        about: "What the first run is drawn from",
+    },
+];
 
 /// An option without one.
 fn flag<'a>(alloc: Global, name: &'a str, about: &'a str) -> Arg<'a> {
@@ -36,56 +81,12 @@ fn flag<'a>(alloc: Global, name: &'a str, about: &'a str) -> Arg<'a> {
         .help(about)
 }
 
-/// The options with numbers.
-fn with_numbers<'a>(alloc: Global, command: Command<'a>) -> Result<Command<'a>, AllocError> {
-    let most_slots = MAX_SLOTS as u64;
-    command
-        .arg(number(alloc, "sessions", 1, 63, "63", "Sessions at once"))?
-        .arg(number(
-            alloc,
-            "commands",
-            0,
-            MOST_COMMANDS,
-            "2000",
-            "Commands of each session",
-        ))?
-        .arg(number(
-            alloc,
-            "slots",
-            LEAST_SLOTS,
-            most_slots,
-            "48",
-            "Slots of the vault",
-        ))?
-        .arg(number(
-            alloc,
-            "held",
-            0,
-            most_slots,
-            "0",
-            "Documents that are made before, and held",
-        ))?
-        .arg(number(
-            alloc,
-            "runs",
-            1,
-            1_000_000,
-            "1",
-            "Runs, one after the other",
-        ))?
-        .arg(number(
-            alloc,
-            "seed",
-            0,
-            u64::MAX,
-            "0",
-            "What the first run is drawn from",
-        ))
-}
-
 fn command<'a>(alloc: Global) -> Result<Command<'a>, AllocError> {
-    let command = Command::new(alloc, "tg_load").about("Many sessions at once over one vault");
-    with_numbers(alloc, command)?
+    let mut command = Command::new(alloc, "tg_load").about("Many sessions at once over one vault");
+    for numbered in NUMBERED {
+        command = command.arg(numbered.arg(alloc))?;
+    }
+    command
         .arg(flag(
             alloc,
             "no-collector",
