@@ -13,10 +13,11 @@ mod opening;
 mod reading;
 mod run;
 
+use clap::Error;
 use load::Load;
 use reading::load;
 use run::run_next;
-use std::alloc::{AllocError, Global};
+use std::alloc::Global;
 use std::process::ExitCode;
 use std::rt::Clock;
 use std::sync::Wait;
@@ -25,15 +26,7 @@ use std::{env, io};
 
 /// The program's words, its own name first.
 fn words(rt: &HostRuntime) -> io::Result<Vec<String>> {
-    let mut words = Vec::new(rt.alloc());
-    for word in env::args(rt)? {
-        words.push(word)?;
-    }
-    Ok(words)
-}
-
-fn texts<'w>(rt: &HostRuntime, words: &'w [String]) -> Result<Vec<&'w str>, AllocError> {
-    words.iter().map(|word| word.as_str()).collect(rt.alloc())
+    Ok(env::args(rt)?.collect(rt.alloc())?)
 }
 
 /// Makes all runs, each with a line for its result. Returns whether all of them came out as they should, and were
@@ -53,11 +46,21 @@ fn run_all<R: Threads + Wait + Clock + Print + Eprint + Sync>(
     is_well
 }
 
-/// Does what the words ask for. Status 2 says that they were refused.
+/// Prints why the words are refused, or the text that they ask for. Status 2 says that they were refused.
+fn tell<R: Print + Eprint>(rt: &R, error: Error) -> ExitCode {
+    let _ = error.print(rt);
+    if error.use_stderr() {
+        ExitCode::from(2)
+    } else {
+        ExitCode::SUCCESS
+    }
+}
+
+/// Does what the words ask for.
 fn start<R: Threads + Wait + Clock + Print + Eprint + Sync>(
     rt: &R,
     alloc: Global,
-    words: &[&str],
+    words: &[String],
 ) -> ExitCode {
     match load(alloc, words) {
         Ok(load) => {
@@ -67,23 +70,13 @@ fn start<R: Threads + Wait + Clock + Print + Eprint + Sync>(
                 ExitCode::FAILURE
             }
         }
-        Err(error) => {
-            let _ = error.print(rt);
-            if error.use_stderr() {
-                ExitCode::from(2)
-            } else {
-                ExitCode::SUCCESS
-            }
-        }
+        Err(error) => tell(rt, error),
     }
 }
 
 fn main(rt: HostRuntime) -> ExitCode {
-    let Ok(words) = words(&rt) else {
-        return ExitCode::from(2);
-    };
-    match texts(&rt, &words) {
-        Ok(texts) => start(&rt, rt.alloc(), &texts),
+    match words(&rt) {
+        Ok(words) => start(&rt, rt.alloc(), &words),
         Err(_) => ExitCode::from(2),
     }
 }

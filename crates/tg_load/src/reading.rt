@@ -110,7 +110,7 @@ fn number_of(matches: &ArgMatches<'_>, name: &str) -> u64 {
 }
 
 /// What the words ask for; the first is the program's own name. The error has the text that the user is to see.
-pub fn load(alloc: Global, words: &[&str]) -> Result<Load, Error> {
+pub fn load(alloc: Global, words: &[String]) -> Result<Load, Error> {
     let mut command = command(alloc)?;
     let matches = command.try_get_matches_from_mut(words)?;
     Ok(Load {
