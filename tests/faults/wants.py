@@ -182,7 +182,7 @@ def sources(crates):
         files = sorted((crate / "src").rglob("*.rt"))
         tests = {name for file in files for name in re.findall(r"#\[cfg\(test\)\]\s*mod (\w+);", file.read_text())}
         for file in files:
-            if file.stem not in tests:
+            if tests.isdisjoint(file.relative_to(crate / "src").with_suffix("").parts):
                 yield str(file.relative_to(crates)), file.read_text()
 
 

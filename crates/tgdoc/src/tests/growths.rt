@@ -1,7 +1,7 @@
 //! The command line if memory runs out: the error says so, and the words that are read again ask for what they do.
 //! tests/faults/growths.py makes each allocation of the test fail in turn.
 
-use crate::mode_tests::SERVER;
+use super::modes::SERVER;
 use crate::{Mode, mode};
 use clap::Error;
 use clap::error::ErrorKind;
