@@ -4,15 +4,12 @@ ghost use Rattle.tg_talk.specs.Devices.{Sends, device_of, has_failed};
 ghost use Rattle.tgdoc.specs.Serving.{IsServed, OpensBytes, RefusesBytes};
 
 use crate::draw::drawn_key;
+use crate::platform::Platform;
 use crate::run::open;
 use crate::serve::{Served, serve_on};
 use std::alloc::Global;
 use std::io::{Read, Write};
 use std::net::{Net, SocketAddr, TcpListener, TcpStream};
-use std::random::RandomSource;
-use std::rt::Clock;
-use std::sync::Wait;
-use std::thread::Threads;
 use tg_talk::{InputLines, Next, Watched, send_line};
 use tg_vault::{Key, Vault};
 use tg_wire::{WireFault, error_line};
@@ -24,16 +21,7 @@ const LISTEN: &[u8] = b"{\"error\":\"listen\"}\n";
 /// is refused is answered as `run_lines` answers it, and no address is listened on; no line at all is read as an empty
 /// one. Then an address that is not of the loopback, or that cannot be listened on, is answered `listen`. After a
 /// refusal nothing is settled.
-pub fn serve_lines<
-    N: Threads
-        + Wait
-        + Clock
-        + RandomSource
-        + Net<Listener = TcpListener, Stream = TcpStream>
-        + Sync,
-    R: Read,
-    W: Write,
->(
+pub fn serve_lines<N: Platform, R: Read, W: Write>(
     rt: &N,
     alloc: Global,
     reader: &mut Watched<R>,

@@ -1,14 +1,10 @@
 //! A server and a client over the loopback, and addresses that are not listened on.
 
 use crate::serve::{Found, tell};
-use crate::{Served, serve_lines, serve_on};
+use crate::{Platform, Served, serve_lines, serve_on};
 use std::alloc::{AllocError, Global};
 use std::io::{Read, Write};
-use std::net::{Net, SocketAddr, TcpListener, TcpStream};
-use std::random::RandomSource;
-use std::rt::Clock;
-use std::sync::Wait;
-use std::thread::Threads;
+use std::net::{SocketAddr, TcpListener, TcpStream};
 use std::{io, thread};
 use tg_talk::Watched;
 use tg_vault::Vault;
@@ -28,8 +24,8 @@ const NOT_AN_OBJECT: &[u8] = b"{\"error\":\"not an object\"}\n";
 const LISTEN: &[u8] = b"{\"error\":\"listen\"}\n";
 
 /// Serves one connection by two workers; returns the result, and what was written.
-fn serve_one_client<R: Threads + Wait + Clock + Sync>(
-    rt: &R,
+fn serve_one_client(
+    rt: &impl Platform,
     alloc: Global,
     listener: &TcpListener,
 ) -> Option<(Served, Vec<u8>)> {
@@ -42,11 +38,7 @@ fn serve_one_client<R: Threads + Wait + Clock + Sync>(
 }
 
 /// Sends the lines, and reads answers until the server ends the connection.
-fn ask<N: Net<Listener = TcpListener, Stream = TcpStream>>(
-    rt: &N,
-    alloc: Global,
-    address: SocketAddr,
-) -> io::Result<Vec<u8>> {
+fn ask(rt: &impl Platform, alloc: Global, address: SocketAddr) -> io::Result<Vec<u8>> {
     let mut stream = TcpStream::connect(rt, address)?;
     stream.write_all(LINES)?;
     let mut answers = Vec::new(alloc);
@@ -55,10 +47,8 @@ fn ask<N: Net<Listener = TcpListener, Stream = TcpStream>>(
 }
 
 /// A server and a client at once: the server's result, and the answers to the client.
-fn serve_and_ask<
-    N: Threads + Wait + Clock + Net<Listener = TcpListener, Stream = TcpStream> + Sync,
->(
-    rt: &N,
+fn serve_and_ask(
+    rt: &impl Platform,
     alloc: Global,
     listener: &TcpListener,
     address: SocketAddr,
@@ -86,14 +76,7 @@ fn one_client_over_the_loopback(rt: HostRuntime) -> io::Result<()> {
 }
 
 /// What a server on the address writes, and its result.
-fn serve_at<
-    N: Threads
-        + Wait
-        + Clock
-        + RandomSource
-        + Net<Listener = TcpListener, Stream = TcpStream>
-        + Sync,
->(rt: &N, alloc: Global, given: &[u8], address: &str) -> (Served, Vec<u8>) {
+fn serve_at(rt: &impl Platform, alloc: Global, given: &[u8], address: &str) -> (Served, Vec<u8>) {
     let mut reader = Watched::new(given);
     let mut out = Vec::new(alloc);
     let mut writer = Watched::new(&mut out);
