@@ -26,7 +26,7 @@ FLAG = "is_short"
 FLAG_LINES = [
     "let mut is_short = scope",
     "if is_short {",
-    "is_short = match scope.spawn(move || work(rt, alloc, listener, shared, left, seat)) {",
+    "is_short = match scope.spawn(move || work(server, seat)) {",
     "if is_short {",
     "Some(mut ended) => is_short = is_short || all.append(&mut ended).is_err(),",
     "None => is_short = true,",

@@ -52,7 +52,6 @@ const LONG_REST: u64 = 1_000;
 /// allocation or the start of a thread failed. A connection that cannot be accepted counts as one. If the address
 /// cannot be written, clients are served all the same, nothing more is written, and nothing is settled. `workers` is
 /// from 1 to 63.
-/// the same, nothing more is written, and nothing is settled. `workers` is from 1 to 63.
 pub fn serve_on<R: Threads + Wait + Clock + Sync, W: Write>(
     rt: &R,
     alloc: Global,
@@ -163,7 +162,14 @@ fn serve_by<L: Ledger + Send + Sync, R: Threads + Wait + Clock + Sync>(
 {
     let shared = Shared::<L>::new(alloc, blank, vault);
     let left = Mutex::new(connections);
-    match serve_in_threads(rt, alloc, listener, &shared, &left, workers) {
+    let server = Server {
+        rt,
+        alloc,
+        listener,
+        shared: &shared,
+        left: &left,
+    };
+    match serve_in_threads(&server, workers) {
         Some(ended) => found_in(shared.close(ended)),
         None => Found::NoMemory,
     }
@@ -186,38 +192,45 @@ fn found_in<L: Ledger>(closed: Closed<L>) -> Found
     }
 }
 
+/// What the threads of a server share.
+#[derive(Drop)]
+struct Server<'a, L: Ledger, R> {
+    rt: &'a R,
+    alloc: Global,
+    listener: &'a TcpListener,
+    shared: &'a Shared<L>,
+    /// How many connections are left.
+    left: &'a Mutex<u64>,
+}
+
 /// The workers and the collector, each in a thread of its own. Returns what all connections left; none if an allocation
 /// or the start of a thread failed.
 fn serve_in_threads<L: Ledger + Send + Sync, R: Threads + Wait + Clock + Sync>(
-    rt: &R,
-    alloc: Global,
-    listener: &TcpListener,
-    shared: &Shared<L>,
-    left: &Mutex<u64>,
+    server: &Server<'_, L, R>,
     workers: u64,
 ) -> Option<Vec<Ended<L>>> {
     let is_over = AtomicBool::new(false);
     let over = &is_over;
-    thread::scope(thread::scope_env(), rt, |scope| {
-        let mut shifts = Vec::new(alloc);
+    thread::scope(thread::scope_env(), server.rt, |scope| {
+        let mut shifts = Vec::new(server.alloc);
         let mut is_short = scope
-            .spawn(move || collect_until(rt, shared, over))
+            .spawn(move || collect_until(server.rt, server.shared, over))
             .is_err();
         for seat in 0..workers {
             if is_short {
                 break;
             }
-            is_short = match scope.spawn(move || work(rt, alloc, listener, shared, left, seat)) {
+            is_short = match scope.spawn(move || work(server, seat)) {
                 Ok(shift) => shifts.push(shift).is_err(),
                 Err(_) => true,
             };
         }
         if is_short {
-            *left.lock(rt) = 0;
+            *server.left.lock(server.rt) = 0;
         }
-        let mut all = Vec::new(alloc);
+        let mut all = Vec::new(server.alloc);
         for shift in shifts {
-            match shift.join(rt) {
+            match shift.join(server.rt) {
                 Some(mut ended) => is_short = is_short || all.append(&mut ended).is_err(),
                 None => is_short = true,
             }
@@ -246,21 +259,14 @@ fn collect_until<L: Ledger, R: Wait + Clock>(rt: &R, shared: &Shared<L>, is_over
 }
 
 /// Serves connections one after the other, until none is left. Returns what they left; none if an allocation failed.
-fn work<L: Ledger, R: Wait + Clock>(
-    rt: &R,
-    alloc: Global,
-    listener: &TcpListener,
-    shared: &Shared<L>,
-    left: &Mutex<u64>,
-    seat: u64,
-) -> Option<Vec<Ended<L>>> {
-    let mut all = Vec::new(alloc);
-    for _ in rt.forever() {
-        if !take_one(rt, left) {
+fn work<L: Ledger, R: Wait + Clock>(server: &Server<'_, L, R>, seat: u64) -> Option<Vec<Ended<L>>> {
+    let mut all = Vec::new(server.alloc);
+    for _ in server.rt.forever() {
+        if !take_one(server.rt, server.left) {
             break;
         }
-        if serve_one(rt, alloc, listener, shared, seat, &mut all).is_err() {
-            *left.lock(rt) = 0;
+        if serve_one(server, seat, &mut all).is_err() {
+            *server.left.lock(server.rt) = 0;
             return None;
         }
     }
@@ -279,20 +285,26 @@ fn take_one<R: Wait>(rt: &R, left: &Mutex<u64>) -> bool {
 
 /// One connection, in a talk on the seat; what it leaves is added to what others left.
 fn serve_one<L: Ledger, R: Wait + Clock>(
-    rt: &R,
-    alloc: Global,
-    listener: &TcpListener,
-    shared: &Shared<L>,
+    server: &Server<'_, L, R>,
     seat: u64,
     all: &mut Vec<Ended<L>>,
 ) -> Result<(), AllocError> {
-    let Ok((stream, _)) = listener.accept() else {
+    let Ok((stream, _)) = server.listener.accept() else {
         return Ok(());
     };
     let _ = stream.set_nodelay(true);
     let mut reader = Watched::new(&stream);
-    let mut writer = buffered(alloc, &stream)?;
-    match talk(rt, alloc, &mut reader, &mut writer, shared, seat, &Open).ended {
+    let mut writer = buffered(server.alloc, &stream)?;
+    let talked = talk(
+        server.rt,
+        server.alloc,
+        &mut reader,
+        &mut writer,
+        server.shared,
+        seat,
+        &Open,
+    );
+    match talked.ended {
         Some(ended) => Ok(all.push(ended)?),
         None => Ok(()),
     }
