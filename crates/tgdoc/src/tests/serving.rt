@@ -13,11 +13,30 @@ use tg_wire::read_config;
 const CONFIG: &[u8] =
     b"{\"cells\":8,\"edges\":[[1,\"t\",2]],\"principals\":[\"alice\",\"bob\"],\"slots\":8}";
 
-const LINES: &[u8] =
-    b"{\"op\":\"read\",\"over\":3}\n{\"name\":\"alice\",\"op\":\"hello\"}\n{\"kind\":\"document\",\"op\":\"create\",\"rights\":\"rw\"}\n{\"op\":\"read\",\"over\":3}\n{\"op\":\"shade\"}\n{\"op\":\"bye\"}\n";
-
-const ANSWERS: &[u8] =
-    b"{\"error\":\"no actor\"}\n{\"ok\":\"hello\",\"vertex\":1}\n{\"ok\":\"created\",\"vertex\":3}\n{\"ok\":\"text\",\"text\":\"\"}\n{\"error\":\"not for a session\"}\n{\"ok\":\"bye\"}\n";
+/// The lines of a client, each with its answer.
+const TALK: &[(&[u8], &[u8])] = &[
+    (
+        b"{\"op\":\"read\",\"over\":3}\n",
+        b"{\"error\":\"no actor\"}\n",
+    ),
+    (
+        b"{\"name\":\"alice\",\"op\":\"hello\"}\n",
+        b"{\"ok\":\"hello\",\"vertex\":1}\n",
+    ),
+    (
+        b"{\"kind\":\"document\",\"op\":\"create\",\"rights\":\"rw\"}\n",
+        b"{\"ok\":\"created\",\"vertex\":3}\n",
+    ),
+    (
+        b"{\"op\":\"read\",\"over\":3}\n",
+        b"{\"ok\":\"text\",\"text\":\"\"}\n",
+    ),
+    (
+        b"{\"op\":\"shade\"}\n",
+        b"{\"error\":\"not for a session\"}\n",
+    ),
+    (b"{\"op\":\"bye\"}\n", b"{\"ok\":\"bye\"}\n"),
+];
 
 const NOT_AN_OBJECT: &[u8] = b"{\"error\":\"not an object\"}\n";
 
@@ -40,7 +59,9 @@ fn serve_one_client(
 /// Sends the lines, and reads answers until the server ends the connection.
 fn ask(rt: &impl Platform, alloc: Global, address: SocketAddr) -> io::Result<Vec<u8>> {
     let mut stream = TcpStream::connect(rt, address)?;
-    stream.write_all(LINES)?;
+    for (line, _) in TALK {
+        stream.write_all(*line)?;
+    }
     let mut answers = Vec::new(alloc);
     stream.read_to_end(&mut answers)?;
     Ok(answers)
@@ -60,18 +81,27 @@ fn serve_and_ask(
     )
 }
 
+/// The answers to the lines of the client.
+fn wanted(alloc: Global) -> Result<Vec<u8>, AllocError> {
+    let mut answers = Vec::new(alloc);
+    for (_, answer) in TALK {
+        answers.extend_from_slice(*answer)?;
+    }
+    Ok(answers)
+}
+
 #[test]
 fn one_client_over_the_loopback(rt: HostRuntime) -> io::Result<()> {
     let listener = TcpListener::bind(&rt, "127.0.0.1:0")?;
     let address = listener.local_addr()?;
     let (served, answers) = serve_and_ask(&rt, rt.alloc(), &listener, address);
     let (served, out) = served.expect(&rt, "refused");
-    assert!(rt; answers?.as_slice() == ANSWERS);
+    assert!(rt; answers? == wanted(rt.alloc())?);
     assert!(rt; served.settled);
-    let wanted = format!(in rt.alloc();
+    let told = format!(in rt.alloc();
         "{{\"listening\":\"{address}\"}}\n{{\"settled\":\"agreed\"}}\n"
     )?;
-    assert!(rt; out.as_slice() == wanted.as_bytes());
+    assert!(rt; out.as_slice() == told.as_bytes());
     Ok(())
 }
 
