@@ -2,6 +2,10 @@
 //! be, and the results of cases that were worked by hand.
 ghost use Rattle.tg_talk_tests.specs.Fresh.{IsFresh};
 
+mod growths;
+mod holds;
+mod races;
+
 use crate::sharing::{Tally, agreed, both, close, one, opened, play};
 use std::alloc::{AllocError, Global};
 use std::marker::Brand;

@@ -3,8 +3,11 @@ ghost use Rattle.std.specs.Prelude.{◌≡◌, [], IfOk, IfSome, false};
 ghost use Rattle.tg_talk.specs.Devices.{has_failed, owed};
 ghost use Rattle.tg_talk_tests.specs.Fresh.{IsFresh};
 
+mod growths;
+mod lines;
+
 use crate::sharing::agreed;
-use crate::talk_lines::FAILURES;
+use lines::FAILURES;
 use std::alloc::{AllocError, Global};
 use std::io::{BufWriter, Read, Write};
 use std::marker::Brand;

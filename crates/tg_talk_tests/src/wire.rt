@@ -1,4 +1,6 @@
 //! That each call succeeds with ample memory, on lines written by hand from the protocol.
+mod growths;
+
 use std::alloc::{AllocError, Global};
 use tg_collect::{Note, Phase};
 use tg_graph::{OpenFault, Verdict};

@@ -1,4 +1,4 @@
-use Rattle.tg_talk_tests.proofs.share_holds.held_create.Given as goal
+use Rattle.tg_talk_tests.proofs.share.holds.held_create.Given as goal
 
 abbrev pub ghosts-hold_a_create : goal.ghosts-hold_a_create
 ghosts-hold_a_create g a = record { name = a.blank.name; parts = a.blank.parts }
