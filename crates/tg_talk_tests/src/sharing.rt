@@ -14,7 +14,7 @@ use std::time::Duration;
 use tg_audit::Settled;
 use tg_graph::OpenFault;
 use tg_rights::{Kind, Rights};
-use tg_share::{Closed, Ended, Gate, PARTS, Place, Session, Shared};
+use tg_share::{Closed, Ended, Gate, PARTS, Place, Session, Shared, Worked};
 use tg_tests::cases::{Ask, Asked, Opening, Want, command, config, is_reply};
 use tg_vault::{AskFault, Vault};
 
@@ -194,6 +194,56 @@ pub fn play<L: Ledger, R: Wait + Clock, G: Gate>(
         Some(ended)
     } else {
         None
+    }
+}
+
+/// What the threads of a case share.
+#[derive(Drop)]
+pub struct Stage<'a, L: Ledger, R> {
+    pub rt: &'a R,
+    pub alloc: Global,
+    pub shared: &'a Shared<L>,
+    pub board: &'a Board,
+}
+
+impl<'a, L: Ledger, R> Stage<'a, L, R> {
+    pub fn new(
+        rt: &'a R,
+        alloc: Global,
+        shared: &'a Shared<L>,
+        board: &'a Board,
+    ) -> Stage<'a, L, R> {
+        Stage {
+            rt,
+            alloc,
+            shared,
+            board,
+        }
+    }
+}
+
+impl<L: Ledger, R: Wait + Clock> Stage<'_, L, R> {
+    /// Waits for what is to come.
+    pub fn wait<F: Fn(&Board) -> bool>(&self, has_come: F)
+        requires { F.IsAlwaysCallable has_come }
+    {
+        self.board.wait(self.rt, has_come);
+    }
+
+    /// A whole session, as `play` has it.
+    pub fn play<G: Gate>(
+        &self,
+        seat: u64,
+        name: &str,
+        lines: &[Asked],
+        gate: &G,
+    ) -> Option<Ended<L>> {
+        play(self.rt, self.alloc, self.shared, seat, name, lines, gate)
+    }
+
+    /// What the collector does in so many steps.
+    pub fn collect<G: Gate>(&self, steps: u64, gate: &G) -> Worked {
+        self.shared.collector(self.rt, steps, gate)
     }
 }
 

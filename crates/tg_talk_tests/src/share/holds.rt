@@ -2,7 +2,7 @@
 ghost use Rattle.tg_talk_tests.specs.Fresh.{IsFresh};
 
 use crate::share::{CREATED, REMOVED};
-use crate::sharing::{Board, Counts, Holds, agreed, both, one, opened, play, with_one};
+use crate::sharing::{Board, Counts, Holds, Stage, agreed, both, one, opened, with_one};
 use std::alloc::{AllocError, Global};
 use std::marker::Brand;
 use std::rt::Clock;
@@ -17,64 +17,48 @@ use tg_vault::Vault;
 
 /// Alice creates a document on the seat, and is held with it.
 fn create_held<L: Ledger, R: Wait + Clock>(
-    rt: &R,
-    alloc: Global,
-    shared: &Shared<L>,
+    stage: &Stage<'_, L, R>,
     seat: u64,
-    board: &Board,
     pauses: u64,
 ) -> Option<Ended<L>> {
-    let gate = Holds { board, pauses };
-    play(rt, alloc, shared, seat, "alice", &[CREATED], &gate)
+    let gate = Holds {
+        board: stage.board,
+        pauses,
+    };
+    stage.play(seat, "alice", &[CREATED], &gate)
 }
 
 /// Bob looks at himself once alice is held, and releases her.
-fn look_meanwhile<L: Ledger, R: Wait + Clock>(
-    rt: &R,
-    alloc: Global,
-    shared: &Shared<L>,
-    board: &Board,
-) -> Option<Ended<L>> {
-    board.wait(rt, |board| board.is_held.load(Ordering::SeqCst));
+fn look_meanwhile<L: Ledger, R: Wait + Clock>(stage: &Stage<'_, L, R>) -> Option<Ended<L>> {
+    stage.wait(|board| board.is_held.load(Ordering::SeqCst));
     let lines = [(Ask::Look(2), Want::Edges(&[]))];
-    let ended = play(rt, alloc, shared, 1, "bob", &lines, &Open);
-    board.is_released.store(true, Ordering::SeqCst);
+    let ended = stage.play(1, "bob", &lines, &Open);
+    stage.board.is_released.store(true, Ordering::SeqCst);
     ended
 }
 
-fn collect_counted<L: Ledger, R: Wait + Clock>(
-    rt: &R,
-    shared: &Shared<L>,
-    board: &Board,
-    steps: u64,
-) -> Worked {
-    let gate = Counts { board };
-    shared.collector(rt, steps, &gate)
+fn collect_counted<L: Ledger, R: Wait + Clock>(stage: &Stage<'_, L, R>, steps: u64) -> Worked {
+    let gate = Counts { board: stage.board };
+    stage.collect(steps, &gate)
 }
 
 fn create_and_look<L: Ledger + Send + Sync, R: Threads + Wait + Clock + Sync>(
-    rt: &R,
-    alloc: Global,
-    shared: &Shared<L>,
-    board: &Board,
+    stage: &Stage<'_, L, R>,
 ) -> (Option<Ended<L>>, Option<Ended<L>>) {
     thread::join(
-        rt,
-        || create_held(rt, alloc, shared, 0, board, 100),
-        || look_meanwhile(rt, alloc, shared, board),
+        stage.rt,
+        || create_held(stage, 0, 100),
+        || look_meanwhile(stage),
     )
 }
 
 fn create_look_and_collect<L: Ledger + Send + Sync, R: Threads + Wait + Clock + Sync>(
-    rt: &R,
-    alloc: Global,
-    shared: &Shared<L>,
-    board: &Board,
+    stage: &Stage<'_, L, R>,
 ) -> ((Option<Ended<L>>, Option<Ended<L>>), Worked) {
     thread::join(
-        rt,
-        || create_and_look(rt, alloc, shared, board),
-        || collect_counted(rt, shared, board, 101),
+        stage.rt,
+        || create_and_look(stage),
+        || collect_counted(stage, 101),
     )
 }
 
@@ -87,9 +71,10 @@ fn hold_a_create<L: Ledger + Send + Sync, R: Threads + Wait + Clock + Sync>(
 ) -> (Option<u64>, u64)
     requires { IsFresh L.name L.parts blank vault.history }
 {
-    let shared = Shared::<L>::new(alloc, blank, vault);
     let board = Board::new();
-    let ((alice, bob), _) = create_look_and_collect(rt, alloc, &shared, &board);
+    let shared = Shared::<L>::new(alloc, blank, vault);
+    let stage = Stage::new(rt, alloc, &shared, &board);
+    let ((alice, bob), _) = create_look_and_collect(&stage);
     let ended = board.in_time(both(alloc, alice, bob));
     let pauses = board.pauses.load(Ordering::SeqCst);
     (agreed(shared, ended), pauses)
@@ -116,15 +101,13 @@ const LOOKED: Asked = (Ask::Look(1), Want::Edges(&[]));
 
 /// Alice, who has no edges, looks at herself on each of the other seats in turn. None if she gets another reply.
 fn look_from_others<L: Ledger, R: Wait + Clock>(
-    rt: &R,
-    alloc: Global,
-    shared: &Shared<L>,
+    stage: &Stage<'_, L, R>,
     seats: Seats,
     ended: &mut Vec<Ended<L>>,
 ) -> Option<()> {
     for seat in 0..seats.others {
         if seat != seats.held {
-            let looked = play(rt, alloc, shared, seat, "alice", &[LOOKED], &Open)?;
+            let looked = stage.play(seat, "alice", &[LOOKED], &Open)?;
             ended.push(looked).ok()?;
         }
     }
@@ -133,44 +116,36 @@ fn look_from_others<L: Ledger, R: Wait + Clock>(
 
 /// Alice removes her document, and then looks at herself on each of the other seats.
 fn remove_and_look<L: Ledger, R: Wait + Clock>(
-    rt: &R,
-    alloc: Global,
-    shared: &Shared<L>,
+    stage: &Stage<'_, L, R>,
     seats: Seats,
 ) -> Option<Vec<Ended<L>>> {
-    let removed = play(rt, alloc, shared, 2, "alice", &[REMOVED], &Open);
-    let mut ended = one(alloc, removed)?;
-    look_from_others(rt, alloc, shared, seats, &mut ended)?;
+    let removed = stage.play(2, "alice", &[REMOVED], &Open);
+    let mut ended = one(stage.alloc, removed)?;
+    look_from_others(stage, seats, &mut ended)?;
     Some(ended)
 }
 
 /// Once the first session of alice is held with its document, her other ones have their turns, and the collector ends
 /// two cycles.
 fn remove_meanwhile<L: Ledger, R: Wait + Clock>(
-    rt: &R,
-    alloc: Global,
-    shared: &Shared<L>,
+    stage: &Stage<'_, L, R>,
     seats: Seats,
-    board: &Board,
 ) -> (Option<Vec<Ended<L>>>, Worked) {
-    board.wait(rt, |board| board.is_held.load(Ordering::SeqCst));
-    let ended = remove_and_look(rt, alloc, shared, seats);
-    let worked = shared.collector(rt, 26, &Open);
-    board.is_released.store(true, Ordering::SeqCst);
+    stage.wait(|board| board.is_held.load(Ordering::SeqCst));
+    let ended = remove_and_look(stage, seats);
+    let worked = stage.collect(26, &Open);
+    stage.board.is_released.store(true, Ordering::SeqCst);
     (ended, worked)
 }
 
 fn create_and_remove<L: Ledger + Send + Sync, R: Threads + Wait + Clock + Sync>(
-    rt: &R,
-    alloc: Global,
-    shared: &Shared<L>,
+    stage: &Stage<'_, L, R>,
     seats: Seats,
-    board: &Board,
 ) -> (Option<Ended<L>>, (Option<Vec<Ended<L>>>, Worked)) {
     thread::join(
-        rt,
-        || create_held(rt, alloc, shared, seats.held, board, 0),
-        || remove_meanwhile(rt, alloc, shared, seats, board),
+        stage.rt,
+        || create_held(stage, seats.held, 0),
+        || remove_meanwhile(stage, seats),
     )
 }
 
@@ -184,9 +159,10 @@ fn hold_a_target<L: Ledger + Send + Sync, R: Threads + Wait + Clock + Sync>(
 ) -> (Worked, Option<u64>)
     requires { IsFresh L.name L.parts blank vault.history }
 {
-    let shared = Shared::<L>::new(alloc, blank, vault);
     let board = Board::new();
-    let (first, (others, worked)) = create_and_remove(rt, alloc, &shared, seats, &board);
+    let shared = Shared::<L>::new(alloc, blank, vault);
+    let stage = Stage::new(rt, alloc, &shared, &board);
+    let (first, (others, worked)) = create_and_remove(&stage, seats);
     let ended = board.in_time(with_one(others, first));
     (worked, agreed(shared, ended))
 }

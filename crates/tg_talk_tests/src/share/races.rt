@@ -1,7 +1,7 @@
 //! A take, while the edge that it went by is removed, in the middle of a marking.
 ghost use Rattle.tg_talk_tests.specs.Fresh.{IsFresh};
 
-use crate::sharing::{Board, Holds, agreed, are_told, both, opened, play};
+use crate::sharing::{Board, Holds, Stage, agreed, are_told, both, opened};
 use std::alloc::{AllocError, Global};
 use std::marker::Brand;
 use std::rt::Clock;
@@ -43,36 +43,31 @@ const REMOVED: &[Asked] = &[(Ask::Remove("rw", 3), Want::Done)];
 
 /// Alice takes the right to read bob's document, is held with it until the collector has paused 101 times, and reads
 /// it.
-fn take_held<L: Ledger, R: Wait + Clock>(
-    rt: &R,
-    alloc: Global,
-    shared: &Shared<L>,
-    board: &Board,
-) -> Option<Ended<L>> {
-    board.wait(rt, |board| board.is_prepared.load(Ordering::SeqCst));
-    let gate = Holds { board, pauses: 101 };
-    play(rt, alloc, shared, 0, "alice", TAKEN, &gate)
+fn take_held<L: Ledger, R: Wait + Clock>(stage: &Stage<'_, L, R>) -> Option<Ended<L>> {
+    stage.wait(|board| board.is_prepared.load(Ordering::SeqCst));
+    let gate = Holds {
+        board: stage.board,
+        pauses: 101,
+    };
+    stage.play(0, "alice", TAKEN, &gate)
 }
 
 /// Bob creates his document, and the collector goes through a cycle and on until alice is black. Once the collector has
 /// gone on and is held, with its cursor at bob's edge to the document, he removes that edge. Returns his end, and what
 /// the collector did at first.
 fn remove_meanwhile<L: Ledger, R: Wait + Clock>(
-    rt: &R,
-    alloc: Global,
-    shared: &Shared<L>,
-    board: &Board,
+    stage: &Stage<'_, L, R>,
 ) -> Option<(Ended<L>, Worked)> {
-    let Ok(mut bob) = shared.session(rt, alloc, 1, "bob") else {
+    let Ok(mut bob) = stage.shared.session(stage.rt, stage.alloc, 1, "bob") else {
         return None;
     };
-    let made = are_told(rt, alloc, &mut bob, MADE, &Open);
-    let worked = shared.collector(rt, 18, &Open);
-    board.is_prepared.store(true, Ordering::SeqCst);
-    board.wait(rt, |board| board.pauses.load(Ordering::SeqCst) > 0);
-    let removed = are_told(rt, alloc, &mut bob, REMOVED, &Open);
-    board.is_released.store(true, Ordering::SeqCst);
-    let ended = bob.end(rt);
+    let made = are_told(stage.rt, stage.alloc, &mut bob, MADE, &Open);
+    let worked = stage.collect(18, &Open);
+    stage.board.is_prepared.store(true, Ordering::SeqCst);
+    stage.wait(|board| board.pauses.load(Ordering::SeqCst) > 0);
+    let removed = are_told(stage.rt, stage.alloc, &mut bob, REMOVED, &Open);
+    stage.board.is_released.store(true, Ordering::SeqCst);
+    let ended = bob.end(stage.rt);
     if matches!(made, Ok(true)) && matches!(removed, Ok(true)) {
         Some((ended, worked))
     } else {
@@ -81,35 +76,21 @@ fn remove_meanwhile<L: Ledger, R: Wait + Clock>(
 }
 
 /// Once alice is held, the collector goes on through the rest of its cycle and further ones.
-fn collect_on<L: Ledger, R: Wait + Clock>(rt: &R, shared: &Shared<L>, board: &Board) -> Worked {
-    board.wait(rt, |board| board.is_held.load(Ordering::SeqCst));
-    shared.collector(rt, 102, &HoldsFirst { board })
+fn collect_on<L: Ledger, R: Wait + Clock>(stage: &Stage<'_, L, R>) -> Worked {
+    stage.wait(|board| board.is_held.load(Ordering::SeqCst));
+    stage.collect(102, &HoldsFirst { board: stage.board })
 }
 
 fn take_and_remove<L: Ledger + Send + Sync, R: Threads + Wait + Clock + Sync>(
-    rt: &R,
-    alloc: Global,
-    shared: &Shared<L>,
-    board: &Board,
+    stage: &Stage<'_, L, R>,
 ) -> (Option<Ended<L>>, Option<(Ended<L>, Worked)>) {
-    thread::join(
-        rt,
-        || take_held(rt, alloc, shared, board),
-        || remove_meanwhile(rt, alloc, shared, board),
-    )
+    thread::join(stage.rt, || take_held(stage), || remove_meanwhile(stage))
 }
 
 fn take_remove_and_collect<L: Ledger + Send + Sync, R: Threads + Wait + Clock + Sync>(
-    rt: &R,
-    alloc: Global,
-    shared: &Shared<L>,
-    board: &Board,
+    stage: &Stage<'_, L, R>,
 ) -> ((Option<Ended<L>>, Option<(Ended<L>, Worked)>), Worked) {
-    thread::join(
-        rt,
-        || take_and_remove(rt, alloc, shared, board),
-        || collect_on(rt, shared, board),
-    )
+    thread::join(stage.rt, || take_and_remove(stage), || collect_on(stage))
 }
 
 /// What the collector did at first, and how many entries there are in the end, if all replies are as worked out.
@@ -121,9 +102,10 @@ fn race<L: Ledger + Send + Sync, R: Threads + Wait + Clock + Sync>(
 ) -> (Option<Worked>, Option<u64>)
     requires { IsFresh L.name L.parts blank vault.history }
 {
-    let shared = Shared::<L>::new(alloc, blank, vault);
     let board = Board::new();
-    let ((alice, bob), _) = take_remove_and_collect(rt, alloc, &shared, &board);
+    let shared = Shared::<L>::new(alloc, blank, vault);
+    let stage = Stage::new(rt, alloc, &shared, &board);
+    let ((alice, bob), _) = take_remove_and_collect(&stage);
     let (bob, worked) = bob.unzip();
     let ended = board.in_time(both(alloc, alice, bob));
     (worked, agreed(shared, ended))
