@@ -1,4 +1,7 @@
 //! Lines over a reader that gives one byte a read and a writer that takes one byte a write, which fail at a given call.
+ghost use Rattle.std.specs.Prelude.{◌≡◌, false};
+ghost use Rattle.tg_talk.specs.Devices.{has_failed};
+
 use std::alloc::{AllocError, Global};
 use tg_talk::{
     FailingReader, FailingWriter, Failure, Found, InputLines, LineBuffer, Next, Watched, send_line,
@@ -6,13 +9,20 @@ use tg_talk::{
 
 pub const FAILURES: &[Failure] = &[Failure::Error, Failure::TakesNone];
 
+/// Two lines, of which this many bytes can be read.
+fn two_lines(reads: usize) -> Watched<FailingReader<'static>>
+    ensures { has_failed result ≡ false }
+{
+    Watched::new(FailingReader {
+        bytes: b"hi\nyou",
+        reads,
+    })
+}
+
 #[test]
 fn a_line_is_taken_byte_by_byte(rt: HostRuntime) -> Result<(), AllocError> {
     let mut buffer = LineBuffer::new(rt.alloc())?;
-    let mut reader = Watched::new(FailingReader {
-        bytes: b"hi\nyou",
-        reads: 7,
-    });
+    let mut reader = two_lines(7);
     assert!(rt; buffer.find(&mut reader) == Found::Line(2));
     assert!(rt; buffer.bytes() == b"hi\n".as_slice());
     buffer.consume(3);
@@ -25,10 +35,7 @@ fn a_line_is_taken_byte_by_byte(rt: HostRuntime) -> Result<(), AllocError> {
 #[test]
 fn a_failed_read_is_remembered(rt: HostRuntime) -> Result<(), AllocError> {
     let mut buffer = LineBuffer::new(rt.alloc())?;
-    let mut reader = Watched::new(FailingReader {
-        bytes: b"hi\nyou",
-        reads: 2,
-    });
+    let mut reader = two_lines(2);
     assert!(rt; buffer.find(&mut reader) == Found::Failed);
     assert!(rt; reader.failed());
     assert!(rt; buffer.bytes() == b"hi".as_slice());
@@ -78,10 +85,7 @@ fn a_failed_write_is_remembered(rt: HostRuntime) {
 #[test]
 fn lines_are_taken_and_counted(rt: HostRuntime) -> Result<(), AllocError> {
     let mut input = InputLines::new(rt.alloc())?;
-    let mut reader = Watched::new(FailingReader {
-        bytes: b"hi\nyou",
-        reads: 7,
-    });
+    let mut reader = two_lines(7);
     assert!(rt; input.next(&mut reader) == Next::Line);
     assert!(rt; input.line() == b"hi".as_slice());
     assert!(rt; !reader.failed());
