@@ -203,32 +203,53 @@ fn a_goal_and_a_configuration_are_read(rt: HostRuntime) {
 
 /// The readers that a refused line is given to.
 #[derive(Clone, Copy)]
-enum Reader {
+pub enum Reader {
     Line,
     Step,
     Goal,
 }
 
-fn is_refused(alloc: Global, reader: Reader, line: &[u8], fault: WireFault) -> bool {
-    match reader {
-        Reader::Line => matches!(&read_line(alloc, line), Err(found) if *found == fault),
-        Reader::Step => matches!(&read_step(alloc, line), Err(found) if *found == fault),
-        Reader::Goal => matches!(&read_goal(alloc, line), Err(found) if *found == fault),
+/// The fault of what was read.
+pub fn fault_of<T>(found: &Result<T, WireFault>) -> Option<WireFault> {
+    match found {
+        Ok(_) => None,
+        Err(fault) => Some(*fault),
     }
 }
 
+/// The fault for which the reader refuses the line.
+pub fn fault_in(alloc: Global, reader: Reader, line: &[u8]) -> Option<WireFault> {
+    match reader {
+        Reader::Line => fault_of(&read_line(alloc, line)),
+        Reader::Step => fault_of(&read_step(alloc, line)),
+        Reader::Goal => fault_of(&read_goal(alloc, line)),
+    }
+}
+
+fn is_refused(alloc: Global, reader: Reader, line: &[u8], fault: WireFault) -> bool {
+    fault_in(alloc, reader, line) == Some(fault)
+}
+
 /// Lines that no reader takes, with their faults.
-const HOSTILE: &[(&[u8], WireFault)] = &[
+pub const HOSTILE: &[(&[u8], WireFault)] = &[
     (b"", WireFault::NotJson),
     (b"\xff\xfe", WireFault::NotJson),
     (b"{\"from\":1e400}", WireFault::NotJson),
+    (b"{\"op\":\"take\"", WireFault::NotJson),
     (b"\xef\xbb\xbf{}", WireFault::NotJson),
     (b"[]", WireFault::NotObject),
     (b"null", WireFault::NotObject),
 ];
 
 /// Lines that are refused by this reader, with their faults.
-const REFUSED: &[(Reader, &[u8], WireFault)] = &[
+pub const REFUSED: &[(Reader, &[u8], WireFault)] = &[
+    (Reader::Line, b"{\"op\":\"steal\"}", WireFault::NoOp),
+    (Reader::Line, b"{\"op\":\"read\"}", WireFault::MissingField),
+    (
+        Reader::Line,
+        b"{\"op\":\"read\",\"over\":1.5}",
+        WireFault::BadField,
+    ),
     (
         Reader::Line,
         b"{\"op\":\"collect\",\"seat\":null}",

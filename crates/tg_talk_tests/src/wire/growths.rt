@@ -1,6 +1,7 @@
 //! Each call that allocates, if an allocation fails: the call says so, and made again it returns what the protocol
 //! says. tests/faults/growths.py makes each allocation of a test fail in turn. A line that is read as a flat list of
 //! members allocates only for a name or a text that its command keeps.
+use crate::wire::{HOSTILE, REFUSED, Reader, fault_in, fault_of};
 use std::alloc::Global;
 use tg_graph::Verdict;
 use tg_rights::{Cause, Command, Reply, Rights, Rule};
@@ -117,14 +118,6 @@ const FLAT_STEPS: &[(&[u8], Option<WireFault>)] = &[
     (b"{\"op\":\"look\",\"at\":3}", Some(WireFault::MissingField)),
 ];
 
-/// The fault of what was read.
-fn fault_of<T>(found: &Result<T, WireFault>) -> Option<WireFault> {
-    match found {
-        Ok(_) => None,
-        Err(fault) => Some(*fault),
-    }
-}
-
 /// A reader that read each line as a tree would keep its contract, but be slow. A tree takes memory, a flat line none:
 /// tests/faults/growths.py checks that this test makes no allocation.
 #[test]
@@ -137,31 +130,27 @@ fn no_growth_in_flat_lines(rt: HostRuntime) {
     }
 }
 
-/// Whether the line has this fault, if there is memory to see it.
-fn is_refused(alloc: Global, line: &[u8], wanted: WireFault) -> Result<bool, WireFault> {
-    match read_line(alloc, line) {
-        Ok(_) => Ok(false),
-        Err(WireFault::OutOfMemory) => Err(WireFault::OutOfMemory),
-        Err(fault) => Ok(fault == wanted),
+/// Whether the reader refuses the line for this fault, if there is memory to see it.
+fn is_refused(
+    alloc: Global,
+    reader: Reader,
+    line: &[u8],
+    wanted: WireFault,
+) -> Result<bool, WireFault> {
+    match fault_in(alloc, reader, line) {
+        Some(WireFault::OutOfMemory) => Err(WireFault::OutOfMemory),
+        found => Ok(found == Some(wanted)),
     }
 }
 
-/// Lines that are refused, with their faults.
-const REFUSED: &[(&[u8], WireFault)] = &[
-    (b"{\"op\":\"take\"", WireFault::NotJson),
-    (b"[]", WireFault::NotObject),
-    (b"{\"op\":\"steal\"}", WireFault::NoOp),
-    (b"{\"op\":\"read\"}", WireFault::MissingField),
-    (b"{\"op\":\"read\",\"over\":1.5}", WireFault::BadField),
-    (
-        b"{\"op\":\"read\",\"over\":3,\"x\":1}",
-        WireFault::UnknownField,
-    ),
-];
-
 fn all_are_refused(alloc: Global) -> Result<bool, WireFault> {
-    for (line, fault) in REFUSED {
-        if !is_refused(alloc, line, *fault)? {
+    for (line, fault) in HOSTILE {
+        if !is_refused(alloc, Reader::Line, line, *fault)? {
+            return Ok(false);
+        }
+    }
+    for (reader, line, fault) in REFUSED {
+        if !is_refused(alloc, *reader, line, *fault)? {
             return Ok(false);
         }
     }
