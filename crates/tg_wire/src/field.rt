@@ -25,6 +25,7 @@ pub(crate) fn has(object: &LineObject<'_>, key: Key) -> bool
     }
 }
 
+#[inline(always)]
 pub(crate) fn number(object: &LineObject<'_>, key: Key) -> Option<u64>
     ensures { result ≡ fields.number_in (key_text key) (data_of object.now) }
 {
@@ -35,6 +36,7 @@ pub(crate) fn number(object: &LineObject<'_>, key: Key) -> Option<u64>
 }
 
 /// A number that may be absent.
+#[inline(always)]
 pub(crate) fn optional_number(object: &LineObject<'_>, key: Key, default: u64) -> Option<u64>
     ensures { result ≡ fields.optional_number (key_text key) default (data_of object.now) }
 {
@@ -53,6 +55,7 @@ fn optional_in(value: &Value, key: Key, default: u64) -> Option<u64>
     }
 }
 
+#[inline(always)]
 pub(crate) fn string<'o>(object: &'o LineObject<'_>, key: Key) -> Option<&'o str>
     ensures { option_map (λ s. s.now) result ≡ fields.string_in (key_text key) (data_of object.now) }
 {
@@ -95,6 +98,7 @@ pub(crate) fn kind(object: &LineObject<'_>) -> Option<Kind>
 }
 
 /// The seat, 0 if the field is absent.
+#[inline(always)]
 pub(crate) fn seat(object: &LineObject<'_>) -> Option<u64>
     ensures { result ≡ fields.seat_in (data_of object.now) }
 {

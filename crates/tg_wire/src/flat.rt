@@ -143,6 +143,7 @@ impl<'a> Flat<'a> {
     }
 
     /// The last member of that key.
+    #[inline(always)]
     pub(crate) fn get(&self, key: Key) -> Option<Plain<'a>>
         ensures { option_map plain_data result ≡ get (key_text key) (flat_data self.now.members.now) }
     {
@@ -154,6 +155,7 @@ impl<'a> Flat<'a> {
         None
     }
 
+    #[inline(always)]
     pub(crate) fn number(&self, key: Key) -> Option<u64>
         ensures { result ≡ fields.number_in (key_text key) (flat_data self.now.members.now) }
     {
@@ -163,6 +165,7 @@ impl<'a> Flat<'a> {
         }
     }
 
+    #[inline(always)]
     pub(crate) fn optional_number(&self, key: Key, default: u64) -> Option<u64>
         ensures { result ≡ fields.optional_number (key_text key) default (flat_data self.now.members.now) }
     {
@@ -173,6 +176,7 @@ impl<'a> Flat<'a> {
         }
     }
 
+    #[inline(always)]
     pub(crate) fn string(&self, key: Key) -> Option<&'a str>
         ensures { option_map (λ s. s.now) result ≡ fields.string_in (key_text key) (flat_data self.now.members.now) }
     {
@@ -183,12 +187,14 @@ impl<'a> Flat<'a> {
     }
 
     /// Whether each key is one of these.
+    #[inline(always)]
     pub(crate) fn knows_all(&self, others: &[Key], required: &[Key]) -> bool
         ensures { result ≡ knows_all_of (key_texts others.now ++ key_texts required.now) (flat_data self.now.members.now) }
     {
         self.are_known(others, required)
     }
 
+    #[inline(always)]
     fn are_known(&self, others: &[Key], required: &[Key]) -> bool
         ensures { result ≡ list_all (λ m. is_listed_in_either others.now required.now (key_text m.key)) self.now.members.now }
     {

@@ -27,6 +27,7 @@ impl LineRoom {
     }
 
     /// Lends the room for one line; there is none left until it comes back.
+    #[inline(always)]
     pub(crate) fn lend(&mut self) -> Result<Vec<u8>, AllocError>
         ensures { IfOk result (λ bytes. bytes.items ≡ []) }
     {

@@ -98,6 +98,7 @@ fn has_all(keys: &[Key], object: &LineObject<'_>) -> bool
 }
 
 /// Each key of the object is one of these.
+#[inline(always)]
 pub(crate) fn knows_all(
     others: &[Key],
     required: &[Key],
@@ -112,6 +113,7 @@ pub(crate) fn knows_all(
     }
 }
 
+#[inline(always)]
 fn is_known(others: &[Key], required: &[Key], object: &LineObject<'_>) -> bool
     ensures { result ≡ knows_all_of (key_texts others.now ++ key_texts required.now) (data_of object.now) }
 {

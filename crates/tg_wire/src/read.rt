@@ -4,7 +4,7 @@ ghost use Rattle.tg_wire.specs.declared.line.TheConstants.{LONGEST_LINE};
 ghost use Rattle.std.specs.Prelude.{◌≡◌, ◌≤◌, Err, Some, length};
 ghost use Rattle.tg_wire.specs.Flat.{data_of};
 ghost use Rattle.tg_wire.specs.Ops.{command_form, op_form};
-ghost use Rattle.tg_wire.specs.Lines.{line_extras, line_in, line_of, step_in, step_of, op_in, rule_in};
+ghost use Rattle.tg_wire.specs.Lines.{line_extras, line_in, line_of, line_of_json, step_in, step_of, op_in, rule_in};
 ghost use Rattle.tg_wire.specs.Reading.{Answers, AnswersField, fields_of, or_else};
 ghost use Rattle.tg_wire.specs.declared.fault.WireFault.TheVariants.{NoOp, OutOfMemory};
 
@@ -22,6 +22,7 @@ use tg_vault::Event;
 
 /// The value of an event line, or its first fault. `seat` is 0 if it is absent; `collect` and `cycle` do not use it,
 /// but if it is given it has to be a number there too.
+#[inline(always)]
 #[tactic(auto, unfolding(crate::specs::Lines::line_of))]
 pub fn read_line(alloc: Global, bytes: &[u8]) -> Result<Line, WireFault>
     ensures answered { Answers result (line_of bytes.now) }
@@ -32,9 +33,19 @@ pub fn read_line(alloc: Global, bytes: &[u8]) -> Result<Line, WireFault>
     if read_flat(bytes, &mut members).is_some() {
         return line_of_object(alloc, &LineObject::Flat(Flat::new(members.as_slice())));
     }
+    line_of_tree(alloc, bytes)
+}
+
+/// The same for a line that is not flat, and not too long.
+#[inline(never)]
+fn line_of_tree(alloc: Global, bytes: &[u8]) -> Result<Line, WireFault>
+    ensures { Answers result (line_of_json bytes.now) }
+{
     line_of_object(alloc, &tree(alloc, bytes)?)
 }
 
+// Where it is inlined, it is known which kind of object it reads, and the value is made in its place.
+#[inline(always)]
 fn line_of_object(alloc: Global, object: &LineObject<'_>) -> Result<Line, WireFault>
     ensures { Answers result (line_in (data_of object.now)) }
 {
@@ -50,6 +61,7 @@ fn line_of_object(alloc: Global, object: &LineObject<'_>) -> Result<Line, WireFa
 }
 
 /// A good line, if its object has no other fields.
+#[inline(always)]
 fn only_known(line: Line, op: Op, object: &LineObject<'_>) -> Result<Line, WireFault>
     requires { (op_form op).value (data_of object.now) ≡ Some line }
     ensures { result ≡ fields_of (op_form op).fields line_extras (op_form op).value (data_of object.now) }
@@ -84,6 +96,7 @@ fn step_of_object(alloc: Global, object: &LineObject<'_>) -> Result<Step, WireFa
     Ok(Step { actor, command })
 }
 
+#[inline(always)]
 fn op(object: &LineObject<'_>) -> Result<Op, WireFault>
     ensures { result ≡ or_else NoOp (op_in (data_of object.now)) }
 {
@@ -98,6 +111,7 @@ fn rule(object: &LineObject<'_>) -> Result<Rule, WireFault>
     rule_named(word).ok_or(WireFault::NoOp)
 }
 
+#[inline(always)]
 fn line(alloc: Global, op: Op, object: &LineObject<'_>) -> Result<Line, WireFault>
     ensures { AnswersField result ((op_form op).value (data_of object.now)) }
 {
@@ -118,6 +132,7 @@ fn line(alloc: Global, op: Op, object: &LineObject<'_>) -> Result<Line, WireFaul
     }
 }
 
+#[inline(always)]
 fn command(alloc: Global, rule: Rule, object: &LineObject<'_>) -> Result<Command, WireFault>
     ensures { AnswersField result ((command_form rule).value (data_of object.now)) }
 {

@@ -23,6 +23,7 @@ pub fn write_reply(alloc: Global, reply: &Reply) -> Result<Vec<u8>, AllocError>
 }
 
 /// The same in room that is kept; if memory runs out, there is no room until a line comes back.
+#[inline(always)]
 #[tactic(auto, unfolding(crate::specs::Replies::reply_line, crate::proofs::Literals::numbers_on_literals))]
 pub fn write_reply_in(room: &mut LineRoom, reply: &Reply) -> Result<Vec<u8>, AllocError>
     ensures { IfOk result (λ line. line.items ≡ reply_line reply.now) }
@@ -55,6 +56,7 @@ pub fn write_answer(alloc: Global, answer: &Answer) -> Result<Vec<u8>, AllocErro
 }
 
 /// The same in room that is kept, as `write_reply_in`.
+#[inline(always)]
 #[tactic(auto, unfolding(crate::specs::Answers::answer_line, crate::specs::Replies::reply_line, crate::proofs::Literals::numbers_on_literals))]
 pub fn write_answer_in(room: &mut LineRoom, answer: &Answer) -> Result<Vec<u8>, AllocError>
     ensures { IfOk result (λ line. line.items ≡ answer_line answer.now) }
