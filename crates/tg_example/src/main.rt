@@ -40,23 +40,14 @@ fn play(rt: &HostRuntime) -> Option<()> {
     let mut vault = opened(rt.alloc())?;
     vault.hello(0, "alice").ok()?;
     let bob = vault.hello(1, "bob").ok()?;
-    let Reply::Created(over) = ask(rt, &mut vault, 0, Command::Create { kind, rights })? else {
+    let Reply::Created(over) = ask(rt, &mut vault, 0, Command::create(kind, rights))? else {
         return None;
     };
-    ask(rt, &mut vault, 1, Command::Read { over })?;
-    ask(
-        rt,
-        &mut vault,
-        0,
-        Command::Grant {
-            rights,
-            over,
-            to: bob,
-        },
-    )?;
-    ask(rt, &mut vault, 1, Command::Read { over })?;
-    ask(rt, &mut vault, 0, Command::Remove { rights, over })?;
-    ask(rt, &mut vault, 1, Command::Remove { rights, over })?;
+    ask(rt, &mut vault, 1, Command::read(over))?;
+    ask(rt, &mut vault, 0, Command::grant(rights, over, bob))?;
+    ask(rt, &mut vault, 1, Command::read(over))?;
+    ask(rt, &mut vault, 0, Command::remove(rights, over))?;
+    ask(rt, &mut vault, 1, Command::remove(rights, over))?;
     for _ in 0..2 {
         let swept = vault.cycle();
         println!(rt; "{} freed in {} steps", swept.freed, swept.steps).ok()?;
