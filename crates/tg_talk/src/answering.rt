@@ -78,6 +78,7 @@ pub trait Responder {
 }
 
 /// The line of an answer, or `out of memory` in its place.
+#[inline(always)]
 pub fn text_of_answer(room: &mut LineRoom, answer: &Answer) -> Text
     ensures { TellsAnswer answer.now (text_of result) (is_wrong result) }
 {
