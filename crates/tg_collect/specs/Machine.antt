@@ -151,7 +151,8 @@ phase_of Idle = phase.Idle
 phase_of (Marking s) = phase.Mark
 phase_of (Sweeping k) = phase.Sweep
 
--- the session steps, over the machine as the crate sees it
+-- The session steps.
+
 -- the seat's target is shaded and the seat is cleared
 abbrev pub ShadesSeat : Machine → ℕ → Option ℕ → Machine → Type 0
 ShadesSeat m seat None n = (get_or m.roots.targets.items seat None ≡ None) × (n ≡ m)

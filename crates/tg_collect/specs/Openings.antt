@@ -69,7 +69,8 @@ pub record Fitted (G : Protection) (all_slots all_cells : ℕ) : Type 0 where
 abbrev pub OpeningsCanBeStored : Type 0
 OpeningsCanBeStored = (c : Config) → first_fault c ≡ None → Fitted (opening c) c.slots c.cells
 
--- the steps by which a graph is opened
+-- The steps by which a graph is opened.
+
 -- the principal of a slot, and the principals of the first slots
 abbrev pub subject : ℕ → List Edge → Spot
 subject i es = record { serial = i + 1; kind = Subject; text = []; edges = es; colour = White }
