@@ -4,7 +4,11 @@ use crate::serve::{Found, tell};
 use crate::{Platform, Served, serve_lines, serve_on};
 use std::alloc::{AllocError, Global};
 use std::io::{Read, Write};
-use std::net::{SocketAddr, TcpListener, TcpStream};
+use std::net::{Net, SocketAddr, TcpListener, TcpStream};
+use std::random::RandomSource;
+use std::rt::Clock;
+use std::sync::Wait;
+use std::thread::Threads;
 use std::{io, thread};
 use tg_talk::Watched;
 use tg_vault::Vault;
@@ -106,7 +110,14 @@ fn one_client_over_the_loopback(rt: HostRuntime) -> io::Result<()> {
 }
 
 /// What a server on the address writes, and its result.
-fn serve_at(rt: &impl Platform, alloc: Global, given: &[u8], address: &str) -> (Served, Vec<u8>) {
+fn serve_at<
+    N: Threads
+        + Wait
+        + Clock
+        + RandomSource
+        + Net<Listener = TcpListener, Stream = TcpStream>
+        + Sync,
+>(rt: &N, alloc: Global, given: &[u8], address: &str) -> (Served, Vec<u8>) {
     let mut reader = Watched::new(given);
     let mut out = Vec::new(alloc);
     let mut writer = Watched::new(&mut out);
