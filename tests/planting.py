@@ -102,13 +102,20 @@ def can_be_edited(f):
     return f.has_body and not f.in_cycle and not (f.block and f.block.is_trait)
 
 
+def arguments(f):
+    """The names in the type arguments of the function's impl."""
+    words = f.block.ty[1:] if f.block else []
+    return [it for before, it in zip(["", *words], words) if it.isidentifier() and before != "'"]
+
+
+def is_chosen(f):
+    """Whether the function's impl is of chosen type arguments."""
+    return any(it not in f.block.generics for it in arguments(f))
+
+
 def can_stand_twice(f):
     """Whether a copy of the function can be placed next to it: it is no trait's, and its impl is of no chosen type arguments."""
-    if f.in_trait or not can_be_edited(f):
-        return False
-    words = f.block.ty[1:] if f.block else []
-    names = [it for before, it in zip(["", *words], words) if it.isidentifier() and before != "'"]
-    return all(it in f.block.generics for it in names)
+    return not f.in_trait and can_be_edited(f) and not is_chosen(f)
 
 
 def are_left(crates, since=0):
@@ -331,10 +338,12 @@ class Trial:
             self.stem += "_"
 
     def path(self, f):
-        """Where a report and the written proofs have the function: a method goes by the module that declares its type."""
+        """Where a report and the written proofs have the function: a method goes by the module that declares its type, and by its type
+        arguments if any is chosen."""
         homes = [it[0] for it in self.source.declared.get(f.owner, [])] if f.block else []
         module = f.module if f.module in homes or not homes else homes[0]
-        return [*module, *[f.owner] * bool(f.block), f.name]
+        owner = "+".join([f.owner, *arguments(f)]) if f.block and is_chosen(f) else f.owner
+        return [*module, *[owner] * bool(f.block), f.name]
 
     def symbol(self, f, ending=""):
         """The name by which a report calls the function, or the copy of it whose name has this ending."""
