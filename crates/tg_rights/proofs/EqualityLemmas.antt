@@ -12,6 +12,7 @@ use Rattle.tg_rights.specs.declared.outcome.Reply.TheVariants as reply
 use Rattle.tg_rights.specs.declared.command.Rule.{Rule}
 use Rattle.tg_rights.specs.contracts.command.RulePartialEq.TheImpl as rules
 use Rattle.tg_rights.specs.contracts.text.TextPartialEq.TheImpl as texts
+use Rattle.tg_rights.specs.contracts.name.NamePartialEq.TheImpl as names
 use Rattle.tg_rights.specs.contracts.lists.EdgeListPartialEq.TheImpl as edge_lists
 use Rattle.tg_rights.specs.contracts.command.CommandEq.TheImpl.Laws as command_laws
 use Rattle.tg_rights.specs.contracts.outcome.ReplyEq.TheImpl.Laws as reply_laws
@@ -46,6 +47,10 @@ same_command (command.Write o t) (command.Write p u) e =
     let over : o ≡ p = grind (arith, nat_tests) in
     λ i. command.Write (over i) (same_text t u parts.1 i)
 same_command (command.Look o) (command.Look p) e = grind (arith, nat_tests)
+same_command (command.Enrol n r) (command.Enrol m s) e =
+    let parts = and_parts (names.ghosts.eq n m) (nat_eq (number r) (number s)) e in
+    λ i. command.Enrol (same_text n m parts.0 i) (same_letters r s parts.1 i)
+same_command command.Retire command.Retire e = refl
 same_command a b e = absurd (false≢true e)
 
 same_rule : (a b : Rule) → rules.ghosts.eq a b ≡ true → a ≡ b

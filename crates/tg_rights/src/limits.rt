@@ -1,6 +1,6 @@
 //! The limits of a configuration and of the server, each named once.
 
-/// The greatest number of principals.
+/// The greatest number of active principals.
 pub const MAX_PRINCIPALS: u64 = 64;
 
 /// How many seats there are: seats are numbered from 0 to 63.
