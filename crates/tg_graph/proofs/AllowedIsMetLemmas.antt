@@ -1,6 +1,7 @@
 -- What it means that no check fails, and that one is the first to fail.
-use Rattle.std.proofs.Common.{◌≡◌, ℕ, ◌∷◌, [], ◌++◌, List, Bool, true, false, cond, refl, ap, ◌∙◌, Some, None}
+use Rattle.std.proofs.Common.{◌≡◌, ℕ, ◌∷◌, [], ◌++◌, List, Bool, true, false, cond, not, ◌||◌, refl, ap, ◌∙◌, Some, None}
 use Rattle.std.specs.Prelude.{Option}
+use Rattle.std.proofs.lemmas.Bool.{not-true}
 use Rattle.tg_rights.specs.declared.kind.Kind.{Kind}
 use Rattle.tg_rights.specs.declared.kind.Kind.TheVariants as kind
 use Rattle.tg_rights.specs.declared.command.Command.{Command}
@@ -11,6 +12,8 @@ use Rattle.tg_graph.specs.Protection.{Protection, IsDocument, kind_of}
 use Rattle.tg_graph.specs.Terms.{terms}
 use Rattle.tg_graph.specs.Rules.{AllPass, Allowed, Check, checks, first_failure, is_document, is_met, lack, misfit, missing, unless}
 use Rattle.tg_graph.specs.Laws.{AllMet, IsDocumentWhereAsked, Meets}
+use Rattle.tg_graph.specs.Names.{has_serial}
+use Rattle.tg_graph.proofs.RollLemmas.{may_be_named, member_finds, member_found, not_crowded, not_taken}
 
 pub unless_passes : (b : Bool) (why : Cause) → unless b why ≡ None → b ≡ true
 unless_passes true why e = refl
@@ -49,23 +52,40 @@ no_misfit : (G : Protection) (asked : Option ℕ) → IsDocumentWhereAsked G ask
 no_misfit G None h = refl
 no_misfit G (Some v) h = ap (λ k. unless (is_document k) (cause.NotDocument v)) h
 
-pub meets : (G : Protection) (x : ℕ) (c : Command) → Allowed G x c → Meets G (terms x c)
+implied : (a b : Bool) → (not a || b) ≡ true → a ≡ true → b ≡ true
+implied true b e asked = e
+implied false b e asked = absurd (cc asked)
+
+implies : (a b : Bool) → (a ≡ true → b ≡ true) → (not a || b) ≡ true
+implies true b f = f refl
+implies false b f = refl
+
+pub meets : (G : Protection) (x : ℕ) (c : Command) → Allowed G x c → Meets G x (terms x c)
 meets G x c a =
-    let p = all_pass (checks G (terms x c)) a in
+    let p = all_pass (checks G x (terms x c)) a in
+    let t = terms x c in
     record {
-      named = unless_passes _ cause.Empty p.0;
-      apart = unless_passes _ cause.NotDistinct p.1.0;
-      met = all_met G (terms x c).needs p.1.1.0;
-      document = document_asked G (terms x c).document p.1.1.1.0;
+      unretired = not-true _ (unless_passes _ cause.Retired p.0);
+      named = unless_passes _ cause.Empty p.1.0;
+      apart = unless_passes _ cause.NotDistinct p.1.1.0;
+      met = all_met G t.needs p.1.1.1.0;
+      document = document_asked G t.document p.1.1.1.1.0;
+      principal = λ asked. member_found G.names x (implied t.principal (has_serial G.names x) (unless_passes _ cause.NotPrincipal p.1.1.1.1.1.0) asked);
+      name = may_be_named G.names t.name (not-true _ (unless_passes _ cause.NameTaken p.1.1.1.1.1.1.0)) (not-true _ (unless_passes _ cause.Crowded p.1.1.1.1.1.1.1.0));
     }
 
-pub allowed : (G : Protection) (x : ℕ) (c : Command) → Meets G (terms x c) → Allowed G x c
+pub allowed : (G : Protection) (x : ℕ) (c : Command) → Meets G x (terms x c) → Allowed G x c
 allowed G x c m =
+    let t = terms x c in
     λ i. first_failure (
-    unless (m.named i) cause.Empty
+    unless (not (m.unretired i)) cause.Retired
+    ∷ unless (m.named i) cause.Empty
     ∷ unless (m.apart i) cause.NotDistinct
-    ∷ none_missing G (terms x c).needs m.met i
-    ∷ no_misfit G (terms x c).document m.document i
+    ∷ none_missing G t.needs m.met i
+    ∷ no_misfit G t.document m.document i
+    ∷ unless (implies t.principal (has_serial G.names x) (λ asked. member_finds G.names x (m.principal asked)) i) cause.NotPrincipal
+    ∷ unless (not (not_taken G.names t.name m.name i)) cause.NameTaken
+    ∷ unless (not (not_crowded G.names t.name m.name i)) cause.Crowded
     ∷ []
     )
 

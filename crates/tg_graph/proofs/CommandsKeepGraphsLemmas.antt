@@ -1,5 +1,5 @@
 -- What an allowed command leaves: a graph, and each subject a subject.
-use Rattle.std.proofs.Common.{◌≡◌, ◌≢◌, ℕ, zero, suc, ◌<◌, ◌≤◌, [], Bool, true, false, cond, refl, sym, ap, ◌∙◌, Some, None, ◌==◌, arith}
+use Rattle.std.proofs.Common.{◌≡◌, ℕ, ◌<◌, ◌≤◌, [], Bool, true, false, cond, refl, sym, ap, ◌∙◌, Some, None, ◌==◌, arith}
 use Rattle.std.specs.Option.{option_map}
 use Rattle.std.specs.Cmp.{nat_cmp_total, unsigned_tied}
 use Rattle.std.specs.FinMap as map
@@ -13,12 +13,12 @@ use Rattle.tg_rights.specs.declared.limits.TheConstants.{MAX_PRINCIPALS}
 use Rattle.tg_graph.specs.declared.config.Config.{Config}
 use Rattle.tg_graph.specs.declared.config.OpenFault.TheVariants as fault
 use Rattle.tg_graph.specs.declared.vertex.Vertex.{Vertex}
-use Rattle.tg_graph.specs.Opening.{first_fault, is_principal, principal_count, opening, subjects, faults}
+use Rattle.tg_graph.specs.Opening.{first_fault, is_principal, principal_count, opening, faults}
 use Rattle.tg_graph.specs.Protection.{Protection, IsGraph, IsSubject, IsVertex, vertex, kind_of}
 use Rattle.tg_graph.specs.Rules.{Allowed, after, done, with_text}
 use Rattle.tg_graph.proofs.LabelLemmas.{union-IsGraph, difference-IsGraph}
-use Rattle.tg_graph.proofs.VertexLemmas.{IsVertex-from_kind, with_text-IsGraph, new-IsGraph}
-use Rattle.tg_graph.proofs.OpeningLemmas.{none_at}
+use Rattle.tg_graph.proofs.VertexLemmas.{IsVertex-from_kind, with_text-IsGraph, new-IsGraph, retired-IsGraph}
+use Rattle.tg_graph.proofs.OpeningLemmas.{none_at, subjects_kind}
 use Rattle.tg_graph.proofs.ProtectionLemmas.{Entitled, edge_to, entitled}
 
 module _ (G : Protection) (x : ℕ) (g : IsGraph G) where
@@ -30,11 +30,12 @@ module _ (G : Protection) (x : ℕ) (g : IsGraph G) where
 
   done_stays : (x_in : IsVertex G x) (e : Does) → Granted x_in e → IsGraph (done G x e)
   done_stays x_in (effect.Joins from α to) h = union-IsGraph G from to α g h.0 h.1 h.2
-  done_stays x_in (effect.Makes k α) h = new-IsGraph G x α (record { kind = k; text = [] }) g x_in
+  done_stays x_in (effect.Makes k α name) h = new-IsGraph G x α (record { kind = k; text = [] }) name g x_in h.1 h.2
   done_stays x_in (effect.Drops α over) h = difference-IsGraph G x over α g
   done_stays x_in (effect.Rewrites over text) h = with_text-IsGraph G over text g
   done_stays x_in (effect.Tells over) h = g
   done_stays x_in (effect.Lists at) h = g
+  done_stays x_in effect.Retires h = retired-IsGraph G x g x_in
 
 pub graph_stays : (G : Protection) (x : ℕ) (c : Command) → IsGraph G → IsSubject G x → Allowed G x c → IsGraph (after G x c)
 graph_stays G x c g s a = let x_in = IsVertex-from_kind G x kind.Subject s in done_stays G x g x_in (terms x c).does (granted G x g x_in c a)
@@ -48,7 +49,7 @@ other_kind G v w e apart s = ap (option_map (λ e. e.kind)) (map.get-insert nat_
 
 subject_left : (G : Protection) (x : ℕ) → IsGraph G → (e : Does) (v : ℕ) → IsSubject G v → IsSubject (done G x e) v
 subject_left G x g (effect.Joins from α to) v s = s
-subject_left G x g (effect.Makes k α) v s =
+subject_left G x g (effect.Makes k α name) v s =
     other_kind G G.next v (record { kind = k; text = [] }) (λ is. let l : v < G.next = g.below_next v (IsVertex-from_kind G v kind.Subject s) in absurd (omega arith)) s
 subject_left G x g (effect.Drops α over) v s = s
 subject_left G x g (effect.Rewrites over text) v s = told (vertex G over) refl where
@@ -61,22 +62,10 @@ subject_left G x g (effect.Rewrites over text) v s = told (vertex G over) refl w
     by false other = other_kind G over v (record e { text = text }) (λ is. absurd (cc (other, eq-eqb v over is))) s
 subject_left G x g (effect.Tells over) v s = s
 subject_left G x g (effect.Lists at) v s = s
+subject_left G x g effect.Retires v s = s
 
 pub subject_stays : (G : Protection) (x : ℕ) (c : Command) → IsGraph G → (v : ℕ) → IsSubject G v → IsSubject (after G x c) v
 subject_stays G x c g v s = subject_left G x g (terms x c).does v s
-
-subjects_kind : (count v : ℕ) → 1 ≤ v → v ≤ count → option_map (λ (e : Vertex). e.kind) (map.get (subjects count) v) ≡ Some kind.Subject
-subjects_kind zero v low high = absurd (omega arith)
-subjects_kind (suc count) v low high =
-    ap (option_map (λ (e : Vertex). e.kind)) (map.get-insert nat_cmp_total (subjects count) (suc count) subject v ∙ ap (λ b. cond b (Some subject) (map.get (subjects count) v)) (unsigned_tied v (suc count)))
-    ∙ either (v == suc count) refl (subjects_kind count v low) where
-      subject : Vertex
-      subject = record { kind = kind.Subject; text = [] }
-
-      either : (b : Bool) → (v == suc count) ≡ b → (v ≤ count → option_map (λ (e : Vertex). e.kind) (map.get (subjects count) v) ≡ Some kind.Subject) →
-          option_map (λ (e : Vertex). e.kind) (cond b (Some subject) (map.get (subjects count) v)) ≡ Some kind.Subject
-      either true is below = refl
-      either false is below = let other : v ≢ suc count = λ e. absurd (cc (is, eq-eqb v (suc count) e)) in below (omega arith)
 
 pub principal_is_subject : (c : Config) → first_fault c ≡ None → (k : ℕ) → is_principal (principal_count c) k ≡ true → IsSubject (opening c) k
 unfolding opening

@@ -37,8 +37,10 @@ sound x (command.Grant α over to) = record {
   document = tt;
   covers = (inr (inl refl), inr (inl refl), refl, λ e. flip over to (not-true _ (and_parts _ _ e).1));
 }
-sound x (command.Create k α) = record { follows = tt; some = λ _. tt; document = tt; covers = refl }
+sound x (command.Create k α) = record { follows = tt; some = λ _. tt; document = tt; covers = (refl, refl, tt) }
 sound x (command.Remove α over) = record { follows = refl; some = λ e. (not-true _ e, tt); document = tt; covers = (refl, refl) }
 sound x (command.Read over) = record { follows = refl; some = λ _. (refl, tt); document = inl refl; covers = inl refl }
 sound x (command.Write over text) = record { follows = refl; some = λ _. (refl, tt); document = inl refl; covers = refl }
 sound x (command.Look at) = look_sound x at
+sound x (command.Enrol name α) = record { follows = tt; some = λ _. tt; document = tt; covers = (refl, refl, refl) }
+sound x command.Retire = record { follows = tt; some = λ _. tt; document = tt; covers = refl }

@@ -11,11 +11,13 @@ pub mod OutcomesAgreeLemmas
 pub mod PartsStayLemmas
 pub mod ProtectionLemmas
 pub mod RepliesAgreeLemmas
+pub mod RollLemmas
 pub mod TriplesLemmas
 pub mod VertexLemmas
 -- Lemma files of this crate's own proofs.
 mod AllowedIsMetLemmas
 mod AnswersAgreeLemmas
+mod ComeAndGoLemmas
 mod EdgesAreListedLemmas
 mod EdgesOfLemmas
 mod OpeningLemmas

@@ -11,12 +11,13 @@ use Rattle.tg_rights.specs.Letters.{Letters, joined, is_none}
 use Rattle.tg_rights.specs.declared.kind.Kind.TheVariants as kind
 use Rattle.tg_rights.specs.declared.limits.TheConstants.{MAX_CELLS, MAX_SLOTS}
 use Rattle.tg_graph.specs.declared.config.OpenFault.TheVariants as fault
+use Rattle.tg_graph.specs.declared.member.Member.{Member}
 use Rattle.tg_graph.specs.declared.vertex.Vertex.{Vertex}
 use Rattle.tg_graph.specs.Triples.{Triples, edge}
 use Rattle.tg_graph.specs.Protection.{Protection, label}
 use Rattle.tg_graph.specs.Fullness.{vertex_count, edge_count, edges_at}
 use Rattle.tg_graph.specs.Laws.{OpeningsFit}
-use Rattle.tg_graph.specs.Opening.{Edge, faults, is_principal, principal_count, opening, subjects, with_edges}
+use Rattle.tg_graph.specs.Opening.{Edge, faults, first_members, is_principal, principal_count, opening, subjects, with_edges}
 use Rattle.tg_graph.proofs.OpeningLemmas.{none_at, ends-sound, subjects-within, subjects-has}
 use Rattle.tg_graph.proofs.EdgesAreCountedLemmas.{edge_count-union, edge_count-bare}
 
@@ -46,18 +47,18 @@ at_most_one l = by (is_none l) where
   by false = omega arith
 
 -- each edge of a list adds at most one
-with_edges-count : (count next : ℕ) (T : Triples) (es : List Edge) → list_all (λ e. is_principal count e.0 && is_principal count e.2) es ≡ true →
-    edge_count (record { vertices = subjects count; next = next; triples = with_edges T es }) ≤ edge_count (record { vertices = subjects count; next = next; triples = T }) + length es
-with_edges-count count next T [] ends = omega arith
-with_edges-count count next T (e ∷ es) ends =
+with_edges-count : (count next : ℕ) (ms : List Member) (rs : set.FinSet nat_cmp) (T : Triples) (es : List Edge) → list_all (λ e. is_principal count e.0 && is_principal count e.2) es ≡ true →
+    edge_count (record { vertices = subjects count; next = next; triples = with_edges T es; names = ms; retired = rs }) ≤ edge_count (record { vertices = subjects count; next = next; triples = T; names = ms; retired = rs }) + length es
+with_edges-count count next ms rs T [] ends = omega arith
+with_edges-count count next ms rs T (e ∷ es) ends =
     let at = and_parts _ _ ends in
     let here = and_parts _ _ at.0 in
     let from = and_parts _ _ here.0 in
     let to = and_parts _ _ here.1 in
-    let G : Protection = record { vertices = subjects count; next = next; triples = T } in
+    let G : Protection = record { vertices = subjects count; next = next; triples = T; names = ms; retired = rs } in
     let one = edge_count-union G e.0 e.2 e.1 (subjects-has count e.0 (leb-true 1 e.0 from.0) (leb-true e.0 count from.1)) (subjects-has count e.2 (leb-true 1 e.2 to.0) (leb-true e.2 count to.1)) in
     let most = at_most_one (joined (label G e.0 e.2) e.1) in
-    let rest = with_edges-count count next (set.union T (edge e.0 e.1 e.2)) es at.1 in
+    let rest = with_edges-count count next ms rs (set.union T (edge e.0 e.1 e.2)) es at.1 in
     omega arith
 
 pub openings_fit : OpeningsFit
@@ -68,8 +69,8 @@ openings_fit c sound =
     let cells = and_parts _ _ limit.0 in
     let slots = and_parts _ _ cells.0 in (
       vertex_count-len (opening c) ∙ len-subjects count,
-      (let bare = edge_count-bare (record { vertices = subjects count; next = c.next; triples = set.empty }) refl in
-          let all = with_edges-count count c.next set.empty c.edges.items (ends-sound c sound) in omega arith),
+      (let bare = edge_count-bare (record { vertices = subjects count; next = c.next; triples = set.empty; names = first_members 1 c.principals.items; retired = set.empty }) refl in
+          let all = with_edges-count count c.next (first_members 1 c.principals.items) set.empty set.empty c.edges.items (ends-sound c sound) in omega arith),
       ltb-false c.slots count (none_at c (faults c) sound 7 fault.Limit (omega arith)),
       ltb-false c.cells (length c.edges.items) (none_at c (faults c) sound 8 fault.Limit (omega arith)),
       leb-true 1 c.slots slots.0,

@@ -1,5 +1,5 @@
 -- A subject cannot tell apart two graphs that agree for it: the rules decide its commands alike.
-use Rattle.std.proofs.Common.{◌≡◌, ℕ, ◌∷◌, [], ◌++◌, List, true, false, cond, refl, sym, ap, subst, ◌∙◌, Some, None, inl, inr}
+use Rattle.std.proofs.Common.{◌≡◌, ℕ, ◌∷◌, [], ◌++◌, List, true, false, cond, not, ◌||◌, refl, sym, ap, subst, ◌∙◌, Some, None, inl, inr}
 use Rattle.std.specs.Prelude.{Option}
 use Rattle.std.specs.Option.{option_map}
 use Rattle.tg_rights.specs.Letters.{Letters, without, includes}
@@ -9,8 +9,10 @@ use Rattle.tg_rights.specs.declared.outcome.Cause.TheVariants as cause
 use Rattle.tg_rights.specs.declared.outcome.Outcome.{Outcome}
 use Rattle.tg_graph.specs.declared.rules.Need.{Need}
 use Rattle.tg_graph.specs.Protection.{Protection, IsEdge, label}
+use Rattle.tg_graph.specs.Names.{has_serial, is_crowded, is_taken}
+use Rattle.tg_graph.specs.declared.member.Member.{Member}
 use Rattle.tg_graph.specs.Terms.{Terms, terms}
-use Rattle.tg_graph.specs.Rules.{Check, Judged, checks, first_failure, is_document, is_met, lack, misfit, missing, unless}
+use Rattle.tg_graph.specs.Rules.{Check, Judged, checks, first_failure, later_checks, is_document, is_met, lack, misfit, missing, unless}
 use Rattle.tg_graph.specs.Deciding.{AskSome, Follows, IsSound, LeadTo, DocumentNear}
 use Rattle.tg_graph.specs.Paths.{Agree, Leads, Reaches}
 use Rattle.tg_graph.proofs.ExactlyOneOutcomeLemmas.{outcome_by, verdict, Judged-verdict, verdict-Judged}
@@ -41,6 +43,13 @@ same_failure (m ∷ ms) (n ∷ ns) alike = ap (λ k. first_failure (k ∷ ms)) a
   later (Some why) same = refl
 same_failure [] (n ∷ ns) alike = absurd alike
 same_failure (m ∷ ms) [] alike = absurd alike
+
+abbrev roll_checks : List Member → ℕ → Terms → List Check
+roll_checks ms x t =
+    unless (not t.principal || has_serial ms x) cause.NotPrincipal
+    ∷ unless (not (is_taken ms t.name)) cause.NameTaken
+    ∷ unless (not (is_crowded ms t.name)) cause.Crowded
+    ∷ []
 
 module _ (G H : Protection) (x : ℕ) (agree : Agree G H x) where
   pub itself : Reaches G x x
@@ -79,8 +88,18 @@ module _ (G H : Protection) (x : ℕ) (agree : Agree G H x) where
       let path = reached y near in
       ap (λ v. unless (is_document (option_map (λ e. e.kind) v)) (cause.NotDocument y)) (agree.vertices path.0 y path.1)
 
-  same_checks : (t : Terms) → IsSound x t → ChecksAlike (checks G t) (checks H t)
-  same_checks t s = (
+  -- what is asked of the list of the principals
+  same_roll : (t : Terms) → ChecksAlike (roll_checks G.names x t) (roll_checks H.names x t)
+  same_roll t = (
+    ap (λ ms. unless (not t.principal || has_serial ms x) cause.NotPrincipal) agree.names,
+    λ member. (
+      ap (λ ms. unless (not (is_taken ms t.name)) cause.NameTaken) agree.names,
+      λ free. (ap (λ ms. unless (not (is_crowded ms t.name)) cause.Crowded) agree.names, λ room. tt),
+    ),
+  )
+
+  same_later : (t : Terms) → IsSound x t → ChecksAlike (later_checks G G.names x t) (later_checks H H.names x t)
+  same_later t s = (
     refl,
     λ named. let some = s.some (unless_passes _ _ named) in (
       refl,
@@ -89,14 +108,17 @@ module _ (G H : Protection) (x : ℕ) (agree : Agree G H x) where
         λ met. (
           same_misfit t.document t.needs s.document (led G (Reaches G x) (reaches_on G x) x itself t.needs s.follows some met),
           λ fit.
-              tt,
+              same_roll t,
         ),
       ),
     ),
   )
 
+  same_checks : (t : Terms) → IsSound x t → ChecksAlike (checks G x t) (checks H x t)
+  same_checks t s = (ap (λ b. unless (not b) cause.Retired) agree.retired, λ unretired. same_later t s)
+
   pub same_verdict : (c : Command) → verdict G x c ≡ verdict H x c
-  same_verdict c = ap (outcome_by c) (same_failure (checks G (terms x c)) (checks H (terms x c)) (same_checks (terms x c) (sound x c)))
+  same_verdict c = ap (outcome_by c) (same_failure (checks G x (terms x c)) (checks H x (terms x c)) (same_checks (terms x c) (sound x c)))
 
 -- what the rules decide in one graph, they decide in each that agrees with it for the actor
 pub Judged-agrees : (G H : Protection) (x : ℕ) (c : Command) (o : Outcome) → Agree G H x → Judged G x c o → Judged H x c o

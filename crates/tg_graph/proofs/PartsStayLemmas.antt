@@ -1,5 +1,5 @@
 -- Two graphs that are alike on some vertices stay so when the same command is carried out in both.
-use Rattle.std.proofs.Common.{◌≡◌, ℕ, ◌<◌, ◌+◌, ◌∷◌, [], ◌++◌, List, Bool, true, false, cond, not, refl, sym, ap, subst, ◌∙◌, Some, None, ◌==◌, ◌&&◌, ◌⊎◌, inl, inr, arith}
+use Rattle.std.proofs.Common.{◌≡◌, ℕ, ◌<◌, ◌+◌, ◌∷◌, [], ◌++◌, List, Bool, true, false, cond, not, ◌||◌, refl, sym, ap, subst, ◌∙◌, Some, None, ◌==◌, ◌&&◌, ◌⊎◌, inl, inr, arith}
 use Rattle.std.specs.Prelude.{Option}
 use Rattle.std.specs.Option.{option_map, is_some}
 use Rattle.std.specs.Ordering.{nat_cmp, eq_by_cmp}
@@ -15,7 +15,8 @@ use Rattle.tg_graph.specs.Terms as effect
 use Rattle.tg_graph.specs.Terms.{Does, terms}
 use Rattle.tg_graph.specs.declared.vertex.Vertex.{Vertex}
 use Rattle.tg_graph.specs.Triples.{Triples, edge}
-use Rattle.tg_graph.specs.Protection.{Protection, IsGraph, IsVertex, IsSubject, IsDocument, IsEdge, vertex, label}
+use Rattle.tg_graph.specs.Names.{with_member, without_member}
+use Rattle.tg_graph.specs.Protection.{Protection, IsGraph, IsVertex, IsSubject, IsDocument, IsEdge, has_retired, vertex, label}
 use Rattle.tg_graph.specs.Rules.{Allowed, after, done, with_text}
 use Rattle.tg_graph.specs.Paths.{Agree, IsPart, Leads, Reaches}
 use Rattle.tg_graph.proofs.LabelLemmas.{Relabels, union-Relabels, difference-Relabels}
@@ -29,11 +30,13 @@ pub label-relabelled : (G K : Protection) (x y : ℕ) (l : Letters) → Relabels
 unfolding label
 label-relabelled G K x y l relabels v z = λ i. rights_where (λ r. relabels (record { from = v; right = r; to = z }) i)
 
--- the known vertices have the same kind, text and labels in both graphs, and their edges lead to known ones
+-- the known vertices have the same kind, text and labels in both graphs, their edges lead to known ones, and the same
+-- principals are active
 pub record Alike (G H : Protection) (Known : ℕ → Type 0) : Type 0 where
   pub labels : (v z : ℕ) → Known v → label G v z ≡ label H v z
   pub vertices : (v : ℕ) → Known v → vertex G v ≡ vertex H v
   pub step : (v z : ℕ) → Known v → IsEdge G v z → Known z
+  pub names : G.names ≡ H.names
 
 -- graphs agree for each known subject
 module _ (G H : Protection) (Known : ℕ → Type 0) (alike : Alike G H Known) where
@@ -49,8 +52,8 @@ module _ (G H : Protection) (Known : ℕ → Type 0) (alike : Alike G H Known) w
       let e : IsEdge G x z = ap is_none (alike.labels x z k) ∙ p.0 in
       (e, back zs z y (alike.step x z k e) p.1)
 
-  pub agree_around : (q : ℕ) → Known q → IsSubject G q → Agree G H q
-  agree_around q k s = record {
+  pub agree_around : (q : ℕ) → Known q → IsSubject G q → has_retired G q ≡ has_retired H q → Agree G H q
+  agree_around q k s retired = record {
     subject = s;
     subject_too = ap (option_map (λ e. e.kind)) (sym (alike.vertices q k)) ∙ s;
     paths = λ later y. (
@@ -59,6 +62,8 @@ module _ (G H : Protection) (Known : ℕ → Type 0) (alike : Alike G H Known) w
     );
     vertices = λ later y p. alike.vertices y (along later q y k p.1).1;
     labels = λ later y z p. alike.labels y z (along later q y k p.1).1;
+    names = alike.names;
+    retired = retired;
   }
 
 some_joined : (b : Bool) (l m k : Letters) → is_none (cond b l m) ≡ false → (b ≡ true) ⊎ (is_none m ≡ false)
@@ -77,6 +82,7 @@ module _ (G H : Protection) (Known : ℕ → Type 0) (alike : Alike G H Known) w
         labels = λ w z k. in_G w z ∙ (λ i. cond ((s == w) && (y == z)) (f (alike.labels s y source i)) (alike.labels w z k i)) ∙ sym (in_H w z);
         vertices = alike.vertices;
         step = λ w z k e. step w z k (ap is_none (sym (in_G w z)) ∙ e);
+        names = alike.names;
       }
 
   -- an edge between known vertices gains rights
@@ -112,7 +118,12 @@ module _ (G H : Protection) (Known : ℕ → Type 0) (alike : Alike G H Known) w
   -- a vertex gets the same text in both
   text_too : (y : ℕ) (e : Vertex) → Alike (record G { vertices = map.insert G.vertices y e }) (record H { vertices = map.insert H.vertices y e }) Known
   unfolding label
-  text_too y e = record { labels = alike.labels; vertices = λ w k. put_alike y e w (alike.vertices w k); step = alike.step }
+  text_too y e = record { labels = alike.labels; vertices = λ w k. put_alike y e w (alike.vertices w k); step = alike.step; names = alike.names }
+
+  -- x is a principal of neither any longer
+  retired_too : (x : ℕ) → Alike (record G { names = without_member G.names x; retired = set.insert G.retired x }) (record H { names = without_member H.names x; retired = set.insert H.retired x }) Known
+  unfolding label
+  retired_too x = record { labels = alike.labels; vertices = alike.vertices; step = alike.step; names = ap (λ ms. without_member ms x) alike.names }
 
 -- a vertex that is not there has no rights
 pub no_edge_from : (G : Protection) (z : ℕ) → IsGraph G → label G G.next z ≡ none
@@ -130,9 +141,9 @@ module _ (G H : Protection) (Known : ℕ → Type 0) (alike : Alike G H Known) (
   not_here n below true e = let is : x ≡ n = eqb-true x n e in absurd (omega arith)
   not_here n below false e = refl
 
-  module _ (n : ℕ) (α : Letters) (e : Vertex) (n_is : G.next ≡ n) (H_next : H.next ≡ n) (in_H : IsGraph H) where
+  module _ (n : ℕ) (α : Letters) (e : Vertex) (name : Option (List ℕ)) (n_is : G.next ≡ n) (H_next : H.next ≡ n) (in_H : IsGraph H) where
     grown : Protection → Protection
-    grown K = record { vertices = map.insert K.vertices n e; next = n + 1; triples = set.union K.triples (edge x α n) }
+    grown K = record K { vertices = map.insert K.vertices n e; next = n + 1; triples = set.union K.triples (edge x α n); names = with_member K.names name n }
 
     abbrev grown_known : ℕ → Type 0
     grown_known w = Known w ⊎ (w ≡ n)
@@ -172,28 +183,33 @@ module _ (G H : Protection) (Known : ℕ → Type 0) (alike : Alike G H Known) (
         ]
     grown_step w z (inr is) edge_in = absurd (cc (ap is_none (fresh G in_G n_is w z is), edge_in))
 
+    grown_names : (grown G).names ≡ (grown H).names
+    unfolding grown
+    grown_names = ap (λ ms. with_member ms name n) alike.names
+
     created : Alike (grown G) (grown H) grown_known
-    created = record { labels = grown_labels; vertices = grown_vertices; step = grown_step }
+    created = record { labels = grown_labels; vertices = grown_vertices; step = grown_step; names = grown_names }
 
   -- who is known afterwards: a new vertex too
   abbrev pub known_after : Does → ℕ → Type 0
   known_after (effect.Joins from α to) v = Known v
-  known_after (effect.Makes k α) v = Known v ⊎ (v ≡ G.next)
+  known_after (effect.Makes k α name) v = Known v ⊎ (v ≡ G.next)
   known_after (effect.Drops α over) v = Known v
   known_after (effect.Rewrites over text) v = Known v
   known_after (effect.Tells over) v = Known v
   known_after (effect.Lists at) v = Known v
+  known_after effect.Retires v = Known v
 
-  new_too : (k : Kind) (α : Letters) → IsGraph H → G.next ≡ H.next → Alike (done G x (effect.Makes k α)) (done H x (effect.Makes k α)) (known_after (effect.Makes k α))
+  new_too : (k : Kind) (α : Letters) (name : Option (List ℕ)) → IsGraph H → G.next ≡ H.next → Alike (done G x (effect.Makes k α name)) (done H x (effect.Makes k α name)) (known_after (effect.Makes k α name))
   unfolding grown
-  new_too k α in_H next =
+  new_too k α name in_H next =
       let e : Vertex = record { kind = k; text = [] } in
-      subst (λ (m : ℕ). Alike (done G x (effect.Makes k α)) (record { vertices = map.insert H.vertices m e; next = m + 1; triples = set.union H.triples (edge x α m) }) (known_after (effect.Makes k α))) next
-      (created G.next α e refl (sym next) in_H)
+      subst (λ (m : ℕ). Alike (done G x (effect.Makes k α name)) (record H { vertices = map.insert H.vertices m e; next = m + 1; triples = set.union H.triples (edge x α m); names = with_member H.names name m }) (known_after (effect.Makes k α name))) next
+      (created G.next α e name refl (sym next) in_H)
 
   done_alike : (e : Does) → IsGraph H → G.next ≡ H.next → Entitled G Known alike.step x x_known e → Alike (done G x e) (done H x e) (known_after e)
   done_alike (effect.Joins from α to) in_H next h = joined_too G H Known alike from to α h.0 h.1
-  done_alike (effect.Makes k α) in_H next h = new_too k α in_H next
+  done_alike (effect.Makes k α name) in_H next h = new_too k α name in_H next
   done_alike (effect.Drops α over) in_H next h = less_too G H Known alike x over α x_known
   done_alike (effect.Rewrites over text) in_H next h =
       let document_too : IsDocument H over = ap (option_map (λ e. e.kind)) (sym (alike.vertices over h.0)) ∙ h.1 in
@@ -203,20 +219,39 @@ module _ (G H : Protection) (Known : ℕ → Type 0) (alike : Alike G H Known) (
       (text_too G H Known alike over told))
   done_alike (effect.Tells over) in_H next h = alike
   done_alike (effect.Lists at) in_H next h = alike
+  done_alike effect.Retires in_H next h = retired_too G H Known alike x
 
   pub alike_after : (c : Command) → IsGraph H → G.next ≡ H.next → Allowed G x c → Alike (after G x c) (after H x c) (known_after (terms x c).does)
   alike_after c in_H next a = done_alike (terms x c).does in_H next (entitled G Known alike.step x x_known c a)
 
   pub still_known : (e : Does) (v : ℕ) → Known v → known_after e v
   still_known (effect.Joins from α to) v k = k
-  still_known (effect.Makes k α) v h = inl h
+  still_known (effect.Makes k α name) v h = inl h
   still_known (effect.Drops α over) v k = k
   still_known (effect.Rewrites over text) v k = k
   still_known (effect.Tells over) v k = k
   still_known (effect.Lists at) v k = k
+  still_known effect.Retires v k = k
+
+-- who has retired in both or in neither, and still has or has not
+pub with_text-retired : (G : Protection) (y : ℕ) (text : List ℕ) (o : Option Vertex) → (with_text G y text o).retired ≡ G.retired
+with_text-retired G y text None = refl
+with_text-retired G y text (Some e) = refl
+
+done-retired : (G H : Protection) (x v : ℕ) → has_retired G v ≡ has_retired H v → (e : Does) → has_retired (done G x e) v ≡ has_retired (done H x e) v
+done-retired G H x v same (effect.Joins from α to) = same
+done-retired G H x v same (effect.Makes k α name) = same
+done-retired G H x v same (effect.Drops α over) = same
+done-retired G H x v same (effect.Rewrites over text) =
+    ap (λ (rs : set.FinSet nat_cmp). set.contains rs v) (with_text-retired G over text (vertex G over)) ∙ same
+    ∙ ap (λ (rs : set.FinSet nat_cmp). set.contains rs v) (sym (with_text-retired H over text (vertex H over)))
+done-retired G H x v same (effect.Tells over) = same
+done-retired G H x v same (effect.Lists at) = same
+done-retired G H x v same effect.Retires =
+    set.contains-insert nat_cmp_total G.retired x v ∙ ap (λ b. eq_by_cmp nat_cmp v x || b) same ∙ sym (set.contains-insert nat_cmp_total H.retired x v)
 
 -- what the viewers reach
-module _ (G H : Protection) (viewers : set.FinSet nat_cmp) (agree : (v : ℕ) → set.contains viewers v ≡ true → Agree G H v) where
+module _ (G H : Protection) (viewers : set.FinSet nat_cmp) (x : ℕ) (x_in : set.contains viewers x ≡ true) (agree : (v : ℕ) → set.contains viewers v ≡ true → Agree G H v) where
   abbrev Reached : ℕ → Type 0
   Reached v = (q : ℕ) × (set.contains viewers q ≡ true) × Reaches G q v
 
@@ -228,36 +263,49 @@ module _ (G H : Protection) (viewers : set.FinSet nat_cmp) (agree : (v : ℕ) �
     labels = λ v z k. (agree k.0 k.1).labels k.2.0 v z k.2.1;
     vertices = λ v k. (agree k.0 k.1).vertices k.2.0 v k.2.1;
     step = λ v z k e. (k.0, k.1, (k.2.0 ++ z ∷ [], (k.2.1.0, leads_on G k.2.0 k.0 v z k.2.1.1 e)));
+    names = (agree x x_in).names;
   }
 
   -- graphs that agree for some subjects still agree for them after a command of one of these
-  pub kept : (x : ℕ) → set.contains viewers x ≡ true → IsGraph G → (c : Command) → IsGraph H → G.next ≡ H.next → Allowed G x c → (v : ℕ) → set.contains viewers v ≡ true → Agree (after G x c) (after H x c) v
-  kept x x_in in_G c in_H next a v v_in =
+  pub kept : IsGraph G → (c : Command) → IsGraph H → G.next ≡ H.next → Allowed G x c → (v : ℕ) → set.contains viewers v ≡ true → Agree (after G x c) (after H x c) v
+  kept in_G c in_H next a v v_in =
       let x_there = IsVertex-from_kind G x kind.Subject (agree x x_in).subject in
       let after_both = alike_after G H Reached reached_alike x (viewer x x_in) x_there in_G c in_H next a in
       agree_around (after G x c) (after H x c) (known_after G H Reached reached_alike x (viewer x x_in) x_there in_G (terms x c).does) after_both v
       (still_known G H Reached reached_alike x (viewer x x_in) x_there in_G (terms x c).does v (viewer v v_in)) (subject_stays G x c in_G v (agree v v_in).subject)
+      (done-retired G H x v (agree v v_in).retired (terms x c).does)
 
 -- a part of a graph
 module _ (G H : Protection) (part : IsPart G H) where
   part_alike : Alike G H (IsVertex H)
-  part_alike = record { labels = λ v z k. part.labels v z k; vertices = part.vertices; step = λ v z k e. part.closed v z k e }
+  part_alike = record { labels = λ v z k. part.labels v z k; vertices = part.vertices; step = λ v z k e. part.closed v z k e; names = part.names }
 
   pub part_agrees : (x : ℕ) → IsVertex H x → IsSubject G x → Agree G H x
-  part_agrees = agree_around G H (IsVertex H) part_alike
+  part_agrees x x_in s = agree_around G H (IsVertex H) part_alike x x_in s (ap (λ (rs : set.FinSet nat_cmp). set.contains rs x) part.retired)
 
-  part_of : (K L : Protection) (Known : ℕ → Type 0) → Alike K L Known → ((v : ℕ) → IsVertex L v → Known v) → ((v : ℕ) → Known v → IsVertex L v) → IsPart K L
-  part_of K L Known alike known back = record {
+  part_of : (K L : Protection) (Known : ℕ → Type 0) → Alike K L Known → ((v : ℕ) → IsVertex L v → Known v) → ((v : ℕ) → Known v → IsVertex L v) → K.retired ≡ L.retired → IsPart K L
+  part_of K L Known alike known back retired = record {
     vertices = λ v h. alike.vertices v (known v h);
     labels = λ v w h. alike.labels v w (known v h);
     closed = λ v w h e. back w (alike.step v w (known v h) e);
+    names = alike.names;
+    retired = retired;
   }
 
   -- the part and the whole stay so when the same command is carried out in both
   pub part_stays : (x : ℕ) (c : Command) → IsGraph G → IsGraph H → G.next ≡ H.next → IsVertex H x → IsVertex G x → Allowed G x c → IsPart (after G x c) (after H x c)
   part_stays x c in_G in_H next x_there x_in a =
       part_of (after G x c) (after H x c) (known_after G H (IsVertex H) part_alike x x_there x_in in_G (terms x c).does) (alike_after G H (IsVertex H) part_alike x x_there x_in in_G c in_H next a)
-      (into (terms x c).does) (out (terms x c).does) where
+      (into (terms x c).does) (out (terms x c).does) (retired_left (terms x c).does) where
+        retired_left : (e : Does) → (done G x e).retired ≡ (done H x e).retired
+        retired_left (effect.Joins from α to) = part.retired
+        retired_left (effect.Makes k α name) = part.retired
+        retired_left (effect.Drops α over) = part.retired
+        retired_left (effect.Rewrites over text) = with_text-retired G over text (vertex G over) ∙ part.retired ∙ sym (with_text-retired H over text (vertex H over))
+        retired_left (effect.Tells over) = part.retired
+        retired_left (effect.Lists at) = part.retired
+        retired_left effect.Retires = ap (λ rs. set.insert rs x) part.retired
+
         told_vertex : (y : ℕ) (text : List ℕ) (o : Option Vertex) → vertex H y ≡ o → (v : ℕ) → IsVertex (with_text H y text o) v → IsVertex H v
         told_vertex y text None is v h = h
         told_vertex y text (Some e) is v h = elim (or_cases _ _ (sym (IsVertex-insert H.vertices y (record e { text = text }) v) ∙ h)) [
@@ -271,17 +319,19 @@ module _ (G H : Protection) (part : IsPart G H) where
 
         into : (e : Does) (v : ℕ) → IsVertex (done H x e) v → known_after G H (IsVertex H) part_alike x x_there x_in in_G e v
         into (effect.Joins from α to) v h = h
-        into (effect.Makes k α) v h = elim (or_cases _ _ (sym (IsVertex-insert H.vertices H.next (record { kind = k; text = [] }) v) ∙ h)) [ inl is ↦ inr (eqb-true v H.next is ∙ sym next) | inr old ↦ inl old ]
+        into (effect.Makes k α name) v h = elim (or_cases _ _ (sym (IsVertex-insert H.vertices H.next (record { kind = k; text = [] }) v) ∙ h)) [ inl is ↦ inr (eqb-true v H.next is ∙ sym next) | inr old ↦ inl old ]
         into (effect.Drops α over) v h = h
         into (effect.Rewrites over text) v h = told_vertex over text (vertex H over) refl v h
         into (effect.Tells over) v h = h
         into (effect.Lists at) v h = h
+        into effect.Retires v h = h
 
         out : (e : Does) (v : ℕ) → known_after G H (IsVertex H) part_alike x x_there x_in in_G e v → IsVertex (done H x e) v
         out (effect.Joins from α to) v h = h
-        out (effect.Makes k α) v (inl h) = IsVertex-insert H.vertices H.next (record { kind = k; text = [] }) v ∙ or_right _ _ h
-        out (effect.Makes k α) v (inr is) = IsVertex-insert H.vertices H.next (record { kind = k; text = [] }) v ∙ or_left _ _ (eq-eqb v H.next (is ∙ next))
+        out (effect.Makes k α name) v (inl h) = IsVertex-insert H.vertices H.next (record { kind = k; text = [] }) v ∙ or_right _ _ h
+        out (effect.Makes k α name) v (inr is) = IsVertex-insert H.vertices H.next (record { kind = k; text = [] }) v ∙ or_left _ _ (eq-eqb v H.next (is ∙ next))
         out (effect.Drops α over) v h = h
         out (effect.Rewrites over text) v h = vertex_told over text (vertex H over) v h
         out (effect.Tells over) v h = h
         out (effect.Lists at) v h = h
+        out effect.Retires v h = h

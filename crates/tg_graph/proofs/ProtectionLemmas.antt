@@ -10,7 +10,8 @@ use Rattle.tg_graph.specs.Terms as effect
 use Rattle.tg_graph.specs.Protection.{Protection, IsGraph, IsVertex, IsDocument, IsEdge, label}
 use Rattle.tg_graph.specs.Terms.{Does, Terms, terms}
 use Rattle.tg_graph.specs.Rules.{Allowed, is_met, missing, names_rights}
-use Rattle.tg_graph.specs.Deciding.{AskSome, Covers, Follows, IsNear, IsSound, LeadTo, DocumentNear}
+use Rattle.tg_graph.specs.Deciding.{AskSome, Covers, Follows, IsNear, IsSound, IsSubjectIfNamed, LeadTo, DocumentNear}
+use Rattle.tg_graph.specs.Names.{IsMember, MayBeNamed}
 use Rattle.tg_graph.specs.Laws.{AllMet, IsDocumentWhereAsked, Meets}
 use Rattle.tg_graph.proofs.AllowedIsMetLemmas.{meets, need_met, none_missing}
 use Rattle.tg_graph.proofs.DecidingLemmas.{sound}
@@ -58,13 +59,14 @@ module _ (G : Protection) (Known : ℕ → Type 0) (step : (v z : ℕ) → Known
   -- what each effect of an allowed command may take for granted
   abbrev pub Entitled : Does → Type 0
   Entitled (effect.Joins from α to) = Known from × Known to × (from ≢ to) × (is_none α ≡ false)
-  Entitled (effect.Makes k α) = is_none α ≡ false
+  Entitled (effect.Makes k α name) = (is_none α ≡ false) × IsSubjectIfNamed k name × MayBeNamed G.names name
   Entitled (effect.Drops α over) = (includes (label G x over) α ≡ true) × (is_none α ≡ false)
   Entitled (effect.Rewrites over text) = Known over × IsDocument G over
   Entitled (effect.Tells over) = Known over
   Entitled (effect.Lists at) = Known at
+  Entitled effect.Retires = IsMember G.names x
 
-  entitled_by : (t : Terms) → IsSound x t → Meets G t → (e : Does) → Covers x t e → Entitled e
+  entitled_by : (t : Terms) → IsSound x t → Meets G x t → (e : Does) → Covers x t e → Entitled e
   entitled_by t s p e covers = by e covers where
     at : (v : ℕ) → LeadTo t.needs v → Known v
     at = led t.needs s.follows (s.some p.named) (none_missing G t.needs p.met)
@@ -78,7 +80,7 @@ module _ (G : Protection) (Known : ℕ → Type 0) (step : (v z : ℕ) → Known
 
     by : (e : Does) → Covers x t e → Entitled e
     by (effect.Joins from α to) c = (near from c.0, at to c.1, λ is. absurd (cc (c.3 p.apart, eq-eqb from to is)), some α c.2)
-    by (effect.Makes k α) c = some α c
+    by (effect.Makes k α name) c = (some α c.0, c.2, subst (MayBeNamed G.names) c.1 p.name)
     by (effect.Drops α over) c = ((subst (AllMet G) c.1 p.met).0, some α c.0)
     by (effect.Rewrites over text) c = (
       at over (subst (DocumentNear t.needs) c s.document),
@@ -86,6 +88,7 @@ module _ (G : Protection) (Known : ℕ → Type 0) (step : (v z : ℕ) → Known
     )
     by (effect.Tells over) c = at over c
     by (effect.Lists at) c = near at c
+    by effect.Retires c = p.principal c
 
   pub entitled : (c : Command) → Allowed G x c → Entitled (terms x c).does
   entitled c a = entitled_by (terms x c) (sound x c) (meets G x c a) (terms x c).does (sound x c).covers

@@ -1,6 +1,8 @@
 -- how code decides a command: by the terms that it reads off the command, and what it finds on the way
 use Rattle.std.specs.Prelude.{◌≡◌, ℕ, true, false, List, [], ◌∷◌, Option, Some, None, ◌⊎◌, ◌==◌}
 use Rattle.tg_rights.specs.Letters.{is_none}
+use Rattle.tg_rights.specs.declared.kind.Kind.{Kind}
+use Rattle.tg_rights.specs.declared.kind.Kind.TheVariants as kind
 use Rattle.tg_graph.specs.declared.rules.Need.{Need}
 use Rattle.tg_graph.specs.declared.rules.Effect.{Effect}
 use Rattle.tg_graph.specs.declared.rules.Effect.TheVariants as code
@@ -17,22 +19,25 @@ listed None then = []
 listed (Some n) None = n ∷ []
 listed (Some n) (Some m) = n ∷ m ∷ []
 
--- the effect that the code reads off a command, with the text that the command brings
-abbrev pub shown : Effect → List ℕ → Does
-shown (code.Joins from α to) text = effect.Joins from α to
-shown (code.Makes k α) text = effect.Makes k α
-shown (code.Drops α over) text = effect.Drops α over
-shown (code.Rewrites over) text = effect.Rewrites over text
-shown (code.Tells over) text = effect.Tells over
-shown (code.Lists at) text = effect.Lists at
+-- the effect that the code reads off a command, with the text and the name that the command brings
+abbrev pub shown : Effect → List ℕ → Option (List ℕ) → Does
+shown (code.Joins from α to) text name = effect.Joins from α to
+shown (code.Makes k α) text name = effect.Makes k α name
+shown (code.Drops α over) text name = effect.Drops α over
+shown (code.Rewrites over) text name = effect.Rewrites over text
+shown (code.Tells over) text name = effect.Tells over
+shown (code.Lists at) text name = effect.Lists at
+shown code.Retires text name = effect.Retires
 
 -- what was read off a command are its terms
-pub record Shows (r : Read) (text : List ℕ) (t : Terms) : Type 0 where
+pub record Shows (r : Read) (text : List ℕ) (given : Option (List ℕ)) (t : Terms) : Type 0 where
   pub names : r.asked.names ≡ t.names
   pub apart : r.asked.apart ≡ t.apart
   pub needs : listed r.asked.first r.asked.then ≡ t.needs
   pub document : r.asked.document ≡ t.document
-  pub does : shown r.does text ≡ t.does
+  pub principal : r.asked.principal ≡ t.principal
+  pub name : given ≡ t.name
+  pub does : shown r.does text given ≡ t.does
 
 -- at most two needs; the first starts at x, and the second there or where the first leads
 abbrev pub Follows : ℕ → List Need → Type 0
@@ -73,14 +78,20 @@ abbrev pub DocumentNear : List Need → Option ℕ → Type 0
 DocumentNear ns None = Unit {0}
 DocumentNear ns (Some v) = LeadTo ns v
 
+-- a principal is a subject
+abbrev pub IsSubjectIfNamed : Kind → Option (List ℕ) → Type 0
+IsSubjectIfNamed k None = Unit {0}
+IsSubjectIfNamed k (Some name) = k ≡ kind.Subject
+
 -- the terms ask all that the effect takes for granted
 abbrev pub Covers : ℕ → Terms → Does → Type 0
 Covers x t (effect.Joins from α to) = IsNear x t.needs from × LeadTo t.needs to × (t.names ≡ Some α) × (t.apart ≡ true → (from == to) ≡ false)
-Covers x t (effect.Makes k α) = t.names ≡ Some α
+Covers x t (effect.Makes k α name) = (t.names ≡ Some α) × (t.name ≡ name) × IsSubjectIfNamed k name
 Covers x t (effect.Drops α over) = (t.names ≡ Some α) × (t.needs ≡ need x α over ∷ [])
 Covers x t (effect.Rewrites over text) = t.document ≡ Some over
 Covers x t (effect.Tells over) = LeadTo t.needs over
 Covers x t (effect.Lists at) = IsNear x t.needs at
+Covers x t effect.Retires = t.principal ≡ true
 
 -- the terms of a command of x are consistent
 pub record IsSound (x : ℕ) (t : Terms) : Type 0 where
@@ -90,11 +101,13 @@ pub record IsSound (x : ℕ) (t : Terms) : Type 0 where
   pub covers : Covers x t t.does
 
 -- what was read off a command of x is what its terms ask, and is consistent
-pub record Asks (x : ℕ) (a : Asked) (t : Terms) : Type 0 where
+pub record Asks (x : ℕ) (a : Asked) (given : Option (List ℕ)) (t : Terms) : Type 0 where
   pub names : a.names ≡ t.names
   pub apart : a.apart ≡ t.apart
   pub needs : listed a.first a.then ≡ t.needs
   pub document : a.document ≡ t.document
+  pub principal : a.principal ≡ t.principal
+  pub name : given ≡ t.name
   pub follows : Follows x (listed a.first a.then)
   pub some : names_rights a.names ≡ true → AskSome (listed a.first a.then)
   pub near : (v : ℕ) → a.document ≡ Some v → LeadTo (listed a.first a.then) v

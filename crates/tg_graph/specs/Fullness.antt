@@ -30,11 +30,12 @@ edges_at l = cond (is_none l) 0 1
 -- what an allowed command does makes an edge where there was none
 abbrev pub NewEdge : Protection → Does → Type 0
 NewEdge G (effect.Joins from α to) = IsEdge G from to → ⊥
-NewEdge G (effect.Makes k α) = G.next ≤ last_serial
+NewEdge G (effect.Makes k α name) = G.next ≤ last_serial
 NewEdge G (effect.Drops α over) = ⊥
 NewEdge G (effect.Rewrites over text) = ⊥
 NewEdge G (effect.Tells over) = ⊥
 NewEdge G (effect.Lists at) = ⊥
+NewEdge G effect.Retires = ⊥
 
 abbrev pub MakesEdge : Protection → ℕ → Command → Type 0
 MakesEdge G x c = NewEdge G (terms x c).does

@@ -1,7 +1,6 @@
 -- laws of the rules, and the definitions of openings and edge lists in other words
-use Rattle.std.specs.Prelude.{◌≡◌, ◌≤◌, ℕ, ◌+◌, Bool, ◌==◌, true, false, List, [], ◌∷◌, ◌++◌, length, IsTrue, Option, Some, None, ◌↔◌}
+use Rattle.std.specs.Prelude.{map as map_list, ◌≡◌, ◌≢◌, ◌⊎◌, ◌≤◌, ℕ, ◌+◌, Bool, true, false, List, [], ◌∷◌, ◌++◌, length, IsTrue, Option, Some, None, ◌↔◌}
 use Rattle.std.specs.Ordering.{nat_cmp}
-use Rattle.std.specs.Cmp.Lexicographic.{pointwise}
 use Rattle.std.specs.FinMap.Entries.{is_sorted}
 use Rattle.std.specs.FinMap as map
 use Rattle.std.specs.FinSet as set
@@ -10,12 +9,17 @@ use Rattle.tg_rights.specs.Membership.{Contains}
 use Rattle.tg_rights.specs.declared.kind.Kind.TheVariants as kind
 use Rattle.tg_rights.specs.declared.limits.TheConstants.{MAX_CELLS, MAX_PRINCIPALS, MAX_SLOTS}
 use Rattle.tg_rights.specs.declared.command.Command.{Command}
+use Rattle.tg_rights.specs.Command.{rule_of}
+use Rattle.tg_rights.specs.declared.command.Command.TheVariants as command
+use Rattle.tg_rights.specs.declared.command.Rule.TheVariants as rule
 use Rattle.tg_rights.specs.declared.outcome.Outcome.{Outcome}
 use Rattle.tg_rights.specs.declared.outcome.Reply.{Reply}
 use Rattle.tg_graph.specs.declared.config.Config.{Config}
+use Rattle.tg_graph.specs.declared.member.Member.{Member}
 use Rattle.tg_graph.specs.declared.vertex.Vertex.{Vertex}
+use Rattle.tg_graph.specs.Names.{IsMember, MayBeNamed, same_name, with_member}
 use Rattle.tg_graph.specs.Triples.{Triple, edge}
-use Rattle.tg_graph.specs.Protection.{IsDocument, IsEdge, IsGraph, IsSubject, IsVertex, Protection, label, vertex}
+use Rattle.tg_graph.specs.Protection.{IsDocument, IsEdge, IsGraph, IsSubject, IsVertex, Protection, has_retired, label, named, vertex}
 use Rattle.tg_graph.specs.Opening.{Edge, first_fault, has_twice, is_principal, principal_count, opening, same_pair}
 use Rattle.tg_graph.specs.Fullness.{vertex_count, edge_count, edges_at}
 use Rattle.tg_graph.specs.Paths.{Agree, IsPart}
@@ -39,23 +43,26 @@ abbrev pub IsDocumentWhereAsked : Protection → Option ℕ → Type 0
 IsDocumentWhereAsked G None = Unit {0}
 IsDocumentWhereAsked G (Some v) = IsDocument G v
 
--- what a rule asks is there
-pub record Meets (G : Protection) (t : Terms) : Type 0 where
+-- what a rule asks of x is there
+pub record Meets (G : Protection) (x : ℕ) (t : Terms) : Type 0 where
+  pub unretired : has_retired G x ≡ false
   pub named : IsTrue (names_rights t.names)
   pub apart : IsTrue t.apart
   pub met : AllMet G t.needs
   pub document : IsDocumentWhereAsked G t.document
+  pub principal : t.principal ≡ true → IsMember G.names x
+  pub name : MayBeNamed G.names t.name
 
 -- a command is allowed exactly if all that its rule asks is there
 abbrev pub AllowedIsMet : Type 0
-AllowedIsMet = (G : Protection) (x : ℕ) (c : Command) → Allowed G x c ↔ Meets G (terms x c)
+AllowedIsMet = (G : Protection) (x : ℕ) (c : Command) → Allowed G x c ↔ Meets G x (terms x c)
 
 -- a denial names a check that fails, and all before it pass
 abbrev pub DenialsAreFirst : Type 0
 DenialsAreFirst =
     (G : Protection) (x : ℕ) (c : Command) (why : Cause) →
     (denial G x c ≡ Some why)
-    ↔ ((before : List Check) × (later : List Check) × (checks G (terms x c) ≡ before ++ Some why ∷ later) × AllPass before)
+    ↔ ((before : List Check) × (later : List Check) × (checks G x (terms x c) ≡ before ++ Some why ∷ later) × AllPass before)
 
 -- what the rules decide in one graph, they decide in each that agrees with it for the actor
 abbrev pub OutcomesAgree : Type 0
@@ -77,6 +84,20 @@ abbrev pub CommandsKeepGraphs : Type 0
 CommandsKeepGraphs =
     (G : Protection) (x : ℕ) (c : Command) → IsGraph G → IsSubject G x → Allowed G x c →
     IsGraph (after G x c) × ((v : ℕ) → IsSubject G v → IsSubject (after G x c) v)
+
+-- who is a principal: a name finds exactly the one who has it. An enrol makes one more, with the next serial; a retire
+-- takes out the actor, who has then retired; and nothing else changes who is a principal and who has retired
+pub record ComeAndGo (G : Protection) (x : ℕ) : Type 0 where
+  pub found : (name : List ℕ) (v : ℕ) → (named G name ≡ Some v) ↔ Contains G.names (record { name = name; serial = v })
+  pub enrolled : (name : List ℕ) (α : Letters) (m : Member) →
+      Contains (after G x (command.Enrol name α)).names m ↔ (Contains G.names m ⊎ (m ≡ record { name = name; serial = G.next }))
+  pub left : (m : Member) → Contains (after G x command.Retire).names m ↔ (Contains G.names m × (m.serial ≢ x))
+  pub retired : (v : ℕ) → (has_retired (after G x command.Retire) v ≡ true) ↔ ((has_retired G v ≡ true) ⊎ (v ≡ x))
+  pub names : (c : Command) → rule_of c ≢ rule.Enrol → rule_of c ≢ rule.Retire → (after G x c).names ≡ G.names
+  pub others : (c : Command) → rule_of c ≢ rule.Retire → (after G x c).retired ≡ G.retired
+
+abbrev pub PrincipalsComeAndGo : Type 0
+PrincipalsComeAndGo = (G : Protection) (x : ℕ) → IsGraph G → ComeAndGo G x
 
 -- a configuration without a fault opens a graph of its principals, who are few
 abbrev pub OpeningsAreSound : Type 0
@@ -102,11 +123,15 @@ PartsStay =
     IsPart (after G x c) (after H x c)
 
 -- a configuration opens the graph of its list: the vertices are its principals, subjects of no text with the serials
--- from 1 on, and a triple is there exactly if some edge of the list has it
+-- from 1 on, each active under its name, nobody has retired, and a triple is there exactly if some edge of the list has
+-- it
 pub record IsOpened (c : Config) : Type 0 where
   pub vertices : (v : ℕ) → IsVertex (opening c) v ↔ ((1 ≤ v) × (v ≤ principal_count c))
   pub subjects : (v : ℕ) → IsVertex (opening c) v → vertex (opening c) v ≡ Some (record { kind = kind.Subject; text = [] })
   pub next : (opening c).next ≡ c.next
+  pub names : map_list (λ m. m.name) (opening c).names ≡ c.principals.items
+  pub serials : (before after : List Member) (m : Member) → (opening c).names ≡ before ++ m ∷ after → m.serial ≡ length before + 1
+  pub unretired : (v : ℕ) → has_retired (opening c) v ≡ false
   pub triples : (t : Triple) →
       (set.contains (opening c).triples t ≡ true) ↔ ((e : Edge) × Contains c.edges.items e × (e.0 ≡ t.from) × (e.2 ≡ t.to) × (has e.1 t.right ≡ true))
 
@@ -127,8 +152,13 @@ pub record CountsEdges (G : Protection) (x : ℕ) (α : Letters) : Type 0 where
       edge_count (record G { triples = set.union G.triples (edge x α y) }) + edges_at (label G x y) ≡ edge_count G + edges_at (joined_rights (label G x y) α)
   pub taken : (y : ℕ) → IsVertex G y →
       edge_count (record G { triples = set.difference G.triples (edge x α y) }) + edges_at (label G x y) ≡ edge_count G + edges_at (without (label G x y) α)
-  pub made : (e : Vertex) → is_none α ≡ false →
-      edge_count (record { vertices = map.insert G.vertices G.next e; next = G.next + 1; triples = set.union G.triples (edge x α G.next) }) ≡ edge_count G + 1
+  pub made : (e : Vertex) (name : Option (List ℕ)) → is_none α ≡ false →
+      edge_count (record G {
+        vertices = map.insert G.vertices G.next e;
+        next = G.next + 1;
+        triples = set.union G.triples (edge x α G.next);
+        names = with_member G.names name G.next;
+      }) ≡ edge_count G + 1
 
 abbrev pub EdgesAreCounted : Type 0
 EdgesAreCounted = (G : Protection) (x : ℕ) (α : Letters) → IsGraph G → IsVertex G x → CountsEdges G x α
@@ -147,4 +177,4 @@ pub record OccursTwice {X : Type 0} (same : X → X → Bool) (xs : List X) : Ty
 abbrev pub TwiceIsTwoPlaces : Type 0
 TwiceIsTwoPlaces =
     ((es : List Edge) → (has_twice same_pair es ≡ true) ↔ OccursTwice same_pair es)
-    × ((names : List (List ℕ)) → (has_twice (pointwise (λ a b. a == b)) names ≡ true) ↔ OccursTwice (pointwise (λ a b. a == b)) names)
+    × ((names : List (List ℕ)) → (has_twice same_name names ≡ true) ↔ OccursTwice same_name names)

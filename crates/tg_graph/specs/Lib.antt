@@ -1,4 +1,5 @@
 pub mod Triples
+pub mod Names
 pub mod Protection
 pub mod Terms
 pub mod Rules

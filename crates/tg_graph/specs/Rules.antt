@@ -1,5 +1,5 @@
 -- the rules: when a command is allowed, why it is denied, what it changes and what its reply is
-use Rattle.std.specs.Prelude.{◌≡◌, ◌<◌, ◌≤◌, ℕ, ◌+◌, Bool, true, false, cond, not, List, [], ◌∷◌, Option, Some, None}
+use Rattle.std.specs.Prelude.{◌≡◌, ◌<◌, ◌≤◌, ℕ, ◌+◌, Bool, true, false, cond, not, ◌||◌, List, [], ◌∷◌, Option, Some, None}
 use Rattle.std.specs.Option.{option_map_or}
 use Rattle.std.specs.FinMap as map
 use Rattle.std.specs.FinSet as set
@@ -16,11 +16,13 @@ use Rattle.tg_rights.specs.declared.outcome.Outcome.{Outcome}
 use Rattle.tg_rights.specs.declared.outcome.Outcome.TheVariants as outcome
 use Rattle.tg_rights.specs.declared.outcome.Reply.{Reply}
 use Rattle.tg_rights.specs.declared.outcome.Reply.TheVariants as reply
+use Rattle.tg_graph.specs.declared.member.Member.{Member}
 use Rattle.tg_graph.specs.declared.vertex.Vertex.{Vertex}
 use Rattle.tg_graph.specs.declared.rules.Need.{Need}
 use Rattle.tg_graph.specs.Terms as effect
 use Rattle.tg_graph.specs.Triples.{edge}
-use Rattle.tg_graph.specs.Protection.{Protection, kind_of, label, vertex}
+use Rattle.tg_graph.specs.Names.{has_serial, is_crowded, is_taken, with_member, without_member}
+use Rattle.tg_graph.specs.Protection.{Protection, has_retired, kind_of, label, vertex}
 use Rattle.tg_graph.specs.Terms.{Does, Terms, terms}
 
 -- a check: the cause for which it fails, if it does
@@ -58,14 +60,21 @@ module _ (G : Protection) where
   misfit None = None
   misfit (Some v) = unless (is_document (kind_of G v)) (cause.NotDocument v)
 
-  -- what the rules ask, in this order
-  abbrev pub checks : Terms → List Check
-  checks t =
+  -- what the rules ask of x, if it has not retired and these are the principals, in this order
+  abbrev pub later_checks : List Member → ℕ → Terms → List Check
+  later_checks members x t =
       unless (names_rights t.names) cause.Empty
       ∷ unless t.apart cause.NotDistinct
       ∷ missing t.needs
       ∷ misfit t.document
+      ∷ unless (not t.principal || has_serial members x) cause.NotPrincipal
+      ∷ unless (not (is_taken members t.name)) cause.NameTaken
+      ∷ unless (not (is_crowded members t.name)) cause.Crowded
       ∷ []
+
+  -- what the rules ask of x: first of all that it has not retired
+  abbrev pub checks : ℕ → Terms → List Check
+  checks x t = unless (not (has_retired G x)) cause.Retired ∷ later_checks G.names x t
 
 -- the first check that fails
 abbrev pub first_failure : List Check → Check
@@ -79,7 +88,11 @@ AllPass (check ∷ later) = (check ≡ None) × AllPass later
 
 -- why the rules deny x the command, if they do
 abbrev pub denial : Protection → ℕ → Command → Check
-denial G x c = first_failure (checks G (terms x c))
+denial G x c = first_failure (checks G x (terms x c))
+
+-- the same of an x that has not retired, where these are the principals
+abbrev pub later_denial : Protection → List Member → ℕ → Command → Check
+later_denial G members x c = first_failure (later_checks G members x (terms x c))
 
 module _ (G : Protection) where
   -- the rules allow x the command: no check fails
@@ -120,42 +133,48 @@ with_text G v text (Some e) = record G { vertices = map.insert G.vertices v (rec
 -- the graph once x has done this
 abbrev pub done : Protection → ℕ → Does → Protection
 done G x (effect.Joins from α to) = record G { triples = set.union G.triples (edge from α to) }
-done G x (effect.Makes k α) = record G {
+done G x (effect.Makes k α name) = record G {
   vertices = map.insert G.vertices G.next (record { kind = k; text = [] });
   next = G.next + 1;
   triples = set.union G.triples (edge x α G.next);
+  names = with_member G.names name G.next;
 }
 done G x (effect.Drops α over) = record G { triples = set.difference G.triples (edge x α over) }
 done G x (effect.Rewrites over text) = with_text G over text (vertex G over)
 done G x (effect.Tells over) = G
 done G x (effect.Lists at) = G
+done G x effect.Retires = record G { names = without_member G.names x; retired = set.insert G.retired x }
 
 -- the reply
 abbrev pub answered : Protection → Does → Reply
 answered G (effect.Joins from α to) = reply.Done
-answered G (effect.Makes k α) = reply.Created G.next
+answered G (effect.Makes k α name) = reply.Created G.next
 answered G (effect.Drops α over) = reply.Done
 answered G (effect.Rewrites over text) = reply.Done
 answered G (effect.Tells over) = reply.Text (text_of G over)
 answered G (effect.Lists at) = reply.Edges (edges_of G at)
+answered G effect.Retires = reply.Done
 
 -- whether it makes a vertex
 abbrev pub is_new : Does → Bool
 is_new (effect.Joins from α to) = false
-is_new (effect.Makes k α) = true
+is_new (effect.Makes k α name) = true
 is_new (effect.Drops α over) = false
 is_new (effect.Rewrites over text) = false
 is_new (effect.Tells over) = false
 is_new (effect.Lists at) = false
+is_new effect.Retires = false
 
--- whether carrying it out may need memory: for a label, for a vertex, or for the reply. A text is moved
+-- whether carrying it out may need memory: for a label, for a vertex, for who has retired, or for the reply. A text and
+-- a name are moved
 abbrev pub may_allocate : Does → Bool
 may_allocate (effect.Joins from α to) = true
-may_allocate (effect.Makes k α) = true
+may_allocate (effect.Makes k α name) = true
 may_allocate (effect.Drops α over) = false
 may_allocate (effect.Rewrites over text) = false
 may_allocate (effect.Tells over) = true
 may_allocate (effect.Lists at) = true
+may_allocate effect.Retires = true
 
 -- a command of x that may need memory
 abbrev pub takes_memory : ℕ → Command → Bool

@@ -1,7 +1,8 @@
 -- the terms of each command: what its rule asks before it is allowed, and what the command then does
-use Rattle.std.specs.Prelude.{ℕ, Bool, true, cond, not, ◌&&◌, ◌==◌, List, [], ◌∷◌, Option, Some, None}
+use Rattle.std.specs.Prelude.{ℕ, Bool, true, false, cond, not, ◌&&◌, ◌==◌, List, [], ◌∷◌, Option, Some, None}
 use Rattle.tg_rights.specs.Letters.{Letters, read_alone, write_alone, take_alone, grant_alone}
 use Rattle.tg_rights.specs.declared.kind.Kind.{Kind}
+use Rattle.tg_rights.specs.declared.kind.Kind.TheVariants as kind
 use Rattle.tg_rights.specs.declared.command.Command.{Command}
 use Rattle.tg_rights.specs.declared.command.Command.TheVariants as command
 use Rattle.tg_graph.specs.declared.rules.Need.{Need}
@@ -10,8 +11,8 @@ use Rattle.tg_graph.specs.declared.rules.Need.{Need}
 pub data Does : Type 0 where
   -- the edge from one vertex to another gains rights
   Joins : ℕ → Letters → ℕ → Does
-  -- a vertex of a kind is made, over which x has rights
-  Makes : Kind → Letters → Does
+  -- a vertex of a kind is made, over which x has rights; with a name it is a principal
+  Makes : Kind → Letters → Option (List ℕ) → Does
   -- the edge from x to a vertex loses rights
   Drops : Letters → ℕ → Does
   -- a vertex gets a text
@@ -20,6 +21,8 @@ pub data Does : Type 0 where
   Tells : ℕ → Does
   -- the reply is the edges of a vertex
   Lists : ℕ → Does
+  -- x is a principal no longer
+  Retires : Does
 
 pub record Terms : Type 0 where
   -- the rights that it names, of which there have to be some
@@ -30,6 +33,10 @@ pub record Terms : Type 0 where
   pub needs : List Need
   -- the vertex that has to be a document
   pub document : Option ℕ
+  -- whether x has to be a principal
+  pub principal : Bool
+  -- the name that it gives to a new principal
+  pub name : Option (List ℕ)
   pub does : Does
 
 -- from has to have these rights over to
@@ -41,7 +48,7 @@ all_apart x y z = not (x == y) && not (x == z) && not (y == z)
 
 -- the terms of a command for which nothing is asked
 abbrev pub free : Does → Terms
-free e = record { names = None; apart = true; needs = []; document = None; does = e }
+free e = record { names = None; apart = true; needs = []; document = None; principal = false; name = None; does = e }
 
 -- the terms of a command of x: one equation for each command
 abbrev pub terms : ℕ → Command → Terms
@@ -55,7 +62,7 @@ terms x (command.Grant α over to) = record (free (Joins to α over)) {
   apart = all_apart x over to;
   needs = need x grant_alone to ∷ need x α over ∷ [];
 }
-terms x (command.Create k α) = record (free (Makes k α)) { names = Some α }
+terms x (command.Create k α) = record (free (Makes k α None)) { names = Some α }
 terms x (command.Remove α over) = record (free (Drops α over)) { names = Some α; apart = not (x == over); needs = need x α over ∷ [] }
 terms x (command.Read over) = record (free (Tells over)) {
   apart = not (x == over);
@@ -68,8 +75,15 @@ terms x (command.Write over text) = record (free (Rewrites over text)) {
   document = Some over;
 }
 terms x (command.Look at) = record (free (Lists at)) { needs = cond (at == x) [] (need x take_alone at ∷ []) }
+terms x (command.Enrol name α) = record (free (Makes kind.Subject α (Some name))) { names = Some α; name = Some name }
+terms x command.Retire = record (free Retires) { principal = true }
 
 -- the text that a command brings
 abbrev pub text_in : Command → List ℕ
 text_in (command.Write over text) = text
 text_in _ = []
+
+-- the name that a command gives to a new principal
+abbrev pub name_in : Command → Option (List ℕ)
+name_in (command.Enrol name α) = Some name
+name_in _ = None

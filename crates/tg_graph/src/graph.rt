@@ -4,33 +4,40 @@ ghost use Rattle.std.specs.FinMap as map;
 ghost use Rattle.std.specs.FinSet as set;
 ghost use Rattle.tg_graph.specs.Agreement.{IsRepliedAlike, KeepsViewers};
 ghost use Rattle.tg_graph.specs.Paths.{Agree, Reaches};
-ghost use Rattle.tg_graph.specs.Protection.{Protection, IsGraph, IsSubject, IsVertex, kind_of, label, vertex};
+ghost use Rattle.tg_graph.specs.Deciding.{IsSubjectIfNamed};
+ghost use Rattle.tg_graph.specs.Names.{MayBeNamed, with_member, without_member};
+ghost use Rattle.tg_graph.specs.Protection.{Protection, IsGraph, IsSubject, IsVertex, has_retired, kind_of, label, named, vertex};
 ghost use Rattle.tg_graph.specs.Rules.{Judged, PlainlyDecided, Applies, text_of, with_text, Allowed, takes_memory, after, allowed_reply, edges_of, last_serial, is_create};
 ghost use Rattle.tg_graph.specs.Searching.{IsSearching, work_left};
-ghost use Rattle.tg_graph.specs.Opening.{first_fault, opening, subjects, IsRefusal};
+ghost use Rattle.tg_graph.specs.Opening.{first_fault, first_members, opening, principal_count, subjects, IsRefusal};
 ghost use Rattle.tg_graph.specs.Triples.{edge};
 ghost use Rattle.tg_rights.specs.Letters.{none};
 ghost use Rattle.tg_rights.specs.declared.outcome.Outcome.TheVariants as outcome;
 
 use crate::config::{Config, OpenFault, first_fault};
-use crate::rules::{Effect, Reader, Spot, decide, effect_of, into_text, is_create};
+use crate::member::serial_of;
+use crate::roll::Roll;
+use crate::rules::{Effect, Reader, Spot, decide, effect_of, into_name, into_text, is_create};
 use crate::search::Search;
 use crate::vertex::Vertex;
 use std::alloc::{AllocError, Global};
-use std::collections::BTreeMap;
+use std::collections::{BTreeMap, BTreeSet};
 use std::marker::Model;
-use tg_rights::{Cause, Command, EdgeList, Kind, Outcome, Reply, Rights, Text, Which};
+use tg_rights::{Cause, Command, EdgeList, Kind, Name, Outcome, Reply, Rights, Text, Which};
 
 /// The last serial that a vertex may have. Serials are counted up from 1, and none is given twice.
 pub const LAST_SERIAL: u64 = 18_446_744_073_709_551_614;
 
 /// A protection graph (Lipton and Snyder 1977; Bishop, Computer Security) in which nothing is ever collected: the
-/// model of every other crate. Contracts see its vertices, the next serial and its triples of two vertices and a right.
+/// model of every other crate. Contracts see its vertices, the next serial, its triples of two vertices and a right,
+/// the active principals and those that have retired.
 #[derive(Drop)]
 pub struct Graph {
     vertices: BTreeMap<u64, Vertex>,
     labels: BTreeMap<(u64, u64), Rights>,
     next: u64,
+    roll: Roll,
+    retired: BTreeSet<u64>,
     alloc: Global,
 }
 
@@ -44,15 +51,15 @@ impl Model for Graph {
 
     ghost coded = { protection_code };
 
-    ghost view = { λ a. protection_of a.vertices.entries a.labels.entries a.next };
+    ghost view = { λ a. protection_of a.vertices.entries a.labels.entries a.next a.roll a.retired.keys };
 
-    ghost invariant = { λ a. IsGraph (protection_of a.vertices.entries a.labels.entries a.next) };
+    ghost invariant = { λ a. IsGraph (protection_of a.vertices.entries a.labels.entries a.next a.roll a.retired.keys) };
 }
 
 impl Graph {
-    /// The graph that the configuration opens: principal k of its list is the subject of serial k, counted from 1.
-    /// Otherwise the first of its faults in the order of `OpenFault`, each checked over the whole configuration;
-    /// `OutOfMemory` only if there is no other.
+    /// The graph that the configuration opens: principal k of its list is the subject of serial k, counted from 1, and
+    /// active under its name. Otherwise the first of its faults in the order of `OpenFault`, each checked over the
+    /// whole configuration; `OutOfMemory` only if there is no other.
     pub fn build(alloc: Global, config: &Config) -> Result<Graph, OpenFault>
         ensures ok { IfOk result (λ graph. graph ≡ opening config.now) }
         ensures sound { IfOk result (λ _. first_fault config.now ≡ None) }
@@ -76,20 +83,27 @@ impl Graph {
         requires { first_fault config.now ≡ None }
         ensures { IfOk result (λ graph. graph ≡ opening config.now) }
     {
-        let principals = config.principals.as_slice();
-        let count = principals.len() as u64;
-        let mut graph = Graph::with_subjects(alloc, count, config.next)?;
+        let mut graph = Graph::with_principals(alloc, config)?;
         for edge in &config.edges {
             graph.add_rights(edge.0, edge.2, edge.1)?;
         }
         Ok(graph)
     }
 
-    /// A graph of this many subjects, with no edge.
-    fn with_subjects(alloc: Global, count: u64, next: u64) -> Result<Graph, AllocError>
-        requires { count < next }
-        ensures { IfOk result (λ graph. graph ≡ record { vertices = subjects count; next = next; triples = set.empty }) }
+    /// The graph of the principals of a sound configuration, with no edge.
+    fn with_principals(alloc: Global, config: &Config) -> Result<Graph, AllocError>
+        requires { first_fault config.now ≡ None }
+        ensures { IfOk result (λ graph. graph ≡ record {
+          vertices = subjects (principal_count config.now);
+          next = config.now.next;
+          triples = set.empty;
+          names = first_members 1 config.now.principals.items;
+          retired = set.empty;
+        }) }
     {
+        let principals = config.principals.as_slice();
+        let roll = Roll::of_names(alloc, principals)?;
+        let count = principals.len() as u64;
         let mut vertices = BTreeMap::new(alloc);
         for index in 0..count {
             let subject = Vertex {
@@ -98,16 +112,20 @@ impl Graph {
             };
             vertices.insert(index + 1, subject)?;
         }
+        let labels = BTreeMap::new(alloc);
+        let retired = BTreeSet::new(alloc);
         Ok(Graph {
             vertices,
-            labels: BTreeMap::new(alloc),
-            next,
+            labels,
+            next: config.next,
+            roll,
+            retired,
             alloc,
         })
     }
 
-    /// No-op; its postcondition exposes the invariant: the ends of each triple are distinct vertices, and the next
-    /// serial is above every vertex's.
+    /// No-op; its postcondition exposes the invariant: the ends of each triple are distinct vertices, the next serial
+    /// is above every vertex's, and the principals are subjects under names of their own.
     pub fn soundness(&self)
         ensures { IsGraph self.now }
     {
@@ -135,9 +153,31 @@ impl Graph {
         }
     }
 
+    /// The serial of the active principal of this name; `None` if nobody has it. Allocates nothing.
+    pub fn named(&self, name: &str) -> Option<u64>
+        ensures { result ≡ named self.now name.now }
+    {
+        serial_of(self.roll.as_slice(), name)
+    }
+
+    /// Lends the active principals.
+    pub fn principals(&self) -> &Roll
+        ensures { result.now ≡ self.now.names }
+    {
+        &self.roll
+    }
+
+    /// Whether the vertex was a principal and has retired. Allocates nothing.
+    pub fn retired(&self, vertex: u64) -> bool
+        ensures { result ≡ has_retired self.now vertex }
+    {
+        self.retired.contains(&vertex)
+    }
+
     /// How the rules alone decide a command of the actor: allowed, or denied for the first cause that holds, in the
     /// order of `Cause`; never full. A subject's command is judged alike in all graphs that agree for it: those in
-    /// which the same paths lead from it, to vertices of the same kind, text and labels.
+    /// which the same paths lead from it, to vertices of the same kind, text and labels, the same principals are
+    /// active, and it has retired in all or in none.
     pub fn judge(&self, actor: u64, command: &Command) -> Outcome
         requires { IsSubject self.now actor }
         ensures decided { Judged self.now actor command.now result }
@@ -150,21 +190,24 @@ impl Graph {
     fn decide(&self, actor: u64, command: &Command) -> Outcome
         ensures { Judged self.now actor command.now result }
     {
+        if self.retired(actor) {
+            return Outcome::Denied(command.rule(), Cause::Retired);
+        }
         let spot = Spot {
             serial: actor,
             place: (),
         };
-        match decide(self, spot, command) {
+        match decide(self, self.roll.as_slice(), spot, command) {
             Ok(_) => Outcome::Allowed,
             Err(cause) => Outcome::Denied(command.rule(), cause),
         }
     }
 
-    /// Carries out the actor's command if the rules allow it and, for a create, a serial is left; otherwise the graph
-    /// stays as it is, and the reply says why: `Denied` by the rule, with the first cause, or `Full` for serials, the
-    /// only thing that a plain graph can run out of. `AllocError` only for a command that would otherwise be carried
-    /// out and needs memory for what is returned or stored, so never for a denial, nor if no serial is left, nor for a
-    /// remove or a write; the graph then stays too. The command is used up in each case.
+    /// Carries out the actor's command if the rules allow it and, for a create or an enrol, a serial is left; otherwise
+    /// the graph stays as it is, and the reply says why: `Denied` by the rule, with the first cause, or `Full` for
+    /// serials, the only thing that a plain graph can run out of. `AllocError` only for a command that would otherwise
+    /// be carried out and needs memory for what is returned or stored, so never for a denial, nor if no serial is left,
+    /// nor for a remove or a write; the graph then stays too. The command is used up in each case.
     ///
     /// In graphs that agree for the actor the reply is the same, a new vertex's serial and fullness aside, and graphs
     /// with the same next serial that agree for some subjects, the actor among them, agree for them afterwards.
@@ -219,7 +262,8 @@ impl Graph {
                 Ok(Reply::Done)
             }
             Effect::Makes { kind, rights } => {
-                let serial = self.add_vertex(actor, kind, rights)?;
+                let name = into_name(command);
+                let serial = self.add_vertex(actor, kind, rights, name)?;
                 Ok(Reply::Created(serial))
             }
             Effect::Drops { rights, over } => {
@@ -238,6 +282,10 @@ impl Graph {
             Effect::Lists { at } => {
                 let edges = self.edges(at)?;
                 Ok(Reply::Edges(edges))
+            }
+            Effect::Retires => {
+                self.retire(actor)?;
+                Ok(Reply::Done)
             }
         }
     }
@@ -267,15 +315,24 @@ impl Graph {
         }
     }
 
-    /// Adds a vertex of the next serial, over which the actor has the rights.
-    fn add_vertex(&mut self, actor: u64, kind: Kind, rights: Rights) -> Result<u64, AllocError>
+    /// Adds a vertex of the next serial, over which the actor has the rights; with a name it is a principal.
+    fn add_vertex(
+        &mut self,
+        actor: u64,
+        kind: Kind,
+        rights: Rights,
+        name: Option<Name>,
+    ) -> Result<u64, AllocError>
         requires actor_vertex { IsVertex self.old actor }
         requires room { self.old.next ≤ last_serial }
+        requires subject { IsSubjectIfNamed kind name }
+        requires named { MayBeNamed self.old.names name }
         ensures serial { IfOk result (λ n. n ≡ self.old.next) }
         ensures ok { OnOk result (self.new ≡ record self.old {
           vertices = map.insert self.old.vertices self.old.next (record { kind = kind; text = [] });
           next = self.old.next + 1;
           triples = set.union self.old.triples (edge actor rights self.old.next);
+          names = with_member self.old.names name self.old.next;
         }) }
         ensures err { OnErr result (self.new ≡ self.old) }
     {
@@ -285,16 +342,27 @@ impl Graph {
             text: Text::empty(self.alloc),
         };
         self.vertices.insert(serial, vertex)?;
-        match self.labels.insert((actor, serial), rights) {
-            Ok(_) => {
-                self.next += 1;
-                Ok(serial)
-            }
-            Err(refused) => {
-                self.vertices.remove(&serial);
-                Err(refused.into())
-            }
+        if let Err(refused) = self.labels.insert((actor, serial), rights) {
+            self.vertices.remove(&serial);
+            return Err(refused.into());
         }
+        self.next += 1;
+        self.roll.add(name, serial);
+        Ok(serial)
+    }
+
+    /// Makes the actor a principal no longer.
+    fn retire(&mut self, actor: u64) -> Result<(), AllocError>
+        requires { IsVertex self.old actor }
+        ensures ok { OnOk result (self.new ≡ record self.old {
+          names = without_member self.old.names actor;
+          retired = set.insert self.old.retired actor;
+        }) }
+        ensures err { OnErr result (self.new ≡ self.old) }
+    {
+        self.retired.insert(actor)?;
+        self.roll.remove(actor);
+        Ok(())
     }
 
     /// A copy of the vertex's text.
@@ -370,10 +438,14 @@ impl Graph {
     {
         let vertices = self.vertices.clone()?;
         let labels = self.labels.clone()?;
+        let roll = self.roll.copy(self.alloc)?;
+        let retired = self.retired.clone()?;
         let copied = Graph {
             vertices,
             labels,
             next: self.next,
+            roll,
+            retired,
             alloc: self.alloc,
         };
         copied.soundness();

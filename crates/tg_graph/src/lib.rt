@@ -1,11 +1,13 @@
 //! The take-grant rules over a plain graph that is never collected: the model of every other crate.
 #![tactic(auto)]
 
-ghost use Rattle.tg_graph.specs.Laws.{AllowedIsMet, AnswersAgree, DenialsAreFirst, CommandsKeepGraphs, EdgesAreCounted, EdgesAreListed, ExactlyOneOutcome, OpeningsAreAsListed, OpeningsAreSound, OpeningsFit, OutcomesAgree, PartsAgree, PartsStay, RepliesAgree, TwiceIsTwoPlaces};
+ghost use Rattle.tg_graph.specs.Laws.{AllowedIsMet, AnswersAgree, DenialsAreFirst, CommandsKeepGraphs, EdgesAreCounted, EdgesAreListed, ExactlyOneOutcome, OpeningsAreAsListed, OpeningsAreSound, OpeningsFit, OutcomesAgree, PartsAgree, PartsStay, PrincipalsComeAndGo, RepliesAgree, TwiceIsTwoPlaces};
 
 mod config;
 mod derivation;
 mod graph;
+mod member;
+mod roll;
 mod rules;
 mod search;
 mod vertex;
@@ -13,7 +15,11 @@ mod vertex;
 pub use config::{Config, OpenFault};
 pub use derivation::{Goal, Step, Verdict};
 pub use graph::{Graph, LAST_SERIAL};
-pub use rules::{Effect, Found, Need, Reader, Spot, decide, effect_of, into_text, is_create};
+pub use member::{Member, serial_of};
+pub use roll::Roll;
+pub use rules::{
+    Effect, Found, Need, Reader, Spot, decide, effect_of, into_name, into_text, is_create,
+};
 pub use vertex::Vertex;
 
 // Laws: each function is a theorem, its contract, and costs nothing when it is called.
@@ -52,6 +58,11 @@ pub fn answers_agree()
 /// An allowed command leaves a graph, and each subject a subject.
 pub fn commands_keep_graphs()
     ensures { CommandsKeepGraphs }
+{}
+
+/// A name finds the principal who has it; only an enrol makes a principal, and only a retire takes one out.
+pub fn principals_come_and_go()
+    ensures { PrincipalsComeAndGo }
 {}
 
 /// A part of a graph with all the edges of its vertices agrees with the graph for each of its subjects.

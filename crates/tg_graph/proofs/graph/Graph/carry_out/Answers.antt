@@ -1,5 +1,7 @@
 use Rattle.std.proofs.Common.{◌≢◌, sym, subst}
 use Rattle.tg_rights.specs.declared.kind.Kind.TheVariants as kind
+use Rattle.tg_graph.specs.Deciding.{IsSubjectIfNamed}
+use Rattle.tg_graph.specs.Names.{MayBeNamed}
 use Rattle.tg_graph.specs.Protection.{IsGraph, IsVertex}
 use Rattle.tg_graph.proofs.VertexLemmas.{IsVertex-from_kind}
 use Rattle.tg_graph.proofs.CommandsKeepGraphsLemmas.{Granted, granted}
@@ -18,3 +20,17 @@ add_rights-requires-clause-from_vertex c = (joins c).0
 
 pub add_rights-requires-clause-to_vertex : goal.add_rights-requires-clause-to_vertex
 add_rights-requires-clause-to_vertex c = (joins c).1
+
+pub add_vertex-requires-clause-subject : goal.add_vertex-requires-clause-subject
+add_vertex-requires-clause-subject c =
+    let g : IsGraph c.args.self.now = subst IsGraph c.self.view_is c.self.invariant in
+    let x_in = IsVertex-from_kind c.args.self.now c.args.actor kind.Subject c.requires.subject in
+    let h = subst (Granted c.args.self.now c.args.actor g x_in) (sym c.in-Makes.ensures) (granted c.args.self.now c.args.actor g x_in c.args.command c.requires.allowed) in
+    subst (IsSubjectIfNamed c.in-Makes.kind) (sym c.into_name-name.ensures) h.1
+
+pub add_vertex-requires-clause-named : goal.add_vertex-requires-clause-named
+add_vertex-requires-clause-named c =
+    let g : IsGraph c.args.self.now = subst IsGraph c.self.view_is c.self.invariant in
+    let x_in = IsVertex-from_kind c.args.self.now c.args.actor kind.Subject c.requires.subject in
+    let h = subst (Granted c.args.self.now c.args.actor g x_in) (sym c.in-Makes.ensures) (granted c.args.self.now c.args.actor g x_in c.args.command c.requires.allowed) in
+    subst (MayBeNamed c.args.self.now.names) (sym c.into_name-name.ensures) h.2
