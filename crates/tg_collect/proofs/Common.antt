@@ -5,7 +5,7 @@ pub use Rattle.std.proofs.lemmas.Bool.{and_from, and_parts, cases_eq, cases_lt, 
 pub use Rattle.std.proofs.lemmas.Bool.Decides.{Decides-eqb}
 pub use Rattle.std.proofs.lemmas.List.{drop_all, get_or_append_left, get_or_default, length-map, length-replicate, map-set, set-get_or, set-set}
 pub use Rattle.std.proofs.lemmas.List.Sorted.{Contains-permutation, IsPermutation-map, IsPermutation-sym}
-pub use Rattle.std.proofs.lemmas.List.Sums.{sum_by-append, sum_by-cons, sum_by-le-sum_by}
+pub use Rattle.std.proofs.lemmas.List.Sums.{count_by-le-length, length-filter, sum_by-append, sum_by-cons, sum_by-le-sum_by}
 pub use Rattle.std.proofs.lemmas.Map.Keys.{IsDistinct-IsPermutation}
 pub use Rattle.std.proofs.lemmas.Map.Made.{AllPairs-from_IsDistinct, IsDistinct-from_AllPairs}
 pub use Rattle.std.proofs.lemmas.Option.{same_Some}
@@ -13,7 +13,7 @@ pub use Rattle.std.specs.Cmp.{nat_cmp_is, nat_cmp_total, unsigned_tied}
 pub use Rattle.std.specs.FinMap.{contains_key-keys, find, get-empty, get-from_entries}
 pub use Rattle.std.specs.FinMap.Entries.{below_all}
 pub use Rattle.std.specs.FinSet.{contains-empty, contains-union}
-pub use Rattle.std.specs.List.{AllPairs, list_any}
+pub use Rattle.std.specs.List.{AllPairs, filter, list_any}
 pub use Rattle.std.specs.List.Sorted.{IsNonDecreasingBy, IsPermutation}
 pub use Rattle.std.specs.Option.{is_some, option_map, unwrap_or}
 pub use Rattle.std.specs.Ordering.{eq_by_cmp, is_lt, nat_cmp}
@@ -34,14 +34,17 @@ pub use Rattle.tg_graph.proofs.LabelLemmas.{contains-label, difference-Relabels}
 pub use Rattle.tg_graph.proofs.LawsLemmas.{edge_list}
 pub use Rattle.tg_graph.proofs.OutcomesAgreeLemmas.{leads_on}
 pub use Rattle.tg_graph.proofs.PartsStayLemmas.{label-relabelled}
+pub use Rattle.tg_graph.proofs.RollLemmas.{contains_filter}
 pub use Rattle.tg_graph.proofs.TriplesLemmas.{contains-edge, same_triples, triple_cmp_total}
 pub use Rattle.tg_graph.proofs.VertexLemmas.{IsVertex-insert}
 pub use Rattle.tg_graph.specs.Fullness.{edge_count, edges_at, vertex_count}
+pub use Rattle.tg_graph.specs.Names.{IsRoll}
 pub use Rattle.tg_graph.specs.Opening.{principal_count, subjects}
 pub use Rattle.tg_graph.specs.Paths.{IsPart, Live}
 pub use Rattle.tg_graph.specs.Protection.{IsEdge, IsGraph, Protection, kind_of, vertex}
-pub use Rattle.tg_graph.specs.Rules.{labelled, with_text}
+pub use Rattle.tg_graph.specs.Rules.{with_text}
 pub use Rattle.tg_graph.specs.Triples.{Triple, Triples, edge, triple_cmp}
+pub use Rattle.tg_graph.specs.declared.member.Member.{Member}
 pub use Rattle.tg_graph.specs.declared.vertex.Vertex.{Vertex}
 pub use Rattle.tg_slots.proofs.FreshLemmas.{indices_length, nones_free, nones_length}
 pub use Rattle.tg_slots.specs.Table.{Free, Has, Mark, Table, coloured, fresh, if_free, in_slot, indices, slot}
@@ -68,11 +71,11 @@ pub use Rattle.tg_marking.specs.Steps.{DropsEdge, Line, Places, PutsEdge, Reroot
 pub use Rattle.tg_marking.specs.Values.{AtRest, Body, HasRoot, IsRoot, IsTarget, Kept, Scan, Spot, Stage, as_kept, keeps, mark, mark_of, name, name_of, out, seen}
 pub use Rattle.tg_held.proofs.HeldLemmas.{comes, contains-held, drops, gains, joins, says, says_edge}
 pub use Rattle.tg_held.specs.Held.{Apart, entries, vertex_of}
-pub use Rattle.tg_collect.specs.Machine.{Adds, AreRoots, AreWithin, CursorFits, IsListed, Links, NoneWhite, Puts, RootLists, SetsText, ShadesFirst, ShadesSeat, Steps, Whole, all_shaded, all_slots, bare, body, body_of, colour_ahead, has_passed, is_at, join, lists_of, other_slots, progress_dropped, progress_in, progress_of, progress_without, scan_in, shaded_slot, slot_of, slots_of, with_shaded, with_target, zip}
+pub use Rattle.tg_collect.specs.Machine.{Adds, AddsPrincipal, AreRoots, AreWithin, CursorFits, IsListed, Links, NoneWhite, Puts, Retires, RootLists, SetsText, ShadesFirst, ShadesSeat, Steps, Whole, all_shaded, all_slots, bare, body, body_of, colour_ahead, has_passed, is_at, join, lists_of, other_slots, progress_dropped, progress_in, progress_of, progress_without, scan_in, shaded_slot, slot_of, slots_of, with_principal, with_shaded, with_target, without_principal, zip}
 pub use Rattle.tg_collect.specs.Openings.{AreFrom, Before, HasOpened, HoldsSubject, Opened, OpeningsCanBeStored, Opens, OpensEdges, OpensFirst, OpensNext, first_root, first_roots, first_serials, root_count, subject}
 pub use Rattle.tg_collect.specs.Readings.{IsEdgeIn, IsHeldIn, IsParkedIn, IsRootAt, IsRootIn, agents, as_progress, cycle_bound, free_slots, held, kept, kept_from, pending, pending_of, phase, phase_in, place, principals, progress, root_serial, serial_at, serial_of, shown, slot_count, spot, triples, vertices}
 pub use Rattle.tg_collect.specs.Runs.{IsBounded, IsComplete, StoreRun, acts, goes, start}
-pub use Rattle.tg_collect.specs.Sessions.{Acted, Changes, EdgeStored, Leads, RightsRemoved, Shaded, TargetShaded, TextReplaced, VertexStored}
+pub use Rattle.tg_collect.specs.Sessions.{Acted, Changes, EdgeStored, Leads, PrincipalStored, Retired, RightsRemoved, Shaded, TargetShaded, TextReplaced, VertexStored}
 pub use Rattle.tg_collect.specs.Stored.{Stored, stored}
 pub use Rattle.tg_collect.specs.Views.{Collected, IsStore, most_marks}
 pub use Rattle.tg_collect.specs.declared.machine.Machine.{Machine}

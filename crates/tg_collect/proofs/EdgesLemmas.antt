@@ -3,7 +3,7 @@ use Rattle.std.proofs.Common.{◌≡◌, ◌==◌, ◌≢◌, ℕ, zero, suc, Li
 use Rattle.tg_collect.proofs.Common.{length-map, sum_by-cons, cases_eq, is_none, Contains, Distinct, contains_map, Edge, Kept, total, Stored, kept, kept_from, progress, vertices, held, nat_cmp, Letters, edges, IsHeap, Spot, AtRest, Body}
 use Rattle.tg_collect.proofs.Common.{name_of, left, Root, Machine, lists_of, body, progress_of, Whole, stored, shown, spot, root_serial, serial_of, IsHeldIn, IsParkedIn, IsStore, IsElement, nat_lt, ◌↔◌, IsPermutation, IsNonDecreasingBy}
 use Rattle.tg_collect.proofs.Common.{IsPermutation-sym, IsPermutation-map, Contains-permutation, is_lt, nat_cmp_is, Ordering, Less, Equal, Greater, below_all, ltb-true, ne_eqb, AllPairs, IsDistinct-IsPermutation, AllPairs-from_IsDistinct}
-use Rattle.tg_collect.proofs.Common.{IsDistinct-from_AllPairs, Decides-eqb, true_first, true_second, true_both, Protection, IsGraph, labelled, vertex_count, edge_count, edge_list, keys_occur_once, serials, held_one, held_cells}
+use Rattle.tg_collect.proofs.Common.{IsDistinct-from_AllPairs, Decides-eqb, true_first, true_second, true_both, Protection, IsGraph, vertex_count, edge_count, edge_list, keys_occur_once, serials, held_one, held_cells}
 use Rattle.tg_collect.proofs.Common.{parked_cells, Closed, left_most, counted, IsRootAt}
 use Rattle.std.specs.FinMap as finmap
 use Rattle.tg_marking.specs.Values as values
@@ -11,7 +11,7 @@ use Rattle.tg_graph.specs.Protection.{label}
 use Rattle.tg_graph.specs.Rules.{edges_of}
 use Rattle.tg_marking.specs.Values.{Progress, Marking, Sweeping}
 use Rattle.tg_collect.proofs.SlotLemmas.{at_index, contains_mapped, total_list, total_same, out_all, cells_so, celled}
-use Rattle.tg_collect.proofs.ShownLemmas.{ones, Once, held_at, held_kept, kept_held, from_size, same_sum, same_length, contains_keys, keys_contains, place_kept}
+use Rattle.tg_collect.proofs.ShownLemmas.{nobody, ones, Once, held_at, held_kept, kept_held, from_size, same_sum, same_length, contains_keys, keys_contains, place_kept}
 use Rattle.tg_collect.proofs.StoreLemmas.{label_edge, kept_is, closed_so, named_so, once_stored, no_black, swept_so, from_held, to_held, distinct, root_in, apart_so, edge_in, owned_here}
 
 below_sum : (xs : List ℕ) (x : ℕ) → Contains xs x → x ≤ sum_by (λ y. y) xs
@@ -190,6 +190,7 @@ module _ (v : Stored) (once : Once v) where
       from_vertex = from_held v closed once;
       to_vertex = to_held v closed once;
       distinct = distinct v closed once;
+      roll = nobody (vertices v) whole.next;
     }
 
     edges_same : (next x : ℕ) → edges_of (held v next) x ≡ edges_of whole x
@@ -281,7 +282,7 @@ module _ (m : Machine) (ok : IsHeap m.heap) (w : Whole m) where
     placed = λ i x e. (let k = place_kept (stored m) i x e in subst (IsHeldIn (stored m)) k.2 (kept_held (stored m) i k.0 (once_stored m w) k.1));
     has_place = λ x h. (let k = held_kept (stored m) x h in (k.0, ap serial_of k.2 ∙ ap (λ (y : ℕ). Some y) k.3));
     seats = length-map m.roots.targets.items (λ o. root_serial o) ∙ w.roots.seats;
-    few = (let z = length-map m.roots.principals.items (λ (r : Root). r.serial) in let f = w.roots.few in omega (arith, z, f));
+    few = (let z = length-map m.roots.principals (λ (r : Root). r.serial) in let f = w.roots.few in omega (arith, z, f));
     agents = length-map m.roots.agents.items (λ o. root_serial o) ∙ w.roots.agents;
     slots = λ next. (let a = counted.slots (shown (stored m)) (progress (stored m)) in let b = vertices_counted (stored m) (once_stored m w) next in omega (arith, a, b));
     few_edges = λ next. (let c = cells_all next in omega (arith, c));

@@ -1,5 +1,6 @@
 -- Lemma files that other crates may use.
 pub mod OpeningLemmas
+pub mod PrincipalLemmas
 pub mod RunLemmas
 pub mod SeatLemmas
 pub mod ShownLemmas

@@ -1,6 +1,6 @@
 -- Each step of the machine is a line of the table.
 use Rattle.std.proofs.Common.{◌≡◌, ℕ, ◌+◌, ◌<◌, ◌≤◌, List, [], ◌∷◌, ◌++◌, length, map, Option, Some, None, Bool, true, false, sym, ◌∙◌, subst, ap, refl, arith, set, eq-eqb, ◌≢◌, ◌⊎◌, inl, inr}
-use Rattle.tg_collect.proofs.Common.{Contains, Distinct, White, Grey, Black, Table, Free, Has, slot, Edge, first_cell, HeapGraph, edges, mark_at, shaded, IsHeap, remaining, Spot, Body, mark, shade, Machine, RootLists, lists_of, body_of}
+use Rattle.tg_collect.proofs.Common.{Contains, Distinct, White, Grey, Black, Table, Free, Has, Edge, first_cell, HeapGraph, edges, mark_at, shaded, IsHeap, remaining, Spot, Body, mark, shade, Machine, RootLists, lists_of, body_of}
 use Rattle.tg_collect.proofs.Common.{body, progress_in, progress_of, CursorFits, Whole, SEATS, AtRest, Kept, mark_of, name_of, seen, put, left, put_each, at_within, IsListed, stored, as_progress, le-ltb, same_Some, MAX_PRINCIPALS, Stands}
 use Rattle.tg_collect.proofs.Common.{shaded_by, painted, passed, split_whole, remaining_split, out, Scan, shade_all, Line, starts, scans, blackens, takes, shades_target, starts_sweep, skips, whitens, strips, frees, finishes, IsScanned}
 use Rattle.tg_collect.proofs.Common.{Phased, Turns, stays, greys, Follows, begins, marks, parks, sweeps, passes, ends, Stays, shade_each, line_keeps, line_collected, bounded, Steps, NoneWhite, ShadesFirst, shaded_slot, all_shaded}

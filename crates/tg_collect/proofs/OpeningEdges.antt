@@ -282,7 +282,7 @@ module _ (m : Machine) (G : Protection) (count from to : ℕ) (o : OpensEdges m 
 
 -- The ends of a pair, and the rights between them.
 pub ends : (m : Machine) (G : Protection) (from to : ℕ) (a b : Root) (l : Letters) → OpensEdges m G (root_count m) from to → from < root_count m → to < root_count m
-    → a ≡ get_or m.roots.principals.items from a → b ≡ get_or m.roots.principals.items to b → l ≡ label G a.serial b.serial → (a ≡ first_root from) × (b ≡ first_root to) × (l ≡ label G (from + 1) (to + 1))
+    → a ≡ get_or m.roots.principals from a → b ≡ get_or m.roots.principals to b → l ≡ label G a.serial b.serial → (a ≡ first_root from) × (b ≡ first_root to) × (l ≡ label G (from + 1) (to + 1))
 ends m G from to a b l o bf bt at_from at_to labels = (end_is from a bf at_from, end_is to b bt at_to, labels ∙ (λ i. label G (end_is from a bf at_from i).serial (end_is to b bt at_to i).serial)) where
-  end_is : (i : ℕ) (r : Root) → i < root_count m → r ≡ get_or m.roots.principals.items i r → r ≡ first_root i
+  end_is : (i : ℕ) (r : Root) → i < root_count m → r ≡ get_or m.roots.principals i r → r ≡ first_root i
   end_is i r within at = at ∙ ap (λ (rs : RootLists). get_or rs.principals i r) o.opens.opened.roots ∙ first_at (root_count m) i r within

@@ -201,7 +201,7 @@ placed m i serial text colour rest rs = record m {
 }
 
 module _ (m : Machine) (rs : Roots) (k : ℕ) (rest : List ℕ) (ok : IsHeap m.heap) (f : OpensFirst m k) (room : k < 64) (free : m.heap.table.free ≡ k ∷ rest)
-    (roots : lists_of rs ≡ record (lists_of m.roots) { principals = m.roots.principals.items ++ first_root k ∷ [] }) where
+    (roots : lists_of rs ≡ record (lists_of m.roots) { principals = m.roots.principals ++ first_root k ∷ [] }) where
   abbrev after : Machine
   after = placed m k (k + 1) [] White rest rs
 
@@ -247,7 +247,7 @@ module _ (m : Machine) (rs : Roots) (k : ℕ) (rest : List ℕ) (ok : IsHeap m.h
   }
 
 pub principal_opens : (m a : Machine) (rs : Roots) (serial i : ℕ) (text : List ℕ) → IsHeap m.heap → OpensFirst m (root_count m) → root_count m < 64 → serial ≡ root_count m + 1 → text ≡ []
-    → Puts m serial Subject text (Ok i) a → lists_of rs ≡ record (lists_of a.roots) { principals = a.roots.principals.items ++ record { serial = serial; slot = i } ∷ [] } → OpensNext m (record a { roots = rs })
+    → Puts m serial Subject text (Ok i) a → lists_of rs ≡ record (lists_of a.roots) { principals = a.roots.principals ++ record { serial = serial; slot = i } ∷ [] } → OpensNext m (record a { roots = rs })
 principal_opens m a rs serial i text ok f room named bare p roots = record {
   first = subst (OpensFirst (record a { roots = rs })) (sym grown) (subst (λ (n : Machine). OpensFirst n (suc (root_count m))) (sym same) (first_after m rs (root_count m) p.0 ok f room free shown at.1));
   more = let g = grown in omega (arith, g);
@@ -265,11 +265,11 @@ principal_opens m a rs serial i text ok f room named bare p roots = record {
   same : record a { roots = rs } ≡ placed m (root_count m) (root_count m + 1) [] White p.0 rs
   same = (λ j. record (p.2 j) { roots = rs }) ∙ (λ j. placed m (at.0 j) (named j) (bare j) (colour j) p.0 rs)
 
-  shown : lists_of rs ≡ record (lists_of m.roots) { principals = m.roots.principals.items ++ first_root (root_count m) ∷ [] }
-  shown = roots ∙ (λ j. record (lists_of (p.2 j).roots) { principals = (p.2 j).roots.principals.items ++ record { serial = named j; slot = at.0 j } ∷ [] })
+  shown : lists_of rs ≡ record (lists_of m.roots) { principals = m.roots.principals ++ first_root (root_count m) ∷ [] }
+  shown = roots ∙ (λ j. record (lists_of (p.2 j).roots) { principals = (p.2 j).roots.principals ++ record { serial = named j; slot = at.0 j } ∷ [] })
 
   grown : root_count (record a { roots = rs }) ≡ suc (root_count m)
-  grown = let l = ap (λ (r : RootLists). length r.principals) shown in let s = length-append m.roots.principals.items (first_root (root_count m) ∷ []) in omega (arith, l, s)
+  grown = let l = ap (λ (r : RootLists). length r.principals) shown in let s = length-append m.roots.principals (first_root (root_count m) ∷ []) in omega (arith, l, s)
 
 -- A configuration without a fault opens a graph that a store can open.
 pub openings_can_be_stored : OpeningsCanBeStored

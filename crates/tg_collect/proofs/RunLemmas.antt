@@ -3,7 +3,7 @@ use Rattle.std.proofs.Common.{◌≡◌, ◌≢◌, ℕ, suc, ◌+◌, ◌<◌, 
 use Rattle.tg_collect.proofs.Common.{Contains, White, Grey, Black, Edge, Spot, AtRest, Body, Kept, as_kept, seen, new_colour, Stored, kept, progress, as_progress, shown, spot, held, IsHeldIn, IsParkedIn, IsStore, Leads, is_some, Letters}
 use Rattle.tg_collect.proofs.Common.{Right, is_none, Kind, Triple, Protection, name_of, total, Root, serial_of, triples, root_serial, pending_of, EdgeStored, VertexStored, RightsRemoved, TextReplaced, map-set, set-get_or, same_Some}
 use Rattle.tg_collect.proofs.Common.{rights_where, Live, IsPart, IsGraph, vertex, with_text, subjects, Stage, keeps, Scan, IsLiveIn, Sane, Run, free_one, phase_in, slot_count, cycle_bound, IsRootIn, phase, principals, pending, agents}
-use Rattle.tg_collect.proofs.Common.{free_slots, Changes, Acted, Shaded, StoreRun, start, acts, goes, IsComplete, IsBounded, Collected, Opened}
+use Rattle.tg_collect.proofs.Common.{free_slots, Changes, Acted, Shaded, StoreRun, start, acts, goes, IsComplete, IsBounded, Collected, Opened, IsRoll, Member, nat_cmp, vertices}
 use Rattle.tg_marking.specs.Values as values
 use Rattle.tg_marking.specs.Runs as runs
 use Rattle.tg_marking.proofs.RunLemmas as marked
@@ -16,7 +16,7 @@ use Rattle.tg_marking.specs.Values.{Progress, Marking, Sweeping}
 use Rattle.tg_collect.specs.Readings.{name}
 use Rattle.tg_collect.specs.Runs.{ends}
 use Rattle.tg_collect.proofs.SlotLemmas.{contains_mapped, root_listed}
-use Rattle.tg_collect.proofs.ShownLemmas.{held_kept, kept_held, place_kept, Once, held_at, held_same, says_triple, triple_owned, vertex_found}
+use Rattle.tg_collect.proofs.ShownLemmas.{held_kept, kept_held, named_label, place_kept, Once, held_at, held_same, says_triple, triple_owned, vertex_found}
 use Rattle.tg_collect.proofs.StoreLemmas.{kept_is, once_so, in_root, live_slots, slots_live, root_live, same_truth, edge_in}
 use Rattle.tg_collect.specs.declared.note.Phase.TheVariants.{Idle}
 use Rattle.tg_collect.proofs.SeatLemmas.{new_held}
@@ -42,7 +42,7 @@ module _ (v w : Stored) (new target : Option ℕ) (next : ℕ) (s : IsStore v) (
   same_progress = ap as_progress a.stage
 
   root_before : (x : ℕ) → IsRootIn w x → Wanted x
-  root_before x (inl p) = inl (root_live v s x (inl (subst (λ (l : List ℕ). Contains l x) a.principals p)))
+  root_before x (inl p) = elim (a.principals x p) [ inl old ↦ inl (root_live v s x (inl old)) | inr e ↦ inr (news x e) ]
   root_before x (inr (inl p)) = elim (a.pending x p) [ inl old ↦ inl (root_live v s x (inr (inl old))) | inr e ↦ wanted x e ]
   root_before x (inr (inr p)) = inl (root_live v s x (inr (inr (subst (λ (l : List (Option ℕ)). Contains l (Some x)) a.agents p))))
 
@@ -176,13 +176,22 @@ module _ {v w : Stored} {seat x y : ℕ} {rights : Letters} (stored : EdgeStored
   pub edge_pending : pending w ≡ set (pending v) seat (Some y)
   edge_pending = ap (λ z. pending z) stored.is ∙ map-set (λ o. root_serial o) v.roots.targets seat (Some stored.target) ∙ ap (λ n. set (pending v) seat (Some n)) stored.named
 
+  pub edge_principals : principals w ≡ principals v
+  edge_principals = ap (λ z. principals z) stored.is
+
 module _ {v w : Stored} {seat x serial : ℕ} {kind : Kind} {text : List ℕ} {rights : Letters} (stored : VertexStored v w seat x serial kind text rights) where
   pub vertex_pending : pending w ≡ set (pending v) seat (Some serial)
   vertex_pending = ap (λ z. pending z) stored.is ∙ map-set (λ o. root_serial o) v.roots.targets seat (Some (record { serial = serial; slot = stored.new }))
 
+  pub vertex_principals : principals w ≡ principals v
+  vertex_principals = ap (λ z. principals z) stored.is
+
 module _ {v w : Stored} {x y : ℕ} {rights : Letters} (removed : RightsRemoved v w x y rights) where
   pub removed_pending : pending w ≡ pending v
   removed_pending = ap (λ z. pending z) removed.is
+
+  pub removed_principals : principals w ≡ principals v
+  removed_principals = ap (λ z. principals z) removed.is
 
 module _ {v w : Stored} {x : ℕ} {text answer : List ℕ} (replaced : TextReplaced v w x text answer) where
   pub text_graph : (next : ℕ) → held w next ≡ with_text (held v next) x text (vertex (held v next) x)
@@ -190,6 +199,9 @@ module _ {v w : Stored} {x : ℕ} {text answer : List ℕ} (replaced : TextRepla
 
   pub text_pending : pending w ≡ pending v
   text_pending = ap (λ z. pending z) replaced.is
+
+  pub text_principals : principals w ≡ principals v
+  text_principals = ap (λ z. principals z) replaced.is
 
   pub text_cells : w.free_cells ≡ v.free_cells
   text_cells = ap (λ z. z.free_cells) replaced.is
@@ -203,6 +215,10 @@ module _ (v w : Stored) (seat : ℕ) where
   pub shaded_pending : (answer : Option ℕ) → Shaded v w seat answer → pending w ≡ set (pending v) seat None
   shaded_pending None shaded = ap (λ z. pending z) shaded.1 ∙ sym (ap (set (pending v) seat) (sym shaded.0) ∙ set-get_or (pending v) seat None)
   shaded_pending (Some x) shaded = ap (λ z. pending z) shaded.is ∙ map-set (λ o. root_serial o) v.roots.targets seat None
+
+  pub shaded_principals : (answer : Option ℕ) → Shaded v w seat answer → principals w ≡ principals v
+  shaded_principals None shaded = ap (λ z. principals z) shaded.1
+  shaded_principals (Some x) shaded = ap (λ z. principals z) shaded.is
 
   pub shaded_was : (answer : Option ℕ) → Shaded v w seat answer → answer ≡ pending_of v seat
   shaded_was None shaded = sym shaded.0
@@ -253,9 +269,10 @@ module _ {v w : Stored} {target : Option ℕ} (acted : Acted v w None target) wh
   pub acted_slots : free_slots w ≡ free_slots v
   acted_slots n = total (λ i. still_free v target i (spot v i) (spot w i) (acted.changes i) n) (acted.slots n)
 
--- what is held is a graph, below each serial that is above all of it
-pub held_graph : {v : Stored} → IsStore v → (next : ℕ) → ((x : ℕ) → IsHeldIn v x → x < next) → IsGraph (held v next)
-held_graph store next below = record { below_next = below; from_vertex = store.from_held; to_vertex = store.to_held; distinct = store.distinct }
+-- what is held, with principals who are held, is a graph below each serial that is above all of it
+pub held_graph : {v : Stored} → IsStore v → (next : ℕ) (names : List Member) (retired : finset.FinSet nat_cmp) → ((x : ℕ) → IsHeldIn v x → x < next) → IsRoll (vertices v) next names retired
+    → IsGraph (record (held v next) { names = names; retired = retired })
+held_graph store next names retired below roll = record { below_next = below; from_vertex = store.from_held; to_vertex = store.to_held; distinct = store.distinct; roll = roll }
 
 stays_or : (b : Body) (p q : Progress) (e : Bool) → marking.Follows b p q e → marking.Stays p q ⊎ ((s : Option Scan) × (p ≡ Marking s) × (q ≡ Sweeping 0))
 stays_or b _ _ _ marking.begins = inl tt
@@ -274,7 +291,8 @@ was_there b p i _ _ (marking.whitens t black here) s at = (t, refl, ap (λ (q : 
 was_there b p i _ _ (marking.strips t e r white here has) s at = (t, refl, ap (λ (q : Spot). q.serial) (same_Some (record t { edges = r }) s at))
 was_there b p i _ _ (marking.frees t white here bare) s at = absurd (cc at)
 
--- after a collector step, what is held is still a part of the graph: the same, or once the rest was parked what is black
+-- after a collector step, what is held, with the principals, is still a part of the graph: the same, or once the rest was
+-- parked what is black
 module _ {v w : Stored} {count : ℕ} {ended : Bool} (c : Collected v w count ended) where
   pub collected_principals : principals w ≡ principals v
   collected_principals = ap (λ rs. map (λ (r : Root). r.serial) rs.principals) c.roots
@@ -296,7 +314,7 @@ module _ {v w : Stored} {count : ℕ} {ended : Bool} (c : Collected v w count en
       by t at same true e = inr (store.placed i x (ap (λ o. serial_of (seen (progress v) i o)) at ∙ ap (λ b. serial_of (cond b (Some (as_kept t)) None)) e ∙ sym (ap name_of at) ∙ same))
       by t at same false e = inl (i, (t, at, e), same)
 
-  module _ (next : ℕ) (G : Protection) (part : IsPart G (held v next)) (store_v : IsStore v) (store_w : IsStore w) where
+  module _ (next : ℕ) (names : List Member) (retired : finset.FinSet nat_cmp) (G : Protection) (part : IsPart G (record (held v next) { names = names; retired = retired })) (store_v : IsStore v) (store_w : IsStore w) where
     module _ (parks : marking.Parks (shown v) (shown w) (progress v) (progress w)) where
       once_v : Once v
       once_v = once_so v store_v.once
@@ -331,25 +349,27 @@ module _ {v w : Stored} {count : ℕ} {ended : Bool} (c : Collected v w count en
       label_same x y h = λ i. rights_where (λ r. same_truth _ _ (triple_stays x y r h) (triple_was x y r) i)
 
       labels : (x y : ℕ) → IsHeldIn w x → label G x y ≡ label (held w next) x y
-      labels x y h = part.labels x y (ap is_some (vertex_same x h) ∙ h) ∙ label_same x y h
+      labels x y h = part.labels x y (ap is_some (vertex_same x h) ∙ h) ∙ named_label (held v next) names retired x y ∙ label_same x y h
 
-      parked_part : IsPart G (held w next)
+      parked_part : IsPart G (record (held w next) { names = names; retired = retired })
       parked_part = record {
         vertices = λ x h. part.vertices x (ap is_some (vertex_same x h) ∙ h) ∙ vertex_same x h;
-        labels = λ x y h. labels x y h;
+        labels = λ x y h. labels x y h ∙ sym (named_label (held w next) names retired x y);
         closed = λ x y h e. let there = edge_in w next x y (ap is_none (sym (labels x y h)) ∙ e) in store_w.to_held (record { from = x; right = there.0; to = y }) there.1;
+        names = part.names;
+        retired = part.retired;
       }
 
-    pub collected_part : IsPart G (held w next)
+    pub collected_part : IsPart G (record (held w next) { names = names; retired = retired })
     collected_part = elim (stays_or (shown v) (progress v) (progress w) ended c.step.phases) [
-      | inl stays ↦ subst (λ H. IsPart G H) (sym (held_same v w c.step.size (c.step.held stays) next)) part
+      | inl stays ↦ subst (λ (H : Protection). IsPart G (record H { names = names; retired = retired })) (sym (held_same v w c.step.size (c.step.held stays) next)) part
       | inr (s, from, to) ↦ parked_part (c.step.parks s from to)
     ]
 
 -- what an opened store holds
 module _ {v : Stored} {G : Protection} {all_slots all_cells : ℕ} (o : Opened v G all_slots all_cells) where
-  pub opened_graph : held v G.next ≡ G
-  opened_graph i = record { vertices = o.vertices i; next = G.next; triples = o.triples i }
+  pub opened_graph : record (held v G.next) { names = G.names; retired = G.retired } ≡ G
+  opened_graph i = record { vertices = o.vertices i; next = G.next; triples = o.triples i; names = G.names; retired = G.retired }
 
   pub opened_subjects : G.vertices ≡ subjects o.count
   opened_subjects = sym o.vertices ∙ o.opens.vertices

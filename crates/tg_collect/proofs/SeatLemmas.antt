@@ -283,7 +283,7 @@ one_changes v new target i s o at c = put_each (λ j x. Changes v new target j (
 acted_by : (v : Stored) (slots : List (Option Spot)) (targets : List (Option Root)) (free left : ℕ) (new target : Option ℕ)
     → ((x : ℕ) → Contains (map (λ o. root_serial o) targets) (Some x) → Contains (pending v) (Some x) ⊎ (target ≡ Some x)) → length slots ≡ length v.slots
     → ((i : ℕ) → Changes v new target i (readings.spot v i) (get_or slots i None)) → left ≤ v.left → Acted v (record v { slots = slots; roots = record v.roots { targets = targets }; free_cells = free; left = left }) new target
-acted_by v slots targets free left new target seats size each lower = record { stage = refl; principals = refl; agents = refl; pending = seats; slots = size; changes = each; cells = refl; left = lower }
+acted_by v slots targets free left new target seats size each lower = record { stage = refl; principals = λ x h. inl h; agents = refl; pending = seats; slots = size; changes = each; cells = refl; left = lower }
 
 pub acted_same : (v w : Stored) → w ≡ v → Acted v w None None
 acted_same v w is = subst (λ (z : Stored). Acted v z None None) (sym is) (acted_by v v.slots v.roots.targets v.free_cells v.left None None (λ x h. inl h) refl (λ i. sessions.same (readings.spot v i)) (omega arith))

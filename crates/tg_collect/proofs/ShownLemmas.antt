@@ -2,7 +2,8 @@
 use Rattle.std.proofs.Common.{◌≡◌, ℕ, zero, suc, ◌+◌, List, [], ◌∷◌, length, Option, Some, None, inl, inr, Bool, true, false, cond, ◌&&◌, ◌==◌, eqb-true, eq-eqb, sym, ◌∙◌, subst, ap, refl, arith, get_or, set, ◌++◌, sum_by}
 use Rattle.tg_collect.proofs.Common.{is_some, nat_cmp, Right, has, is_none, Contains, some_right, Triple, Edge, Spot, Kept, seen, vertex_of, Stored, kept_from, progress, serial_of, place, held, vertices, triples, IsHeldIn, IsEdgeIn}
 use Rattle.tg_collect.proofs.Common.{sum_by-cons, Distinct, eq_by_cmp, nat_cmp_total, unsigned_tied, find, get-from_entries, contains_key-keys, sum_by-append, list_any, or_right, split_at, distinct_around, contains_around, contains_append}
-use Rattle.tg_collect.proofs.Common.{contains_left, contains_right, or_either, or_join, and_both, Vertex, entries, says_edge, says, contains-held}
+use Rattle.tg_collect.proofs.Common.{contains_left, contains_right, or_either, or_join, and_both, Vertex, entries, says_edge, says, contains-held, IsRoll, Member, Protection, contains-empty}
+use Rattle.tg_graph.specs.Protection.{label}
 use Rattle.std.specs.FinMap as finmap
 use Rattle.std.specs.FinSet as finset
 use Rattle.tg_held.specs.Held as graph
@@ -29,6 +30,21 @@ held_set p i os o = from_set p 0 i i os o (omega arith)
 pub from_size : (p : Progress) (k : ℕ) (os : List (Option Spot)) → length (kept_from p k os) ≡ length os
 from_size p k [] = refl
 from_size p k (o ∷ os) = ap suc (from_size p (suc k) os)
+
+-- A graph in which nobody is a principal or was one, and labels, which are the same whoever is.
+pub nobody : (vs : finmap.FinMap nat_cmp Vertex) (next : ℕ) → IsRoll vs next [] finset.empty
+nobody vs next = record {
+  subjects = λ m h. absurd h;
+  active = λ m h. absurd h;
+  rising = tt;
+  apart = tt;
+  few = omega arith;
+  past = λ v h. absurd (cc (sym h ∙ contains-empty nat_cmp v));
+}
+
+pub named_label : (H : Protection) (names : List Member) (retired : finset.FinSet nat_cmp) (x y : ℕ) → label (record H { names = names; retired = retired }) x y ≡ label H x y
+unfolding label
+named_label H names retired x y = refl
 
 -- Two lists that hold the same, hold the same graph.
 from_same : (p q : Progress) (k : ℕ) (os ps : List (Option Spot)) → length os ≡ length ps → ((i : ℕ) → seen p (k + i) (get_or os i None) ≡ seen q (k + i) (get_or ps i None)) → kept_from p k os ≡ kept_from q k ps

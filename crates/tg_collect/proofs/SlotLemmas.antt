@@ -1,5 +1,5 @@
 -- What each change of the heap is in one list of slots.
-use Rattle.std.proofs.Common.{◌≡◌, ◌≢◌, ℕ, zero, suc, List, [], ◌∷◌, length, Option, Some, None, sym, ◌∙◌, ap, refl, arith, get_or, set, ◌+◌, ◌<◌, drop, inl, inr, subst, length-set, map, Ok, Bool, true, false, cond, get_or-set_same, drop-cons, length-append, ◌-◌, ◌≤◌, sum_by}
+use Rattle.std.proofs.Common.{◌≡◌, ◌≢◌, ℕ, zero, suc, List, [], ◌∷◌, length, Option, Some, None, sym, ◌∙◌, ap, refl, arith, get_or, set, ◌+◌, ◌<◌, drop, inl, inr, subst, length-set, map, Ok, Bool, true, false, cond, get_or-set_same, drop-cons, length-append, ◌≤◌, sum_by}
 use Rattle.tg_collect.proofs.Common.{Occupant, Colour, White, Grey, Black, Table, Free, Has, slot, Edge, HeapGraph, edges, mark_at, shaded, Spot, mark, mark_of, put, shade, RootLists, bare, body_of, length-map, Contains, Body, Kept, seen}
 use Rattle.tg_collect.proofs.Common.{HasRoot, at_within, Root, Machine, IsListed, lists_of, slot_of, slots_of, body, progress_of, Whole, Kind, new_colour, Progress, Idle, Marking, Sweeping, progress_in, Puts, sum_by-cons, Distinct, IsHeap}
 use Rattle.tg_collect.proofs.Common.{total, set-set, get_or_default, drop_all, get_or-map, same_Some, contains_left, contains_right, contains_append, contains_map, Mark, coloured, if_free, shaded_by, painted, out, IsRoot, shade_spot}
@@ -185,10 +185,10 @@ all_size (Some i ∷ xs) t = shaded_size (all_shaded xs t) i ∙ all_size xs t
 abbrev pub ShadedFrom : (m n : Machine) → ℕ → Type 0
 ShadedFrom m n left = n ≡ with_shaded m (drop left (other_slots m.roots))
 
-pub other_count : (rs : Roots) → length (other_slots rs) ≡ length rs.principals.items + length rs.agents.items
+pub other_count : (rs : Roots) → length (other_slots rs) ≡ length rs.principals + length rs.agents.items
 other_count rs =
-    let a = length-append (all_slots rs.principals.items) (slots_of rs.agents.items) in
-    let p = length-map rs.principals.items (λ (r : Root). Some r.slot) in
+    let a = length-append (all_slots rs.principals) (slots_of rs.agents.items) in
+    let p = length-map rs.principals (λ (r : Root). Some r.slot) in
     let g = length-map rs.agents.items (λ o. slot_of o) in
     omega (arith, a, p, g)
 

@@ -1,5 +1,5 @@
 -- What each store has.
-use Rattle.std.proofs.Common.{◌≡◌, ◌≢◌, ℕ, ◌<◌, ◌≤◌, List, [], ◌∷◌, map, Option, Some, None, inl, inr, Bool, true, false, cond, sym, ◌∙◌, subst, ap, refl, zero, suc, length, MatchOption, arith, get_or, ◌++◌}
+use Rattle.std.proofs.Common.{◌≡◌, ◌≢◌, ℕ, ◌<◌, ◌≤◌, List, [], ◌∷◌, map, Option, Some, None, inl, inr, Bool, true, false, cond, sym, ◌∙◌, subst, ap, refl, suc, length, MatchOption, arith, get_or, ◌++◌}
 use Rattle.tg_collect.proofs.Common.{Contains, contains_map, Has, Grey, Black, Triple, Spot, AtRest, Body, Kept, as_kept, seen, name_of, mark, Root, Machine, IsListed, lists_of, body, progress_of, Whole, Stored, stored, kept, place}
 use Rattle.tg_collect.proofs.Common.{root_serial, triples, serial_of, IsHeldIn, IsParkedIn, progress, spot, is_some, Letters, Right, has, is_none, Distinct, contains_middle, vertex_of, Free, slot, Occupant, Edge, HasNone, Found, edges}
 use Rattle.tg_collect.proofs.Common.{mark_at, IsHeap, pending_of, IsEdgeIn, held, name, at_within, some_right, shown, IsStore, unwrap_or, option_map, get_or-map, same_Some, none, includes, read, write, take, grant, same_by, split_at}
@@ -238,15 +238,15 @@ idle_seat m seat e = by (get_or m.roots.targets.items seat None) (sym (seat_show
   by None e = refl
   by (Some r) e = absurd (cc)
 
-pub principal_found : (m : Machine) (k : ℕ) (d : Root) → Whole m → k < length m.roots.principals.items → (x : ℕ) → (get_or m.roots.principals.items k d).serial ≡ x
-    → Contains (principals (stored m)) x × (place (stored m) (get_or m.roots.principals.items k d).slot ≡ Some x)
+pub principal_found : (m : Machine) (k : ℕ) (d : Root) → Whole m → k < length m.roots.principals → (x : ℕ) → (get_or m.roots.principals k d).serial ≡ x
+    → Contains (principals (stored m)) x × (place (stored m) (get_or m.roots.principals k d).slot ≡ Some x)
 principal_found m k d w b x e =
-    let r : Root = get_or m.roots.principals.items k d in
-    let listed = at_index m.roots.principals.items k d b in
-    (subst (Contains (principals (stored m))) e (contains_map (λ (q : Root). q.serial) m.roots.principals.items r listed), named_so m w r (inr (inl listed)) ∙ ap (λ (y : ℕ). Some y) e)
+    let r : Root = get_or m.roots.principals k d in
+    let listed = at_index m.roots.principals k d b in
+    (subst (Contains (principals (stored m))) e (contains_map (λ (q : Root). q.serial) m.roots.principals r listed), named_so m w r (inr (inl listed)) ∙ ap (λ (y : ℕ). Some y) e)
 
-pub no_principal : (m : Machine) (x : ℕ) (d : Root) → ((k : ℕ) → k < length m.roots.principals.items → (get_or m.roots.principals.items k d).serial ≢ x) → Contains (principals (stored m)) x → ⊥
-no_principal m x d none h = go m.roots.principals.items none h where
+pub no_principal : (m : Machine) (x : ℕ) (d : Root) → ((k : ℕ) → k < length m.roots.principals → (get_or m.roots.principals k d).serial ≢ x) → Contains (principals (stored m)) x → ⊥
+no_principal m x d none h = go m.roots.principals none h where
   go : (rs : List Root) → ((k : ℕ) → k < length rs → (get_or rs k d).serial ≢ x) → Contains (map (λ (r : Root). r.serial) rs) x → ⊥
   go [] n h = h
   go (r ∷ rs) n (inl e) = n 0 (omega arith) (sym e)

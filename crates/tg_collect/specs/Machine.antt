@@ -2,7 +2,8 @@
 use Rattle.tg_marking.specs.Values as values
 use Rattle.tg_collect.specs.declared.note.Phase.TheVariants as phase
 use Rattle.tg_heap.specs.declared.heap.HeapFull.TheVariants as full
-use Rattle.std.specs.Prelude.{◌≡◌, ◌≢◌, ℕ, ◌+◌, ◌<◌, ◌≤◌, List, [], ◌∷◌, ◌++◌, length, map, Option, Some, None, ◌⊎◌, Bool, get_or, set, Result, Ok, Err, false, cond, eqb, ◌&&◌, nat_lt}
+use Rattle.std.specs.Prelude.{◌≡◌, ◌≢◌, ℕ, ◌+◌, ◌<◌, ◌≤◌, List, [], ◌∷◌, ◌++◌, length, map, Option, Some, None, ◌⊎◌, Bool, get_or, set, Result, Ok, Err, false, cond, eqb, not, ◌&&◌, ◌==◌, nat_lt}
+use Rattle.std.specs.List.{filter}
 use Rattle.tg_rights.specs.declared.limits.TheConstants.{MAX_PRINCIPALS, SEATS}
 use Rattle.tg_rights.specs.Membership.{Contains}
 use Rattle.tg_rights.specs.Letters.{Letters}
@@ -36,11 +37,18 @@ pub record RootLists : Type 0 where
   pub agents : List (Option Root)
 
 abbrev pub lists_of : Roots → RootLists
-lists_of r = record { targets = r.targets.items; principals = r.principals.items; agents = r.agents.items }
+lists_of r = record { targets = r.targets.items; principals = r.principals; agents = r.agents.items }
 
 -- the roots once a seat has another target
 abbrev pub with_target : RootLists → ℕ → Option Root → RootLists
 with_target rs seat t = record rs { targets = set rs.targets seat t }
+
+-- the roots with another principal, and without that of a serial
+abbrev pub with_principal : RootLists → Root → RootLists
+with_principal rs r = record rs { principals = rs.principals ++ r ∷ [] }
+
+abbrev pub without_principal : RootLists → ℕ → RootLists
+without_principal rs x = record rs { principals = filter (λ (r : Root). not (r.serial == x)) rs.principals }
 
 -- a root is in one of the lists
 abbrev pub IsListed : RootLists → Root → Type 0
@@ -211,6 +219,13 @@ Puts m serial kind text (Ok i) n = (rest : List ℕ) × (m.heap.table.free ≡ i
       };
     })
 Puts m serial kind text (Err back) n = (back ≡ text) × (m.heap.table.free ≡ []) × (n ≡ m)
+
+-- a root is made a principal; a principal retires
+abbrev pub AddsPrincipal : Machine → Root → Machine → Type 0
+AddsPrincipal m r n = (lists_of n.roots ≡ with_principal (lists_of m.roots) r) × (n ≡ record m { roots = n.roots })
+
+abbrev pub Retires : Machine → ℕ → Machine → Type 0
+Retires m x n = (lists_of n.roots ≡ without_principal (lists_of m.roots) x) × (n ≡ record m { roots = n.roots })
 
 abbrev pub SetsText : Machine → ℕ → (text old : List ℕ) → Machine → Type 0
 SetsText m id text old n = (o : Occupant) × (slot m.heap.table id ≡ Some o) × (old ≡ o.text)

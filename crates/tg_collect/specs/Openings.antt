@@ -113,7 +113,7 @@ pub record OpensFirst (m : Machine) (count : ℕ) : Type 0 where
 
 -- how many principals there are
 abbrev pub root_count : Machine → ℕ
-root_count m = length m.roots.principals.items
+root_count m = length m.roots.principals
 
 -- a machine keeps its size
 pub record KeepsSize (m n : Machine) : Type 0 where

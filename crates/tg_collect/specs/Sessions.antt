@@ -12,7 +12,8 @@ use Rattle.tg_cells.specs.Lists.{Edge}
 use Rattle.tg_marking.specs.Values.{Spot}
 use Rattle.tg_marking.specs.Steps.{new_colour, shade}
 use Rattle.tg_collect.specs.declared.machine.Root.{Root}
-use Rattle.tg_collect.specs.Machine.{with_target}
+use Rattle.tg_rights.specs.declared.kind.Kind.TheVariants.{Subject}
+use Rattle.tg_collect.specs.Machine.{with_principal, with_target, without_principal}
 use Rattle.tg_collect.specs.Stored.{Stored}
 use Rattle.tg_collect.specs.Readings.{shown, spot, place, progress, held, free_slots, pending_of, IsEdgeIn, IsRootAt, principals, pending, agents}
 
@@ -79,6 +80,16 @@ pub record VertexStored (v w : Stored) (seat x serial : ℕ) (kind : Kind) (text
     left = w.left;
   }
 
+-- a new subject, stored as any vertex is, that is a principal from then on
+pub record PrincipalStored (v w : Stored) (seat x serial : ℕ) (text : List ℕ) (rights : Letters) : Type 0 where
+  pub between : Stored
+  pub vertex : VertexStored v between seat x serial Subject text rights
+  pub is : w ≡ record between { roots = with_principal between.roots (record { serial = serial; slot = vertex.new }) }
+
+-- x is a principal no longer, and a root only if it is some seat's target or agent
+abbrev pub Retired : Stored → Stored → ℕ → Type 0
+Retired v w x = w ≡ record v { roots = without_principal v.roots x }
+
 -- x loses rights over y. An edge left with none gives its cell back.
 pub record RightsRemoved (v w : Stored) (x y : ℕ) (rights : Letters) : Type 0 where
   pub graph : (next : ℕ) → held w next ≡ record (held v next) { triples = finset.difference (held v next).triples (edge x rights y) }
@@ -113,10 +124,10 @@ pub data Changes (v : Stored) (new target : Option ℕ) (i : ℕ) : Option Spot 
       → Changes v new target i (Some s) (Some (record s { edges = es; text = text }))
   comes : (s : Spot) → new ≡ Some s.serial → s.colour ≡ new_colour (progress v) i → ((e : Edge) → Contains s.edges e → target ≡ Some e.serial) → Changes v new target i None (Some s)
 
--- one session step: the new serial, if any, and the target that it sets, if any
+-- one session step: the new serial, if any, and the target that it sets, if any; what is new may be a principal
 pub record Acted (v w : Stored) (new target : Option ℕ) : Type 0 where
   pub stage : w.stage ≡ v.stage
-  pub principals : principals w ≡ principals v
+  pub principals : (x : ℕ) → Contains (principals w) x → Contains (principals v) x ⊎ (new ≡ Some x)
   pub agents : agents w ≡ agents v
   pub pending : (x : ℕ) → Contains (pending w) (Some x) → Contains (pending v) (Some x) ⊎ (target ≡ Some x)
   pub slots : length w.slots ≡ length v.slots

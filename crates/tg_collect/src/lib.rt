@@ -10,6 +10,7 @@ mod machine;
 mod note;
 mod opening;
 mod reader;
+mod roster;
 #[cfg(test)]
 mod scripts;
 mod store;

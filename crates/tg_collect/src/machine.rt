@@ -2,16 +2,17 @@
 //! session steps.
 ghost use Rattle.std.specs.Prelude.{◌≡◌, ◌≢◌, ℕ, ◌<◌, ◌≤◌, [], ◌∷◌, length, MatchOption, MatchBool, ◌+◌, get_or, false, true, cond, None, Some, IfOk, map};
 ghost use Rattle.std.specs.Bool.{OnTrue};
-ghost use Rattle.tg_rights.specs.declared.limits.TheConstants.{MAX_SLOTS};
+ghost use Rattle.tg_rights.specs.declared.limits.TheConstants.{MAX_PRINCIPALS, MAX_SLOTS};
 ghost use Rattle.tg_rights.specs.Letters.{includes, is_none};
 ghost use Rattle.tg_slots.specs.Table.{Free, Has, slot};
 ghost use Rattle.tg_slots.specs.declared.slots.Occupant.{Occupant};
 ghost use Rattle.tg_cells.specs.Lists.{HasNone, Found};
 ghost use Rattle.tg_heap.specs.Graph.{edges, mark_at};
-ghost use Rattle.tg_collect.specs.Machine.{Whole, Steps, phase_of, ShadesFirst, NoneWhite, AreWithin, slot_of, other_slots, with_shaded, Adds, Links, Removes, Puts, SetsText, ShadesSeat, progress_without, has_passed, colour_ahead};
+ghost use Rattle.tg_collect.specs.Machine.{Whole, Steps, phase_of, ShadesFirst, NoneWhite, AreWithin, slot_of, other_slots, with_shaded, Adds, Links, Removes, Puts, SetsText, ShadesSeat, AddsPrincipal, Retires, progress_without, has_passed, colour_ahead};
 
 use crate::course::Course;
 use crate::note::{Note, Phase};
+use crate::roster::Roster;
 use std::alloc::{AllocError, Global};
 use tg_heap::{Dropped, Heap, HeapFull};
 use tg_rights::{Kind, Rights, Text};
@@ -42,19 +43,19 @@ pub(crate) enum Progress {
 #[derive(Drop)]
 pub(crate) struct Roots {
     pub targets: Vec<Option<Root>>,
-    pub principals: Vec<Root>,
+    pub principals: Roster,
     pub agents: Vec<Option<Root>>,
 }
 
 impl Roots {
     /// The root at an index of those that a cycle starts with: the principals, and then the agents.
     fn other(&self, index: usize) -> Option<Root>
-        requires { index < length self.now.principals.items + length self.now.agents.items }
+        requires { index < length self.now.principals + length self.now.agents.items }
         ensures { slot_of result ≡ get_or (other_slots self.now) index None }
     {
         let principals = self.principals.len();
         if index < principals {
-            Some(self.principals[index])
+            Some(self.principals.at(index))
         } else {
             self.agents[index - principals]
         }
@@ -285,6 +286,21 @@ impl Machine {
                 Ok(id)
             }
         }
+    }
+
+    /// Makes a root a principal, of whom there are fewer than 64.
+    pub fn add_principal(&mut self, root: Root)
+        requires few { length self.old.roots.principals < MAX_PRINCIPALS }
+        ensures step { AddsPrincipal self.old root self.new }
+    {
+        self.roots.principals.push(root);
+    }
+
+    /// Makes the vertex of this serial a principal no longer.
+    pub fn retire(&mut self, serial: u64)
+        ensures step { Retires self.old serial self.new }
+    {
+        self.roots.principals.remove(serial);
     }
 
     /// Replaces the text of a held slot, and returns the old one.

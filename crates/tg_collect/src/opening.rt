@@ -1,5 +1,5 @@
 //! The machine of an opening graph.
-ghost use Rattle.std.specs.Prelude.{◌≡◌, ℕ, ◌<◌, ◌≤◌, ◌+◌, length, replicate, None, OnOk, IfOk};
+ghost use Rattle.std.specs.Prelude.{◌≡◌, ℕ, ◌<◌, ◌≤◌, ◌+◌, length, replicate, None, IfOk};
 ghost use Rattle.tg_rights.specs.declared.limits.TheConstants.{MAX_CELLS, MAX_PRINCIPALS, MAX_SLOTS, SEATS};
 ghost use Rattle.tg_collect.specs.Machine.{Whole};
 ghost use Rattle.tg_collect.specs.Stored.{stored};
@@ -7,10 +7,11 @@ ghost use Rattle.tg_collect.specs.Openings.{IsOpening, Opened, OpensFirst, Opens
 
 use crate::course::Course;
 use crate::machine::{Machine, Progress, Root, Roots};
+use crate::roster::Roster;
 use std::alloc::{AllocError, Global};
 use tg_graph::Graph;
 use tg_heap::{Heap, Key};
-use tg_rights::{Kind, MAX_PRINCIPALS, SEATS, Text};
+use tg_rights::{Kind, SEATS, Text};
 
 impl Machine {
     /// The machine of a graph: its vertices, which are the principals, and then its edges by rising pairs of their
@@ -32,7 +33,7 @@ impl Machine {
     {
         graph.soundness();
         let mut machine = Machine::blank(alloc, key, slots, cells)?;
-        machine.open_principals(alloc, graph)?;
+        machine.open_principals(alloc, graph);
         machine.open_edges(graph);
         Ok(machine)
     }
@@ -52,7 +53,7 @@ impl Machine {
         let heap = Heap::with_key(alloc, key, slots, cells)?;
         let roots = Roots {
             targets: empty_seats(alloc)?,
-            principals: Vec::with_capacity(alloc, MAX_PRINCIPALS as usize)?,
+            principals: Roster::new(alloc)?,
             agents: empty_seats(alloc)?,
         };
         Ok(Machine {
@@ -63,35 +64,31 @@ impl Machine {
     }
 
     /// Puts the graph's vertices into the first slots, in the order of their serials.
-    fn open_principals(&mut self, alloc: Global, graph: &Graph) -> Result<(), AllocError>
+    fn open_principals(&mut self, alloc: Global, graph: &Graph)
         requires first { OpensFirst self.old 0 }
         requires none { root_count self.old ≡ 0 }
         requires opening { IsOpening graph.now (length self.old.heap.table.slots) self.old.heap.cell_count }
-        ensures { OnOk result (OpensAll self.old self.new graph.now) }
+        ensures { OpensAll self.old self.new graph.now }
     {
         let mut serial = 1;
         while graph.kind(serial).is_some() {
-            self.open_principal(alloc, serial)?;
+            self.open_principal(alloc, serial);
             serial += 1;
         }
-        Ok(())
     }
 
     /// Puts a subject into the first free slot and makes it a principal.
-    fn open_principal(&mut self, alloc: Global, serial: u64) -> Result<(), AllocError>
+    fn open_principal(&mut self, alloc: Global, serial: u64)
         requires first { OpensFirst self.old (root_count self.old) }
         requires serial { serial ≡ root_count self.old + 1 }
         requires few { root_count self.old < MAX_PRINCIPALS }
         requires room { root_count self.old < length self.old.heap.table.slots }
-        ensures { OnOk result (OpensNext self.old self.new) }
+        ensures { OpensNext self.old self.new }
     {
         self.heap.soundness();
         match self.place_vertex(serial, Kind::Subject, Text::empty(alloc)) {
             Err(_) => unreachable!(),
-            Ok(slot) => {
-                self.roots.principals.push(Root { serial, slot })?;
-                Ok(())
-            }
+            Ok(slot) => self.add_principal(Root { serial, slot }),
         }
     }
 
@@ -131,8 +128,8 @@ impl Machine {
         ensures size { KeepsSize self.old self.new }
     {
         self.heap.soundness();
-        let source = self.roots.principals[from];
-        let target = self.roots.principals[to];
+        let source = self.roots.principals.at(from);
+        let target = self.roots.principals.at(to);
         let rights = graph.rights(source.serial, target.serial);
         if !rights.is_empty() {
             self.heap.add_edge(source.slot, target.slot, rights);

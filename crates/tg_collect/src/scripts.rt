@@ -1,7 +1,7 @@
 //! The scripts of calls, with every note of the collector in the steps that were worked out by hand.
 use crate::tests::Act::{
-    At, Create, Cycle, Edge, End, FreeCells, FreeSlots, Join, Mark, Pending, Reads, Reclaim,
-    Remove, Shade, Sweep, Write,
+    At, Create, Cycle, Edge, End, Enrol, FreeCells, FreeSlots, Join, Mark, Pending, Principals,
+    Reads, Reclaim, Remove, Retire, Shade, Sweep, Write,
 };
 use crate::tests::{PLAIN, Script};
 use tg_heap::HeapFull;
@@ -236,6 +236,87 @@ pub const SCRIPTS: &[Script] = &[
             FreeCells(0),
             Remove(2, 1, "t"),
             FreeCells(1),
+        ],
+        ..PLAIN
+    },
+    // nothing but the list of the principals leads to 3
+    Script {
+        name: "a new principal is a root",
+        acts: &[
+            Enrol(0, 1, 3, "r", None),
+            Principals(&[1, 2, 3]),
+            Shade(0, Some(3)),
+            Remove(1, 3, "r"),
+            Cycle(7, 4),
+            Cycle(7, 4),
+            At(3, 3, 2),
+            FreeSlots(0),
+        ],
+        ..PLAIN
+    },
+    Script {
+        name: "who retired is freed after two cycles",
+        acts: &[
+            Enrol(0, 1, 3, "r", None),
+            Shade(0, Some(3)),
+            Remove(1, 3, "r"),
+            Retire(3),
+            Principals(&[1, 2]),
+            Cycle(7, 4),
+            Mark(5),
+            Sweep(3),
+            Reclaim(1),
+            End,
+            FreeSlots(1),
+        ],
+        ..PLAIN
+    },
+    Script {
+        name: "an edge leads to who retired",
+        acts: &[
+            Enrol(0, 1, 3, "r", None),
+            Shade(0, Some(3)),
+            Retire(3),
+            Cycle(8, 4),
+            Cycle(8, 4),
+            At(1, 3, 2),
+        ],
+        ..PLAIN
+    },
+    Script {
+        name: "principals keep their order",
+        principals: &["alice", "bob", "carol"],
+        slots: 5,
+        acts: &[
+            Retire(2),
+            Enrol(0, 1, 4, "r", None),
+            Principals(&[1, 3, 4]),
+            Shade(0, Some(4)),
+            Enrol(0, 3, 5, "r", None),
+            Principals(&[1, 3, 4, 5]),
+            Retire(4),
+            Retire(4),
+            Principals(&[1, 3, 5]),
+            Retire(1),
+            Principals(&[3, 5]),
+        ],
+        ..PLAIN
+    },
+    Script {
+        name: "a new principal is refused",
+        edges: &[(2, "r", 1)],
+        cells: 1,
+        acts: &[
+            Enrol(0, 1, 3, "r", Some(HeapFull::Cells)),
+            Pending(0, None),
+            Principals(&[1, 2]),
+            Remove(2, 1, "r"),
+            Enrol(0, 1, 3, "r", None),
+            Shade(0, Some(3)),
+            Enrol(0, 1, 4, "r", Some(HeapFull::Slots)),
+            Pending(0, None),
+            Principals(&[1, 2, 3]),
+            FreeCells(0),
         ],
         ..PLAIN
     },

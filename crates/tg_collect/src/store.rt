@@ -3,7 +3,7 @@ ghost use Rattle.std.specs.Prelude.{◌≡◌, ◌≢◌, ℕ, ◌<◌, ◌≤�
 ghost use Rattle.std.specs.Bool.{OnFalse};
 ghost use Rattle.std.specs.Option.{option_map};
 ghost use Rattle.std.specs.FinMap as finmap;
-ghost use Rattle.tg_rights.specs.declared.limits.TheConstants.{MAX_CELLS, MAX_SLOTS, SEATS};
+ghost use Rattle.tg_rights.specs.declared.limits.TheConstants.{MAX_CELLS, MAX_PRINCIPALS, MAX_SLOTS, SEATS};
 ghost use Rattle.tg_rights.specs.Letters.{is_none, includes, none};
 ghost use Rattle.tg_rights.specs.Membership.{Contains};
 ghost use Rattle.tg_graph.specs.Protection.{label};
@@ -11,7 +11,7 @@ ghost use Rattle.tg_graph.specs.Rules.{edges_of};
 ghost use Rattle.tg_heap.specs.Graph.{edges};
 ghost use Rattle.tg_collect.specs.Readings.{IsHeldIn, IsParkedIn, IsEdgeIn, held, vertices, principals, place, serial_at, pending_of, free_slots, slot_count, phase};
 ghost use Rattle.tg_collect.specs.Views.{IsStore, Collected};
-ghost use Rattle.tg_collect.specs.Sessions.{Shaded, EdgeStored, VertexStored, RightsRemoved, TextReplaced, Acted};
+ghost use Rattle.tg_collect.specs.Sessions.{Shaded, EdgeStored, VertexStored, PrincipalStored, Retired, RightsRemoved, TextReplaced, Acted};
 ghost use Rattle.tg_collect.specs.Openings.{IsOpening, Opened};
 
 use crate::machine::{Machine, Root};
@@ -94,7 +94,7 @@ impl Store {
     pub fn principal(&self, serial: u64) -> Option<u32>
         ensures { MatchOption result (Contains (principals self.now) serial → ⊥) (λ id. Contains (principals self.now) serial × (place self.now id ≡ Some serial)) }
     {
-        for root in &self.machine.roots.principals {
+        for root in self.machine.roots.principals.as_slice() {
             if root.serial == serial {
                 return Some(root.slot);
             }
@@ -249,6 +249,46 @@ impl Store {
         }
     }
 
+    /// Puts a new subject into a slot, as `store_vertex` does with the same errors, and makes it a principal, of whom
+    /// there are fewer than 64.
+    pub fn store_principal(
+        &mut self,
+        seat: u64,
+        id: u32,
+        serial: u64,
+        rights: Rights,
+        text: Text,
+    ) -> Result<(), (HeapFull, Text)>
+        requires seat { seat < SEATS }
+        requires idle { pending_of self.old seat ≡ None }
+        requires source { IsSome (place self.old id) }
+        requires some { is_none rights ≡ false }
+        requires unheld { IsHeldIn self.old serial → ⊥ }
+        requires unparked { IsParkedIn self.old serial → ⊥ }
+        requires few { length (principals self.old) < MAX_PRINCIPALS }
+        ensures ok { OnOk result (PrincipalStored self.old self.new seat (serial_at self.old id) serial text rights) }
+        ensures acted { OnOk result (Acted self.old self.new (Some serial) (Some serial)) }
+        ensures slots { IfErr result (λ refused. refused.0 ≡ HeapFull.Slots → free_slots self.old ≡ 0) }
+        ensures cells { IfErr result (λ refused. refused.0 ≡ HeapFull.Cells → (free_slots self.old ≢ 0) × (self.old.free_cells ≡ 0)) }
+        ensures back { IfErr result (λ refused. refused.1 ≡ text) }
+        ensures unchanged { OnErr result (self.new ≡ self.old) }
+    {
+        self.store_vertex(seat, id, serial, Kind::Subject, rights, text)?;
+        let Some(root) = self.machine.roots.targets[seat as usize] else {
+            unreachable!();
+        };
+        self.machine.add_principal(root);
+        Ok(())
+    }
+
+    /// Makes the vertex of this serial a principal no longer; its vertex and its edges stay.
+    pub fn retire(&mut self, serial: u64)
+        ensures retired { Retired self.old self.new serial }
+        ensures acted { Acted self.old self.new None None }
+    {
+        self.machine.retire(serial);
+    }
+
     /// Takes rights from the label of an edge, which has them; an edge left with none gives its cell back.
     pub fn remove_rights(&mut self, id: u32, serial: u64, rights: Rights)
         requires source { IsSome (place self.old id) }
@@ -300,5 +340,17 @@ impl Store {
         ensures { OnFalse result ((IsHeldIn self.now serial → ⊥) × (IsParkedIn self.now serial → ⊥)) }
     {
         crate::tests::has(&self.machine, serial)
+    }
+
+    /// How many principals there are.
+    pub(crate) fn principal_count(&self) -> usize
+        ensures { result ≡ length (principals self.now) }
+    {
+        crate::tests::count(&self.machine)
+    }
+
+    /// Whether these are the serials of the principals, in this order.
+    pub(crate) fn has_principals(&self, serials: &[u64]) -> bool {
+        crate::tests::are_principals(&self.machine, serials)
     }
 }

@@ -1,10 +1,12 @@
 //! Scripts of store calls with every note of the collector, in the steps that were worked out by hand. The helpers stop
 //! a test if a call's condition is not met.
-ghost use Rattle.std.specs.Prelude.{◌≡◌, Some, IfOk};
+ghost use Rattle.std.specs.Prelude.{◌≡◌, ◌<◌, Some, None, false, length, IfOk};
 ghost use Rattle.std.specs.Bool.{OnFalse};
 ghost use Rattle.tg_collect.specs.Openings.{Fitted};
 ghost use Rattle.tg_collect.specs.Stored.{stored};
-ghost use Rattle.tg_collect.specs.Readings.{IsHeldIn, IsParkedIn, place};
+ghost use Rattle.tg_collect.specs.Readings.{IsHeldIn, IsParkedIn, pending_of, place, principals};
+ghost use Rattle.tg_rights.specs.Letters.{is_none};
+ghost use Rattle.tg_rights.specs.declared.limits.TheConstants.{SEATS};
 
 use crate::machine::Machine;
 use crate::scripts::SCRIPTS;
@@ -27,11 +29,35 @@ pub(crate) fn has(machine: &Machine, serial: u64) -> bool
     false
 }
 
+/// How many principals there are.
+pub(crate) fn count(machine: &Machine) -> usize
+    ensures { result ≡ length (principals (stored machine.now)) }
+{
+    machine.roots.principals.len()
+}
+
+/// Whether these are the principals, in this order.
+pub(crate) fn are_principals(machine: &Machine, serials: &[u64]) -> bool {
+    let principals = machine.roots.principals.as_slice();
+    for (root, serial) in principals.iter().zip(serials.iter()) {
+        if root.serial != *serial {
+            return false;
+        }
+    }
+    principals.len() == serials.len()
+}
+
 /// One call of a script with its result, or what must be seen after the calls before it. Rights are given by their
 /// letters.
 pub enum Act {
     /// A principal's new document: seat, principal, serial, rights, and what is full.
     Create(u64, u64, u64, &'static str, Option<HeapFull>),
+    /// A principal's new subject, who is a principal too: seat, principal, serial, rights, and what is full.
+    Enrol(u64, u64, u64, &'static str, Option<HeapFull>),
+    /// A principal retires.
+    Retire(u64),
+    /// The serials of the principals, in their order.
+    Principals(&'static [u64]),
     /// An edge gains rights: seat, its two ends, each with a principal that has a right over it, rights, and what is
     /// full.
     Join(u64, (u64, u64), (u64, u64), &'static str, Option<HeapFull>),
@@ -63,8 +89,8 @@ pub enum Act {
 }
 
 use Act::{
-    At, Create, Cycle, Edge, End, FreeCells, FreeSlots, Join, Mark, Pending, Reads, Reclaim,
-    Remove, Shade, Sweep, Write,
+    At, Create, Cycle, Edge, End, Enrol, FreeCells, FreeSlots, Join, Mark, Pending, Principals,
+    Reads, Reclaim, Remove, Retire, Shade, Sweep, Write,
 };
 
 pub struct Script {
@@ -97,7 +123,7 @@ pub fn rights(letters: &str) -> Rights {
     rights
 }
 
-fn principals(alloc: Global, names: &[&str]) -> Result<Vec<Word>, AllocError> {
+fn words(alloc: Global, names: &[&str]) -> Result<Vec<Word>, AllocError> {
     let mut principals = Vec::new(alloc);
     for name in names {
         principals.push(Word::new(String::from_str(alloc, name)?))?;
@@ -122,7 +148,7 @@ fn config(alloc: Global, script: &Script) -> Result<Config, AllocError>
     ensures cells { IfOk result (λ config. config.cells ≡ script.now.cells) }
 {
     let edges = edges(alloc, script.edges)?;
-    let principals = principals(alloc, script.principals)?;
+    let principals = words(alloc, script.principals)?;
     let next = principals.len() as u64 + 1;
     Ok(Config {
         principals,
@@ -171,6 +197,20 @@ pub fn at(rt: &impl Abort, store: &Store, principal: u64, serial: u64) -> u32
     }
 }
 
+/// Stops the test unless a new vertex may be stored for a seat.
+fn may_store(rt: &impl Abort, store: &Store, seat: u64, serial: u64, rights: Rights)
+    ensures seat { seat < SEATS }
+    ensures idle { pending_of store.now seat ≡ None }
+    ensures some { is_none rights ≡ false }
+    ensures unheld { IsHeldIn store.now serial → ⊥ }
+    ensures unparked { IsParkedIn store.now serial → ⊥ }
+{
+    assert!(rt; seat < 64);
+    assert!(rt; store.pending(seat).is_none());
+    assert!(rt; !rights.is_empty());
+    assert!(rt; !store.has(serial), "{serial} is there");
+}
+
 /// A document of a principal.
 fn create(
     rt: &impl Abort,
@@ -181,12 +221,28 @@ fn create(
     serial: u64,
     rights: Rights,
 ) -> Result<(), HeapFull> {
-    assert!(rt; seat < 64);
-    assert!(rt; store.pending(seat).is_none());
-    assert!(rt; !rights.is_empty());
-    assert!(rt; !store.has(serial), "{serial} is there");
+    may_store(rt, store, seat, serial, rights);
     let id = at(rt, store, principal, principal);
     match store.store_vertex(seat, id, serial, Kind::Document, rights, Text::empty(alloc)) {
+        Ok(()) => Ok(()),
+        Err((full, _)) => Err(full),
+    }
+}
+
+/// A subject of a principal, who is a principal too.
+fn enrol(
+    rt: &impl Abort,
+    alloc: Global,
+    store: &mut Store,
+    seat: u64,
+    principal: u64,
+    serial: u64,
+    rights: Rights,
+) -> Result<(), HeapFull> {
+    may_store(rt, store, seat, serial, rights);
+    assert!(rt; store.principal_count() < 64);
+    let id = at(rt, store, principal, principal);
+    match store.store_principal(seat, id, serial, rights, Text::empty(alloc)) {
         Ok(()) => Ok(()),
         Err((full, _)) => Err(full),
     }
@@ -310,6 +366,23 @@ fn goes(rt: &impl Abort, alloc: Global, store: &mut Store, act: &Act) -> Result<
             );
             Ok(made.err() == *full)
         }
+        Enrol(seat, principal, serial, letters, full) => {
+            let enrolled = enrol(
+                rt,
+                alloc,
+                store,
+                *seat,
+                *principal,
+                *serial,
+                rights(letters),
+            );
+            Ok(enrolled.err() == *full)
+        }
+        Retire(serial) => {
+            store.retire(*serial);
+            Ok(true)
+        }
+        Principals(serials) => Ok(store.has_principals(serials)),
         Join(seat, from, to, letters, full) => {
             let joined = join(rt, store, *seat, *from, *to, rights(letters));
             Ok(joined.err() == *full)

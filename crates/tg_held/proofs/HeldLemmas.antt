@@ -69,7 +69,7 @@ says_was os i o t l at = ap (λ xs. says xs t) (sym (set-get_or os i None) ∙ a
 other_edges : (os : List (Option Kept)) (i next : ℕ) (k : Kept) (es : List Edge) (ts : Triples) → get_or os i None ≡ Some k
     → ((t : Triple) → finset.contains ts t ≡ (((t.from == k.serial) && says_edge es t) || says (set os i None) t))
     → held (set os i (Some (record k { edges = es }))) next ≡ record (held os next) { triples = ts }
-other_edges os i next k es ts at h = λ n. record { vertices = finmap.from_entries (entries_same os i at n); next = next; triples = is n } where
+other_edges os i next k es ts at h = λ n. record { vertices = finmap.from_entries (entries_same os i at n); next = next; triples = is n; names = []; retired = finset.empty } where
   is : (held (set os i (Some (record k { edges = es }))) next).triples ≡ ts
   is = same_triples _ _ (λ t. contains-held (set os i (Some (record k { edges = es }))) next t ∙ says_set os i (Some (record k { edges = es })) t (at_within os i k at) ∙ sym (h t))
 
@@ -184,7 +184,7 @@ find_put (Some j ∷ os) (suc i) k q l a r =
     ∙ other_key q j.serial k.serial (vertex_of j) (vertex_of k) (find nat_cmp q (entries os)) (a zero j (λ z. cc) refl)
 
 pub comes : Comes
-comes os i next k l apart room = λ n. record { vertices = put n; next = next; triples = same n } where
+comes os i next k l apart room = λ n. record { vertices = put n; next = next; triples = same n; names = []; retired = finset.empty } where
   put : (held (set os i (Some k)) next).vertices ≡ finmap.insert (held os next).vertices k.serial (vertex_of k)
   put = same_map nat_cmp_total nat_cmp-IsAntisymmetric _ _ (λ q. get-from_entries nat_cmp_total (entries (set os i (Some k))) q ∙ find_put os i k q l apart room
       ∙ sym (get-insert nat_cmp_total (held os next).vertices k.serial (vertex_of k) q ∙ ap (λ o. cond (eq_by_cmp nat_cmp q k.serial) (Some (vertex_of k)) o) (get-from_entries nat_cmp_total (entries os) q)))

@@ -28,8 +28,9 @@ triples [] = []
 triples (None ∷ os) = triples os
 triples (Some k ∷ os) = triples_from k.serial k.edges ++ triples os
 
+-- (a store has no names, and nobody in it has retired)
 abbrev pub held : List (Option Kept) → ℕ → Protection
-held os next = record { vertices = finmap.from_entries (entries os); next = next; triples = finset.from_list (triples os) }
+held os next = record { vertices = finmap.from_entries (entries os); next = next; triples = finset.from_list (triples os); names = []; retired = finset.empty }
 
 -- no other slot holds the serial
 abbrev pub Apart : List (Option Kept) → ℕ → ℕ → Type 0

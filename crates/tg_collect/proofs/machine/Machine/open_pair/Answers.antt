@@ -10,27 +10,27 @@ use Rattle.tg_collect.proofs.machine.Machine.open_pair.Goals as goal
 
 pub add_edge-requires-clause-owner : goal.add_edge-requires-clause-owner
 add_edge-requires-clause-owner c =
-    let e = ends c.args.self.now c.args.graph.now c.args.from c.args.to c.index-source.result.now c.index-target.result.now c.rights-rights.result c.requires.opens c.requires.from c.requires.to c.index-source.ensures c.index-target.ensures c.rights-rights.ensures in
+    let e = ends c.args.self.now c.args.graph.now c.args.from c.args.to c.at-source.result c.at-target.result c.rights-rights.result c.requires.opens c.requires.from c.requires.to c.at-source.ensures c.at-target.ensures c.rights-rights.ensures in
     rw (e.0) (principal_mark c.args.self.now (root_count c.args.self.now) c.requires.opens.opens.opened c.args.from c.requires.from)
 
 pub add_edge-requires-clause-target : goal.add_edge-requires-clause-target
 add_edge-requires-clause-target c =
-    let e = ends c.args.self.now c.args.graph.now c.args.from c.args.to c.index-source.result.now c.index-target.result.now c.rights-rights.result c.requires.opens c.requires.from c.requires.to c.index-source.ensures c.index-target.ensures c.rights-rights.ensures in
+    let e = ends c.args.self.now c.args.graph.now c.args.from c.args.to c.at-source.result c.at-target.result c.rights-rights.result c.requires.opens c.requires.from c.requires.to c.at-source.ensures c.at-target.ensures c.rights-rights.ensures in
     rw (e.1) (principal_mark c.args.self.now (root_count c.args.self.now) c.requires.opens.opens.opened c.args.to c.requires.to)
 
 pub add_edge-requires-clause-none : goal.add_edge-requires-clause-none
 add_edge-requires-clause-none c =
-    let e = ends c.args.self.now c.args.graph.now c.args.from c.args.to c.index-source.result.now c.index-target.result.now c.rights-rights.result c.requires.opens c.requires.from c.requires.to c.index-source.ensures c.index-target.ensures c.rights-rights.ensures in
+    let e = ends c.args.self.now c.args.graph.now c.args.from c.args.to c.at-source.result c.at-target.result c.rights-rights.result c.requires.opens c.requires.from c.requires.to c.at-source.ensures c.at-target.ensures c.rights-rights.ensures in
     rw (e.0, e.1) (pair_none c.args.self.now c.args.graph.now (root_count c.args.self.now) c.args.from c.args.to c.requires.opens c.requires.from c.requires.to (ap is_none (sym e.2) ∙ sym c.if-not-is_empty.ensures) c.soundness.ensures.sound)
 
 pub add_edge-requires-clause-room : goal.add_edge-requires-clause-room
 add_edge-requires-clause-room c =
-    let e = ends c.args.self.now c.args.graph.now c.args.from c.args.to c.index-source.result.now c.index-target.result.now c.rights-rights.result c.requires.opens c.requires.from c.requires.to c.index-source.ensures c.index-target.ensures c.rights-rights.ensures in
+    let e = ends c.args.self.now c.args.graph.now c.args.from c.args.to c.at-source.result c.at-target.result c.rights-rights.result c.requires.opens c.requires.from c.requires.to c.at-source.ensures c.at-target.ensures c.rights-rights.ensures in
     pair_room c.args.self.now c.args.graph.now (root_count c.args.self.now) c.args.from c.args.to c.requires.opens c.requires.from c.requires.to (ap is_none (sym e.2) ∙ sym c.if-not-is_empty.ensures)
 
 pub returns-then-not-is_empty-clause-opens : goal.returns-then-not-is_empty-clause-opens
 returns-then-not-is_empty-clause-opens c =
-    let e = ends c.args.self.now c.args.graph.now c.args.from c.args.to c.index-source.result.now c.index-target.result.now c.rights-rights.result c.requires.opens c.requires.from c.requires.to c.index-source.ensures c.index-target.ensures c.rights-rights.ensures in
+    let e = ends c.args.self.now c.args.graph.now c.args.from c.args.to c.at-source.result c.at-target.result c.rights-rights.result c.requires.opens c.requires.from c.requires.to c.at-source.ensures c.at-target.ensures c.rights-rights.ensures in
     let added = c.add_edge.ensures in
     pair_opened c.args.self.now c.args.graph.now (root_count c.args.self.now) c.args.from c.args.to c.requires.opens c.requires.from c.requires.to (ap is_none (sym e.2) ∙ sym c.if-not-is_empty.ensures) c.soundness.ensures.sound c.add_edge.new.self (
       added.0,
@@ -40,5 +40,5 @@ returns-then-not-is_empty-clause-opens c =
 
 pub returns-else-not-is_empty-clause-opens : goal.returns-else-not-is_empty-clause-opens
 returns-else-not-is_empty-clause-opens c =
-    let e = ends c.args.self.now c.args.graph.now c.args.from c.args.to c.index-source.result.now c.index-target.result.now c.rights-rights.result c.requires.opens c.requires.from c.requires.to c.index-source.ensures c.index-target.ensures c.rights-rights.ensures in
+    let e = ends c.args.self.now c.args.graph.now c.args.from c.args.to c.at-source.result c.at-target.result c.rights-rights.result c.requires.opens c.requires.from c.requires.to c.at-source.ensures c.at-target.ensures c.rights-rights.ensures in
     pair_empty c.args.self.now c.args.graph.now (root_count c.args.self.now) c.args.from c.args.to c.requires.opens (ap is_none (sym e.2) ∙ sym c.is_empty.ensures ∙ c.if-not-is_empty.false)

@@ -19,7 +19,7 @@ open_principal-requires c =
 pub loop-alloc-preserved : goal.loop-alloc-preserved
 loop-alloc-preserved c =
     let i = c.loop-alloc.invariant in
-    let n = c.in_ok-open_principal.ensures in
+    let n = c.open_principal.ensures in
     let serial = i.serial in
     let more = n.more in
     record {
