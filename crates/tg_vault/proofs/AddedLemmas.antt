@@ -24,12 +24,12 @@ pub record Adds (m : Moment) (answers : List Answer) (n : Moment) : Type 0 where
 same : (m n : Moment) (answers : List Answer) → n.history ≡ m.history → n.world.graph ≡ m.world.graph → asked_in answers ≡ [] → Adds m answers n
 same m n answers h g a = record { added = []; history = h ∙ sym (append-nil m.history); graph = g; asked = a }
 
-pub step_adds : (limits : Limits) (names : List (List ℕ)) (m : Moment) (e : Event) (a : Answer) (n : Moment) → Step limits names m e a n → Adds m (a ∷ []) n
-step_adds limits names m (event.Hello seat name) (answer.Hello x) n h = same m n _ (ap (λ (k : Moment). k.history) h.2) (ap (λ (k : Moment). k.world.graph) h.2) refl
-step_adds limits names m (event.Hello seat name) (answer.Seat fault) n h = same m n _ (ap (λ (k : Moment). k.history) h.1) (ap (λ (k : Moment). k.world.graph) h.1) refl
-step_adds limits names m (event.Bye seat) answer.Bye n h = same m n _ (ap (λ (k : Moment). k.history) h.1) (ap (λ (k : Moment). k.world.graph) h.1) refl
-step_adds limits names m (event.Bye seat) (answer.Seat fault) n h = same m n _ (ap (λ (k : Moment). k.history) h.1) (ap (λ (k : Moment). k.world.graph) h.1) refl
-step_adds limits names m (event.Ask seat c) (answer.Asked number reply) n h =
+pub step_adds : (limits : Limits) (m : Moment) (e : Event) (a : Answer) (n : Moment) → Step limits m e a n → Adds m (a ∷ []) n
+step_adds limits m (event.Hello seat name) (answer.Hello x) n h = same m n _ (ap (λ (k : Moment). k.history) h.2) (ap (λ (k : Moment). k.world.graph) h.2) refl
+step_adds limits m (event.Hello seat name) (answer.Seat fault) n h = same m n _ (ap (λ (k : Moment). k.history) h.1) (ap (λ (k : Moment). k.world.graph) h.1) refl
+step_adds limits m (event.Bye seat) answer.Bye n h = same m n _ (ap (λ (k : Moment). k.history) h.1) (ap (λ (k : Moment). k.world.graph) h.1) refl
+step_adds limits m (event.Bye seat) (answer.Seat fault) n h = same m n _ (ap (λ (k : Moment). k.history) h.1) (ap (λ (k : Moment). k.world.graph) h.1) refl
+step_adds limits m (event.Ask seat c) (answer.Asked number reply) n h =
     let enters = h.2.2 in
     let entry : Entry = record { seat = seat; actor = h.2.0; command = c; outcome = enters.outcome } in
     record {
@@ -38,11 +38,11 @@ step_adds limits names m (event.Ask seat c) (answer.Asked number reply) n h =
       graph = ap (λ (k : Moment). k.world.graph) enters.left;
       asked = λ i. (h.1 i, enters.replied i) ∷ [];
     }
-step_adds limits names m (event.Ask seat c) (answer.Ask fault) n h = same m n _ (ap (λ (k : Moment). k.history) h.1) (ap (λ (k : Moment). k.world.graph) h.1) refl
-step_adds limits names m (event.Shade seat) (answer.Shaded target) n h = same m n _ (ap (λ (k : Moment). k.history) h.2) (ap (λ (k : Moment). k.world.graph) h.2) refl
-step_adds limits names m (event.Shade seat) (answer.Seat fault) n h = same m n _ (ap (λ (k : Moment). k.history) h.1) (ap (λ (k : Moment). k.world.graph) h.1) refl
-step_adds limits names m event.Collect (answer.Noted note) n h = same m n _ (ap (λ (k : Moment). k.history) h.2) (ap (λ (k : Moment). k.world.graph) h.2) refl
-step_adds limits names m _ _ n h = absurd h
+step_adds limits m (event.Ask seat c) (answer.Ask fault) n h = same m n _ (ap (λ (k : Moment). k.history) h.1) (ap (λ (k : Moment). k.world.graph) h.1) refl
+step_adds limits m (event.Shade seat) (answer.Shaded target) n h = same m n _ (ap (λ (k : Moment). k.history) h.2) (ap (λ (k : Moment). k.world.graph) h.2) refl
+step_adds limits m (event.Shade seat) (answer.Seat fault) n h = same m n _ (ap (λ (k : Moment). k.history) h.1) (ap (λ (k : Moment). k.world.graph) h.1) refl
+step_adds limits m event.Collect (answer.Noted note) n h = same m n _ (ap (λ (k : Moment). k.history) h.2) (ap (λ (k : Moment). k.world.graph) h.2) refl
+step_adds limits m _ _ n h = absurd h
 
 asked_append : (xs ys : List Answer) → asked_in (xs ++ ys) ≡ asked_in xs ++ asked_in ys
 asked_append [] ys = refl
@@ -77,11 +77,11 @@ adds_both m n k xs ys first next = record {
       ∙ sym (replies_append m.world.graph (length m.history) first.added next.added);
 }
 
-run_adds : (limits : Limits) (names : List (List ℕ)) (m : Moment) (es : List Event) (answers : List Answer) (n : Moment) → Run limits names m es answers n → Adds m answers n
-run_adds limits names m [] [] n h = same m n [] (ap (λ (k : Moment). k.history) h) (ap (λ (k : Moment). k.world.graph) h) refl
-run_adds limits names m (e ∷ es) (a ∷ answers) n h = adds_both m h.0 n (a ∷ []) answers (step_adds limits names m e a h.0 h.1) (run_adds limits names h.0 es answers n h.2)
-run_adds limits names m [] (a ∷ answers) n h = absurd h
-run_adds limits names m (e ∷ es) [] n h = absurd h
+run_adds : (limits : Limits) (m : Moment) (es : List Event) (answers : List Answer) (n : Moment) → Run limits m es answers n → Adds m answers n
+run_adds limits m [] [] n h = same m n [] (ap (λ (k : Moment). k.history) h) (ap (λ (k : Moment). k.world.graph) h) refl
+run_adds limits m (e ∷ es) (a ∷ answers) n h = adds_both m h.0 n (a ∷ []) answers (step_adds limits m e a h.0 h.1) (run_adds limits h.0 es answers n h.2)
+run_adds limits m [] (a ∷ answers) n h = absurd h
+run_adds limits m (e ∷ es) [] n h = absurd h
 
 pub runs_add : (old : Contents) (es : List Event) (answers : List Answer) (new : Contents) → RunOf old es answers new → AddsAsked old answers new
-runs_add old es answers new h = let a = run_adds old.limits old.names (moment old) es answers (moment new) h in record { added = a.added; history = a.history; asked = a.asked }
+runs_add old es answers new h = let a = run_adds old.limits (moment old) es answers (moment new) h in record { added = a.added; history = a.history; asked = a.asked }

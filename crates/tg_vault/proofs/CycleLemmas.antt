@@ -1,9 +1,12 @@
 -- Completeness and the bound, over a course.
 use Rattle.std.proofs.Common.{◌≡◌, ℕ, zero, suc, ◌+◌, ◌<◌, ◌≤◌, List, [], ◌∷◌, ◌++◌, length, take, drop, cond, refl, sym, ap, subst, ◌∙◌, ◌⊎◌, inl, inr, Some, Bool, true, false, arith}
 use Rattle.std.specs.Prelude.{Option}
+use Rattle.std.specs.Ordering.{nat_cmp}
+use Rattle.std.specs.FinSet as set
 use Rattle.std.proofs.lemmas.List.Sums.{sum_by-cons}
 use Rattle.tg_rights.specs.Letters.{is_none}
 use Rattle.tg_rights.specs.Membership.{Contains}
+use Rattle.tg_graph.specs.declared.member.Member.{Member}
 use Rattle.tg_graph.specs.Protection.{Protection, IsVertex, IsEdge}
 use Rattle.tg_graph.specs.Paths.{Leads, Live}
 use Rattle.tg_graph.specs.Fullness.{Limits}
@@ -24,14 +27,15 @@ use Rattle.tg_collect.specs.Runs as runs
 use Rattle.tg_collect.proofs.RunLemmas.{acted_phase}
 use Rattle.tg_vault.specs.History.{graph_of}
 use Rattle.tg_vault.specs.World.{Run, at_seat}
-use Rattle.tg_vault.specs.Contents.{Contents, RunOf, Keeps, graph_now, held_now, moment}
+use Rattle.tg_vault.specs.Seen.{seen}
+use Rattle.tg_vault.specs.Contents.{Contents, RunOf, Keeps, graph_now, moment}
 use Rattle.tg_vault.specs.Fits.{IsRoot, HasSlot}
 use Rattle.tg_vault.specs.StoreSteps.{SessionStep}
 use Rattle.tg_vault.specs.Course.{Course, VaultStep, IsCoherent}
 use Rattle.tg_vault.specs.Cycles.{phase_after, notes_in, ended_in, IsComplete, IsBounded}
-use Rattle.tg_vault.proofs.EdgeLemmas.{label_next}
+use Rattle.tg_vault.proofs.EdgeLemmas.{label_seen}
 use Rattle.tg_vault.proofs.CountLemmas.{next_grows}
-use Rattle.tg_vault.proofs.DecidedLemmas.{graph_is, of_graph}
+use Rattle.tg_vault.proofs.DecidedLemmas.{graph_is, of_graph, root_principal}
 use Rattle.tg_vault.proofs.CourseLemmas.{course_run, course_keeps}
 use Rattle.tg_vault.proofs.AddedLemmas.{step_adds}
 
@@ -84,13 +88,13 @@ since_grows k (answer.Noted note ∷ answers) none =
 since_grows k (answer.Seat fault ∷ answers) none = since_grows k answers none
 since_grows k (answer.Ask fault ∷ answers) none = since_grows k answers none
 
--- what is live in what is held does not depend on the next serial
-leads_next : (s : Stored) (n m : ℕ) (later : List ℕ) (x y : ℕ) → Leads (held s n) x later y → Leads (held s m) x later y
-leads_next s n m [] x y is = is
-leads_next s n m (z ∷ zs) x y leads = (ap is_none (label_next s m n x z) ∙ leads.0, leads_next s n m zs z y leads.1)
+-- what is live in what is held depends neither on the next serial nor on who is a principal
+leads_held : (s : Stored) (n m : ℕ) (names : List Member) (retired : set.FinSet nat_cmp) (later : List ℕ) (x y : ℕ) → Leads (seen s n names retired) x later y → Leads (held s m) x later y
+leads_held s n m names retired [] x y is = is
+leads_held s n m names retired (z ∷ zs) x y leads = (ap is_none (sym (label_seen s n m names retired x z)) ∙ leads.0, leads_held s n m names retired zs z y leads.1)
 
-live_next : (s : Stored) (n m : ℕ) (root : ℕ → Type 0) (x : ℕ) → Live (held s n) root x → Live (held s m) root x
-live_next s n m root x live = (live.0, live.1, (live.2.0, (live.2.1.0, leads_next s n m live.2.0 live.0 x live.2.1.1)))
+live_held : (s : Stored) (n m : ℕ) (names : List Member) (retired : set.FinSet nat_cmp) (root : ℕ → Type 0) (x : ℕ) → Live (seen s n names retired) root x → Live (held s m) root x
+live_held s n m names retired root x live = (live.0, live.1, (live.2.0, (live.2.1.0, leads_held s n m names retired live.2.0 live.0 x live.2.1.1)))
 
 -- next serials never fall
 graph_grows : (G : Protection) (es : List Entry) → G.next ≤ (graph_of G es).next
@@ -102,7 +106,7 @@ graph_grows G (e ∷ es) =
 
 goes_grow : (v : Contents) (e : Event) (a : Answer) (u : Contents) → VaultStep v e a u → (graph_now v).next ≤ (graph_now u).next
 goes_grow v e a u g =
-    let adds = step_adds v.limits v.names (moment v) e a (moment u) g.step in
+    let adds = step_adds v.limits (moment v) e a (moment u) g.step in
     let same = ap (λ (G : Protection). G.next) adds.graph in
     let grows = graph_grows (graph_now v) adds.added in
     omega arith
@@ -112,7 +116,7 @@ module _ (next : ℕ) (first : Stored) where
   acts_run v u ended since low run a store =
       acts v.store u.store ended since a.came a.target run a.acted
       (λ x is. let up = a.next x is in omega arith)
-      (λ x is. elim (a.live x is) [ inl live ↦ inl (live_next v.store (graph_now v).next next (IsRootIn v.store) x live) | inr above ↦ inr (omega arith) ])
+      (λ x is. elim (a.live x is) [ inl live ↦ inl (live_held v.store (graph_now v).next next (graph_now v).names (graph_now v).retired (IsRootIn v.store) x live) | inr above ↦ inr (omega arith) ])
       store
 
   -- nothing was collected
@@ -215,18 +219,22 @@ contains_seat (o ∷ table) x (inl is) = (0, sym is)
 contains_seat (o ∷ table) x (inr h) = let later = contains_seat table x h in (suc later.0, later.1)
 
 module _ (v : Contents) (s : IsCoherent v) where
-  leads_so : (later : List ℕ) (x y : ℕ) → IsVertex (held_now v) x → Leads (held_now v) x later y → Leads (graph_now v) x later y
+  abbrev H : Protection
+  H = held v.store (graph_now v).next
+
+  leads_so : (later : List ℕ) (x y : ℕ) → IsVertex H x → Leads H x later y → Leads (graph_now v) x later y
   leads_so [] x y h is = is
   leads_so (z ∷ zs) x y h leads =
-      let e : IsEdge (graph_now v) x z = ap is_none (s.ties.part.labels x z h) ∙ leads.0 in
+      let n = (graph_now v).next in
+      let e : IsEdge (graph_now v) x z = ap is_none (s.ties.part.labels x z h ∙ label_seen v.store n n (graph_now v).names (graph_now v).retired x z) ∙ leads.0 in
       (e, leads_so zs z y (s.ties.part.closed x z h e) leads.1)
 
-  root_so : (x : ℕ) → IsRootIn v.store x → IsRoot v.opening (moment v).world x
-  root_so x (inl principal) = inl ((s.ties.principals x).0 principal)
+  root_so : (x : ℕ) → IsRootIn v.store x → IsRoot (moment v).world x
+  root_so x (inl principal) = inl (root_principal v s.ties s.store x principal)
   root_so x (inr (inl target)) = inr (contains_seat (pending v.store) x target)
   root_so x (inr (inr agent)) = let at = contains_seat (agents v.store) x agent in absurd (cc (at.1, s.ties.agents at.0))
 
-  live_so : (x : ℕ) → Live (held_now v) (IsRootIn v.store) x → Live (graph_now v) (IsRoot v.opening (moment v).world) x
+  live_so : (x : ℕ) → Live H (IsRootIn v.store) x → Live (graph_now v) (IsRoot (moment v).world) x
   live_so x live = (live.0, root_so live.0 live.1, (live.2.0, (of_graph v s.ties s.store live.0 live.2.1.0, leads_so live.2.0 live.0 x live.2.1.0 live.2.1.1)))
 
   held_below : (x : ℕ) → IsHeldIn v.store x → x < (graph_now v).next
@@ -242,7 +250,7 @@ follows_idle Sweep q ended is f = absurd (cc is)
 
 -- a cycle that starts here, and two that end from here on
 from_idle : runs.IsComplete → (m : Contents) → IsCoherent m → phase m.store ≡ Idle → (after : List Event) (note : Note) (back : List Answer) (w : Contents) → Course m after (answer.Noted note ∷ back) w →
-    2 ≤ ended_in (answer.Noted note ∷ back) → (x : ℕ) → HasSlot w x → Live (held_now m) (IsRootIn m.store) x ⊎ ((graph_now m).next ≤ x)
+    2 ≤ ended_in (answer.Noted note ∷ back) → (x : ℕ) → HasSlot w x → Live (held m.store (graph_now m).next) (IsRootIn m.store) x ⊎ ((graph_now m).next ≤ x)
 from_idle law m sound idle [] note back w course two x slot = absurd course
 from_idle law m sound idle (event.Hello seat name ∷ es) note back w course two x slot = absurd course.1.step
 from_idle law m sound idle (event.Bye seat ∷ es) note back w course two x slot = absurd course.1.step
@@ -271,10 +279,10 @@ course_complete law v es answers w sound course = λ front back note is idle two
       moment m,
       record {
         before = course_run v (take (length front) es) front m s.before;
-        after = subst (λ (l : Limits). Run l v.names (moment m) (drop (length front) es) (answer.Noted note ∷ back) (moment w)) kept.limits (subst (λ n. Run m.limits n (moment m) (drop (length front) es) (answer.Noted note ∷ back) (moment w)) kept.names rest);
+        after = subst (λ (l : Limits). Run l (moment m) (drop (length front) es) (answer.Noted note ∷ back) (moment w)) kept.limits rest;
       },
       λ x slot. elim (from_idle law m here quiet (drop (length front) es) note back w s.from two x slot) [
-        | inl live ↦ inl (subst (λ (opening : Protection). Live (graph_now m) (IsRoot opening (moment m).world) x) kept.opening (live_so m here x live))
+        | inl live ↦ inl (live_so m here x live)
         | inr above ↦ inr above
       ],
     )

@@ -1,33 +1,40 @@
 -- What is held is a part of the graph of the history: what the rules decide in one, they decide in the other.
-use Rattle.std.proofs.Common.{◌≡◌, ℕ, ◌+◌, ◌-◌, ◌<◌, ◌≤◌, Bool, true, false, refl, sym, ap, subst, ◌∙◌, ◌⊎◌, inl, inr, arith}
+use Rattle.std.proofs.Common.{◌≡◌, ℕ, ◌+◌, ◌-◌, ◌<◌, ◌≤◌, List, Bool, true, false, not, refl, sym, ap, subst, ◌∙◌, inl, inr, arith}
 use Rattle.std.specs.Prelude.{◌↔◌}
-use Rattle.std.specs.Option.{is_some}
+use Rattle.std.specs.Option.{is_some, option_map}
 use Rattle.tg_rights.specs.Letters.{is_none}
+use Rattle.tg_rights.specs.Membership.{Contains}
 use Rattle.tg_rights.specs.declared.command.Command.{Command}
 use Rattle.tg_rights.specs.declared.outcome.Which.{Which}
 use Rattle.tg_rights.specs.declared.outcome.Which.TheVariants as which
 use Rattle.tg_rights.specs.declared.outcome.Outcome.{Outcome}
 use Rattle.tg_rights.specs.declared.outcome.Outcome.TheVariants as outcome
-use Rattle.tg_graph.specs.Protection.{Protection, IsGraph, IsVertex, IsSubject}
+use Rattle.tg_graph.specs.declared.member.Member.{Member}
+use Rattle.tg_graph.specs.declared.vertex.Vertex.{Vertex}
+use Rattle.tg_graph.specs.Names.{has_serial}
+use Rattle.tg_graph.specs.Protection.{Protection, IsGraph, IsVertex, IsSubject, has_retired, is_active}
 use Rattle.tg_graph.specs.Paths.{Agree}
 use Rattle.tg_graph.specs.Fullness.{Limits, NewEdge, Permitted, vertex_count, edge_count}
 use Rattle.tg_graph.specs.Terms as effect
 use Rattle.tg_graph.specs.Terms.{Does, terms}
-use Rattle.tg_graph.specs.Rules.{Allowed, Judged, answered, reply_of, is_create, is_new, last_serial}
+use Rattle.tg_graph.specs.Rules.{Allowed, Judged, allowed_reply, answered, is_create, is_new, last_serial}
 use Rattle.tg_graph.proofs.OutcomesAgreeLemmas.{Judged-agrees}
 use Rattle.tg_graph.proofs.ProtectionLemmas.{Entitled, edge_to, entitled}
 use Rattle.tg_graph.proofs.PartsStayLemmas.{part_agrees}
 use Rattle.tg_graph.proofs.ExactlyOneOutcomeLemmas.{verdict-Judged}
 use Rattle.tg_graph.proofs.RepliesAgreeLemmas.{same_reply}
-use Rattle.tg_collect.specs.Readings.{IsHeldIn, IsRootIn}
+use Rattle.tg_graph.proofs.RollLemmas.{member_finds, member_found, untrue}
+use Rattle.tg_collect.specs.Readings.{IsHeldIn, IsRootIn, principals}
 use Rattle.tg_collect.specs.Views.{IsStore}
 use Rattle.tg_collect.proofs.RunLemmas.{held_graph}
-use Rattle.tg_vault.specs.History.{IsPrincipal}
+use Rattle.tg_vault.specs.History.{MayAsk}
 use Rattle.tg_vault.specs.World.{ExactSlots, World}
 use Rattle.tg_vault.specs.Contents.{Contents, graph_now, held_now}
 use Rattle.tg_vault.specs.Fits.{Ties}
 use Rattle.tg_vault.specs.CarriedOut.{Decided, IsUsedUp}
-use Rattle.tg_vault.proofs.HistoryLemmas.{legal_keeps}
+use Rattle.tg_vault.proofs.HistoryLemmas.{active_subject, legal_keeps}
+use Rattle.tg_vault.proofs.SerialsLemmas.{is_listed, listed}
+use Rattle.tg_vault.proofs.CarriedOutLemmas.{retired_denied}
 
 pub agree_back : (G H : Protection) (x : ℕ) → Agree G H x → Agree H G x
 agree_back G H x a = record {
@@ -36,9 +43,11 @@ agree_back G H x a = record {
   paths = λ later y. ((a.paths later y).1, (a.paths later y).0);
   vertices = λ later y p. sym (a.vertices later y ((a.paths later y).1 p));
   labels = λ later y z p. sym (a.labels later y z ((a.paths later y).1 p));
+  names = sym a.names;
+  retired = sym a.retired;
 }
 
--- who can give a command: a root of the store, and a subject
+-- who can have a command carried out: a root of the store, and a subject
 pub record IsActor (v : Contents) (x : ℕ) : Type 0 where
   pub root : IsRootIn v.store x
   pub subject : IsSubject (graph_now v) x
@@ -51,23 +60,48 @@ module _ (v : Contents) (j : Ties v) (store : IsStore v.store) where
   H = held_now v
 
   pub graph_is : IsGraph (graph_now v)
-  graph_is = (legal_keeps v.limits v.opening v.history (graph_now v) j.opened j.vault.legal).0
+  graph_is = legal_keeps v.limits v.opening v.history (graph_now v) j.opened j.vault.legal
 
   pub of_graph : (x : ℕ) → IsVertex H x → IsVertex G x
   of_graph x h = ap is_some (j.part.vertices x h) ∙ h
 
+  -- the roots of the store are the principals of the graph, and the pending targets
+  pub principal_root : (x : ℕ) → is_active (graph_now v) x ≡ true → IsRootIn v.store x
+  principal_root x active =
+      inl (subst (λ (xs : List ℕ). Contains xs x) (sym j.principals) (is_listed v.names x (subst (λ (ms : List Member). has_serial ms x ≡ true) (sym j.names) active)))
+
+  pub root_principal : (x : ℕ) → Contains (principals v.store) x → is_active (graph_now v) x ≡ true
+  root_principal x root = subst (λ (ms : List Member). has_serial ms x ≡ true) j.names (listed v.names x (subst (λ (xs : List ℕ). Contains xs x) j.principals root))
+
+  pub principal_acts : (x : ℕ) → is_active (graph_now v) x ≡ true → IsActor v x
+  principal_acts x active = record { root = principal_root x active; subject = active_subject (graph_now v) x graph_is active }
+
+  member_held : (m : Member) → Contains (graph_now v).names m → IsVertex (held_now v) m.serial
+  member_held m h = store.roots_held m.serial (principal_root m.serial (member_finds (graph_now v).names m.serial (m, h, refl)))
+
   pub held_is : IsGraph (held_now v)
-  held_is = held_graph store (graph_now v).next (λ x h. graph_is.below_next x (of_graph x h))
+  held_is = held_graph store (graph_now v).next (graph_now v).names (graph_now v).retired (λ x h. graph_is.below_next x (of_graph x h)) (record {
+    subjects = λ m h. ap (option_map (λ (e : Vertex). e.kind)) (sym (j.part.vertices m.serial (member_held m h))) ∙ graph_is.roll.subjects m h;
+    active = graph_is.roll.active;
+    rising = graph_is.roll.rising;
+    apart = graph_is.roll.apart;
+    few = graph_is.roll.few;
+    past = graph_is.roll.past;
+  })
 
   -- the next serial is nobody's
   pub next_unheld : IsHeldIn v.store (graph_now v).next → ⊥
   next_unheld h = let below : (graph_now v).next < (graph_now v).next = held_is.below_next (graph_now v).next h in absurd (omega arith)
 
-  pub principal_acts : (x : ℕ) → IsPrincipal v.opening x → IsActor v x
-  principal_acts x principal = record {
-    root = inl ((j.principals x).1 principal);
-    subject = (legal_keeps v.limits v.opening v.history (graph_now v) j.opened j.vault.legal).1 x principal;
-  }
+  -- a principal has not retired, and whoever may ask and is none has
+  pub asks_told : (x : ℕ) → MayAsk (graph_now v) x → has_retired (graph_now v) x ≡ not (has_serial v.names x)
+  asks_told x asks = subst (λ (ms : List Member). has_retired (graph_now v) x ≡ not (has_serial ms x)) (sym j.names) (by asks) where
+    apart : is_active (graph_now v) x ≡ true → has_retired (graph_now v) x ≡ false
+    apart active = let m = member_found (graph_now v).names x active in subst (λ (n : ℕ). has_retired (graph_now v) n ≡ false) m.2 (graph_is.roll.active m.0 m.1)
+
+    by : MayAsk (graph_now v) x → has_retired (graph_now v) x ≡ not (has_serial (graph_now v).names x)
+    by (inl active) = apart active ∙ ap not (sym active)
+    by (inr gone) = gone ∙ ap not (sym (untrue (is_active (graph_now v) x) (λ active. cc (apart active, gone))))
 
   module _ (x : ℕ) (actor : IsActor v x) where
     pub actor_held : IsVertex (held_now v) x
@@ -86,19 +120,21 @@ module _ (v : Contents) (j : Ties v) (store : IsStore v.store) where
     -- the same edges are made in both
     new_edge_so : (d : Does) → Entitled H (IsVertex H) (λ v z k e. edge_to H held_is v z e) x actor_held d → NewEdge H d → NewEdge G d
     new_edge_so (effect.Joins from α to) h new = λ e. new (ap is_none (sym (j.part.labels from to h.0)) ∙ e)
-    new_edge_so (effect.Makes k α) h new = new
+    new_edge_so (effect.Makes k α name) h new = new
     new_edge_so (effect.Drops α over) h new = new
     new_edge_so (effect.Rewrites over text) h new = new
     new_edge_so (effect.Tells over) h new = new
     new_edge_so (effect.Lists at) h new = new
+    new_edge_so effect.Retires h new = new
 
     new_edge_back : (d : Does) → Entitled H (IsVertex H) (λ v z k e. edge_to H held_is v z e) x actor_held d → NewEdge G d → NewEdge H d
     new_edge_back (effect.Joins from α to) h new = λ e. new (ap is_none (j.part.labels from to h.0) ∙ e)
-    new_edge_back (effect.Makes k α) h new = new
+    new_edge_back (effect.Makes k α name) h new = new
     new_edge_back (effect.Drops α over) h new = new
     new_edge_back (effect.Rewrites over text) h new = new
     new_edge_back (effect.Tells over) h new = new
     new_edge_back (effect.Lists at) h new = new
+    new_edge_back effect.Retires h new = new
 
     pub used_up_so : (c : Command) (f g : ℕ) (w : Which) → Allowed H x c → IsUsedUp H f g (terms x c).does w → IsUsedUp G f g (terms x c).does w
     used_up_so c f g which.Serials a u = u
@@ -115,23 +151,31 @@ module _ (v : Contents) (j : Ties v) (store : IsStore v.store) where
     decided_so c f g (outcome.Denied rule cause) d = judged_so c (outcome.Denied rule cause) d
     decided_so c f g (outcome.Full w) d = (judged_so c outcome.Allowed d.0, used_up_so c f g w d.0 d.1)
 
-    pub replied_so : (c : Command) (o : Outcome) → Judged H x c outcome.Allowed ⊎ ((o ≡ outcome.Allowed) → ⊥) → reply_of H x c o ≡ reply_of G x c o
-    replied_so c outcome.Allowed (inl a) = by (is_create x c) refl where
-      -- the new serial is that of the graph; the rest of a reply the actor can see in both
+    -- the new serial is that of the graph; the rest of a reply the actor can see in both
+    pub replied_so : (c : Command) → Allowed H x c → allowed_reply H x c ≡ allowed_reply G x c
+    replied_so c a = by (is_create x c) refl where
       made : (d : Does) → is_new d ≡ true → answered H d ≡ answered G d
       made (effect.Joins from α to) new = absurd (cc new)
-      made (effect.Makes k α) new = refl
+      made (effect.Makes k α name) new = refl
       made (effect.Drops α over) new = absurd (cc new)
       made (effect.Rewrites over text) new = absurd (cc new)
       made (effect.Tells over) new = absurd (cc new)
       made (effect.Lists at) new = absurd (cc new)
+      made effect.Retires new = absurd (cc new)
 
       by : (b : Bool) → is_create x c ≡ b → answered H (terms x c).does ≡ answered G (terms x c).does
       by true new = made (terms x c).does new
       by false old = same_reply H G x actor_agrees c held_is graph_is a old
-    replied_so c outcome.Allowed (inr not) = absurd (not refl)
-    replied_so c (outcome.Denied rule cause) a = refl
-    replied_so c (outcome.Full w) a = refl
+
+-- a command of one who has retired is denied, whatever is held
+module _ (G : Protection) (x : ℕ) (c : Command) (gone : has_retired G x ≡ true) where
+  pub retired_refused : Allowed G x c → ⊥
+  retired_refused a = cc (a, retired_denied G x c gone)
+
+  pub retired_decided : (H : Protection) (f g : ℕ) (o : Outcome) → has_retired H x ≡ true → Decided H f g x c o → Decided G f g x c o
+  retired_decided H f g outcome.Allowed there d = absurd (cc (d.0, retired_denied H x c there))
+  retired_decided H f g (outcome.Denied rule why) there d = (d.0, retired_denied G x c gone ∙ sym (retired_denied H x c there) ∙ d.1)
+  retired_decided H f g (outcome.Full w) there d = absurd (cc (d.0, retired_denied H x c there))
 
 -- a command has one outcome by the rules
 pub judged_once : (G : Protection) (x : ℕ) (c : Command) (o p : Outcome) → Judged G x c o → Judged G x c p → p ≡ o
@@ -168,12 +212,13 @@ exact_slots limits w f g x c o used few d = (to o d, back o d) where
   back (outcome.Full which.Cells) d h = absurd (d.1.1 h.0 (let full = h.3 in omega arith))
 
 no_serial : (G : Protection) (f g : ℕ) (d : Does) → IsUsedUp G f g d which.Serials → IsUsedUp G f g d which.Cells → ⊥
-no_serial G f g (effect.Makes k α) a b = let above = a.1 in let below = b.0 in absurd (omega arith)
+no_serial G f g (effect.Makes k α name) a b = let above = a.1 in let below = b.0 in absurd (omega arith)
 no_serial G f g (effect.Joins from α to) a b = cc a.0
 no_serial G f g (effect.Drops α over) a b = cc a.0
 no_serial G f g (effect.Rewrites over text) a b = cc a.0
 no_serial G f g (effect.Tells over) a b = cc a.0
 no_serial G f g (effect.Lists at) a b = cc a.0
+no_serial G f g effect.Retires a b = cc a.0
 
 -- full exactly if something is used up
 pub exact_full : (G : Protection) (f g x : ℕ) (c : Command) (o : Outcome) (w : Which) → Decided G f g x c o → (o ≡ outcome.Full w) ↔ (Allowed G x c × IsUsedUp G f g (terms x c).does w)

@@ -1,19 +1,19 @@
 -- A vault with one more entry.
-use Rattle.std.proofs.Common.{◌≡◌, ℕ, ◌+◌, ◌-◌, ◌<◌, ◌≤◌, List, [], ◌∷◌, ◌++◌, refl, sym, ap, subst, ◌∙◌, ◌⊎◌, inl, inr, Some, None, Bool, true, false, cond, arith}
-use Rattle.std.specs.Prelude.{◌↔◌}
+use Rattle.std.proofs.Common.{◌≡◌, ℕ, ◌+◌, ◌-◌, ◌<◌, ◌≤◌, List, [], ◌∷◌, ◌++◌, refl, sym, ap, subst, ◌∙◌, ◌⊎◌, inl, inr, Some, None, Bool, true, false, not, cond, arith}
 use Rattle.std.proofs.lemmas.List.Elements.{All-append, All-cons, All-nil}
 use Rattle.tg_rights.specs.Letters.{joined, without}
-use Rattle.tg_rights.specs.Membership.{Contains}
 use Rattle.tg_rights.specs.declared.command.Command.{Command}
 use Rattle.tg_rights.specs.declared.outcome.Outcome.{Outcome}
 use Rattle.tg_rights.specs.declared.outcome.Outcome.TheVariants as outcome
 use Rattle.tg_rights.specs.declared.outcome.Reply.{Reply}
+use Rattle.tg_graph.specs.declared.member.Member.{Member}
+use Rattle.tg_graph.specs.Names.{has_serial}
 use Rattle.tg_graph.specs.Protection.{Protection, IsGraph, IsVertex}
 use Rattle.tg_graph.specs.Terms as effect
 use Rattle.tg_graph.specs.Terms.{Does, terms}
 use Rattle.tg_graph.specs.Paths.{Agree, IsPart, Live, Reaches}
 use Rattle.tg_graph.specs.Fullness.{Permitted, edges_at, vertex_count, edge_count}
-use Rattle.tg_graph.specs.Rules.{Allowed, Judged, is_create, next_graph, reply_of}
+use Rattle.tg_graph.specs.Rules.{Allowed, is_create, next_graph, reply_of}
 use Rattle.tg_graph.proofs.OutcomesAgreeLemmas.{Judged-agrees, reaches_on}
 use Rattle.tg_graph.proofs.ProtectionLemmas.{Entitled, edge_to, entitled}
 use Rattle.tg_graph.proofs.PartsStayLemmas.{part_stays}
@@ -21,10 +21,11 @@ use Rattle.tg_graph.proofs.RepliesAgreeLemmas.{same_reply}
 use Rattle.tg_graph.proofs.VertexLemmas.{IsVertex-from_kind}
 use Rattle.tg_vault.specs.declared.entry.Entry.{Entry}
 use Rattle.tg_collect.specs.Stored.{Stored}
-use Rattle.tg_collect.specs.Readings.{held, IsRootIn, IsParkedIn, pending, free_slots}
+use Rattle.tg_collect.specs.Readings.{IsRootIn, IsParkedIn, pending, free_slots}
 use Rattle.tg_collect.specs.Views.{IsStore}
 use Rattle.tg_collect.proofs.RunLemmas.{acted_parked}
-use Rattle.tg_vault.specs.History.{IsPrincipal}
+use Rattle.tg_vault.specs.History.{MayAsk}
+use Rattle.tg_vault.specs.Seen.{seen}
 use Rattle.tg_vault.specs.World.{at_seat, new_target, target_of, with_target, slots_taken, entered, Enters}
 use Rattle.tg_vault.specs.Contents.{Contents, IsVault, graph_now, held_now, moment}
 use Rattle.tg_vault.specs.Fits.{Ties, IsTied}
@@ -32,10 +33,10 @@ use Rattle.tg_vault.specs.StoreSteps.{SessionStep}
 use Rattle.tg_vault.specs.Exact.{IsExact}
 use Rattle.tg_vault.specs.Agreement.{SameForAgreeing, JudgedAlike, IsOfGraph}
 use Rattle.tg_vault.specs.Told.{told}
-use Rattle.tg_vault.specs.CarriedOut.{CarriedOut, Decided, CellsMoved, EdgeMoves, new_serial}
-use Rattle.tg_vault.proofs.HistoryLemmas.{graph_of_more, along_more, told_outcome}
-use Rattle.tg_vault.proofs.DecidedLemmas.{IsActor, graph_is, held_is, principal_acts, actor_held, entitled_held, decided_so, replied_so, decided_permitted, exact_slots, exact_full}
-use Rattle.tg_vault.proofs.CountLemmas.{next_same, target_same, vertex_stays, vertices_counted, edges_counted}
+use Rattle.tg_vault.specs.CarriedOut.{CarriedOut, CarriedOutAmong, Decided, CellsMoved, EdgeMoves, new_serial}
+use Rattle.tg_vault.proofs.HistoryLemmas.{along_more, asks_stay, graph_of_more, told_outcome}
+use Rattle.tg_vault.proofs.DecidedLemmas.{IsActor, actor_held, asks_told, decided_permitted, decided_so, entitled_held, exact_full, exact_slots, graph_is, held_is, principal_acts, replied_so, retired_decided, retired_refused}
+use Rattle.tg_vault.proofs.CountLemmas.{Carried, edges_counted, next_same, target_same, vertex_stays, vertices_counted}
 
 judged_alike : (G K : Protection) (f g x : ℕ) (c : Command) (o : Outcome) → Agree G K x → Decided G f g x c o → JudgedAlike K x c o
 judged_alike G K f g x c outcome.Allowed agree d = Judged-agrees G K x c outcome.Allowed agree d.0
@@ -52,11 +53,6 @@ allowed_of G f g x c outcome.Allowed d is = d.0
 allowed_of G f g x c (outcome.Denied rule cause) d is = absurd (cc is)
 allowed_of G f g x c (outcome.Full w) d is = absurd (cc is)
 
-judged_or : (G : Protection) (f g x : ℕ) (c : Command) (o : Outcome) → Decided G f g x c o → Judged G x c outcome.Allowed ⊎ ((o ≡ outcome.Allowed) → ⊥)
-judged_or G f g x c outcome.Allowed d = inl d.0
-judged_or G f g x c (outcome.Denied rule cause) d = inr (λ is. cc is)
-judged_or G f g x c (outcome.Full w) d = inr (λ is. cc is)
-
 -- a target is reached from the actor, or new
 module _ (H : Protection) (root : ℕ → Type 0) (x : ℕ) (is_root : root x) (x_in : IsVertex H x) where
   here : Reaches H x x
@@ -64,16 +60,15 @@ module _ (H : Protection) (root : ℕ → Type 0) (x : ℕ) (is_root : root x) (
 
   done_target : (d : Does) → Entitled H (Reaches H x) (reaches_on H x) x here d → (y : ℕ) → new_target H d ≡ Some y → Live H root y ⊎ (H.next ≤ y)
   done_target (effect.Joins from α to) h y is = let same : to ≡ y = cc is in inl (x, is_root, subst (Reaches H x) same h.1)
-  done_target (effect.Makes k α) h y is = let same : H.next ≡ y = cc is in inr (omega arith)
+  done_target (effect.Makes k α name) h y is = let same : H.next ≡ y = cc is in inr (omega arith)
   done_target (effect.Drops α over) h y is = absurd (cc is)
   done_target (effect.Rewrites over text) h y is = absurd (cc is)
   done_target (effect.Tells over) h y is = absurd (cc is)
   done_target (effect.Lists at) h y is = absurd (cc is)
+  done_target effect.Retires h y is = absurd (cc is)
 
-  target_live : (c : Command) (o : Outcome) → (o ≡ outcome.Allowed → Allowed H x c) → (y : ℕ) → target_of H x c o ≡ Some y → Live H root y ⊎ (H.next ≤ y)
-  target_live c outcome.Allowed a y is = done_target (terms x c).does (entitled H (Reaches H x) (reaches_on H x) x here c (a refl)) y is
-  target_live c (outcome.Denied rule cause) a y is = absurd (cc is)
-  target_live c (outcome.Full w) a y is = absurd (cc is)
+  target_live : (c : Command) → Allowed H x c → (y : ℕ) → new_target H (terms x c).does ≡ Some y → Live H root y ⊎ (H.next ≤ y)
+  target_live c a y is = done_target (terms x c).does (entitled H (Reaches H x) (reaches_on H x) x here c a) y is
 
 new_is_next : (next x : ℕ) (c : Command) (o : Outcome) (y : ℕ) → new_serial next x c o ≡ Some y → next ≤ y
 new_is_next next x c outcome.Allowed y is = by (is_create x c) is where
@@ -84,34 +79,35 @@ new_is_next next x c (outcome.Denied rule cause) y is = absurd (cc is)
 new_is_next next x c (outcome.Full w) y is = absurd (cc is)
 
 -- the labels that change are the same in both
-module _ (v : Contents) (j : Ties v) (store : IsStore v.store) (x : ℕ) (actor : IsActor v x) (before after : ℕ) where
-  done_moves : (d : Does) → Entitled (held_now v) (IsVertex (held_now v)) (λ w z k e. edge_to (held_now v) (held_is v j store) w z e) x (actor_held v j store x actor) d →
+module _ (v : Contents) (j : Ties v) (store : IsStore v.store) (x : ℕ) (before after : ℕ) where
+  done_moves : (actor : IsActor v x) (d : Does) → Entitled (held_now v) (IsVertex (held_now v)) (λ w z k e. edge_to (held_now v) (held_is v j store) w z e) x (actor_held v j store x actor) d →
       EdgeMoves (held_now v) before after x d → EdgeMoves (graph_now v) before after x d
-  done_moves (effect.Joins from α to) h moved = subst (λ l. after + edges_at (joined l α) ≡ before + edges_at l) (sym (j.part.labels from to h.0)) moved
-  done_moves (effect.Makes k α) h moved = moved
-  done_moves (effect.Drops α over) h moved = subst (λ l. after + edges_at (without l α) ≡ before + edges_at l) (sym (j.part.labels x over (actor_held v j store x actor))) moved
-  done_moves (effect.Rewrites over text) h moved = moved
-  done_moves (effect.Tells over) h moved = moved
-  done_moves (effect.Lists at) h moved = moved
+  done_moves actor (effect.Joins from α to) h moved = subst (λ l. after + edges_at (joined l α) ≡ before + edges_at l) (sym (j.part.labels from to h.0)) moved
+  done_moves actor (effect.Makes k α name) h moved = moved
+  done_moves actor (effect.Drops α over) h moved = subst (λ l. after + edges_at (without l α) ≡ before + edges_at l) (sym (j.part.labels x over (actor_held v j store x actor))) moved
+  done_moves actor (effect.Rewrites over text) h moved = moved
+  done_moves actor (effect.Tells over) h moved = moved
+  done_moves actor (effect.Lists at) h moved = moved
+  done_moves actor effect.Retires h moved = moved
 
-  moved_so : (c : Command) (o : Outcome) → (o ≡ outcome.Allowed → Allowed (held_now v) x c) → CellsMoved (held_now v) before after x c o → CellsMoved (graph_now v) before after x c o
-  moved_so c outcome.Allowed a moved = done_moves (terms x c).does (entitled_held v j store x actor c (a refl)) moved
-  moved_so c (outcome.Denied rule cause) a moved = moved
-  moved_so c (outcome.Full w) a moved = moved
+  moved_so : (c : Command) (o : Outcome) → (o ≡ outcome.Allowed → Allowed (held_now v) x c) → (Allowed (held_now v) x c → IsActor v x) → CellsMoved (held_now v) before after x c o → CellsMoved (graph_now v) before after x c o
+  moved_so c outcome.Allowed a acts moved = let actor = acts (a refl) in done_moves actor (terms x c).does (entitled_held v j store x actor c (a refl)) moved
+  moved_so c (outcome.Denied rule cause) a acts moved = moved
+  moved_so c (outcome.Full w) a acts moved = moved
 
 -- what is free is at most all
 pub free_few : (v : Contents) → Ties v → IsStore v.store → free_slots v.store ≤ v.limits.slots
 free_few v j store = let all = store.slots 0 in let many = j.slots in omega arith
 
--- a command was carried out in the store of a vault
-pub record Serving (v : Contents) (seat x : ℕ) (c : Command) (answer : Reply) (t : Stored) (after : ℕ) : Type 0 where
+-- a command was carried out in the store of a vault and in the list of its principals
+pub record Serving (v : Contents) (seat x : ℕ) (c : Command) (answer : Reply) (t : Stored) (members : List Member) (after : ℕ) : Type 0 where
   pub joins : Ties v
   pub store : IsStore v.store
   pub within : seat < 64
   pub seated : at_seat v.seats seat ≡ Some x
-  pub carried : CarriedOut v.store t (graph_now v).next after seat x c answer
+  pub carried : CarriedOut v.store t (graph_now v).next after (graph_now v).names members (graph_now v).retired seat x c answer
 
-module _ (v : Contents) (seat x : ℕ) (c : Command) (answer : Reply) (t : Stored) (after : ℕ) (s : Serving v seat x c answer t after) where
+module _ (v : Contents) (seat x : ℕ) (c : Command) (answer : Reply) (t : Stored) (members : List Member) (after : ℕ) (s : Serving v seat x c answer t members after) where
   abbrev j : Ties v
   j = s.joins
 
@@ -129,25 +125,29 @@ module _ (v : Contents) (seat x : ℕ) (c : Command) (answer : Reply) (t : Store
 
   -- the vault with the entry
   abbrev pub left : Contents
-  left = record v { store = t; history = v.history ++ e ∷ [] }
+  left = record v { store = t; names = members; history = v.history ++ e ∷ [] }
 
-  principal : IsPrincipal v.opening x
-  principal = j.vault.seated seat x s.seated
+  asks : MayAsk G x
+  asks = j.vault.seated seat x s.seated
 
-  actor : IsActor v x
-  actor = principal_acts v j s.store x principal
+  -- who has a command carried out has not retired
+  acts : Allowed H x c → IsActor v x
+  acts a = elim asks [ inl active ↦ principal_acts v j s.store x active | inr gone ↦ absurd (retired_refused H x c gone a) ]
 
   in_G : IsGraph G
   in_G = graph_is v j s.store
 
-  x_in : IsVertex H x
-  x_in = actor_held v j s.store x actor
+  x_in : Allowed H x c → IsVertex H x
+  x_in a = actor_held v j s.store x (acts a)
 
-  x_in_G : IsVertex G x
-  x_in_G = IsVertex-from_kind G x _ actor.subject
+  x_in_G : Allowed H x c → IsVertex G x
+  x_in_G a = IsVertex-from_kind G x _ (acts a).subject
 
   decided : Decided G (free_slots v.store) v.store.free_cells x c o
-  decided = decided_so v j s.store x actor c (free_slots v.store) v.store.free_cells o s.carried.decided
+  decided = elim asks [
+    | inl active ↦ decided_so v j s.store x (principal_acts v j s.store x active) c (free_slots v.store) v.store.free_cells o s.carried.decided
+    | inr gone ↦ retired_decided G x c gone H (free_slots v.store) v.store.free_cells o gone s.carried.decided
+  ]
 
   allowed : o ≡ outcome.Allowed → Allowed G x c
   allowed = allowed_of G (free_slots v.store) v.store.free_cells x c o decided
@@ -155,11 +155,18 @@ module _ (v : Contents) (seat x : ℕ) (c : Command) (answer : Reply) (t : Store
   allowed_held : o ≡ outcome.Allowed → Allowed H x c
   allowed_held = allowed_of H (free_slots v.store) v.store.free_cells x c o s.carried.decided
 
+  carried : Carried G in_G x c o
+  carried is = (x_in_G (allowed_held is), allowed is)
+
   permitted : Permitted v.limits G x c o
   permitted = decided_permitted v.limits G (free_slots v.store) v.store.free_cells x c o j.many_slots j.many_cells decided
 
   replied : answer ≡ reply_of G x c o
-  replied = s.carried.replied ∙ replied_so v j s.store x actor c o (judged_or H (free_slots v.store) v.store.free_cells x c o s.carried.decided)
+  replied = s.carried.replied ∙ by o allowed_held where
+    by : (p : Outcome) → (p ≡ outcome.Allowed → Allowed H x c) → reply_of H x c p ≡ reply_of G x c p
+    by outcome.Allowed a = replied_so v j s.store x (acts (a refl)) c (a refl)
+    by (outcome.Denied rule cause) a = refl
+    by (outcome.Full w) a = refl
 
   graph_left : graph_now left ≡ next_graph G x c o
   graph_left = graph_of_more v.opening v.history e
@@ -209,31 +216,39 @@ module _ (v : Contents) (seat x : ℕ) (c : Command) (answer : Reply) (t : Store
     target = target_of H x c o;
     acted = s.carried.acted;
     next = λ y is. new_is_next (graph_now v).next x c o y is;
-    live = λ y is. target_live H (IsRootIn v.store) x actor.root x_in c o allowed_held y is;
-  }
+    live = λ y is. live o allowed_held y is;
+  } where
+    live : (p : Outcome) → (p ≡ outcome.Allowed → Allowed H x c) → (y : ℕ) → target_of H x c p ≡ Some y → Live H (IsRootIn v.store) y ⊎ (H.next ≤ y)
+    live outcome.Allowed a y is = target_live H (IsRootIn v.store) x (acts (a refl)).root (x_in (a refl)) c (a refl) y is
+    live (outcome.Denied rule cause) a y is = absurd (cc is)
+    live (outcome.Full w) a y is = absurd (cc is)
 
   still_vault : IsVault left
   still_vault = record {
-    legal = record {
-      graphs = along_more v.limits v.opening v.history G e (graph_now left) j.vault.legal.graphs (permitted, graph_left);
-      actors = All-append (λ (e : Entry). IsPrincipal v.opening e.actor) v.history (e ∷ []) j.vault.legal.actors (All-cons (λ (e : Entry). IsPrincipal v.opening e.actor) e [] principal (All-nil _));
-    };
+    legal = record { graphs = along_more v.limits v.opening v.history G e (graph_now left) j.vault.legal.graphs (asks, permitted, graph_left) };
+    began = j.vault.began;
     sat = All-append (λ (e : Entry). e.seat < 64) v.history (e ∷ []) j.vault.sat (All-cons (λ (e : Entry). e.seat < 64) e [] s.within (All-nil _));
     seats = j.vault.seats;
-    few = j.vault.few;
-    named = j.vault.named;
-    seated = j.vault.seated;
+    seated = λ k y at. subst (λ (K : Protection). MayAsk K y) (sym graph_left) (asks_stay G x c o y (j.vault.seated k y at));
   }
 
-  part_next : (d : Outcome) → (d ≡ outcome.Allowed → Allowed G x c) → IsPart (next_graph G x c d) (next_graph H x c d)
-  part_next outcome.Allowed a = part_stays G H j.part x c in_G (held_is v j s.store) refl x_in x_in_G (a refl)
-  part_next (outcome.Denied rule cause) a = j.part
-  part_next (outcome.Full w) a = j.part
+  part_next : IsPart (next_graph G x c o) (next_graph H x c o)
+  part_next = by o allowed allowed_held where
+    by : (p : Outcome) → (p ≡ outcome.Allowed → Allowed G x c) → (p ≡ outcome.Allowed → Allowed H x c) → IsPart (next_graph G x c p) (next_graph H x c p)
+    by outcome.Allowed a there = part_stays G H j.part x c in_G (held_is v j s.store) refl (x_in (there refl)) (x_in_G (there refl)) (a refl)
+    by (outcome.Denied rule cause) a there = j.part
+    by (outcome.Full w) a there = j.part
+
+  names_are : members ≡ (graph_now left).names
+  names_are = ap (λ (K : Protection). K.names) s.carried.graph ∙ sym part_next.names ∙ sym (ap (λ (K : Protection). K.names) graph_left)
+
+  held_left : next_graph H x c o ≡ held_now left
+  held_left =
+      let retired_are : (next_graph H x c o).retired ≡ (graph_now left).retired = sym part_next.retired ∙ sym (ap (λ (K : Protection). K.retired) graph_left) in
+      sym s.carried.graph ∙ (λ i. seen t (after_is i) (names_are i) (retired_are i))
 
   still_part : IsPart (graph_now left) (held_now left)
-  still_part =
-      let same : next_graph H x c o ≡ held_now left = sym s.carried.graph ∙ ap (held t) after_is in
-      subst (λ K. IsPart (graph_now left) K) same (subst (λ K. IsPart K (next_graph H x c o)) (sym graph_left) (part_next o allowed))
+  still_part = subst (λ K. IsPart (graph_now left) K) held_left (subst (λ K. IsPart K (next_graph H x c o)) (sym graph_left) part_next)
 
   pub serving_joined : IsTied left after
   serving_joined = record {
@@ -241,65 +256,72 @@ module _ (v : Contents) (seat x : ℕ) (c : Command) (answer : Reply) (t : Store
       vault = still_vault;
       opened = j.opened;
       part = still_part;
-      parked = λ y h. subst (λ (K : Protection). IsVertex K y) (sym graph_left) (vertex_stays G in_G x x_in_G c o allowed y (j.parked y (acted_parked s.carried.acted y h)));
-      principals = λ y. subst (λ (ps : List ℕ). Contains ps y ↔ IsPrincipal v.opening y) (sym s.carried.acted.principals) (j.principals y);
+      parked = λ y h. subst (λ (K : Protection). IsVertex K y) (sym graph_left) (vertex_stays G in_G x c o carried y (j.parked y (acted_parked s.carried.acted y h)));
+      names = names_are;
+      principals = s.carried.principals;
       agents = λ k. ap (λ table. at_seat table k) s.carried.acted.agents ∙ j.agents k;
       slots = s.carried.acted.slots ∙ j.slots;
       cells = s.carried.acted.cells ∙ j.cells;
       many_slots =
           let many = j.many_slots in
           let moved = s.carried.slots in
-          let counted = ap vertex_count graph_left ∙ vertices_counted G in_G x x_in_G c o allowed in
+          let counted = ap vertex_count graph_left ∙ vertices_counted G in_G x c o carried in
           omega arith;
       many_cells =
           let many = j.many_cells in
           let same = ap edge_count graph_left in
-          let counted = edges_counted G in_G x x_in_G c o v.store.free_cells t.free_cells allowed (moved_so v j s.store x actor v.store.free_cells t.free_cells c o allowed_held s.carried.cells) in
+          let counted = edges_counted G in_G x c o v.store.free_cells t.free_cells carried (moved_so v j s.store x v.store.free_cells t.free_cells c o allowed_held acts s.carried.cells) in
           omega arith;
     };
     serial = after_is;
   }
 
 -- the entry is that of the reply, and is pushed
-pub record Pushed (v : Contents) (next seat x : ℕ) (c : Command) (answer : Reply) (t : Stored) (after : ℕ) (decision : Outcome) (history : List Entry) : Type 0 where
+pub record Pushed (v : Contents) (next seat x : ℕ) (c : Command) (answer : Reply) (t : Stored) (members : List Member) (after : ℕ) (decision : Outcome) (history : List Entry) : Type 0 where
   pub joined : IsTied v next
   pub store : IsStore v.store
   pub within : seat < 64
   pub seated : at_seat v.seats seat ≡ Some x
-  pub carried : CarriedOut v.store t next after seat x c answer
+  pub carried : CarriedOutAmong v.store t next after v.names members (not (has_serial v.names x)) seat x c answer
   pub decision_is : decision ≡ told answer
   pub history_is : history ≡ v.history ++ record { seat = seat; actor = x; command = c; outcome = decision } ∷ []
 
-module _ (v : Contents) (next seat x : ℕ) (c : Command) (answer : Reply) (t : Stored) (after : ℕ) (decision : Outcome) (history : List Entry) (p : Pushed v next seat x c answer t after decision history) where
-  serving : Serving v seat x c answer t after
-  serving = record {
-    joins = p.joined.joins;
-    store = p.store;
-    within = p.within;
-    seated = p.seated;
-    carried = subst (λ n. CarriedOut v.store t n after seat x c answer) p.joined.serial p.carried;
-  }
+module _ (v : Contents) (next seat x : ℕ) (c : Command) (answer : Reply) (t : Stored) (members : List Member) (after : ℕ) (decision : Outcome) (history : List Entry)
+    (p : Pushed v next seat x c answer t members after decision history) where
+  serving : Serving v seat x c answer t members after
+  serving =
+      let ties = p.joined.joins in
+      let carried = p.carried (graph_now v).retired (asks_told v ties p.store x (ties.vault.seated seat x p.seated)) in
+      record {
+        joins = ties;
+        store = p.store;
+        within = p.within;
+        seated = p.seated;
+        carried =
+            subst (λ (ms : List Member). CarriedOut v.store t (graph_now v).next after ms members (graph_now v).retired seat x c answer) ties.names
+            (subst (λ (n : ℕ). CarriedOut v.store t n after v.names members (graph_now v).retired seat x c answer) p.joined.serial carried);
+      }
 
-  pushed_is : left v seat x c answer t after serving ≡ record v { store = t; history = history }
+  pushed_is : left v seat x c answer t members after serving ≡ record v { store = t; names = members; history = history }
   pushed_is =
       let s = serving in
       let told_is : told answer ≡ s.carried.outcome = ap told s.carried.replied ∙ told_outcome (held_now v) x c s.carried.outcome in
-      λ i. record v { store = t; history = sym (p.history_is ∙ ap (λ d. v.history ++ record { seat = seat; actor = x; command = c; outcome = d } ∷ []) (p.decision_is ∙ told_is)) i }
+      λ i. record v { store = t; names = members; history = sym (p.history_is ∙ ap (λ d. v.history ++ record { seat = seat; actor = x; command = c; outcome = d } ∷ []) (p.decision_is ∙ told_is)) i }
 
-  pub pushed_joined : IsTied (record v { store = t; history = history }) after
-  pushed_joined = subst (λ (w : Contents). IsTied w after) pushed_is (serving_joined v seat x c answer t after serving)
+  pub pushed_joined : IsTied (record v { store = t; names = members; history = history }) after
+  pushed_joined = subst (λ (w : Contents). IsTied w after) pushed_is (serving_joined v seat x c answer t members after serving)
 
-  pub pushed_enters : Enters v.limits (moment v) seat x c answer (moment (record v { store = t; history = history }))
-  pushed_enters = subst (λ (w : Contents). Enters v.limits (moment v) seat x c answer (moment w)) pushed_is (serving_enters v seat x c answer t after serving)
+  pub pushed_enters : Enters v.limits (moment v) seat x c answer (moment (record v { store = t; names = members; history = history }))
+  pushed_enters = subst (λ (w : Contents). Enters v.limits (moment v) seat x c answer (moment w)) pushed_is (serving_enters v seat x c answer t members after serving)
 
-  pub pushed_same : SameForAgreeing v (record v { store = t; history = history }) answer
-  pushed_same = subst (λ (w : Contents). SameForAgreeing v w answer) pushed_is (serving_same v seat x c answer t after serving)
+  pub pushed_same : SameForAgreeing v (record v { store = t; names = members; history = history }) answer
+  pushed_same = subst (λ (w : Contents). SameForAgreeing v w answer) pushed_is (serving_same v seat x c answer t members after serving)
 
-  pub pushed_exact : IsExact v (record v { store = t; history = history })
-  pushed_exact = subst (λ (w : Contents). IsExact v w) pushed_is (serving_exact v seat x c answer t after serving)
+  pub pushed_exact : IsExact v (record v { store = t; names = members; history = history })
+  pushed_exact = subst (λ (w : Contents). IsExact v w) pushed_is (serving_exact v seat x c answer t members after serving)
 
-  pub pushed_acts : SessionStep v (record v { store = t; history = history })
-  pushed_acts = subst (λ (w : Contents). SessionStep v w) pushed_is (serving_acts v seat x c answer t after serving)
+  pub pushed_acts : SessionStep v (record v { store = t; names = members; history = history })
+  pushed_acts = subst (λ (w : Contents). SessionStep v w) pushed_is (serving_acts v seat x c answer t members after serving)
 
 -- no vertex that waits to be swept has the next serial
 pub next_unparked : (v : Contents) → Ties v → IsStore v.store → IsParkedIn v.store (graph_now v).next → ⊥

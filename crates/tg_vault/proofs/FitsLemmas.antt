@@ -4,12 +4,14 @@ use Rattle.std.specs.Prelude.{Option}
 use Rattle.tg_rights.specs.Membership.{Contains}
 use Rattle.tg_graph.specs.Protection.{Protection, IsVertex}
 use Rattle.tg_graph.specs.Paths.{IsPart, Leads}
-use Rattle.tg_collect.specs.Readings.{IsRootIn, pending}
+use Rattle.tg_graph.specs.Fullness.{edge_count}
+use Rattle.tg_collect.specs.Readings.{held, IsRootIn, pending}
 use Rattle.tg_collect.specs.Views.{IsStore}
 use Rattle.tg_vault.specs.World.{at_seat}
 use Rattle.tg_vault.specs.Contents.{Contents, graph_now, held_now, moment}
 use Rattle.tg_vault.specs.Fits.{Ties, Fits, IsRoot}
-use Rattle.tg_vault.proofs.DecidedLemmas.{of_graph}
+use Rattle.tg_vault.proofs.DecidedLemmas.{of_graph, principal_root}
+use Rattle.tg_vault.proofs.EdgeLemmas.{edge_count_seen}
 
 pub seat_contains : (table : List (Option ℕ)) (seat x : ℕ) → at_seat table seat ≡ Some x → Contains table (Some x)
 seat_contains [] seat x is = absurd (cc is)
@@ -22,8 +24,8 @@ path_stays G H part [] x y h is = subst (IsVertex H) is h
 path_stays G H part (z ∷ zs) x y h leads = path_stays G H part zs z y (part.closed x z h leads.0) leads.1
 
 module _ (v : Contents) (j : Ties v) (s : IsStore v.store) where
-  pub root_in : (x : ℕ) → IsRoot v.opening (moment v).world x → IsRootIn v.store x
-  root_in x (inl principal) = inl ((j.principals x).1 principal)
+  pub root_in : (x : ℕ) → IsRoot (moment v).world x → IsRootIn v.store x
+  root_in x (inl active) = principal_root v j s x active
   root_in x (inr target) = inr (inl (seat_contains (pending v.store) target.0 x target.1))
 
   pub fits_are : Fits v
@@ -34,6 +36,10 @@ module _ (v : Contents) (j : Ties v) (s : IsStore v.store) where
     apart = s.apart;
     of_graph = λ x slot. elim slot [ inl held ↦ of_graph v j s x held | inr parked ↦ j.parked x parked ];
     slots = s.slots (graph_now v).next ∙ j.slots;
-    few_cells = let few = s.few_edges (graph_now v).next in let same = j.cells in omega arith;
+    few_cells =
+        let few = s.few_edges (graph_now v).next in
+        let same = j.cells in
+        let counted : edge_count (held_now v) ≡ edge_count (held v.store (graph_now v).next) = edge_count_seen v.store (graph_now v).next (graph_now v).next (graph_now v).names (graph_now v).retired in
+        omega arith;
     many_cells = j.many_cells;
   }

@@ -1,13 +1,16 @@
 -- A decision has passed each vertex that the effect works on, and has met what the effect takes for granted.
-use Rattle.std.proofs.Common.{◌≡◌, ◌≢◌, ℕ, false, sym, subst, ◌∙◌, inl, inr}
+use Rattle.std.proofs.Common.{◌≡◌, ◌≢◌, ℕ, List, false, sym, subst, ◌∙◌, inl, inr}
+use Rattle.std.specs.Prelude.{Option}
 use Rattle.tg_rights.specs.Letters.{Letters, is_none}
+use Rattle.tg_rights.specs.declared.kind.Kind.{Kind}
 use Rattle.tg_rights.specs.declared.command.Command.{Command}
 use Rattle.tg_graph.specs.declared.rules.Found.{Found}
 use Rattle.tg_graph.specs.Terms as effect
 use Rattle.tg_graph.specs.Terms.{Does, terms}
 use Rattle.tg_graph.specs.Protection.{Protection, IsEdge, label}
 use Rattle.tg_graph.specs.Rules.{Allowed}
-use Rattle.tg_graph.specs.Deciding.{Covers, DocumentNear, IsFound, IsNear, LeadTo}
+use Rattle.tg_graph.specs.Deciding.{Covers, DocumentNear, IsFound, IsNear, IsSubjectIfNamed, LeadTo}
+use Rattle.tg_graph.specs.Names.{MayBeNamed}
 use Rattle.tg_graph.proofs.DecidingLemmas.{sound}
 use Rattle.tg_graph.proofs.ProtectionLemmas.{Entitled, entitled, includes_some}
 
@@ -46,3 +49,6 @@ module _ (G : Protection) (x : ℕ) (c : Command) (allowed : Allowed G x c) wher
 
   pub joined_named : (from to : ℕ) (α : Letters) → effect.Joins from α to ≡ (terms x c).does → is_none α ≡ false
   joined_named from to α is = (granted (effect.Joins from α to) is).3
+
+  pub made_named : (k : Kind) (α : Letters) (name : Option (List ℕ)) → effect.Makes k α name ≡ (terms x c).does → (is_none α ≡ false) × IsSubjectIfNamed k name × MayBeNamed G.names name
+  made_named k α name is = granted (effect.Makes k α name) is

@@ -25,7 +25,7 @@ use Rattle.tg_vault.proofs.DecidedLemmas.{not_both, judged_once}
 each : (P : Protection → Entry → Type 0) (limits : Limits) → ((G : Protection) (e : Entry) → Permitted limits G e.actor e.command e.outcome → P G e) →
     (G : Protection) (es : List Entry) (H : Protection) → EntryRun limits G es H → EachEntry P G es
 each P limits holds G [] H along = tt
-each P limits holds G (e ∷ es) H along = (holds G e along.1.0, each P limits holds (next_graph G e.actor e.command e.outcome) es H (subst (λ K. EntryRun limits K es H) along.1.1 along.2))
+each P limits holds G (e ∷ es) H along = (holds G e along.1.1, each P limits holds (next_graph G e.actor e.command e.outcome) es H (subst (λ K. EntryRun limits K es H) along.1.2 along.2))
 
 carried_out : (limits : Limits) (G : Protection) (e : Entry) → Permitted limits G e.actor e.command e.outcome → IsCarriedOutWhenAllowed limits G e
 carried_out limits G e p = record { only = only e.outcome p; unless_full = unless_full e.outcome p; full = full e.outcome p } where

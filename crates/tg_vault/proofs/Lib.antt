@@ -1,3 +1,4 @@
+pub mod SerialsLemmas
 pub mod PlaceLemmas
 pub mod EdgeLemmas
 pub mod FoundLemmas

@@ -1,7 +1,11 @@
 -- what a command does to a store, which decides it by what it holds
-use Rattle.std.specs.Prelude.{◌≡◌, ◌≢◌, ◌<◌, ◌≤◌, ℕ, ◌+◌, Bool, true, false, cond, [], Option, Some, None}
+use Rattle.std.specs.Prelude.{◌≡◌, ◌≢◌, ◌<◌, ◌≤◌, ℕ, ◌+◌, Bool, true, false, cond, List, [], length, Option, Some, None}
+use Rattle.std.specs.Ordering.{nat_cmp}
+use Rattle.std.specs.FinSet as set
 use Rattle.tg_rights.specs.Letters.{Letters, joined, without}
+use Rattle.tg_rights.specs.declared.limits.TheConstants.{MAX_PRINCIPALS}
 use Rattle.tg_rights.specs.declared.kind.Kind.{Kind}
+use Rattle.tg_rights.specs.declared.kind.Kind.TheVariants.{Subject}
 use Rattle.tg_rights.specs.declared.command.Command.{Command}
 use Rattle.tg_rights.specs.declared.outcome.Which.{Which}
 use Rattle.tg_rights.specs.declared.outcome.Which.TheVariants as which
@@ -9,15 +13,18 @@ use Rattle.tg_rights.specs.declared.outcome.Outcome.{Outcome}
 use Rattle.tg_rights.specs.declared.outcome.Outcome.TheVariants as outcome
 use Rattle.tg_rights.specs.declared.outcome.Reply.{Reply}
 use Rattle.tg_rights.specs.declared.outcome.Reply.TheVariants as reply
+use Rattle.tg_graph.specs.declared.member.Member.{Member}
+use Rattle.tg_graph.specs.Names.{with_member}
 use Rattle.tg_graph.specs.Terms as effect
 use Rattle.tg_graph.specs.Terms.{Does, terms}
 use Rattle.tg_graph.specs.Protection.{Protection, label}
 use Rattle.tg_graph.specs.Rules.{Allowed, Denied, is_new, last_serial, next_graph, reply_of}
 use Rattle.tg_graph.specs.Fullness.{NewEdge, edges_at}
 use Rattle.tg_collect.specs.Stored.{Stored}
-use Rattle.tg_collect.specs.Readings.{held, IsEdgeIn, pending, free_slots}
-use Rattle.tg_collect.specs.Sessions.{EdgeStored, VertexStored, Acted}
+use Rattle.tg_collect.specs.Readings.{IsEdgeIn, pending, principals, free_slots}
+use Rattle.tg_collect.specs.Sessions.{EdgeStored, VertexStored, PrincipalStored, Acted}
 use Rattle.tg_vault.specs.World.{target_of, with_target, slots_taken}
+use Rattle.tg_vault.specs.Seen.{seen, serials}
 
 -- the first of serials, slots and cells that an effect needs and that is used up
 abbrev pub IsUsedUp : Protection → (free_slots free_cells : ℕ) → Does → Which → Type 0
@@ -43,37 +50,49 @@ new_serial next x c (outcome.Full w) = None
 -- the number of free cells changes by the edge that an effect of x makes or takes away
 abbrev pub EdgeMoves : Protection → (before after : ℕ) → ℕ → Does → Type 0
 EdgeMoves G before after x (effect.Joins from α to) = after + edges_at (joined (label G from to) α) ≡ before + edges_at (label G from to)
-EdgeMoves G before after x (effect.Makes k α) = before ≡ after + 1
+EdgeMoves G before after x (effect.Makes k α name) = before ≡ after + 1
 EdgeMoves G before after x (effect.Drops α over) = after + edges_at (without (label G x over) α) ≡ before + edges_at (label G x over)
 EdgeMoves G before after x (effect.Rewrites over text) = after ≡ before
 EdgeMoves G before after x (effect.Tells over) = after ≡ before
 EdgeMoves G before after x (effect.Lists at) = after ≡ before
+EdgeMoves G before after x effect.Retires = after ≡ before
 
 abbrev pub CellsMoved : Protection → (before after : ℕ) → ℕ → Command → Outcome → Type 0
 CellsMoved G before after x c outcome.Allowed = EdgeMoves G before after x (terms x c).does
 CellsMoved G before after x c (outcome.Denied rule cause) = after ≡ before
 CellsMoved G before after x c (outcome.Full w) = after ≡ before
 
--- whether an effect copies a text or a list of edges, and so may need memory; room for vertices and edges was made when
--- the store was opened
+-- whether an effect copies a text, a name or a list of edges, and so may need memory; room for vertices, edges and
+-- principals was made when the store was opened
 abbrev pub copies : Does → Bool
 copies (effect.Joins from α to) = false
-copies (effect.Makes k α) = false
+copies (effect.Makes k α None) = false
+copies (effect.Makes k α (Some name)) = true
 copies (effect.Drops α over) = false
 copies (effect.Rewrites over text) = true
 copies (effect.Tells over) = true
 copies (effect.Lists at) = true
+copies effect.Retires = false
 
--- the command of x, from the seat, was decided and carried out in the store, with this reply
-pub record CarriedOut (s t : Stored) (next after seat x : ℕ) (c : Command) (answer : Reply) : Type 0 where
+-- the command of x, from the seat, was decided and carried out in the store and in the list of the active principals,
+-- with this reply
+pub record CarriedOut (s t : Stored) (next after : ℕ) (names left : List Member) (retired : set.FinSet nat_cmp) (seat x : ℕ) (c : Command) (answer : Reply) : Type 0 where
   pub outcome : Outcome
-  pub decided : Decided (held s next) (free_slots s) s.free_cells x c outcome
-  pub replied : answer ≡ reply_of (held s next) x c outcome
-  pub graph : held t after ≡ next_graph (held s next) x c outcome
-  pub pending : pending t ≡ with_target (pending s) seat (target_of (held s next) x c outcome)
-  pub acted : Acted s t (new_serial next x c outcome) (target_of (held s next) x c outcome)
+  pub decided : Decided (seen s next names retired) (free_slots s) s.free_cells x c outcome
+  pub replied : answer ≡ reply_of (seen s next names retired) x c outcome
+  pub graph : seen t after left (next_graph (seen s next names retired) x c outcome).retired ≡ next_graph (seen s next names retired) x c outcome
+  pub pending : pending t ≡ with_target (pending s) seat (target_of (seen s next names retired) x c outcome)
+  pub acted : Acted s t (new_serial next x c outcome) (target_of (seen s next names retired) x c outcome)
+  pub principals : principals t ≡ serials left
   pub slots : free_slots s ≡ free_slots t + slots_taken x c outcome
-  pub cells : CellsMoved (held s next) s.free_cells t.free_cells x c outcome
+  pub cells : CellsMoved (seen s next names retired) s.free_cells t.free_cells x c outcome
+
+-- the same for every set of those who have retired, x among them or not
+abbrev pub AllowedAmong : Stored → (next : ℕ) → List Member → (gone : Bool) → ℕ → Command → Type 0
+AllowedAmong s next names gone x c = (retired : set.FinSet nat_cmp) → set.contains retired x ≡ gone → Allowed (seen s next names retired) x c
+
+abbrev pub CarriedOutAmong : (s t : Stored) → (next after : ℕ) → (names left : List Member) → (gone : Bool) → (seat x : ℕ) → Command → Reply → Type 0
+CarriedOutAmong s t next after names left gone seat x c answer = (retired : set.FinSet nat_cmp) → set.contains retired x ≡ gone → CarriedOut s t next after names left retired seat x c answer
 
 -- an edge from x to y gained rights, or no cell was free for it
 abbrev pub Joined : (v w : Stored) → (seat x y : ℕ) → Letters → Reply → Type 0
@@ -87,9 +106,20 @@ NoRoom v next which.Serials = last_serial < next
 NoRoom v next which.Slots = (next ≤ last_serial) × (free_slots v ≡ 0)
 NoRoom v next which.Cells = (next ≤ last_serial) × (free_slots v ≢ 0) × (v.free_cells ≡ 0)
 
--- a vertex was added, with the rights of x over it, or there was no room for it
-abbrev pub Made : (v w : Stored) → (next after seat x : ℕ) → Kind → Letters → Reply → Type 0
-Made v w next after seat x kind rights (reply.Created serial) =
-    (serial ≡ next) × (next ≤ last_serial) × (after ≡ next + 1) × VertexStored v w seat x next kind [] rights × Acted v w (Some next) (Some next)
-Made v w next after seat x kind rights (reply.Full full) = (w ≡ v) × (after ≡ next) × NoRoom v next full
-Made v w next after seat x kind rights _ = ⊥
+-- there is room for a principal, if there is to be another
+abbrev pub HasRoom : List ℕ → Option (List ℕ) → Type 0
+HasRoom principals None = Unit {0}
+HasRoom principals (Some name) = length principals < MAX_PRINCIPALS
+
+-- a vertex was stored; with a name it is a principal
+abbrev pub Stores : (v w : Stored) → (seat x serial : ℕ) → Kind → Letters → Option (List ℕ) → Type 0
+Stores v w seat x serial kind rights None = VertexStored v w seat x serial kind [] rights
+Stores v w seat x serial kind rights (Some name) = (kind ≡ Subject) × PrincipalStored v w seat x serial [] rights
+
+-- a vertex was added, with the rights of x over it, and to the list of the active principals if it has a name; or there
+-- was no room for it
+abbrev pub Made : (v w : Stored) → (next after : ℕ) → (names left : List Member) → (seat x : ℕ) → Kind → Letters → Option (List ℕ) → Reply → Type 0
+Made v w next after names left seat x kind rights name (reply.Created serial) =
+    (serial ≡ next) × (next ≤ last_serial) × (after ≡ next + 1) × (left ≡ with_member names name next) × Stores v w seat x next kind rights name × Acted v w (Some next) (Some next)
+Made v w next after names left seat x kind rights name (reply.Full full) = (w ≡ v) × (after ≡ next) × (left ≡ names) × NoRoom v next full
+Made v w next after names left seat x kind rights name _ = ⊥

@@ -43,15 +43,15 @@ ended_in answers = sum_by (λ n. cond n.ended 1 0) (notes_in answers)
 
 -- the world before the answer after `front`: the run leads to it, and from it to the end
 pub record IsBetween (old : Contents) (es : List Event) (front rest : List Answer) (new : Contents) (m : Moment) : Type 0 where
-  pub before : Run old.limits old.names (moment old) (take (length front) es) front m
-  pub after : Run old.limits old.names m (drop (length front) es) rest (moment new)
+  pub before : Run old.limits (moment old) (take (length front) es) front m
+  pub after : Run old.limits m (drop (length front) es) rest (moment new)
 
 -- if a cycle starts and two cycles end from then on, what has a slot at the end was live in the world before the start,
 -- or has a serial that was not below the next one at that time
 abbrev pub IsComplete : Contents → List Event → List Answer → Contents → Type 0
 IsComplete old es answers new =
     (front back : List Answer) (note : Note) → answers ≡ front ++ answer.Noted note ∷ back → phase_after (phase old.store) front ≡ Idle → 2 ≤ ended_in (answer.Noted note ∷ back) →
-    (m : Moment) × IsBetween old es front (answer.Noted note ∷ back) new m × ((x : ℕ) → HasSlot new x → Live m.world.graph (IsRoot old.opening m.world) x ⊎ (m.world.graph.next ≤ x))
+    (m : Moment) × IsBetween old es front (answer.Noted note ∷ back) new m × ((x : ℕ) → HasSlot new x → Live m.world.graph (IsRoot m.world) x ⊎ (m.world.graph.next ≤ x))
 
 -- among this many collector steps in a row one ends a cycle
 abbrev pub IsBounded : Contents → List Answer → Type 0

@@ -1,18 +1,18 @@
 -- what is stored fits the graph of the history
-use Rattle.std.specs.Prelude.{◌≡◌, ◌↔◌, ◌≤◌, ℕ, ◌+◌, Some, None, ◌⊎◌}
+use Rattle.std.specs.Prelude.{◌≡◌, ◌≤◌, ℕ, ◌+◌, true, Some, None, ◌⊎◌}
 use Rattle.tg_rights.specs.declared.limits.TheConstants.{MAX_CELLS, MAX_SLOTS}
-use Rattle.tg_rights.specs.Membership.{Contains}
 use Rattle.tg_graph.specs.Fullness.{vertex_count, edge_count}
 use Rattle.tg_graph.specs.Paths.{IsPart, Live}
-use Rattle.tg_graph.specs.Protection.{Protection, IsGraph, IsVertex}
+use Rattle.tg_graph.specs.Protection.{IsGraph, IsVertex, is_active}
 use Rattle.tg_collect.specs.Readings.{IsHeldIn, IsParkedIn, agents, parked_count, principals, slot_count, free_slots}
-use Rattle.tg_vault.specs.History.{Legal, IsPrincipal}
+use Rattle.tg_vault.specs.History.{Legal}
 use Rattle.tg_vault.specs.World.{World, at_seat}
+use Rattle.tg_vault.specs.Seen.{serials}
 use Rattle.tg_vault.specs.Contents.{Contents, IsVault, graph_now, held_now, moment}
 
--- the roots of a world are the principals and the pending targets
-abbrev pub IsRoot : Protection → World → ℕ → Type 0
-IsRoot opening w x = IsPrincipal opening x ⊎ ((seat : ℕ) × (at_seat w.pending seat ≡ Some x))
+-- the roots of a world are the active principals and the pending targets
+abbrev pub IsRoot : World → ℕ → Type 0
+IsRoot w x = (is_active w.graph x ≡ true) ⊎ ((seat : ℕ) × (at_seat w.pending seat ≡ Some x))
 
 -- a vertex has a slot: it is held, or parked until the sweep comes to it
 abbrev pub HasSlot : Contents → ℕ → Type 0
@@ -24,7 +24,8 @@ pub record Ties (v : Contents) : Type 0 where
   pub opened : IsGraph v.opening
   pub part : IsPart (graph_now v) (held_now v)
   pub parked : (x : ℕ) → IsParkedIn v.store x → IsVertex (graph_now v) x
-  pub principals : (x : ℕ) → Contains (principals v.store) x ↔ IsPrincipal v.opening x
+  pub names : v.names ≡ (graph_now v).names
+  pub principals : principals v.store ≡ serials v.names
   pub agents : (seat : ℕ) → at_seat (agents v.store) seat ≡ None
   pub slots : slot_count v.store ≡ v.limits.slots
   pub cells : v.store.cells ≡ v.limits.cells
@@ -48,7 +49,7 @@ pub record IsSmall (v : Contents) : Type 0 where
 pub record Fits (v : Contents) : Type 0 where
   pub legal : Legal v.limits v.opening v.history (graph_now v)
   pub part : IsPart (graph_now v) (held_now v)
-  pub live : (x : ℕ) → Live (graph_now v) (IsRoot v.opening (moment v).world) x → IsHeldIn v.store x
+  pub live : (x : ℕ) → Live (graph_now v) (IsRoot (moment v).world) x → IsHeldIn v.store x
   pub apart : (x : ℕ) → IsHeldIn v.store x → IsParkedIn v.store x → ⊥
   pub of_graph : (x : ℕ) → HasSlot v x → IsVertex (graph_now v) x
   pub slots : free_slots v.store + vertex_count (held_now v) + parked_count v.store ≡ v.limits.slots

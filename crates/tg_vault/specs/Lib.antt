@@ -1,6 +1,7 @@
 pub mod Recorded
 pub mod History
 pub mod World
+pub mod Seen
 pub mod CarriedOut
 pub mod Contents
 pub mod Fits

@@ -1,15 +1,12 @@
 -- worlds, and the answers that each event may have in one
-use Rattle.std.specs.Prelude.{◌≡◌, ◌↔◌, ◌≤◌, ℕ, ◌+◌, Bool, true, cond, not, nat_lt, ◌==◌, List, [], ◌∷◌, ◌++◌, length, get_or, slice_set, Option, Some, None, is_some}
-use Rattle.std.specs.Option.{option_map}
-use Rattle.std.specs.List.{position}
-use Rattle.std.specs.Cmp.Lexicographic.{pointwise}
+use Rattle.std.specs.Prelude.{◌≡◌, ◌↔◌, ◌≤◌, ℕ, ◌+◌, Bool, true, cond, not, nat_lt, List, [], ◌∷◌, ◌++◌, length, get_or, slice_set, Option, Some, None, is_some}
 use Rattle.tg_rights.specs.declared.limits.TheConstants.{SEATS}
 use Rattle.tg_rights.specs.declared.command.Command.{Command}
 use Rattle.tg_rights.specs.declared.outcome.Outcome.{Outcome}
 use Rattle.tg_rights.specs.declared.outcome.Outcome.TheVariants as outcome
 use Rattle.tg_rights.specs.declared.outcome.Which.TheVariants as which
 use Rattle.tg_rights.specs.declared.outcome.Reply.{Reply}
-use Rattle.tg_graph.specs.Protection.{Protection}
+use Rattle.tg_graph.specs.Protection.{Protection, named}
 use Rattle.tg_graph.specs.Terms as effect
 use Rattle.tg_graph.specs.Terms.{Does, terms}
 use Rattle.tg_graph.specs.Rules.{Allowed, is_create, last_serial, next_graph, reply_of}
@@ -27,7 +24,7 @@ use Rattle.tg_graph.specs.Fullness.{Limits, Permitted}
 -- what the events change
 pub record World : Type 0 where
   pub graph : Protection
-  -- the principal of each seat that is in use
+  -- who sits on each seat that is in use: a principal, or one who has retired
   pub seats : List (Option ℕ)
   -- the pending target of each seat that has one
   pub pending : List (Option ℕ)
@@ -43,11 +40,7 @@ pub record Moment : Type 0 where
 abbrev pub at_seat : List (Option ℕ) → ℕ → Option ℕ
 at_seat table seat = get_or table seat None
 
--- the principal of this name: the k-th name belongs to the serial k, counted from 1
-abbrev pub principal_named : List (List ℕ) → List ℕ → Option ℕ
-principal_named names name = option_map (λ k. k + 1) (position (λ n. pointwise (λ a b. a == b) n name) names)
-
--- the principal of the seat's next command
+-- the actor of the seat's next command
 abbrev pub actor_at : World → ℕ → Option ℕ
 actor_at w seat = at_seat w.seats seat
 
@@ -62,9 +55,9 @@ module _ (w : World) (seat : ℕ) where
   abbrev pub has_target : Bool
   has_target = is_some (at_seat w.pending seat)
 
-  abbrev pub hello_fault : List (List ℕ) → List ℕ → Option SeatFault
-  hello_fault names name =
-      cond no_seat (Some seat_fault.NoSeat) (cond in_use (Some seat_fault.Bound) (cond (is_some (principal_named names name)) None (Some seat_fault.NoPrincipal)))
+  abbrev pub hello_fault : List ℕ → Option SeatFault
+  hello_fault name =
+      cond no_seat (Some seat_fault.NoSeat) (cond in_use (Some seat_fault.Bound) (cond (is_some (named w.graph name)) None (Some seat_fault.NoPrincipal)))
 
   abbrev pub bye_fault : Option SeatFault
   bye_fault = cond no_seat (Some seat_fault.NoSeat) (cond in_use (cond has_target (Some seat_fault.Busy) None) (Some seat_fault.NoActor))
@@ -85,11 +78,12 @@ module _ (w : World) (seat : ℕ) where
 -- the pending target that an effect leaves, even if the edge was there already
 abbrev pub new_target : Protection → Does → Option ℕ
 new_target G (effect.Joins from α to) = Some to
-new_target G (effect.Makes k α) = Some G.next
+new_target G (effect.Makes k α name) = Some G.next
 new_target G (effect.Drops α over) = None
 new_target G (effect.Rewrites over text) = None
 new_target G (effect.Tells over) = None
 new_target G (effect.Lists at) = None
+new_target G effect.Retires = None
 
 -- the pending target that a command of x leaves
 abbrev pub target_of : Protection → ℕ → Command → Outcome → Option ℕ
@@ -101,7 +95,7 @@ abbrev pub with_target : List (Option ℕ) → ℕ → Option ℕ → List (Opti
 with_target pending seat None = pending
 with_target pending seat (Some target) = slice_set pending seat (Some target)
 
--- an allowed create takes a slot
+-- an allowed create or enrol takes a slot
 abbrev pub slots_taken : ℕ → Command → Outcome → ℕ
 slots_taken x c outcome.Allowed = cond (is_create x c) 1 0
 slots_taken x c (outcome.Denied rule cause) = 0
@@ -127,7 +121,7 @@ with_pending m pending = record m { world = record m.world { pending = pending }
 abbrev pub with_used : Moment → ℕ → Moment
 with_used m used = record m { world = record m.world { used = used } }
 
--- full for slots exactly if the rules allow a create, a serial is left for it and each slot is in use
+-- full for slots exactly if the rules allow a create or an enrol, a serial is left for it and each slot is in use
 abbrev pub ExactSlots : Limits → World → ℕ → Command → Outcome → Type 0
 ExactSlots limits w x c o =
     (o ≡ outcome.Full which.Slots) ↔ ((is_create x c ≡ true) × Allowed w.graph x c × (w.graph.next ≤ last_serial) × (w.used ≡ limits.slots))
@@ -141,25 +135,25 @@ pub record Enters (limits : Limits) (m : Moment) (seat actor : ℕ) (c : Command
   pub left : n ≡ entered m (record { seat = seat; actor = actor; command = c; outcome = outcome })
 
 -- the event may have this answer, and lead from one moment to the next
-abbrev pub Step : Limits → List (List ℕ) → Moment → Event → Answer → Moment → Type 0
-Step limits names m (event.Hello seat name) (answer.Hello x) n =
-    (hello_fault m.world seat names name ≡ None) × (principal_named names name ≡ Some x) × (n ≡ with_seats m (slice_set m.world.seats seat (Some x)))
-Step limits names m (event.Hello seat name) (answer.Seat fault) n = (hello_fault m.world seat names name ≡ Some fault) × (n ≡ m)
-Step limits names m (event.Bye seat) answer.Bye n = (bye_fault m.world seat ≡ None) × (n ≡ with_seats m (slice_set m.world.seats seat None))
-Step limits names m (event.Bye seat) (answer.Seat fault) n = (bye_fault m.world seat ≡ Some fault) × (n ≡ m)
-Step limits names m (event.Ask seat c) (answer.Asked number reply) n =
+abbrev pub Step : Limits → Moment → Event → Answer → Moment → Type 0
+Step limits m (event.Hello seat name) (answer.Hello x) n =
+    (hello_fault m.world seat name ≡ None) × (named m.world.graph name ≡ Some x) × (n ≡ with_seats m (slice_set m.world.seats seat (Some x)))
+Step limits m (event.Hello seat name) (answer.Seat fault) n = (hello_fault m.world seat name ≡ Some fault) × (n ≡ m)
+Step limits m (event.Bye seat) answer.Bye n = (bye_fault m.world seat ≡ None) × (n ≡ with_seats m (slice_set m.world.seats seat None))
+Step limits m (event.Bye seat) (answer.Seat fault) n = (bye_fault m.world seat ≡ Some fault) × (n ≡ m)
+Step limits m (event.Ask seat c) (answer.Asked number reply) n =
     (ask_refusal m.world seat ≡ None) × (number ≡ length m.history)
     × ((actor : ℕ) × (actor_at m.world seat ≡ Some actor) × Enters limits m seat actor c reply n)
-Step limits names m (event.Ask seat c) (answer.Ask fault) n = IsAskFault m.world seat fault × (n ≡ m)
-Step limits names m (event.Shade seat) (answer.Shaded target) n =
+Step limits m (event.Ask seat c) (answer.Ask fault) n = IsAskFault m.world seat fault × (n ≡ m)
+Step limits m (event.Shade seat) (answer.Shaded target) n =
     (shade_fault m.world seat ≡ None) × (target ≡ at_seat m.world.pending seat) × (n ≡ with_pending m (slice_set m.world.pending seat None))
-Step limits names m (event.Shade seat) (answer.Seat fault) n = (shade_fault m.world seat ≡ Some fault) × (n ≡ m)
-Step limits names m event.Collect (answer.Noted note) n = (used : ℕ) × (m.world.used ≡ used + note.freed) × (n ≡ with_used m used)
-Step limits names m _ _ n = ⊥
+Step limits m (event.Shade seat) (answer.Seat fault) n = (shade_fault m.world seat ≡ Some fault) × (n ≡ m)
+Step limits m event.Collect (answer.Noted note) n = (used : ℕ) × (m.world.used ≡ used + note.freed) × (n ≡ with_used m used)
+Step limits m _ _ n = ⊥
 
 -- the events may have these answers, one after another
-abbrev pub Run : Limits → List (List ℕ) → Moment → List Event → List Answer → Moment → Type 0
-Run limits names m [] [] n = n ≡ m
-Run limits names m (e ∷ es) (a ∷ answers) n = (between : Moment) × Step limits names m e a between × Run limits names between es answers n
-Run limits names m [] (a ∷ answers) n = ⊥
-Run limits names m (e ∷ es) [] n = ⊥
+abbrev pub Run : Limits → Moment → List Event → List Answer → Moment → Type 0
+Run limits m [] [] n = n ≡ m
+Run limits m (e ∷ es) (a ∷ answers) n = (between : Moment) × Step limits m e a between × Run limits between es answers n
+Run limits m [] (a ∷ answers) n = ⊥
+Run limits m (e ∷ es) [] n = ⊥

@@ -1,19 +1,23 @@
 //! Carrying out what the rules allow in the store.
-ghost use Rattle.std.specs.Prelude.{◌≡◌, ◌≢◌, ◌<◌, ◌+◌, ℕ, List, IfOk, OnErr, OnOk, IsSome, Some, None, true, false};
+ghost use Rattle.std.specs.Prelude.{◌≡◌, ◌≢◌, ◌<◌, ◌+◌, ℕ, List, IfOk, IfErr, OnErr, OnOk, IsSome, Some, None, true, false, not};
+ghost use Rattle.std.specs.Option.{is_some};
 ghost use Rattle.tg_rights.specs.Letters.{is_none, includes};
 ghost use Rattle.tg_rights.specs.declared.limits.TheConstants.{SEATS};
 ghost use Rattle.tg_rights.specs.declared.outcome.Reply.TheVariants as reply;
+ghost use Rattle.tg_graph.specs.Deciding.{IsSubjectIfNamed};
+ghost use Rattle.tg_graph.specs.Names.{MayBeNamed, has_serial, without_member};
 ghost use Rattle.tg_graph.specs.Protection.{label};
-ghost use Rattle.tg_graph.specs.Rules.{Allowed, edges_of, text_of};
-ghost use Rattle.tg_graph.specs.Terms.{terms, text_in};
-ghost use Rattle.tg_collect.specs.Readings.{held, IsEdgeIn, IsHeldIn, IsParkedIn, pending_of, place, serial_at};
-ghost use Rattle.tg_collect.specs.Sessions.{RightsRemoved, TextReplaced, Acted};
-ghost use Rattle.tg_vault.specs.CarriedOut.{Joined, Made, CarriedOut, copies};
+ghost use Rattle.tg_graph.specs.Rules.{edges_of, text_of};
+ghost use Rattle.tg_graph.specs.Terms.{terms, name_in, text_in};
+ghost use Rattle.tg_collect.specs.Readings.{held, free_slots, IsEdgeIn, IsHeldIn, IsParkedIn, pending_of, place, principals, serial_at};
+ghost use Rattle.tg_collect.specs.Sessions.{Retired, RightsRemoved, TextReplaced, Acted};
+ghost use Rattle.tg_vault.specs.CarriedOut.{AllowedAmong, CarriedOutAmong, HasRoom, Joined, Made, Stores, copies};
+ghost use Rattle.tg_vault.specs.Seen.{serials};
 
 use std::alloc::{AllocError, Global};
 use tg_collect::{HeapFull, Store};
-use tg_graph::{Effect, LAST_SERIAL, Spot, decide, effect_of, into_text};
-use tg_rights::{Command, EdgeList, Kind, Reply, Rights, Text, Which};
+use tg_graph::{Effect, LAST_SERIAL, Roll, Spot, decide, effect_of, into_text};
+use tg_rights::{Cause, Command, EdgeList, Kind, Name, Reply, Rights, Text, Which};
 
 /// The edge gains the rights, and its target becomes the seat's; full if it is new and no cell is free.
 fn join(store: &mut Store, seat: u64, owner: u32, target: u32, rights: Rights) -> Reply
@@ -31,16 +35,56 @@ fn join(store: &mut Store, seat: u64, owner: u32, target: u32, rights: Rights) -
     }
 }
 
-/// A vertex with the next serial is added and becomes the seat's target; full if there is no serial, slot or cell for
-/// it.
+/// A vertex of this serial is stored and becomes the seat's target; with a name it is a principal.
+fn add_vertex(
+    store: &mut Store,
+    alloc: Global,
+    seat: u64,
+    id: u32,
+    serial: u64,
+    kind: Kind,
+    rights: Rights,
+    name: &Option<Name>,
+) -> Result<(), HeapFull>
+    requires seat { seat < SEATS }
+    requires idle { pending_of store.old seat ≡ None }
+    requires source { IsSome (place store.old id) }
+    requires some { is_none rights ≡ false }
+    requires unheld { IsHeldIn store.old serial → ⊥ }
+    requires unparked { IsParkedIn store.old serial → ⊥ }
+    requires subject { IsSubjectIfNamed kind name.now }
+    requires room { HasRoom (principals store.old) name.now }
+    ensures ok { OnOk result (Stores store.old store.new seat (serial_at store.old id) serial kind rights name.now) }
+    ensures acted { OnOk result (Acted store.old store.new (Some serial) (Some serial)) }
+    ensures slots { IfErr result (λ full. full ≡ HeapFull.Slots → free_slots store.old ≡ 0) }
+    ensures cells { IfErr result (λ full. full ≡ HeapFull.Cells → (free_slots store.old ≢ 0) × (store.old.free_cells ≡ 0)) }
+    ensures unchanged { OnErr result (store.new ≡ store.old) }
+{
+    let text = Text::empty(alloc);
+    match name {
+        Some(_) => match store.store_principal(seat, id, serial, rights, text) {
+            Ok(()) => Ok(()),
+            Err((full, _)) => Err(full),
+        },
+        None => match store.store_vertex(seat, id, serial, kind, rights, text) {
+            Ok(()) => Ok(()),
+            Err((full, _)) => Err(full),
+        },
+    }
+}
+
+/// A vertex with the next serial is added and becomes the seat's target; with a name it is a principal. Full if there
+/// is no serial, slot or cell for it.
 fn make(
     store: &mut Store,
+    names: &mut Roll,
     next: &mut u64,
     alloc: Global,
     seat: u64,
     id: u32,
     kind: Kind,
     rights: Rights,
+    name: Option<Name>,
 ) -> Reply
     requires seat { seat < SEATS }
     requires idle { pending_of store.old seat ≡ None }
@@ -48,20 +92,46 @@ fn make(
     requires some { is_none rights ≡ false }
     requires unheld { IsHeldIn store.old next.old → ⊥ }
     requires unparked { IsParkedIn store.old next.old → ⊥ }
-    ensures { Made store.old store.new next.old next.new seat (serial_at store.old id) kind rights result }
+    requires subject { IsSubjectIfNamed kind name }
+    requires room { HasRoom (principals store.old) name }
+    requires named { MayBeNamed names.old name }
+    ensures { Made store.old store.new next.old next.new names.old names.new seat (serial_at store.old id) kind rights name result }
 {
     if *next > LAST_SERIAL {
         return Reply::Full(Which::Serials);
     }
     let serial = *next;
-    match store.store_vertex(seat, id, serial, kind, rights, Text::empty(alloc)) {
-        Ok(()) => {
-            *next += 1;
-            Reply::Created(serial)
-        }
-        Err((HeapFull::Slots, _)) => Reply::Full(Which::Slots),
-        Err((HeapFull::Cells, _)) => Reply::Full(Which::Cells),
+    match add_vertex(store, alloc, seat, id, serial, kind, rights, &name) {
+        Ok(()) => {}
+        Err(HeapFull::Slots) => return Reply::Full(Which::Slots),
+        Err(HeapFull::Cells) => return Reply::Full(Which::Cells),
     }
+    *next += 1;
+    names.add(name, serial);
+    Reply::Created(serial)
+}
+
+/// A copy of the name that the command gives to a new principal, if it gives one.
+fn name_of(command: &Command, alloc: Global) -> Result<Option<Name>, AllocError>
+    ensures copy { IfOk result (λ name. name ≡ name_in command.now) }
+    ensures memory { OnErr result (is_some (name_in command.now) ≡ true) }
+{
+    match command {
+        Command::Enrol { name, .. } => Ok(Some(name.copy(alloc)?)),
+        _ => Ok(None),
+    }
+}
+
+/// The actor is a principal no longer.
+fn retire(store: &mut Store, names: &mut Roll, actor: u64) -> Reply
+    ensures done { result ≡ reply.Done }
+    ensures retired { Retired store.old store.new actor }
+    ensures acted { Acted store.old store.new None None }
+    ensures left { names.new ≡ without_member names.old actor }
+{
+    store.retire(actor);
+    names.remove(actor);
+    Reply::Done
 }
 
 /// The edge loses the rights.
@@ -113,11 +183,12 @@ fn list(store: &Store, alloc: Global, of: u32) -> Result<Reply, AllocError>
     Ok(Reply::Edges(EdgeList::new(edges)))
 }
 
-/// Decides the actor's command, carries it out if the rules allow it and nothing that it needs is used up, and
-/// returns the reply. `AllocError` leaves everything as it was; it occurs only for an allowed command that copies a
-/// text or a list, so never for a denial.
-pub fn answer(
+/// Decides a principal's command, carries it out if the rules allow it and nothing that it needs is used up, and
+/// returns the reply: whoever else has retired. `AllocError` leaves everything as it was; it occurs only for an allowed
+/// command that copies a text, a name or a list, so never for a denial.
+fn answer_principal(
     store: &mut Store,
+    names: &mut Roll,
     next: &mut u64,
     alloc: Global,
     seat: u64,
@@ -126,16 +197,18 @@ pub fn answer(
 ) -> Result<Reply, AllocError>
     requires seat { seat < SEATS }
     requires idle { pending_of store.old seat ≡ None }
+    requires listed { principals store.old ≡ serials names.old }
     requires actor { place store.old actor.place ≡ Some actor.serial }
     requires unheld { IsHeldIn store.old next.old → ⊥ }
     requires unparked { IsParkedIn store.old next.old → ⊥ }
-    ensures carried { IfOk result (λ answer. CarriedOut store.old store.new next.old next.new seat actor.serial command.now answer) }
-    ensures needed { OnErr result (Allowed (held store.old next.old) actor.serial command.now) }
+    ensures carried { IfOk result (λ answer. CarriedOutAmong store.old store.new next.old next.new names.old names.new false seat actor.serial command.now answer) }
+    ensures needed { OnErr result (AllowedAmong store.old next.old names.old false actor.serial command.now) }
     ensures memory { OnErr result (copies (terms actor.serial command.now).does ≡ true) }
     ensures unchanged { OnErr result (store.new ≡ store.old) }
+    ensures kept { OnErr result (names.new ≡ names.old) }
     ensures same { OnErr result (next.new ≡ next.old) }
 {
-    let found = match decide(store, actor, command) {
+    let found = match decide(store, names.as_slice(), actor, command) {
         Ok(found) => found,
         Err(cause) => return Ok(Reply::Denied(command.rule(), cause)),
     };
@@ -146,10 +219,49 @@ pub fn answer(
             let target = found.spot(to).place;
             Ok(join(store, seat, source, target, rights))
         }
-        Effect::Makes { kind, rights } => Ok(make(store, next, alloc, seat, id, kind, rights)),
+        Effect::Makes { kind, rights } => {
+            let name = name_of(command, alloc)?;
+            Ok(make(store, names, next, alloc, seat, id, kind, rights, name))
+        }
         Effect::Drops { rights, over } => Ok(remove(store, id, over, rights)),
         Effect::Rewrites { over } => replace(store, alloc, found.spot(over).place, command),
         Effect::Tells { over } => tell(store, alloc, found.spot(over).place),
         Effect::Lists { at } => list(store, alloc, found.spot(at).place),
+        Effect::Retires => Ok(retire(store, names, actor.serial)),
+    }
+}
+
+/// Decides the actor's command and carries it out as `answer_principal` does; an actor that is no principal has
+/// retired, and is denied each command.
+pub fn answer(
+    store: &mut Store,
+    names: &mut Roll,
+    next: &mut u64,
+    alloc: Global,
+    seat: u64,
+    actor: u64,
+    command: &Command,
+) -> Result<Reply, AllocError>
+    requires seat { seat < SEATS }
+    requires idle { pending_of store.old seat ≡ None }
+    requires listed { principals store.old ≡ serials names.old }
+    requires unheld { IsHeldIn store.old next.old → ⊥ }
+    requires unparked { IsParkedIn store.old next.old → ⊥ }
+    ensures carried { IfOk result (λ answer. CarriedOutAmong store.old store.new next.old next.new names.old names.new (not (has_serial names.old actor)) seat actor command.now answer) }
+    ensures needed { OnErr result (AllowedAmong store.old next.old names.old (not (has_serial names.old actor)) actor command.now) }
+    ensures memory { OnErr result (copies (terms actor command.now).does ≡ true) }
+    ensures unchanged { OnErr result (store.new ≡ store.old) }
+    ensures kept { OnErr result (names.new ≡ names.old) }
+    ensures same { OnErr result (next.new ≡ next.old) }
+{
+    match store.principal(actor) {
+        Some(place) => {
+            let spot = Spot {
+                serial: actor,
+                place,
+            };
+            answer_principal(store, names, next, alloc, seat, spot, command)
+        }
+        None => Ok(Reply::Denied(command.rule(), Cause::Retired)),
     }
 }

@@ -16,6 +16,10 @@ enum Decided {
         seat: u8,
         which: Which,
     },
+    Retired {
+        seat: u8,
+        rule: Rule,
+    },
     Empty {
         seat: u8,
         rule: Rule,
@@ -35,6 +39,18 @@ enum Decided {
         seat: u8,
         rule: Rule,
         vertex: u64,
+    },
+    NotPrincipal {
+        seat: u8,
+        rule: Rule,
+    },
+    NameTaken {
+        seat: u8,
+        rule: Rule,
+    },
+    Crowded {
+        seat: u8,
+        rule: Rule,
     },
 }
 
@@ -56,7 +72,7 @@ impl Model for Entry {
 }
 
 impl Entry {
-    /// The command that came from this seat, 0 to 63, for this principal, and how it was decided.
+    /// The command that came from this seat, 0 to 63, for this actor, and how it was decided.
     pub(crate) fn new(seat: u64, actor: u64, command: Command, outcome: Outcome) -> Entry
         requires { seat < SEATS }
         ensures { result ≡ record { seat = seat; actor = actor; command = command; outcome = outcome } }
@@ -75,7 +91,7 @@ impl Entry {
         u64::from(self.decided.seat())
     }
 
-    /// The serial of the principal for whom it was judged.
+    /// The serial of the actor for whom it was judged: a principal, or one who has retired.
     pub fn actor(&self) -> u64
         ensures { result ≡ self.now.actor }
     {
@@ -106,6 +122,7 @@ fn with_seat(seat: u8, outcome: Outcome) -> Decided
         Outcome::Allowed => Decided::Allowed { seat },
         Outcome::Full(which) => Decided::Full { seat, which },
         Outcome::Denied(rule, cause) => match cause {
+            Cause::Retired => Decided::Retired { seat, rule },
             Cause::Empty => Decided::Empty { seat, rule },
             Cause::NotDistinct => Decided::NotDistinct { seat, rule },
             Cause::Missing { rights, from, to } => Decided::Missing {
@@ -116,6 +133,9 @@ fn with_seat(seat: u8, outcome: Outcome) -> Decided
                 to,
             },
             Cause::NotDocument { vertex } => Decided::NotDocument { seat, rule, vertex },
+            Cause::NotPrincipal => Decided::NotPrincipal { seat, rule },
+            Cause::NameTaken => Decided::NameTaken { seat, rule },
+            Cause::Crowded => Decided::Crowded { seat, rule },
         },
     }
 }
@@ -127,10 +147,14 @@ impl Decided {
         match self {
             Decided::Allowed { seat } => seat,
             Decided::Full { seat, .. } => seat,
+            Decided::Retired { seat, .. } => seat,
             Decided::Empty { seat, .. } => seat,
             Decided::NotDistinct { seat, .. } => seat,
             Decided::Missing { seat, .. } => seat,
             Decided::NotDocument { seat, .. } => seat,
+            Decided::NotPrincipal { seat, .. } => seat,
+            Decided::NameTaken { seat, .. } => seat,
+            Decided::Crowded { seat, .. } => seat,
         }
     }
 
@@ -140,6 +164,7 @@ impl Decided {
         match self {
             Decided::Allowed { .. } => Outcome::Allowed,
             Decided::Full { which, .. } => Outcome::Full(which),
+            Decided::Retired { rule, .. } => Outcome::Denied(rule, Cause::Retired),
             Decided::Empty { rule, .. } => Outcome::Denied(rule, Cause::Empty),
             Decided::NotDistinct { rule, .. } => Outcome::Denied(rule, Cause::NotDistinct),
             Decided::Missing {
@@ -152,6 +177,9 @@ impl Decided {
             Decided::NotDocument { rule, vertex, .. } => {
                 Outcome::Denied(rule, Cause::NotDocument { vertex })
             }
+            Decided::NotPrincipal { rule, .. } => Outcome::Denied(rule, Cause::NotPrincipal),
+            Decided::NameTaken { rule, .. } => Outcome::Denied(rule, Cause::NameTaken),
+            Decided::Crowded { rule, .. } => Outcome::Denied(rule, Cause::Crowded),
         }
     }
 }

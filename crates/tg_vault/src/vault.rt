@@ -2,7 +2,7 @@
 ghost use Rattle.std.specs.Prelude.{◌≡◌, ◌<◌, ◌≤◌, ◌+◌, ◌⊎◌, ◌∷◌, [], length, slice_get, Some, None, IfOk, IfErr, IfSome, IfNone, OnErr, MatchResult, take};
 ghost use Rattle.tg_rights.specs.declared.limits.TheConstants.{SEATS};
 ghost use Rattle.tg_rights.specs.declared.outcome.Outcome.{Outcome};
-ghost use Rattle.tg_graph.specs.Opening.{opening, first_fault, IsRefusal};
+ghost use Rattle.tg_graph.specs.Opening.{first_fault, IsRefusal};
 ghost use Rattle.tg_vault.specs.declared.entry.Entry.{Entry};
 ghost use Rattle.tg_vault.specs.declared.event.Event.TheVariants as event;
 ghost use Rattle.tg_vault.specs.declared.event.Answer.TheVariants as answer;
@@ -24,16 +24,17 @@ use crate::carry_out::answer;
 use crate::entry::Entry;
 use crate::event::{Answer, AskFault, Event, SeatFault};
 use crate::laws::courses_have_the_headline;
-use crate::seats::{at_seat, empty_seats, principal_named};
+use crate::seats::{at_seat, empty_seats};
 use std::alloc::{AllocError, Global};
 use std::marker::Model;
 use tg_collect::{Key, Note, Store};
-use tg_graph::{Config, Graph, OpenFault, Spot};
-use tg_rights::{Command, Outcome, Reply, SEATS, Word};
+use tg_graph::{Config, Graph, OpenFault, Roll, serial_of};
+use tg_rights::{Command, Outcome, Reply, SEATS};
 
-/// The whole state of the server: the opening graph with its principals' names, the seats, the store with its collector
-/// and the pending target of each seat, and the history of commands. Each call is one atomic step. Contracts see its
-/// `Contents`. Only they have the graph of the history; what is stored is the part of it still in use.
+/// The whole state of the server: the opening graph, the active principals by their names, the seats, the store with its
+/// collector and the pending target of each seat, and the history of commands. Each call is one atomic step. Contracts
+/// see its `Contents`. Only they have the graph of the history and who has retired; what is stored is the part of the
+/// graph still in use.
 ///
 /// The history is kept whole, and is legal: each entry's outcome is one that the take-grant rules (Lipton and Snyder
 /// 1977; Bishop) permit in the graph that the entries before it leave.
@@ -41,7 +42,7 @@ use tg_rights::{Command, Outcome, Reply, SEATS, Word};
 pub struct Vault {
     alloc: Global,
     opening: Graph,
-    names: Vec<Word>,
+    names: Roll,
     slots: u64,
     cells: u64,
     seats: Vec<Option<u64>>,
@@ -102,8 +103,8 @@ fn entry_of(seat: u64, actor: u64, command: Command, reply: &Reply) -> Entry
 }
 
 impl Vault {
-    /// A vault over the graph that the configuration opens: no entries, no seat in use, the configuration's names, and
-    /// the graph in the store. Otherwise the first fault of the configuration, as `Graph::build` returns it;
+    /// A vault over the graph that the configuration opens: no entries, no seat in use, the graph's principals, and the
+    /// graph in the store. Otherwise the first fault of the configuration, as `Graph::build` returns it;
     /// `OutOfMemory` only if there is no other. Edges are found under the key that everybody can read, so use this only
     /// if it does no harm that whoever sends commands can slow the vault down; otherwise, see `with_key`.
     pub fn new(alloc: Global, config: Config) -> Result<Vault, OpenFault>
@@ -133,13 +134,16 @@ impl Vault {
             return Err(OpenFault::OutOfMemory);
         };
         store.soundness();
+        let Ok(names) = opening.principals().copy(alloc) else {
+            return Err(OpenFault::OutOfMemory);
+        };
         let Ok(seats) = empty_seats(alloc) else {
             return Err(OpenFault::OutOfMemory);
         };
         Ok(Vault {
             alloc,
             opening,
-            names: config.principals,
+            names,
             slots: config.slots,
             cells: config.cells,
             seats,
@@ -150,7 +154,7 @@ impl Vault {
     }
 
     /// No-op; its postcondition exposes the invariant: a legal history of seats from 0 to 63, a table of 64 seats with
-    /// only principals in them, and a store that fits the graph of the history.
+    /// nobody in them but principals and those who have retired, and a store that fits the graph of the history.
     pub fn soundness(&self)
         ensures vault { IsVault self.now }
         ensures small { IsSmall self.now }
@@ -183,9 +187,9 @@ impl Vault {
         &self.opening
     }
 
-    /// Seats the principal of this name, and returns its serial. One principal may sit on several seats. Faults, in
-    /// this order, after which everything is as before: `NoSeat` for a seat above 63, `Bound` for one in use,
-    /// `NoPrincipal` if nobody has the name. Allocates nothing.
+    /// Seats the active principal of this name, and returns its serial. One principal may sit on several seats. Faults,
+    /// in this order, after which everything is as before: `NoSeat` for a seat above 63, `Bound` for one in use,
+    /// `NoPrincipal` if no active principal has the name. Allocates nothing.
     pub fn hello(&mut self, seat: u64, name: &str) -> Result<u64, SeatFault>
         ensures step { MatchResult result (λ x. StepOf self.old (event.Hello seat name.now) (answer.Hello x) self.new) (λ fault. StepOf self.old (event.Hello seat name.now) (answer.Seat fault) self.new) }
         ensures keeps { Keeps self.old self.new }
@@ -198,7 +202,7 @@ impl Vault {
         if at_seat(self.seats.as_slice(), seat).is_some() {
             return Err(SeatFault::Bound);
         }
-        match principal_named(self.names.as_slice(), name) {
+        match serial_of(self.names.as_slice(), name) {
             Some(principal) => {
                 self.seats[seat as usize] = Some(principal);
                 Ok(principal)
@@ -207,8 +211,8 @@ impl Vault {
         }
     }
 
-    /// The principal at the seat.
-    fn principal_at(&self, seat: u64) -> Result<u64, SeatFault>
+    /// Who sits on the seat.
+    fn actor_at(&self, seat: u64) -> Result<u64, SeatFault>
         ensures ok { IfOk result (λ x. (seat < SEATS) × (at_seat self.now.seats seat ≡ Some x)) }
         ensures err { IfErr result (λ fault. shade_fault (moment self.now).world seat ≡ Some fault) }
     {
@@ -216,21 +220,21 @@ impl Vault {
             return Err(SeatFault::NoSeat);
         }
         match at_seat(self.seats.as_slice(), seat) {
-            Some(principal) => Ok(principal),
+            Some(actor) => Ok(actor),
             None => Err(SeatFault::NoActor),
         }
     }
 
-    /// The principal at the seat, if no target is pending there.
+    /// Who sits on the seat, if no target is pending there.
     fn idle_at(&self, seat: u64) -> Result<u64, SeatFault>
         ensures ok { IfOk result (λ x. (seat < SEATS) × (at_seat self.now.seats seat ≡ Some x) × (pending_of self.now.store seat ≡ None)) }
         ensures err { IfErr result (λ fault. bye_fault (moment self.now).world seat ≡ Some fault) }
     {
-        let principal = self.principal_at(seat)?;
+        let actor = self.actor_at(seat)?;
         if self.store.pending(seat).is_some() {
             return Err(SeatFault::Busy);
         }
-        Ok(principal)
+        Ok(actor)
     }
 
     /// Empties the seat. Faults, in this order, after which everything is as before: `NoSeat` for a seat above 63,
@@ -257,7 +261,7 @@ impl Vault {
         ensures acts { SessionStep self.old self.new }
         ensures unchanged { OnErr result (self.new ≡ self.old) }
     {
-        self.principal_at(seat)?;
+        self.actor_at(seat)?;
         self.store.soundness();
         let target = self.store.shade(seat);
         self.store.soundness();
@@ -277,13 +281,14 @@ impl Vault {
         note
     }
 
-    /// Judges the command of the seat's principal, carries it out if it is allowed, and enters it in the history with
-    /// its outcome. Returns the entry's number, from 0, and the reply. An allowed take or grant makes `over` the seat's
-    /// pending target, even if the edge was there already; an allowed create, the new vertex.
+    /// Judges the command of the seat's actor, a principal or one who has retired, carries it out if it is allowed, and
+    /// enters it in the history with its outcome. Returns the entry's number, from 0, and the reply. An allowed take or
+    /// grant makes `over` the seat's pending target, even if the edge was there already; an allowed create or enrol, the
+    /// new vertex. Whoever retires stays on its seats, and is denied each later command.
     ///
     /// Faults, in this order, after which everything is as before, nothing is entered and the command is dropped:
     /// `NoSeat` for a seat above 63, `NoActor` for an empty one, `Busy` while the seat has a pending target,
-    /// `OutOfMemory` if an allocation failed, whatever the outcome would have been.
+    /// `OutOfMemory` if an allocation failed, as for the copy of an enrol's name, whatever the outcome would have been.
     ///
     /// The outcome and the reply are those of every graph that the actor cannot tell from the graph of the history, a
     /// new vertex's serial and fullness aside.
@@ -309,7 +314,7 @@ impl Vault {
         ensures err { IfErr result (λ fault. IsAskFault (moment self.now).world seat fault) }
     {
         match self.idle_at(seat) {
-            Ok(principal) => Ok(principal),
+            Ok(actor) => Ok(actor),
             Err(SeatFault::NoSeat) => Err(AskFault::NoSeat),
             Err(SeatFault::NoActor) => Err(AskFault::NoActor),
             Err(_) => Err(AskFault::Busy),
@@ -334,18 +339,13 @@ impl Vault {
         self.history.try_reserve(1)?;
         self.opening.soundness();
         self.store.soundness();
-        let Some(place) = self.store.principal(actor) else {
-            unreachable!();
-        };
         let reply = answer(
             &mut self.store,
+            &mut self.names,
             &mut self.next,
             self.alloc,
             seat,
-            Spot {
-                serial: actor,
-                place,
-            },
+            actor,
             &command,
         )?;
         self.store.soundness();

@@ -16,8 +16,11 @@ answer-requires-clause-unheld c = subst (λ n. IsHeldIn c.self.inside.store n �
 pub answer-requires-clause-unparked : goal.answer-requires-clause-unparked
 answer-requires-clause-unparked c = subst (λ n. IsParkedIn c.self.inside.store n → ⊥) (sym c.self.invariant.serial) (next_unparked _ c.self.invariant.joins c.soundness-2.ensures.sound)
 
+pub answer-requires-clause-listed : goal.answer-requires-clause-listed
+answer-requires-clause-listed c = c.self.invariant.joins.principals
+
 pushed : (c : goal.In_ok-push) →
-    Pushed (contents c.self.inside) c.self.inside.next c.args.seat c.args.actor c.args.command c.in_ok-reply.reply c.answer.new.store c.answer.new.next (told c.in_ok-reply.reply) c.push.new.self.items
+    Pushed (contents c.self.inside) c.self.inside.next c.args.seat c.args.actor c.args.command c.in_ok-reply.reply c.answer.new.store c.answer.new.names c.answer.new.next (told c.in_ok-reply.reply) c.push.new.self.items
 pushed c = record {
   joined = c.self.invariant;
   store = c.soundness-2.ensures.sound;
@@ -31,24 +34,24 @@ pushed c = record {
 }
 
 pub invariant_of-self-2 : goal.invariant_of-self-2
-invariant_of-self-2 c = pushed_joined (contents c.self.inside) _ _ _ _ _ _ _ _ _ (pushed c)
+invariant_of-self-2 c = pushed_joined (contents c.self.inside) _ _ _ _ _ _ _ _ _ _ (pushed c)
 
 pub returns-clause-ok : goal.returns-clause-ok
 returns-clause-ok c =
-    subst (λ (w : Contents). Enters w.limits (moment w) c.args.seat c.args.actor c.args.command c.in_ok-reply.reply (moment (record (contents c.self.inside) { store = c.answer.new.store; history = c.push.new.self.items }))) c.self.view_is
-    (pushed_enters (contents c.self.inside) _ _ _ _ _ _ _ _ _ (pushed c))
+    subst (λ (w : Contents). Enters w.limits (moment w) c.args.seat c.args.actor c.args.command c.in_ok-reply.reply (moment (record (contents c.self.inside) { store = c.answer.new.store; names = c.answer.new.names; history = c.push.new.self.items }))) c.self.view_is
+    (pushed_enters (contents c.self.inside) _ _ _ _ _ _ _ _ _ _ (pushed c))
 
 pub returns-clause-agrees : goal.returns-clause-agrees
 returns-clause-agrees c =
-    subst (λ (w : Contents). SameForAgreeing w (record (contents c.self.inside) { store = c.answer.new.store; history = c.push.new.self.items }) c.in_ok-reply.reply) c.self.view_is
-    (pushed_same (contents c.self.inside) _ _ _ _ _ _ _ _ _ (pushed c))
+    subst (λ (w : Contents). SameForAgreeing w (record (contents c.self.inside) { store = c.answer.new.store; names = c.answer.new.names; history = c.push.new.self.items }) c.in_ok-reply.reply) c.self.view_is
+    (pushed_same (contents c.self.inside) _ _ _ _ _ _ _ _ _ _ (pushed c))
 
 pub returns-clause-exact : goal.returns-clause-exact
 returns-clause-exact c =
-    subst (λ (w : Contents). IsExact w (record (contents c.self.inside) { store = c.answer.new.store; history = c.push.new.self.items })) c.self.view_is
-    (pushed_exact (contents c.self.inside) _ _ _ _ _ _ _ _ _ (pushed c))
+    subst (λ (w : Contents). IsExact w (record (contents c.self.inside) { store = c.answer.new.store; names = c.answer.new.names; history = c.push.new.self.items })) c.self.view_is
+    (pushed_exact (contents c.self.inside) _ _ _ _ _ _ _ _ _ _ (pushed c))
 
 pub returns-clause-acts : goal.returns-clause-acts
 returns-clause-acts c =
-    subst (λ (w : Contents). SessionStep w (record (contents c.self.inside) { store = c.answer.new.store; history = c.push.new.self.items })) c.self.view_is
-    (pushed_acts (contents c.self.inside) _ _ _ _ _ _ _ _ _ (pushed c))
+    subst (λ (w : Contents). SessionStep w (record (contents c.self.inside) { store = c.answer.new.store; names = c.answer.new.names; history = c.push.new.self.items })) c.self.view_is
+    (pushed_acts (contents c.self.inside) _ _ _ _ _ _ _ _ _ _ (pushed c))

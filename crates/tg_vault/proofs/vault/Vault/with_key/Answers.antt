@@ -1,5 +1,6 @@
-use Rattle.std.proofs.Common.{◌≡◌, ◌≤◌, ℕ, List, Option, sym, subst, arith}
+use Rattle.std.proofs.Common.{◌≡◌, ◌≤◌, ℕ, List, Option, sym, subst, ◌∙◌, arith}
 use Rattle.tg_rights.specs.declared.limits.TheConstants.{MAX_CELLS, MAX_SLOTS}
+use Rattle.tg_graph.specs.declared.member.Member.{Member}
 use Rattle.tg_collect.proofs.OpeningLemmas.{openings_can_be_stored}
 use Rattle.tg_vault.specs.declared.entry.Entry.{Entry}
 use Rattle.tg_vault.specs.Contents.{Contents, IsFresh}
@@ -28,14 +29,15 @@ with_key-requires-clause-high_cells c = (openings_can_be_stored c.args.config c.
 pub with_key-requires-clause-opening : goal.with_key-requires-clause-opening
 with_key-requires-clause-opening c = opening_fits c.args.config c.in_ok-opening.opening c.in_ok-opening.ensures.ok c.in_ok-opening.ensures.sound
 
--- What holds of contents holds if their seats and their history are given otherwise.
-as_given : (P : Contents → Type 0) (w : Contents) (seats : List (Option ℕ)) (history : List Entry) → w.seats ≡ seats → w.history ≡ history → P w → P (record w { seats = seats; history = history })
-as_given P w seats history same none holds = subst P (λ i. record w { seats = same i; history = none i }) holds
+-- What holds of contents holds if their names, their seats and their history are given otherwise.
+as_given : (P : Contents → Type 0) (w : Contents) (names : List Member) (seats : List (Option ℕ)) (history : List Entry) → w.names ≡ names → w.seats ≡ seats → w.history ≡ history → P w →
+    P (record w { names = names; seats = seats; history = history })
+as_given P w names seats history called same none holds = subst P (λ i. record w { names = called i; seats = same i; history = none i }) holds
 
 pub invariant_of-result : goal.invariant_of-result
-invariant_of-result c = as_given (λ w. IsTied w c.args.config.next) _ _ _ (sym c.in-Ok-empty_seats.ensures) (sym c.new.ensures.items)
+invariant_of-result c = as_given (λ w. IsTied w c.args.config.next) _ _ _ _ (sym (c.in-Ok-copy.ensures ∙ c.principals.ensures)) (sym c.in-Ok-empty_seats.ensures) (sym c.new.ensures.items)
     (fresh_joined c.args.config c.in_ok-opening.opening c.in-Ok.store c.in_ok-opening.ensures.ok c.in_ok-opening.ensures.sound c.in_ok-opening.ensures.graph c.soundness.ensures.sound c.in-Ok.ensures)
 
 pub returns-clause-ok : goal.returns-clause-ok
-returns-clause-ok c = as_given (λ w. IsFresh c.args.config w) _ _ _ (sym c.in-Ok-empty_seats.ensures) (sym c.new.ensures.items)
+returns-clause-ok c = as_given (λ w. IsFresh c.args.config w) _ _ _ _ (sym (c.in-Ok-copy.ensures ∙ c.principals.ensures)) (sym c.in-Ok-empty_seats.ensures) (sym c.new.ensures.items)
     (fresh_is c.args.config c.in_ok-opening.opening c.in-Ok.store c.in_ok-opening.ensures.ok c.in_ok-opening.ensures.sound c.in_ok-opening.ensures.graph c.soundness.ensures.sound c.in-Ok.ensures)

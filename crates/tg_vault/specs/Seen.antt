@@ -1,0 +1,16 @@
+-- what a store holds, with the principals that it does not know by name
+use Rattle.std.specs.Prelude.{ℕ, List, map}
+use Rattle.std.specs.Ordering.{nat_cmp}
+use Rattle.std.specs.FinSet as set
+use Rattle.tg_graph.specs.declared.member.Member.{Member}
+use Rattle.tg_graph.specs.Protection.{Protection}
+use Rattle.tg_collect.specs.Stored.{Stored}
+use Rattle.tg_collect.specs.Readings.{held}
+
+-- what is held, as a graph with this next serial, these active principals, and those who have retired
+abbrev pub seen : Stored → (next : ℕ) → List Member → set.FinSet nat_cmp → Protection
+seen s next names retired = record (held s next) { names = names; retired = retired }
+
+-- the serials of the active principals
+abbrev pub serials : List Member → List ℕ
+serials members = map (λ (m : Member). m.serial) members
