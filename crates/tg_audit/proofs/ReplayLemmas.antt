@@ -1,21 +1,23 @@
 -- A history, replayed entry by entry.
-use Rattle.std.proofs.Common.{◌≡◌, ℕ, zero, suc, ◌+◌, ◌≤◌, List, [], ◌∷◌, ◌++◌, drop, take, length, refl, sym, ap, ◌∙◌, subst, arith, slice_get, Some, None}
-use Rattle.std.specs.Prelude.{All}
+use Rattle.std.proofs.Common.{◌≡◌, ℕ, zero, suc, ◌+◌, ◌≤◌, List, [], ◌∷◌, ◌++◌, drop, take, length, refl, sym, ap, ◌∙◌, subst, arith, slice_get, true, false, inl, inr, Some, None}
 use Rattle.std.proofs.lemmas.Option.{none-some, same_Some}
 use Rattle.std.proofs.lemmas.Grind.{common_steps}
-use Rattle.std.proofs.lemmas.List.Elements.{All-head, All-tail}
+use Rattle.tg_rights.specs.Command.{rule_of}
 use Rattle.tg_rights.specs.declared.command.Command.{Command}
+use Rattle.tg_rights.specs.declared.outcome.Cause.TheVariants as cause
 use Rattle.tg_rights.specs.declared.outcome.Outcome.{Outcome}
 use Rattle.tg_rights.specs.declared.outcome.Outcome.TheVariants as outcome
 use Rattle.tg_rights.specs.declared.outcome.Which.TheVariants as which
 use Rattle.tg_rights.specs.declared.outcome.Reply.{Reply}
+use Rattle.tg_rights.specs.declared.outcome.Reply.TheVariants as reply
 use Rattle.tg_graph.specs.Fullness.{Limits, Permitted}
-use Rattle.tg_graph.specs.Protection.{IsGraph, IsSubject, Protection}
+use Rattle.tg_graph.specs.Protection.{IsGraph, IsSubject, Protection, has_retired}
 use Rattle.tg_graph.specs.Rules.{Applies, PlainlyDecided, next_graph, reply_of}
 use Rattle.tg_vault.specs.declared.entry.Entry.{Entry}
 use Rattle.tg_vault.specs.Contents.{Contents, graph_now}
-use Rattle.tg_vault.specs.History.{EntryRun, Legal}
-use Rattle.tg_vault.proofs.HistoryLemmas.{turn_keeps}
+use Rattle.tg_vault.specs.History.{EntryRun, Legal, MayAsk}
+use Rattle.tg_vault.proofs.CarriedOutLemmas.{retired_denied}
+use Rattle.tg_vault.proofs.HistoryLemmas.{active_subject}
 use Rattle.tg_audit.specs.Replies.{beyond, replies_of}
 use Rattle.tg_audit.proofs.FollowingLemmas.{drop_some}
 
@@ -50,6 +52,22 @@ graph_permitted limits G H x c d o answer permitted plain same applies =
     let here : Applies G x c answer H = (let A : Command → Type 0 = λ e. Applies G x e answer H in subst A same applies) in
     here.3 ∙ ap (next_graph G x c) (decided_as_permitted limits G x c o here.0 permitted plain here.1)
 
+-- who may ask and has not retired is a subject
+pub asks_as_subject : (G : Protection) (x : ℕ) → IsGraph G → MayAsk G x → has_retired G x ≡ false → IsSubject G x
+asks_as_subject G x graph (inl active) unretired = active_subject G x graph active
+asks_as_subject G x graph (inr retired) unretired = absurd (cc (retired, unretired))
+
+-- who has retired gets the reply that says so, and changes nothing
+pub reply_retired : (limits : Limits) (G : Protection) (x : ℕ) (c : Command) (o : Outcome) → Permitted limits G x c o → has_retired G x ≡ true → reply.Denied (rule_of c) cause.Retired ≡ reply_of G x c o
+reply_retired limits G x c outcome.Allowed permitted retired = absurd (none-some cause.Retired (sym permitted.0 ∙ retired_denied G x c retired))
+reply_retired limits G x c (outcome.Denied rule why) permitted retired = λ i. reply.Denied ((sym permitted.0) i) (same_Some cause.Retired why (sym (retired_denied G x c retired) ∙ permitted.1) i)
+reply_retired limits G x c (outcome.Full which) permitted retired = absurd (none-some cause.Retired (sym permitted.0 ∙ retired_denied G x c retired))
+
+pub graph_retired : (limits : Limits) (G : Protection) (x : ℕ) (c : Command) (o : Outcome) → Permitted limits G x c o → has_retired G x ≡ true → G ≡ next_graph G x c o
+graph_retired limits G x c outcome.Allowed permitted retired = absurd (none-some cause.Retired (sym permitted.0 ∙ retired_denied G x c retired))
+graph_retired limits G x c (outcome.Denied rule why) permitted retired = refl
+graph_retired limits G x c (outcome.Full which) permitted retired = refl
+
 drop_first : {X : Type 0} (xs : List X) (k : ℕ) → slice_get (drop k xs) 0 ≡ slice_get xs k
 drop_first [] zero = refl
 drop_first [] (suc k) = refl
@@ -71,45 +89,35 @@ take_more (y ∷ xs) (suc k) x at = ap (λ zs. y ∷ zs) (take_more xs k x at)
 pub take_past : {X : Type 0} (xs : List X) (k : ℕ) → length xs ≤ k → take k xs ≡ xs
 take_past xs k past = grind (arith, common_steps)
 
--- what is left of a legal history, starting from a graph: each entry's outcome is permitted, and its actor is a subject
-pub record IsLeft (limits : Limits) (first G : Protection) (es : List Entry) : Type 0 where
+-- what is left of a legal history, starting from a graph
+pub record IsLeft (limits : Limits) (G : Protection) (es : List Entry) : Type 0 where
   pub ends : Protection
   pub run : EntryRun limits G es ends
-  pub graph : IsGraph G
-  pub subjects : (v : ℕ) → IsSubject first v → IsSubject G v
-  pub actors : All (λ e. IsSubject first e.actor) es
 
-pub left_at_start : (limits : Limits) (first G : Protection) (es : List Entry) (ends : Protection) → G ≡ first → IsGraph G → Legal limits first es ends → IsLeft limits first G es
-left_at_start limits first G es ends same graph legal =
+pub left_at_start : (limits : Limits) (first G : Protection) (es : List Entry) (ends : Protection) → G ≡ first → Legal limits first es ends → IsLeft limits G es
+left_at_start limits first G es ends same legal =
     let R : Protection → Type 0 = λ F. EntryRun limits F es ends in
-    record { ends = ends; run = subst R (sym same) legal.graphs; graph = graph; subjects = λ v s. (let S : Protection → Type 0 = λ F. IsSubject F v in subst S (sym same) s); actors = legal.actors }
+    record { ends = ends; run = subst R (sym same) legal.graphs }
 
-pub left_subject : (v : Contents) (G : Protection) (n : ℕ) (e : Entry) → IsLeft v.limits v.opening G (drop n v.history) → slice_get v.history n ≡ Some e → IsSubject G e.actor
-left_subject v G n e left at =
-    let actors : All (λ (x : Entry). IsSubject v.opening x.actor) (e ∷ drop (suc n) v.history) = subst (All (λ (x : Entry). IsSubject v.opening x.actor)) (drop_some v.history n e at) left.actors in
-    left.subjects e.actor (All-head (λ (x : Entry). IsSubject v.opening x.actor) e (drop (suc n) v.history) actors)
+-- the next entry leads on
+left_step : (limits : Limits) (G : Protection) (es : List Entry) (n : ℕ) (e : Entry) → (left : IsLeft limits G (drop n es)) → slice_get es n ≡ Some e → EntryRun limits G (e ∷ drop (suc n) es) left.ends
+left_step limits G es n e left at = let R : List Entry → Type 0 = λ xs. EntryRun limits G xs left.ends in subst R (drop_some es n e at) left.run
 
-pub left_permitted : (v : Contents) (G : Protection) (n : ℕ) (e : Entry) → IsLeft v.limits v.opening G (drop n v.history) → slice_get v.history n ≡ Some e → (limits : Limits) × Permitted limits G e.actor e.command e.outcome
-left_permitted v G n e left at =
-    let run : EntryRun v.limits G (e ∷ drop (suc n) v.history) left.ends = (let R : List Entry → Type 0 = λ xs. EntryRun v.limits G xs left.ends in subst R (drop_some v.history n e at) left.run) in
-    (v.limits, run.1.0)
+pub left_asks : (v : Contents) (G : Protection) (n : ℕ) (e : Entry) → IsLeft v.limits G (drop n v.history) → slice_get v.history n ≡ Some e → MayAsk G e.actor
+left_asks v G n e left at = (left_step v.limits G v.history n e left at).1.0
 
-pub left_more : (limits : Limits) (first G H : Protection) (es : List Entry) (n : ℕ) (e : Entry) → IsLeft limits first G (drop n es) → slice_get es n ≡ Some e → H ≡ next_graph G e.actor e.command e.outcome → IsLeft limits first H (drop (n + 1) es)
-left_more limits first G H es n e left at graph =
+pub left_permitted : (v : Contents) (G : Protection) (n : ℕ) (e : Entry) → IsLeft v.limits G (drop n v.history) → slice_get v.history n ≡ Some e → (limits : Limits) × Permitted limits G e.actor e.command e.outcome
+left_permitted v G n e left at = (v.limits, (left_step v.limits G v.history n e left at).1.1)
+
+pub left_more : (limits : Limits) (G H : Protection) (es : List Entry) (n : ℕ) (e : Entry) → IsLeft limits G (drop n es) → slice_get es n ≡ Some e → H ≡ next_graph G e.actor e.command e.outcome → IsLeft limits H (drop (n + 1) es)
+left_more limits G H es n e left at graph =
     let next : n + 1 ≡ suc n = omega arith in
-    let rest = drop (suc n) es in
-    let run : EntryRun limits G (e ∷ rest) left.ends = (let R : List Entry → Type 0 = λ xs. EntryRun limits G xs left.ends in subst R (drop_some es n e at) left.run) in
-    let actors : All (λ (x : Entry). IsSubject first x.actor) (e ∷ rest) = subst (All (λ (x : Entry). IsSubject first x.actor)) (drop_some es n e at) left.actors in
-    let actor : IsSubject G e.actor = left.subjects e.actor (All-head (λ (x : Entry). IsSubject first x.actor) e rest actors) in
-    let kept = turn_keeps limits G e.actor e.command e.outcome left.graph actor run.1.0 in
-    let same : run.0 ≡ H = run.1.1 ∙ sym graph in
-    let L : ℕ → Type 0 = λ k. IsLeft limits first H (drop k es) in
+    let run = left_step limits G es n e left at in
+    let same : run.0 ≡ H = run.1.2 ∙ sym graph in
+    let L : ℕ → Type 0 = λ k. IsLeft limits H (drop k es) in
     subst L (sym next) (record {
       ends = left.ends;
-      run = (let R : Protection → Type 0 = λ F. EntryRun limits F rest left.ends in subst R same run.2);
-      graph = subst IsGraph (sym graph) kept.0;
-      subjects = λ v s. (let S : Protection → Type 0 = λ F. IsSubject F v in subst S (sym graph) (kept.1 v (left.subjects v s)));
-      actors = All-tail (λ (x : Entry). IsSubject first x.actor) e rest actors;
+      run = (let R : Protection → Type 0 = λ F. EntryRun limits F (drop (suc n) es) left.ends in subst R same run.2);
     })
 
 pub replies_length : (G : Protection) (es : List Entry) → length (replies_of G es) ≡ length es
@@ -119,12 +127,12 @@ replies_length G (e ∷ es) = ap suc (replies_length (next_graph G e.actor e.com
 -- a vault's history has been replayed up to an entry: the further replies are those that the graph gives
 pub record IsReplayed (v : Contents) (G : Protection) (number : ℕ) : Type 0 where
   pub further : drop number (replies_of v.opening v.history) ≡ replies_of G (drop number v.history)
-  pub left : IsLeft v.limits v.opening G (drop number v.history)
+  pub left : IsLeft v.limits G (drop number v.history)
 
-pub replayed_none : (v : Contents) (G : Protection) → G ≡ v.opening → IsGraph G → Legal v.limits v.opening v.history (graph_now v) → IsReplayed v G 0
-replayed_none v G same graph legal = record {
+pub replayed_none : (v : Contents) (G : Protection) → G ≡ v.opening → Legal v.limits v.opening v.history (graph_now v) → IsReplayed v G 0
+replayed_none v G same legal = record {
   further = ap (λ F. replies_of F v.history) (sym same);
-  left = left_at_start v.limits v.opening G v.history (graph_now v) same graph legal;
+  left = left_at_start v.limits v.opening G v.history (graph_now v) same legal;
 }
 
 -- the next reply is the next entry's
@@ -145,6 +153,6 @@ replays v G H n e r so_far at reply graph =
       told = sym (drop_first (replies_of v.opening v.history) n) ∙ ap (λ rs. slice_get rs 0) rest;
       replayed = record {
         further = rw next (sym (drop_rest (replies_of v.opening v.history) n) ∙ ap (drop 1) rest);
-        left = left_more v.limits v.opening G H v.history n e so_far.left at graph;
+        left = left_more v.limits G H v.history n e so_far.left at graph;
       };
     }

@@ -21,7 +21,7 @@ pub record IsDenied (why : Rule × Cause) (G : Protection) (s : Step) : Type 0 w
   pub subject : IsSubject G s.actor
   pub denied : Denied G s.actor s.command why.0 why.1
 
--- the rules allow a subject the step, which is a create, and no serial is left
+-- the rules allow a subject the step, which makes a vertex, and no serial is left
 pub record IsWithoutSerial (G : Protection) (s : Step) : Type 0 where
   pub subject : IsSubject G s.actor
   pub allowed : Allowed G s.actor s.command

@@ -2,7 +2,7 @@ use Rattle.std.proofs.Common.{◌<◌, ◌≡◌, ◌∙◌, Some, arith, slice_
 use Rattle.std.proofs.lemmas.Option.{slice_get-get_or}
 use Rattle.tg_rights.specs.declared.limits.TheConstants.{SEATS}
 use Rattle.tg_audit.specs.Replies.{replies_of}
-use Rattle.tg_audit.proofs.ReplayLemmas.{left_permitted, left_subject, replayed_none, replays}
+use Rattle.tg_audit.proofs.ReplayLemmas.{left_asks, left_permitted, replayed_none, replays}
 use Rattle.tg_audit.proofs.TableLemmas.{followed_end, followed_fresh, followed_more, start}
 use Rattle.tg_audit.proofs.following.follow.Goals as goal
 
@@ -12,11 +12,11 @@ loop-number-init c =
     let G = c.in_ok-graph.graph in
     record {
       followed = followed_fresh v c.args.logs.now;
-      replayed = replayed_none v G (c.in_ok-graph.ensures.equal ∙ c.opening.ensures) c.in_ok-graph.ensures.graph c.soundness.ensures.vault.legal;
+      replayed = replayed_none v G (c.in_ok-graph.ensures.equal ∙ c.opening.ensures) c.soundness.ensures.vault.legal;
     }
 
-pub reply_to-requires-clause-subject : goal.reply_to-requires-clause-subject
-reply_to-requires-clause-subject c = left_subject c.args.vault.now c.loop-number.graph c.loop-number.number c.entry_at-entry.result.now c.loop-number.invariant.replayed.left c.entry_at-entry.ensures.entry
+pub reply_to-requires-clause-asks : goal.reply_to-requires-clause-asks
+reply_to-requires-clause-asks c = left_asks c.args.vault.now c.loop-number.graph c.loop-number.number c.entry_at-entry.result.now c.loop-number.invariant.replayed.left c.entry_at-entry.ensures.entry
 
 pub reply_to-requires-clause-permitted : goal.reply_to-requires-clause-permitted
 reply_to-requires-clause-permitted c = left_permitted c.args.vault.now c.loop-number.graph c.loop-number.number c.entry_at-entry.result.now c.loop-number.invariant.replayed.left c.entry_at-entry.ensures.entry

@@ -1,13 +1,13 @@
 use Rattle.std.proofs.Common.{◌≡◌, ◌++◌, [], ◌∷◌, ◌∙◌, ◌+◌, ap, arith, suc}
 use Rattle.tg_audit.specs.Replies.{replies_of}
-use Rattle.tg_audit.proofs.ReplayLemmas.{left_permitted, left_subject, replayed_none, replays, replies_length, take_more, take_past}
+use Rattle.tg_audit.proofs.ReplayLemmas.{left_asks, left_permitted, replayed_none, replays, replies_length, take_more, take_past}
 use Rattle.tg_audit.proofs.replaying.replay.Goals as goal
 
 pub loop-number-init : goal.loop-number-init
-loop-number-init c = record { replied = c.new-replies.ensures.items; replayed = replayed_none c.args.vault.now c.in_ok-graph.graph (c.in_ok-graph.ensures.equal ∙ c.opening.ensures) c.in_ok-graph.ensures.graph c.soundness.ensures.vault.legal }
+loop-number-init c = record { replied = c.new-replies.ensures.items; replayed = replayed_none c.args.vault.now c.in_ok-graph.graph (c.in_ok-graph.ensures.equal ∙ c.opening.ensures) c.soundness.ensures.vault.legal }
 
-pub reply_to-requires-clause-subject : goal.reply_to-requires-clause-subject
-reply_to-requires-clause-subject c = left_subject c.args.vault.now c.loop-number.graph c.loop-number.number c.in-Some.entry.now c.loop-number.invariant.replayed.left c.in-Some.ensures.some
+pub reply_to-requires-clause-asks : goal.reply_to-requires-clause-asks
+reply_to-requires-clause-asks c = left_asks c.args.vault.now c.loop-number.graph c.loop-number.number c.in-Some.entry.now c.loop-number.invariant.replayed.left c.in-Some.ensures.some
 
 pub reply_to-requires-clause-permitted : goal.reply_to-requires-clause-permitted
 reply_to-requires-clause-permitted c = left_permitted c.args.vault.now c.loop-number.graph c.loop-number.number c.in-Some.entry.now c.loop-number.invariant.replayed.left c.in-Some.ensures.some
