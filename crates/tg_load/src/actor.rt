@@ -16,16 +16,18 @@ use tg_share::{Open, Session};
 #[derive(Drop)]
 pub struct Actor {
     pub draws: Draws,
-    /// Rights over documents, which it made or took and will give up.
+    /// Whether it may retire: the load stays as it is if few do.
+    pub is_guest: bool,
+    /// Rights over vertices, which it made or took and will give up.
     pub held: Vec<(u64, Rights)>,
-    /// How many documents it made.
+    /// How many vertices it made.
     pub made: u64,
     /// The longest time that one command took, in microseconds.
     pub longest: u64,
 }
 
 impl Actor {
-    /// The document whose rights came last.
+    /// The vertex whose rights came last.
     fn last(&self) -> u64 {
         match self.held.last() {
             Some(found) => found.0,
@@ -47,16 +49,26 @@ impl Actor {
         }
     }
 
-    /// The next command, given someone's newest document.
+    /// The next rule; a look in place of a retire of anyone but the guest.
+    fn rule(&mut self) -> Rule {
+        match self.draws.rule() {
+            Rule::Retire if !self.is_guest => Rule::Look,
+            rule => rule,
+        }
+    }
+
+    /// The next command, given someone's newest vertex.
     fn draw(&mut self, newest: u64) -> Drawn {
-        let rule = self.draws.rule();
+        let rule = self.rule();
         if rule == Rule::Remove || self.held.len() > 2 {
             return self.given_up();
         }
         let over = match rule {
             Rule::Take | Rule::Look => newest,
             Rule::Grant => self.draws.principal(),
-            Rule::Create | Rule::Remove | Rule::Read | Rule::Write => self.last(),
+            Rule::Create | Rule::Remove | Rule::Read | Rule::Write | Rule::Enrol | Rule::Retire => {
+                self.last()
+            }
         };
         Drawn {
             rule,

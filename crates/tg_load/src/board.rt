@@ -11,7 +11,7 @@ const TURNS: u32 = 1_000_000;
 pub struct Board {
     /// How many sessions were given or refused.
     pub seated: AtomicU64,
-    /// Someone's newest document.
+    /// Someone's newest vertex.
     pub newest: AtomicU64,
     /// How many cycles the collector has ended.
     pub cycles: AtomicU64,

@@ -5,7 +5,7 @@ use crate::board::Board;
 use crate::draws::Draws;
 use crate::figures::{micros_since, now};
 use crate::load::Load;
-use crate::opening::{KEEPER, name_of};
+use crate::opening::{KEEPER, is_guests, name_of};
 use std::alloc::Global;
 use std::rt::Clock;
 use std::sync::Wait;
@@ -23,7 +23,7 @@ const KEEPERS_SEAT: u64 = 63;
 #[derive(Drop)]
 pub struct Acted<L: Ledger> {
     pub ended: Ended<L>,
-    /// How many documents it made.
+    /// How many vertices it made.
     pub made: u64,
     /// The longest time that one of its commands took, in microseconds.
     pub longest: u64,
@@ -43,6 +43,7 @@ fn act<L: Ledger, R: Wait + Clock>(
 ) -> Option<Acted<L>> {
     let mut actor = Actor {
         draws: Draws { state: seed },
+        is_guest: is_guests(seat),
         held: Vec::new(alloc),
         made: 0,
         longest: 0,
@@ -103,7 +104,7 @@ fn collect_until<L: Ledger, R: Wait + Clock>(rt: &R, shared: &Shared<L>, board: 
 #[derive(Drop)]
 pub struct Crowd<L: Ledger> {
     pub ended: Vec<Ended<L>>,
-    /// How many documents they made.
+    /// How many vertices they made.
     pub made: u64,
     /// The longest time that one of their commands took, in microseconds.
     pub longest: u64,

@@ -1,9 +1,12 @@
 //! Commands drawn from a seed.
 ghost use Rattle.std.specs.Prelude.{◌<◌};
 
-use crate::opening::PRINCIPALS;
+use crate::opening::{GUEST, PRINCIPALS};
 use std::alloc::{AllocError, Global};
-use tg_rights::{Command, Kind, Rights, Rule, Text};
+use tg_rights::{Command, Kind, Name, Rights, Rule, Text};
+
+/// One rule in so many is an enrol, and one a retire. It is a multiple of 7, so that the others are drawn alike.
+const RARELY: u64 = 700;
 
 /// Numbers drawn by SplitMix64 from a seed.
 #[derive(Drop)]
@@ -39,7 +42,15 @@ impl Draws {
     }
 
     pub fn rule(&mut self) -> Rule {
-        match self.below(7) {
+        let drawn = self.below(RARELY);
+        if drawn < 2 {
+            return if drawn == 0 {
+                Rule::Enrol
+            } else {
+                Rule::Retire
+            };
+        }
+        match drawn % 7 {
             0 => Rule::Take,
             1 => Rule::Grant,
             2 => Rule::Create,
@@ -83,6 +94,11 @@ impl Drawn {
                 Command::write(over, text)
             }
             Rule::Look => Command::look(over),
+            Rule::Enrol => match Name::new(String::from_str(alloc, GUEST)?) {
+                Ok(name) => Command::enrol(name, rights),
+                Err(_) => Command::look(over),
+            },
+            Rule::Retire => Command::retire(),
         })
     }
 }

@@ -14,13 +14,28 @@ const NAMES: &[&str] = &["a", "b", "c", "d", "e", "f", "g", "h"];
 /// The principal that makes the documents which are held. No command names it.
 pub const KEEPER: &str = "keeper";
 
-/// The name of a principal.
-pub fn name_of(seat: u64) -> &'static str {
-    NAMES[(seat % PRINCIPALS) as usize]
+/// The one principal that retires, and the name that is enrolled.
+pub const GUEST: &str = "guest";
+
+/// The first of the last seats of a full load, on which the guest sits.
+const GUESTS_SEAT: u64 = 61;
+
+/// Whether the guest sits on the seat.
+pub fn is_guests(seat: u64) -> bool {
+    seat >= GUESTS_SEAT
 }
 
-/// A vault of 8 principals, each with the rights to take from the next one and to grant to it, and of the keeper. None
-/// if memory ran out.
+/// The name of the principal that sits on the seat.
+pub fn name_of(seat: u64) -> &'static str {
+    if is_guests(seat) {
+        GUEST
+    } else {
+        NAMES[(seat % PRINCIPALS) as usize]
+    }
+}
+
+/// A vault of 8 principals, each with the rights to take from the next one and to grant to it, and of the keeper and
+/// the guest. None if memory ran out.
 pub fn opened(alloc: Global, slots: u64) -> Option<Vault>
     ensures { IfSome result (λ vault. vault.history ≡ []) }
 {
@@ -37,13 +52,15 @@ pub fn opened(alloc: Global, slots: u64) -> Option<Vault>
             .ok()?;
         serial = next;
     }
-    principals
-        .push(Word::new(String::from_str(alloc, KEEPER).ok()?))
-        .ok()?;
+    for name in [KEEPER, GUEST] {
+        principals
+            .push(Word::new(String::from_str(alloc, name).ok()?))
+            .ok()?;
+    }
     let config = Config {
         principals,
         edges,
-        next: PRINCIPALS + 2,
+        next: PRINCIPALS + 3,
         slots,
         cells: slots.saturating_mul(4).min(MAX_CELLS as u64),
     };

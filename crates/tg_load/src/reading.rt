@@ -45,7 +45,7 @@ const NUMBERED: &[Numbered] = &[
     // One more than there are principals at the start.
     Numbered {
         name: "slots",
-        least: 10,
+        least: 11,
         most: MAX_SLOTS as u64,
         usual: "48",
         about: "Slots of the vault",

@@ -64,7 +64,7 @@ fn close_of<L: Ledger>(closed: &Closed<L>) -> Close {
     }
 }
 
-/// The result of the run, if the sessions made this many documents.
+/// The result of the run, if the sessions made this many vertices.
 fn found_of(load: Load, close: Close, is_whole: bool, made: u64) -> Found {
     let Close {
         verdict,

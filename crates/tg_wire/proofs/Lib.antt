@@ -1,6 +1,7 @@
 pub mod Literals
 pub mod ReadingLemmas
 pub mod KeysLemmas
+pub mod OpsLemmas
 pub mod LexemesLemmas
 pub mod QuotedLemmas
 pub mod StopsLemmas

@@ -13,7 +13,7 @@ use crate::key::Key;
 use crate::object::LineObject;
 use serde_json::Value;
 use std::alloc::Global;
-use tg_rights::{Kind, MAX_TEXT, Rights, Text, Word};
+use tg_rights::{Kind, MAX_TEXT, Name, Rights, Text, Word, is_name};
 
 /// Whether the field is there, with any value.
 pub(crate) fn has(object: &LineObject<'_>, key: Key) -> bool
@@ -122,6 +122,20 @@ pub(crate) fn text(alloc: Global, object: &LineObject<'_>) -> Result<Text, WireF
     }
     match Text::new(String::from_str(alloc, text)?) {
         Ok(text) => Ok(text),
+        Err(_) => Err(WireFault::BadField),
+    }
+}
+
+/// The name of a principal. A text that is none is refused before memory is asked for.
+pub(crate) fn name(alloc: Global, object: &LineObject<'_>) -> Result<Name, WireFault>
+    ensures { AnswersField result (fields.name_in (data_of object.now)) }
+{
+    let text = string(object, Key::Name).ok_or(WireFault::BadField)?;
+    if !is_name(text) {
+        return Err(WireFault::BadField);
+    }
+    match Name::new(String::from_str(alloc, text)?) {
+        Ok(name) => Ok(name),
         Err(_) => Err(WireFault::BadField),
     }
 }

@@ -14,7 +14,7 @@ use crate::flat::{Flat, Members, read_flat};
 use crate::key::Key;
 use crate::line::Line;
 use crate::object::{LineObject, fits, has_required, knows_all, tree};
-use crate::op::{Op, of_command, rule_named};
+use crate::op::{Op, of_command, step_rule_named};
 use std::alloc::Global;
 use tg_graph::Step;
 use tg_rights::{Command, Rule};
@@ -108,7 +108,7 @@ fn rule(object: &LineObject<'_>) -> Result<Rule, WireFault>
     ensures { result ≡ or_else NoOp (rule_in (data_of object.now)) }
 {
     let word = field::string(object, Key::Op).ok_or(WireFault::NoOp)?;
-    rule_named(word).ok_or(WireFault::NoOp)
+    step_rule_named(word).ok_or(WireFault::NoOp)
 }
 
 #[inline(always)]
@@ -172,5 +172,15 @@ fn command(alloc: Global, rule: Rule, object: &LineObject<'_>) -> Result<Command
             let at = field::number(object, Key::At).ok_or(WireFault::BadField)?;
             Ok(Command::Look { at })
         }
+        Rule::Enrol => enrol(alloc, object),
+        Rule::Retire => Ok(Command::Retire),
     }
+}
+
+fn enrol(alloc: Global, object: &LineObject<'_>) -> Result<Command, WireFault>
+    ensures { AnswersField result ((command_form Rule.Enrol).value (data_of object.now)) }
+{
+    let rights = field::rights(object).ok_or(WireFault::BadField)?;
+    let name = field::name(alloc, object)?;
+    Ok(Command::Enrol { name, rights })
 }

@@ -138,11 +138,9 @@ fn denied_line(room: &mut LineRoom, rule: Rule, cause: Cause) -> Result<Vec<u8>,
 {
     let denied = Told::Word(of_command(rule).word);
     match cause {
-        Cause::Empty => object_line(room, &[("cause", Told::Word("empty")), ("denied", denied)]),
-        Cause::NotDistinct => object_line(
-            room,
-            &[("cause", Told::Word("not distinct")), ("denied", denied)],
-        ),
+        Cause::Retired => denied_for(room, rule, "retired"),
+        Cause::Empty => denied_for(room, rule, "empty"),
+        Cause::NotDistinct => denied_for(room, rule, "not distinct"),
         Cause::Missing { from, to, rights } => object_line(
             room,
             &[
@@ -160,7 +158,23 @@ fn denied_line(room: &mut LineRoom, rule: Rule, cause: Cause) -> Result<Vec<u8>,
                 ("vertex", Told::Number(vertex)),
             ],
         ),
+        Cause::NotPrincipal => denied_for(room, rule, "not principal"),
+        Cause::NameTaken => denied_for(room, rule, "name taken"),
+        Cause::Crowded => denied_for(room, rule, "crowded"),
     }
+}
+
+/// The line of a denial for a cause with no field but its word.
+fn denied_for(room: &mut LineRoom, rule: Rule, cause: &str) -> Result<Vec<u8>, AllocError>
+    ensures { IfOk result (λ line. line.items ≡ line_text (object (member (codes "cause") (string cause.now) (member (codes "denied") (string (rule_text rule)) no_members)))) }
+{
+    object_line(
+        room,
+        &[
+            ("cause", Told::Word(cause)),
+            ("denied", Told::Word(of_command(rule).word)),
+        ],
+    )
 }
 
 fn denied_step_line(
@@ -174,6 +188,7 @@ fn denied_step_line(
     let denied = Told::Word(of_command(rule).word);
     let verdict = Told::Word("step denied");
     match cause {
+        Cause::Retired => denied_step_for(room, step, rule, "retired"),
         Cause::Empty => denied_step_for(room, step, rule, "empty"),
         Cause::NotDistinct => denied_step_for(room, step, rule, "not distinct"),
         Cause::Missing { from, to, rights } => object_line(
@@ -197,6 +212,9 @@ fn denied_step_line(
                 ("vertex", Told::Number(vertex)),
             ],
         ),
+        Cause::NotPrincipal => denied_step_for(room, step, rule, "not principal"),
+        Cause::NameTaken => denied_step_for(room, step, rule, "name taken"),
+        Cause::Crowded => denied_step_for(room, step, rule, "crowded"),
     }
 }
 

@@ -1,0 +1,16 @@
+use Rattle.std.proofs.Common.{◌++◌, sym, ap, ◌∙◌}
+use Rattle.tg_wire.specs.Flat.{data_of}
+use Rattle.tg_wire.specs.Ops.{op_form}
+use Rattle.tg_wire.specs.Lines.{line_extras}
+use Rattle.tg_wire.specs.Reading.{guard, knows_all}
+use Rattle.tg_wire.specs.declared.fault.WireFault.TheVariants.{UnknownField}
+use Rattle.tg_wire.proofs.OpsLemmas.{line_given}
+use Rattle.tg_wire.proofs.ReadingLemmas.{read_well}
+use Rattle.tg_wire.proofs.read.only_known.Goals as goal
+
+pub returns : goal.returns
+returns c =
+    let d = data_of c.args.object.now in
+    let form = op_form c.args.op in
+    let known = ap (λ fields. guard (knows_all (line_extras ++ fields) d) UnknownField) (sym c.keys.ensures) ∙ sym c.knows_all.ensures ∙ c.in_ok-knows_all.was in
+    read_well form.fields line_extras form.value d c.args.line _ (line_given c.args.op d c.args.line c.requires) c.requires known

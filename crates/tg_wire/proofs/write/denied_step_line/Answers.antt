@@ -1,0 +1,9 @@
+use Rattle.std.proofs.Common.{ap, sym, ◌∙◌}
+use Rattle.std.proofs.lemmas.Result.{IfOk-weaker}
+use Rattle.tg_wire.specs.Faults.{line_text}
+use Rattle.tg_wire.specs.Answers.{denied_step_data}
+use Rattle.tg_wire.proofs.write.denied_step_line.Goals as goal
+
+pub returns-in-NameTaken : goal.returns-in-NameTaken
+returns-in-NameTaken c =
+    IfOk-weaker c.denied_step_for-in-NameTaken.result _ _ (λ line h. h ∙ ap (λ cause. line_text (denied_step_data c.args.step c.args.rule cause)) (sym c.in-NameTaken.is)) c.denied_step_for-in-NameTaken.ensures
