@@ -267,6 +267,42 @@ fn fault<L: Ledger, R: Wait>(
     }
 }
 
+const ENROLLED: &[Asked] = &[(Ask::Enrol("carol", "t"), Want::Created(3))];
+
+/// What carol asks for, who retires.
+const RETIRED: &[Asked] = &[
+    (Ask::Document("r"), Want::Created(4)),
+    (Ask::Retire, Want::Done),
+    (Ask::Read(4), Want::Retired),
+    (Ask::Retire, Want::Retired),
+];
+
+/// The fault of carol's next session once alice has enrolled her and she has retired, and how many entries there are in
+/// the end, if all replies are as worked out.
+fn come_and_go<L: Ledger, R: Wait + Clock>(
+    rt: &R,
+    alloc: Global,
+    blank: Blank,
+    vault: Vault,
+) -> (Option<SeatFault>, Option<u64>)
+    requires { IsFresh L.name L.parts blank vault.history }
+{
+    let shared = Shared::<L>::new(alloc, blank, vault);
+    let alice = play(rt, alloc, &shared, 0, "alice", ENROLLED, &Open);
+    let carol = play(rt, alloc, &shared, 1, "carol", RETIRED, &Open);
+    let again = fault(rt, alloc, &shared, 1, "carol");
+    (again, agreed(shared, both(alloc, alice, carol)))
+}
+
+/// A session of one who was enrolled goes on when that one retires, and there is none after it.
+#[test]
+fn a_principal_comes_and_goes(rt: HostRuntime) -> Result<(), AllocError> {
+    let vault = opened(&rt, rt.alloc(), &TWO)?;
+    let done = come_and_go::<Brand, _>(&rt, rt.alloc(), Blank::new(PARTS), vault);
+    assert_eq!(rt; done, (Some(SeatFault::NoPrincipal), Some(5)));
+    Ok(())
+}
+
 /// The faults of sessions while alice has one on seat 0, and of one on that seat once she has left.
 fn faults<L: Ledger, R: Wait>(
     rt: &R,

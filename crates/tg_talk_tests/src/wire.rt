@@ -12,7 +12,7 @@ use tg_wire::{
     write_swept_in, write_verdict,
 };
 
-/// An event line, and what it asks for: the op, or the name of a hello, and the seat.
+/// An event line, and what it asks for: the op, or the name of a hello or an enrol, and the seat.
 struct EventCase {
     line: &'static [u8],
     word: &'static str,
@@ -51,6 +51,16 @@ const EVENTS: &[EventCase] = &[
         seat: 2,
     },
     EventCase {
+        line: b"{\"name\":\"carol\",\"op\":\"enrol\",\"rights\":\"t\",\"seat\":3}",
+        word: "carol",
+        seat: 3,
+    },
+    EventCase {
+        line: b"{\"op\":\"retire\",\"seat\":4}",
+        word: "retire",
+        seat: 4,
+    },
+    EventCase {
         line: b"{\"op\":\"collect\"}",
         word: "collect",
         seat: 0,
@@ -62,13 +72,28 @@ const EVENTS: &[EventCase] = &[
     },
 ];
 
+fn word_of(command: &Command) -> &str {
+    match command {
+        Command::Look { at: 1 } => "look",
+        Command::Enrol { name, rights } => {
+            if *rights == Rights::take() {
+                name.get()
+            } else {
+                ""
+            }
+        }
+        Command::Retire => "retire",
+        _ => "",
+    }
+}
+
 fn asks(line: &Line, case: &EventCase) -> bool {
     match line {
         Line::Act(Event::Hello { seat, name }) => { name.get() == case.word && *seat == case.seat }
         Line::Act(Event::Bye { seat }) => case.word == "bye" && *seat == case.seat,
         Line::Act(Event::Shade { seat }) => case.word == "shade" && *seat == case.seat,
         Line::Act(Event::Ask { seat, command }) => {
-            case.word == "look" && *seat == case.seat && matches!(command, Command::Look { at: 1 })
+            word_of(command) == case.word && *seat == case.seat
         }
         Line::Act(Event::Collect) => case.word == "collect",
         Line::Cycle => case.word == "cycle",
@@ -166,6 +191,8 @@ fn is_command(command: &Command, case: &StepCase) -> bool {
         Command::Read { over } => (0, *over, 0),
         Command::Write { over, text } => (if text.get() == "hi" { 0 } else { 16 }, *over, 0),
         Command::Look { at } => (0, *at, 0),
+        // No step is one of these.
+        Command::Enrol { .. } | Command::Retire => (16, 0, 0),
     };
     command.rule() == case.rule && (bits, first, second) == (case.bits, case.first, case.second)
 }
@@ -266,6 +293,36 @@ pub const REFUSED: &[(Reader, &[u8], WireFault)] = &[
         WireFault::UnknownField,
     ),
     (
+        Reader::Line,
+        b"{\"op\":\"enrol\",\"rights\":\"x\"}",
+        WireFault::MissingField,
+    ),
+    (
+        Reader::Line,
+        b"{\"op\":\"enrol\",\"name\":\"Carol\",\"rights\":\"t\",\"x\":1}",
+        WireFault::BadField,
+    ),
+    (
+        Reader::Line,
+        b"{\"op\":\"enrol\",\"name\":\"carol\",\"rights\":\"t\",\"over\":1}",
+        WireFault::UnknownField,
+    ),
+    (
+        Reader::Line,
+        b"{\"op\":\"retire\",\"name\":\"carol\"}",
+        WireFault::UnknownField,
+    ),
+    (
+        Reader::Step,
+        b"{\"op\":\"enrol\",\"name\":\"carol\",\"rights\":\"t\",\"actor\":1}",
+        WireFault::NoOp,
+    ),
+    (
+        Reader::Step,
+        b"{\"op\":\"retire\",\"actor\":1}",
+        WireFault::NoOp,
+    ),
+    (
         Reader::Step,
         b"{\"op\":\"bye\",\"actor\":1}",
         WireFault::NoOp,
@@ -331,6 +388,46 @@ fn no_reader_takes_a_long_line(rt: HostRuntime) -> Result<(), AllocError> {
 
 fn is_reply(alloc: Global, reply: Reply, line: &[u8]) -> Result<bool, AllocError> {
     Ok(write_reply(alloc, &reply)?.as_slice() == line)
+}
+
+/// Causes that are told by their words alone.
+#[test]
+fn denials_are_written(rt: HostRuntime) -> Result<(), AllocError> {
+    for (rule, cause, line) in [
+        (
+            Rule::Look,
+            Cause::Retired,
+            b"{\"cause\":\"retired\",\"denied\":\"look\"}\n".as_slice(),
+        ),
+        (
+            Rule::Enrol,
+            Cause::Empty,
+            b"{\"cause\":\"empty\",\"denied\":\"enrol\"}\n".as_slice(),
+        ),
+        (
+            Rule::Take,
+            Cause::NotDistinct,
+            b"{\"cause\":\"not distinct\",\"denied\":\"take\"}\n".as_slice(),
+        ),
+        (
+            Rule::Retire,
+            Cause::NotPrincipal,
+            b"{\"cause\":\"not principal\",\"denied\":\"retire\"}\n".as_slice(),
+        ),
+        (
+            Rule::Enrol,
+            Cause::NameTaken,
+            b"{\"cause\":\"name taken\",\"denied\":\"enrol\"}\n".as_slice(),
+        ),
+        (
+            Rule::Enrol,
+            Cause::Crowded,
+            b"{\"cause\":\"crowded\",\"denied\":\"enrol\"}\n".as_slice(),
+        ),
+    ] {
+        assert!(rt; is_reply(rt.alloc(), Reply::Denied(rule, cause), line)?);
+    }
+    Ok(())
 }
 
 fn is_answer(alloc: Global, answer: Answer, line: &[u8]) -> Result<bool, AllocError> {

@@ -16,9 +16,11 @@ use tg_vault::Vault;
 pub enum Finding {
     Shared,
     NoSubject(u64),
+    Retired(u64, Rule),
     NotDistinct(u64, Rule),
     /// The step is denied: the label from the first vertex to the second lacks these rights.
     Lacks(u64, Rule, u64, u64, &'static str),
+    NotPrincipal(u64, Rule),
     Full(u64),
     /// The goal lacks these.
     Missing(&'static str),
@@ -119,6 +121,31 @@ const DERIVATIONS: &[Derivation] = &[
         goal: (1, "r", 3),
         finding: Finding::Lacks(1, Rule::Take, 2, 3, "w"),
     },
+    // an enrolled subject can be given what a created one can, and whoever has retired cannot act
+    Derivation {
+        opening: TO_CAROL,
+        steps: &[
+            (1, Ask::Enrol("dave", "g")),
+            (1, Ask::Take("r", 3, 2)),
+            (1, Ask::Grant("r", 3, 4)),
+            (1, Ask::Retire),
+        ],
+        goal: (4, "r", 3),
+        finding: Finding::Shared,
+    },
+    Derivation {
+        opening: TO_CAROL,
+        steps: &[(1, Ask::Retire), (1, Ask::Take("r", 3, 2))],
+        goal: (1, "r", 3),
+        finding: Finding::Retired(1, Rule::Take),
+    },
+    // a subject that is no principal cannot retire
+    Derivation {
+        opening: TO_CAROL,
+        steps: &[(1, Ask::Subject("g")), (4, Ask::Retire)],
+        goal: (1, "", 1),
+        finding: Finding::NotPrincipal(1, Rule::Retire),
+    },
 ];
 
 /// The verdict for this finding.
@@ -126,10 +153,20 @@ fn verdict(finding: Finding) -> Verdict {
     match finding {
         Finding::Shared => Verdict::Shared,
         Finding::NoSubject(index) => Verdict::ActorNotSubject { index },
+        Finding::Retired(index, rule) => Verdict::StepDenied {
+            index,
+            rule,
+            cause: Cause::Retired,
+        },
         Finding::NotDistinct(index, rule) => Verdict::StepDenied {
             index,
             rule,
             cause: Cause::NotDistinct,
+        },
+        Finding::NotPrincipal(index, rule) => Verdict::StepDenied {
+            index,
+            rule,
+            cause: Cause::NotPrincipal,
         },
         Finding::Lacks(index, rule, from, to, letters) => Verdict::StepDenied {
             index,
@@ -195,7 +232,7 @@ fn each_derivation_has_the_verdict_worked_out(rt: HostRuntime) -> Result<(), All
 
 /// What alice asks for at seat 0, and the replies: in a vault of three slots a document is made and dropped, another
 /// one is refused, and after two cycles it is made.
-const ENTRIES: &[Asked] = &[
+pub const ENTRIES: &[Asked] = &[
     (Ask::Document("r"), Want::Created(3)),
     (Ask::Remove("r", 3), Want::Done),
     (Ask::Document("r"), Want::Full(Which::Slots)),
@@ -303,10 +340,10 @@ pub fn opened(rt: &impl Abort, alloc: Global) -> Result<Vault, AllocError> {
     played(rt, alloc, &HISTORY)
 }
 
-/// Whether these are the replies to the entries.
-pub fn are_replies(found: &[Reply]) -> bool {
-    found.len() == ENTRIES.len()
-        && found.iter().zip(ENTRIES.iter()).all(|(reply, entry)| is_reply(
+/// Whether these are the replies to what was asked.
+pub fn are_replies(found: &[Reply], asked: &[Asked]) -> bool {
+    found.len() == asked.len()
+        && found.iter().zip(asked.iter()).all(|(reply, entry)| is_reply(
             reply,
             rule_of(entry.0),
             entry.1,
@@ -317,16 +354,18 @@ pub fn are_replies(found: &[Reply]) -> bool {
 fn a_history_is_replayed(rt: HostRuntime) -> Result<(), AllocError> {
     let vault = opened(&rt, rt.alloc())?;
     let replies = replay(rt.alloc(), &vault)?;
-    assert!(rt; are_replies(&replies));
+    assert!(rt; are_replies(&replies, ENTRIES));
     Ok(())
 }
 
-/// The reply, which is one of those that hold no memory.
-fn reply(rt: &impl Abort, want: Want) -> Reply {
+/// The reply to a command of this rule, which is one of those that hold no memory.
+fn reply(rt: &impl Abort, rule: Rule, want: Want) -> Reply {
     match want {
         Want::Done => Reply::Done,
         Want::Created(serial) => Reply::Created(serial),
         Want::Full(which) => Reply::Full(which),
+        Want::Retired => Reply::Denied(rule, Cause::Retired),
+        Want::NameTaken => Reply::Denied(rule, Cause::NameTaken),
         _ => panic!(rt; "a reply of another kind"),
     }
 }
@@ -338,7 +377,7 @@ fn log_of(rt: &impl Abort, alloc: Global, log: Log) -> Result<SeatLog, AllocErro
         exchanges.push(Exchange {
             actor: log.1,
             command: command(alloc, *ask)?,
-            reply: reply(rt, *want),
+            reply: reply(rt, rule_of(*ask), *want),
         })?;
     }
     Ok(SeatLog {
@@ -383,14 +422,92 @@ pub fn vault_of(settled: Settled) -> Result<Vault, AllocError> {
     }
 }
 
-#[test]
-fn logs_are_settled_as_worked_out(rt: HostRuntime) -> Result<(), AllocError> {
-    let mut vault = opened(&rt, rt.alloc())?;
-    for settlement in SETTLEMENTS {
-        let logs = logs_of(&rt, rt.alloc(), settlement)?;
-        let settled = settle(rt.alloc(), vault, logs);
+/// The logs are settled with the vault's history as worked out, one after another.
+fn settles(
+    rt: &impl Abort,
+    alloc: Global,
+    opened: Vault,
+    settlements: &[Settlement],
+) -> Result<(), AllocError> {
+    let mut vault = opened;
+    for settlement in settlements {
+        let logs = logs_of(rt, alloc, settlement)?;
+        let settled = settle(alloc, vault, logs);
         assert!(rt; is_settled(&settled, settlement));
         vault = vault_of(settled)?;
     }
     Ok(())
+}
+
+#[test]
+fn logs_are_settled_as_worked_out(rt: HostRuntime) -> Result<(), AllocError> {
+    let vault = opened(&rt, rt.alloc())?;
+    settles(&rt, rt.alloc(), vault, SETTLEMENTS)
+}
+
+/// Alice enrols carol, who retires and asks on.
+const COME_AND_GO: Case = Case {
+    opening: TWO,
+    lines: &[
+        ALICE,
+        Line::Ask(0, Ask::Enrol("carol", "t"), Want::Created(3)),
+        Line::Hello(1, "carol", Ok(3)),
+        Line::Ask(1, Ask::Enrol("alice", "t"), Want::NameTaken),
+        Line::Ask(1, Ask::Retire, Want::Done),
+        Line::Ask(1, Ask::Write(3, "x"), Want::Retired),
+        Line::Shaded(0, 3),
+        Line::Ask(0, Ask::Enrol("carol", "t"), Want::Created(4)),
+    ],
+};
+
+const ALICES: &[Asked] = &[
+    (Ask::Enrol("carol", "t"), Want::Created(3)),
+    (Ask::Enrol("carol", "t"), Want::Created(4)),
+];
+
+const CAROLS: &[Asked] = &[
+    (Ask::Enrol("alice", "t"), Want::NameTaken),
+    (Ask::Retire, Want::Done),
+    (Ask::Write(3, "x"), Want::Retired),
+];
+
+/// The same with another reply to the last command.
+const WRITTEN: &[Asked] = &[
+    (Ask::Enrol("alice", "t"), Want::NameTaken),
+    (Ask::Retire, Want::Done),
+    (Ask::Write(3, "x"), Want::Done),
+];
+
+/// In the order of the history.
+const COMING_AND_GOING: &[Asked] = &[
+    (Ask::Enrol("carol", "t"), Want::Created(3)),
+    (Ask::Enrol("alice", "t"), Want::NameTaken),
+    (Ask::Retire, Want::Done),
+    (Ask::Write(3, "x"), Want::Retired),
+    (Ask::Enrol("carol", "t"), Want::Created(4)),
+];
+
+const OF_BOTH: &[Settlement] = &[
+    Settlement {
+        logs: &[(1, 3, CAROLS), (0, 1, ALICES)],
+        place: None,
+    },
+    // the second carol is another actor
+    Settlement {
+        logs: &[(0, 1, ALICES), (1, 4, CAROLS)],
+        place: Some((1, 0)),
+    },
+    Settlement {
+        logs: &[(0, 1, ALICES), (1, 3, WRITTEN)],
+        place: Some((1, 2)),
+    },
+];
+
+/// The commands of one who enrols, who is enrolled, and who has retired are replayed and settled like all others.
+#[test]
+fn those_who_come_and_go_are_replayed_and_settled(rt: HostRuntime) -> Result<(), AllocError> {
+    let vault = played(&rt, rt.alloc(), &COME_AND_GO)?;
+    let replies = replay(rt.alloc(), &vault)?;
+    assert!(rt; are_replies(&replies, COMING_AND_GOING));
+    settles(&rt, rt.alloc(), vault, OF_BOTH)
 }

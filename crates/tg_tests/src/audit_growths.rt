@@ -1,8 +1,8 @@
 //! Calls that lack memory and are made again: tests/faults/growths.py makes each allocation of these tests fail in
 //! turn.
 use crate::audit::{
-    Derivation, Finding, SETTLEMENTS, Settlement, are_replies, goal_of, is_found, is_settled,
-    is_verdict, logs_of, opened, steps_of, vault_of,
+    Derivation, ENTRIES, Finding, SETTLEMENTS, Settlement, are_replies, goal_of, is_found,
+    is_settled, is_verdict, logs_of, opened, steps_of, vault_of,
 };
 use crate::cases::{Ask, Opening, TWO};
 use crate::graph;
@@ -61,7 +61,7 @@ fn growth_refused_in_a_replay(rt: HostRuntime) -> Result<(), AllocError> {
             replay(rt.alloc(), &vault)?
         }
     };
-    assert!(rt; are_replies(&replies));
+    assert!(rt; are_replies(&replies, ENTRIES));
     Ok(())
 }
 

@@ -2,7 +2,7 @@
 //! rights by their letters r, w, t and g.
 use std::alloc::{AllocError, Global};
 use tg_graph::Config;
-use tg_rights::{Cause, Command, Kind, Reply, Rights, Rule, Text, Which, Word};
+use tg_rights::{Cause, Command, Kind, Name, Reply, Rights, Rule, Text, Which, Word};
 
 /// An edge from the first vertex to the second, with these rights.
 pub type Edge = (u64, &'static str, u64);
@@ -54,6 +54,20 @@ pub const ONE_MORE: Opening = Opening {
     ..TWO
 };
 
+/// As many principals as there may be, a (1), b (2) and so on, with one slot for another.
+pub const CROWD: Opening = Opening {
+    names: &[
+        "a", "b", "c", "d", "e", "f", "g", "h", "i", "j", "k", "l", "m", "n", "o", "p", "q", "r",
+        "s", "t", "u", "v", "w", "x", "y", "z", "aa", "ab", "ac", "ad", "ae", "af", "ag", "ah",
+        "ai", "aj", "ak", "al", "am", "an", "ao", "ap", "aq", "ar", "as", "at", "au", "av", "aw",
+        "ax", "ay", "az", "ba", "bb", "bc", "bd", "be", "bf", "bg", "bh", "bi", "bj", "bk", "bl",
+    ],
+    edges: &[],
+    next: 65,
+    slots: 65,
+    cells: 8,
+};
+
 /// What a vertex asks for.
 #[derive(Clone, Copy)]
 pub enum Ask {
@@ -67,6 +81,9 @@ pub enum Ask {
     Read(u64),
     Write(u64, &'static str),
     Look(u64),
+    /// A principal of this name, and these rights over it.
+    Enrol(&'static str, &'static str),
+    Retire,
 }
 
 /// The reply to a command.
@@ -81,6 +98,10 @@ pub enum Want {
     Empty,
     NotDistinct,
     NotDocument(u64),
+    Retired,
+    NotPrincipal,
+    NameTaken,
+    Crowded,
     Full(Which),
 }
 
@@ -139,12 +160,19 @@ pub fn rule_of(ask: Ask) -> Rule {
         Ask::Read(_) => Rule::Read,
         Ask::Write(..) => Rule::Write,
         Ask::Look(_) => Rule::Look,
+        Ask::Enrol(..) => Rule::Enrol,
+        Ask::Retire => Rule::Retire,
     }
 }
 
 /// A text of these bytes, which have to be few enough.
 fn text(alloc: Global, content: &str) -> Result<Text, AllocError> {
     Text::new(String::from_str(alloc, content)?).map_err(|_| AllocError)
+}
+
+/// The name of these letters.
+pub fn name(alloc: Global, letters: &str) -> Result<Name, AllocError> {
+    Name::new(String::from_str(alloc, letters)?).map_err(|_| AllocError)
 }
 
 /// The command that is asked for.
@@ -158,6 +186,8 @@ pub fn command(alloc: Global, ask: Ask) -> Result<Command, AllocError> {
         Ask::Read(over) => Command::read(over),
         Ask::Write(over, content) => Command::write(over, text(alloc, content)?),
         Ask::Look(at) => Command::look(at),
+        Ask::Enrol(letters, rights) => Command::enrol(name(alloc, letters)?, rights_of(rights)),
+        Ask::Retire => Command::retire(),
     })
 }
 
@@ -178,6 +208,10 @@ pub fn is_cause(cause: Cause, want: Want) -> bool {
         Want::Empty => cause == Cause::Empty,
         Want::NotDistinct => cause == Cause::NotDistinct,
         Want::NotDocument(vertex) => cause == Cause::NotDocument { vertex },
+        Want::Retired => cause == Cause::Retired,
+        Want::NotPrincipal => cause == Cause::NotPrincipal,
+        Want::NameTaken => cause == Cause::NameTaken,
+        Want::Crowded => cause == Cause::Crowded,
         _ => false,
     }
 }

@@ -106,6 +106,36 @@ fn growth_refused_in_a_create(rt: HostRuntime) -> Result<(), AllocError> {
     Ok(())
 }
 
+/// An enrol and a retire that lack memory leave who is a principal, and are then carried out.
+#[test]
+fn growth_refused_in_an_enrol_and_a_retire(rt: HostRuntime) -> Result<(), AllocError> {
+    let mut graph = opened(&rt, rt.alloc(), &TWO)?;
+    let enrol = Ask::Enrol("carol", "t");
+    let labels: &[Edge] = &[(2, "", 3)];
+    asks_again(
+        &rt,
+        rt.alloc(),
+        &mut graph,
+        2,
+        enrol,
+        Want::Created(3),
+        labels,
+    )?;
+    let labels: &[Edge] = &[(2, "t", 3)];
+    asks_again(
+        &rt,
+        rt.alloc(),
+        &mut graph,
+        2,
+        Ask::Retire,
+        Want::Done,
+        labels,
+    )?;
+    assert!(rt; graph.named("carol") == Some(3) && graph.named("bob").is_none());
+    assert!(rt; graph.retired(2) && !graph.retired(3));
+    Ok(())
+}
+
 /// A graph with 15 edges, alice's and those to 14 documents that bob has made: with one edge more the labels no longer
 /// fit one node of their map.
 fn of_fifteen_edges(rt: &impl Abort, alloc: Global) -> Result<Graph, AllocError> {

@@ -1,5 +1,5 @@
 //! The worked cases of the vault, with every sum of the collector's steps as it was worked out by hand.
-use crate::cases::{Ask, ONE_MORE, Opening, TAKING, TAKING_AND_GRANTING, TWO, Want};
+use crate::cases::{Ask, CROWD, ONE_MORE, Opening, TAKING, TAKING_AND_GRANTING, TWO, Want};
 use crate::vault::{ALICE, BOB, Case, Line};
 use tg_rights::Which;
 use tg_vault::{AskFault, SeatFault};
@@ -272,6 +272,101 @@ pub const CASES: &[Case] = &[
             Line::Ask(0, Ask::Remove("rg", 4), Want::Done),
             Line::Cycle(0, 17),
             Line::Cycle(2, 13),
+        ],
+    },
+    // a principal is enrolled and retires; its name is free again, its serial is not
+    Case {
+        opening: Opening { slots: 4, ..TWO },
+        lines: &[
+            ALICE,
+            BOB,
+            Line::Ask(0, Ask::Enrol("carol", "t"), Want::Created(3)),
+            Line::Shaded(0, 3),
+            Line::Hello(2, "carol", Ok(3)),
+            Line::Ask(1, Ask::Enrol("carol", "t"), Want::NameTaken),
+            Line::Ask(0, Ask::Enrol("dave", ""), Want::Empty),
+            Line::Ask(0, Ask::Remove("t", 3), Want::Done),
+            Line::Cycle(0, 13),
+            Line::Make(2, "r", 4),
+            Line::Ask(2, Ask::Retire, Want::Done),
+            Line::Ask(2, Ask::Read(4), Want::Retired),
+            Line::Cycle(1, 14),
+            Line::Cycle(1, 11),
+            Line::Bye(2, Ok(())),
+            Line::Make(0, "r", 5),
+            Line::Ask(1, Ask::Enrol("carol", "t"), Want::Created(6)),
+            Line::Shaded(1, 6),
+            Line::Hello(2, "carol", Ok(6)),
+        ],
+    },
+    // the last principal retires
+    Case {
+        opening: Opening {
+            names: &["alice"],
+            next: 2,
+            slots: 1,
+            ..TWO
+        },
+        lines: &[
+            ALICE,
+            Line::Ask(0, Ask::Retire, Want::Done),
+            Line::Ask(0, Ask::Look(1), Want::Retired),
+            Line::Cycle(1, 4),
+            Line::Hello(1, "alice", Err(SeatFault::NoPrincipal)),
+        ],
+    },
+    // there are as many principals as there may be
+    Case {
+        opening: CROWD,
+        lines: &[
+            Line::Hello(0, "a", Ok(1)),
+            Line::Hello(1, "b", Ok(2)),
+            Line::Ask(0, Ask::Enrol("zz", "r"), Want::Crowded),
+            Line::Ask(0, Ask::Enrol("a", "r"), Want::NameTaken),
+            Line::Ask(0, Ask::Retire, Want::Done),
+            Line::Ask(1, Ask::Enrol("a", "r"), Want::Created(65)),
+        ],
+    },
+    // whoever has retired is denied every command, on every seat, and also once its slot was freed
+    Case {
+        opening: TWO,
+        lines: &[
+            BOB,
+            Line::Hello(2, "bob", Ok(2)),
+            Line::Make(1, "rw", 3),
+            Line::Ask(1, Ask::Retire, Want::Done),
+            Line::Ask(1, Ask::Take("r", 3, 1), Want::Retired),
+            Line::Ask(1, Ask::Grant("r", 3, 1), Want::Retired),
+            Line::Ask(1, Ask::Document(""), Want::Retired),
+            Line::Ask(1, Ask::Subject("r"), Want::Retired),
+            Line::Ask(1, Ask::Remove("rw", 3), Want::Retired),
+            Line::Ask(1, Ask::Read(3), Want::Retired),
+            Line::Ask(1, Ask::Write(3, "x"), Want::Retired),
+            Line::Ask(1, Ask::Look(2), Want::Retired),
+            Line::Ask(2, Ask::Enrol("bob", "r"), Want::Retired),
+            Line::Ask(2, Ask::Retire, Want::Retired),
+            Line::Cycle(1, 16),
+            Line::Cycle(1, 13),
+            Line::Ask(1, Ask::Look(2), Want::Retired),
+            Line::Bye(1, Ok(())),
+            Line::Ask(2, Ask::Enrol("bob", "r"), Want::Retired),
+        ],
+    },
+    // an enrolled principal is a root at once, and a name is known before the target is shaded; who retires with a
+    // target is busy first
+    Case {
+        opening: Opening { slots: 3, ..TWO },
+        lines: &[
+            ALICE,
+            Line::Ask(0, Ask::Enrol("carol", "t"), Want::Created(3)),
+            Line::Hello(1, "carol", Ok(3)),
+            Line::Refused(0, Ask::Retire, AskFault::Busy),
+            Line::Shaded(0, 3),
+            Line::Ask(0, Ask::Remove("t", 3), Want::Done),
+            Line::Cycle(0, 12),
+            Line::Cycle(0, 12),
+            Line::Ask(1, Ask::Enrol("dave", "t"), Want::Full(Which::Slots)),
+            Line::Ask(1, Ask::Look(3), Want::Edges(&[])),
         ],
     },
 ];

@@ -7,7 +7,7 @@ use std::io::Print;
 use std::process::Abort;
 use tg_graph::OpenFault;
 use tg_rights::{Kind, Reply};
-use tg_vault::{Answer, AskFault, Event, Ran, Vault};
+use tg_vault::{Answer, AskFault, Event, Ran, SeatFault, Vault};
 
 /// Alice alone, with the default numbers of slots and cells.
 const ALICE_ALONE: Opening = Opening {
@@ -142,6 +142,26 @@ const ON_A_TEXT: Case = Case {
 #[test]
 fn growth_refused_in_commands_on_a_text(rt: HostRuntime) -> Result<(), AllocError> {
     plays_again(&rt, rt.alloc(), &ON_A_TEXT)
+}
+
+/// Alice enrols carol, who retires: an enrol needs memory for the copy of its name.
+const ENROLLED: Case = Case {
+    opening: TWO,
+    lines: &[
+        ALICE,
+        Line::Ask(0, Ask::Enrol("carol", "t"), Want::Created(3)),
+        Line::Shaded(0, 3),
+        Line::Hello(2, "carol", Ok(3)),
+        Line::Ask(2, Ask::Retire, Want::Done),
+        Line::Ask(2, Ask::Look(3), Want::Retired),
+        Line::Hello(3, "carol", Err(SeatFault::NoPrincipal)),
+    ],
+};
+
+/// An enrol that lacks memory leaves the name free, a retire the principal.
+#[test]
+fn growth_refused_in_an_enrol_and_a_retire(rt: HostRuntime) -> Result<(), AllocError> {
+    plays_again(&rt, rt.alloc(), &ENROLLED)
 }
 
 /// Bob creates a document.

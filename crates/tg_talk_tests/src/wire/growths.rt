@@ -84,9 +84,28 @@ fn the_hello_is_read(alloc: Global) -> Result<bool, WireFault> {
     }
 }
 
+fn is_carols(command: &Command) -> bool {
+    match command {
+        Command::Enrol { name, rights } => name.get() == "carol" && *rights == Rights::take(),
+        _ => false,
+    }
+}
+
+fn the_enrol_is_read(alloc: Global) -> Result<bool, WireFault> {
+    let line = read_line(
+        alloc,
+        b"{\"name\":\"carol\",\"op\":\"enrol\",\"rights\":\"t\"}",
+    )?;
+    match &line {
+        Line::Act(Event::Ask { seat, command }) => Ok(*seat == 0 && is_carols(command)),
+        _ => Ok(false),
+    }
+}
+
 #[test]
 fn growth_refused_in_read_line(rt: HostRuntime) {
     assert!(rt; matches!(&answered(&rt, the_hello_is_read), Ok(true)));
+    assert!(rt; matches!(&answered(&rt, the_enrol_is_read), Ok(true)));
 }
 
 /// Lines that are flat, each with its fault, if it has one: each kind of value, the least and the greatest number,
@@ -106,6 +125,15 @@ const FLAT: &[(&[u8], Option<WireFault>)] = &[
     (
         b"{\"from\":1,\"op\":\"take\",\"over\":3,\"rights\":\"r\",\"seat\":2}",
         None,
+    ),
+    (b"{\"op\":\"retire\",\"seat\":2}", None),
+    (
+        b"{\"name\":\"Carol\",\"op\":\"enrol\",\"rights\":\"t\"}",
+        Some(WireFault::BadField),
+    ),
+    (
+        b"{\"name\":\"carol\",\"op\":\"enrol\",\"rights\":\"x\"}",
+        Some(WireFault::BadField),
     ),
 ];
 
