@@ -24,8 +24,8 @@ class Refused(Exception):
 
 
 class Denied(Refused):
-    """The take-grant rules deny the command; `rule` is its name, and `cause` what is wrong: `empty`, `not distinct`, `missing` or
-    `not document`.
+    """The take-grant rules deny the command; `rule` is its name, and `cause` what is wrong: `retired`, `empty`,
+    `not distinct`, `missing`, `not document`, `not principal`, `name taken` or `crowded`.
 
     If rights are missing, the label from `source` to `target` lacks the letters `missing`. If a vertex is not a document, it is
     `vertex`. What the cause does not have is None.
@@ -169,6 +169,16 @@ class Client:
         """Makes a vertex, a `subject` or a `document`, over which the principal has these rights, and returns its
         serial."""
         return self.ask(op="create", kind=kind, rights=rights)["vertex"]
+
+    def enrol(self, name, rights):
+        """Makes a subject that is a principal by this name, 1 to 32 letters a to z, and over which the one who asks has
+        these rights; returns its serial. A client may then say hello by the name."""
+        return self.ask(op="enrol", name=name, rights=rights)["vertex"]
+
+    def retire(self):
+        """Ends the principal: its name is free for another, and its commands are denied from then on, in every session.
+        The session goes on until `bye`, and its vertex stays as long as some principal reaches it."""
+        self.ask(op="retire")
 
     def remove(self, rights, over):
         """Gives up the principal's own rights over `over`."""

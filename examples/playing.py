@@ -1,0 +1,91 @@
+"""What the examples with a server have in common: how it is started and ends, and how its clients wait and report.
+
+examples/builds.py says which build of `tgdoc` is run.
+"""
+
+import json
+import socket
+import subprocess
+import threading
+import time
+
+from builds import FOLDER, IS_PROVED, answers_in, words
+from tgdoc_client import Client, Denied, Full, address_of
+
+SECONDS = 30 if IS_PROVED else 180
+
+
+def told(*words):
+    """Prints a line at once."""
+    print(*words, flush=True)
+
+
+def refusal_of(kind, command, *arguments):
+    """The refusal of a command that is to be refused in this way."""
+    try:
+        command(*arguments)
+    except kind as refusal:
+        return refusal
+    raise AssertionError("%s%s was carried out" % (command.__name__, arguments))
+
+
+def denial_of(command, *arguments):
+    """The denial of a command that the rules are to deny."""
+    return refusal_of(Denied, command, *arguments)
+
+
+def connected(address):
+    """A client, as soon as the server listens: an unproved build has to be made first."""
+    limit = time.monotonic() + SECONDS
+    while True:
+        try:
+            return Client(*address)
+        except ConnectionRefusedError:
+            if time.monotonic() > limit:
+                raise
+            time.sleep(0.1)
+
+
+def with_room(command, *arguments):
+    """The answer to a command, and how often it was sent again: if no slot is free, until the collector has freed
+    one."""
+    limit = time.monotonic() + SECONDS
+    tries = 0
+    while True:
+        try:
+            return command(*arguments), tries
+        except Full:
+            if time.monotonic() > limit:
+                raise
+            tries += 1
+            time.sleep(0.001)
+
+
+def free_address():
+    """An address that nobody listens on."""
+    with socket.create_server(("127.0.0.1", 0)) as one:
+        return one.getsockname()
+
+
+def play(config, workers, connections, story):
+    """Starts a server over a configuration, tells the story to its address, and returns the server's status."""
+    # A proved program prints its address at once. `rt try` prints the output at the end, so the port is chosen here.
+    address = ("127.0.0.1", 0) if IS_PROVED else free_address()
+    options = ["--listen", "%s:%d" % address, "--workers", str(workers), "--connections", str(connections)]
+    how = {"cwd": FOLDER, "stdin": subprocess.PIPE, "stdout": subprocess.PIPE}
+    with subprocess.Popen(words("serve", *options), **how) as server:
+        limit = threading.Timer(2 * SECONDS, server.terminate)
+        limit.start()
+        try:
+            server.stdin.write(json.dumps(config).encode() + b"\n")
+            server.stdin.close()
+            address = address_of(server.stdout.readline()) if IS_PROVED else address
+            told("The server listens on %s, port %d." % address)
+            story(address)
+            settled = json.loads(answers_in(server.stdout.read().decode())[-1])["settled"]
+            found = {"agreed": "agree"}.get(settled, "do not agree: " + settled)
+            told("The server ends: what it answered and its one history %s." % found)
+            return server.wait()
+        finally:
+            limit.cancel()
+            server.terminate()
