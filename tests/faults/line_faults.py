@@ -18,6 +18,7 @@ OTHER_VALUES = """null true false [] {} [1] [[]] [null] {"a":1} [{}] [[1,"tg",2]
 NO_VALUES = """True None nul 'a' a undefined [1,] [,1] {"a"} {"a":} {a:1} {1:1} {"a":1,} [1 "a""".split()
 LETTERS_OF_RIGHTS = ["rr", "ww", "tt", "gg", "gwg", "rwtgr", "R", "x", "r w", " r", "r\\n", "\\u0072", "\\u0072r", "ŕ", "rwtg", "gtwr", "", "g", "tw", "\\u0000"]
 WORDS = ["Subject", "document ", "object", "documen", "DOCUMENT", "\\u0064ocument", "alice\\u0000", "Alice", "bob", "carol", "hell\\u006f", "look", "LOOK", "bye"]
+WORDS += ["enrol", "Enrol", "enroll", "retire", "retir\\u0065", "retired"]
 ESCAPES = ["\\u0061", "\\u00E9", "\\u00e9", "\\uD83D\\uDE00", "\\ud83d\\ude00", "\\ud83d", "\\ude00", "\\ude00\\ud83d", "\\ud83d\\u0061", "\\ud83d\\ud83d\\ude00"]
 ESCAPES += ["\\uD800\\uDC00", "\\uDBFF\\uDFFF", "\\udbff", "\\udfffx", "\\ud83d \\ude00", "\\uffff", "\\u0000", "\\u001F", "\\/", "\\\\", '\\"', "\\b\\f\\n\\r\\t"]
 ESCAPES += ["\\x61", "\\u61", "\\u006", "\\u00g1", "\\U0061", "\\u{61}", "\\a", "\\'", "\\0", "\\", "\\u", "\\u+061", "\\u 061"]
@@ -26,6 +27,7 @@ BROKEN += [b"\xc3", b"\xe2\x82", b"\xf0\x9f\x98", b"\xf8\x88\x80\x80\x80", b"\xc
 WHOLE = ["é", "😀", "\u2028", "\ufeff", "\ufffd", "\uffff", "\U0010ffff", "\x7f", "\x80", "\xa0"]
 CONTROLS = [bytes([byte]) for byte in range(32) if byte != 10]
 KEYS = ["x", "Seat", "OP", "op ", "", "\\u0000", "actor", "next", "slots", "edges", "principals", "кey", "over", "from", "to", "at", "seat", "name", "text", "kind"]
+NAMES = ["a", "z" * 32, "z" * 33, "a1", "a b", "a-b", " a", "a\\n", "\\u0061", "a\\u0000", "é", "@", "`", "{", "ALICE"]
 GOOD = {
     "name": ['"alice"', '"bob"', '"carol"'],
     "rights": ['"r"', '"tg"', '"rwtg"', '"w"'],
@@ -45,7 +47,8 @@ SERIALS = ["1", "2", "3", "4", "99"]
 SIXTY_FOUR = ",".join('"%s"' % ("a" * (number % 26 + 1) + "b" * (number // 26)) for number in range(64))
 AT_A_LIMIT = {
     "rights": ['"%s"' % word for word in LETTERS_OF_RIGHTS],
-    **dict.fromkeys(["kind", "op", "name"], ['"%s"' % word for word in ["", *WORDS]]),
+    **dict.fromkeys(["kind", "op"], ['"%s"' % word for word in ["", *WORDS]]),
+    "name": ['"%s"' % word for word in ["", *WORDS, *NAMES]],
     "slots": ["0", "1", "2", "3", "65536", "65537"],
     "cells": ["0", "1", "1", "2", "1048576", "1048577"],
     "next": ["0", "1", "2", "3", "18446744073709551614", "18446744073709551615"],

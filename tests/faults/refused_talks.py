@@ -218,9 +218,10 @@ def openings_refused(program):
 
 
 # The allocations of the server's own thread after the last talk. One is for the list into which the lists of all workers are moved: two sessions fit into
-# its first room. One is for the list of logs. Then settling copies the opening graph, whose vertices are one node of a map and whose edges another; and it
-# carries the commands out once more, of which these need memory: the write, whose text is copied, the read of a text that is not empty, and the two looks.
-LAST_GROWTHS = 1 + 1 + 2 + (1 + 1 + 2)
+# its first room. One is for the list of logs. Then settling copies the opening graph: its vertices are one node of a map and its edges another, and its two
+# principals have a list and two names. And it carries the commands out once more, of which these need memory: the write, whose text is copied, the read of a
+# text that is not empty, the two looks that are allowed, the two enrols of a principal that has not retired, whose names are copied, and the first retire.
+LAST_GROWTHS = 1 + 1 + (2 + 3) + (1 + 1 + 2 + 2 + 1)
 
 
 def stages(program, tried):

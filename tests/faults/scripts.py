@@ -64,6 +64,10 @@ def hello(name, seat=0):
     return b'{"name":"%s","op":"hello","seat":%d}' % (name, seat)
 
 
+def enrol(name, rights, seat=0):
+    return b'{"name":"%s","op":"enrol","rights":"%s","seat":%d}' % (name, rights, seat)
+
+
 def alone(op, seat=0):
     """The line of an op that has no field of its own."""
     return b'{"op":"%s","seat":%d}' % (op, seat)
@@ -217,16 +221,81 @@ FREEING = [
     (alone(b"bye", 1), BYE),
 ]
 
+# Carol takes the last slot and the last cell. She retires; her vertex, which was shaded, is freed by two cycles, and
+# her name is another's.
+PRINCIPALS = [
+    (enrol(b"carol", b"t"), NO_ACTOR),
+    (hello(b"alice"), welcome(1)),
+    (hello(b"carol", 1), NO_PRINCIPAL),
+    (enrol(b"carol", b""), caused(b"enrol", b"empty")),
+    (enrol(b"alice", b"t"), caused(b"enrol", b"name taken")),
+    (enrol(b"carol", b"tg"), created(8)),
+    (hello(b"carol", 1), welcome(8)),
+    (enrol(b"dave", b"t"), BUSY),
+    (alone(b"retire"), BUSY),
+    (alone(b"shade"), shaded(8)),
+    (enrol(b"dave", b"t"), b'{"full":"slots"}'),
+    (enrol(b"carol", b"t"), caused(b"enrol", b"name taken")),
+    (take(b"r", 4, 8), missing(b"take", 8, b"r", 4)),
+    (alone(b"retire", 1), DONE),
+    (look(8, 1), caused(b"look", b"retired")),
+    (create(b"", seat=1), caused(b"create", b"retired")),
+    (enrol(b"dave", b"", 1), caused(b"enrol", b"retired")),
+    (alone(b"retire", 1), caused(b"retire", b"retired")),
+    (hello(b"carol", 2), NO_PRINCIPAL),
+    (look(8), edges(b"")),
+    (remove(b"tg", 8), DONE),
+    (alone(b"cycle"), swept(0, 22)),
+    (alone(b"cycle"), swept(1, 20)),
+    (alone(b"shade", 1), b'{"shaded":null}'),
+    (alone(b"bye", 1), BYE),
+    (grant(b"t", 7, 2), DONE),
+    (alone(b"shade"), shaded(7)),
+    (enrol(b"carol", b"r"), b'{"full":"cells"}'),
+    (remove(b"t", 7), DONE),
+    (enrol(b"carol", b"r"), created(9)),
+    (alone(b"shade"), shaded(9)),
+    (hello(b"carol", 1), welcome(9)),
+    (look(9, 1), edges(b"")),
+    (alone(b"bye", 1), BYE),
+    (alone(b"bye"), BYE),
+]
+
 TOO_LONG = [(b"x" * 16385, error(b"line too long"))]
 
-# Each command, cause, fault and answer but `{"full":"serials"}`, which the second script has, and `too many lines`.
-RUN = Script(OPENING, SEATS + COLLECTING + COMMANDS + DENIALS + REFUSED_LINES + LONG_TEXTS + FREEING + TOO_LONG)
+MOST_OF_RUN = SEATS + COLLECTING + COMMANDS + DENIALS + REFUSED_LINES
+
+# Each command, cause, fault and answer, but `{"full":"serials"}`, which the second script has, `crowded`, which the
+# third has, `not principal`, since whoever sits somewhere is a principal or was one, and `too many lines`.
+RUN = Script(OPENING, MOST_OF_RUN + LONG_TEXTS + FREEING + PRINCIPALS + TOO_LONG)
 WITHOUT_ERRORS = Script(
     b'{"next":%d,"principals":["alice"]}' % LAST_SERIAL,
-    [(hello(b"alice"), welcome(1)), (create(b"r"), created(LAST_SERIAL)), (alone(b"shade"), shaded(LAST_SERIAL)), (create(b"r"), b'{"full":"serials"}')],
+    [
+        (hello(b"alice"), welcome(1)),
+        (create(b"r"), created(LAST_SERIAL)),
+        (alone(b"shade"), shaded(LAST_SERIAL)),
+        (create(b"r"), b'{"full":"serials"}'),
+        (enrol(b"bob", b"r"), b'{"full":"serials"}'),
+        (alone(b"retire"), DONE),
+    ],
+)
+# As many principals as there may be: one has to retire before another can join.
+MOST = [b"a" * (place % 26 + 1) + b"b" * (place // 26) for place in range(64)]
+CROWDED = Script(
+    b'{"principals":["%s"]}' % b'","'.join(MOST),
+    [
+        (hello(MOST[0]), welcome(1)),
+        (hello(MOST[63], 1), welcome(64)),
+        (enrol(b"zoe", b"r"), caused(b"enrol", b"crowded")),
+        (enrol(MOST[63], b"r"), caused(b"enrol", b"name taken")),
+        (alone(b"retire", 1), DONE),
+        (enrol(MOST[63], b"r"), created(65)),
+        (alone(b"shade"), shaded(65)),
+        (enrol(b"zoe", b"r"), caused(b"enrol", b"crowded")),
+    ],
 )
 # The same without what is long, for reads and writes of few bytes.
-PLAIN = Script(OPENING, SEATS + COLLECTING + COMMANDS + DENIALS + REFUSED_LINES + FREEING)
+PLAIN = Script(OPENING, MOST_OF_RUN + FREEING + PRINCIPALS)
 # Some hundred bytes, for a cut at each of them.
 SHORT = Script(OPENING, [SEATS[0], SEATS[5], COLLECTING[0], COLLECTING[3], (write(3, b"hi"), missing(b"write", 1, b"w", 3)), (look(1), edges(b'[2,"tg"],[3,"r"]')), (alone(b"cycle"), swept(0, 16))])
 
@@ -288,6 +357,8 @@ AUDITS = [
     ),
     Audit([b'{"next":18446744073709551615,"principals":["alice"]}', goal(1, b"", 1), b'{"actor":1,"kind":"document","op":"create","rights":"r"}'], b'{"step":0,"verdict":"step full"}'),
     Audit([DERIVED, goal(1, b"r", 4), b'{"actor":1,"op":"hello"}'], error(b"unknown op")),
+    Audit([DERIVED, goal(1, b"r", 4), b'{"actor":1,"name":"dave","op":"enrol","rights":"r"}'], error(b"unknown op")),
+    Audit([DERIVED, goal(1, b"r", 4), b'{"actor":1,"op":"retire"}'], error(b"unknown op")),
     Audit([DERIVED, b'{"from":1}'], error(b"missing field")),
     Audit([b'{"principals":[]}', goal(1, b"r", 4)], b'{"error":"config","fault":1}'),
 ]
@@ -312,13 +383,18 @@ TALKS = [
         (create(b""), caused(b"create", b"empty")),
         (b'{"op":"read"}', error(b"missing field")),
         (remove(b"w", 3), DONE),
+        (enrol(b"bob", b"t"), caused(b"enrol", b"name taken")),
+        (enrol(b"carol", b"t"), created(4)),
         (alone(b"bye"), BYE),
     ],
     [
         (hello(b"bob"), welcome(2)),
         (read(3), text(b"hi")),
         (look(1), missing(b"look", 2, b"t", 1)),
-        (create(b"r", b"subject"), created(4)),
-        (look(2), edges(b'[3,"r"],[4,"r"]')),
+        (create(b"r", b"subject"), created(5)),
+        (look(2), edges(b'[3,"r"],[5,"r"]')),
+        (alone(b"retire"), DONE),
+        (look(2), caused(b"look", b"retired")),
+        (enrol(b"dave", b"t"), caused(b"enrol", b"retired")),
     ],
 ]

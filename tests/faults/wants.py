@@ -39,6 +39,7 @@ LISTED = {
     ("tg_audit/src/settling.rt", "settle", "first_difference", "Settled::NoMemory"): 1,
     ("tg_graph/src/graph.rt", "build", "Graph::open", "OpenFault::OutOfMemory"): 1,
     ("tg_vault/src/vault.rt", "with_key", "Store::with_key", "OpenFault::OutOfMemory"): 1,
+    ("tg_vault/src/vault.rt", "with_key", "opening.principals().copy", "OpenFault::OutOfMemory"): 1,
     ("tg_vault/src/vault.rt", "with_key", "empty_seats", "OpenFault::OutOfMemory"): 1,
     ("tg_vault/src/vault.rt", "command", "self.enter", "AskFault::OutOfMemory"): 1,
     ("tg_vault/src/vault.rt", "command_copy", "command.copy", "AskFault::OutOfMemory"): 1,
@@ -70,8 +71,9 @@ LISTED = {
     ("tgdoc/src/serve.rt", "serve_by", "serve_in_threads", "Found::NoMemory"): 1,
     ("tgdoc/src/serve.rt", "found_in", "Settled::NoMemory", "Found::NoMemory"): 1,
     ("tgdoc/src/serve.rt", "found_in", "Closed::NoRoom", "Found::NoMemory"): 1,
-    # A text of the tests' tables is never too long.
+    # A text of the tests' tables is never too long, and a name is one.
     ("tg_tests/src/cases.rt", "text", "Text::new", "AllocError"): 1,
+    ("tg_tests/src/cases.rt", "name", "Name::new", "AllocError"): 1,
     # The program of many sessions says what it found.
     ("tg_load/src/run.rt", "verdict_of", "Settled::NoMemory", "Verdict::NoMemory"): 1,
     ("tg_load/src/run.rt", "close_of", "Closed::NoRoom", "Verdict::NoRoom"): 1,
@@ -107,10 +109,10 @@ def openings(code, start, at):
 
 
 def called(text):
-    """The path of the one call, or of the value, that a text is; None for any other text."""
+    """The path of the one call, or of the value, that a text is, which calls before it may lend; None for any other text."""
     flat = re.sub(r"\s*\n\s*", "", text.strip())
     path = flat[: next(openings(flat, 0, len(flat) - 1), 0)] if flat.endswith(")") else flat
-    return path if re.fullmatch(r"[\w.:]+", path) else None
+    return path if re.fullmatch(r"(?:[\w.:]|\(\))+", path) else None
 
 
 def by_none(call):

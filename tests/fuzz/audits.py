@@ -1,9 +1,11 @@
 """Audits of what random runs did: the run's own answers say what each verdict has to be.
 
-The seed is printed; SEED names another. Each command that a run carried out is a step of its actor, in the order of the run. A command that was
-refused as full for slots or cells is none, since a derivation needs neither.
+The seed is printed; SEED names another. Each command that a run carried out is a step of its actor, in the order of the
+run. A derivation has no principals that come and go: an enrol is the create of a subject, and a retire is left out. A
+command that was refused as full for slots or cells is no step either, since a derivation needs neither.
 """
 
+import itertools
 import json
 import os
 import random
@@ -13,6 +15,11 @@ SECONDS = 60
 RUNS = 50
 LETTERS = "rwtg"
 LAST_SERIAL = 18446744073709551615
+# Those who join while a run goes on, each at a seat of its own.
+JOINING = ["erin", "frank"]
+# Lines that are no steps, and why commands are denied that are no steps then.
+NO_STEPS = ["hello", "bye", "shade", "collect", "cycle", "retire"]
+OF_PRINCIPALS = ["retired", "name taken"]
 
 
 def text_of(rows):
@@ -61,34 +68,63 @@ def command(source, serials):
     return {"op": op, **fields[op]}
 
 
-def asked(program, source):
-    """A configuration, and each command of a random run over it as a step, with its answer."""
-    config = opening(source)
+def drawn(source, config):
+    """The lines of a random run over a configuration, without it."""
     count = len(config["principals"])
     first = config.get("next", count + 1)
     serials = list(range(1, count + 1)) + [serial for serial in range(first, first + 6) if serial <= LAST_SERIAL]
-    rows = [config] + [{"op": "hello", "name": name, "seat": seat} for seat, name in enumerate(config["principals"])]
+    rows = [{"op": "hello", "name": name, "seat": seat} for seat, name in enumerate(config["principals"])]
+    joining = dict(zip(JOINING, range(count, count + len(JOINING))))
     for _ in range(60):
-        seat = source.randrange(count)
+        seat = source.randrange(count + len(joining))
         rows += [{"seat": seat, **command(source, serials)}, {"op": "shade", "seat": seat}]
         if source.random() < 0.1:
             rows.append({"op": source.choice(["collect", "cycle"])})
+        if source.random() < 0.1:
+            name = source.choice(JOINING)
+            rows.append({"op": "enrol", "name": name, "rights": rights(source), "seat": seat})
+            rows += [{"op": "shade", "seat": seat}, {"op": "bye", "seat": joining[name]}]
+            rows.append({"op": "hello", "name": name, "seat": joining[name]})
+        if source.random() < 0.01:
+            rows.append({"op": "retire", "seat": seat})
+    return rows
+
+
+def step_of(row, actor):
+    """The step that a command is."""
+    fields = {key: row[key] for key in row if key not in ("seat", "name")}
+    return {"actor": actor, **fields, **({"op": "create", "kind": "subject"} if row["op"] == "enrol" else {})}
+
+
+def asked(program, source):
+    """A configuration, and each command of a random run over it as a step, with its answer."""
+    config = opening(source)
+    rows = drawn(source, config)
+    found, _ = answered(program, "run", [config, *rows])
     # In the end everybody looks at what they have.
-    rows += [{"op": "look", "at": seat + 1, "seat": seat} for seat in range(count)]
-    answers, status = answered(program, "run", rows)
-    assert status == 0 and len(answers) == len(rows) - 1, "the run itself has errors"
-    steps = []
-    for row, answer in zip(rows[1:], answers):
-        if row["op"] not in ("hello", "shade", "collect", "cycle"):
-            steps.append(({"actor": row["seat"] + 1, **{key: row[key] for key in row if key != "seat"}}, answer))
+    seated = {row["seat"]: answer["vertex"] for row, answer in zip(rows, found) if answer.get("ok") == "hello"}
+    rows += [{"op": "look", "at": actor, "seat": seat} for seat, actor in seated.items()]
+    answers, _ = answered(program, "run", [config, *rows])
+    assert len(answers) == len(rows) and answers[: len(found)] == found, "not the same answers again"
+    steps, actors = [], {}
+    for row, answer in zip(rows, answers):
+        if answer.get("ok") == "hello":
+            actors[row["seat"]] = answer["vertex"]
+        elif row["op"] not in NO_STEPS and "error" not in answer and answer.get("cause") not in OF_PRINCIPALS:
+            steps.append((step_of(row, actors[row["seat"]]), answer))
     return config, steps
 
 
-def trials(source, count, steps):
-    """Goals and steps with the verdict that the run's answers imply; the last answers say what each of this many
-    principals has in the end."""
+def last_looks(steps):
+    """The looks of principals at themselves after which nothing more is changed."""
+    looks = itertools.takewhile(lambda asked: asked[0]["op"] == "look", reversed(steps))
+    return [(step, answer) for step, answer in looks if step["at"] == step["actor"]]
+
+
+def trials(source, steps):
+    """Goals and steps with the verdict that the run's answers imply."""
     done = [step for step, answer in steps if "ok" in answer]
-    for step, answer in steps[-count:]:
+    for step, answer in last_looks(steps):
         labels = dict(answer["edges"])
         if labels:
             over = source.choice(list(labels))
@@ -119,7 +155,7 @@ def runs(program):
     seen = {}
     for _ in range(RUNS):
         config, steps = asked(program, source)
-        for goal, done, verdict in trials(source, len(config["principals"]), steps):
+        for goal, done, verdict in trials(source, steps):
             wanted = ([verdict], int(verdict["verdict"] != "shared"))
             rows = [config, goal, *done]
             found = answered(program, "audit", rows)

@@ -13,13 +13,15 @@ from faults.line_faults import GOOD, fields_of, joined, with_faults
 from fuzz.differential import seeds
 from models.graph import verdict
 from models.reading import (
-    COMMANDS, EVENTS, LONGEST_LINE, Refused, line_of, read_config, read_event, read_goal, read_step,
+    EVENTS, LONGEST_LINE, STEPS, Refused, line_of, read_config, read_event, read_goal, read_step,
 )
 from models.storage import Run
 from program.programs import SECONDS
 
 LINES = 20000
 LINES_OF_A_RUN = 500
+# The forms of a run's lines; `retire` is rare, since answers tell less of what a line changed once alice has retired.
+FORMS = [form for form in EVENTS for _ in range(1 if form == "retire" else 8)]
 
 CONFIG = b'{"principals":["alice","bob"],"edges":[[1,"tg",2],[2,"r",1]],"slots":64,"cells":256}'
 BEGIN = [
@@ -52,7 +54,7 @@ def lines_of_a_run(source):
     answered."""
     lines, count = list(BEGIN), 0
     while count < LINES_OF_A_RUN:
-        line = with_faults(source, fields_of(source, source.choice(list(EVENTS))))
+        line = with_faults(source, fields_of(source, source.choice(FORMS)))
         lines.append(line)
         count += 1
         if len(line) > LONGEST_LINE:
@@ -103,11 +105,11 @@ def is_right(program, source, where, config, lines):
 
 def rows_of_an_audit(source):
     """A configuration, a goal and steps, one of them or more at fault; perhaps not all."""
-    forms = ["config", "goal", *[source.choice(list(COMMANDS)) for _ in range(source.randint(1, 4))]]
+    forms = ["config", "goal", *[source.choice(list(STEPS)) for _ in range(source.randint(1, 4))]]
     rows = []
     for form in forms:
         fields = [field for field in fields_of(source, form) if field[0] != "seat"]
-        fields += [("actor", source.choice(GOOD["actor"]))] if form in COMMANDS else []
+        fields += [("actor", source.choice(GOOD["actor"]))] if form in STEPS else []
         rows.append(with_faults(source, fields) if source.random() < 1.5 / len(forms) else joined(fields))
     return rows[: source.randint(0, 1)] if source.random() < 0.02 else rows
 

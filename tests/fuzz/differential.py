@@ -1,4 +1,5 @@
-"""Random runs of valid lines, each answer compared with that of a graph that is never collected, and random derivations with their verdicts.
+"""Random runs of valid lines, each answer compared with that of a graph that is never collected and with that of each step
+of the collector, and random derivations with their verdicts.
 
 Few slots, few cells, several seats, and the collector in between. Each line is sent once the answer to the one before it is checked, so that
 the next one can be chosen by what is there. Half of the runs come from a fixed seed and half from one of the clock, both printed; SEED names
@@ -11,8 +12,9 @@ import random
 import subprocess
 import time
 
-from models.graph import NONE_LEFT, Graph, verdict
-from models.reading import LETTERS, line_of, read_config, read_event, read_goal, read_step
+from models.collector import Course
+from models.graph import MOST_PRINCIPALS, NONE_LEFT, SEATS, Graph, verdict
+from models.reading import COMMANDS, LETTERS, line_of, read_config, read_event, read_goal, read_step
 from models.storage import Run
 from program.programs import SECONDS, talk
 
@@ -20,8 +22,13 @@ RUNS = 200
 DERIVATIONS = 200
 LINES = 80
 NAMES = ["alice", "bob", "carol", "dave"]
+# Those who may join, most of them later than the others, and a crowd of principals.
+JOINING = [*NAMES, "erin", "frank", "z" * 32]
+CROWD = [*NAMES, *["x" * (number % 32 + 1) + "y" * (number // 32) for number in range(MOST_PRINCIPALS - len(NAMES))]]
 OPS = ["take"] * 4 + ["grant"] * 4 + ["create"] * 4 + ["remove"] * 5 + ["read", "write", "look"]
-KINDS = ["serials", "slots", "cells", "denied", "error", "ok", "shaded", "mark", "sweep", "idle"]
+SESSION_OPS = [*OPS * 2, *["enrol"] * 5, "retire"]
+KINDS = ["retired", "name taken", "crowded", "serials", "slots", "cells", "denied", "error", "ok", "shaded"]
+KINDS += ["mark", "sweep", "idle"]
 OTHERS = ["shade", "shade", "cycle", "cycle", "hello", "hello", "bye"]
 
 
@@ -37,10 +44,12 @@ def some(source, letters=LETTERS):
 
 
 def opening(source):
-    """A configuration of one to four principals; few slots, few cells, and some with few serials."""
-    count = source.randint(1, 4)
-    pairs = [(x, y) for x in range(1, count + 1) for y in range(1, count + 1) if x != y and source.random() < 0.6]
-    config = {"principals": NAMES[:count], "edges": [[x, some(source), y] for x, y in pairs]}
+    """A configuration of one to four principals, now and then of a crowd; few slots, few cells, and some with few
+    serials."""
+    few = source.randint(1, 4)
+    count = source.randint(MOST_PRINCIPALS - 1, MOST_PRINCIPALS) if source.random() < 0.08 else few
+    pairs = [(x, y) for x in range(1, few + 1) for y in range(1, few + 1) if x != y and source.random() < 0.6]
+    config = {"principals": CROWD[:count], "edges": [[x, some(source), y] for x, y in pairs]}
     config["slots"] = count + source.randint(0, 8)
     config["cells"] = max(1, len(pairs) + source.randint(0, 16))
     if source.random() < 0.1:
@@ -59,11 +68,10 @@ def at_random(source, graph, op):
         "rights": some(source) if source.random() < 0.95 else "",
         "kind": source.choice(["subject", "document"]),
         "text": source.choice(["", "hi", "é\u2028😀", '"\\\n\0\x7f', "text %d" % source.randint(0, 99)]),
+        "name": source.choice(JOINING),
         **{name: serial(source, graph) for name in ("over", "from", "to", "at")},
     }
-    named = {"take": "rights over from", "grant": "rights over to", "create": "kind rights", "remove": "rights over"}
-    named.update({"read": "over", "write": "over text", "look": "at"})
-    return {"op": op, **{name: fields[name] for name in named[op].split()}}
+    return {"op": op, **{name: fields[name] for name in COMMANDS[op]}}
 
 
 def aimed(source, graph, actor, event):
@@ -78,8 +86,13 @@ def aimed(source, graph, actor, event):
         return {**event, "over": end_of([edge for edge in own if graph.kinds[edge[0]] == "document"], op[0])[0]}
     if op == "look":
         return {**event, "at": source.choice([actor, end_of(own, "t")[0]])}
+    if op == "retire":
+        return event
     if op == "create":
         return {**event, "rights": "rwtg"}
+    if op == "enrol":
+        free = [name for name in JOINING if name not in graph.names]
+        return {**event, "rights": "rwtg", "name": source.choice(free or JOINING)}
     if op == "remove":
         over, label = end_of(own)
         return {**event, "over": over, "rights": some(source, label or "r") if source.random() < 0.3 else label or "r"}
@@ -88,24 +101,37 @@ def aimed(source, graph, actor, event):
     return {**event, "over": over, "rights": some(source, label or "r"), "to" if op == "grant" else "from": other}
 
 
-def command(source, graph, actor):
-    """A command of the actor."""
+def command(source, graph, actor, ops):
+    """A command of the actor, one of these ops."""
     is_poor = len(graph.edges(actor)) < 2 and source.random() < 0.4
-    event = at_random(source, graph, "create" if is_poor else source.choice(OPS))
-    return aimed(source, graph, actor, event) if source.random() < 0.85 else event
+    event = at_random(source, graph, "create" if is_poor else source.choice(ops))
+    is_aimed = source.random() < 0.85 and event.get("rights") != ""
+    return aimed(source, graph, actor, event) if is_aimed else event
+
+
+def greeting(source, graph):
+    """A hello, often at a free seat, and of somebody who has none."""
+    free = [seat for seat in range(SEATS) if seat not in graph.seats]
+    waiting = [name for name, serial in graph.names.items() if serial not in graph.seats.values()]
+    seats = free[:3] if free and source.random() < 0.7 else [0, 1, 2, 3, 62, 63, SEATS]
+    names = waiting if waiting and source.random() < 0.6 else [*graph.names, *JOINING, "nobody"]
+    return {"op": "hello", "seat": source.choice(seats), "name": source.choice(names)}
 
 
 def event_of(source, run):
     """The next line of a session."""
     graph = run.graph
     seat = source.choice(list(graph.seats)) if graph.seats and source.random() < 0.97 else source.choice([0, 1, 5, 63, 64])
+    actor = graph.seats.get(seat, 1)
     if seat in graph.pending and source.random() < 0.5:
         return {"op": "shade", "seat": seat}
+    if actor in graph.retired and source.random() < 0.5:
+        return {"op": "bye", "seat": seat}
     if source.random() < 0.85:
-        return {"seat": seat, **command(source, graph, graph.seats.get(seat, 1))}
+        return {"seat": seat, **command(source, graph, actor, SESSION_OPS)}
     op = source.choice(OTHERS)
     if op == "hello":
-        return {"op": op, "seat": source.choice([0, 1, 2, 3, 62, 63, 64]), "name": source.choice([*graph.names, *graph.names, "nobody"])}
+        return greeting(source, graph)
     return {"op": op} if op == "cycle" else {"op": op, "seat": seat}
 
 
@@ -122,7 +148,7 @@ def filled(source, run):
 
 def plan(source, run):
     """The lines of a run, each chosen when it is asked for. In the end everybody looks at what they have."""
-    for seat, name in enumerate(run.graph.names):
+    for seat, name in enumerate(list(run.graph.names)[: len(NAMES)]):
         yield {"op": "hello", "name": name, "seat": seat}
     pace = source.choice([0, 0.2, 0.5, 0.7])
     for _ in range(source.randint(10, LINES)):
@@ -145,7 +171,8 @@ def row_of(source, event):
 def talked(program, source, config, told, seen):
     """What is wrong with the answers of a run, or with its end; nothing if all is right. Lines and answers go to the
     list."""
-    run, errors = Run(read_config(config)), 0
+    opened = read_config(config)
+    run, course, errors = Run(opened), Course(opened), 0
     with talk(program, "run") as process:
         process.stdin.write(config + b"\n")
         for event in plan(source, run):
@@ -155,7 +182,7 @@ def talked(program, source, config, told, seen):
             process.stdin.flush()
             answer = process.stdout.readline()
             told.append(answer[:-1])
-            wrong = run.problem(read_event(row), answer[:-1])
+            wrong = run.problem(read_event(row), answer[:-1]) or course.problem(read_event(row), answer[:-1])
             if wrong:
                 return wrong
             kind = next((kind for kind in KINDS if b'"%s"' % kind.encode() in answer), "steps")
@@ -213,7 +240,7 @@ def derivation(source):
     for _ in range(source.randint(0, 40)):
         subjects = [serial for serial, kind in graph.kinds.items() if kind == "subject"]
         actor = source.choice(subjects) if source.random() < 0.9 else serial(source, graph)
-        step = {"actor": actor, **command(source, graph, actor)}
+        step = {"actor": actor, **command(source, graph, actor, OPS)}
         if is_possible(graph, step):
             graph.done(actor, step)
             steps.append(step)

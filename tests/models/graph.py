@@ -5,6 +5,10 @@ from models.reading import COMMANDS, LETTERS
 # The next serial at which none is left.
 NONE_LEFT = 2**64 - 1
 SEATS = 64
+# How many principals there may be at a time.
+MOST_PRINCIPALS = 64
+# The commands that make a vertex.
+MAKES = ("create", "enrol")
 
 
 def needs(actor, event):
@@ -16,8 +20,8 @@ def needs(actor, event):
         return [(actor, event["to"], "g"), (actor, over, rights)]
     if op == "look":
         return [(actor, event["at"], "t")] if event["at"] != actor else []
-    letters = {"create": "", "remove": rights, "read": "r", "write": "w"}[op]
-    return [(actor, over, letters)]
+    letters = {"remove": rights, "read": "r", "write": "w"}
+    return [(actor, over, letters[op])] if op in letters else []
 
 
 def gained(actor, event):
@@ -26,10 +30,12 @@ def gained(actor, event):
 
 
 class Graph:
-    """The graph of a configuration and of all that was carried out since, with who sits where and the pending targets."""
+    """The graph of a configuration and of all that was carried out since, with the names of the principals, who has
+    retired, who sits where, and the pending targets."""
 
     def __init__(self, config):
         self.names = {name: serial for serial, name in enumerate(config["principals"], 1)}
+        self.retired = set()
         self.kinds = {serial: "subject" for serial in self.names.values()}
         self.texts = {}
         self.triples = {(start, end, right) for start, rights, end in config["edges"] for right in rights}
@@ -68,6 +74,8 @@ class Graph:
     def denial(self, actor, event):
         """Why the rules deny a command, the first cause that holds; nothing if they allow it."""
         op = event["op"]
+        if actor in self.retired:
+            return {"cause": "retired", "denied": op}
         if event.get("rights") == "":
             return {"cause": "empty", "denied": op}
         apart = [actor, *[event[name] for name in ("over", "from", "to") if name in event]]
@@ -80,7 +88,19 @@ class Graph:
                 return {"denied": op, "from": start, "missing": missing, "to": end}
         if op in ("read", "write") and self.kinds[event["over"]] != "document":
             return {"cause": "not document", "denied": op, "vertex": event["over"]}
-        return None
+        cause = self.bar(actor, event)
+        return {"cause": cause, "denied": op} if cause else None
+
+    def bar(self, actor, event):
+        """Why a command may not enrol a principal, or its actor not retire; nothing if it may, or asks for neither."""
+        op = event["op"]
+        if op == "retire":
+            return None if actor in self.names.values() else "not principal"
+        if op != "enrol":
+            return None
+        if event["name"] in self.names:
+            return "name taken"
+        return "crowded" if len(self.names) >= MOST_PRINCIPALS else None
 
     def refusal(self, event):
         """Why the seat of an event refuses it."""
@@ -120,16 +140,21 @@ class Graph:
     def done(self, actor, event):
         """The answer to a command that is allowed, and the target that it leaves."""
         op, over, rights = event["op"], event.get("over"), event.get("rights")
-        if op == "create":
+        if op in MAKES:
             new, self.next = self.next, self.next + 1
-            self.kinds[new] = event["kind"]
+            self.kinds[new] = event.get("kind", "subject")
             self.triples |= {(actor, new, right) for right in rights}
+            if op == "enrol":
+                self.names[event["name"]] = new
             return {"ok": "created", "vertex": new}, new
         if op == "read":
             return {"ok": "text", "text": self.texts.get(over, "")}, None
         if op == "look":
             return {"edges": self.edges(event["at"]), "ok": "edges"}, None
-        if op == "write":
+        if op == "retire":
+            self.names = {name: serial for name, serial in self.names.items() if serial != actor}
+            self.retired.add(actor)
+        elif op == "write":
             self.texts[over] = event["text"]
         elif op == "remove":
             self.triples -= {(actor, over, right) for right in rights}

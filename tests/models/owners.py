@@ -1,12 +1,13 @@
 """A model of one principal and of all that it makes, which nobody else reaches: it gives the answer to each command.
 
-Its methods are those of examples/tgdoc_client.py, by the rules of take and grant; nothing is collected. Commands are a method's name and
-its arguments.
+Its methods are those of examples/tgdoc_client.py, by the rules of take and grant; nothing is collected. Commands are a
+method's name and its arguments. It asks for no name but one that is taken.
 """
 
 LETTERS = "rwtg"
 WORDS = ["", "noon", 'a "quoted" word', "back\\slash", "two\nlines", "\u00e9t\u00e9", "\u6587\u66f8", "\U0001f4c4"]
 MOST_HELD = 8
+NAMES_OF_COMMANDS = ["create"] * 6 + ["grant", "read", "write"] * 4 + ["take", "remove", "look"] * 2 + ["enrol"]
 
 
 def lacking(wanted, had):
@@ -15,10 +16,12 @@ def lacking(wanted, had):
 
 
 class Owner:
-    """The vertices of one principal, their edges and texts."""
+    """The vertices of one principal, their edges and texts, and whether it has retired."""
 
-    def __init__(self, serial):
+    def __init__(self, serial, name):
         self.serial = serial
+        self.name = name
+        self.is_retired = False
         self.kinds = {serial: "subject"}
         self.edges = {serial: {}}
         self.texts = {}
@@ -35,6 +38,8 @@ class Owner:
     def denial(self, rule, needs, ends):
         """The denial of a command that needs rights over targets, in this order, and has these ends; None if it is
         allowed."""
+        if self.is_retired:
+            return {"cause": "retired", "denied": rule}
         if len(set(ends)) < len(ends):
             return {"cause": "not distinct", "denied": rule}
         for source, rights, target in needs:
@@ -44,8 +49,10 @@ class Owner:
         return None
 
     def rewriting(self, rule, rights, needs, ends):
-        """The denial of a command that changes edges: no rights at all come first."""
-        return self.denial(rule, needs, ends) if rights else {"cause": "empty", "denied": rule}
+        """The denial of a command that changes edges: no rights at all come first, but for one who has retired."""
+        if not rights and not self.is_retired:
+            return {"cause": "empty", "denied": rule}
+        return self.denial(rule, needs, ends)
 
     def take(self, rights, over, source):
         needs = [(self.serial, "t", source), (source, rights, over)]
@@ -64,6 +71,15 @@ class Owner:
     def create(self, _kind, rights):
         """Only the denial: the server chooses the serial of the new vertex, and `created` receives it."""
         return self.rewriting("create", rights, [], [])
+
+    def enrol(self, _name, rights):
+        """Its own name is taken, until it retires."""
+        return self.rewriting("enrol", rights, [], []) or {"cause": "name taken", "denied": "enrol"}
+
+    def retire(self):
+        denial = self.denial("retire", [], [])
+        self.is_retired = True
+        return denial
 
     def created(self, serial, kind, rights):
         self.kinds[serial] = kind
@@ -93,7 +109,7 @@ class Owner:
         return denial
 
     def look(self, at):
-        denial = None if at == self.serial else self.denial("look", [(self.serial, "t", at)], [])
+        denial = self.denial("look", [] if at == self.serial else [(self.serial, "t", at)], [])
         return denial or dict(sorted(self.edges[at].items()))
 
     def held(self):
@@ -122,9 +138,10 @@ def command(source, owner):
     # Mostly what is held; now and then the principal itself, a vertex that was dropped, or one that never existed or is another's.
     serials = held * 5 + list(owner.kinds) + [source.randint(1, 5000)]
     over, other, rights = source.choice(serials), source.choice(serials), rights_from(source)
-    name = source.choice(["create", "create", "create", "take", "grant", "grant", "remove", "read", "read", "write", "write", "look"])
+    name = source.choice(NAMES_OF_COMMANDS)
     arguments = {
         "create": (source.choice(["document", "document", "subject"]), rights),
+        "enrol": (owner.name, rights),
         "take": (rights, over, other),
         "grant": (rights, over, other),
         "remove": (rights, over),

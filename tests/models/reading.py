@@ -11,7 +11,8 @@ LETTERS = "rwtg"
 LONGEST_LINE = 16384
 LONGEST_TEXT = 4096
 MOST_LEVELS = 127
-COMMANDS = {
+# The commands that a step of an audit may be.
+STEPS = {
     "take": ["rights", "over", "from"],
     "grant": ["rights", "over", "to"],
     "create": ["kind", "rights"],
@@ -20,10 +21,12 @@ COMMANDS = {
     "write": ["over", "text"],
     "look": ["at"],
 }
+COMMANDS = {**STEPS, "enrol": ["name", "rights"], "retire": []}
 EVENTS = {"hello": ["name"], "bye": [], **COMMANDS, "shade": [], "collect": [], "cycle": []}
 
 TEXT = re.compile(r'"(?:[^"\\]|\\.)*"', re.DOTALL)
 BRACKET = re.compile(r"[\[\]{}]")
+NAME = re.compile("[a-z]{1,32}")
 HALF_A_PAIR = re.compile("[\ud800-\udfff]")
 
 
@@ -105,6 +108,11 @@ def is_rights(value):
     return isinstance(value, str) and len(value) == len(set(value)) and set(value) <= set(LETTERS)
 
 
+def is_name(value):
+    """Whether a principal may have this name."""
+    return isinstance(value, str) and bool(NAME.fullmatch(value))
+
+
 def is_edge(value):
     return isinstance(value, list) and len(value) == 3 and is_number(value[0]) and is_rights(value[1]) and is_number(value[2])
 
@@ -121,11 +129,16 @@ GOOD = {
 }
 
 
+def is_good(op, name, value):
+    """Whether a field of a line may have this value; `hello` takes any text for a name."""
+    return is_name(value) if (op, name) == ("enrol", "name") else GOOD[name](value)
+
+
 def with_fields(value, required, optional=()):
     """An object whose fields are these, with values that they may have."""
     if any(name not in value for name in required):
         raise Refused("missing field")
-    if any(name in value and not GOOD[name](value[name]) for name in [*required, *optional]):
+    if any(name in value and not is_good(value.get("op"), name, value[name]) for name in [*required, *optional]):
         raise Refused("bad field")
     if any(name not in required and name not in optional for name in value):
         raise Refused("unknown field")
@@ -149,7 +162,7 @@ def read_event(line):
 def read_step(line):
     """A step line of an audit."""
     value = read_object(line)
-    return with_fields(value, ["op", "actor", *COMMANDS[op_of(value, COMMANDS)]])
+    return with_fields(value, ["op", "actor", *STEPS[op_of(value, STEPS)]])
 
 
 def read_goal(line):
@@ -162,7 +175,7 @@ def config_fault(names, edges, after, slots, cells):
     pairs = [(edge[0], edge[2]) for edge in edges]
     faults = [
         not 1 <= len(names) <= 64,
-        len(set(names)) < len(names) or not all(re.fullmatch("[a-z]{1,32}", name) for name in names),
+        len(set(names)) < len(names) or not all(map(is_name, names)),
         not all(1 <= end <= len(names) for pair in pairs for end in pair),
         any(start == end for start, end in pairs),
         any(edge[1] == "" for edge in edges),

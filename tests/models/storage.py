@@ -1,17 +1,19 @@
 """A run as its answers describe it: the graph that is never collected, and how many slots and cells may be in use.
 
-Only the number in use is known: slots by the creates and the slots that collector steps freed, cells between the edges of what is
-live and those of what may still have a slot. docs/COLLECTOR.md has what a collector step does.
+Only the number in use is known: slots by the creates and enrols and the slots that collector steps freed, cells between
+the edges of what is live and those of what may still have a slot. docs/COLLECTOR.md has what a collector step does.
 """
 
 import re
 
-from models.graph import NONE_LEFT, Graph, gained
+from models.graph import MAKES, NONE_LEFT, Graph, gained
 from models.reading import line_of
 
 NOTE = re.compile(rb'\{"ended":(true|false),"freed":([01]),"phase":"(idle|mark|sweep)"\}')
 SWEPT = re.compile(rb'\{"freed":(0|[1-9][0-9]*),"steps":([1-9][0-9]*)\}')
 FOLLOWS = {"idle": ["mark"], "mark": ["mark", "sweep"], "sweep": ["sweep", "idle"]}
+# The commands that change the edges or the roots, if they are carried out.
+CHANGES = (*MAKES, "take", "grant", "remove", "retire")
 
 
 class Run:
@@ -40,8 +42,8 @@ class Run:
     def carried_out(self, event):
         """The answer to an event that is carried out; what it changes ends the quiet."""
         answer = self.graph.carried_out(event)
-        self.used += event["op"] == "create"
-        if event["op"] in ("take", "grant", "create", "remove") or answer.get("shaded"):
+        self.used += event["op"] in MAKES
+        if event["op"] in CHANGES or answer.get("shaded"):
             self.is_alone, self.quiet = False, 0
         return answer
 
@@ -54,11 +56,11 @@ class Run:
         """Why an event that the rules allow is refused as full: what has to be used up, or what may be and is reported
         as such."""
         graph, op = self.graph, event["op"]
-        if op == "create" and graph.next == NONE_LEFT:
+        if op in MAKES and graph.next == NONE_LEFT:
             return "serials"
-        if op == "create" and self.used == self.slots:
+        if op in MAKES and self.used == self.slots:
             return "slots"
-        if op == "create" or (op in ("take", "grant") and not graph.label(*gained(graph.seats[event["seat"]], event))):
+        if op in MAKES or (op in ("take", "grant") and not graph.label(*gained(graph.seats[event["seat"]], event))):
             fewest, most = self.cells_in_use()
             if fewest >= self.cells or (most >= self.cells and answer == b'{"full":"cells"}'):
                 return "cells"

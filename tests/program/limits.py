@@ -1,8 +1,10 @@
-"""Every limit at once: a run, a server with its settling, and an audit, each with the greatest configuration, lines of 16,384 bytes, texts of 4,096 bytes,
-an owner of an edge for each slot, and 63 sessions, 64 seats or 100,000 steps. No answer may be `out of memory`.
+"""Every limit at once: a run, a server with its settling, and an audit, each with the greatest configuration, lines of
+16,384 bytes, texts of 4,096 bytes, an owner of an edge for each slot, and 63 sessions, 64 seats or 100,000 steps. And
+runs in which a name is that of 100,000 principals, and in which every slot is that of one who retired. No answer may be
+`out of memory`.
 
-Each answer is built here by the rules of docs/PROTOCOL.md, the steps of the cycle by docs/COLLECTOR.md. Each test takes the program's path and answers
-whether it passed.
+Each answer is built here by the rules of docs/PROTOCOL.md, the steps of the cycle by docs/COLLECTOR.md. Each test takes
+the program's path and answers whether it passed.
 """
 
 import contextlib
@@ -12,7 +14,8 @@ from concurrent.futures import ThreadPoolExecutor
 
 from faults.refused import NO_MEMORY
 from faults.scripts import (
-    BYE, DONE, SHARED, alone, create, created, edges, goal, hello, look, shaded, swept, take, text, welcome, write,
+    BYE, DONE, SHARED, alone, caused, create, created, edges, enrol, goal, hello, look, remove, shaded, swept, take,
+    text, welcome, write,
 )
 from models.reading import LONGEST_LINE, LONGEST_TEXT
 from program.lines import joined
@@ -22,6 +25,7 @@ SLOTS, CELLS = 65_536, 1_048_576
 NAMES = [x + y for x in "abcdefgh" for y in "abcdefgh"]
 SESSIONS = 63
 STEPS = 100_000
+VISITS = 100_000
 
 # Each principal may take from the first, who makes documents until no slot is left.
 CONFIG = {"cells": CELLS, "edges": [[serial, "t", 1] for serial in range(2, len(NAMES) + 1)], "principals": NAMES, "slots": SLOTS}
@@ -138,8 +142,56 @@ def audit_at_every_limit(program):
     return len(steps) == STEPS and is_as_wanted(ran.stdout, joined(SHARED)) and ran.returncode == 0
 
 
+def visit(serial):
+    """The lines of a guest who is enrolled, retires and leaves, with their answers."""
+    yield enrol(b"guest", b"r"), created(serial)
+    yield alone(b"shade"), shaded(serial)
+    yield hello(b"guest", 1), welcome(serial)
+    yield alone(b"retire", 1), DONE
+    yield look(serial, 1), caused(b"look", b"retired")
+    yield alone(b"bye", 1), BYE
+
+
+def lines_of_one_name():
+    """One name, of one guest after the other. Each was shaded, so that it is freed by the second cycle after it is
+    dropped: three slots are enough. A cycle goes over alice and the last guest, neither of whom has an edge then."""
+    yield b'{"principals":["alice"],"slots":3}', None
+    yield hello(b"alice"), welcome(1)
+    for serial in range(2, VISITS + 2):
+        yield from visit(serial)
+        yield remove(b"r", serial), DONE
+        yield alone(b"cycle"), swept(int(serial > 2), 3 + 3 + 2 * 2)
+
+
+def lines_of_all_slots():
+    """No guest is dropped, so that each keeps a slot, and there is no room for one more. When alice has retired too,
+    there is no root, and one cycle frees all that the one before it made white."""
+    yield b'{"cells":65536,"principals":["alice"],"slots":65536}', None
+    yield hello(b"alice"), welcome(1)
+    for serial in range(2, SLOTS + 1):
+        yield from visit(serial)
+    yield enrol(b"guest", b"r"), b'{"full":"slots"}'
+    yield alone(b"cycle"), swept(0, 3 + 3 * SLOTS + SLOTS - 1)
+    yield alone(b"retire"), DONE
+    yield alone(b"cycle"), swept(SLOTS, 3 + SLOTS + SLOTS - 1)
+
+
+def answered(lines):
+    """A run whose lines have their answers; no answer is an error."""
+
+    def test(program):
+        rows = list(lines())
+        given = joined(*[line for line, _ in rows])
+        ran = subprocess.run([str(program), "run"], input=given, stdout=subprocess.PIPE, timeout=SECONDS)
+        return is_as_wanted(ran.stdout, joined(*[answer for _, answer in rows if answer])) and ran.returncode == 0
+
+    return test
+
+
 def tests():
     """All tests by their names."""
+    yield "a-name-of-100000-principals", answered(lines_of_one_name)
+    yield "every-slot-of-a-principal-that-retired", answered(lines_of_all_slots)
     yield "run-at-every-limit", run_at_every_limit
     yield "talks-at-every-limit", talks_at_every_limit
     yield "audit-at-every-limit", audit_at_every_limit

@@ -33,6 +33,8 @@ REQUIRED = {
     "read": ["over"],
     "write": ["over", "text"],
     "look": ["at"],
+    "enrol": ["name", "rights"],
+    "retire": [],
 }
 GOOD = {"name": '"alice"', "rights": '"r"', "over": "3", "from": "2", "to": "2", "kind": '"document"', "text": '"hi"', "at": "1", "seat": "0"}
 
@@ -49,6 +51,8 @@ BAD_VALUES = {
     "text": ["1", "null", '["hi"]', '"%s"' % ("a" * 4097)],
     "name": ["1", "null", '["alice"]'],
 }
+# The names that nobody may have; who says hello may say any.
+NO_NAMES = ['""', '"Carol"', '"carol1"', '"ca rol"', '"carol "', '"é"', '"a\\u0000"', '"%s"' % ("a" * 33)]
 
 
 def joined(*rows):
@@ -124,7 +128,7 @@ def refusals():
         for name in names:
             yield after_hello("missing-%s-of-%s" % (name, op), (line_of(op, but=[name]), MISSING), (LOOK, SEEN))
         for name in names + ["seat"]:
-            for value in BAD_VALUES[name]:
+            for value in BAD_VALUES[name] + (NO_NAMES if (op, name) == ("enrol", "name") else []):
                 line = line_of(op, but=[name], extra=[(name, value)])
                 shown = value if len(value) < 30 else "long"
                 yield after_hello("bad-%s-of-%s-%s" % (name, op, shown), (line, BAD), (LOOK, SEEN))
@@ -133,6 +137,8 @@ def refusals():
     yield after_hello("missing-before-bad-and-unknown", (b'{"op":"take","over":-1,"rights":"rr","x":1}', MISSING))
     yield after_hello("missing-before-a-bad-seat", (b'{"op":"read","seat":null}', MISSING))
     yield after_hello("bad-before-unknown", (b'{"op":"read","over":-1,"x":1}', BAD))
+    yield after_hello("bad-name-before-unknown", (b'{"name":"","op":"enrol","rights":"","x":1}', BAD))
+    yield after_hello("missing-before-a-bad-name", (b'{"name":"","op":"enrol"}', MISSING))
     yield after_hello("bad-seat-before-unknown", (b'{"op":"bye","seat":-1,"x":1}', BAD))
     # A field that the op does not have is unknown, whatever its value; only the op's own fields have their values checked.
     yield after_hello("bad-value-of-another-ops-field", (b'{"op":"read","over":3,"rights":"rr"}', UNKNOWN_FIELD))
@@ -158,6 +164,17 @@ def readings():
     )
     yield after_hello("no-rights", (b'{"kind":"document","op":"create","rights":""}', b'{"cause":"empty","denied":"create"}'))
     yield after_hello("any-name-of-a-hello", (b'{"name":"","op":"hello","seat":1}', b'{"error":"no principal"}'), (b'{"name":"\\u0000 \\"A","op":"hello","seat":1}', b'{"error":"no principal"}'))
+    yield after_hello(
+        "escaped-name-of-an-enrol",
+        (b'{"name":"c\\u0061rol","op":"enrol","rights":"t"}', b'{"ok":"created","vertex":3}'),
+        (b'{"name":"carol","op":"hello","seat":1}', b'{"ok":"hello","vertex":3}'),
+    )
+    longest = b"z" * 32
+    yield after_hello(
+        "name-of-32-letters-of-an-enrol",
+        (b'{"name":"%s","op":"enrol","rights":"t"}' % longest, b'{"ok":"created","vertex":3}'),
+        (b'{"name":"%s","op":"hello","seat":1}' % longest, b'{"ok":"hello","vertex":3}'),
+    )
     yield after_hello("line-of-16384-bytes", (LOOK + b" " * (16384 - len(LOOK)), SEEN), (LOOK, SEEN))
 
 
@@ -303,7 +320,10 @@ def answers():
         (b'{"op":"write","over":3,"text":"hi"}', b'{"cause":"not document","denied":"write","vertex":3}'),
     )
     yield after_hello("remove", (b'{"op":"remove","over":2,"rights":"t"}', DONE), (LOOK, b'{"edges":[[2,"g"]],"ok":"edges"}'), (b'{"op":"remove","over":2,"rights":"tg"}', b'{"denied":"remove","from":1,"missing":"t","to":2}'))
-    yield after_hello("empty-of-each-rule", *[(line_of(op, but=["rights"], extra=[("rights", '""')]), b'{"cause":"empty","denied":"%s"}' % op.encode()) for op in ["take", "grant", "create", "remove"]])
+    rewriting = ["take", "grant", "create", "remove", "enrol"]
+    empty = [line_of(op, but=["rights"], extra=[("rights", '""')]) for op in rewriting]
+    causes = [b'{"cause":"empty","denied":"%s"}' % op.encode() for op in rewriting]
+    yield after_hello("empty-of-each-rule", *zip(empty, causes))
     same = [("take", "over"), ("grant", "over"), ("remove", "over"), ("read", "over"), ("write", "over")]
     yield after_hello("not-distinct-of-each-rule", *[(line_of(op, but=[field], extra=[(field, "1")]), b'{"cause":"not distinct","denied":"%s"}' % op.encode()) for op, field in same])
     yield after_hello(
@@ -315,6 +335,65 @@ def answers():
         (b'{"op":"write","over":2,"text":""}', b'{"denied":"write","from":1,"missing":"w","to":2}'),
         (b'{"at":9,"op":"look"}', b'{"denied":"look","from":1,"missing":"t","to":9}'),
     )
+
+
+BOB = (b'{"name":"bob","op":"hello","seat":1}', b'{"ok":"hello","vertex":2}')
+ENROL = b'{"name":"carol","op":"enrol","rights":"tg"}'
+ENROLLED = b'{"ok":"created","vertex":3}'
+RETIRE = b'{"op":"retire"}'
+BUSY = b'{"error":"busy"}'
+
+
+def of_enrol(cause):
+    """The denial of an enrol."""
+    return b'{"cause":"%s","denied":"enrol"}' % cause
+
+
+def enrolments():
+    """Principals that join, and why they may not, in the order of the causes."""
+    none, own = b'{"name":"bob","op":"enrol","rights":""}', line_of("enrol")
+    shade = (b'{"op":"shade"}', b'{"shaded":3}')
+    seen = b'{"edges":[[2,"tg"],[3,"tg"]],"ok":"edges"}'
+    yield after_hello("enrol", (ENROL, ENROLLED), (LOOK, BUSY), (RETIRE, BUSY), shade, (LOOK, seen), (RETIRE, DONE))
+    yield after_hello("retired-before-empty", (RETIRE, DONE), (none, of_enrol(b"retired")))
+    yield after_hello("empty-before-name-taken", (none, of_enrol(b"empty")))
+    yield after_hello("name-taken-by-oneself", (own, of_enrol(b"name taken")))
+    one = b'{"principals":["alice"],"slots":1}'
+    yield opening("name-taken-before-full", one, (HELLO, WELCOME), (own, of_enrol(b"name taken")))
+    names = [b"alice", *[b"a" * (n % 26 + 1) + b"b" * (n // 26) for n in range(63)]]
+    most = b'{"principals":["%s"],"slots":64}' % b'","'.join(names)
+    yield opening("crowded-before-full", most, (HELLO, WELCOME), (ENROL, of_enrol(b"crowded")))
+    # Where there is no room nobody is enrolled.
+    unknown = (b'{"name":"carol","op":"hello","seat":1}', b'{"error":"no principal"}')
+    for which, config in [
+        ("serials", b'{"next":18446744073709551615,"principals":["alice"],"slots":1}'),
+        ("slots", b'{"cells":1,"edges":[[1,"t",2]],"principals":["alice","bob"],"slots":2}'),
+        ("cells", b'{"cells":1,"edges":[[1,"t",2]],"principals":["alice","bob"],"slots":3}'),
+    ]:
+        full = [(ENROL, b'{"full":"%s"}' % which.encode()), (b'{"op":"shade"}', b'{"shaded":null}')]
+        yield opening("enrol-full-of-" + which, config, (HELLO, WELCOME), *full, unknown)
+
+
+def retirements():
+    """Principals that retire, and what their seats are answered then."""
+    commands = [*COMMANDS, "enrol", "retire"]
+    denied = [(line_of(op), b'{"cause":"retired","denied":"%s"}' % op.encode()) for op in commands]
+    gone = (HELLO, b'{"error":"no principal"}')
+    left = (b'{"op":"bye"}', b'{"ok":"bye"}')
+    yield after_hello("retired-of-each-rule", (RETIRE, DONE), *denied)
+    idle = (b'{"op":"shade"}', b'{"shaded":null}')
+    yield after_hello("retired-sits-on", (RETIRE, DONE), (HELLO, b'{"error":"bound"}'), idle, left, gone)
+    # All seats of the one who retires are answered so; a target that is pending at another one stays.
+    again = (b'{"name":"alice","op":"hello","seat":1}', WELCOME)
+    other, shade = (b'{"op":"retire","seat":1}', DONE), (b'{"op":"shade"}', b'{"shaded":3}')
+    late = [(LOOK, BUSY), shade, denied[-1], left, gone]
+    yield after_hello("busy-before-retired", (ENROL, ENROLLED), again, other, *late)
+    # What bob is to others stays as it was: his vertex, the edges to it, and those from it.
+    bobs = (b'{"at":2,"op":"look"}', b'{"edges":[],"ok":"edges"}')
+    yield after_hello("retired-vertex-stays", BOB, other, bobs, (LOOK, SEEN))
+    another = (b'{"name":"bob","op":"enrol","rights":"r"}', ENROLLED)
+    anew = (b'{"name":"bob","op":"hello","seat":2}', b'{"ok":"hello","vertex":3}')
+    yield after_hello("name-is-free-again-and-serial-is-not", BOB, other, another, anew)
 
 
 def collector():
@@ -397,7 +476,7 @@ def audit_refusals():
     for field in ["op", "seat", "actor", "over"]:
         line = object_of([("from", "1"), ("rights", '"r"'), ("to", "3"), (field, "1")])
         yield audited("goal-with-" + field, UNKNOWN_FIELD, THREE, line, STEP)
-    for op in ["hello", "bye", "shade", "collect", "cycle"]:
+    for op in ["hello", "bye", "shade", "collect", "cycle", "enrol", "retire"]:
         yield audited("%s-is-no-step" % op, UNKNOWN_OP, THREE, GOAL, line_of(op), STEP)
     yield audited("unknown-op-before-a-missing-actor", UNKNOWN_OP, THREE, GOAL, b'{"op":"steal","seat":1}')
     for op in COMMANDS:
@@ -479,5 +558,6 @@ def verdicts():
 
 def tests():
     """All runs, each as a name, words, input, output and status."""
-    for group in (refusals, readings, texts, ends, configurations, answers, collector, audit_refusals, verdicts):
+    groups = [refusals, readings, texts, ends, configurations, answers, enrolments, retirements, collector]
+    for group in [*groups, audit_refusals, verdicts]:
         yield from group()

@@ -157,7 +157,7 @@ def behaves(siege, seed, number):
     an answer."""
     source, longest = random.Random("%s/%d" % (seed, number)), 0.0
     with siege.server.client() as client:
-        owner = owners.Owner(client.hello(NAMES[number]))
+        owner = owners.Owner(client.hello(NAMES[number]), NAMES[number])
         made = [WORKERS]
         for count in itertools.count():
             if siege.is_over():

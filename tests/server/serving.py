@@ -40,6 +40,9 @@ CREATE = b'{"kind":"document","op":"create","rights":"rw"}\n'
 MADE = b'{"ok":"created","vertex":3}\n'
 LOOK = b'{"at":1,"op":"look"}\n'
 SEEN = b'{"edges":[[2,"t"]],"ok":"edges"}\n'
+ENROL = b'{"name":"carol","op":"enrol","rights":"t"}\n'
+RETIRE = b'{"op":"retire"}\n'
+RETIRED = b'{"cause":"retired","denied":"%s"}\n'
 
 
 def one_talk(config, *pieces_and_answer):
@@ -63,6 +66,26 @@ SHORT_TALK = [
     (HELLO, WELCOME),
     (CREATE, b'{"ok":"created","vertex":%d}\n'),
     (b'{"op":"read","over":3}\n', b'{"ok":"text","text":""}\n'),
+    (b'{"op":"shade"}\n', b'{"error":"not for a session"}\n'),
+    (BYE, PARTED),
+]
+
+# A talk of one who enrols another and then retires.
+LAST_TALK = [
+    (ENROL, b'{"error":"no actor"}\n'),
+    (RETIRE, b'{"error":"no actor"}\n'),
+    (b'{"name":"carol","op":"hello"}\n', b'{"error":"no principal"}\n'),
+    (HELLO, WELCOME),
+    (b'{"name":"Carol","op":"enrol","rights":"t"}\n', b'{"error":"bad field"}\n'),
+    (ENROL, MADE),
+    (ENROL, b'{"cause":"name taken","denied":"enrol"}\n'),
+    (LOOK, b'{"edges":[[2,"t"],[3,"t"]],"ok":"edges"}\n'),
+    (RETIRE, b'{"ok":"done"}\n'),
+    (RETIRE, RETIRED % b"retire"),
+    (LOOK, RETIRED % b"look"),
+    (CREATE, RETIRED % b"create"),
+    (ENROL, RETIRED % b"enrol"),
+    (HELLO, b'{"error":"bound"}\n'),
     (b'{"op":"shade"}\n', b'{"error":"not for a session"}\n'),
     (BYE, PARTED),
 ]
@@ -152,11 +175,18 @@ REFUSALS_OF_COMMANDS = [
     (("create", "document", "r"), "slots"),
     (("hello", "bob"), "bound"),
     (("look", "1"), "bad field"),
+    (("enrol", "carol", "r"), "slots"),
+    (("enrol", "carol", ""), ("enrol", "empty", None, None, None, None)),
+    (("enrol", "bob", "r"), ("enrol", "name taken", None, None, None, None)),
+    (("enrol", "Carol", "r"), "bad field"),
+    (("retire",), None),
+    (("look", 1), ("look", "retired", None, None, None, None)),
+    (("retire",), ("retire", "retired", None, None, None, None)),
 ]
 
 
 def refusal_of(client, command):
-    """The fields of the exception that a client raises."""
+    """The fields of the exception that a client raises; if it raises none, what the command returns."""
     name, *arguments = command
     try:
         return getattr(client, name)(*arguments)
@@ -346,7 +376,7 @@ def live(server, number, count):
     """This many commands of one client; returns the serials of what it made."""
     source = random.Random(number)
     with server.client() as client:
-        owner = owners.Owner(client.hello(NAMES[number]))
+        owner = owners.Owner(client.hello(NAMES[number]), NAMES[number])
         assert owner.serial == number + 1
         made = [len(NAMES)]
         for _ in range(count):
@@ -369,6 +399,83 @@ def sixteen_clients(program):
         ended = server.end()
     print("  %d vertices made" % len(made))
     return len(made) > 1024 and made == list(range(17, 17 + len(made))) and ended == AGREED
+
+
+GUEST = "guest"
+
+
+def visit(server, serial):
+    """A guest, who has this serial and nothing yet, works, retires, and is denied whatever comes then; every other one
+    leaves without a bye. Returns the serials of what it made."""
+    source = random.Random(serial)
+    with server.client() as client:
+        assert client.hello(GUEST) == serial and client.look(serial) == {}
+        owner, made = owners.Owner(serial, GUEST), [serial]
+        for _ in range(30):
+            one_more(source, client, owner, made)
+        assert (client.retire(), owner.retire()) == (None, None)
+        for _ in range(10):
+            one_more(source, client, owner, made)
+        if serial % 2:
+            client.bye()
+    return made[1:]
+
+
+def receive(server, name, count):
+    """A principal enrols one guest after the other, all by one name, and drops each when it has left; returns the
+    serials of the guests and of what they made."""
+    made = []
+    with server.client() as host:
+        host.hello(name)
+        for _ in range(count):
+            serial = answer_of(host, "enrol", (GUEST, "tg"), True)
+            assert isinstance(serial, int) and serial > max(made, default=len(NAMES)), "enrol: %s" % (serial,)
+            assert refusal_of(host, ("enrol", GUEST, "r")) == ("enrol", "name taken", None, None, None, None)
+            made += [serial, *visit(server, serial)]
+            host.remove("tg", serial)
+        host.bye()
+    return made
+
+
+def guests_beside_others(program):
+    """Forty guests come and go while eight clients work: all answers are the models', and no serial is given twice or
+    left out. The slots have no room for all that the guests leave, unless it is freed."""
+    with served(program, 10, 9 + 40, MANY) as server, ThreadPoolExecutor(9) as pool:
+        others = [pool.submit(live, server, number, 500) for number in range(8)]
+        guests = receive(server, NAMES[8], 40)
+        made = sorted(itertools.chain(guests, *[other.result(2 * SECONDS) for other in others]))
+        ended = server.end()
+    print("  %d vertices made, %d of them by guests" % (len(made), len(guests) - 40))
+    return len(made) > 512 and made == list(range(17, 17 + len(made))) and ended == AGREED
+
+
+def retired_on_two_seats(program):
+    """Who retires on one connection has retired on the other one too. Both end as always do, and leave their seats."""
+    gone = [("look", 1), ("create", "document", "r"), ("retire",)]
+    with served(program, 2, 4, ROOMY) as server:
+        with server.client() as one, server.client() as other:
+            assert (one.hello("alice"), other.hello("alice")) == (1, 1)
+            document = other.create("document", "rw")
+            one.retire()
+            found = [refusal_of(client, command)[1] for client in (one, other) for command in gone]
+            other.bye()
+        with server.client() as late, server.client() as bob:
+            found.append(refusal_of(late, ("hello", "alice")))
+            serial = late.hello("bob"), bob.hello("bob"), bob.enrol("alice", "t")
+            found += [refusal_of(bob, ("read", document))[1], late.look(2)]
+        ended = server.end()
+    wanted = ["retired"] * 6 + ["no principal", "missing", {4: "t"}]
+    return (found, serial, ended) == (wanted, (2, 2, 4), AGREED)
+
+
+def nobody_is_left(program):
+    """When the last principal has retired, nobody can say hello any more; the server settles all the same."""
+    with served(program, 1, 2, b'{"principals":["alice"]}\n') as server:
+        first = exchange(server, HELLO, RETIRE, BYE)
+        second = exchange(server, HELLO, ENROL)
+        ended = server.end()
+    refused = b'{"error":"no principal"}\n{"error":"no actor"}\n'
+    return (first, second, ended) == (WELCOME + b'{"ok":"done"}\n' + PARTED, refused, AGREED)
 
 
 def behave(bob, document, is_over):
@@ -476,12 +583,17 @@ def slots_come_back(program):
     return (text, made, ended) == ("kept", list(range(4, 104)), AGREED)
 
 
-def example_of_two_clients(program):
-    """The example ends well, and reports it."""
-    words = [str(ROOT / "examples" / "two-clients")]
-    ran = subprocess.run(words, env={**os.environ, "TGDOC": str(program)}, capture_output=True, text=True, timeout=2 * SECONDS)
-    wanted = ["bob reads: We meet at noon.", "carol made and dropped 200 documents", "its one history agree."]
-    return (ran.returncode, ran.stderr) == (0, "") and all(text in ran.stdout for text in wanted)
+def example(name, *wanted):
+    """The example of this name ends well, and reports it and what is wanted."""
+
+    def test(program):
+        words = [str(ROOT / "examples" / name)]
+        how = {"env": {**os.environ, "TGDOC": str(program)}, "capture_output": True, "text": True}
+        ran = subprocess.run(words, timeout=2 * SECONDS, **how)
+        told = all(text in ran.stdout for text in [*wanted, "its one history agree."])
+        return told and (ran.returncode, ran.stderr) == (0, "")
+
+    return test
 
 
 def tests_of_talks():
@@ -490,6 +602,7 @@ def tests_of_talks():
     yield "short-talk", one_talk(CONFIG, *short)
     yield "short-talk-line-by-line", one_talk(CONFIG, *[row[0] for row in SHORT_TALK], short[1])
     yield "refused-lines", one_talk(CONFIG, column(REFUSALS, 0), column(REFUSALS, 1))
+    yield "enrol-and-retire-in-a-talk", one_talk(CONFIG, column(LAST_TALK, 0), column(LAST_TALK, 1))
     yield "no-line", one_talk(CONFIG, b"")
     yield "no-hello", one_talk(CONFIG, LOOK, b'{"error":"no actor"}\n')
     yield "two-lines-in-one-segment", one_talk(CONFIG, HELLO + BYE, WELCOME + PARTED)
@@ -514,6 +627,9 @@ def tests_of_talks():
 def tests_of_clients_at_once():
     """What many clients do to one another."""
     yield "sixteen-clients", sixteen_clients
+    yield "guests-beside-others", guests_beside_others
+    yield "retired-on-two-seats", retired_on_two_seats
+    yield "nobody-is-left", nobody_is_left
     yield "more-clients-than-workers", more_clients_than_workers
     yield "four-workers-where-no-number-is-given", waits_for_a_seat(4)
     yield "one-worker", waits_for_a_seat(1, "--workers", "1")
@@ -523,7 +639,8 @@ def tests_of_clients_at_once():
     yield "beside-one-that-leaves-in-a-line", beside(leaves_in_a_line, 20)
     yield "beside-one-that-resets", beside(resets, 20)
     yield "beside-one-that-floods-and-reads", beside(floods_and_reads, 1)
-    yield "two-clients", example_of_two_clients
+    yield "two-clients", example("two-clients", "bob reads: We meet at noon.", "carol made and dropped 200 documents")
+    yield "join-and-leave", example("join-and-leave", "(no principal)", "(read denied: retired)", "(read denied: 9 has")
 
 
 def tests():

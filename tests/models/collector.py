@@ -1,0 +1,160 @@
+"""The store of docs/COLLECTOR.md step by step: slots with their colours, cells in their order, and both lists of slots.
+
+storage.py says what any collector may answer; this says what this one answers. Opening edges are put in by rising pairs
+of their ends. A new cell goes in front of its owner's, a slot in front of its list; a new vertex takes the first slot
+that is free.
+"""
+
+from models.graph import MAKES, NONE_LEFT, Graph, gained
+from models.reading import line_of
+
+
+class Slot:
+    """A slot in use: its vertex, its colour, and the serials to which it has cells."""
+
+    def __init__(self, serial, colour):
+        self.serial, self.colour, self.cells = serial, colour, []
+
+
+class Store:
+    """The slots, each None if it is free; `where` has the place of each vertex that is held."""
+
+    def __init__(self, config):
+        count = len(config["principals"])
+        self.slots = [Slot(place + 1, "white") if place < count else None for place in range(config["slots"])]
+        self.where = {serial: serial - 1 for serial in range(1, count + 1)}
+        self.free = list(range(count, len(self.slots)))
+        self.grey, self.phase, self.at = [], "idle", 0
+        # The slot under scan, and those of its cells that are not passed.
+        self.scanned, self.ahead = None, []
+        for start, end in sorted((start, end) for start, _, end in config["edges"]):
+            self.slots[self.where[start]].cells.insert(0, end)
+        self.cells = config["cells"] - len(config["edges"])
+
+    def link(self, start, end):
+        """A new edge."""
+        self.slots[self.where[start]].cells.insert(0, end)
+        self.cells -= 1
+
+    def unlink(self, start, end):
+        """An edge without rights goes; if the cursor is at it, the cursor moves on."""
+        slot = self.slots[self.where[start]]
+        slot.cells.remove(end)
+        if slot is self.scanned and end in self.ahead:
+            self.ahead.remove(end)
+        self.cells += 1
+
+    def make(self, start, serial):
+        """A new vertex, with an edge to it."""
+        place = self.free.pop(0)
+        colour = "black" if self.phase == "sweep" and place >= self.at else "white"
+        self.slots[place], self.where[serial] = Slot(serial, colour), place
+        self.link(start, serial)
+
+    def shade(self, serial):
+        slot = self.slots[self.where[serial]]
+        if slot.colour == "white":
+            slot.colour = "grey"
+            self.grey.insert(0, slot)
+
+    def step(self, principals, pending):
+        """One step of the collector: whether it ended a cycle, and how many slots it freed."""
+        return {"idle": self.start, "mark": self.mark, "sweep": self.sweep}[self.phase](principals, pending)
+
+    def start(self, principals, _):
+        for serial in sorted(principals, reverse=True):
+            self.shade(serial)
+        self.phase = "mark"
+        return False, 0
+
+    def mark(self, _, pending):
+        targets = [serial for _, serial in sorted(pending.items())]
+        white = [serial for serial in targets if self.slots[self.where[serial]].colour == "white"]
+        if self.scanned and self.ahead:
+            self.shade(self.ahead.pop(0))
+        elif self.scanned:
+            self.scanned.colour, self.scanned = "black", None
+        elif self.grey:
+            self.scanned = self.grey.pop(0)
+            self.ahead = list(self.scanned.cells)
+        elif white:
+            self.shade(white[0])
+        else:
+            self.phase, self.at = "sweep", 0
+            parked = {slot.serial for slot in self.slots if slot and slot.colour == "white"}
+            self.where = {serial: place for serial, place in self.where.items() if serial not in parked}
+        return False, 0
+
+    def sweep(self, *_):
+        if self.at == len(self.slots):
+            self.phase = "idle"
+            return True, 0
+        slot, freed = self.slots[self.at], 0
+        if slot and slot.colour == "white" and slot.cells:
+            slot.cells.pop(0)
+            self.cells += 1
+            return False, 0
+        if slot and slot.colour == "white":
+            self.slots[self.at], freed = None, 1
+            self.free.insert(0, self.at)
+        elif slot and slot.colour == "black":
+            slot.colour = "white"
+        self.at += 1
+        return False, freed
+
+
+class Course:
+    """A run so far, whose every answer is known. `problem` takes each event in turn with the line that answered it."""
+
+    def __init__(self, config):
+        self.graph, self.store = Graph(config), Store(config)
+
+    def problem(self, event, answer):
+        """What is wrong with the answer to an event; nothing if it is right."""
+        wanted = line_of(self.answer(event))
+        return None if answer == wanted else "wanted " + wanted.decode()
+
+    def answer(self, event):
+        """The answer to an event, and the change that it makes."""
+        if event["op"] in ("collect", "cycle"):
+            return self.noted(event["op"])
+        refusal = self.graph.judged(event)
+        if refusal:
+            return refusal
+        full = self.full(event)
+        return {"full": full} if full else self.carried_out(event)
+
+    def full(self, event):
+        """Why there is no room for an event that is carried out otherwise; nothing if there is."""
+        graph, op = self.graph, event["op"]
+        if op in MAKES and graph.next == NONE_LEFT:
+            return "serials"
+        if op in MAKES and not self.store.free:
+            return "slots"
+        gains = op in ("take", "grant") and not graph.label(*gained(graph.seats[event["seat"]], event))
+        return "cells" if (gains or op in MAKES) and not self.store.cells else None
+
+    def carried_out(self, event):
+        """The answer to an event that is neither refused nor denied nor full."""
+        before = self.graph.pairs()
+        answer = self.graph.carried_out(event)
+        after = self.graph.pairs()
+        for start, end in before - after:
+            self.store.unlink(start, end)
+        for start, end in after - before:
+            (self.store.make if event["op"] in MAKES else self.store.link)(start, end)
+        if answer.get("shaded") is not None:
+            self.store.shade(answer["shaded"])
+        return answer
+
+    def noted(self, op):
+        """The answer of the collector."""
+        names, pending = self.graph.names.values(), self.graph.pending
+        ended, freed = self.store.step(names, pending)
+        if op == "collect":
+            return {"ended": ended, "freed": freed, "phase": self.store.phase}
+        steps = 1
+        while not ended:
+            ended, more = self.store.step(names, pending)
+            freed, steps = freed + more, steps + 1
+        return {"freed": freed, "steps": steps}
