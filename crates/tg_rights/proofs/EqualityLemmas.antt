@@ -51,6 +51,8 @@ same_command (command.Enrol n r) (command.Enrol m s) e =
     let parts = and_parts (names.ghosts.eq n m) (nat_eq (number r) (number s)) e in
     λ i. command.Enrol (same_text n m parts.0 i) (same_letters r s parts.1 i)
 same_command command.Retire command.Retire e = refl
+same_command (command.Assume a) (command.Assume b) e = grind (arith, nat_tests)
+same_command command.Leave command.Leave e = refl
 same_command a b e = absurd (false≢true e)
 
 same_rule : (a b : Rule) → rules.ghosts.eq a b ≡ true → a ≡ b
