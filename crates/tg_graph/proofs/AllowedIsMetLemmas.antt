@@ -8,10 +8,10 @@ use Rattle.tg_rights.specs.declared.command.Command.{Command}
 use Rattle.tg_rights.specs.declared.outcome.Cause.{Cause}
 use Rattle.tg_rights.specs.declared.outcome.Cause.TheVariants as cause
 use Rattle.tg_graph.specs.declared.rules.Need.{Need}
-use Rattle.tg_graph.specs.Protection.{Protection, IsDocument, kind_of}
+use Rattle.tg_graph.specs.Protection.{Protection, has_retired, kind_of}
 use Rattle.tg_graph.specs.Terms.{terms}
-use Rattle.tg_graph.specs.Rules.{AllPass, Allowed, Check, checks, first_failure, is_document, is_met, lack, misfit, missing, unless}
-use Rattle.tg_graph.specs.Laws.{AllMet, IsDocumentWhereAsked, Meets}
+use Rattle.tg_graph.specs.Rules.{AllPass, Allowed, Check, checks, first_failure, is_met, is_of_kind, lack, misfit, missing, not_of_kind, unless}
+use Rattle.tg_graph.specs.Laws.{AllMet, IsAsWanted, Meets}
 use Rattle.tg_graph.specs.Names.{has_serial}
 use Rattle.tg_graph.proofs.RollLemmas.{may_be_named, member_finds, member_found, not_crowded, not_taken}
 
@@ -28,13 +28,16 @@ pub need_met : (G : Protection) (n : Need) (ns : List Need) → missing G (n ∷
 need_met G n ns e =
     elim (is_met G n) as (λ b. cond b (missing G ns) (Some (lack G n)) ≡ None → (b ≡ true) × (missing G ns ≡ None)) [ true ↦ λ e. (refl, e) | false ↦ λ e. absurd (cc e) ] e
 
-document_kind : (k : Option Kind) → is_document k ≡ true → k ≡ Some kind.Document
-document_kind None e = absurd (cc e)
-document_kind (Some kind.Subject) e = absurd (cc e)
-document_kind (Some kind.Document) e = refl
+kind_is : (k : Option Kind) (wanted : Kind) → is_of_kind k wanted ≡ true → k ≡ Some wanted
+kind_is None wanted e = absurd (cc e)
+kind_is (Some kind.Subject) kind.Subject e = refl
+kind_is (Some kind.Subject) kind.Document e = absurd (cc e)
+kind_is (Some kind.Document) kind.Subject e = absurd (cc e)
+kind_is (Some kind.Document) kind.Document e = refl
 
-document_there : (G : Protection) (v : ℕ) → misfit G (Some v) ≡ None → IsDocument G v
-document_there G v e = document_kind (kind_of G v) (unless_passes (is_document (kind_of G v)) (cause.NotDocument v) e)
+is_itself : (wanted : Kind) → is_of_kind (Some wanted) wanted ≡ true
+is_itself kind.Subject = refl
+is_itself kind.Document = refl
 
 all_met : (G : Protection) (ns : List Need) → missing G ns ≡ None → AllMet G ns
 all_met G [] e = tt
@@ -44,13 +47,22 @@ pub none_missing : (G : Protection) (ns : List Need) → AllMet G ns → missing
 none_missing G [] all = refl
 none_missing G (n ∷ ns) all = ap (λ b. cond b (missing G ns) (Some (lack G n))) all.0 ∙ none_missing G ns all.1
 
-document_asked : (G : Protection) (asked : Option ℕ) → misfit G asked ≡ None → IsDocumentWhereAsked G asked
-document_asked G None e = tt
-document_asked G (Some v) e = document_there G v e
+as_wanted : (G : Protection) (wants : Option (ℕ × Kind)) → misfit G wants ≡ None → IsAsWanted G wants
+as_wanted G None e = tt
+as_wanted G (Some w) e = kind_is (kind_of G w.0) w.1 (unless_passes (is_of_kind (kind_of G w.0) w.1) (not_of_kind w.0 w.1) e)
 
-no_misfit : (G : Protection) (asked : Option ℕ) → IsDocumentWhereAsked G asked → misfit G asked ≡ None
+no_misfit : (G : Protection) (wants : Option (ℕ × Kind)) → IsAsWanted G wants → misfit G wants ≡ None
 no_misfit G None h = refl
-no_misfit G (Some v) h = ap (λ k. unless (is_document k) (cause.NotDocument v)) h
+no_misfit G (Some w) h = ap (λ k. unless (is_of_kind k w.1) (not_of_kind w.0 w.1)) h ∙ ap (λ b. unless b (not_of_kind w.0 w.1)) (is_itself w.1)
+
+not_retired : (retired late : Bool) → (not retired || late) ≡ true → late ≡ false → retired ≡ false
+not_retired true late e is = absurd (cc (e, is))
+not_retired false late e is = refl
+
+may_ask : (retired late : Bool) → (late ≡ false → retired ≡ false) → (not retired || late) ≡ true
+may_ask true true h = refl
+may_ask true false h = absurd (cc (h refl))
+may_ask false late h = refl
 
 implied : (a b : Bool) → (not a || b) ≡ true → a ≡ true → b ≡ true
 implied true b e asked = e
@@ -65,11 +77,11 @@ meets G x c a =
     let p = all_pass (checks G x (terms x c)) a in
     let t = terms x c in
     record {
-      unretired = not-true _ (unless_passes _ cause.Retired p.0);
+      unretired = not_retired (has_retired G x) t.for_retired (unless_passes _ cause.Retired p.0);
       named = unless_passes _ cause.Empty p.1.0;
       apart = unless_passes _ cause.NotDistinct p.1.1.0;
       met = all_met G t.needs p.1.1.1.0;
-      document = document_asked G t.document p.1.1.1.1.0;
+      wants = as_wanted G t.wants p.1.1.1.1.0;
       principal = λ asked. member_found G.names x (implied t.principal (has_serial G.names x) (unless_passes _ cause.NotPrincipal p.1.1.1.1.1.0) asked);
       name = may_be_named G.names t.name (not-true _ (unless_passes _ cause.NameTaken p.1.1.1.1.1.1.0)) (not-true _ (unless_passes _ cause.Crowded p.1.1.1.1.1.1.1.0));
     }
@@ -78,11 +90,11 @@ pub allowed : (G : Protection) (x : ℕ) (c : Command) → Meets G x (terms x c)
 allowed G x c m =
     let t = terms x c in
     λ i. first_failure (
-    unless (not (m.unretired i)) cause.Retired
+    unless (may_ask (has_retired G x) t.for_retired m.unretired i) cause.Retired
     ∷ unless (m.named i) cause.Empty
     ∷ unless (m.apart i) cause.NotDistinct
     ∷ none_missing G t.needs m.met i
-    ∷ no_misfit G t.document m.document i
+    ∷ no_misfit G t.wants m.wants i
     ∷ unless (implies t.principal (has_serial G.names x) (λ asked. member_finds G.names x (m.principal asked)) i) cause.NotPrincipal
     ∷ unless (not (not_taken G.names t.name m.name i)) cause.NameTaken
     ∷ unless (not (not_crowded G.names t.name m.name i)) cause.Crowded

@@ -43,6 +43,7 @@ module _ (G H : Protection) (x : ℕ) (in_G : IsGraph G) (in_H : IsGraph H) (own
   replied (effect.Tells over) h = answered_alike G H x own (effect.Tells over) in_G in_H h refl
   replied (effect.Lists at) h = answered_alike G H x own (effect.Lists at) in_G in_H h refl
   replied effect.Retires h = refl
+  replied (effect.Acts agent) h = refl
 
   -- what is allowed in one graph and full in the other is a create
   full_or_new : (K : Protection) (e : Does) (w : _) → is_new e ≡ true → SameReply (answered K e) (reply.Full w) × SameReply (reply.Full w) (answered K e)
@@ -53,6 +54,7 @@ module _ (G H : Protection) (x : ℕ) (in_G : IsGraph G) (in_H : IsGraph H) (own
   full_or_new K (effect.Tells over) w e = absurd (cc e)
   full_or_new K (effect.Lists at) w e = absurd (cc e)
   full_or_new K effect.Retires w e = absurd (cc e)
+  full_or_new K (effect.Acts agent) w e = absurd (cc e)
 
   told_alike : (c : Command) (o p : Outcome) → PlainlyDecided G x c o → PlainlyDecided H x c p → SameReply (reply_of G x c o) (reply_of H x c p)
   told_alike c outcome.Allowed outcome.Allowed d e = replied (terms x c).does (entitled G (Reaches G x) (reaches_on G x) x (itself G H x own) c d.0)
@@ -97,6 +99,7 @@ module _ (G H : Protection) (viewers : set.FinSet nat_cmp) (x : ℕ) (in_G : IsG
   told_same (effect.Tells over) h = answered_alike G H x own (effect.Tells over) in_G in_H h refl
   told_same (effect.Lists at) h = answered_alike G H x own (effect.Lists at) in_G in_H h refl
   told_same effect.Retires h = refl
+  told_same (effect.Acts agent) h = refl
 
   after_next : (e : Does) → (done G x e).next ≡ (done H x e).next
   after_next (effect.Joins from α to) = next
@@ -106,6 +109,7 @@ module _ (G H : Protection) (viewers : set.FinSet nat_cmp) (x : ℕ) (in_G : IsG
   after_next (effect.Tells over) = next
   after_next (effect.Lists at) = next
   after_next effect.Retires = next
+  after_next (effect.Acts agent) = next
 
   room : (c : Command) → (is_create x c ≡ true → G.next ≤ last_serial) → is_create x c ≡ true → last_serial < H.next → ⊥
   room c fits e past = let low : G.next ≤ last_serial = fits e in omega (arith, low, past, next)

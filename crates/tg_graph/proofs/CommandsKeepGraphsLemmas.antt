@@ -36,6 +36,7 @@ module _ (G : Protection) (x : ℕ) (g : IsGraph G) where
   done_stays x_in (effect.Tells over) h = g
   done_stays x_in (effect.Lists at) h = g
   done_stays x_in effect.Retires h = retired-IsGraph G x g x_in
+  done_stays x_in (effect.Acts agent) h = g
 
 pub graph_stays : (G : Protection) (x : ℕ) (c : Command) → IsGraph G → IsSubject G x → Allowed G x c → IsGraph (after G x c)
 graph_stays G x c g s a = let x_in = IsVertex-from_kind G x kind.Subject s in done_stays G x g x_in (terms x c).does (granted G x g x_in c a)
@@ -63,6 +64,7 @@ subject_left G x g (effect.Rewrites over text) v s = told (vertex G over) refl w
 subject_left G x g (effect.Tells over) v s = s
 subject_left G x g (effect.Lists at) v s = s
 subject_left G x g effect.Retires v s = s
+subject_left G x g (effect.Acts agent) v s = s
 
 pub subject_stays : (G : Protection) (x : ℕ) (c : Command) → IsGraph G → (v : ℕ) → IsSubject G v → IsSubject (after G x c) v
 subject_stays G x c g v s = subject_left G x g (terms x c).does v s

@@ -1,10 +1,11 @@
--- The terms of each command are consistent.
+-- The terms of each command are consistent, and one command is for those who have retired.
 use Rattle.std.proofs.Common.{◌≡◌, ℕ, ◌∷◌, [], Bool, true, false, cond, ◌==◌, refl, sym, inl, inr}
 use Rattle.std.proofs.lemmas.Bool.{not-true, and_parts, eqb-true, eq-eqb}
 use Rattle.tg_rights.specs.Letters.{take_alone}
 use Rattle.tg_rights.specs.declared.command.Command.{Command}
 use Rattle.tg_rights.specs.declared.command.Command.TheVariants as command
 use Rattle.tg_graph.specs.Terms.{terms, need}
+use Rattle.tg_graph.specs.Rules.{is_for_retired}
 use Rattle.tg_graph.specs.Deciding.{Follows, AskSome, IsNear, IsSound}
 
 flip : (x y : ℕ) → (x == y) ≡ false → (y == x) ≡ false
@@ -14,7 +15,7 @@ flip x y e = either _ refl where
   either false is = refl
 
 look_sound : (x at : ℕ) → IsSound x (terms x (command.Look at))
-look_sound x at = record { follows = follows; some = λ _. some; document = tt; covers = near } where
+look_sound x at = record { follows = follows; some = λ _. some; wants = tt; covers = near } where
   follows : Follows x (cond (at == x) [] (need x take_alone at ∷ []))
   follows = elim (at == x) as (λ b. Follows x (cond b [] (need x take_alone at ∷ []))) [ true ↦ tt | false ↦ refl ]
 
@@ -28,19 +29,34 @@ pub sound : (x : ℕ) (c : Command) → IsSound x (terms x c)
 sound x (command.Take α over from) = record {
   follows = (refl, inr refl);
   some = λ e. (refl, (not-true _ e, tt));
-  document = tt;
+  wants = tt;
   covers = (inl refl, inr (inl refl), refl, λ e. not-true _ (and_parts _ _ (and_parts _ _ e).0).0);
 }
 sound x (command.Grant α over to) = record {
   follows = (refl, inl refl);
   some = λ e. (refl, (not-true _ e, tt));
-  document = tt;
+  wants = tt;
   covers = (inr (inl refl), inr (inl refl), refl, λ e. flip over to (not-true _ (and_parts _ _ e).1));
 }
-sound x (command.Create k α) = record { follows = tt; some = λ _. tt; document = tt; covers = (refl, refl, tt) }
-sound x (command.Remove α over) = record { follows = refl; some = λ e. (not-true _ e, tt); document = tt; covers = (refl, refl) }
-sound x (command.Read over) = record { follows = refl; some = λ _. (refl, tt); document = inl refl; covers = inl refl }
-sound x (command.Write over text) = record { follows = refl; some = λ _. (refl, tt); document = inl refl; covers = refl }
+sound x (command.Create k α) = record { follows = tt; some = λ _. tt; wants = tt; covers = (refl, refl, tt) }
+sound x (command.Remove α over) = record { follows = refl; some = λ e. (not-true _ e, tt); wants = tt; covers = (refl, refl) }
+sound x (command.Read over) = record { follows = refl; some = λ _. (refl, tt); wants = inl refl; covers = inl refl }
+sound x (command.Write over text) = record { follows = refl; some = λ _. (refl, tt); wants = inl refl; covers = refl }
 sound x (command.Look at) = look_sound x at
-sound x (command.Enrol name α) = record { follows = tt; some = λ _. tt; document = tt; covers = (refl, refl, refl) }
-sound x command.Retire = record { follows = tt; some = λ _. tt; document = tt; covers = refl }
+sound x (command.Enrol name α) = record { follows = tt; some = λ _. tt; wants = tt; covers = (refl, refl, refl) }
+sound x command.Retire = record { follows = tt; some = λ _. tt; wants = tt; covers = refl }
+sound x (command.Assume agent) = record { follows = refl; some = λ _. (refl, tt); wants = inl refl; covers = refl }
+sound x command.Leave = record { follows = tt; some = λ _. tt; wants = tt; covers = tt }
+
+pub only_leave : (x : ℕ) (c : Command) → is_for_retired x c ≡ true → c ≡ command.Leave
+only_leave x (command.Take α over from) e = absurd (cc e)
+only_leave x (command.Grant α over to) e = absurd (cc e)
+only_leave x (command.Create k α) e = absurd (cc e)
+only_leave x (command.Remove α over) e = absurd (cc e)
+only_leave x (command.Read over) e = absurd (cc e)
+only_leave x (command.Write over text) e = absurd (cc e)
+only_leave x (command.Look at) e = absurd (cc e)
+only_leave x (command.Enrol name α) e = absurd (cc e)
+only_leave x command.Retire e = absurd (cc e)
+only_leave x (command.Assume agent) e = absurd (cc e)
+only_leave x command.Leave e = refl

@@ -17,6 +17,7 @@ pub mod VertexLemmas
 -- Lemma files of this crate's own proofs.
 mod AllowedIsMetLemmas
 mod AnswersAgreeLemmas
+mod AssumesAndLeavesLemmas
 mod ComeAndGoLemmas
 mod EdgesAreListedLemmas
 mod EdgesOfLemmas

@@ -3,6 +3,7 @@ use Rattle.std.proofs.Common.{◌≡◌, ℕ, ◌∷◌, [], ◌++◌, List, tru
 use Rattle.std.specs.Prelude.{Option}
 use Rattle.std.specs.Option.{option_map}
 use Rattle.tg_rights.specs.Letters.{Letters, without, includes}
+use Rattle.tg_rights.specs.declared.kind.Kind.{Kind}
 use Rattle.tg_rights.specs.declared.kind.Kind.TheVariants as kind
 use Rattle.tg_rights.specs.declared.command.Command.{Command}
 use Rattle.tg_rights.specs.declared.outcome.Cause.TheVariants as cause
@@ -12,8 +13,8 @@ use Rattle.tg_graph.specs.Protection.{Protection, IsEdge, label}
 use Rattle.tg_graph.specs.Names.{has_serial, is_crowded, is_taken}
 use Rattle.tg_graph.specs.declared.member.Member.{Member}
 use Rattle.tg_graph.specs.Terms.{Terms, terms}
-use Rattle.tg_graph.specs.Rules.{Check, Judged, checks, first_failure, later_checks, is_document, is_met, lack, misfit, missing, unless}
-use Rattle.tg_graph.specs.Deciding.{AskSome, Follows, IsSound, LeadTo, DocumentNear}
+use Rattle.tg_graph.specs.Rules.{Check, Judged, checks, first_failure, later_checks, is_met, is_of_kind, lack, misfit, missing, not_of_kind, unless}
+use Rattle.tg_graph.specs.Deciding.{AskSome, Follows, IsSound, LeadTo, WantedNear}
 use Rattle.tg_graph.specs.Paths.{Agree, Leads, Reaches}
 use Rattle.tg_graph.proofs.ExactlyOneOutcomeLemmas.{outcome_by, verdict, Judged-verdict, verdict-Judged}
 use Rattle.tg_graph.proofs.AllowedIsMetLemmas.{unless_passes}
@@ -82,11 +83,11 @@ module _ (G H : Protection) (x : ℕ) (agree : Agree G H x) where
       (λ _. refl))
   same_missing (n ∷ m ∷ o ∷ ns) follows some = absurd follows
 
-  same_misfit : (asked : Option ℕ) (ns : List Need) → DocumentNear ns asked → ((v : ℕ) → LeadTo ns v → Reaches G x v) → misfit G asked ≡ misfit H asked
+  same_misfit : (wants : Option (ℕ × Kind)) (ns : List Need) → WantedNear ns wants → ((v : ℕ) → LeadTo ns v → Reaches G x v) → misfit G wants ≡ misfit H wants
   same_misfit None ns near reached = refl
-  same_misfit (Some y) ns near reached =
-      let path = reached y near in
-      ap (λ v. unless (is_document (option_map (λ e. e.kind) v)) (cause.NotDocument y)) (agree.vertices path.0 y path.1)
+  same_misfit (Some w) ns near reached =
+      let path = reached w.0 near in
+      ap (λ v. unless (is_of_kind (option_map (λ e. e.kind) v) w.1) (not_of_kind w.0 w.1)) (agree.vertices path.0 w.0 path.1)
 
   -- what is asked of the list of the principals
   same_roll : (t : Terms) → ChecksAlike (roll_checks G.names x t) (roll_checks H.names x t)
@@ -106,7 +107,7 @@ module _ (G H : Protection) (x : ℕ) (agree : Agree G H x) where
       λ apart. (
         same_missing t.needs s.follows some,
         λ met. (
-          same_misfit t.document t.needs s.document (led G (Reaches G x) (reaches_on G x) x itself t.needs s.follows some met),
+          same_misfit t.wants t.needs s.wants (led G (Reaches G x) (reaches_on G x) x itself t.needs s.follows some met),
           λ fit.
               same_roll t,
         ),
@@ -115,7 +116,7 @@ module _ (G H : Protection) (x : ℕ) (agree : Agree G H x) where
   )
 
   same_checks : (t : Terms) → IsSound x t → ChecksAlike (checks G x t) (checks H x t)
-  same_checks t s = (ap (λ b. unless (not b) cause.Retired) agree.retired, λ unretired. same_later t s)
+  same_checks t s = (ap (λ b. unless (not b || t.for_retired) cause.Retired) agree.retired, λ unretired. same_later t s)
 
   pub same_verdict : (c : Command) → verdict G x c ≡ verdict H x c
   same_verdict c = ap (outcome_by c) (same_failure (checks G x (terms x c)) (checks H x (terms x c)) (same_checks (terms x c) (sound x c)))

@@ -199,6 +199,7 @@ module _ (G H : Protection) (Known : ℕ → Type 0) (alike : Alike G H Known) (
   known_after (effect.Tells over) v = Known v
   known_after (effect.Lists at) v = Known v
   known_after effect.Retires v = Known v
+  known_after (effect.Acts agent) v = Known v
 
   new_too : (k : Kind) (α : Letters) (name : Option (List ℕ)) → IsGraph H → G.next ≡ H.next → Alike (done G x (effect.Makes k α name)) (done H x (effect.Makes k α name)) (known_after (effect.Makes k α name))
   unfolding grown
@@ -220,6 +221,7 @@ module _ (G H : Protection) (Known : ℕ → Type 0) (alike : Alike G H Known) (
   done_alike (effect.Tells over) in_H next h = alike
   done_alike (effect.Lists at) in_H next h = alike
   done_alike effect.Retires in_H next h = retired_too G H Known alike x
+  done_alike (effect.Acts agent) in_H next h = alike
 
   pub alike_after : (c : Command) → IsGraph H → G.next ≡ H.next → Allowed G x c → Alike (after G x c) (after H x c) (known_after (terms x c).does)
   alike_after c in_H next a = done_alike (terms x c).does in_H next (entitled G Known alike.step x x_known c a)
@@ -232,6 +234,7 @@ module _ (G H : Protection) (Known : ℕ → Type 0) (alike : Alike G H Known) (
   still_known (effect.Tells over) v k = k
   still_known (effect.Lists at) v k = k
   still_known effect.Retires v k = k
+  still_known (effect.Acts agent) v k = k
 
 -- who has retired in both or in neither, and still has or has not
 pub with_text-retired : (G : Protection) (y : ℕ) (text : List ℕ) (o : Option Vertex) → (with_text G y text o).retired ≡ G.retired
@@ -249,6 +252,7 @@ done-retired G H x v same (effect.Tells over) = same
 done-retired G H x v same (effect.Lists at) = same
 done-retired G H x v same effect.Retires =
     set.contains-insert nat_cmp_total G.retired x v ∙ ap (λ b. eq_by_cmp nat_cmp v x || b) same ∙ sym (set.contains-insert nat_cmp_total H.retired x v)
+done-retired G H x v same (effect.Acts agent) = same
 
 -- what the viewers reach
 module _ (G H : Protection) (viewers : set.FinSet nat_cmp) (x : ℕ) (x_in : set.contains viewers x ≡ true) (agree : (v : ℕ) → set.contains viewers v ≡ true → Agree G H v) where
@@ -305,6 +309,7 @@ module _ (G H : Protection) (part : IsPart G H) where
         retired_left (effect.Tells over) = part.retired
         retired_left (effect.Lists at) = part.retired
         retired_left effect.Retires = ap (λ rs. set.insert rs x) part.retired
+        retired_left (effect.Acts agent) = part.retired
 
         told_vertex : (y : ℕ) (text : List ℕ) (o : Option Vertex) → vertex H y ≡ o → (v : ℕ) → IsVertex (with_text H y text o) v → IsVertex H v
         told_vertex y text None is v h = h
@@ -325,6 +330,7 @@ module _ (G H : Protection) (part : IsPart G H) where
         into (effect.Tells over) v h = h
         into (effect.Lists at) v h = h
         into effect.Retires v h = h
+        into (effect.Acts agent) v h = h
 
         out : (e : Does) (v : ℕ) → known_after G H (IsVertex H) part_alike x x_there x_in in_G e v → IsVertex (done H x e) v
         out (effect.Joins from α to) v h = h
@@ -335,3 +341,4 @@ module _ (G H : Protection) (part : IsPart G H) where
         out (effect.Tells over) v h = h
         out (effect.Lists at) v h = h
         out effect.Retires v h = h
+        out (effect.Acts agent) v h = h

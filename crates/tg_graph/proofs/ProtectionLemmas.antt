@@ -7,12 +7,12 @@ use Rattle.tg_rights.specs.Letters.{Letters, Right, read, write, take, grant, ha
 use Rattle.tg_rights.specs.declared.command.Command.{Command}
 use Rattle.tg_graph.specs.declared.rules.Need.{Need}
 use Rattle.tg_graph.specs.Terms as effect
-use Rattle.tg_graph.specs.Protection.{Protection, IsGraph, IsVertex, IsDocument, IsEdge, label}
+use Rattle.tg_graph.specs.Protection.{Protection, IsGraph, IsSubject, IsVertex, IsDocument, IsEdge, label}
 use Rattle.tg_graph.specs.Terms.{Does, Terms, terms}
 use Rattle.tg_graph.specs.Rules.{Allowed, is_met, missing, names_rights}
-use Rattle.tg_graph.specs.Deciding.{AskSome, Covers, Follows, IsNear, IsSound, IsSubjectIfNamed, LeadTo, DocumentNear}
+use Rattle.tg_graph.specs.Deciding.{AskSome, Covers, Follows, IsNear, IsSound, IsSubjectIfNamed, LeadTo, WantedNear}
 use Rattle.tg_graph.specs.Names.{IsMember, MayBeNamed}
-use Rattle.tg_graph.specs.Laws.{AllMet, IsDocumentWhereAsked, Meets}
+use Rattle.tg_graph.specs.Laws.{AllMet, IsAsWanted, Meets}
 use Rattle.tg_graph.proofs.AllowedIsMetLemmas.{meets, need_met, none_missing}
 use Rattle.tg_graph.proofs.DecidingLemmas.{sound}
 use Rattle.tg_rights.proofs.LettersLemmas.{some_right}
@@ -65,6 +65,8 @@ module _ (G : Protection) (Known : ℕ → Type 0) (step : (v z : ℕ) → Known
   Entitled (effect.Tells over) = Known over
   Entitled (effect.Lists at) = Known at
   Entitled effect.Retires = IsMember G.names x
+  Entitled (effect.Acts None) = Unit {0}
+  Entitled (effect.Acts (Some agent)) = Known agent × IsSubject G agent
 
   entitled_by : (t : Terms) → IsSound x t → Meets G x t → (e : Does) → Covers x t e → Entitled e
   entitled_by t s p e covers = by e covers where
@@ -83,12 +85,17 @@ module _ (G : Protection) (Known : ℕ → Type 0) (step : (v z : ℕ) → Known
     by (effect.Makes k α name) c = (some α c.0, c.2, subst (MayBeNamed G.names) c.1 p.name)
     by (effect.Drops α over) c = ((subst (AllMet G) c.1 p.met).0, some α c.0)
     by (effect.Rewrites over text) c = (
-      at over (subst (DocumentNear t.needs) c s.document),
-      subst (IsDocumentWhereAsked G) c p.document,
+      at over (subst (WantedNear t.needs) c s.wants),
+      subst (IsAsWanted G) c p.wants,
     )
     by (effect.Tells over) c = at over c
     by (effect.Lists at) c = near at c
     by effect.Retires c = p.principal c
+    by (effect.Acts None) c = tt
+    by (effect.Acts (Some agent)) c = (
+      at agent (subst (WantedNear t.needs) c s.wants),
+      subst (IsAsWanted G) c p.wants,
+    )
 
   pub entitled : (c : Command) → Allowed G x c → Entitled (terms x c).does
   entitled c a = entitled_by (terms x c) (sound x c) (meets G x c a) (terms x c).does (sound x c).covers

@@ -28,13 +28,15 @@ shown (code.Rewrites over) text name = effect.Rewrites over text
 shown (code.Tells over) text name = effect.Tells over
 shown (code.Lists at) text name = effect.Lists at
 shown code.Retires text name = effect.Retires
+shown (code.Acts agent) text name = effect.Acts agent
 
 -- what was read off a command are its terms
 pub record Shows (r : Read) (text : List ℕ) (given : Option (List ℕ)) (t : Terms) : Type 0 where
+  pub for_retired : r.asked.for_retired ≡ t.for_retired
   pub names : r.asked.names ≡ t.names
   pub apart : r.asked.apart ≡ t.apart
   pub needs : listed r.asked.first r.asked.then ≡ t.needs
-  pub document : r.asked.document ≡ t.document
+  pub wants : r.asked.wants ≡ t.wants
   pub principal : r.asked.principal ≡ t.principal
   pub name : given ≡ t.name
   pub does : shown r.does text given ≡ t.does
@@ -74,9 +76,10 @@ module _ {P : Type 0} where
 abbrev pub IsNear : ℕ → List Need → ℕ → Type 0
 IsNear x ns v = (v ≡ x) ⊎ LeadTo ns v
 
-abbrev pub DocumentNear : List Need → Option ℕ → Type 0
-DocumentNear ns None = Unit {0}
-DocumentNear ns (Some v) = LeadTo ns v
+-- the needs lead to the vertex that has to be of a kind
+abbrev pub WantedNear : List Need → Option (ℕ × Kind) → Type 0
+WantedNear ns None = Unit {0}
+WantedNear ns (Some w) = LeadTo ns w.0
 
 -- a principal is a subject
 abbrev pub IsSubjectIfNamed : Kind → Option (List ℕ) → Type 0
@@ -88,26 +91,29 @@ abbrev pub Covers : ℕ → Terms → Does → Type 0
 Covers x t (effect.Joins from α to) = IsNear x t.needs from × LeadTo t.needs to × (t.names ≡ Some α) × (t.apart ≡ true → (from == to) ≡ false)
 Covers x t (effect.Makes k α name) = (t.names ≡ Some α) × (t.name ≡ name) × IsSubjectIfNamed k name
 Covers x t (effect.Drops α over) = (t.names ≡ Some α) × (t.needs ≡ need x α over ∷ [])
-Covers x t (effect.Rewrites over text) = t.document ≡ Some over
+Covers x t (effect.Rewrites over text) = t.wants ≡ Some (over, kind.Document)
 Covers x t (effect.Tells over) = LeadTo t.needs over
 Covers x t (effect.Lists at) = IsNear x t.needs at
 Covers x t effect.Retires = t.principal ≡ true
+Covers x t (effect.Acts None) = Unit {0}
+Covers x t (effect.Acts (Some agent)) = t.wants ≡ Some (agent, kind.Subject)
 
 -- the terms of a command of x are consistent
 pub record IsSound (x : ℕ) (t : Terms) : Type 0 where
   pub follows : Follows x t.needs
   pub some : names_rights t.names ≡ true → AskSome t.needs
-  pub document : DocumentNear t.needs t.document
+  pub wants : WantedNear t.needs t.wants
   pub covers : Covers x t t.does
 
 -- what was read off a command of x is what its terms ask, and is consistent
 pub record Asks (x : ℕ) (a : Asked) (given : Option (List ℕ)) (t : Terms) : Type 0 where
+  pub for_retired : a.for_retired ≡ t.for_retired
   pub names : a.names ≡ t.names
   pub apart : a.apart ≡ t.apart
   pub needs : listed a.first a.then ≡ t.needs
-  pub document : a.document ≡ t.document
+  pub wants : a.wants ≡ t.wants
   pub principal : a.principal ≡ t.principal
   pub name : given ≡ t.name
   pub follows : Follows x (listed a.first a.then)
   pub some : names_rights a.names ≡ true → AskSome (listed a.first a.then)
-  pub near : (v : ℕ) → a.document ≡ Some v → LeadTo (listed a.first a.then) v
+  pub near : (v : ℕ) (k : Kind) → a.wants ≡ Some (v, k) → LeadTo (listed a.first a.then) v

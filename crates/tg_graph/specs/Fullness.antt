@@ -36,6 +36,7 @@ NewEdge G (effect.Rewrites over text) = ⊥
 NewEdge G (effect.Tells over) = ⊥
 NewEdge G (effect.Lists at) = ⊥
 NewEdge G effect.Retires = ⊥
+NewEdge G (effect.Acts agent) = ⊥
 
 abbrev pub MakesEdge : Protection → ℕ → Command → Type 0
 MakesEdge G x c = NewEdge G (terms x c).does

@@ -4,8 +4,9 @@ use Rattle.std.specs.Ordering.{nat_cmp}
 use Rattle.std.specs.FinMap.Entries.{is_sorted}
 use Rattle.std.specs.FinMap as map
 use Rattle.std.specs.FinSet as set
-use Rattle.tg_rights.specs.Letters.{Letters, has, joined as joined_rights, without, includes, is_none}
+use Rattle.tg_rights.specs.Letters.{Letters, take, grant, has, joined as joined_rights, without, includes, is_none}
 use Rattle.tg_rights.specs.Membership.{Contains}
+use Rattle.tg_rights.specs.declared.kind.Kind.{Kind}
 use Rattle.tg_rights.specs.declared.kind.Kind.TheVariants as kind
 use Rattle.tg_rights.specs.declared.limits.TheConstants.{MAX_CELLS, MAX_PRINCIPALS, MAX_SLOTS}
 use Rattle.tg_rights.specs.declared.command.Command.{Command}
@@ -19,7 +20,7 @@ use Rattle.tg_graph.specs.declared.member.Member.{Member}
 use Rattle.tg_graph.specs.declared.vertex.Vertex.{Vertex}
 use Rattle.tg_graph.specs.Names.{IsMember, MayBeNamed, same_name, with_member}
 use Rattle.tg_graph.specs.Triples.{Triple, edge}
-use Rattle.tg_graph.specs.Protection.{IsDocument, IsEdge, IsGraph, IsSubject, IsVertex, Protection, has_retired, label, named, vertex}
+use Rattle.tg_graph.specs.Protection.{IsEdge, IsGraph, IsSubject, IsVertex, Protection, has_retired, kind_of, label, named, vertex}
 use Rattle.tg_graph.specs.Opening.{Edge, first_fault, has_twice, is_principal, principal_count, opening, same_pair}
 use Rattle.tg_graph.specs.Fullness.{vertex_count, edge_count, edges_at}
 use Rattle.tg_graph.specs.Paths.{Agree, IsPart}
@@ -28,6 +29,7 @@ use Rattle.tg_graph.specs.Rules.{Check, AllPass, Judged, Allowed, Applies, after
 use Rattle.tg_graph.specs.Terms.{Terms, terms}
 use Rattle.tg_graph.specs.declared.rules.Need.{Need}
 use Rattle.tg_rights.specs.declared.outcome.Cause.{Cause}
+use Rattle.tg_rights.specs.declared.outcome.Cause.TheVariants as cause
 
 -- each command is either allowed or denied for one cause
 abbrev pub ExactlyOneOutcome : Type 0
@@ -39,17 +41,18 @@ abbrev pub AllMet : Protection → List Need → Type 0
 AllMet G [] = Unit {0}
 AllMet G (n ∷ ns) = IsTrue (includes (label G n.from n.to) n.rights) × AllMet G ns
 
-abbrev pub IsDocumentWhereAsked : Protection → Option ℕ → Type 0
-IsDocumentWhereAsked G None = Unit {0}
-IsDocumentWhereAsked G (Some v) = IsDocument G v
+-- the vertex that has to be of a kind is
+abbrev pub IsAsWanted : Protection → Option (ℕ × Kind) → Type 0
+IsAsWanted G None = Unit {0}
+IsAsWanted G (Some w) = kind_of G w.0 ≡ Some w.1
 
 -- what a rule asks of x is there
 pub record Meets (G : Protection) (x : ℕ) (t : Terms) : Type 0 where
-  pub unretired : has_retired G x ≡ false
+  pub unretired : t.for_retired ≡ false → has_retired G x ≡ false
   pub named : IsTrue (names_rights t.names)
   pub apart : IsTrue t.apart
   pub met : AllMet G t.needs
-  pub document : IsDocumentWhereAsked G t.document
+  pub wants : IsAsWanted G t.wants
   pub principal : t.principal ≡ true → IsMember G.names x
   pub name : MayBeNamed G.names t.name
 
@@ -98,6 +101,25 @@ pub record ComeAndGo (G : Protection) (x : ℕ) : Type 0 where
 
 abbrev pub PrincipalsComeAndGo : Type 0
 PrincipalsComeAndGo = (G : Protection) (x : ℕ) → IsGraph G → ComeAndGo G x
+
+-- x may act for the agent
+pub record MayAssume (G : Protection) (x agent : ℕ) : Type 0 where
+  pub unretired : has_retired G x ≡ false
+  pub apart : x ≢ agent
+  pub has_take : has (label G x agent) take ≡ true
+  pub has_grant : has (label G x agent) grant ≡ true
+  pub subject : IsSubject G agent
+
+-- an assume is allowed exactly to who may act for the agent; a leave is always allowed, and is the only command that is
+-- not denied to who has retired; neither changes the graph
+pub record AssumesAndLeaves (G : Protection) (x : ℕ) : Type 0 where
+  pub assumed : (agent : ℕ) → Allowed G x (command.Assume agent) ↔ MayAssume G x agent
+  pub left : Allowed G x command.Leave
+  pub retired : (c : Command) → rule_of c ≢ rule.Leave → has_retired G x ≡ true → denial G x c ≡ Some cause.Retired
+  pub same : (agent : ℕ) → (after G x (command.Assume agent) ≡ G) × (after G x command.Leave ≡ G)
+
+abbrev pub AgentsAreAssumedAndLeft : Type 0
+AgentsAreAssumedAndLeft = (G : Protection) (x : ℕ) → AssumesAndLeaves G x
 
 -- a configuration without a fault opens a graph of its principals, who are few
 abbrev pub OpeningsAreSound : Type 0

@@ -36,10 +36,17 @@ abbrev pub names_rights : Option Letters → Bool
 names_rights None = true
 names_rights (Some α) = not (is_none α)
 
-abbrev pub is_document : Option Kind → Bool
-is_document None = false
-is_document (Some kind.Subject) = false
-is_document (Some kind.Document) = true
+abbrev pub is_of_kind : Option Kind → Kind → Bool
+is_of_kind None wanted = false
+is_of_kind (Some kind.Subject) kind.Subject = true
+is_of_kind (Some kind.Subject) kind.Document = false
+is_of_kind (Some kind.Document) kind.Subject = false
+is_of_kind (Some kind.Document) kind.Document = true
+
+-- the cause that a vertex is not of a kind
+abbrev pub not_of_kind : ℕ → Kind → Cause
+not_of_kind v kind.Subject = cause.NotSubject v
+not_of_kind v kind.Document = cause.NotDocument v
 
 module _ (G : Protection) where
   -- the label has the rights of the need
@@ -55,10 +62,10 @@ module _ (G : Protection) where
   missing [] = None
   missing (n ∷ ns) = cond (is_met n) (missing ns) (Some (lack n))
 
-  -- the vertex that has to be a document, if it is none
-  abbrev pub misfit : Option ℕ → Check
+  -- that the vertex which has to be of a kind is not
+  abbrev pub misfit : Option (ℕ × Kind) → Check
   misfit None = None
-  misfit (Some v) = unless (is_document (kind_of G v)) (cause.NotDocument v)
+  misfit (Some w) = unless (is_of_kind (kind_of G w.0) w.1) (not_of_kind w.0 w.1)
 
   -- what the rules ask of x, if it has not retired and these are the principals, in this order
   abbrev pub later_checks : List Member → ℕ → Terms → List Check
@@ -66,15 +73,15 @@ module _ (G : Protection) where
       unless (names_rights t.names) cause.Empty
       ∷ unless t.apart cause.NotDistinct
       ∷ missing t.needs
-      ∷ misfit t.document
+      ∷ misfit t.wants
       ∷ unless (not t.principal || has_serial members x) cause.NotPrincipal
       ∷ unless (not (is_taken members t.name)) cause.NameTaken
       ∷ unless (not (is_crowded members t.name)) cause.Crowded
       ∷ []
 
-  -- what the rules ask of x: first of all that it has not retired
+  -- what the rules ask of x: first of all that it has not retired, unless the command is for those too
   abbrev pub checks : ℕ → Terms → List Check
-  checks x t = unless (not (has_retired G x)) cause.Retired ∷ later_checks G.names x t
+  checks x t = unless (not (has_retired G x) || t.for_retired) cause.Retired ∷ later_checks G.names x t
 
 -- the first check that fails
 abbrev pub first_failure : List Check → Check
@@ -144,6 +151,7 @@ done G x (effect.Rewrites over text) = with_text G over text (vertex G over)
 done G x (effect.Tells over) = G
 done G x (effect.Lists at) = G
 done G x effect.Retires = record G { names = without_member G.names x; retired = set.insert G.retired x }
+done G x (effect.Acts agent) = G
 
 -- the reply
 abbrev pub answered : Protection → Does → Reply
@@ -154,6 +162,7 @@ answered G (effect.Rewrites over text) = reply.Done
 answered G (effect.Tells over) = reply.Text (text_of G over)
 answered G (effect.Lists at) = reply.Edges (edges_of G at)
 answered G effect.Retires = reply.Done
+answered G (effect.Acts agent) = reply.Done
 
 -- whether it makes a vertex
 abbrev pub is_new : Does → Bool
@@ -164,6 +173,7 @@ is_new (effect.Rewrites over text) = false
 is_new (effect.Tells over) = false
 is_new (effect.Lists at) = false
 is_new effect.Retires = false
+is_new (effect.Acts agent) = false
 
 -- whether carrying it out may need memory: for a label, for a vertex, for who has retired, or for the reply. A text and
 -- a name are moved
@@ -175,6 +185,7 @@ may_allocate (effect.Rewrites over text) = false
 may_allocate (effect.Tells over) = true
 may_allocate (effect.Lists at) = true
 may_allocate effect.Retires = true
+may_allocate (effect.Acts agent) = false
 
 -- a command of x that may need memory
 abbrev pub takes_memory : ℕ → Command → Bool
@@ -183,6 +194,10 @@ takes_memory x c = may_allocate (terms x c).does
 -- a command of x that makes a vertex
 abbrev pub is_create : ℕ → Command → Bool
 is_create x c = is_new (terms x c).does
+
+-- a command that x may ask even after it has retired
+abbrev pub is_for_retired : ℕ → Command → Bool
+is_for_retired x c = (terms x c).for_retired
 
 module _ (G : Protection) (x : ℕ) where
   -- the graph after an allowed command of x, and the reply to it

@@ -1,6 +1,6 @@
 -- the terms of each command: what its rule asks before it is allowed, and what the command then does
 use Rattle.std.specs.Prelude.{ℕ, Bool, true, false, cond, not, ◌&&◌, ◌==◌, List, [], ◌∷◌, Option, Some, None}
-use Rattle.tg_rights.specs.Letters.{Letters, read_alone, write_alone, take_alone, grant_alone}
+use Rattle.tg_rights.specs.Letters.{Letters, joined, read_alone, write_alone, take_alone, grant_alone}
 use Rattle.tg_rights.specs.declared.kind.Kind.{Kind}
 use Rattle.tg_rights.specs.declared.kind.Kind.TheVariants as kind
 use Rattle.tg_rights.specs.declared.command.Command.{Command}
@@ -23,16 +23,20 @@ pub data Does : Type 0 where
   Lists : ℕ → Does
   -- x is a principal no longer
   Retires : Does
+  -- the seat acts for this subject from then on, or for none
+  Acts : Option ℕ → Does
 
 pub record Terms : Type 0 where
+  -- whether x may ask it even after it has retired
+  pub for_retired : Bool
   -- the rights that it names, of which there have to be some
   pub names : Option Letters
   -- whether the vertices that have to be distinct are
   pub apart : Bool
   -- the rights that it needs, in order
   pub needs : List Need
-  -- the vertex that has to be a document
-  pub document : Option ℕ
+  -- the vertex that has to be of a kind, and the kind
+  pub wants : Option (ℕ × Kind)
   -- whether x has to be a principal
   pub principal : Bool
   -- the name that it gives to a new principal
@@ -48,7 +52,7 @@ all_apart x y z = not (x == y) && not (x == z) && not (y == z)
 
 -- the terms of a command for which nothing is asked
 abbrev pub free : Does → Terms
-free e = record { names = None; apart = true; needs = []; document = None; principal = false; name = None; does = e }
+free e = record { for_retired = false; names = None; apart = true; needs = []; wants = None; principal = false; name = None; does = e }
 
 -- the terms of a command of x: one equation for each command
 abbrev pub terms : ℕ → Command → Terms
@@ -67,16 +71,22 @@ terms x (command.Remove α over) = record (free (Drops α over)) { names = Some 
 terms x (command.Read over) = record (free (Tells over)) {
   apart = not (x == over);
   needs = need x read_alone over ∷ [];
-  document = Some over;
+  wants = Some (over, kind.Document);
 }
 terms x (command.Write over text) = record (free (Rewrites over text)) {
   apart = not (x == over);
   needs = need x write_alone over ∷ [];
-  document = Some over;
+  wants = Some (over, kind.Document);
 }
 terms x (command.Look at) = record (free (Lists at)) { needs = cond (at == x) [] (need x take_alone at ∷ []) }
 terms x (command.Enrol name α) = record (free (Makes kind.Subject α (Some name))) { names = Some α; name = Some name }
 terms x command.Retire = record (free Retires) { principal = true }
+terms x (command.Assume agent) = record (free (Acts (Some agent))) {
+  apart = not (x == agent);
+  needs = need x (joined take_alone grant_alone) agent ∷ [];
+  wants = Some (agent, kind.Subject);
+}
+terms x command.Leave = record (free (Acts None)) { for_retired = true }
 
 -- the text that a command brings
 abbrev pub text_in : Command → List ℕ

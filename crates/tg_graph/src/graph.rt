@@ -17,7 +17,9 @@ ghost use Rattle.tg_rights.specs.declared.outcome.Outcome.TheVariants as outcome
 use crate::config::{Config, OpenFault, first_fault};
 use crate::member::serial_of;
 use crate::roll::Roll;
-use crate::rules::{Effect, Reader, Spot, decide, effect_of, into_name, into_text, is_create};
+use crate::rules::{
+    Effect, Reader, Spot, decide, effect_of, into_name, into_text, is_create, is_for_retired,
+};
 use crate::search::Search;
 use crate::vertex::Vertex;
 use std::alloc::{AllocError, Global};
@@ -190,7 +192,7 @@ impl Graph {
     fn decide(&self, actor: u64, command: &Command) -> Outcome
         ensures { Judged self.now actor command.now result }
     {
-        if self.retired(actor) {
+        if self.retired(actor) && !is_for_retired(actor, command) {
             return Outcome::Denied(command.rule(), Cause::Retired);
         }
         let spot = Spot {
@@ -207,7 +209,7 @@ impl Graph {
     /// the graph stays as it is, and the reply says why: `Denied` by the rule, with the first cause, or `Full` for
     /// serials, the only thing that a plain graph can run out of. `AllocError` only for a command that would otherwise
     /// be carried out and needs memory for what is returned or stored, so never for a denial, nor if no serial is left,
-    /// nor for a remove or a write; the graph then stays too. The command is used up in each case.
+    /// nor for a remove, a write, an assume or a leave; the graph then stays too. The command is used up in each case.
     ///
     /// In graphs that agree for the actor the reply is the same, a new vertex's serial and fullness aside, and graphs
     /// with the same next serial that agree for some subjects, the actor among them, agree for them afterwards.
@@ -287,6 +289,8 @@ impl Graph {
                 self.retire(actor)?;
                 Ok(Reply::Done)
             }
+            // For whom a seat acts is no part of the graph.
+            Effect::Acts { .. } => Ok(Reply::Done),
         }
     }
 

@@ -1,7 +1,7 @@
 //! The take-grant rules over a plain graph that is never collected: the model of every other crate.
 #![tactic(auto)]
 
-ghost use Rattle.tg_graph.specs.Laws.{AllowedIsMet, AnswersAgree, DenialsAreFirst, CommandsKeepGraphs, EdgesAreCounted, EdgesAreListed, ExactlyOneOutcome, OpeningsAreAsListed, OpeningsAreSound, OpeningsFit, OutcomesAgree, PartsAgree, PartsStay, PrincipalsComeAndGo, RepliesAgree, TwiceIsTwoPlaces};
+ghost use Rattle.tg_graph.specs.Laws.{AgentsAreAssumedAndLeft, AllowedIsMet, AnswersAgree, DenialsAreFirst, CommandsKeepGraphs, EdgesAreCounted, EdgesAreListed, ExactlyOneOutcome, OpeningsAreAsListed, OpeningsAreSound, OpeningsFit, OutcomesAgree, PartsAgree, PartsStay, PrincipalsComeAndGo, RepliesAgree, TwiceIsTwoPlaces};
 
 mod config;
 mod derivation;
@@ -19,6 +19,7 @@ pub use member::{Member, serial_of};
 pub use roll::Roll;
 pub use rules::{
     Effect, Found, Need, Reader, Spot, decide, effect_of, into_name, into_text, is_create,
+    is_for_retired,
 };
 pub use vertex::Vertex;
 
@@ -63,6 +64,12 @@ pub fn commands_keep_graphs()
 /// A name finds the principal who has it; only an enrol makes a principal, and only a retire takes one out.
 pub fn principals_come_and_go()
     ensures { PrincipalsComeAndGo }
+{}
+
+/// An assume is allowed exactly to who has not retired and has take and grant over another vertex, a subject; a leave is
+/// always allowed, and is the only command that a retired actor may ask. Neither changes the graph.
+pub fn agents_are_assumed_and_left()
+    ensures { AgentsAreAssumedAndLeft }
 {}
 
 /// A part of a graph with all the edges of its vertices agrees with the graph for each of its subjects.
