@@ -1,8 +1,8 @@
 -- What the calls that add an edge, and a vertex with its edge, do to a store.
 use Rattle.std.proofs.Common.{◌≡◌, ◌≢◌, ℕ, ◌<◌, List, [], ◌∷◌, length, Option, Some, None, Result, Ok, Err, true, false, sym, ◌∙◌, subst, ap, refl, arith, get_or, ◌+◌, ◌++◌, ◌⊎◌, inl, inr, Bool, cond, eqb, ◌&&◌, set, get_or-set_same, get_or-set_other, eq-eqb}
 use Rattle.tg_collect.proofs.Common.{is_some, length-map, SEATS, Letters, is_none, Contains, Occupant, IsHeap, IsAdded, Kept, Root, Machine, slot_of, lists_of, bare, Whole, stored, place, pending_of, IsEdgeIn, EdgeStored, Distinct}
-use Rattle.tg_collect.proofs.Common.{contains_middle, contains_map, edge, Edge, first_cell, Found, HeapGraph, edges, at_within, Progress, Idle, Marking, Sweeping, progress_in, Stored, kept, kept_from, progress, held, Leads, RightsRemoved}
-use Rattle.tg_collect.proofs.Common.{Body, name, name_of, put, put_each, vertex_of, comes, body, progress_of, TextReplaced, Kind, Protection, Free, slot, HasNone, mark_at, new_colour, gains, with_target, body_of, Puts, spot, serial_of}
+use Rattle.tg_collect.proofs.Common.{contains_middle, edge, Edge, first_cell, Found, HeapGraph, edges, at_within, Progress, Idle, Marking, Sweeping, progress_in, Stored, kept, kept_from, progress, held, Leads, RightsRemoved}
+use Rattle.tg_collect.proofs.Common.{Body, name, name_of, put, put_each, vertex_of, comes, body, progress_of, TextReplaced, Kind, Protection, Free, slot, HasNone, mark_at, new_colour, with_target, Puts, spot, serial_of}
 use Rattle.tg_collect.proofs.Common.{IsHeldIn, IsParkedIn, VertexStored, OnOk, OnErr, IfErr, unwrap_or, same_Some, none, without, is_none-none, cells, serials, HeapFull, IsDropped, Dropped, Stayed, Gone, Rewrites, rewrites_keeps}
 use Rattle.tg_collect.proofs.Common.{left_rewrites, IsTarget, Apart, drops, Adds, is_at, progress_without, progress_dropped, SetsText, Links, serial_at, label-relabelled, difference-Relabels}
 use Rattle.tg_heap.specs.declared.heap.HeapFull.TheVariants as full
@@ -13,7 +13,7 @@ use Rattle.tg_collect.proofs.SeatLemmas as placed
 use Rattle.tg_graph.specs.Protection.{label}
 use Rattle.tg_slots.specs.Table.{mark_of}
 use Rattle.tg_collect.proofs.StoreLemmas.{once_stored, Holds, holds, owned_here, idle_seat, stored_kept, closed_so, placed_mark, found_contains, edge_in, in_edge, label_edge}
-use Rattle.tg_collect.proofs.EdgeLemmas.{added, relabels, leaves, Replaced, replaced_drops, regarded, still_leads, fewer_lead, puts_progress, replaced_puts, graph_after}
+use Rattle.tg_collect.proofs.EdgeLemmas.{added, cells_once, edge_put, edge_put_graph, edge_put_leads, edge_relabelled, leaves, list_within, Replaced, replaced_drops, regarded, still_leads, fewer_lead, graph_after}
 use Rattle.tg_collect.proofs.SlotLemmas.{as_spot, at_slot, put_slot, at_free, free_so, slots_at}
 use Rattle.tg_collect.proofs.ShownLemmas.{Once, held_at, vertex_found, kept_held}
 use Rattle.tg_collect.proofs.SeatLemmas.{same_stage, roots_move, same_progress, same_cursor, stored_is, bare_seat, placed_whole, placed_left, placed_is, placed_graph, placed_other, placed_here, new_same}
@@ -31,24 +31,22 @@ pub record AddCalled {U : Type 0} (m n : Machine) (seat id target : ℕ) (rights
   pub full : IfErr r (λ e. (e ≡ full.Cells) × ((stored m).free_cells ≡ 0) × (IsEdgeIn (stored m) (serial_at (stored m) id) (serial_at (stored m) target) → ⊥))
   pub unchanged : OnErr r (stored n ≡ stored m)
 
+-- The occupant of a held slot has the slot's serial.
+occupant_serial : (m : Machine) (i : ℕ) (d : Holds m i) (o : Occupant) → slot m.heap.table i ≡ Some o → o.serial ≡ serial_at (stored m) i
+occupant_serial m i d o is = ap (λ (q : Occupant). q.serial) (same_Some o d.occupant (sym is ∙ d.is)) ∙ ap (λ (k : Kept). k.serial) d.same ∙ sym d.serial
+
+-- The place of a held slot.
+pub placed_serial : (m : Machine) (i : ℕ) → is_some (place (stored m) i) ≡ true → place (stored m) i ≡ Some (serial_at (stored m) i)
+placed_serial m i some = let d = holds m i some in ap serial_of d.shows ∙ ap (λ (x : ℕ). Some x) (sym d.serial)
+
 pub add_called : {U : Type 0} (m n : Machine) (seat id target : ℕ) (rights : Letters) (r : Result U HeapFull) → IsHeap m.heap → IsHeap n.heap → Whole m → is_some (place (stored m) id) ≡ true → is_some (place (stored m) target) ≡ true → target ≢ id
-    → pending_of (stored m) seat ≡ None → seat < SEATS → is_none rights ≡ false → (t : Root) → t.slot ≡ target → t.serial ≡ serial_at (stored m) target → Adds m seat id t rights r n → AddCalled m n seat id target rights r
-add_called m n seat id target rights (Ok u) ok ok' w source held apart idle l some t slot_is serial_is (o, is, new, roots, shape) =
+    → pending_of (stored m) seat ≡ None → seat < SEATS → Adds m seat id (record { serial = serial_at (stored m) target; slot = target }) rights r n → AddCalled m n seat id target rights r
+add_called m n seat id target rights (Ok u) ok ok' w source held apart idle l (o, is, new, roots, shape) =
+    let e = added m n seat id (record { serial = serial_at (stored m) target; slot = target }) rights ok ok' w source (placed_serial m target held) apart idle l roots
+    (subst (λ (x : ℕ). IsAdded m.heap n.heap id target x rights) (occupant_serial m target (holds m target held) o is) new) shape in
+    record { whole = e.0; ok = e.1; full = tt; unchanged = tt }
+add_called m n seat id target rights (Err e) ok ok' w source held apart idle l (cells, o, is, absent, none, same) =
     let h = holds m id source in
-    let d = subst (Holds m) (sym slot_is) (holds m target held) in
-    let same : d.what.serial ≡ t.serial = sym d.serial ∙ ap (serial_at (stored m)) slot_is ∙ sym serial_is in
-    let named : o.serial ≡ t.serial = ap (λ (q : Occupant). q.serial) (same_Some o d.occupant (sym is ∙ d.is)) ∙ ap (λ (k : Kept). k.serial) d.same ∙ same in
-    let e = added m n seat id t rights ok ok' w h d same (λ q. apart (sym slot_is ∙ q)) (idle_slot m seat idle) (seat_inside m seat w l) some (subst (λ (x : ℕ). IsAdded m.heap n.heap id t.slot x rights) named new) roots shape in
-    record {
-      whole = e.0;
-      ok = subst (λ (y : ℕ). EdgeStored (stored m) (stored n) seat (serial_at (stored m) id) y rights) serial_is (subst (λ (x : ℕ). EdgeStored (stored m) (stored n) seat x t.serial rights) (sym h.serial) e.1);
-      full = tt;
-      unchanged = tt;
-    }
-add_called m n seat id target rights (Err e) ok ok' w source held apart idle l some t slot_is serial_is (cells, o, is, absent, none, same) =
-    let h = holds m id source in
-    let d = subst (Holds m) (sym slot_is) (holds m target held) in
-    let named : o.serial ≡ serial_at (stored m) target = ap (λ (q : Occupant). q.serial) (same_Some o d.occupant (sym is ∙ d.is)) ∙ ap (λ (k : Kept). k.serial) d.same ∙ sym d.serial ∙ ap (serial_at (stored m)) slot_is in
     record {
       whole = subst Whole (sym same) w;
       ok = tt;
@@ -57,7 +55,7 @@ add_called m n seat id target rights (Err e) ok ok' w source held apart idle l s
         none,
         λ q.
             let x = owned_here (stored m) 0 id h.what (once_stored m w) h.shows (record { from = serial_at (stored m) id; right = q.0; to = serial_at (stored m) target }) q.1 h.serial in
-            absent x.0 (subst (λ (k : Kept). Contains k.edges x.0) (sym h.same) x.1) (sym x.2 ∙ sym named),
+            absent x.0 (subst (λ (k : Kept). Contains k.edges x.0) (sym h.same) x.1) (sym x.2 ∙ sym (occupant_serial m target (holds m target held) o is)),
       );
       unchanged = ap stored same;
     }
@@ -84,14 +82,11 @@ module _ (m n : Machine) (id y : ℕ) (rights : Letters) (ok : IsHeap m.heap) (o
   abbrev Removal : Machine → Type 0
   Removal x = Whole x × RightsRemoved (stored m) (stored x) h.what.serial y rights
 
-  within : id < length m.heap.lists
-  within = let z = at_within m.heap.table.slots id h.occupant h.is in let o = ok.owners in omega (arith, z, o)
-
   edges_is : (f : Found (edges m.heap id) y) → h.what.edges ≡ f.before ++ f.edge ∷ f.after
   edges_is f = ap (λ (k : Kept). k.edges) (sym h.same) ∙ f.is
 
   -- What is left of the label: an edge, or none.
-  removed_by : (f : Found (edges m.heap id) y) (es : List Edge) (x : Machine) → Replaced m x (lists_of m.roots) id (as_spot h.occupant (edges m.heap id)) es
+  removed_by : (f : Found (edges m.heap id) y) (es : List Edge) (x : Machine) → Replaced m x id (as_spot h.occupant (edges m.heap id)) es
       → ((es ≡ f.before ++ record f.edge { rights = without f.edge.rights rights } ∷ f.after) × (without f.edge.rights rights ≢ none) × (x.heap.free_cells ≡ m.heap.free_cells))
       ⊎ ((es ≡ f.before ++ f.after) × (without f.edge.rights rights ≡ none) × (x.heap.free_cells ≡ m.heap.free_cells + 1)) → Removal x
   removed_by f es x c cut = (
@@ -116,7 +111,7 @@ module _ (m n : Machine) (id y : ℕ) (rights : Letters) (ok : IsHeap m.heap) (o
     once = subst (λ (l : List Edge). Distinct (serials l)) (ap (λ (z : Kept). z.edges) h.same) (ok.cells.serial_once id)
 
     graph_is : (next : ℕ) → held (stored x) next ≡ record (held (stored m) next) { triples = finset.difference (held (stored m) next).triples (edge h.what.serial rights y) }
-    graph_is next = graph_after m x (lists_of m.roots) id h es c next
+    graph_is next = graph_after m x id h es c next
         ∙ drops (kept_from (progress (stored m)) 0 (stored m).slots) id next h.what f.before f.edge f.after es rights (held_at (stored m) id ∙ h.shows) (edges_is f) once (apart_so (stored m) id h.what (once_stored m w) h.shows)
         (elim cut [ inl stays ↦ inl stays.0 | inr goes ↦ inr (goes.0, goes.1) ])
         ∙ ap (λ (z : ℕ). record (held (stored m) next) { triples = finset.difference (held (stored m) next).triples (edge h.what.serial rights z) }) f.here
@@ -136,15 +131,8 @@ module _ (m n : Machine) (id y : ℕ) (rights : Letters) (ok : IsHeap m.heap) (o
 
   stayed_so : (f : Found (edges m.heap id) y) → without f.edge.rights rights ≢ none → IsHeap (record m.heap { lists = set m.heap.lists id (f.before ++ record f.edge { rights = without f.edge.rights rights } ∷ f.after) })
       → Removal (record m { heap = record m.heap { lists = set m.heap.lists id (f.before ++ record f.edge { rights = without f.edge.rights rights } ∷ f.after) } })
-  stayed_so f some heap =
-      let z : Edge = record f.edge { rights = without f.edge.rights rights } in
-      let es = f.before ++ z ∷ f.after in
-      let after : Machine = record m { heap = record m.heap { lists = set m.heap.lists id (f.before ++ record f.edge { rights = without f.edge.rights rights } ∷ f.after) } } in
-      let once : Distinct (cells es) = subst (λ (l : List Edge). Distinct (cells l)) (get_or-set_same m.heap.lists id es [] within) (heap.cells.cell_once id) in
-      let c = replaced_drops m ok w (lists_of m.roots) m.roots refl id m.heap.free_cells h.occupant h.is es m.progress w.roots w.kept f.before f.edge (z ∷ []) f.after f.is refl
-      (λ a q. elim q [ inl is ↦ (ap (λ (e : Edge). e.target) is, ap (λ (e : Edge). e.serial) is) | inr bad ↦ absurd bad ]) (omega arith)
-      (relabels m.heap id m.heap.free_cells es within f.before f.edge (z ∷ []) f.after f.is refl once z m.progress refl refl w.cursor) (same_stage m.heap after.heap m.progress) in
-      removed_by f es after c (inl (refl, some, refl))
+  stayed_so f some heap = removed_by f (f.before ++ record f.edge { rights = without f.edge.rights rights } ∷ f.after) _
+      (edge_relabelled m id f.before f.edge (record f.edge { rights = without f.edge.rights rights }) f.after ok w h f.is refl refl refl heap) (inl (refl, some, refl))
 
   gone_so : (f : Found (edges m.heap id) y) → without f.edge.rights rights ≡ none → IsHeap (record m.heap { lists = set m.heap.lists id (f.before ++ f.after); free_cells = m.heap.free_cells + 1 })
       → Removal (record m { heap = record m.heap { lists = set m.heap.lists id (f.before ++ f.after); free_cells = m.heap.free_cells + 1 }; progress = progress_without m.progress id f.edge.cell (first_cell f.after) })
@@ -153,9 +141,9 @@ module _ (m n : Machine) (id y : ℕ) (rights : Letters) (ok : IsHeap m.heap) (o
       let k = m.heap.free_cells + 1 in
       let q : Progress = progress_without m.progress id f.edge.cell (first_cell f.after) in
       let after : Machine = record m { heap = record m.heap { lists = set m.heap.lists id (f.before ++ f.after); free_cells = m.heap.free_cells + 1 }; progress = progress_without m.progress id f.edge.cell (first_cell f.after) } in
-      let once : Distinct (cells es) = subst (λ (l : List Edge). Distinct (cells l)) (get_or-set_same m.heap.lists id es [] within) (heap.cells.cell_once id) in
-      let c = replaced_drops m ok w (lists_of m.roots) m.roots refl id k h.occupant h.is es q w.roots w.kept f.before f.edge [] f.after f.is refl (λ a bad. absurd bad) (omega arith)
-      (leaves m.heap id k es within f.before f.edge [] f.after f.is refl once m.progress refl (ok.cells.cell_once id) w.cursor) (without_stage after.heap m.progress id f.edge.cell (first_cell f.after) ∙ same_stage m.heap after.heap m.progress) in
+      let c = replaced_drops m ok w id k h.occupant h.is es q f.before f.edge [] f.after f.is refl (λ a bad. absurd bad) (omega arith)
+      (leaves m.heap id k es (list_within m id ok h) f.before f.edge [] f.after f.is refl (cells_once m id k es (list_within m id ok h) heap) m.progress refl (ok.cells.cell_once id) w.cursor)
+      (without_stage after.heap m.progress id f.edge.cell (first_cell f.after) ∙ same_stage m.heap after.heap m.progress) in
       removed_by f es after c (inr (refl, empty, refl))
 
   pub removed : (d : Dropped) → IsDropped m.heap n.heap id y rights d → n ≡ record m { heap = n.heap; progress = progress_dropped m.progress id d } → Removal n
@@ -268,7 +256,7 @@ module _ (m k : Machine) (seat id i serial : ℕ) (kind : Kind) (text rest : Lis
     target_held : kept (stored m1) i ≡ Some (record { serial = serial; kind = kind; text = text; edges = [] })
     target_held = placed_here m seat i serial kind text rest ok w k.roots roots idle l free within unheld unparked
 
-    rooted : IsTarget (body_of heap (lists_of k.roots)) i
+    rooted : IsTarget (body m1) i
     rooted = subst (λ (q : values.Roots). values.HasTarget q i) (sym (ap bare roots ∙ bare_seat (lists_of m.roots) seat (Some t))) (seat, get_or-set_same (bare (lists_of m.roots)).targets seat (Some i) None l)
 
     linked : (e : Edge) (free_cells : ℕ) → e.target ≡ i → e.serial ≡ serial → e.rights ≡ rights → m.heap.free_cells ≡ free_cells + 1 → IsHeap (record heap { lists = set m.heap.lists id (e ∷ edges m.heap id); free_cells = free_cells })
@@ -276,20 +264,16 @@ module _ (m k : Machine) (seat id i serial : ℕ) (kind : Kind) (text rest : Lis
     linked e free_cells to named label more ok2 =
         let es = e ∷ edges m.heap id in
         let n2 : Machine = record m { heap = record heap { lists = set m.heap.lists id (e ∷ edges m.heap id); free_cells = free_cells }; roots = k.roots } in
-        let inside : id < length m.heap.lists = (let z = at_within heap.table.slots id h.occupant h.is in let o = ok1.owners in omega (arith, z, o)) in
-        let once : Distinct (cells es) = subst (λ (q : List Edge). Distinct (cells q)) (get_or-set_same m.heap.lists id es [] inside) (ok2.cells.cell_once id) in
         let there : values.kept (body m1) (progress_of m1) e.target ≡ Some (record { serial = serial; kind = kind; text = text; edges = [] }) =
         subst (λ (j : ℕ). values.kept (body m1) (progress_of m1) j ≡ Some (record { serial = serial; kind = kind; text = text; edges = [] })) (sym to) (sym (stored_kept m1 i) ∙ target_held) in
-        let c = replaced_puts m1 ok1 w1 (lists_of k.roots) k.roots refl id free_cells h.occupant h.is es m.progress w1.roots w1.kept e refl h.what (sym (stored_kept m1 id) ∙ h.shows) _ there (sym named) (λ q. apart (sym q ∙ to))
-        (subst (IsTarget (body_of heap (lists_of k.roots))) (sym to) rooted) (puts_progress heap id free_cells es inside e m.progress refl once w1.cursor) in
-        let edges_is : edges m.heap id ≡ h.what.edges = ap (λ (z : Kept). z.edges) h.same in
+        let rooted_there : IsTarget (body m1) e.target = subst (IsTarget (body m1)) (sym to) rooted in
+        let away : e.target ≢ id = (λ q. apart (sym q ∙ to)) in
+        let c = edge_put m1 id free_cells e ok1 w1 h _ there (sym named) away rooted_there ok2 in
         let before = placed_is m seat i serial kind text rest ok w k.roots roots idle l free within unheld unparked in
         let at : spot (stored m) id ≡ Some (as_spot h.occupant (edges m.heap id)) = at_slot m.heap (lists_of m.roots) id h.occupant occupied in (
           c.whole,
           record {
-            graph = λ next. graph_after m1 n2 (lists_of k.roots) id h es c next
-                ∙ ap (λ (l : List Edge). graph.held (set (kept_from (progress (stored m1)) 0 (stored m1).slots) id (Some (record h.what { edges = e ∷ l }))) next) edges_is
-                ∙ gains (kept_from (progress (stored m1)) 0 (stored m1).slots) id next h.what e (held_at (stored m1) id ∙ h.shows)
+            graph = λ next. edge_put_graph m1 id free_cells e ok1 w1 h _ there (sym named) away rooted_there ok2 next
                 ∙ (λ n. record (held (stored m1) next) { triples = finset.union (held (stored m1) next).triples (edge (serial_same n) (label n) (named n)) })
                 ∙ ap (λ (H : Protection). record H { triples = finset.union H.triples (edge (serial_at (stored m) id) rights serial) }) (placed_graph m seat i serial kind text rest ok w k.roots roots idle l free within unheld unparked next);
             new = i;
@@ -302,7 +286,7 @@ module _ (m k : Machine) (seat id i serial : ℕ) (kind : Kind) (text rest : Lis
             owner = as_spot h.occupant (edges m.heap id);
             at = at;
             edges = es;
-            leads = λ q q_in. elim q_in [ inl is ↦ inr (ap (λ (d : Edge). d.serial) is ∙ named) | inr old ↦ inl (contains_map (λ (d : Edge). d.serial) (edges m.heap id) q old) ];
+            leads = λ q q_in. elim (edge_put_leads m1 id free_cells e ok1 w1 h _ there (sym named) away rooted_there ok2 q q_in) [ inl old ↦ inl old | inr is ↦ inr (is ∙ named) ];
             is = c.is ∙ (λ n. record {
               slots = set ((ap (λ (v : Stored). v.slots) before ∙ ap (λ q. set (stored m).slots i (Some (record { serial = serial; kind = kind; text = text; edges = []; colour = q }))) (sym (new_same (progress_of m) i))) n) id (Some (record (as_spot h.occupant (edges m.heap id)) { edges = es }));
               stage = ap (λ (v : Stored). v.stage) before n;

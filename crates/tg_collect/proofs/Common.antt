@@ -71,11 +71,11 @@ pub use Rattle.tg_marking.specs.Steps.{DropsEdge, Line, Places, PutsEdge, Reroot
 pub use Rattle.tg_marking.specs.Values.{AtRest, Body, HasRoot, IsRoot, IsTarget, Kept, Scan, Spot, Stage, as_kept, keeps, mark, mark_of, name, name_of, out, seen}
 pub use Rattle.tg_held.proofs.HeldLemmas.{comes, contains-held, drops, gains, joins, says, says_edge}
 pub use Rattle.tg_held.specs.Held.{Apart, entries, vertex_of}
-pub use Rattle.tg_collect.specs.Machine.{Adds, AddsPrincipal, AreRoots, AreWithin, CursorFits, IsListed, Links, NoneWhite, Puts, Retires, RootLists, SetsText, ShadesFirst, ShadesSeat, Steps, Whole, all_shaded, all_slots, bare, body, body_of, colour_ahead, has_passed, is_at, join, lists_of, other_slots, progress_dropped, progress_in, progress_of, progress_without, scan_in, shaded_slot, slot_of, slots_of, with_principal, with_shaded, with_target, without_principal, zip}
+pub use Rattle.tg_collect.specs.Machine.{Adds, AreRoots, AreWithin, CursorFits, IsListed, Links, NoneWhite, Puts, Rerooted, RootLists, SetsText, ShadesFirst, ShadesSeat, Steps, Whole, all_shaded, all_slots, assuming, bare, body, body_of, colour_ahead, has_passed, is_at, join, lists_of, other_slots, progress_dropped, progress_in, progress_of, progress_without, scan_in, shaded_slot, slot_of, slots_of, with_agent, with_principal, with_shaded, with_target, without_principal, zip}
 pub use Rattle.tg_collect.specs.Openings.{AreFrom, Before, HasOpened, HoldsSubject, Opened, OpeningsCanBeStored, Opens, OpensEdges, OpensFirst, OpensNext, first_root, first_roots, first_serials, root_count, subject}
-pub use Rattle.tg_collect.specs.Readings.{IsEdgeIn, IsHeldIn, IsParkedIn, IsRootAt, IsRootIn, agents, as_progress, cycle_bound, free_slots, held, kept, kept_from, pending, pending_of, phase, phase_in, place, principals, progress, root_serial, serial_at, serial_of, shown, slot_count, spot, triples, vertices}
+pub use Rattle.tg_collect.specs.Readings.{IsEdgeIn, IsHeldIn, IsParkedIn, IsRootAt, IsRootIn, agent_of, agents, as_progress, cycle_bound, free_slots, held, kept, kept_from, pending, pending_of, phase, phase_in, place, principals, progress, root_serial, serial_at, serial_of, shown, slot_count, spot, triples, vertices}
 pub use Rattle.tg_collect.specs.Runs.{IsBounded, IsComplete, StoreRun, acts, goes, start}
-pub use Rattle.tg_collect.specs.Sessions.{Acted, Changes, EdgeStored, Leads, PrincipalStored, Retired, RightsRemoved, Shaded, TargetShaded, TextReplaced, VertexStored}
+pub use Rattle.tg_collect.specs.Sessions.{Acted, Assumed, Changes, EdgeStored, Leads, Left, PrincipalStored, Retired, RightsRemoved, Shaded, TargetShaded, TextReplaced, VertexStored}
 pub use Rattle.tg_collect.specs.Stored.{Stored, stored}
 pub use Rattle.tg_collect.specs.Views.{Collected, IsStore, most_marks}
 pub use Rattle.tg_collect.specs.declared.machine.Machine.{Machine}

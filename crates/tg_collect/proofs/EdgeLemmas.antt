@@ -1,19 +1,20 @@
 -- An edge comes, changes its label or goes.
-use Rattle.std.proofs.Common.{◌≡◌, ◌≢◌, ℕ, ◌<◌, List, [], ◌∷◌, ◌++◌, length, append_assoc, Option, Some, None, ◌⊎◌, inl, inr, Bool, true, false, cond, eq-eqb, sym, ◌∙◌, subst, ap, refl, set, get_or-set_same, get_or-set_other, ◌+◌, ◌≤◌, arith, get_or}
-use Rattle.tg_collect.proofs.Common.{cases_eq, Contains, Distinct, Edge, first_cell, HeapGraph, edges, remaining, Progress, Idle, Marking, Sweeping, progress_in, CursorFits, Letters, is_none, contains_middle, contains_map, edge, Occupant}
-use Rattle.tg_collect.proofs.Common.{slot, HasNone, Found, IsHeap, IsAdded, Spot, Body, Kept, as_kept, name, name_of, seen, put, left, put_each, at_within, gains, Root, Roots, Machine, RootLists, lists_of, with_target, bare, body_of, body}
+use Rattle.std.proofs.Common.{◌≡◌, ◌≢◌, ℕ, ◌<◌, List, [], ◌∷◌, ◌++◌, length, append_assoc, Option, Some, None, ◌⊎◌, inl, inr, Bool, true, false, cond, eq-eqb, sym, ◌∙◌, subst, ap, refl, set, get_or-set_same, get_or-set_other, ◌+◌, ◌≤◌, arith}
+use Rattle.tg_collect.proofs.Common.{cases_eq, Contains, Distinct, Edge, first_cell, HeapGraph, edges, remaining, Progress, Idle, Marking, Sweeping, progress_in, CursorFits, Letters, contains_middle, contains_map, edge, Occupant}
+use Rattle.tg_collect.proofs.Common.{slot, HasNone, Found, IsHeap, IsAdded, Spot, Body, Kept, as_kept, name, name_of, seen, put, put_each, at_within, gains, Root, Machine, lists_of, with_target, body}
 use Rattle.tg_collect.proofs.Common.{progress_of, Whole, Stored, stored, as_progress, kept, kept_from, progress, spot, held, IsEdgeIn, Leads, EdgeStored, same_Some, ne_eqb, joined, cells, passed, split_whole, remaining_split, Trims}
-use Rattle.tg_collect.proofs.Common.{sweeping, unscanned, elsewhere, ahead, DropsEdge, PutsEdge, IsTarget, Invariant, reroots_keeps, puts_keeps, drops_keeps, same_roots, left_puts, left_drops, joins, scan_in, AreRoots, is_at}
-use Rattle.tg_collect.proofs.Common.{progress_without}
+use Rattle.tg_collect.proofs.Common.{sweeping, unscanned, elsewhere, ahead, DropsEdge, PutsEdge, IsTarget, Invariant, puts_keeps, drops_keeps, left_puts, left_drops, joins, scan_in, is_at}
+use Rattle.tg_collect.proofs.Common.{progress_without, SEATS, is_some, pending_of, place, serial_at}
 use Rattle.tg_marking.specs.Values as values
 use Rattle.tg_marking.specs.Steps as steps
 use Rattle.std.specs.FinSet as finset
 use Rattle.tg_held.specs.Held as graph
 use Rattle.tg_collect.specs.declared.machine.Scan.{Scan}
-use Rattle.tg_collect.proofs.SlotLemmas.{as_spot, at_slot, put_list}
-use Rattle.tg_collect.proofs.ShownLemmas.{held_at, held_set, edge_shown}
-use Rattle.tg_collect.proofs.StoreLemmas.{kept_is, stored_kept, once_stored, Holds, owned_here}
-use Rattle.tg_collect.proofs.SeatLemmas.{bare_seat, reroots_seat, roots_seat, roots_move, stored_is, same_stage}
+use Rattle.tg_collect.proofs.SlotLemmas.{as_spot, at_slot, put_list, seat_slot}
+use Rattle.tg_collect.proofs.ShownLemmas.{held_at, held_set, edge_shown, place_kept}
+use Rattle.tg_collect.proofs.StoreLemmas.{holds, kept_is, stored_kept, once_stored, Holds, owned_here}
+use Rattle.tg_collect.proofs.SeatLemmas.{roots_move, stored_is, same_stage}
+use Rattle.tg_collect.proofs.RootLemmas.{target_set, targeted}
 
 -- Two splits of a list: one part of it stands between their places.
 heads : (x y : Edge) (xs ys : List Edge) → x ∷ xs ≡ y ∷ ys → (x ≡ y) × (xs ≡ ys)
@@ -174,165 +175,165 @@ fewer_lead (z ∷ p) r e x (inl is) = inl (ap (λ (d : Edge). d.serial) is)
 fewer_lead (z ∷ p) r e x (inr h) = inr (fewer_lead p r e x h)
 
 -- A slot has other edges; its vertex stays.
-pub record Replaced (m n : Machine) (rs : RootLists) (i : ℕ) (s : Spot) (es : List Edge) : Type 0 where
+pub record Replaced (m n : Machine) (i : ℕ) (s : Spot) (es : List Edge) : Type 0 where
   pub whole : Whole n
   pub left : (stored n).left ≤ (stored m).left
-  pub is : stored n ≡ record (stored m) { slots = set (stored m).slots i (Some (record s { edges = es })); roots = rs; free_cells = n.heap.free_cells; left = (stored n).left }
+  pub is : stored n ≡ record (stored m) { slots = set (stored m).slots i (Some (record s { edges = es })); free_cells = n.heap.free_cells; left = (stored n).left }
 
-module _ (m : Machine) (ok : IsHeap m.heap) (w : Whole m) (rs : RootLists) (r : Roots) (roots : lists_of r ≡ rs) (i k : ℕ) (o : Occupant) (at : slot m.heap.table i ≡ Some o) (es : List Edge) (q : Progress)
-    (named : AreRoots rs (body m)) (inv : Invariant (body_of m.heap rs) (progress_of m)) where
-  abbrev pub g : HeapGraph
-  g = heap_with m.heap i k es (let z = at_within m.heap.table.slots i o at in let l = ok.owners in omega (arith, z, l))
-
+module _ (m : Machine) (ok : IsHeap m.heap) (w : Whole m) (i k : ℕ) (o : Occupant) (at : slot m.heap.table i ≡ Some o) (es : List Edge) (q : Progress) where
   abbrev pub n : Machine
-  n = record { heap = record m.heap { lists = set m.heap.lists i es; free_cells = k }; progress = q; roots = r }
+  n = record m { heap = record m.heap { lists = set m.heap.lists i es; free_cells = k }; progress = q }
 
-  abbrev pub old : Body
-  old = body_of m.heap rs
+  shows : body n ≡ put (body m) i (Some (as_spot o es))
+  shows = put_list m.heap (lists_of m.roots) i k o es ok.owners at
 
-  shows : body_of n.heap rs ≡ put old i (Some (as_spot o es))
-  shows = put_list m.heap rs i k o es ok.owners at
+  there : values.spot (body m) i ≡ Some (as_spot o (edges m.heap i))
+  there = at_slot m.heap (lists_of m.roots) i o at
 
-  there : values.spot old i ≡ Some (as_spot o (edges m.heap i))
-  there = at_slot m.heap rs i o at
-
-  names : (j : ℕ) → name (body_of n.heap rs) j ≡ name (body m) j
-  names j = ap (λ (b : Body). name b j) shows ∙ put_each (λ j x. name_of x ≡ name old j) old i (Some (as_spot o es)) (at_within old.slots i _ there) (ap name_of (sym there)) (λ j d. refl) j
+  names : (j : ℕ) → name (body n) j ≡ name (body m) j
+  names j = ap (λ (b : Body). name b j) shows ∙ put_each (λ j x. name_of x ≡ name (body m) j) (body m) i (Some (as_spot o es)) (at_within (body m).slots i _ there) (ap name_of (sym there)) (λ j d. refl) j
 
   -- From the invariant, the cursor and the measure.
-  replaced : Invariant (body_of n.heap rs) (progress_in n.heap q) → CursorFits n.heap q → values.shown (progress_in n.heap q) ≡ values.shown (progress_of m)
-      → left m.heap.cell_count (body_of n.heap rs) (progress_in n.heap q) ≤ left m.heap.cell_count old (progress_of m) → Replaced m n rs i (as_spot o (edges m.heap i)) es
+  replaced : Invariant (body n) (progress_of n) → CursorFits n.heap q → values.shown (progress_of n) ≡ values.shown (progress_of m) → (stored n).left ≤ (stored m).left → Replaced m n i (as_spot o (edges m.heap i)) es
   replaced holds cursor stage less = record {
-    whole = record {
-      kept = subst (λ (x : RootLists). Invariant (body_of n.heap x) (progress_in n.heap q)) (sym roots) holds;
-      cursor = cursor;
-      roots = subst (λ (x : RootLists). AreRoots x (body_of n.heap x)) (sym roots) (roots_move rs (body m) (body_of n.heap rs) (λ j h. names j) named);
-    };
-    left = let same = same_roots (body m) (progress_of m) m.heap.cell_count (bare rs) in let f = left_is in omega (arith, less, same, f);
-    is = stored_is m n.heap q r rs (set (stored m).slots i (Some (as_spot o es))) (ap (λ (b : Body). b.slots) shows) stage refl roots;
-  } where
-    left_is : (stored n).left ≡ left m.heap.cell_count (body_of n.heap rs) (progress_in n.heap q)
-    left_is = ap (λ (x : RootLists). left m.heap.cell_count (body_of n.heap x) (progress_in n.heap q)) roots
+    whole = record { kept = holds; cursor = cursor; roots = roots_move (lists_of m.roots) (body m) (body n) (λ j h. names j) w.roots };
+    left = less;
+    is = stored_is m n.heap q m.roots (lists_of m.roots) (set (stored m).slots i (Some (as_spot o es))) (ap (λ (b : Body). b.slots) shows) stage refl refl;
+  }
 
   pub replaced_drops : (before : List Edge) (e : Edge) (news after : List Edge) → edges m.heap i ≡ before ++ e ∷ after → es ≡ before ++ (news ++ after) → ((x : Edge) → Contains news x → (x.target ≡ e.target) × (x.serial ≡ e.serial)) → length news ≤ 1
-      → Trims i before e news after (progress_of m) (progress_in n.heap q) × CursorFits n.heap q → values.shown (progress_in n.heap q) ≡ values.shown (progress_of m) → Replaced m n rs i (as_spot o (edges m.heap i)) es
+      → Trims i before e news after (progress_of m) (progress_of n) × CursorFits n.heap q → values.shown (progress_of n) ≡ values.shown (progress_of m) → Replaced m n i (as_spot o (edges m.heap i)) es
   replaced_drops before e news after was is alike few t stage =
-      let step : DropsEdge old (progress_of m) i before e news after (body_of n.heap rs) (progress_in n.heap q) =
-      record { owner = as_spot o (edges m.heap i); at = there; edges = was; alike = alike; stage = t.0; is = shows ∙ ap (λ (l : List Edge). put old i (Some (as_spot o l))) is } in
-      replaced (drops_keeps old (body_of n.heap rs) (progress_of m) (progress_in n.heap q) i before e news after step inv) t.1 stage
-      (left_drops old (body_of n.heap rs) (progress_of m) (progress_in n.heap q) i before e news after m.heap.cell_count step few)
+      let step : DropsEdge (body m) (progress_of m) i before e news after (body n) (progress_of n) =
+      record { owner = as_spot o (edges m.heap i); at = there; edges = was; alike = alike; stage = t.0; is = shows ∙ ap (λ (l : List Edge). put (body m) i (Some (as_spot o l))) is } in
+      replaced (drops_keeps (body m) (body n) (progress_of m) (progress_of n) i before e news after step w.kept) t.1 stage
+      (left_drops (body m) (body n) (progress_of m) (progress_of n) i before e news after m.heap.cell_count step few)
 
   pub replaced_puts : (e : Edge) → es ≡ e ∷ edges m.heap i → (h : Kept) → values.kept (body m) (progress_of m) i ≡ Some h → (t : Kept) → values.kept (body m) (progress_of m) e.target ≡ Some t → t.serial ≡ e.serial → e.target ≢ i
-      → IsTarget old e.target → (progress_in n.heap q ≡ progress_of m) × CursorFits n.heap q → Replaced m n rs i (as_spot o (edges m.heap i)) es
+      → IsTarget (body m) e.target → (progress_of n ≡ progress_of m) × CursorFits n.heap q → Replaced m n i (as_spot o (edges m.heap i)) es
   replaced_puts e is h owner t target serial apart rooted p =
-      let step : PutsEdge old (progress_of m) i e (body_of n.heap rs) =
-      record { owner = as_spot o (edges m.heap i); at = there; held = (h, owner); there = (t, target, serial); apart = apart; target = rooted; is = shows ∙ ap (λ (l : List Edge). put old i (Some (as_spot o l))) is } in
-      replaced (rw p.0 (puts_keeps old (body_of n.heap rs) (progress_of m) i e step inv)) p.1 (ap values.shown p.0)
-      (rw p.0 (left_puts old (body_of n.heap rs) (progress_of m) i m.heap.cell_count e step))
+      let step : PutsEdge (body m) (progress_of m) i e (body n) =
+      record { owner = as_spot o (edges m.heap i); at = there; held = (h, owner); there = (t, target, serial); apart = apart; target = rooted; is = shows ∙ ap (λ (l : List Edge). put (body m) i (Some (as_spot o l))) is } in
+      replaced (rw p.0 (puts_keeps (body m) (body n) (progress_of m) i e step w.kept)) p.1 (ap values.shown p.0)
+      (rw p.0 (left_puts (body m) (body n) (progress_of m) i m.heap.cell_count e step))
 
 -- The graph once a held slot has other edges.
-pub graph_after : (m n : Machine) (rs : RootLists) (id : ℕ) (h : Holds m id) (es : List Edge) → Replaced m n rs id (as_spot h.occupant (edges m.heap id)) es
+pub graph_after : (m n : Machine) (id : ℕ) (h : Holds m id) (es : List Edge) → Replaced m n id (as_spot h.occupant (edges m.heap id)) es
     → (next : ℕ) → held (stored n) next ≡ graph.held (set (kept_from (progress (stored m)) 0 (stored m).slots) id (Some (record h.what { edges = es }))) next
-graph_after m n rs id h es c next =
+graph_after m n id h es c next =
     regarded (stored m) (stored n) id (as_spot h.occupant (edges m.heap id)) h.what es h.occupant.text (at_slot m.heap (lists_of m.roots) id h.occupant h.is) h.shows (ap (λ (v : Stored). v.stage) c.is) (ap (λ (v : Stored). v.slots) c.is) next
     ∙ ap (λ (u : List ℕ). graph.held (set (kept_from (progress (stored m)) 0 (stored m).slots) id (Some (record h.what { edges = es; text = u }))) next) (ap (λ (k : Kept). k.text) h.same)
 
--- The seat has a target that is held.
-pub seat_invariant : (m : Machine) (seat : ℕ) (t : Root) (k : Kept) → Whole m → get_or (bare (lists_of m.roots)).targets seat None ≡ None → seat < length (bare (lists_of m.roots)).targets → values.kept (body m) (progress_of m) t.slot ≡ Some k
-    → Invariant (body_of m.heap (with_target (lists_of m.roots) seat (Some t))) (progress_of m)
-seat_invariant m seat t k w idle l held =
-    let s = reroots_seat (body m) (progress_of m) seat t.slot k idle l held in
-    reroots_keeps (body m) _ (progress_of m) (steps.with_target (bare (lists_of m.roots)) seat (Some t.slot)) (record { comes = s.comes; stays = s.stays; is = ap (λ (q : values.Roots). record (body m) { roots = q }) (bare_seat (lists_of m.roots) seat (Some t)) }) w.kept
+-- The cells of a slot's new edges.
+pub list_within : (m : Machine) (id : ℕ) → IsHeap m.heap → Holds m id → id < length m.heap.lists
+list_within m id ok h = let z = at_within m.heap.table.slots id h.occupant h.is in let o = ok.owners in omega (arith, z, o)
 
-pub seat_target : (m : Machine) (seat : ℕ) (t : Root) → seat < length (bare (lists_of m.roots)).targets → IsTarget (body_of m.heap (with_target (lists_of m.roots) seat (Some t))) t.slot
-seat_target m seat t l = subst (λ (q : values.Roots). values.HasTarget q t.slot) (sym (bare_seat (lists_of m.roots) seat (Some t))) (seat, get_or-set_same (bare (lists_of m.roots)).targets seat (Some t.slot) None l)
+pub cells_once : (m : Machine) (id k : ℕ) (es : List Edge) → id < length m.heap.lists → IsHeap (record m.heap { lists = set m.heap.lists id es; free_cells = k }) → Distinct (cells es)
+cells_once m id k es within heap = subst (λ (q : List Edge). Distinct (cells q)) (get_or-set_same m.heap.lists id es [] within) (heap.cells.cell_once id)
+
+-- An edge to a seat's target comes.
+module _ (m : Machine) (id k : ℕ) (e : Edge) (ok : IsHeap m.heap) (w : Whole m) (h : Holds m id) (t : Kept) (target : values.kept (body m) (progress_of m) e.target ≡ Some t) (serial : t.serial ≡ e.serial) (apart : e.target ≢ id) (rooted : IsTarget (body m) e.target)
+    (heap : IsHeap (record m.heap { lists = set m.heap.lists id (e ∷ edges m.heap id); free_cells = k })) where
+  abbrev linked : Machine
+  linked = record m { heap = record m.heap { lists = set m.heap.lists id (e ∷ edges m.heap id); free_cells = k } }
+
+  pub edge_put : Replaced m linked id (as_spot h.occupant (edges m.heap id)) (e ∷ edges m.heap id)
+  edge_put = replaced_puts m ok w id k h.occupant h.is (e ∷ edges m.heap id) m.progress e refl h.what (sym (stored_kept m id) ∙ h.shows) t target serial apart rooted
+      (puts_progress m.heap id k (e ∷ edges m.heap id) (list_within m id ok h) e m.progress refl (cells_once m id k (e ∷ edges m.heap id) (list_within m id ok h) heap) w.cursor)
+
+  pub edge_put_graph : (next : ℕ) → held (stored linked) next ≡ record (held (stored m) next) { triples = finset.union (held (stored m) next).triples (edge h.what.serial e.rights e.serial) }
+  edge_put_graph next = graph_after m linked id h (e ∷ edges m.heap id) edge_put next
+      ∙ ap (λ (l : List Edge). graph.held (set (kept_from (progress (stored m)) 0 (stored m).slots) id (Some (record h.what { edges = e ∷ l }))) next) (ap (λ (z : Kept). z.edges) h.same)
+      ∙ gains (kept_from (progress (stored m)) 0 (stored m).slots) id next h.what e (held_at (stored m) id ∙ h.shows)
+
+  pub edge_put_leads : (d : Edge) → Contains (e ∷ edges m.heap id) d → Leads (edges m.heap id) d ⊎ (d.serial ≡ e.serial)
+  edge_put_leads d (inl is) = inr (ap (λ (x : Edge). x.serial) is)
+  edge_put_leads d (inr old) = inl (contains_map (λ (x : Edge). x.serial) (edges m.heap id) d old)
+
+-- The label of an edge becomes another.
+module _ (m : Machine) (id : ℕ) (before : List Edge) (e y : Edge) (after : List Edge) (ok : IsHeap m.heap) (w : Whole m) (h : Holds m id) (was : edges m.heap id ≡ before ++ e ∷ after) (target : y.target ≡ e.target) (serial : y.serial ≡ e.serial) (cell : y.cell ≡ e.cell)
+    (heap : IsHeap (record m.heap { lists = set m.heap.lists id (before ++ y ∷ after) })) where
+  abbrev relabelled : Machine
+  relabelled = record m { heap = record m.heap { lists = set m.heap.lists id (before ++ y ∷ after) } }
+
+  pub edge_relabelled : Replaced m relabelled id (as_spot h.occupant (edges m.heap id)) (before ++ y ∷ after)
+  edge_relabelled = replaced_drops m ok w id m.heap.free_cells h.occupant h.is (before ++ y ∷ after) m.progress before e (y ∷ []) after was refl
+      (λ x q. elim q [ inl is ↦ (ap (λ (d : Edge). d.target) is ∙ target, ap (λ (d : Edge). d.serial) is ∙ serial) | inr never ↦ absurd never ]) (omega arith)
+      (relabels m.heap id m.heap.free_cells (before ++ y ∷ after) (list_within m id ok h) before e (y ∷ []) after was refl (cells_once m id m.heap.free_cells (before ++ y ∷ after) (list_within m id ok h) heap) y m.progress refl cell w.cursor)
+      (same_stage m.heap relabelled.heap m.progress)
 
 -- An edge gains rights, or comes; its target is the seat's.
-module _ (m n : Machine) (seat id : ℕ) (t : Root) (rights : Letters) (ok : IsHeap m.heap) (ok' : IsHeap n.heap) (w : Whole m) (h : Holds m id) (d : Holds m t.slot) (same : d.what.serial ≡ t.serial) (apart : t.slot ≢ id)
-    (idle : get_or (bare (lists_of m.roots)).targets seat None ≡ None) (l : seat < length (bare (lists_of m.roots)).targets) (some : is_none rights ≡ false) where
-  abbrev rs : RootLists
-  rs = with_target (lists_of m.roots) seat (Some t)
+module _ (m n : Machine) (seat id : ℕ) (t : Root) (rights : Letters) (ok : IsHeap m.heap) (ok' : IsHeap n.heap) (w : Whole m) (source : is_some (place (stored m) id) ≡ true) (here : place (stored m) t.slot ≡ Some t.serial) (apart : t.slot ≢ id)
+    (idle : pending_of (stored m) seat ≡ None) (l : seat < SEATS) (roots : lists_of n.roots ≡ with_target (lists_of m.roots) seat (Some t)) where
+  abbrev m1 : Machine
+  m1 = record m { roots = n.roots }
 
-  held_so : (i : ℕ) (x : Holds m i) → values.kept (body m) (progress_of m) i ≡ Some x.what
-  held_so i x = sym (stored_kept m i) ∙ x.shows
+  first : Whole m1 × (stored m1 ≡ record (stored m) { roots = with_target (stored m).roots seat (Some t) })
+  first = targeted m seat t w l idle here m1 (roots, refl)
 
-  named : AreRoots rs (body m)
-  named = roots_seat (lists_of m.roots) (body m) seat (Some t) (λ r e. let is : t ≡ r = cc in subst (λ (q : Root). name (body m) q.slot ≡ Some q.serial) is
-      (ap name_of (at_slot m.heap (lists_of m.roots) t.slot d.occupant d.is) ∙ ap (λ (k : Kept). Some k.serial) d.same ∙ ap (λ (x : ℕ). Some x) same)) w.roots
-
-  inv : Invariant (body_of m.heap rs) (progress_of m)
-  inv = seat_invariant m seat t d.what w idle l (held_so t.slot d)
+  h : Holds m1 id
+  h = holds m1 id source
 
   abbrev Done : Machine → Type 0
   Done x = Whole x × EdgeStored (stored m) (stored x) seat h.what.serial t.serial rights
 
-  joined_so : (f : Found (edges m.heap id) t.serial) → (x : Roots) → lists_of x ≡ rs → IsHeap (record m.heap { lists = set m.heap.lists id (f.before ++ record f.edge { rights = joined f.edge.rights rights } ∷ f.after) })
-      → Done (record m { heap = record m.heap { lists = set m.heap.lists id (f.before ++ record f.edge { rights = joined f.edge.rights rights } ∷ f.after) }; roots = x })
-  joined_so f x roots heap =
-      let after : Machine = record m { heap = record m.heap { lists = set m.heap.lists id (f.before ++ record f.edge { rights = joined f.edge.rights rights } ∷ f.after) }; roots = x } in
+  done : (x : Machine) (es : List Edge) → Replaced m1 x id (as_spot h.occupant (edges m.heap id)) es
+      → ((next : ℕ) → held (stored x) next ≡ record (held (stored m) next) { triples = finset.union (held (stored m) next).triples (edge h.what.serial rights t.serial) })
+      → (IsEdgeIn (stored m) h.what.serial t.serial → x.heap.free_cells ≡ m.heap.free_cells) → ((IsEdgeIn (stored m) h.what.serial t.serial → ⊥) → m.heap.free_cells ≡ x.heap.free_cells + 1)
+      → ((e : Edge) → Contains es e → Leads (edges m.heap id) e ⊎ (e.serial ≡ t.serial)) → Done x
+  done x es c graph old new leads = (
+    c.whole,
+    record {
+      graph = graph;
+      joined = old;
+      new = new;
+      left = subst (λ (v : Stored). (stored x).left ≤ v.left) first.1 c.left;
+      slot = id;
+      owner = as_spot h.occupant (edges m.heap id);
+      at = at_slot m.heap (lists_of m.roots) id h.occupant h.is;
+      edges = es;
+      leads = leads;
+      target = t;
+      named = refl;
+      is = c.is ∙ ap (λ (v : Stored). record v { slots = set v.slots id (Some (record (as_spot h.occupant (edges m.heap id)) { edges = es })); free_cells = x.heap.free_cells; left = (stored x).left }) first.1;
+    },
+  )
+
+  joined_so : (f : Found (edges m.heap id) t.serial) → IsHeap (record m.heap { lists = set m.heap.lists id (f.before ++ record f.edge { rights = joined f.edge.rights rights } ∷ f.after) })
+      → Done (record m1 { heap = record m.heap { lists = set m.heap.lists id (f.before ++ record f.edge { rights = joined f.edge.rights rights } ∷ f.after) } })
+  joined_so f heap =
       let y : Edge = record f.edge { rights = joined f.edge.rights rights } in
-      let within : id < length m.heap.lists = (let z = at_within m.heap.table.slots id h.occupant h.is in let o = ok.owners in omega (arith, z, o)) in
       let es = f.before ++ y ∷ f.after in
-      let once : Distinct (cells es) = subst (λ (q : List Edge). Distinct (cells q)) (get_or-set_same m.heap.lists id es [] within) (heap.cells.cell_once id) in
-      let c = replaced_drops m ok w rs x roots id m.heap.free_cells h.occupant h.is es m.progress named inv f.before f.edge (y ∷ []) f.after f.is refl
-      (λ z q. elim q [ inl is ↦ (ap (λ (e : Edge). e.target) is, ap (λ (e : Edge). e.serial) is) | inr bad ↦ absurd bad ]) (omega arith)
-      (relabels m.heap id m.heap.free_cells es within f.before f.edge (y ∷ []) f.after f.is refl once y m.progress refl refl w.cursor) (same_stage m.heap after.heap m.progress) in
+      let after : Machine = record m1 { heap = record m.heap { lists = set m.heap.lists id es } } in
+      let c = edge_relabelled m1 id f.before f.edge y f.after ok first.0 h f.is refl refl refl heap in
       let edges_is : h.what.edges ≡ f.before ++ f.edge ∷ f.after = ap (λ (k : Kept). k.edges) (sym h.same) ∙ f.is in
       let owned : Contains h.what.edges f.edge = subst (λ (q : List Edge). Contains q f.edge) (sym edges_is) (contains_middle f.before f.after f.edge) in
       let mine : Contains (edges m.heap id) f.edge = subst (λ (q : List Edge). Contains q f.edge) (sym f.is) (contains_middle f.before f.after f.edge) in
-      let there : IsEdgeIn (stored m) h.what.serial t.serial = subst (IsEdgeIn (stored m) h.what.serial) f.here (edge_shown (stored m) id h.what f.edge h.shows owned (ok.cells.labelled id f.edge mine)) in (
-        c.whole,
-        record {
-          graph = λ next. graph_after m after rs id h es c next
-              ∙ joins (kept_from (progress (stored m)) 0 (stored m).slots) id next h.what f.before f.edge f.after rights (held_at (stored m) id ∙ h.shows) edges_is
-              ∙ ap (λ (z : ℕ). record (held (stored m) next) { triples = finset.union (held (stored m) next).triples (edge h.what.serial rights z) }) f.here;
-          joined = λ e. refl;
-          new = λ n. absurd (n there);
-          left = c.left;
-          slot = id;
-          owner = as_spot h.occupant (edges m.heap id);
-          at = at_slot m.heap (lists_of m.roots) id h.occupant h.is;
-          edges = es;
-          leads = λ q q_in. inl (subst (λ (l : List Edge). Leads l q) (sym f.is) (still_leads f.before f.after y f.edge refl q q_in));
-          target = t;
-          named = refl;
-          is = c.is;
-        },
-      )
+      let there : IsEdgeIn (stored m) h.what.serial t.serial = subst (IsEdgeIn (stored m) h.what.serial) f.here (edge_shown (stored m) id h.what f.edge h.shows owned (ok.cells.labelled id f.edge mine)) in
+      done after es c
+      (λ next. graph_after m1 after id h es c next
+      ∙ joins (kept_from (progress (stored m)) 0 (stored m).slots) id next h.what f.before f.edge f.after rights (held_at (stored m) id ∙ h.shows) edges_is
+      ∙ ap (λ (z : ℕ). record (held (stored m) next) { triples = finset.union (held (stored m) next).triples (edge h.what.serial rights z) }) f.here)
+      (λ e. refl) (λ none. absurd (none there)) (λ q q_in. inl (subst (λ (l : List Edge). Leads l q) (sym f.is) (still_leads f.before f.after y f.edge refl q q_in)))
 
-  came_so : (e : Edge) (k : ℕ) → HasNone (edges m.heap id) t.serial → e.target ≡ t.slot → e.serial ≡ t.serial → e.rights ≡ rights → m.heap.free_cells ≡ k + 1 → (x : Roots) → lists_of x ≡ rs
-      → IsHeap (record m.heap { lists = set m.heap.lists id (e ∷ edges m.heap id); free_cells = k }) → Done (record m { heap = record m.heap { lists = set m.heap.lists id (e ∷ edges m.heap id); free_cells = k }; roots = x })
-  came_so e k absent to serial label free x roots heap =
-      let after : Machine = record m { heap = record m.heap { lists = set m.heap.lists id (e ∷ edges m.heap id); free_cells = k }; roots = x } in
-      let within : id < length m.heap.lists = (let z = at_within m.heap.table.slots id h.occupant h.is in let o = ok.owners in omega (arith, z, o)) in
-      let es = e ∷ edges m.heap id in
-      let once : Distinct (cells es) = subst (λ (q : List Edge). Distinct (cells q)) (get_or-set_same m.heap.lists id es [] within) (heap.cells.cell_once id) in
-      let c = replaced_puts m ok w rs x roots id k h.occupant h.is es m.progress named inv e refl h.what (held_so id h) d.what (subst (λ (j : ℕ). values.kept (body m) (progress_of m) j ≡ Some d.what) (sym to) (held_so t.slot d))
-      (same ∙ sym serial) (λ q. apart (sym to ∙ q)) (subst (IsTarget (body_of m.heap rs)) (sym to) (seat_target m seat t l)) (puts_progress m.heap id k es within e m.progress refl once w.cursor) in
-      let edges_is : edges m.heap id ≡ h.what.edges = ap (λ (z : Kept). z.edges) h.same in
-      let not_there : IsEdgeIn (stored m) h.what.serial t.serial → ⊥ = (λ q. let o = owned_here (stored m) 0 id h.what (once_stored m w) h.shows (record { from = h.what.serial; right = q.0; to = t.serial }) q.1 refl in
-      absent o.0 (subst (λ (z : List Edge). Contains z o.0) (sym edges_is) o.1) (sym o.2)) in (
-        c.whole,
-        record {
-          graph = λ next. graph_after m after rs id h es c next
-              ∙ ap (λ (l : List Edge). graph.held (set (kept_from (progress (stored m)) 0 (stored m).slots) id (Some (record h.what { edges = e ∷ l }))) next) edges_is
-              ∙ gains (kept_from (progress (stored m)) 0 (stored m).slots) id next h.what e (held_at (stored m) id ∙ h.shows)
-              ∙ (λ n. record (held (stored m) next) { triples = finset.union (held (stored m) next).triples (edge h.what.serial (label n) (serial n)) });
-          joined = λ q. absurd (not_there q);
-          new = λ q. free;
-          left = c.left;
-          slot = id;
-          owner = as_spot h.occupant (edges m.heap id);
-          at = at_slot m.heap (lists_of m.roots) id h.occupant h.is;
-          edges = es;
-          leads = λ q q_in. elim q_in [ inl is ↦ inr (ap (λ (d : Edge). d.serial) is ∙ serial) | inr old ↦ inl (contains_map (λ (d : Edge). d.serial) (edges m.heap id) q old) ];
-          target = t;
-          named = refl;
-          is = c.is;
-        },
-      )
+  came_so : (e : Edge) (k : ℕ) → HasNone (edges m.heap id) t.serial → e.target ≡ t.slot → e.serial ≡ t.serial → e.rights ≡ rights → m.heap.free_cells ≡ k + 1
+      → IsHeap (record m.heap { lists = set m.heap.lists id (e ∷ edges m.heap id); free_cells = k }) → Done (record m1 { heap = record m.heap { lists = set m.heap.lists id (e ∷ edges m.heap id); free_cells = k } })
+  came_so e k absent to serial label free heap =
+      let after : Machine = record m1 { heap = record m.heap { lists = set m.heap.lists id (e ∷ edges m.heap id); free_cells = k } } in
+      let d = place_kept (stored m1) t.slot t.serial here in
+      let target : values.kept (body m1) (progress_of m1) e.target ≡ Some d.0 = subst (λ (j : ℕ). values.kept (body m1) (progress_of m1) j ≡ Some d.0) (sym to) (sym (stored_kept m1 t.slot) ∙ d.1) in
+      let rooted : IsTarget (body m1) e.target = subst (IsTarget (body m1)) (sym to) (seat, seat_slot n.roots.targets.items seat t (target_set m n.roots seat t w l roots)) in
+      let not_there : IsEdgeIn (stored m) h.what.serial t.serial → ⊥ = (λ q. let o = owned_here (stored m1) 0 id h.what (once_stored m1 first.0) h.shows (record { from = h.what.serial; right = q.0; to = t.serial }) q.1 refl in
+      absent o.0 (subst (λ (z : List Edge). Contains z o.0) (sym (ap (λ (z : Kept). z.edges) h.same)) o.1) (sym o.2)) in
+      done after (e ∷ edges m.heap id) (edge_put m1 id k e ok first.0 h d.0 target (d.2 ∙ sym serial) (λ q. apart (sym to ∙ q)) rooted heap)
+      (λ next. edge_put_graph m1 id k e ok first.0 h d.0 target (d.2 ∙ sym serial) (λ q. apart (sym to ∙ q)) rooted heap next
+      ∙ (λ i. record (held (stored m) next) { triples = finset.union (held (stored m) next).triples (edge h.what.serial (label i) (serial i)) }))
+      (λ q. absurd (not_there q)) (λ q. free) (λ q q_in. elim (edge_put_leads m1 id k e ok first.0 h d.0 target (d.2 ∙ sym serial) (λ q. apart (sym to ∙ q)) rooted heap q q_in) [ inl old ↦ inl old | inr new ↦ inr (new ∙ serial) ])
 
-  pub added : IsAdded m.heap n.heap id t.slot t.serial rights → lists_of n.roots ≡ rs → n ≡ record m { heap = n.heap; roots = n.roots } → Done n
-  added (inl (f, is)) roots shape = subst Done (sym shape) (subst (λ (x : HeapGraph). Done (record m { heap = x; roots = n.roots })) (sym is) (joined_so f n.roots roots (subst IsHeap is ok')))
-  added (inr (e, absent, fresh, to, serial, label, free, is)) roots shape =
-      subst Done (sym shape) (subst (λ (x : HeapGraph). Done (record m { heap = x; roots = n.roots })) (sym is) (came_so e n.heap.free_cells absent to serial label free n.roots roots (subst IsHeap is ok')))
+  added_so : IsAdded m.heap n.heap id t.slot t.serial rights → n ≡ record m { heap = n.heap; roots = n.roots } → Done n
+  added_so (inl (f, is)) shape = subst Done (sym shape) (subst (λ (x : HeapGraph). Done (record m1 { heap = x })) (sym is) (joined_so f (subst IsHeap is ok')))
+  added_so (inr (e, absent, fresh, to, serial, label, free, is)) shape =
+      subst Done (sym shape) (subst (λ (x : HeapGraph). Done (record m1 { heap = x })) (sym is) (came_so e n.heap.free_cells absent to serial label free (subst IsHeap is ok')))
+
+  pub added : IsAdded m.heap n.heap id t.slot t.serial rights → n ≡ record m { heap = n.heap; roots = n.roots } → Whole n × EdgeStored (stored m) (stored n) seat (serial_at (stored m) id) t.serial rights
+  added how shape = let d = added_so how shape in (d.0, subst (λ (x : ℕ). EdgeStored (stored m) (stored n) seat x t.serial rights) (sym h.serial) d.1)

@@ -1,4 +1,5 @@
 -- Lemma files that other crates may use.
+pub mod AgentLemmas
 pub mod OpeningLemmas
 pub mod PrincipalLemmas
 pub mod RunLemmas
@@ -12,4 +13,5 @@ mod EdgeLemmas
 mod EdgesLemmas
 mod LineLemmas
 mod OpeningEdges
+mod RootLemmas
 mod SlotLemmas

@@ -1,94 +1,14 @@
 -- Principals come and go, and nothing else changes.
-use Rattle.std.proofs.Common.{◌≡◌, ℕ, ◌+◌, ◌<◌, ◌≤◌, List, [], ◌∷◌, ◌++◌, length, Option, Some, None, inl, inr, Bool, not, ◌==◌, sym, ◌∙◌, subst, ap, refl, arith, get_or, get_or-set_same, length-set, length-append, set}
-use Rattle.tg_collect.proofs.Common.{MAX_PRINCIPALS, SEATS, Contains, Letters, Subject, contains_append, contains_filter, contains_map, map_append, count_by-le-length, filter, length-filter, length-map, same_Some, HasRoot}
-use Rattle.tg_collect.proofs.Common.{Reroots, reroots_keeps, same_roots, Machine, Root, RootLists, Roots, IsListed, lists_of, bare, body, progress_of, Whole, Stored, stored, with_principal, without_principal, AddsPrincipal, Retires}
-use Rattle.tg_collect.proofs.Common.{held, pending, principals, free_slots, spot, Acted, PrincipalStored, Retired, VertexStored}
+use Rattle.std.proofs.Common.{◌≡◌, ℕ, ◌+◌, ◌<◌, List, [], ◌∷◌, ◌++◌, length, Option, Some, None, inl, inr, sym, ◌∙◌, subst, ap, arith, get_or, get_or-set_same, length-set, set}
+use Rattle.tg_collect.proofs.Common.{MAX_PRINCIPALS, SEATS, Contains, Letters, Subject, contains_append, contains_filter, contains_map, map_append, length-map, same_Some}
+use Rattle.tg_collect.proofs.Common.{Machine, Root, Rerooted, lists_of, Whole, Stored, stored, with_principal, without_principal, held, agents, pending, principals, free_slots, Acted, PrincipalStored, Retired, VertexStored}
 use Rattle.std.specs.FinMap as finmap
 use Rattle.std.specs.FinSet as finset
 use Rattle.tg_graph.specs.Triples.{edge}
-use Rattle.tg_marking.specs.Values as values
-use Rattle.tg_collect.specs.Sessions as sessions
-use Rattle.tg_collect.proofs.SlotLemmas.{at_seat, contains_mapped, listed_root, root_listed, seat_contains}
-use Rattle.tg_collect.proofs.SeatLemmas.{acted_vertex}
-use Rattle.tg_collect.proofs.RunLemmas.{vertex_pending}
-
--- A machine with other principals, each of whom was a root already.
-module _ (m : Machine) (r : Roots) (ps : List Root) (w : Whole m) (few : length ps ≤ MAX_PRINCIPALS) (known : (q : Root) → Contains ps q → IsListed (lists_of m.roots) q)
-    (roots : lists_of r ≡ record (lists_of m.roots) { principals = ps }) where
-  abbrev pub rerooted : Machine
-  rerooted = record m { roots = r }
-
-  was_listed : (q : Root) → IsListed (lists_of r) q → IsListed (lists_of m.roots) q
-  was_listed q h = by (subst (λ (rs : RootLists). IsListed rs q) roots h) where
-    by : IsListed (record (lists_of m.roots) { principals = ps }) q → IsListed (lists_of m.roots) q
-    by (inl target) = inl target
-    by (inr (inl principal)) = known q principal
-    by (inr (inr agent)) = inr (inr agent)
-
-  step : Reroots (body m) (progress_of m) (bare (lists_of r)) (body rerooted)
-  step = record {
-    comes = λ i h. let q = root_listed (lists_of r) i h in inl (subst (HasRoot (bare (lists_of m.roots))) q.2 (listed_root (lists_of m.roots) q.0 (was_listed q.0 q.1)));
-    stays = λ i white target. subst (λ (rs : RootLists). values.HasTarget (bare rs) i) (sym roots) target;
-    is = refl;
-  }
-
-  pub rerooted_whole : Whole rerooted
-  rerooted_whole = record {
-    kept = reroots_keeps (body m) (body rerooted) (progress_of m) (bare (lists_of r)) step w.kept;
-    cursor = w.cursor;
-    roots = record {
-      seats = ap (λ (rs : RootLists). length rs.targets) roots ∙ w.roots.seats;
-      few = let same = ap (λ (rs : RootLists). length rs.principals) roots in omega (arith, same, few);
-      agents = ap (λ (rs : RootLists). length rs.agents) roots ∙ w.roots.agents;
-      named = λ q h. w.roots.named q (was_listed q h);
-    };
-  }
-
-  pub rerooted_is : stored rerooted ≡ record (stored m) { roots = record (stored m).roots { principals = ps } }
-  rerooted_is i = record {
-    slots = (stored m).slots;
-    stage = (stored m).stage;
-    roots = roots i;
-    free_cells = m.heap.free_cells;
-    cells = m.heap.cell_count;
-    left = same_roots (body m) (progress_of m) m.heap.cell_count (bare (lists_of r)) i;
-  }
-
--- A seat's target is made a principal.
-module _ (m : Machine) (r : Root) (w : Whole m) (room : length m.roots.principals < MAX_PRINCIPALS) (target : Contains m.roots.targets.items (Some r)) where
-  abbrev grown : List Root
-  grown = m.roots.principals ++ r ∷ []
-
-  few_grown : length grown ≤ MAX_PRINCIPALS
-  few_grown = let size = length-append m.roots.principals (r ∷ []) in omega (arith, size, room)
-
-  known_grown : (q : Root) → Contains grown q → IsListed (lists_of m.roots) q
-  known_grown q h = elim (contains_append m.roots.principals (r ∷ []) q h) [
-    | inl old ↦ inr (inl old)
-    | inr new ↦ elim new [ inl same ↦ inl (subst (λ (x : Root). Contains m.roots.targets.items (Some x)) (sym same) target) | inr never ↦ absurd never ]
-  ]
-
-  pub principal_added : (k : Machine) → AddsPrincipal m r k → Whole k × (stored k ≡ record (stored m) { roots = with_principal (stored m).roots r })
-  principal_added k (roots, is) = subst (λ (n : Machine). Whole n × (stored n ≡ record (stored m) { roots = with_principal (stored m).roots r })) (sym is)
-      (rerooted_whole m k.roots grown w few_grown known_grown roots, rerooted_is m k.roots grown w few_grown known_grown roots)
-
--- A principal retires.
-abbrev is_other : ℕ → Root → Bool
-is_other x r = not (r.serial == x)
-
-module _ (m : Machine) (x : ℕ) (w : Whole m) where
-  abbrev others : List Root
-  others = filter (is_other x) m.roots.principals
-
-  few_others : length others ≤ MAX_PRINCIPALS
-  few_others = let size = length-filter (is_other x) m.roots.principals in let most = count_by-le-length (is_other x) m.roots.principals in let all = w.roots.few in omega (arith, size, most, all)
-
-  pub principal_retired : (k : Machine) → Retires m x k → Whole k × Retired (stored m) (stored k) x
-  principal_retired k (roots, is) = subst (λ (n : Machine). Whole n × Retired (stored m) (stored n) x) (sym is)
-      (rerooted_whole m k.roots others w few_others known roots, rerooted_is m k.roots others w few_others known roots)
-    where
-      known : (q : Root) → Contains others q → IsListed (lists_of m.roots) q
-      known q h = inr (inl (contains_filter (is_other x) m.roots.principals q h).0)
+use Rattle.tg_collect.proofs.SlotLemmas.{at_seat, contains_mapped, seat_contains}
+use Rattle.tg_collect.proofs.RootLemmas.{is_other, principal_added}
+use Rattle.tg_collect.proofs.SeatLemmas.{acted_roots, acted_vertex}
+use Rattle.tg_collect.proofs.RunLemmas.{vertex_agents, vertex_pending}
 
 -- A subject that a seat has just stored is made a principal.
 module _ {v : Stored} {m : Machine} {seat x serial : ℕ} {text : List ℕ} {rights : Letters} (w : Whole m) (s : VertexStored v (stored m) seat x serial Subject text rights) (l : seat < SEATS) where
@@ -109,7 +29,7 @@ module _ {v : Stored} {m : Machine} {seat x serial : ℕ} {text : List ℕ} {rig
   few_principals few =
       let same = ap (λ (z : Stored). length z.roots.principals) s.is in let size = length-map v.roots.principals (λ (r : Root). r.serial) in omega (arith, few, same, size)
 
-  pub principal_stored : (k : Machine) (o : Option Root) (r : Root) → length (principals v) < MAX_PRINCIPALS → o ≡ get_or m.roots.targets.items seat o → o ≡ Some r → AddsPrincipal m r k
+  pub principal_stored : (k : Machine) (o : Option Root) (r : Root) → length (principals v) < MAX_PRINCIPALS → o ≡ get_or m.roots.targets.items seat o → o ≡ Some r → Rerooted m (with_principal (lists_of m.roots) r) k
       → Whole k × PrincipalStored v (stored k) seat x serial text rights
   principal_stored k o r few at is added =
       let there : get_or m.roots.targets.items seat None ≡ Some r = at_seat m.roots.targets.items seat o r within at is in
@@ -136,18 +56,9 @@ acted_principal v w seat x serial text rights p = subst (λ (z : Stored). Acted 
   a = acted_vertex v p.between seat x serial Subject text rights p.vertex
 
 pub acted_retired : (v w : Stored) (x : ℕ) → Retired v w x → Acted v w None None
-acted_retired v w x is = subst (λ (z : Stored). Acted v z None None) (sym is) (record {
-  stage = refl;
-  principals = λ y h.
-      let r = contains_mapped (λ (r : Root). r.serial) (without_principal v.roots x).principals y h in
-      inl (subst (Contains (principals v)) r.2 (contains_map (λ (r : Root). r.serial) v.roots.principals r.0 (contains_filter (is_other x) v.roots.principals r.0 r.1).0));
-  agents = refl;
-  pending = λ y h. inl h;
-  slots = refl;
-  changes = λ i. sessions.same (spot v i);
-  cells = refl;
-  left = omega arith;
-})
+acted_retired v w x is = acted_roots v w (without_principal v.roots x) None is (λ y h.
+    let r = contains_mapped (λ (r : Root). r.serial) (without_principal v.roots x).principals y h in
+    subst (Contains (principals v)) r.2 (contains_map (λ (r : Root). r.serial) v.roots.principals r.0 (contains_filter (is_other x) v.roots.principals r.0 r.1).0)) (λ y h. inl h) (λ y h. inl h)
 
 -- What both do, in the words of the graph of what is held, for the crates above.
 module _ {v w : Stored} {seat x serial : ℕ} {text : List ℕ} {rights : Letters} (stored : PrincipalStored v w seat x serial text rights) where
@@ -164,6 +75,9 @@ module _ {v w : Stored} {seat x serial : ℕ} {text : List ℕ} {rights : Letter
   principal_principals = ap (λ (z : Stored). principals z) stored.is ∙ map_append (λ (r : Root). r.serial) stored.between.roots.principals (record { serial = serial; slot = stored.vertex.new } ∷ [])
       ∙ ap (λ (z : Stored). principals z ++ serial ∷ []) stored.vertex.is
 
+  pub principal_agents : agents w ≡ agents v
+  principal_agents = ap (λ (z : Stored). agents z) stored.is ∙ vertex_agents stored.vertex
+
   pub principal_slots : free_slots v ≡ free_slots w + 1
   principal_slots = stored.vertex.free_slots ∙ ap (λ (z : Stored). free_slots z + 1) (sym stored.is)
 
@@ -176,6 +90,9 @@ module _ (v w : Stored) (x : ℕ) (retired : Retired v w x) where
 
   pub retired_pending : pending w ≡ pending v
   retired_pending = ap (λ (z : Stored). pending z) retired
+
+  pub retired_agents : agents w ≡ agents v
+  retired_agents = ap (λ (z : Stored). agents z) retired
 
   pub retired_cells : w.free_cells ≡ v.free_cells
   retired_cells = ap (λ (z : Stored). z.free_cells) retired

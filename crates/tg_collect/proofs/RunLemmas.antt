@@ -44,7 +44,7 @@ module _ (v w : Stored) (new target : Option ℕ) (next : ℕ) (s : IsStore v) (
   root_before : (x : ℕ) → IsRootIn w x → Wanted x
   root_before x (inl p) = elim (a.principals x p) [ inl old ↦ inl (root_live v s x (inl old)) | inr e ↦ inr (news x e) ]
   root_before x (inr (inl p)) = elim (a.pending x p) [ inl old ↦ inl (root_live v s x (inr (inl old))) | inr e ↦ wanted x e ]
-  root_before x (inr (inr p)) = inl (root_live v s x (inr (inr (subst (λ (l : List (Option ℕ)). Contains l (Some x)) a.agents p))))
+  root_before x (inr (inr p)) = elim (a.agents x p) [ inl old ↦ inl (root_live v s x (inr (inr old))) | inr e ↦ wanted x e ]
 
   not_grey : (p : Progress) (i : ℕ) → new_colour p i ≢ Grey
   not_grey AtRest i e = cc
@@ -179,6 +179,9 @@ module _ {v w : Stored} {seat x y : ℕ} {rights : Letters} (stored : EdgeStored
   pub edge_principals : principals w ≡ principals v
   edge_principals = ap (λ z. principals z) stored.is
 
+  pub edge_agents : agents w ≡ agents v
+  edge_agents = ap (λ z. agents z) stored.is
+
 module _ {v w : Stored} {seat x serial : ℕ} {kind : Kind} {text : List ℕ} {rights : Letters} (stored : VertexStored v w seat x serial kind text rights) where
   pub vertex_pending : pending w ≡ set (pending v) seat (Some serial)
   vertex_pending = ap (λ z. pending z) stored.is ∙ map-set (λ o. root_serial o) v.roots.targets seat (Some (record { serial = serial; slot = stored.new }))
@@ -186,12 +189,18 @@ module _ {v w : Stored} {seat x serial : ℕ} {kind : Kind} {text : List ℕ} {r
   pub vertex_principals : principals w ≡ principals v
   vertex_principals = ap (λ z. principals z) stored.is
 
+  pub vertex_agents : agents w ≡ agents v
+  vertex_agents = ap (λ z. agents z) stored.is
+
 module _ {v w : Stored} {x y : ℕ} {rights : Letters} (removed : RightsRemoved v w x y rights) where
   pub removed_pending : pending w ≡ pending v
   removed_pending = ap (λ z. pending z) removed.is
 
   pub removed_principals : principals w ≡ principals v
   removed_principals = ap (λ z. principals z) removed.is
+
+  pub removed_agents : agents w ≡ agents v
+  removed_agents = ap (λ z. agents z) removed.is
 
 module _ {v w : Stored} {x : ℕ} {text answer : List ℕ} (replaced : TextReplaced v w x text answer) where
   pub text_graph : (next : ℕ) → held w next ≡ with_text (held v next) x text (vertex (held v next) x)
@@ -202,6 +211,9 @@ module _ {v w : Stored} {x : ℕ} {text answer : List ℕ} (replaced : TextRepla
 
   pub text_principals : principals w ≡ principals v
   text_principals = ap (λ z. principals z) replaced.is
+
+  pub text_agents : agents w ≡ agents v
+  text_agents = ap (λ z. agents z) replaced.is
 
   pub text_cells : w.free_cells ≡ v.free_cells
   text_cells = ap (λ z. z.free_cells) replaced.is
@@ -219,6 +231,10 @@ module _ (v w : Stored) (seat : ℕ) where
   pub shaded_principals : (answer : Option ℕ) → Shaded v w seat answer → principals w ≡ principals v
   shaded_principals None shaded = ap (λ z. principals z) shaded.1
   shaded_principals (Some x) shaded = ap (λ z. principals z) shaded.is
+
+  pub shaded_agents : (answer : Option ℕ) → Shaded v w seat answer → agents w ≡ agents v
+  shaded_agents None shaded = ap (λ z. agents z) shaded.1
+  shaded_agents (Some x) shaded = ap (λ z. agents z) shaded.is
 
   pub shaded_was : (answer : Option ℕ) → Shaded v w seat answer → answer ≡ pending_of v seat
   shaded_was None shaded = sym shaded.0

@@ -3,8 +3,8 @@ use Rattle.std.proofs.Common.{◌≡◌, ℕ, zero, suc, ◌<◌, ◌≤◌, Lis
 use Rattle.tg_collect.proofs.Common.{Contains, Colour, White, Grey, Black, HeapGraph, shaded, remaining, first_cell, Spot, Body, HasRoot, Kept, name, shade, left, Root, Roots, Progress, Idle, Marking, Sweeping, Machine, RootLists, IsListed}
 use Rattle.tg_collect.proofs.Common.{with_target, lists_of, slot_of, bare, body, progress_in, progress_of, CursorFits, Whole, stored, shown, root_serial, Kind, Free, mark_at, IsHeap, name_of, seen, as_kept, put, new_colour, comes, Stored}
 use Rattle.tg_collect.proofs.Common.{as_progress, kept, kept_from, progress, held, IsHeldIn, IsParkedIn, Letters, contains_map, Edge, put_each, at_within, EdgeStored, VertexStored, RightsRemoved, TextReplaced, map-set, keeps, shade_spot}
-use Rattle.tg_collect.proofs.Common.{shade_in, Reroots, ShadesTarget, Places, shade_name, shade_kept, root_before, idle_stays, held_keeps, shades_keeps, places_keeps, same_roots, left_shade, left_places, shade_each, Apart, zip, AreRoots}
-use Rattle.tg_collect.proofs.Common.{ShadesSeat, Shaded, TargetShaded, Changes, Acted, Leads, pending}
+use Rattle.tg_collect.proofs.Common.{shade_in, ShadesTarget, Places, shade_name, shade_kept, held_keeps, shades_keeps, places_keeps, same_roots, left_shade, left_places, shade_each, Apart, zip, AreRoots}
+use Rattle.tg_collect.proofs.Common.{ShadesSeat, Shaded, TargetShaded, Changes, Acted, Leads, agents, pending, principals}
 use Rattle.tg_marking.specs.Values as values
 use Rattle.tg_marking.specs.Steps as steps
 use Rattle.std.specs.FinMap as finmap
@@ -28,7 +28,7 @@ set_only (x ∷ xs) zero v z (inr h) = inl (inr h)
 set_only (x ∷ xs) (suc k) v z (inl e) = inl (inl e)
 set_only (x ∷ xs) (suc k) v z (inr h) = elim (set_only xs k v z h) [ inl old ↦ inl (inr old) | inr new ↦ inr new ]
 
-listed_seat : (rs : RootLists) (seat : ℕ) (x : Option Root) (r : Root) → IsListed (with_target rs seat x) r → IsListed rs r ⊎ (x ≡ Some r)
+pub listed_seat : (rs : RootLists) (seat : ℕ) (x : Option Root) (r : Root) → IsListed (with_target rs seat x) r → IsListed rs r ⊎ (x ≡ Some r)
 listed_seat rs seat x r (inl h) = elim (set_only rs.targets seat x (Some r) h) [ inl old ↦ inl (inl old) | inr new ↦ inr new ]
 listed_seat rs seat x r (inr h) = inl (inr h)
 
@@ -42,18 +42,6 @@ roots_seat rs b seat x new a = record {
 
 pub roots_move : (rs : RootLists) (b b' : Body) → ((i : ℕ) → HasRoot (bare rs) i → name b' i ≡ name b i) → AreRoots rs b → AreRoots rs b'
 roots_move rs b b' same a = record { seats = a.seats; few = a.few; agents = a.agents; named = λ r h. same r.slot (listed_root rs r h) ∙ a.named r h }
-
--- The seat gains a target that is held.
-pub reroots_seat : (b : Body) (p : values.Progress) (seat i : ℕ) (k : Kept) → get_or b.roots.targets seat None ≡ None → seat < length b.roots.targets → values.kept b p i ≡ Some k
-    → Reroots b p (steps.with_target b.roots seat (Some i)) (record b { roots = steps.with_target b.roots seat (Some i) })
-reroots_seat b p seat i k idle l held = record {
-  comes = λ j r. elim (root_before b.roots seat (Some i) j r) [
-    | inl here ↦ (let same : i ≡ j = cc in inr ((seat, get_or-set_same b.roots.targets seat (Some i) None l ∙ here), k, subst (λ (n : ℕ). values.kept b p n ≡ Some k) same held))
-    | inr old ↦ inl old
-  ];
-  stays = λ j w t. idle_stays b.roots seat (Some i) j idle t;
-  is = refl;
-}
 
 -- Progress and cursor are read off the lists alone.
 pub same_progress : (h g : HeapGraph) (p : Progress) → g.lists ≡ h.lists → progress_in g p ≡ progress_in h p
@@ -271,9 +259,9 @@ module _ (m : Machine) (seat i serial : ℕ) (kind : Kind) (text rest : List ℕ
       ∙ rw (new_held (progress (stored m)) i vertex (sym (new_same (progress_of m) i))) refl
 
 -- Each session call is a session step of a run.
--- The targets after a seat's was set.
-pending_set : (v : Stored) (seat : ℕ) (t : Option Root) (x : ℕ) → Contains (map (λ o. root_serial o) (set v.roots.targets seat t)) (Some x) → Contains (pending v) (Some x) ⊎ (root_serial t ≡ Some x)
-pending_set v seat t x h = set_only (pending v) seat (root_serial t) (Some x) (subst (λ l. Contains l (Some x)) (map-set (λ o. root_serial o) v.roots.targets seat t) h)
+-- The targets, or the agents, after a seat's was set.
+pub serial_set : (rs : List (Option Root)) (seat : ℕ) (t : Option Root) (x : ℕ) → Contains (map (λ o. root_serial o) (set rs seat t)) (Some x) → Contains (map (λ o. root_serial o) rs) (Some x) ⊎ (root_serial t ≡ Some x)
+serial_set rs seat t x h = set_only (map (λ o. root_serial o) rs) seat (root_serial t) (Some x) (subst (λ l. Contains l (Some x)) (map-set (λ o. root_serial o) rs seat t) h)
 
 -- One slot changes.
 one_changes : (v : Stored) (new target : Option ℕ) (i : ℕ) (s : Spot) (o : Option Spot) → readings.spot v i ≡ Some s → Changes v new target i (Some s) o → (j : ℕ) → Changes v new target j (readings.spot v j) (get_or (set v.slots i o) j None)
@@ -283,10 +271,17 @@ one_changes v new target i s o at c = put_each (λ j x. Changes v new target j (
 acted_by : (v : Stored) (slots : List (Option Spot)) (targets : List (Option Root)) (free left : ℕ) (new target : Option ℕ)
     → ((x : ℕ) → Contains (map (λ o. root_serial o) targets) (Some x) → Contains (pending v) (Some x) ⊎ (target ≡ Some x)) → length slots ≡ length v.slots
     → ((i : ℕ) → Changes v new target i (readings.spot v i) (get_or slots i None)) → left ≤ v.left → Acted v (record v { slots = slots; roots = record v.roots { targets = targets }; free_cells = free; left = left }) new target
-acted_by v slots targets free left new target seats size each lower = record { stage = refl; principals = λ x h. inl h; agents = refl; pending = seats; slots = size; changes = each; cells = refl; left = lower }
+acted_by v slots targets free left new target seats size each lower = record { stage = refl; principals = λ x h. inl h; agents = λ x h. inl h; pending = seats; slots = size; changes = each; cells = refl; left = lower }
+
+-- A step that leaves all but the roots.
+pub acted_roots : (v w : Stored) (rs : RootLists) (target : Option ℕ) → w ≡ record v { roots = rs } → ((x : ℕ) → Contains (map (λ (r : Root). r.serial) rs.principals) x → Contains (principals v) x)
+    → ((x : ℕ) → Contains (map (λ o. root_serial o) rs.targets) (Some x) → Contains (pending v) (Some x) ⊎ (target ≡ Some x))
+    → ((x : ℕ) → Contains (map (λ o. root_serial o) rs.agents) (Some x) → Contains (agents v) (Some x) ⊎ (target ≡ Some x)) → Acted v w None target
+acted_roots v w rs target is old seats assumed = subst (λ (z : Stored). Acted v z None target) (sym is)
+    (record { stage = refl; principals = λ x h. inl (old x h); agents = assumed; pending = seats; slots = refl; changes = λ i. sessions.same (readings.spot v i); cells = refl; left = omega arith })
 
 pub acted_same : (v w : Stored) → w ≡ v → Acted v w None None
-acted_same v w is = subst (λ (z : Stored). Acted v z None None) (sym is) (acted_by v v.slots v.roots.targets v.free_cells v.left None None (λ x h. inl h) refl (λ i. sessions.same (readings.spot v i)) (omega arith))
+acted_same v w is = acted_roots v w v.roots None is (λ x h. h) (λ x h. inl h) (λ x h. inl h)
 
 -- New edges lead to what the old ones did, or to the target.
 led_to : (es : List Edge) (y : ℕ) (e : Edge) → Leads es e ⊎ (e.serial ≡ y) → Leads es e ⊎ (Some y ≡ Some e.serial)
@@ -296,12 +291,12 @@ led_to es y e (inr new) = inr (ap (λ (n : ℕ). Some n) (sym new))
 pub acted_shaded : (v w : Stored) (seat : ℕ) (answer : Option ℕ) → Shaded v w seat answer → Acted v w None None
 acted_shaded v w seat None s = acted_same v w s.1
 acted_shaded v w seat (Some x) s = subst (λ (z : Stored). Acted v z None None) (sym s.is) (acted_by v (shade (shown v) s.slot).slots (set v.roots.targets seat None) v.free_cells w.left None None
-    (λ y h. elim (pending_set v seat None y h) [ inl old ↦ inl old | inr bad ↦ absurd (cc) ]) (shade_size (shown v) s.slot)
+    (serial_set v.roots.targets seat None) (shade_size (shown v) s.slot)
     (shade_each (λ j o. Changes v None None j (readings.spot v j) o) (shown v) s.slot (λ t e c. subst (λ (q : Option Spot). Changes v None None s.slot q (Some (record t { colour = Grey }))) (sym e) (sessions.shaded t c s.root)) (λ j. sessions.same (readings.spot v j))) s.left)
 
 pub acted_edge : (v w : Stored) (seat x y : ℕ) (rights : Letters) → EdgeStored v w seat x y rights → Acted v w None (Some y)
 acted_edge v w seat x y rights s = subst (λ (z : Stored). Acted v z None (Some y)) (sym s.is) (acted_by v (set v.slots s.slot (Some (record s.owner { edges = s.edges }))) (set v.roots.targets seat (Some s.target)) w.free_cells w.left None (Some y)
-    (λ z h. elim (pending_set v seat (Some s.target) z h) [ inl old ↦ inl old | inr new ↦ inr (ap (λ (n : ℕ). Some n) (sym s.named) ∙ new) ]) (length-set v.slots s.slot _)
+    (λ z h. elim (serial_set v.roots.targets seat (Some s.target) z h) [ inl old ↦ inl old | inr new ↦ inr (ap (λ (n : ℕ). Some n) (sym s.named) ∙ new) ]) (length-set v.slots s.slot _)
     (one_changes v None (Some y) s.slot s.owner _ s.at (sessions.regards s.owner s.edges s.owner.text (λ e h. led_to s.owner.edges y e (s.leads e h)))) s.left)
 
 pub acted_removed : (v w : Stored) (x y : ℕ) (rights : Letters) → RightsRemoved v w x y rights → Acted v w None None
@@ -317,7 +312,7 @@ acted_vertex v w seat x serial kind text rights s =
     let vertex : Spot = record { serial = serial; kind = kind; text = text; edges = []; colour = new_colour (progress v) s.new } in
     subst (λ (z : Stored). Acted v z (Some serial) (Some serial)) (sym s.is)
     (acted_by v (set (set v.slots s.new (Some vertex)) s.slot (Some (record s.owner { edges = s.edges }))) (set v.roots.targets seat (Some (record { serial = serial; slot = s.new }))) w.free_cells w.left (Some serial) (Some serial)
-    (pending_set v seat (Some (record { serial = serial; slot = s.new }))) (length-set (set v.slots s.new (Some vertex)) s.slot _ ∙ length-set v.slots s.new _)
+    (serial_set v.roots.targets seat (Some (record { serial = serial; slot = s.new }))) (length-set (set v.slots s.new (Some vertex)) s.slot _ ∙ length-set v.slots s.new _)
     (put_each (λ j o. Changes v (Some serial) (Some serial) j (readings.spot v j) o) (record (shown v) { slots = set v.slots s.new (Some vertex) }) s.slot (Some (record s.owner { edges = s.edges }))
     (let b = at_within v.slots s.slot s.owner s.at in let l = length-set v.slots s.new (Some vertex) in omega (arith, b, l))
     (subst (λ (q : Option Spot). Changes v (Some serial) (Some serial) s.slot q (Some (record s.owner { edges = s.edges }))) (sym s.at)

@@ -50,6 +50,13 @@ with_principal rs r = record rs { principals = rs.principals ++ r ∷ [] }
 abbrev pub without_principal : RootLists → ℕ → RootLists
 without_principal rs x = record rs { principals = filter (λ (r : Root). not (r.serial == x)) rs.principals }
 
+-- the roots once a seat has another agent, and once it assumes one, who is its target too
+abbrev pub with_agent : RootLists → ℕ → Option Root → RootLists
+with_agent rs seat a = record rs { agents = set rs.agents seat a }
+
+abbrev pub assuming : RootLists → ℕ → Root → RootLists
+assuming rs seat r = with_agent (with_target rs seat (Some r)) seat (Some r)
+
 -- a root is in one of the lists
 abbrev pub IsListed : RootLists → Root → Type 0
 IsListed rs r = Contains rs.targets (Some r) ⊎ (Contains rs.principals r ⊎ Contains rs.agents (Some r))
@@ -220,12 +227,9 @@ Puts m serial kind text (Ok i) n = (rest : List ℕ) × (m.heap.table.free ≡ i
     })
 Puts m serial kind text (Err back) n = (back ≡ text) × (m.heap.table.free ≡ []) × (n ≡ m)
 
--- a root is made a principal; a principal retires
-abbrev pub AddsPrincipal : Machine → Root → Machine → Type 0
-AddsPrincipal m r n = (lists_of n.roots ≡ with_principal (lists_of m.roots) r) × (n ≡ record m { roots = n.roots })
-
-abbrev pub Retires : Machine → ℕ → Machine → Type 0
-Retires m x n = (lists_of n.roots ≡ without_principal (lists_of m.roots) x) × (n ≡ record m { roots = n.roots })
+-- the roots are these, and nothing else changes
+abbrev pub Rerooted : Machine → RootLists → Machine → Type 0
+Rerooted m rs n = (lists_of n.roots ≡ rs) × (n ≡ record m { roots = n.roots })
 
 abbrev pub SetsText : Machine → ℕ → (text old : List ℕ) → Machine → Type 0
 SetsText m id text old n = (o : Occupant) × (slot m.heap.table id ≡ Some o) × (old ≡ o.text)

@@ -134,6 +134,9 @@ pending_of v seat = get_or (pending v) seat None
 abbrev pub agents : Stored → List (Option ℕ)
 agents v = map (λ o. root_serial o) v.roots.agents
 
+abbrev pub agent_of : Stored → ℕ → Option ℕ
+agent_of v seat = get_or (agents v) seat None
+
 abbrev pub IsRootIn : Stored → ℕ → Type 0
 IsRootIn v x = Contains (principals v) x ⊎ (Contains (pending v) (Some x) ⊎ Contains (agents v) (Some x))
 

@@ -13,7 +13,7 @@ use Rattle.tg_marking.specs.Values.{Spot}
 use Rattle.tg_marking.specs.Steps.{new_colour, shade}
 use Rattle.tg_collect.specs.declared.machine.Root.{Root}
 use Rattle.tg_rights.specs.declared.kind.Kind.TheVariants.{Subject}
-use Rattle.tg_collect.specs.Machine.{with_principal, with_target, without_principal}
+use Rattle.tg_collect.specs.Machine.{assuming, with_agent, with_principal, with_target, without_principal}
 use Rattle.tg_collect.specs.Stored.{Stored}
 use Rattle.tg_collect.specs.Readings.{shown, spot, place, progress, held, free_slots, pending_of, IsEdgeIn, IsRootAt, principals, pending, agents}
 
@@ -90,6 +90,16 @@ pub record PrincipalStored (v w : Stored) (seat x serial : ℕ) (text : List ℕ
 abbrev pub Retired : Stored → Stored → ℕ → Type 0
 Retired v w x = w ≡ record v { roots = without_principal v.roots x }
 
+-- x, which is held in some slot, is the seat's target and its agent from then on
+pub record Assumed (v w : Stored) (seat x : ℕ) : Type 0 where
+  pub slot : ℕ
+  pub place : place v slot ≡ Some x
+  pub is : w ≡ record v { roots = assuming v.roots seat (record { serial = x; slot = slot }) }
+
+-- the seat has no agent any longer, who is a root then only as another one
+abbrev pub Left : Stored → Stored → ℕ → Type 0
+Left v w seat = w ≡ record v { roots = with_agent v.roots seat None }
+
 -- x loses rights over y. An edge left with none gives its cell back.
 pub record RightsRemoved (v w : Stored) (x y : ℕ) (rights : Letters) : Type 0 where
   pub graph : (next : ℕ) → held w next ≡ record (held v next) { triples = finset.difference (held v next).triples (edge x rights y) }
@@ -124,11 +134,12 @@ pub data Changes (v : Stored) (new target : Option ℕ) (i : ℕ) : Option Spot 
       → Changes v new target i (Some s) (Some (record s { edges = es; text = text }))
   comes : (s : Spot) → new ≡ Some s.serial → s.colour ≡ new_colour (progress v) i → ((e : Edge) → Contains s.edges e → target ≡ Some e.serial) → Changes v new target i None (Some s)
 
--- one session step: the new serial, if any, and the target that it sets, if any; what is new may be a principal
+-- one session step: the new serial, if any, and the target that it sets, if any; what is new may be a principal, and the
+-- target an agent
 pub record Acted (v w : Stored) (new target : Option ℕ) : Type 0 where
   pub stage : w.stage ≡ v.stage
   pub principals : (x : ℕ) → Contains (principals w) x → Contains (principals v) x ⊎ (new ≡ Some x)
-  pub agents : agents w ≡ agents v
+  pub agents : (x : ℕ) → Contains (agents w) (Some x) → Contains (agents v) (Some x) ⊎ (target ≡ Some x)
   pub pending : (x : ℕ) → Contains (pending w) (Some x) → Contains (pending v) (Some x) ⊎ (target ≡ Some x)
   pub slots : length w.slots ≡ length v.slots
   pub changes : (i : ℕ) → Changes v new target i (spot v i) (spot w i)

@@ -8,7 +8,7 @@ ghost use Rattle.tg_slots.specs.Table.{Free, Has, slot};
 ghost use Rattle.tg_slots.specs.declared.slots.Occupant.{Occupant};
 ghost use Rattle.tg_cells.specs.Lists.{HasNone, Found};
 ghost use Rattle.tg_heap.specs.Graph.{edges, mark_at};
-ghost use Rattle.tg_collect.specs.Machine.{Whole, Steps, phase_of, ShadesFirst, NoneWhite, AreWithin, slot_of, other_slots, with_shaded, Adds, Links, Removes, Puts, SetsText, ShadesSeat, AddsPrincipal, Retires, progress_without, has_passed, colour_ahead};
+ghost use Rattle.tg_collect.specs.Machine.{Whole, Steps, phase_of, ShadesFirst, NoneWhite, AreWithin, slot_of, other_slots, with_shaded, Adds, Links, Removes, Puts, SetsText, ShadesSeat, Rerooted, assuming, lists_of, with_agent, with_principal, without_principal, progress_without, has_passed, colour_ahead};
 
 use crate::course::Course;
 use crate::note::{Note, Phase};
@@ -291,16 +291,34 @@ impl Machine {
     /// Makes a root a principal, of whom there are fewer than 64.
     pub fn add_principal(&mut self, root: Root)
         requires few { length self.old.roots.principals < MAX_PRINCIPALS }
-        ensures step { AddsPrincipal self.old root self.new }
+        ensures step { Rerooted self.old (with_principal (lists_of self.old.roots) root) self.new }
     {
         self.roots.principals.push(root);
     }
 
     /// Makes the vertex of this serial a principal no longer.
     pub fn retire(&mut self, serial: u64)
-        ensures step { Retires self.old serial self.new }
+        ensures step { Rerooted self.old (without_principal (lists_of self.old.roots) serial) self.new }
     {
         self.roots.principals.remove(serial);
+    }
+
+    /// Makes a root the seat's pending target and its agent.
+    pub fn assume(&mut self, seat: usize, root: Root)
+        requires target { seat < length self.old.roots.targets.items }
+        requires agent { seat < length self.old.roots.agents.items }
+        ensures step { Rerooted self.old (assuming (lists_of self.old.roots) seat root) self.new }
+    {
+        self.roots.targets[seat] = Some(root);
+        self.roots.agents[seat] = Some(root);
+    }
+
+    /// Takes the seat's agent away, if it has one.
+    pub fn leave(&mut self, seat: usize)
+        requires seat { seat < length self.old.roots.agents.items }
+        ensures step { Rerooted self.old (with_agent (lists_of self.old.roots) seat None) self.new }
+    {
+        self.roots.agents[seat] = None;
     }
 
     /// Replaces the text of a held slot, and returns the old one.

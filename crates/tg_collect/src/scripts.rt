@@ -1,7 +1,7 @@
 //! The scripts of calls, with every note of the collector in the steps that were worked out by hand.
 use crate::tests::Act::{
-    At, Create, Cycle, Edge, End, Enrol, FreeCells, FreeSlots, Join, Mark, Pending, Principals,
-    Reads, Reclaim, Remove, Retire, Shade, Sweep, Write,
+    Agent, Assume, At, Create, Cycle, Edge, End, Enrol, FreeCells, FreeSlots, Join, Leave, Mark,
+    Pending, Principals, Reads, Reclaim, Remove, Retire, Shade, Sweep, Write,
 };
 use crate::tests::{PLAIN, Script};
 use tg_heap::HeapFull;
@@ -317,6 +317,83 @@ pub const SCRIPTS: &[Script] = &[
             Pending(0, None),
             Principals(&[1, 2, 3]),
             FreeCells(0),
+        ],
+        ..PLAIN
+    },
+    // nothing but seat 0 leads to 3, which is a subject and no principal
+    Script {
+        name: "an agent stays until its seat leaves it",
+        acts: &[
+            Enrol(0, 1, 3, "tg", None),
+            Shade(0, Some(3)),
+            Retire(3),
+            Agent(0, None),
+            Assume(0, 1, 3),
+            Agent(0, Some((3, 2))),
+            Remove(1, 3, "tg"),
+            Shade(0, Some(3)),
+            Cycle(7, 4),
+            Cycle(7, 4),
+            FreeSlots(0),
+            Leave(0),
+            Agent(0, None),
+            Mark(5),
+            Sweep(3),
+            Reclaim(1),
+            End,
+            FreeSlots(1),
+        ],
+        ..PLAIN
+    },
+    Script {
+        name: "each seat has its own agent, the last that it assumed",
+        slots: 4,
+        acts: &[
+            Create(0, 1, 3, "tg", None),
+            Shade(0, Some(3)),
+            Create(0, 1, 4, "tg", None),
+            Shade(0, Some(4)),
+            Assume(0, 1, 3),
+            Assume(63, 1, 4),
+            Shade(0, Some(3)),
+            Shade(63, Some(4)),
+            Remove(1, 3, "tg"),
+            Remove(1, 4, "tg"),
+            Cycle(9, 5),
+            Leave(63),
+            Leave(63),
+            Agent(0, Some((3, 2))),
+            Agent(63, None),
+            Mark(7),
+            Sweep(4),
+            Reclaim(1),
+            End,
+            Assume(0, 2, 2),
+            Agent(0, Some((2, 1))),
+            Shade(0, Some(2)),
+            Mark(5),
+            Sweep(3),
+            Reclaim(1),
+            Sweep(1),
+            End,
+            FreeSlots(2),
+        ],
+        ..PLAIN
+    },
+    // agents are shaded when a cycle starts; one that comes later is white, and its seat's target
+    Script {
+        name: "an agent comes during the marking",
+        acts: &[
+            Create(1, 2, 3, "tg", None),
+            Shade(1, Some(3)),
+            Cycle(8, 4),
+            Mark(3),
+            Assume(0, 2, 3),
+            Remove(2, 3, "tg"),
+            Cycle(5, 4),
+            Shade(0, Some(3)),
+            Cycle(7, 4),
+            FreeSlots(0),
         ],
         ..PLAIN
     },

@@ -9,9 +9,9 @@ ghost use Rattle.tg_rights.specs.Membership.{Contains};
 ghost use Rattle.tg_graph.specs.Protection.{label};
 ghost use Rattle.tg_graph.specs.Rules.{edges_of};
 ghost use Rattle.tg_heap.specs.Graph.{edges};
-ghost use Rattle.tg_collect.specs.Readings.{IsHeldIn, IsParkedIn, IsEdgeIn, held, vertices, principals, place, serial_at, pending_of, free_slots, slot_count, phase};
+ghost use Rattle.tg_collect.specs.Readings.{IsHeldIn, IsParkedIn, IsEdgeIn, held, vertices, principals, place, serial_at, pending_of, agent_of, free_slots, slot_count, phase};
 ghost use Rattle.tg_collect.specs.Views.{IsStore, Collected};
-ghost use Rattle.tg_collect.specs.Sessions.{Shaded, EdgeStored, VertexStored, PrincipalStored, Retired, RightsRemoved, TextReplaced, Acted};
+ghost use Rattle.tg_collect.specs.Sessions.{Shaded, EdgeStored, VertexStored, PrincipalStored, Retired, Assumed, Left, RightsRemoved, TextReplaced, Acted};
 ghost use Rattle.tg_collect.specs.Openings.{IsOpening, Opened};
 
 use crate::machine::{Machine, Root};
@@ -22,8 +22,8 @@ use tg_graph::Graph;
 use tg_heap::{HeapFull, Key};
 use tg_rights::{Kind, Rights, Text};
 
-/// Vertices with their labelled edges in slots and cells, the principals, one pending target per seat, and their
-/// collector. Contracts see what is held as a protection graph, and of the collector its phase, the colours, what is
+/// Vertices with their labelled edges in slots and cells, the principals, each seat's pending target and agent, and
+/// their collector. Contracts see what is held as a protection graph, and of the collector its phase, the colours, what is
 /// parked and what is left of a cycle.
 ///
 /// A call that names a slot requires that a vertex is held there; one that names a seat, that it is 0 to 63.
@@ -152,6 +152,17 @@ impl Store {
         }
     }
 
+    /// For whom the seat acts, and the slot; none if it has no agent.
+    pub fn agent(&self, seat: u64) -> Option<(u64, u32)>
+        requires { seat < SEATS }
+        ensures { MatchOption result (agent_of self.now seat ≡ None) (λ a. (agent_of self.now seat ≡ Some a.0) × (place self.now a.1 ≡ Some a.0)) }
+    {
+        match self.machine.roots.agents[seat as usize] {
+            None => None,
+            Some(root) => Some((root.serial, root.slot)),
+        }
+    }
+
     /// How many slots are free.
     pub fn free_slots(&self) -> u32
         ensures { result ≡ free_slots self.now }
@@ -174,6 +185,15 @@ impl Store {
         self.machine.progress.get().phase()
     }
 
+    /// The vertex in a slot, as a root.
+    fn root_at(&self, id: u32) -> Root
+        requires { IsSome (place self.now id) }
+        ensures { result ≡ record { serial = serial_at self.now id; slot = id } }
+    {
+        let serial = self.machine.heap.serial(id).unwrap();
+        Root { serial, slot: id }
+    }
+
     /// Joins rights to the label of an edge, and makes its target the seat's pending one. The only error is Cells, if
     /// the edge is new and no cell is free; everything is then as before.
     pub fn store_edge(
@@ -194,12 +214,8 @@ impl Store {
         ensures full { IfErr result (λ full. (full ≡ HeapFull.Cells) × (self.old.free_cells ≡ 0) × (IsEdgeIn self.old (serial_at self.old id) (serial_at self.old target) → ⊥)) }
         ensures unchanged { OnErr result (self.new ≡ self.old) }
     {
+        let root = self.root_at(target);
         self.machine.heap.soundness();
-        let serial = self.machine.heap.serial(target).unwrap();
-        let root = Root {
-            serial,
-            slot: target,
-        };
         let added = self.machine.add_edge(seat as usize, id, root, rights);
         self.machine.heap.soundness();
         added
@@ -287,6 +303,27 @@ impl Store {
         ensures acted { Acted self.old self.new None None }
     {
         self.machine.retire(serial);
+    }
+
+    /// Makes the vertex in a slot the seat's agent, in place of the one before, and its pending target.
+    pub fn assume(&mut self, seat: u64, id: u32)
+        requires seat { seat < SEATS }
+        requires idle { pending_of self.old seat ≡ None }
+        requires held { IsSome (place self.old id) }
+        ensures assumed { Assumed self.old self.new seat (serial_at self.old id) }
+        ensures acted { Acted self.old self.new None (Some (serial_at self.old id)) }
+    {
+        let root = self.root_at(id);
+        self.machine.assume(seat as usize, root);
+    }
+
+    /// Takes the seat's agent away, if it has one.
+    pub fn leave(&mut self, seat: u64)
+        requires { seat < SEATS }
+        ensures left { Left self.old self.new seat }
+        ensures acted { Acted self.old self.new None None }
+    {
+        self.machine.leave(seat as usize);
     }
 
     /// Takes rights from the label of an edge, which has them; an edge left with none gives its cell back.

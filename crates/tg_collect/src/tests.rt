@@ -67,6 +67,11 @@ pub enum Act {
     Shade(u64, Option<u64>),
     /// The text of a document over which a principal has a right is replaced, with the old one.
     Write(u64, u64, &'static str, &'static str),
+    /// A seat assumes a principal, or a vertex that it has an edge to.
+    Assume(u64, u64, u64),
+    Leave(u64),
+    /// For whom a seat acts, and the slot.
+    Agent(u64, Option<(u64, u32)>),
     /// This many collector steps of the marking.
     Mark(u32),
     /// This many collector steps of the sweep that free no slot.
@@ -89,8 +94,8 @@ pub enum Act {
 }
 
 use Act::{
-    At, Create, Cycle, Edge, End, Enrol, FreeCells, FreeSlots, Join, Mark, Pending, Principals,
-    Reads, Reclaim, Remove, Retire, Shade, Sweep, Write,
+    Agent, Assume, At, Create, Cycle, Edge, End, Enrol, FreeCells, FreeSlots, Join, Leave, Mark,
+    Pending, Principals, Reads, Reclaim, Remove, Retire, Shade, Sweep, Write,
 };
 
 pub struct Script {
@@ -278,6 +283,24 @@ fn remove(rt: &impl Abort, store: &mut Store, principal: u64, serial: u64, right
     }
 }
 
+/// Lets a seat assume a principal, or a vertex that it has an edge to.
+fn assume(rt: &impl Abort, store: &mut Store, seat: u64, principal: u64, serial: u64) {
+    assert!(rt; seat < 64);
+    assert!(rt; store.pending(seat).is_none());
+    let id = at(rt, store, principal, serial);
+    store.assume(seat, id);
+}
+
+fn leave(rt: &impl Abort, store: &mut Store, seat: u64) {
+    assert!(rt; seat < 64);
+    store.leave(seat);
+}
+
+fn agent(rt: &impl Abort, store: &Store, seat: u64) -> Option<(u64, u32)> {
+    assert!(rt; seat < 64);
+    store.agent(seat)
+}
+
 fn shade(rt: &impl Abort, store: &mut Store, seat: u64) -> Option<u64> {
     assert!(rt; seat < 64);
     store.shade(seat)
@@ -392,6 +415,15 @@ fn goes(rt: &impl Abort, alloc: Global, store: &mut Store, act: &Act) -> Result<
             Ok(true)
         }
         Shade(seat, target) => Ok(shade(rt, store, *seat) == *target),
+        Assume(seat, principal, serial) => {
+            assume(rt, store, *seat, *principal, *serial);
+            Ok(true)
+        }
+        Leave(seat) => {
+            leave(rt, store, *seat);
+            Ok(true)
+        }
+        Agent(seat, found) => Ok(agent(rt, store, *seat) == *found),
         Write(principal, serial, new, old) => {
             replaces(rt, alloc, store, *principal, *serial, new, old)
         }

@@ -2,7 +2,8 @@ use Rattle.std.proofs.Common.{subst, None}
 use Rattle.tg_collect.specs.Machine.{Whole}
 use Rattle.tg_collect.specs.Stored.{Stored, stored}
 use Rattle.tg_collect.specs.Sessions.{Acted, Retired}
-use Rattle.tg_collect.proofs.PrincipalLemmas.{acted_retired, principal_retired}
+use Rattle.tg_collect.proofs.PrincipalLemmas.{acted_retired}
+use Rattle.tg_collect.proofs.RootLemmas.{principal_retired}
 use Rattle.tg_collect.proofs.store.Store.retire.Goals as goal
 
 done : (c : goal.After-retire) → Whole c.retire.new.self × Retired (stored c.self.inside.machine) (stored c.retire.new.self) c.args.serial
