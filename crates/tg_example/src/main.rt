@@ -4,7 +4,7 @@
 use std::alloc::Global;
 use std::process::ExitCode;
 use tg_graph::Config;
-use tg_rights::{Command, Kind, Reply, Rights, Word};
+use tg_rights::{Command, Kind, Rights, Word};
 use tg_vault::Vault;
 
 /// A vault of alice (1) and bob (2), with g from alice to bob, three slots and four cells.
@@ -26,28 +26,24 @@ fn opened(alloc: Global) -> Option<Vault> {
     Vault::new(alloc, config).ok()
 }
 
-/// Asks the command at the seat, prints the reply, and shades the seat's pending target.
-fn ask(rt: &HostRuntime, vault: &mut Vault, seat: u64, command: Command) -> Option<Reply> {
+/// Asks the command at the seat, prints the reply, and shades the seat's pending target, if there is one.
+fn ask(rt: &HostRuntime, vault: &mut Vault, seat: u64, command: Command) -> Option<Option<u64>> {
     let (number, reply) = vault.command(seat, command).ok()?;
     println!(rt; "{number}: {reply:?}").ok()?;
-    vault.shade(seat).ok()?;
-    Some(reply)
+    vault.shade(seat).ok()
 }
 
 /// The story; `None` if a call fails.
-fn play(rt: &HostRuntime) -> Option<()> {
+fn play(rt: &HostRuntime, vault: &mut Vault) -> Option<()> {
     let (rights, kind) = (Rights::read(), Kind::Document);
-    let mut vault = opened(rt.alloc())?;
     vault.hello(0, "alice").ok()?;
     let bob = vault.hello(1, "bob").ok()?;
-    let Reply::Created(over) = ask(rt, &mut vault, 0, Command::create(kind, rights))? else {
-        return None;
-    };
-    ask(rt, &mut vault, 1, Command::read(over))?;
-    ask(rt, &mut vault, 0, Command::grant(rights, over, bob))?;
-    ask(rt, &mut vault, 1, Command::read(over))?;
-    ask(rt, &mut vault, 0, Command::remove(rights, over))?;
-    ask(rt, &mut vault, 1, Command::remove(rights, over))?;
+    let over = ask(rt, vault, 0, Command::create(kind, rights))??;
+    ask(rt, vault, 1, Command::read(over))?;
+    ask(rt, vault, 0, Command::grant(rights, over, bob))?;
+    ask(rt, vault, 1, Command::read(over))?;
+    ask(rt, vault, 0, Command::remove(rights, over))?;
+    ask(rt, vault, 1, Command::remove(rights, over))?;
     for _ in 0..2 {
         let swept = vault.cycle();
         println!(rt; "{} freed in {} steps", swept.freed, swept.steps).ok()?;
@@ -55,8 +51,14 @@ fn play(rt: &HostRuntime) -> Option<()> {
     Some(())
 }
 
+/// Opens a vault, and plays the story in it.
+fn open_and_play(rt: &HostRuntime) -> Option<()> {
+    let mut vault = opened(rt.alloc())?;
+    play(rt, &mut vault)
+}
+
 fn main(rt: HostRuntime) -> ExitCode {
-    match play(&rt) {
+    match open_and_play(&rt) {
         Some(()) => ExitCode::SUCCESS,
         None => ExitCode::FAILURE,
     }

@@ -1,5 +1,5 @@
 -- what the calls of a store do for an effect that the rules allow
-use Rattle.std.proofs.Common.{◌≡◌, ℕ, ◌+◌, Bool, true, false, cond, not, [], ◌∷◌, refl, sym, ap, subst, ◌∙◌, ◌⊎◌, inl, inr, Some, None, Result, Ok, Err, IfOk, OnOk, arith, List, set as set_at}
+use Rattle.std.proofs.Common.{◌≡◌, ℕ, ◌+◌, Bool, true, false, cond, [], refl, sym, ap, subst, ◌∙◌, ◌⊎◌, inl, inr, Some, None, Result, Ok, Err, IfOk, OnOk, arith, List, set as set_at}
 use Rattle.std.specs.Prelude.{Option}
 use Rattle.std.specs.Option.{is_some}
 use Rattle.std.specs.Ordering.{nat_cmp}
@@ -7,11 +7,9 @@ use Rattle.std.specs.FinMap as map
 use Rattle.std.specs.FinSet as set
 use Rattle.tg_rights.specs.Letters.{Letters, joined, without, is_none}
 use Rattle.tg_rights.specs.Command.{rule_of}
-use Rattle.tg_rights.specs.Membership.{Contains}
 use Rattle.tg_rights.specs.declared.kind.Kind.{Kind}
 use Rattle.tg_rights.specs.declared.command.Command.{Command}
 use Rattle.tg_rights.specs.declared.outcome.Cause.{Cause}
-use Rattle.tg_rights.specs.declared.outcome.Cause.TheVariants as cause
 use Rattle.tg_rights.specs.declared.outcome.Which.{Which}
 use Rattle.tg_rights.specs.declared.outcome.Which.TheVariants as which
 use Rattle.tg_rights.specs.declared.outcome.Outcome.TheVariants as outcome
@@ -21,45 +19,28 @@ use Rattle.tg_graph.specs.declared.member.Member.{Member}
 use Rattle.tg_graph.specs.declared.vertex.Vertex.{Vertex}
 use Rattle.tg_graph.specs.declared.rules.Spot.{Spot}
 use Rattle.tg_graph.specs.declared.rules.Found.{Found}
-use Rattle.tg_graph.specs.Names.{has_serial, with_member, without_member}
+use Rattle.tg_graph.specs.Names.{with_member, without_member}
 use Rattle.tg_graph.specs.Terms as effect
 use Rattle.tg_graph.specs.Terms.{Does, terms}
 use Rattle.tg_graph.specs.Deciding.{Each}
 use Rattle.tg_graph.specs.Triples.{edge}
-use Rattle.tg_graph.specs.Protection.{Protection, IsEdge, has_retired, label, vertex}
+use Rattle.tg_graph.specs.Protection.{Protection, IsEdge, label, vertex}
 use Rattle.tg_graph.specs.Fullness.{NewEdge, edges_at}
-use Rattle.tg_graph.specs.Rules.{Allowed, answered, denial, done, edges_of, first_failure, is_new, later_checks, later_denial, text_of, unless, with_text}
-use Rattle.tg_graph.proofs.PartsStayLemmas.{with_text-retired}
+use Rattle.tg_graph.specs.Rules.{Allowed, answered, denial, done, edges_of, is_new, text_of, with_text}
 use Rattle.tg_collect.specs.Stored.{Stored}
-use Rattle.tg_collect.specs.Readings.{held, pending, principals, free_slots, place, serial_at}
-use Rattle.tg_collect.specs.Sessions.{EdgeStored, Retired, RightsRemoved, TextReplaced, Acted}
+use Rattle.tg_collect.specs.Readings.{agents, held, pending, principals, free_slots, place, serial_at}
+use Rattle.tg_collect.specs.Sessions.{Assumed, EdgeStored, Left, Retired, RightsRemoved, TextReplaced, Acted}
 use Rattle.tg_collect.proofs.SeatLemmas.{acted_same}
-use Rattle.tg_collect.proofs.RunLemmas.{acted_slots, edge_pending, edge_principals, removed_pending, removed_principals, text_cells, text_graph, text_pending, text_principals, vertex_pending, vertex_principals}
-use Rattle.tg_collect.proofs.PrincipalLemmas.{principal_cells, principal_graph, principal_pending, principal_slots, retired_cells, retired_graph, retired_pending}
+use Rattle.tg_collect.proofs.RunLemmas.{acted_slots, edge_agents, edge_pending, edge_principals, removed_agents, removed_pending, removed_principals, text_agents, text_cells, text_graph, text_pending, text_principals, vertex_agents, vertex_pending, vertex_principals}
+use Rattle.tg_collect.proofs.PrincipalLemmas.{principal_agents, principal_cells, principal_graph, principal_pending, principal_slots, retired_agents, retired_cells, retired_graph, retired_pending}
+use Rattle.tg_collect.proofs.AgentLemmas.{assumed_agents, assumed_cells, assumed_graph, assumed_pending, assumed_principals, left_agents, left_cells, left_graph, left_pending, left_principals}
 use Rattle.tg_collect.proofs.StoreLemmas.{edge_in, in_edge}
-use Rattle.tg_vault.specs.World.{new_target, with_target}
+use Rattle.tg_vault.specs.World.{new_agents, new_target, with_target}
 use Rattle.tg_vault.specs.Seen.{seen, serials}
-use Rattle.tg_vault.specs.CarriedOut.{AllowedAmong, CarriedOut, CarriedOutAmong, EdgeMoves, IsUsedUp, Joined, Made, NoRoom, Stores, copies, serial_of}
+use Rattle.tg_vault.specs.CarriedOut.{CarriedOut, EdgeMoves, IsUsedUp, Joined, Made, NoRoom, Stores, copies, serial_of}
 use Rattle.tg_vault.proofs.EdgeLemmas.{edge_seen, edges_seen, joined_some, label_cut, label_seen, seen_edge}
 use Rattle.tg_vault.proofs.PlaceLemmas.{serial_is}
-use Rattle.tg_vault.proofs.SerialsLemmas.{listed, serials_left, serials_pushed, unlisted}
-
--- who has retired is denied, and for anybody else the rules decide by what is held, whoever else has retired
-pub retired_denied : (G : Protection) (x : ℕ) (c : Command) → has_retired G x ≡ true → denial G x c ≡ Some cause.Retired
-retired_denied G x c gone = ap (λ b. first_failure (unless (not b) cause.Retired ∷ later_checks G G.names x (terms x c))) gone
-
-pub denial_seen : (s : Stored) (next : ℕ) (names : List Member) (retired : set.FinSet nat_cmp) (x : ℕ) (c : Command) → set.contains retired x ≡ false →
-    denial (seen s next names retired) x c ≡ later_denial (held s 0) names x c
-unfolding label
-denial_seen s next names retired x c active = ap (λ b. first_failure (unless (not b) cause.Retired ∷ later_checks (seen s next names retired) names x (terms x c))) active
-
-pub allowed_among : (s : Stored) (next : ℕ) (names ms : List Member) (x : ℕ) (c : Command) → ms ≡ names → later_denial (held s 0) ms x c ≡ None → AllowedAmong s next names false x c
-allowed_among s next names ms x c same allowed = λ retired active.
-    denial_seen s next names retired x c active ∙ subst (λ (members : List Member). later_denial (held s 0) members x c ≡ None) same allowed
-
--- a graph in which the command is allowed
-pub allowed_here : (s : Stored) (next : ℕ) (names : List Member) (x : ℕ) (c : Command) → AllowedAmong s next names false x c → Allowed (seen s next names set.empty) x c
-allowed_here s next names x c allowed = allowed set.empty (set.contains-empty nat_cmp x)
+use Rattle.tg_vault.proofs.SerialsLemmas.{serials_left, serials_pushed}
 
 -- the spot of a vertex that was found is its slot
 pub placed : (s : Stored) (f : Found ℕ) (spot : Spot ℕ) (v : ℕ) → Each (λ p. place s p.place ≡ Some p.serial) f → (spot ≡ f.actor) ⊎ (f.first ≡ Some spot) ⊎ (f.then ≡ Some spot) → spot.serial ≡ v →
@@ -75,7 +56,7 @@ pub serial_found : (s : Stored) (f : Found ℕ) (spot : Spot ℕ) (v : ℕ) → 
 serial_found s f spot v each found at = serial_is s spot.place v (placed s f spot v each found at)
 
 -- an effect that makes no vertex and no edge needs nothing
-needs_none : (G : Protection) (f g : ℕ) (d : Does) → is_new d ≡ false → (NewEdge G d → ⊥) → (w : Which) → IsUsedUp G f g d w → ⊥
+pub needs_none : (G : Protection) (f g : ℕ) (d : Does) → is_new d ≡ false → (NewEdge G d → ⊥) → (w : Which) → IsUsedUp G f g d w → ⊥
 needs_none G f g d old none which.Serials u = cc (old, u.0)
 needs_none G f g d old none which.Slots u = cc (old, u.0)
 needs_none G f g d old none which.Cells u = none u.0
@@ -138,41 +119,44 @@ module _ (s t : Stored) (next : ℕ) (names : List Member) (retired : set.FinSet
   S = seen s next names retired
 
   -- an effect was carried out in the store and the list of the active principals, with this reply
-  pub record IsDone (after : ℕ) (left : List Member) (x : ℕ) (d : Does) (answer : Reply) : Type 0 where
+  pub record IsDone (after : ℕ) (left : List Member) (gone : set.FinSet nat_cmp) (x : ℕ) (d : Does) (answer : Reply) : Type 0 where
     pub room : (w : Which) → IsUsedUp S (free_slots s) s.free_cells d w → ⊥
     pub replied : answer ≡ answered S d
-    pub graph : seen t after left (done S x d).retired ≡ done S x d
+    pub graph : seen t after left gone ≡ done S x d
     pub pending : pending t ≡ with_target (pending s) seat (new_target S d)
+    pub agents : agents t ≡ new_agents (agents s) seat d
     pub acted : Acted s t (serial_of next d) (new_target S d)
     pub listed : principals t ≡ serials left
     pub slots : free_slots s ≡ free_slots t + cond (is_new d) 1 0
     pub cells : EdgeMoves S s.free_cells t.free_cells x d
 
   -- something that it needs is used up, and nothing changed
-  pub record IsFull (after : ℕ) (left : List Member) (d : Does) (w : Which) : Type 0 where
+  pub record IsFull (after : ℕ) (left : List Member) (gone : set.FinSet nat_cmp) (d : Does) (w : Which) : Type 0 where
     pub used : IsUsedUp S (free_slots s) s.free_cells d w
     pub same : t ≡ s
     pub next_same : after ≡ next
     pub names_same : left ≡ names
+    pub gone_same : gone ≡ retired
 
-  abbrev pub ByEffect : (after : ℕ) → (left : List Member) → (x : ℕ) → Does → Reply → Type 0
-  ByEffect after left x d answer = IsDone after left x d answer ⊎ ((w : Which) × (answer ≡ reply.Full w) × IsFull after left d w)
+  abbrev pub ByEffect : (after : ℕ) → (left : List Member) → (gone : set.FinSet nat_cmp) → (x : ℕ) → Does → Reply → Type 0
+  ByEffect after left gone x d answer = IsDone after left gone x d answer ⊎ ((w : Which) × (answer ≡ reply.Full w) × IsFull after left gone d w)
 
   -- with other principals and others retired
   among : {G K : Protection} → G ≡ K → record G { names = names; retired = retired } ≡ record K { names = names; retired = retired }
   among is = λ i. record (is i) { names = names; retired = retired }
 
   module _ (known : principals s ≡ serials names) where
-    pub carried_by : (after : ℕ) (left : List Member) (x : ℕ) (c : Command) (d : Does) (answer : Reply) → d ≡ (terms x c).does → Allowed S x c → ByEffect after left x d answer →
-        CarriedOut s t next after names left retired seat x c answer
-    carried_by after left x c d answer is a came = by (subst (λ e. ByEffect after left x e answer) is came) where
-      by : ByEffect after left x (terms x c).does answer → CarriedOut s t next after names left retired seat x c answer
+    pub carried_by : (after : ℕ) (left : List Member) (gone : set.FinSet nat_cmp) (x : ℕ) (c : Command) (d : Does) (answer : Reply) → d ≡ (terms x c).does → Allowed S x c → ByEffect after left gone x d answer →
+        CarriedOut s t next after names left retired gone seat x c answer
+    carried_by after left gone x c d answer is a came = by (subst (λ e. ByEffect after left gone x e answer) is came) where
+      by : ByEffect after left gone x (terms x c).does answer → CarriedOut s t next after names left retired gone seat x c answer
       by (inl k) = record {
         outcome = outcome.Allowed;
         decided = (a, k.room);
         replied = k.replied;
         graph = k.graph;
         pending = k.pending;
+        agents = k.agents;
         acted = k.acted;
         principals = k.listed;
         slots = k.slots;
@@ -182,20 +166,22 @@ module _ (s t : Stored) (next : ℕ) (names : List Member) (retired : set.FinSet
         outcome = outcome.Full w;
         decided = (a, f.used);
         replied = told;
-        graph = (λ i. seen (f.same i) (f.next_same i) (f.names_same i) retired);
+        graph = (λ i. seen (f.same i) (f.next_same i) (f.names_same i) (f.gone_same i));
         pending = ap (λ k. pending k) f.same;
+        agents = ap (λ k. agents k) f.same;
         acted = subst (λ (k : Stored). Acted s k None None) (sym f.same) (acted_same s s refl);
         principals = ap (λ (k : Stored). principals k) f.same ∙ known ∙ ap serials (sym f.names_same);
         slots = let same = ap (λ k. free_slots k) f.same in omega arith;
         cells = ap (λ k. k.free_cells) f.same;
       }
 
-    pub join_done : (x from to : ℕ) (α : Letters) (answer : Reply) → is_none α ≡ false → Joined s t seat from to α answer → ByEffect next names x (effect.Joins from α to) answer
+    pub join_done : (x from to : ℕ) (α : Letters) (answer : Reply) → is_none α ≡ false → Joined s t seat from to α answer → ByEffect next names retired x (effect.Joins from α to) answer
     join_done x from to α reply.Done some j = inl (record {
       room = room;
       replied = refl;
       graph = among (j.0.graph next);
       pending = edge_pending j.0;
+      agents = edge_agents j.0;
       acted = j.1;
       listed = edge_principals j.0 ∙ known;
       slots = let same = acted_slots j.1 in omega arith;
@@ -206,13 +192,14 @@ module _ (s t : Stored) (next : ℕ) (names : List Member) (retired : set.FinSet
       room which.Slots u = cc u.0
       room which.Cells u = had_room s t next seat from to α j.0 (λ e. u.0 (edge_seen s next next names retired from to e)) u.2
     join_done x from to α (reply.Full which.Cells) some j =
-        inr (which.Cells, refl, record { used = (λ e. j.2 (edge_in s next from to (seen_edge s next next names retired from to e)), λ e. absurd (cc e), j.1); same = j.0; next_same = refl; names_same = refl })
+        inr (which.Cells, refl, record { used = (λ e. j.2 (edge_in s next from to (seen_edge s next next names retired from to e)), λ e. absurd (cc e), j.1); same = j.0; next_same = refl; names_same = refl; gone_same = refl })
     join_done x from to α _ some j = absurd j
 
     -- what a new vertex leaves, whether it is a principal or not
     record IsStored (x : ℕ) (k : Kind) (α : Letters) (name : Option (List ℕ)) : Type 0 where
       pub graph : (n : ℕ) → held t n ≡ record (held s n) { vertices = map.insert (held s n).vertices next (record { kind = k; text = [] }); triples = set.union (held s n).triples (edge x α next) }
       pub targets : pending t ≡ set_at (pending s) seat (Some next)
+      pub agents : agents t ≡ agents s
       pub listed : principals t ≡ serials (with_member names name next)
       pub slots : free_slots s ≡ free_slots t + 1
       pub cells : s.free_cells ≡ t.free_cells + 1
@@ -221,6 +208,7 @@ module _ (s t : Stored) (next : ℕ) (names : List Member) (retired : set.FinSet
     stored x k α None v = record {
       graph = v.graph;
       targets = vertex_pending v;
+      agents = vertex_agents v;
       listed = vertex_principals v ∙ known;
       slots = v.free_slots;
       cells = v.free_cells;
@@ -228,18 +216,20 @@ module _ (s t : Stored) (next : ℕ) (names : List Member) (retired : set.FinSet
     stored x k α (Some name) (subject, p) = subst (λ k. IsStored x k α (Some name)) (sym subject) (record {
       graph = principal_graph p;
       targets = principal_pending p;
+      agents = principal_agents p;
       listed = serials_pushed s t names known seat x next [] α name p;
       slots = principal_slots p;
       cells = principal_cells p;
     })
 
     pub make_done : (x after : ℕ) (left : List Member) (k : Kind) (α : Letters) (name : Option (List ℕ)) (answer : Reply) → Made s t next after names left seat x k α name answer →
-        ByEffect after left x (effect.Makes k α name) answer
+        ByEffect after left retired x (effect.Makes k α name) answer
     make_done x after left k α name (reply.Created serial) m = inl (record {
       room = room;
       replied = ap (λ n. reply.Created n) m.0;
       graph = (λ i. seen t (m.2 i) (m.3 i) retired) ∙ (λ i. record (new.graph (next + 1) i) { names = with_member names name next; retired = retired });
       pending = new.targets;
+      agents = new.agents;
       acted = m.5;
       listed = new.listed ∙ ap serials (sym m.3);
       slots = new.slots;
@@ -252,122 +242,138 @@ module _ (s t : Stored) (next : ℕ) (names : List Member) (retired : set.FinSet
       room which.Serials u = let low = m.1 in let high = u.1 in absurd (omega arith)
       room which.Slots u = let none = u.2 in let had = new.slots in absurd (omega arith)
       room which.Cells u = let none = u.2 in let had = new.cells in absurd (omega arith)
-    make_done x after left k α name (reply.Full full) m = inr (full, refl, record { used = no_room full m.3; same = m.0; next_same = m.1; names_same = m.2 }) where
+    make_done x after left k α name (reply.Full full) m = inr (full, refl, record { used = no_room full m.3; same = m.0; next_same = m.1; names_same = m.2; gone_same = refl }) where
       no_room : (w : Which) → NoRoom s next w → IsUsedUp S (free_slots s) s.free_cells (effect.Makes k α name) w
       no_room which.Serials n = (refl, n)
       no_room which.Slots n = (refl, n.0, n.1)
       no_room which.Cells n = (n.0, (λ _. n.1), n.2)
     make_done x after left k α name _ m = absurd m
 
-    pub drop_done : (x over : ℕ) (α : Letters) → IsEdge (held s next) x over → RightsRemoved s t x over α → Acted s t None None → ByEffect next names x (effect.Drops α over) reply.Done
+    pub drop_done : (x over : ℕ) (α : Letters) → IsEdge (held s next) x over → RightsRemoved s t x over α → Acted s t None None → ByEffect next names retired x (effect.Drops α over) reply.Done
     drop_done x over α here removed acted = inl (record {
       room = needs_none S (free_slots s) s.free_cells (effect.Drops α over) refl (λ u. u);
       replied = refl;
       graph = among (removed.graph next);
       pending = removed_pending removed;
+      agents = removed_agents removed;
       acted = acted;
       listed = removed_principals removed ∙ known;
       slots = let same = acted_slots acted in omega arith;
       cells = subst (λ l. t.free_cells + edges_at (without l α) ≡ s.free_cells + edges_at l) (sym (label_seen s next next names retired x over)) (cells_cut s t next seat x over α here removed);
     })
 
-    pub rewrite_done : (x over : ℕ) (text old : List ℕ) → TextReplaced s t over text old → Acted s t None None → ByEffect next names x (effect.Rewrites over text) reply.Done
+    pub rewrite_done : (x over : ℕ) (text old : List ℕ) → TextReplaced s t over text old → Acted s t None None → ByEffect next names retired x (effect.Rewrites over text) reply.Done
     rewrite_done x over text old replaced acted = inl (record {
       room = needs_none S (free_slots s) s.free_cells (effect.Rewrites over text) refl (λ u. u);
       replied = refl;
-      graph =
-          ap (λ rs. seen t next names rs) (with_text-retired S over text (vertex S over))
-          ∙ among (text_graph replaced next)
-          ∙ with_text_among names retired (held s next) over text (vertex (held s next) over);
+      graph = among (text_graph replaced next) ∙ with_text_among names retired (held s next) over text (vertex (held s next) over);
       pending = text_pending replaced;
+      agents = text_agents replaced;
       acted = acted;
       listed = text_principals replaced ∙ known;
       slots = let same = acted_slots acted in omega arith;
       cells = text_cells replaced;
     })
 
-    pub retire_done : (x : ℕ) (left : List Member) → left ≡ without_member names x → Retired s t x → Acted s t None None → ByEffect next left x effect.Retires reply.Done
-    retire_done x left is gone acted = inl (record {
+    pub retire_done : (x : ℕ) (left : List Member) (gone : set.FinSet nat_cmp) → left ≡ without_member names x → gone ≡ set.insert retired x → Retired s t x → Acted s t None None →
+        ByEffect next left gone x effect.Retires reply.Done
+    retire_done x left gone is more goes acted = inl (record {
       room = needs_none S (free_slots s) s.free_cells effect.Retires refl (λ u. u);
       replied = refl;
-      graph = (λ i. record (retired_graph s t x gone next i) { names = is i; retired = set.insert retired x });
-      pending = retired_pending s t x gone;
+      graph = (λ i. record (retired_graph s t x goes next i) { names = is i; retired = more i });
+      pending = retired_pending s t x goes;
+      agents = retired_agents s t x goes;
       acted = acted;
-      listed = serials_left s t names known x gone ∙ ap serials (sym is);
+      listed = serials_left s t names known x goes ∙ ap serials (sym is);
       slots = let same = acted_slots acted in omega arith;
-      cells = retired_cells s t x gone;
+      cells = retired_cells s t x goes;
+    })
+
+    pub assume_done : (x agent : ℕ) → Assumed s t seat agent → Acted s t None (Some agent) → ByEffect next names retired x (effect.Acts (Some agent)) reply.Done
+    assume_done x agent assumed acted = inl (record {
+      room = needs_none S (free_slots s) s.free_cells (effect.Acts (Some agent)) refl (λ u. u);
+      replied = refl;
+      graph = among (assumed_graph assumed next);
+      pending = assumed_pending assumed;
+      agents = assumed_agents assumed;
+      acted = acted;
+      listed = assumed_principals assumed ∙ known;
+      slots = let same = acted_slots acted in omega arith;
+      cells = assumed_cells assumed;
+    })
+
+    pub leave_done : (x : ℕ) → Left s t seat → Acted s t None None → ByEffect next names retired x (effect.Acts None) reply.Done
+    leave_done x left acted = inl (record {
+      room = needs_none S (free_slots s) s.free_cells (effect.Acts None) refl (λ u. u);
+      replied = refl;
+      graph = among (left_graph s t seat left next);
+      pending = left_pending s t seat left;
+      agents = left_agents s t seat left;
+      acted = acted;
+      listed = left_principals s t seat left ∙ known;
+      slots = let same = acted_slots acted in omega arith;
+      cells = left_cells s t seat left;
     })
 
 -- reads, looks and denials change nothing
 module _ (s : Stored) (next : ℕ) (names : List Member) (retired : set.FinSet nat_cmp) (seat : ℕ) (known : principals s ≡ serials names) (x : ℕ) where
-  pub tell_done : (over : ℕ) (answer : Reply) → answer ≡ reply.Text (text_of (held s next) over) → ByEffect s s next names retired seat next names x (effect.Tells over) answer
+  pub tell_done : (over : ℕ) (answer : Reply) → answer ≡ reply.Text (text_of (held s next) over) → ByEffect s s next names retired seat next names retired x (effect.Tells over) answer
   tell_done over answer is = inl (record {
     room = needs_none (seen s next names retired) (free_slots s) s.free_cells (effect.Tells over) refl (λ u. u);
     replied = is;
     graph = refl;
     pending = refl;
+    agents = refl;
     acted = acted_same s s refl;
     listed = known;
     slots = omega arith;
     cells = refl;
   })
 
-  pub list_done : (at : ℕ) (answer : Reply) → answer ≡ reply.Edges (edges_of (held s next) at) → ByEffect s s next names retired seat next names x (effect.Lists at) answer
+  pub list_done : (at : ℕ) (answer : Reply) → answer ≡ reply.Edges (edges_of (held s next) at) → ByEffect s s next names retired seat next names retired x (effect.Lists at) answer
   list_done at answer is = inl (record {
     room = needs_none (seen s next names retired) (free_slots s) s.free_cells (effect.Lists at) refl (λ u. u);
     replied = is ∙ ap (λ es. reply.Edges es) (sym (edges_seen s next next names retired at));
     graph = refl;
     pending = refl;
+    agents = refl;
     acted = acted_same s s refl;
     listed = known;
     slots = omega arith;
     cells = refl;
   })
 
-  pub denied_carried : (c : Command) (why : Cause) → denial (seen s next names retired) x c ≡ Some why → CarriedOut s s next next names names retired seat x c (reply.Denied (rule_of c) why)
+  pub denied_carried : (c : Command) (why : Cause) → denial (seen s next names retired) x c ≡ Some why → CarriedOut s s next next names names retired retired seat x c (reply.Denied (rule_of c) why)
   denied_carried c why denied = record {
     outcome = outcome.Denied (rule_of c) why;
     decided = (refl, denied);
     replied = refl;
     graph = refl;
     pending = refl;
+    agents = refl;
     acted = acted_same s s refl;
     principals = known;
     slots = omega arith;
     cells = refl;
   }
 
--- the same whoever else has retired
-module _ (s t : Stored) (next : ℕ) (names : List Member) (seat : ℕ) (known : principals s ≡ serials names) (x : ℕ) (c : Command) where
-  abbrev pub EffectAmong : (after : ℕ) → (left : List Member) → Does → Reply → Type 0
-  EffectAmong after left d answer = (retired : set.FinSet nat_cmp) → ByEffect s t next names retired seat after left x d answer
-
-  pub carried_among : (after : ℕ) (left : List Member) (d : Does) (answer : Reply) → d ≡ (terms x c).does → AllowedAmong s next names false x c → EffectAmong after left d answer →
-      CarriedOutAmong s t next after names left false seat x c answer
-  carried_among after left d answer is allowed came = λ retired active. carried_by s t next names retired seat known after left x c d answer is (allowed retired active) (came retired)
-
-  pub rewrite_carried : {E : Type 0} (over : ℕ) (text : List ℕ) (result : Result Reply E) → effect.Rewrites over text ≡ (terms x c).does → AllowedAmong s next names false x c →
+-- what was done, or failed
+module _ (s t : Stored) (next : ℕ) (names : List Member) (retired : set.FinSet nat_cmp) (seat : ℕ) (known : principals s ≡ serials names) (x : ℕ) (c : Command) {E : Type 0} where
+  pub rewrite_carried : (over : ℕ) (text : List ℕ) (result : Result Reply E) → effect.Rewrites over text ≡ (terms x c).does → Allowed (seen s next names retired) x c →
       IfOk result (λ answer. answer ≡ reply.Done) → OnOk result ((old : List ℕ) × TextReplaced s t over text old) → OnOk result (Acted s t None None) →
-      IfOk result (λ answer. CarriedOutAmong s t next next names names false seat x c answer)
+      IfOk result (λ answer. CarriedOut s t next next names names retired retired seat x c answer)
   rewrite_carried over text (Ok answer) does allowed is replaced acted =
-      subst (CarriedOutAmong s t next next names names false seat x c) (sym is)
-      (carried_among next names (effect.Rewrites over text) reply.Done does allowed (λ retired. rewrite_done s t next names retired seat known x over text replaced.0 replaced.1 acted))
+      subst (CarriedOut s t next next names names retired retired seat x c) (sym is)
+      (carried_by s t next names retired seat known next names retired x c (effect.Rewrites over text) reply.Done does allowed (rewrite_done s t next names retired seat known x over text replaced.0 replaced.1 acted))
   rewrite_carried over text (Err fault) does allowed is replaced acted = tt
 
-module _ (s : Stored) (next : ℕ) (names : List Member) (seat : ℕ) (known : principals s ≡ serials names) (x : ℕ) (c : Command) where
-  pub denied_among : (ms : List Member) (why : Cause) → ms ≡ names → later_denial (held s 0) ms x c ≡ Some why → CarriedOutAmong s s next next names names false seat x c (reply.Denied (rule_of c) why)
-  denied_among ms why same denied = λ retired active.
-      denied_carried s next names retired seat known x c why (denial_seen s next names retired x c active ∙ subst (λ (members : List Member). later_denial (held s 0) members x c ≡ Some why) same denied)
-
-  -- who is no principal has retired, and is denied
-  pub retired_among : (Contains (principals s) x → ⊥) → CarriedOutAmong s s next next names names (not (has_serial names x)) seat x c (reply.Denied (rule_of c) cause.Retired)
-  retired_among none = λ retired gone.
-      let away : set.contains retired x ≡ true = gone ∙ ap not (unlisted names x (λ h. none (subst (λ (xs : List ℕ). Contains xs x) (sym known) h))) in
-      denied_carried s next names retired seat known x c cause.Retired (retired_denied (seen s next names retired) x c away)
-
-  -- a principal has not retired
-  pub active_here : Contains (principals s) x → not (has_serial names x) ≡ false
-  active_here here = ap not (listed names x (subst (λ (xs : List ℕ). Contains xs x) known here))
+  pub retire_carried : (left : List Member) (gone : set.FinSet nat_cmp) (result : Result Reply E) → effect.Retires ≡ (terms x c).does → Allowed (seen s next names retired) x c →
+      IfOk result (λ answer. answer ≡ reply.Done) → OnOk result (left ≡ without_member names x) → OnOk result (gone ≡ set.insert retired x) → OnOk result (Retired s t x) → OnOk result (Acted s t None None) →
+      IfOk result (λ answer. CarriedOut s t next next names left retired gone seat x c answer)
+  retire_carried left gone (Ok answer) does allowed is less more goes acted =
+      subst (CarriedOut s t next next names left retired gone seat x c) (sym is)
+      (carried_by s t next names retired seat known next left gone x c effect.Retires reply.Done does allowed (retire_done s t next names retired seat known x left gone less more goes acted))
+  retire_carried left gone (Err fault) does allowed is less more goes acted = tt
 
 -- a vertex with a name brings one that has to be copied
 pub copies_name : (k : Kind) (α : Letters) (name : Option (List ℕ)) → is_some name ≡ true → copies (effect.Makes k α name) ≡ true

@@ -1,40 +1,35 @@
 -- A vault after a step that enters nothing: somebody takes a seat or leaves it, a seat's target is shaded, or the collector
 -- makes a step.
-use Rattle.std.proofs.Common.{◌≡◌, ◌⊎◌, ℕ, zero, suc, ◌+◌, ◌-◌, ◌≤◌, List, [], ◌∷◌, Option, None, Some, sym, ap, subst, ◌∙◌, inl, inr, Bool, true, set, length-set, arith}
+use Rattle.std.proofs.Common.{◌≡◌, ℕ, ◌+◌, ◌-◌, ◌≤◌, List, Option, None, Some, sym, ap, subst, ◌∙◌, inl, inr, Bool, true, set, length-set, arith}
 use Rattle.tg_graph.specs.declared.member.Member.{Member}
 use Rattle.tg_graph.specs.Names.{serial_of}
 use Rattle.tg_graph.specs.Protection.{IsVertex, is_active, named}
 use Rattle.tg_graph.specs.Paths.{IsPart}
 use Rattle.tg_collect.specs.Stored.{Stored}
-use Rattle.tg_collect.specs.Readings.{IsParkedIn, free_slots, agents, pending, pending_of, principals, slot_count}
-use Rattle.tg_collect.specs.Sessions.{Shaded, Acted}
+use Rattle.tg_collect.specs.Readings.{IsParkedIn, free_slots, held, agents, pending, pending_of, principals, slot_count}
+use Rattle.tg_collect.specs.Sessions.{Left, Shaded, Acted}
 use Rattle.tg_collect.specs.Views.{IsStore, Collected}
+use Rattle.tg_collect.proofs.AgentLemmas.{left_agents, left_cells, left_graph, left_pending, left_principals}
 use Rattle.tg_collect.proofs.SeatLemmas.{acted_same}
-use Rattle.tg_collect.proofs.RunLemmas.{acted_parked, acted_slots, collected_agents, collected_parked, collected_part, collected_pending, collected_principals, shaded_cells, shaded_graph, shaded_pending, shaded_principals, shaded_was}
-use Rattle.tg_vault.specs.History.{MayAsk}
+use Rattle.tg_collect.proofs.RunLemmas.{acted_parked, acted_slots, collected_agents, collected_parked, collected_part, collected_pending, collected_principals, shaded_agents, shaded_cells, shaded_graph, shaded_pending, shaded_principals, shaded_was}
+use Rattle.tg_vault.specs.History.{WasPrincipal}
 use Rattle.tg_vault.specs.Seen.{seen}
-use Rattle.tg_vault.specs.World.{at_seat, with_pending, with_used}
+use Rattle.tg_vault.specs.World.{at_seat, with_agents, with_pending, with_seats, with_used}
 use Rattle.tg_vault.specs.Contents.{Contents, graph_now, held_now, moment}
 use Rattle.tg_vault.specs.Fits.{IsTied, Ties}
 use Rattle.tg_vault.specs.StoreSteps.{SessionStep}
 use Rattle.tg_vault.proofs.DecidedLemmas.{of_graph}
+use Rattle.tg_vault.proofs.PlaceLemmas.{set_seat}
 use Rattle.tg_vault.proofs.SerialsLemmas.{named_active}
 
 -- an event that leaves the store is a session step
 pub still_acts : (v w : Contents) → w.store ≡ v.store → SessionStep v w
 still_acts v w same = record { came = None; target = None; acted = acted_same v.store w.store same; next = λ x is. absurd (cc is); live = λ x is. absurd (cc is) }
 
--- a vault stays tied when somebody who may ask takes a seat, or leaves one
-set_seat : (table : List (Option ℕ)) (seat k : ℕ) (o : Option ℕ) (y : ℕ) → at_seat (set table seat o) k ≡ Some y → (o ≡ Some y) ⊎ (at_seat table k ≡ Some y)
-set_seat [] seat k o y is = inr is
-set_seat (p ∷ table) zero zero o y is = inl is
-set_seat (p ∷ table) zero (suc k) o y is = inr is
-set_seat (p ∷ table) (suc seat) zero o y is = inr is
-set_seat (p ∷ table) (suc seat) (suc k) o y is = set_seat table seat k o y is
-
-module _ (v : Contents) (next : ℕ) (tied : IsTied v next) (seat : ℕ) where
-  pub seat_set : (o : Option ℕ) → ((y : ℕ) → o ≡ Some y → MayAsk (graph_now v) y) → IsTied (record v { seats = set v.seats seat o }) next
-  seat_set o may =
+-- a vault stays tied when a principal takes a seat, or somebody leaves one
+module _ (v : Contents) (next : ℕ) (retired : List ℕ) (tied : IsTied v next retired) (seat : ℕ) where
+  pub seat_set : (o : Option ℕ) → ((y : ℕ) → o ≡ Some y → WasPrincipal (graph_now v) y) → IsTied (record v { seats = set v.seats seat o }) next retired
+  seat_set o was =
       let j = tied.joins in
       record {
         joins = record {
@@ -43,36 +38,39 @@ module _ (v : Contents) (next : ℕ) (tied : IsTied v next) (seat : ℕ) where
             began = j.vault.began;
             sat = j.vault.sat;
             seats = length-set v.seats seat o ∙ j.vault.seats;
-            seated = λ k y at. elim (set_seat v.seats seat k o y at) [ inl now ↦ may y now | inr before ↦ j.vault.seated k y before ];
+            seated = λ k y at. elim (set_seat v.seats seat k o y at) [ inl now ↦ was y now.1 | inr before ↦ j.vault.seated k y before ];
           };
           opened = j.opened;
           part = j.part;
           parked = j.parked;
           names = j.names;
           principals = j.principals;
-          agents = j.agents;
+          assumed = j.assumed;
           slots = j.slots;
           cells = j.cells;
           many_slots = j.many_slots;
           many_cells = j.many_cells;
         };
         serial = tied.serial;
+        retired = tied.retired;
       }
 
-  -- a name is found in the graph, and whoever has it may ask
+  -- a name is found in the graph, and whoever has it is a principal
   pub found_named : (name : List ℕ) → serial_of v.names name ≡ named (graph_now v) name
   found_named name = ap (λ (ms : List Member). serial_of ms name) tied.joins.names
 
-  pub seat_taken : (name : List ℕ) (x : ℕ) → serial_of v.names name ≡ Some x → IsTied (record v { seats = set v.seats seat (Some x) }) next
+  pub seat_taken : (name : List ℕ) (x : ℕ) → serial_of v.names name ≡ Some x → IsTied (record v { seats = set v.seats seat (Some x) }) next retired
   seat_taken name x found =
       let active : is_active (graph_now v) x ≡ true = named_active (graph_now v).names name x (sym (found_named name) ∙ found) in
       seat_set (Some x) (λ y is. let same : x ≡ y = cc is in inl (subst (λ (n : ℕ). is_active (graph_now v) n ≡ true) same active))
 
 module _ (v : Contents) (j : Ties v) (t : Stored) where
-  -- a vault stays tied to a store of which no less is free, if what it holds is still a part of the graph
-  still_joined : IsPart (graph_now v) (seen t (graph_now v).next (graph_now v).names (graph_now v).retired) → ((x : ℕ) → IsParkedIn t x → IsVertex (graph_now v) x) → principals t ≡ principals v.store → agents t ≡ agents v.store →
+  -- a vault stays tied to a store of which no less is free, if what it holds is still a part of the graph, and each agent
+  -- was one
+  still_joined : IsPart (graph_now v) (seen t (graph_now v).next (graph_now v).names (graph_now v).retired) → ((x : ℕ) → IsParkedIn t x → IsVertex (graph_now v) x) → principals t ≡ principals v.store →
+      ((k y : ℕ) → at_seat (agents t) k ≡ Some y → at_seat (agents v.store) k ≡ Some y) →
       slot_count t ≡ slot_count v.store → t.cells ≡ v.store.cells → free_slots v.store ≤ free_slots t → v.store.free_cells ≤ t.free_cells → Ties (record v { store = t })
-  still_joined part parked same same_agents slots cells more_slots more_cells = record {
+  still_joined part parked same were slots cells more_slots more_cells = record {
     vault = record {
       legal = j.vault.legal;
       began = j.vault.began;
@@ -85,28 +83,42 @@ module _ (v : Contents) (j : Ties v) (t : Stored) where
     parked = parked;
     names = j.names;
     principals = same ∙ j.principals;
-    agents = λ k. ap (λ table. at_seat table k) same_agents ∙ j.agents k;
+    assumed = λ k y at. j.assumed k y (were k y at);
     slots = slots ∙ j.slots;
     cells = cells ∙ j.cells;
     many_slots = let many = j.many_slots in omega arith;
     many_cells = let many = j.many_cells in omega arith;
   }
 
+  -- the same agents
+  still_agents : agents t ≡ agents v.store → (k y : ℕ) → at_seat (agents t) k ≡ Some y → at_seat (agents v.store) k ≡ Some y
+  still_agents same k y at = sym (ap (λ table. at_seat table k) same) ∙ at
+
+  -- the same is held, and the same is free
+  still_held : Acted v.store t None None → ((next : ℕ) → held t next ≡ held v.store next) → principals t ≡ principals v.store → ((k y : ℕ) → at_seat (agents t) k ≡ Some y → at_seat (agents v.store) k ≡ Some y) →
+      t.free_cells ≡ v.store.free_cells → Ties (record v { store = t })
+  still_held acted graph same were cells =
+      let slots = acted_slots acted in
+      let seen_too : held_now v ≡ seen t (graph_now v).next (graph_now v).names (graph_now v).retired =
+      λ i. record (sym (graph (graph_now v).next) i) { names = (graph_now v).names; retired = (graph_now v).retired } in
+      still_joined (subst (λ H. IsPart (graph_now v) H) seen_too j.part) (λ x h. j.parked x (acted_parked acted x h)) same were acted.slots acted.cells (omega arith) (omega arith)
+
   module _ (seat : ℕ) (answer : Option ℕ) (shaded : Shaded v.store t seat answer) where
     pub shaded_joins : Acted v.store t None None → Ties (record v { store = t })
     shaded_joins acted =
-        let slots = acted_slots acted in
-        let cells = shaded_cells v.store t seat answer shaded in
-        let same : held_now v ≡ seen t (graph_now v).next (graph_now v).names (graph_now v).retired =
-        λ i. record (sym (shaded_graph v.store t seat answer shaded (graph_now v).next) i) { names = (graph_now v).names; retired = (graph_now v).retired } in
-        still_joined (subst (λ H. IsPart (graph_now v) H) same j.part) (λ x h. j.parked x (acted_parked acted x h))
-        (shaded_principals v.store t seat answer shaded) acted.agents acted.slots acted.cells (omega arith) (omega arith)
+        still_held acted (shaded_graph v.store t seat answer shaded) (shaded_principals v.store t seat answer shaded) (still_agents (shaded_agents v.store t seat answer shaded)) (shaded_cells v.store t seat answer shaded)
 
     pub shaded_step : Acted v.store t None None → (answer ≡ pending_of v.store seat) × (moment (record v { store = t }) ≡ with_pending (moment v) (set (pending v.store) seat None))
     shaded_step acted = (
       shaded_was v.store t seat answer shaded,
       λ i. record {
-        world = record { graph = graph_now v; seats = v.seats; pending = shaded_pending v.store t seat answer shaded i; used = v.limits.slots - acted_slots acted i };
+        world = record {
+          graph = graph_now v;
+          seats = v.seats;
+          agents = shaded_agents v.store t seat answer shaded i;
+          pending = shaded_pending v.store t seat answer shaded i;
+          used = v.limits.slots - acted_slots acted i;
+        };
         history = v.history;
       },
     )
@@ -116,11 +128,39 @@ module _ (v : Contents) (j : Ties v) (t : Stored) where
     collected_joins =
         let moved = c.free_slots in
         still_joined (collected_part c (graph_now v).next (graph_now v).names (graph_now v).retired (graph_now v) j.part sv st) (λ x h. elim (collected_parked c sv x h) [ inl parked ↦ j.parked x parked | inr was ↦ of_graph v j sv x was ])
-        (collected_principals c) (collected_agents c) c.step.size c.cells (omega arith) c.free_cells.0
+        (collected_principals c) (still_agents (collected_agents c)) c.step.size c.cells (omega arith) c.free_cells.0
 
     pub collected_step : (used : ℕ) × ((moment v).world.used ≡ used + count) × (moment (record v { store = t }) ≡ with_used (moment v) used)
     collected_step = (
       v.limits.slots - free_slots t,
       (let all = st.slots 0 in let many = j.slots in let same = c.step.size in let moved = c.free_slots in omega arith),
-      λ i. record { world = record { graph = graph_now v; seats = v.seats; pending = collected_pending c i; used = v.limits.slots - free_slots t }; history = v.history },
+      λ i. record { world = record { graph = graph_now v; seats = v.seats; agents = collected_agents c i; pending = collected_pending c i; used = v.limits.slots - free_slots t }; history = v.history },
     )
+
+-- somebody has left a seat, and its agent went
+module _ (v : Contents) (next : ℕ) (retired : List ℕ) (tied : IsTied v next retired) (t : Stored) (seat : ℕ) (left : Left v.store t seat) (acted : Acted v.store t None None) where
+  abbrev emptied : Contents
+  emptied = record v { seats = set v.seats seat None }
+
+  pub left_joins : IsTied (record emptied { store = t }) next retired
+  left_joins =
+      let seats = seat_set v next retired tied seat None (λ y is. absurd (cc is)) in
+      let were : (k y : ℕ) → at_seat (agents t) k ≡ Some y → at_seat (agents v.store) k ≡ Some y =
+      λ k y at. elim (set_seat (agents v.store) seat k None y (sym (ap (λ table. at_seat table k) (left_agents v.store t seat left)) ∙ at)) [ inl new ↦ absurd (cc new.1) | inr before ↦ before ] in
+      record {
+        joins = still_held emptied seats.joins t acted (left_graph v.store t seat left) (left_principals v.store t seat left) were (left_cells v.store t seat left);
+        serial = seats.serial;
+        retired = seats.retired;
+      }
+
+  pub left_step : moment (record emptied { store = t }) ≡ with_agents (with_seats (moment v) (set v.seats seat None)) (set (agents v.store) seat None)
+  left_step = λ i. record {
+    world = record {
+      graph = graph_now v;
+      seats = set v.seats seat None;
+      agents = left_agents v.store t seat left i;
+      pending = left_pending v.store t seat left i;
+      used = v.limits.slots - acted_slots acted i;
+    };
+    history = v.history;
+  }

@@ -1,9 +1,10 @@
 -- what a command adds to the graph of the history
-use Rattle.std.proofs.Common.{◌≡◌, ℕ, ◌+◌, ◌≤◌, [], cond, refl, sym, ap, subst, ◌∙◌, Some, arith}
+use Rattle.std.proofs.Common.{◌≡◌, ℕ, ◌+◌, ◌≤◌, ◌⊎◌, inl, inr, [], cond, refl, sym, ap, subst, ◌∙◌, Some, arith}
 use Rattle.std.specs.FinSet as set
 use Rattle.std.proofs.lemmas.Bool.{or_right}
 use Rattle.tg_rights.specs.declared.kind.Kind.TheVariants as kind
 use Rattle.tg_rights.specs.declared.command.Command.{Command}
+use Rattle.tg_rights.specs.declared.command.Command.TheVariants as command
 use Rattle.tg_rights.specs.declared.outcome.Outcome.{Outcome}
 use Rattle.tg_rights.specs.declared.outcome.Outcome.TheVariants as outcome
 use Rattle.tg_graph.specs.declared.vertex.Vertex.{Vertex}
@@ -30,6 +31,7 @@ done_next G H x (effect.Rewrites over text) is = with_text-next G over text (ver
 done_next G H x (effect.Tells over) is = is
 done_next G H x (effect.Lists at) is = is
 done_next G H x effect.Retires is = is
+done_next G H x (effect.Acts agent) is = is
 
 pub next_same : (G H : Protection) (x : ℕ) (c : Command) (o : Outcome) → G.next ≡ H.next → (next_graph G x c o).next ≡ (next_graph H x c o).next
 next_same G H x c outcome.Allowed is = done_next G H x (terms x c).does is
@@ -44,6 +46,7 @@ done_grows G x (effect.Rewrites over text) = let same = with_text-next G over te
 done_grows G x (effect.Tells over) = omega arith
 done_grows G x (effect.Lists at) = omega arith
 done_grows G x effect.Retires = omega arith
+done_grows G x (effect.Acts agent) = omega arith
 
 pub next_grows : (G : Protection) (x : ℕ) (c : Command) (o : Outcome) → G.next ≤ (next_graph G x c o).next
 next_grows G x c outcome.Allowed = done_grows G x (terms x c).does
@@ -59,6 +62,7 @@ new_target_same G H (effect.Rewrites over text) is = refl
 new_target_same G H (effect.Tells over) is = refl
 new_target_same G H (effect.Lists at) is = refl
 new_target_same G H effect.Retires is = refl
+new_target_same G H (effect.Acts agent) is = refl
 
 pub target_same : (G H : Protection) (x : ℕ) (c : Command) (o : Outcome) → G.next ≡ H.next → target_of G x c o ≡ target_of H x c o
 target_same G H x c outcome.Allowed is = new_target_same G H (terms x c).does is
@@ -84,6 +88,7 @@ module _ (G : Protection) (g : IsGraph G) (x : ℕ) (x_in : IsVertex G x) where
   done_stays (effect.Tells over) h v is = is
   done_stays (effect.Lists at) h v is = is
   done_stays effect.Retires h v is = is
+  done_stays (effect.Acts agent) h v is = is
 
   -- a create adds one vertex
   done_vertices : (d : Does) → Given d → vertex_count (done G x d) ≡ vertex_count G + cond (is_new d) 1 0
@@ -97,6 +102,7 @@ module _ (G : Protection) (g : IsGraph G) (x : ℕ) (x_in : IsVertex G x) where
   done_vertices (effect.Tells over) h = omega arith
   done_vertices (effect.Lists at) h = omega arith
   done_vertices effect.Retires h = omega arith
+  done_vertices (effect.Acts agent) h = omega arith
 
   -- free cells and edges change by the same
   done_edges : (d : Does) (before after : ℕ) → Given d → EdgeMoves G before after x d → after + edge_count (done G x d) ≡ before + edge_count G
@@ -112,24 +118,35 @@ module _ (G : Protection) (g : IsGraph G) (x : ℕ) (x_in : IsVertex G x) where
       omega arith
   done_edges (effect.Tells over) before after h moved = omega arith
   done_edges (effect.Lists at) before after h moved = omega arith
+  done_edges (effect.Acts agent) before after h moved = omega arith
   done_edges effect.Retires before after h moved = let same = edge_count_among G (without_member G.names x) (set.insert G.retired x) in omega arith
 
--- the same of an entry, of whose actor something is known where the rules allow the command
+-- the same of an entry, if its actor is a vertex where the rules allow the command, or leaves
 module _ (G : Protection) (g : IsGraph G) (x : ℕ) (c : Command) where
   abbrev pub Carried : Outcome → Type 0
-  Carried o = o ≡ outcome.Allowed → IsVertex G x × Allowed G x c
+  Carried o = o ≡ outcome.Allowed → (IsVertex G x × Allowed G x c) ⊎ (c ≡ command.Leave)
 
   pub vertex_stays : (o : Outcome) → Carried o → (v : ℕ) → IsVertex G v → IsVertex (next_graph G x c o) v
-  vertex_stays outcome.Allowed a v is = let h = a refl in done_stays G g x h.0 (terms x c).does (given G g x h.0 c h.1) v is
+  vertex_stays outcome.Allowed a v is = elim (a refl) [
+    | inl h ↦ done_stays G g x h.0 (terms x c).does (given G g x h.0 c h.1) v is
+    | inr leaves ↦ subst (λ k. IsVertex (next_graph G x k outcome.Allowed) v) (sym leaves) is
+  ]
   vertex_stays (outcome.Denied rule cause) a v is = is
   vertex_stays (outcome.Full w) a v is = is
 
   pub vertices_counted : (o : Outcome) → Carried o → vertex_count (next_graph G x c o) ≡ vertex_count G + slots_taken x c o
-  vertices_counted outcome.Allowed a = let h = a refl in done_vertices G g x h.0 (terms x c).does (given G g x h.0 c h.1)
+  vertices_counted outcome.Allowed a = elim (a refl) [
+    | inl h ↦ done_vertices G g x h.0 (terms x c).does (given G g x h.0 c h.1)
+    | inr leaves ↦ subst (λ k. vertex_count (next_graph G x k outcome.Allowed) ≡ vertex_count G + slots_taken x k outcome.Allowed) (sym leaves) (omega arith)
+  ]
   vertices_counted (outcome.Denied rule cause) a = omega arith
   vertices_counted (outcome.Full w) a = omega arith
 
   pub edges_counted : (o : Outcome) (before after : ℕ) → Carried o → CellsMoved G before after x c o → after + edge_count (next_graph G x c o) ≡ before + edge_count G
-  edges_counted outcome.Allowed before after a moved = let h = a refl in done_edges G g x h.0 (terms x c).does before after (given G g x h.0 c h.1) moved
+  edges_counted outcome.Allowed before after a moved = elim (a refl) [
+    | inl h ↦ done_edges G g x h.0 (terms x c).does before after (given G g x h.0 c h.1) moved
+    | inr leaves ↦
+        subst (λ k. CellsMoved G before after x k outcome.Allowed → after + edge_count (next_graph G x k outcome.Allowed) ≡ before + edge_count G) (sym leaves) (λ (same : after ≡ before). omega arith) moved
+  ]
   edges_counted (outcome.Denied rule cause) before after a moved = omega arith
   edges_counted (outcome.Full w) before after a moved = omega arith

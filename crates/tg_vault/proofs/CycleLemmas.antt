@@ -1,11 +1,9 @@
 -- Completeness and the bound, over a course.
-use Rattle.std.proofs.Common.{◌≡◌, ℕ, zero, suc, ◌+◌, ◌<◌, ◌≤◌, List, [], ◌∷◌, ◌++◌, length, take, drop, cond, refl, sym, ap, subst, ◌∙◌, ◌⊎◌, inl, inr, Some, Bool, true, false, arith}
-use Rattle.std.specs.Prelude.{Option}
+use Rattle.std.proofs.Common.{◌≡◌, ℕ, zero, suc, ◌+◌, ◌<◌, ◌≤◌, List, [], ◌∷◌, ◌++◌, length, take, drop, cond, refl, sym, ap, subst, ◌∙◌, ◌⊎◌, inl, inr, Bool, true, false, arith}
 use Rattle.std.specs.Ordering.{nat_cmp}
 use Rattle.std.specs.FinSet as set
 use Rattle.std.proofs.lemmas.List.Sums.{sum_by-cons}
 use Rattle.tg_rights.specs.Letters.{is_none}
-use Rattle.tg_rights.specs.Membership.{Contains}
 use Rattle.tg_graph.specs.declared.member.Member.{Member}
 use Rattle.tg_graph.specs.Protection.{Protection, IsVertex, IsEdge}
 use Rattle.tg_graph.specs.Paths.{Leads, Live}
@@ -26,7 +24,7 @@ use Rattle.tg_collect.specs.Runs.{StoreRun, start, acts, goes, ends}
 use Rattle.tg_collect.specs.Runs as runs
 use Rattle.tg_collect.proofs.RunLemmas.{acted_phase}
 use Rattle.tg_vault.specs.History.{graph_of}
-use Rattle.tg_vault.specs.World.{Run, at_seat}
+use Rattle.tg_vault.specs.World.{Run}
 use Rattle.tg_vault.specs.Seen.{seen}
 use Rattle.tg_vault.specs.Contents.{Contents, RunOf, Keeps, graph_now, moment}
 use Rattle.tg_vault.specs.Fits.{IsRoot, HasSlot}
@@ -37,6 +35,7 @@ use Rattle.tg_vault.proofs.EdgeLemmas.{label_seen}
 use Rattle.tg_vault.proofs.CountLemmas.{next_grows}
 use Rattle.tg_vault.proofs.DecidedLemmas.{graph_is, of_graph, root_principal}
 use Rattle.tg_vault.proofs.CourseLemmas.{course_run, course_keeps}
+use Rattle.tg_vault.proofs.PlaceLemmas.{contains_seat}
 use Rattle.tg_vault.proofs.AddedLemmas.{step_adds}
 
 -- what an answer adds to the ends of cycles, and to the collector steps since the last
@@ -213,11 +212,6 @@ course_coherent v [] (a ∷ answers) w sound course = absurd course
 course_coherent v (e ∷ es) [] w sound course = absurd course
 
 -- what is live in what is held is live in the graph
-contains_seat : (table : List (Option ℕ)) (x : ℕ) → Contains table (Some x) → (seat : ℕ) × (at_seat table seat ≡ Some x)
-contains_seat [] x h = absurd h
-contains_seat (o ∷ table) x (inl is) = (0, sym is)
-contains_seat (o ∷ table) x (inr h) = let later = contains_seat table x h in (suc later.0, later.1)
-
 module _ (v : Contents) (s : IsCoherent v) where
   abbrev H : Protection
   H = held v.store (graph_now v).next
@@ -231,8 +225,8 @@ module _ (v : Contents) (s : IsCoherent v) where
 
   root_so : (x : ℕ) → IsRootIn v.store x → IsRoot (moment v).world x
   root_so x (inl principal) = inl (root_principal v s.ties s.store x principal)
-  root_so x (inr (inl target)) = inr (contains_seat (pending v.store) x target)
-  root_so x (inr (inr agent)) = let at = contains_seat (agents v.store) x agent in absurd (cc (at.1, s.ties.agents at.0))
+  root_so x (inr (inl target)) = let at = contains_seat (pending v.store) x target in inr (at.0, inl at.1)
+  root_so x (inr (inr agent)) = let at = contains_seat (agents v.store) x agent in inr (at.0, inr at.1)
 
   live_so : (x : ℕ) → Live H (IsRootIn v.store) x → Live (graph_now v) (IsRoot (moment v).world) x
   live_so x live = (live.0, root_so live.0 live.1, (live.2.0, (of_graph v s.ties s.store live.0 live.2.1.0, leads_so live.2.0 live.0 x live.2.1.0 live.2.1.1)))

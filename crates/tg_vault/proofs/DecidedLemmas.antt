@@ -1,6 +1,6 @@
 -- What is held is a part of the graph of the history: what the rules decide in one, they decide in the other.
-use Rattle.std.proofs.Common.{◌≡◌, ℕ, ◌+◌, ◌-◌, ◌<◌, ◌≤◌, List, Bool, true, false, not, refl, sym, ap, subst, ◌∙◌, inl, inr, arith}
-use Rattle.std.specs.Prelude.{◌↔◌}
+use Rattle.std.proofs.Common.{◌≡◌, ℕ, ◌+◌, ◌-◌, ◌<◌, ◌≤◌, ◌⊎◌, List, Bool, true, false, refl, sym, ap, subst, ◌∙◌, inl, inr, Some, None, arith}
+use Rattle.std.specs.Prelude.{◌↔◌, Option}
 use Rattle.std.specs.Option.{is_some, option_map}
 use Rattle.tg_rights.specs.Letters.{is_none}
 use Rattle.tg_rights.specs.Membership.{Contains}
@@ -17,24 +17,26 @@ use Rattle.tg_graph.specs.Paths.{Agree}
 use Rattle.tg_graph.specs.Fullness.{Limits, NewEdge, Permitted, vertex_count, edge_count}
 use Rattle.tg_graph.specs.Terms as effect
 use Rattle.tg_graph.specs.Terms.{Does, terms}
-use Rattle.tg_graph.specs.Rules.{Allowed, Judged, allowed_reply, answered, is_create, is_new, last_serial}
+use Rattle.tg_graph.specs.Rules.{Allowed, Judged, allowed_reply, answered, denial, is_create, is_new, last_serial}
 use Rattle.tg_graph.proofs.OutcomesAgreeLemmas.{Judged-agrees}
 use Rattle.tg_graph.proofs.ProtectionLemmas.{Entitled, edge_to, entitled}
 use Rattle.tg_graph.proofs.PartsStayLemmas.{part_agrees}
 use Rattle.tg_graph.proofs.ExactlyOneOutcomeLemmas.{verdict-Judged}
 use Rattle.tg_graph.proofs.RepliesAgreeLemmas.{same_reply}
-use Rattle.tg_graph.proofs.RollLemmas.{member_finds, member_found, untrue}
-use Rattle.tg_collect.specs.Readings.{IsHeldIn, IsRootIn, principals}
+use Rattle.tg_graph.proofs.RollLemmas.{member_finds, member_found}
+use Rattle.tg_collect.specs.Readings.{IsHeldIn, IsRootIn, agents, principals}
 use Rattle.tg_collect.specs.Views.{IsStore}
 use Rattle.tg_collect.proofs.RunLemmas.{held_graph}
-use Rattle.tg_vault.specs.History.{MayAsk}
-use Rattle.tg_vault.specs.World.{ExactSlots, World}
-use Rattle.tg_vault.specs.Contents.{Contents, graph_now, held_now}
+use Rattle.tg_vault.specs.History.{MayAsk, WasPrincipal}
+use Rattle.tg_vault.specs.World.{ExactSlots, World, acting, actor_at, at_seat}
+use Rattle.tg_vault.specs.Contents.{Contents, graph_now, held_now, moment}
 use Rattle.tg_vault.specs.Fits.{Ties}
 use Rattle.tg_vault.specs.CarriedOut.{Decided, IsUsedUp}
-use Rattle.tg_vault.proofs.HistoryLemmas.{active_subject, legal_keeps}
+use Rattle.tg_vault.proofs.HistoryLemmas.{active_subject, assumed_subject, legal_keeps}
 use Rattle.tg_vault.proofs.SerialsLemmas.{is_listed, listed}
-use Rattle.tg_vault.proofs.CarriedOutLemmas.{retired_denied}
+use Rattle.tg_vault.proofs.PlaceLemmas.{seat_contains}
+use Rattle.tg_vault.proofs.RetiredLemmas.{retired_alike, retired_leaves}
+use Rattle.tg_vault.proofs.CarriedOutLemmas.{needs_none}
 
 pub agree_back : (G H : Protection) (x : ℕ) → Agree G H x → Agree H G x
 agree_back G H x a = record {
@@ -60,21 +62,49 @@ module _ (v : Contents) (j : Ties v) (store : IsStore v.store) where
   H = held_now v
 
   pub graph_is : IsGraph (graph_now v)
-  graph_is = legal_keeps v.limits v.opening v.history (graph_now v) j.opened j.vault.legal
+  graph_is = (legal_keeps v.limits v.opening v.history (graph_now v) j.opened j.vault.legal).graph
 
   pub of_graph : (x : ℕ) → IsVertex H x → IsVertex G x
   of_graph x h = ap is_some (j.part.vertices x h) ∙ h
 
-  -- the roots of the store are the principals of the graph, and the pending targets
+  -- the roots of the store are the principals of the graph, the pending targets and the agents
+  principal_listed : (x : ℕ) → is_active (graph_now v) x ≡ true → Contains (principals v.store) x
+  principal_listed x active =
+      subst (λ (xs : List ℕ). Contains xs x) (sym j.principals) (is_listed v.names x (subst (λ (ms : List Member). has_serial ms x ≡ true) (sym j.names) active))
+
   pub principal_root : (x : ℕ) → is_active (graph_now v) x ≡ true → IsRootIn v.store x
-  principal_root x active =
-      inl (subst (λ (xs : List ℕ). Contains xs x) (sym j.principals) (is_listed v.names x (subst (λ (ms : List Member). has_serial ms x ≡ true) (sym j.names) active)))
+  principal_root x active = inl (principal_listed x active)
 
   pub root_principal : (x : ℕ) → Contains (principals v.store) x → is_active (graph_now v) x ≡ true
   root_principal x root = subst (λ (ms : List Member). has_serial ms x ≡ true) j.names (listed v.names x (subst (λ (xs : List ℕ). Contains xs x) j.principals root))
 
-  pub principal_acts : (x : ℕ) → is_active (graph_now v) x ≡ true → IsActor v x
-  principal_acts x active = record { root = principal_root x active; subject = active_subject (graph_now v) x graph_is active }
+  -- a principal has not retired, and whoever sits somewhere and is none has
+  pub root_active : (x : ℕ) → Contains (principals v.store) x → has_retired (graph_now v) x ≡ false
+  root_active x root =
+      let m = member_found (graph_now v).names x (root_principal x root) in subst (λ (n : ℕ). has_retired (graph_now v) n ≡ false) m.2 (graph_is.roll.active m.0 m.1)
+
+  pub none_gone : (x : ℕ) → WasPrincipal (graph_now v) x → (Contains (principals v.store) x → ⊥) → has_retired (graph_now v) x ≡ true
+  none_gone x (inl active) none = absurd (none (principal_listed x active))
+  none_gone x (inr gone) none = gone
+
+  -- who acts at a seat may ask, and is a root and a subject unless it is a principal that has retired
+  abbrev Acts : ℕ → ℕ → Type 0
+  Acts seat x = MayAsk (graph_now v) v.history seat x × (IsActor v x ⊎ (has_retired (graph_now v) x ≡ true))
+
+  pub acts_here : (seat x : ℕ) → actor_at (moment v).world seat ≡ Some x → Acts seat x
+  acts_here seat x acts = by (at_seat (agents v.store) seat) refl acts where
+    sits : WasPrincipal (graph_now v) x → Acts seat x
+    sits (inl active) = (inl active, inl (record { root = principal_root x active; subject = active_subject (graph_now v) x graph_is active }))
+    sits (inr gone) = (inr (inl gone), inr gone)
+
+    by : (a : Option ℕ) → at_seat (agents v.store) seat ≡ a → acting a (at_seat v.seats seat) ≡ Some x → Acts seat x
+    by None none at = sits (j.vault.seated seat x at)
+    by (Some agent) here is =
+        let at : at_seat (agents v.store) seat ≡ Some x = here ∙ is in
+        let was = j.assumed seat x at in (
+          inr (inr was),
+          inl (record { root = inr (inr (seat_contains (agents v.store) seat x at)); subject = assumed_subject v.limits v.opening v.history (graph_now v) seat x j.opened j.vault.legal was }),
+        )
 
   member_held : (m : Member) → Contains (graph_now v).names m → IsVertex (held_now v) m.serial
   member_held m h = store.roots_held m.serial (principal_root m.serial (member_finds (graph_now v).names m.serial (m, h, refl)))
@@ -92,16 +122,6 @@ module _ (v : Contents) (j : Ties v) (store : IsStore v.store) where
   -- the next serial is nobody's
   pub next_unheld : IsHeldIn v.store (graph_now v).next → ⊥
   next_unheld h = let below : (graph_now v).next < (graph_now v).next = held_is.below_next (graph_now v).next h in absurd (omega arith)
-
-  -- a principal has not retired, and whoever may ask and is none has
-  pub asks_told : (x : ℕ) → MayAsk (graph_now v) x → has_retired (graph_now v) x ≡ not (has_serial v.names x)
-  asks_told x asks = subst (λ (ms : List Member). has_retired (graph_now v) x ≡ not (has_serial ms x)) (sym j.names) (by asks) where
-    apart : is_active (graph_now v) x ≡ true → has_retired (graph_now v) x ≡ false
-    apart active = let m = member_found (graph_now v).names x active in subst (λ (n : ℕ). has_retired (graph_now v) n ≡ false) m.2 (graph_is.roll.active m.0 m.1)
-
-    by : MayAsk (graph_now v) x → has_retired (graph_now v) x ≡ not (has_serial (graph_now v).names x)
-    by (inl active) = apart active ∙ ap not (sym active)
-    by (inr gone) = gone ∙ ap not (sym (untrue (is_active (graph_now v) x) (λ active. cc (apart active, gone))))
 
   module _ (x : ℕ) (actor : IsActor v x) where
     pub actor_held : IsVertex (held_now v) x
@@ -126,6 +146,7 @@ module _ (v : Contents) (j : Ties v) (store : IsStore v.store) where
     new_edge_so (effect.Tells over) h new = new
     new_edge_so (effect.Lists at) h new = new
     new_edge_so effect.Retires h new = new
+    new_edge_so (effect.Acts agent) h new = new
 
     new_edge_back : (d : Does) → Entitled H (IsVertex H) (λ v z k e. edge_to H held_is v z e) x actor_held d → NewEdge G d → NewEdge H d
     new_edge_back (effect.Joins from α to) h new = λ e. new (ap is_none (j.part.labels from to h.0) ∙ e)
@@ -135,6 +156,7 @@ module _ (v : Contents) (j : Ties v) (store : IsStore v.store) where
     new_edge_back (effect.Tells over) h new = new
     new_edge_back (effect.Lists at) h new = new
     new_edge_back effect.Retires h new = new
+    new_edge_back (effect.Acts agent) h new = new
 
     pub used_up_so : (c : Command) (f g : ℕ) (w : Which) → Allowed H x c → IsUsedUp H f g (terms x c).does w → IsUsedUp G f g (terms x c).does w
     used_up_so c f g which.Serials a u = u
@@ -162,20 +184,25 @@ module _ (v : Contents) (j : Ties v) (store : IsStore v.store) where
       made (effect.Tells over) new = absurd (cc new)
       made (effect.Lists at) new = absurd (cc new)
       made effect.Retires new = absurd (cc new)
+      made (effect.Acts agent) new = absurd (cc new)
 
       by : (b : Bool) → is_create x c ≡ b → answered H (terms x c).does ≡ answered G (terms x c).does
       by true new = made (terms x c).does new
       by false old = same_reply H G x actor_agrees c held_is graph_is a old
 
--- a command of one who has retired is denied, whatever is held
-module _ (G : Protection) (x : ℕ) (c : Command) (gone : has_retired G x ≡ true) where
-  pub retired_refused : Allowed G x c → ⊥
-  retired_refused a = cc (a, retired_denied G x c gone)
+-- a command of one who has retired is a leave or denied, whatever is held
+pub retired_decided : (G H : Protection) (f g x : ℕ) (c : Command) (o : Outcome) → has_retired G x ≡ true → has_retired H x ≡ true → Decided H f g x c o → Decided G f g x c o
+retired_decided G H f g x c o gone there = by o where
+  same : denial G x c ≡ denial H x c
+  same = retired_alike G H x c gone there
 
-  pub retired_decided : (H : Protection) (f g : ℕ) (o : Outcome) → has_retired H x ≡ true → Decided H f g x c o → Decided G f g x c o
-  retired_decided H f g outcome.Allowed there d = absurd (cc (d.0, retired_denied H x c there))
-  retired_decided H f g (outcome.Denied rule why) there d = (d.0, retired_denied G x c gone ∙ sym (retired_denied H x c there) ∙ d.1)
-  retired_decided H f g (outcome.Full w) there d = absurd (cc (d.0, retired_denied H x c there))
+  none : (K : Protection) → Allowed H x c → (w : Which) → IsUsedUp K f g (terms x c).does w → ⊥
+  none K a = subst (λ k. (w : Which) → IsUsedUp K f g (terms x k).does w → ⊥) (sym (retired_leaves H x c there a)) (needs_none K f g (effect.Acts None) refl (λ u. u))
+
+  by : (o : Outcome) → Decided H f g x c o → Decided G f g x c o
+  by outcome.Allowed d = (same ∙ d.0, none G d.0)
+  by (outcome.Denied rule why) d = (d.0, same ∙ d.1)
+  by (outcome.Full w) d = absurd (none H d.0 w d.1)
 
 -- a command has one outcome by the rules
 pub judged_once : (G : Protection) (x : ℕ) (c : Command) (o p : Outcome) → Judged G x c o → Judged G x c p → p ≡ o
@@ -219,6 +246,7 @@ no_serial G f g (effect.Rewrites over text) a b = cc a.0
 no_serial G f g (effect.Tells over) a b = cc a.0
 no_serial G f g (effect.Lists at) a b = cc a.0
 no_serial G f g effect.Retires a b = cc a.0
+no_serial G f g (effect.Acts agent) a b = cc a.0
 
 -- full exactly if something is used up
 pub exact_full : (G : Protection) (f g x : ℕ) (c : Command) (o : Outcome) (w : Which) → Decided G f g x c o → (o ≡ outcome.Full w) ↔ (Allowed G x c × IsUsedUp G f g (terms x c).does w)

@@ -1,14 +1,18 @@
 -- A vault with one more entry.
-use Rattle.std.proofs.Common.{◌≡◌, ℕ, ◌+◌, ◌-◌, ◌<◌, ◌≤◌, List, [], ◌∷◌, ◌++◌, refl, sym, ap, subst, ◌∙◌, ◌⊎◌, inl, inr, Some, None, Bool, true, false, not, cond, arith}
+use Rattle.std.proofs.Common.{◌≡◌, ℕ, ◌+◌, ◌-◌, ◌<◌, ◌≤◌, List, [], ◌∷◌, ◌++◌, refl, sym, ap, subst, ◌∙◌, ◌⊎◌, inl, inr, Some, None, Bool, true, false, cond, arith}
+use Rattle.std.specs.Prelude.{Option}
+use Rattle.std.specs.Ordering.{nat_cmp}
+use Rattle.std.specs.FinSet as set
 use Rattle.std.proofs.lemmas.List.Elements.{All-append, All-cons, All-nil}
 use Rattle.tg_rights.specs.Letters.{joined, without}
+use Rattle.tg_rights.proofs.MembershipLemmas.{contains_left, contains_right}
 use Rattle.tg_rights.specs.declared.command.Command.{Command}
+use Rattle.tg_rights.specs.declared.command.Command.TheVariants as command
 use Rattle.tg_rights.specs.declared.outcome.Outcome.{Outcome}
 use Rattle.tg_rights.specs.declared.outcome.Outcome.TheVariants as outcome
 use Rattle.tg_rights.specs.declared.outcome.Reply.{Reply}
 use Rattle.tg_graph.specs.declared.member.Member.{Member}
-use Rattle.tg_graph.specs.Names.{has_serial}
-use Rattle.tg_graph.specs.Protection.{Protection, IsGraph, IsVertex}
+use Rattle.tg_graph.specs.Protection.{Protection, IsGraph, IsVertex, has_retired}
 use Rattle.tg_graph.specs.Terms as effect
 use Rattle.tg_graph.specs.Terms.{Does, terms}
 use Rattle.tg_graph.specs.Paths.{Agree, IsPart, Live, Reaches}
@@ -21,21 +25,24 @@ use Rattle.tg_graph.proofs.RepliesAgreeLemmas.{same_reply}
 use Rattle.tg_graph.proofs.VertexLemmas.{IsVertex-from_kind}
 use Rattle.tg_vault.specs.declared.entry.Entry.{Entry}
 use Rattle.tg_collect.specs.Stored.{Stored}
-use Rattle.tg_collect.specs.Readings.{IsRootIn, IsParkedIn, pending, free_slots}
+use Rattle.tg_collect.specs.Readings.{IsRootIn, IsParkedIn, agents, pending, free_slots}
 use Rattle.tg_collect.specs.Views.{IsStore}
 use Rattle.tg_collect.proofs.RunLemmas.{acted_parked}
-use Rattle.tg_vault.specs.History.{MayAsk}
-use Rattle.tg_vault.specs.Seen.{seen}
-use Rattle.tg_vault.specs.World.{at_seat, new_target, target_of, with_target, slots_taken, entered, Enters}
+use Rattle.tg_vault.specs.History.{MayAsk, WasAssumed, WasPrincipal}
+use Rattle.tg_vault.specs.Seen.{seen, set_of}
+use Rattle.tg_vault.specs.World.{actor_at, agents_after, at_seat, new_agents, new_target, target_of, with_target, slots_taken, entered, Enters}
 use Rattle.tg_vault.specs.Contents.{Contents, IsVault, graph_now, held_now, moment}
 use Rattle.tg_vault.specs.Fits.{Ties, IsTied}
 use Rattle.tg_vault.specs.StoreSteps.{SessionStep}
 use Rattle.tg_vault.specs.Exact.{IsExact}
 use Rattle.tg_vault.specs.Agreement.{SameForAgreeing, JudgedAlike, IsOfGraph}
 use Rattle.tg_vault.specs.Told.{told}
-use Rattle.tg_vault.specs.CarriedOut.{CarriedOut, CarriedOutAmong, Decided, CellsMoved, EdgeMoves, new_serial}
-use Rattle.tg_vault.proofs.HistoryLemmas.{along_more, asks_stay, graph_of_more, told_outcome}
-use Rattle.tg_vault.proofs.DecidedLemmas.{IsActor, actor_held, asks_told, decided_permitted, decided_so, entitled_held, exact_full, exact_slots, graph_is, held_is, principal_acts, replied_so, retired_decided, retired_refused}
+use Rattle.tg_vault.specs.CarriedOut.{CarriedOut, Decided, CellsMoved, EdgeMoves, new_serial}
+use Rattle.tg_vault.proofs.HistoryLemmas.{along_more, graph_of_more, told_outcome, was_stays}
+use Rattle.tg_vault.proofs.DecidedLemmas.{IsActor, actor_held, acts_here, decided_permitted, decided_so, entitled_held, exact_full, exact_slots, graph_is, held_is, replied_so, retired_decided}
+use Rattle.tg_vault.proofs.FoundLemmas.{acts_for}
+use Rattle.tg_vault.proofs.PlaceLemmas.{set_seat}
+use Rattle.tg_vault.proofs.RetiredLemmas.{retired_leaves}
 use Rattle.tg_vault.proofs.CountLemmas.{Carried, edges_counted, next_same, target_same, vertex_stays, vertices_counted}
 
 judged_alike : (G K : Protection) (f g x : ℕ) (c : Command) (o : Outcome) → Agree G K x → Decided G f g x c o → JudgedAlike K x c o
@@ -66,6 +73,8 @@ module _ (H : Protection) (root : ℕ → Type 0) (x : ℕ) (is_root : root x) (
   done_target (effect.Tells over) h y is = absurd (cc is)
   done_target (effect.Lists at) h y is = absurd (cc is)
   done_target effect.Retires h y is = absurd (cc is)
+  done_target (effect.Acts None) h y is = absurd (cc is)
+  done_target (effect.Acts (Some agent)) h y is = let same : agent ≡ y = cc is in inl (x, is_root, subst (Reaches H x) same h.0)
 
   target_live : (c : Command) → Allowed H x c → (y : ℕ) → new_target H (terms x c).does ≡ Some y → Live H root y ⊎ (H.next ≤ y)
   target_live c a y is = done_target (terms x c).does (entitled H (Reaches H x) (reaches_on H x) x here c a) y is
@@ -89,25 +98,56 @@ module _ (v : Contents) (j : Ties v) (store : IsStore v.store) (x : ℕ) (before
   done_moves actor (effect.Tells over) h moved = moved
   done_moves actor (effect.Lists at) h moved = moved
   done_moves actor effect.Retires h moved = moved
+  done_moves actor (effect.Acts agent) h moved = moved
 
-  moved_so : (c : Command) (o : Outcome) → (o ≡ outcome.Allowed → Allowed (held_now v) x c) → (Allowed (held_now v) x c → IsActor v x) → CellsMoved (held_now v) before after x c o → CellsMoved (graph_now v) before after x c o
-  moved_so c outcome.Allowed a acts moved = let actor = acts (a refl) in done_moves actor (terms x c).does (entitled_held v j store x actor c (a refl)) moved
+  moved_so : (c : Command) (o : Outcome) → (o ≡ outcome.Allowed → Allowed (held_now v) x c) → (Allowed (held_now v) x c → IsActor v x ⊎ (c ≡ command.Leave)) →
+      CellsMoved (held_now v) before after x c o → CellsMoved (graph_now v) before after x c o
+  moved_so c outcome.Allowed a acts moved = elim (acts (a refl)) [
+    | inl actor ↦ done_moves actor (terms x c).does (entitled_held v j store x actor c (a refl)) moved
+    | inr leaves ↦ subst (λ k. CellsMoved (held_now v) before after x k outcome.Allowed → CellsMoved (graph_now v) before after x k outcome.Allowed) (sym leaves) (λ (same : after ≡ before). same) moved
+  ]
   moved_so c (outcome.Denied rule cause) a acts moved = moved
   moved_so c (outcome.Full w) a acts moved = moved
+
+-- each agent was assumed: it was one before, or the entry has made it one
+module _ (earlier : List Entry) (e : Entry) (agents : List (Option ℕ)) (were : (k y : ℕ) → at_seat agents k ≡ Some y → WasAssumed earlier k y) (k y : ℕ) where
+  longer : WasAssumed earlier k y → WasAssumed (earlier ++ e ∷ []) k y
+  longer (d, within, at, is, allowed) = (d, contains_left earlier (e ∷ []) d within, at, is, allowed)
+
+  done_assumed : (d : Does) → d ≡ (terms e.actor e.command).does → e.outcome ≡ outcome.Allowed → at_seat (new_agents agents e.seat d) k ≡ Some y → WasAssumed (earlier ++ e ∷ []) k y
+  done_assumed (effect.Joins from α to) does allowed at = longer (were k y at)
+  done_assumed (effect.Makes kind α name) does allowed at = longer (were k y at)
+  done_assumed (effect.Drops α over) does allowed at = longer (were k y at)
+  done_assumed (effect.Rewrites over text) does allowed at = longer (were k y at)
+  done_assumed (effect.Tells over) does allowed at = longer (were k y at)
+  done_assumed (effect.Lists of) does allowed at = longer (were k y at)
+  done_assumed effect.Retires does allowed at = longer (were k y at)
+  done_assumed (effect.Acts agent) does allowed at = elim (set_seat agents e.seat k agent y at) [
+    | inl new ↦
+        let assumes = acts_for e.actor e.command y (ap (λ a. effect.Acts a) (sym new.1) ∙ does) in
+        (e, contains_right earlier (e ∷ []) e (inl refl), sym new.0, assumes, allowed)
+    | inr before ↦ longer (were k y before)
+  ]
+
+  assumed_after : (o : Outcome) → e.outcome ≡ o → at_seat (agents_after agents e.seat e.actor e.command o) k ≡ Some y → WasAssumed (earlier ++ e ∷ []) k y
+  assumed_after outcome.Allowed is at = done_assumed (terms e.actor e.command).does refl is at
+  assumed_after (outcome.Denied rule cause) is at = longer (were k y at)
+  assumed_after (outcome.Full w) is at = longer (were k y at)
 
 -- what is free is at most all
 pub free_few : (v : Contents) → Ties v → IsStore v.store → free_slots v.store ≤ v.limits.slots
 free_few v j store = let all = store.slots 0 in let many = j.slots in omega arith
 
--- a command was carried out in the store of a vault and in the list of its principals
-pub record Serving (v : Contents) (seat x : ℕ) (c : Command) (answer : Reply) (t : Stored) (members : List Member) (after : ℕ) : Type 0 where
+-- a command of the actor at a seat was carried out in the store of a vault, in the list of its principals and among those
+-- who have retired
+pub record Serving (v : Contents) (seat x : ℕ) (c : Command) (answer : Reply) (t : Stored) (members : List Member) (after : ℕ) (gone : List ℕ) : Type 0 where
   pub joins : Ties v
   pub store : IsStore v.store
   pub within : seat < 64
-  pub seated : at_seat v.seats seat ≡ Some x
-  pub carried : CarriedOut v.store t (graph_now v).next after (graph_now v).names members (graph_now v).retired seat x c answer
+  pub acts : actor_at (moment v).world seat ≡ Some x
+  pub carried : CarriedOut v.store t (graph_now v).next after (graph_now v).names members (graph_now v).retired (set_of gone) seat x c answer
 
-module _ (v : Contents) (seat x : ℕ) (c : Command) (answer : Reply) (t : Stored) (members : List Member) (after : ℕ) (s : Serving v seat x c answer t members after) where
+module _ (v : Contents) (seat x : ℕ) (c : Command) (answer : Reply) (t : Stored) (members : List Member) (after : ℕ) (gone : List ℕ) (s : Serving v seat x c answer t members after gone) where
   abbrev j : Ties v
   j = s.joins
 
@@ -127,26 +167,20 @@ module _ (v : Contents) (seat x : ℕ) (c : Command) (answer : Reply) (t : Store
   abbrev pub left : Contents
   left = record v { store = t; names = members; history = v.history ++ e ∷ [] }
 
-  asks : MayAsk G x
-  asks = j.vault.seated seat x s.seated
+  who : MayAsk G v.history seat x × (IsActor v x ⊎ (has_retired G x ≡ true))
+  who = acts_here v j s.store seat x s.acts
 
-  -- who has a command carried out has not retired
-  acts : Allowed H x c → IsActor v x
-  acts a = elim asks [ inl active ↦ principal_acts v j s.store x active | inr gone ↦ absurd (retired_refused H x c gone a) ]
+  -- who has a command carried out is a root and a subject, or leaves
+  acts : Allowed H x c → IsActor v x ⊎ (c ≡ command.Leave)
+  acts a = elim who.1 [ inl actor ↦ inl actor | inr retired ↦ inr (retired_leaves H x c retired a) ]
 
   in_G : IsGraph G
   in_G = graph_is v j s.store
 
-  x_in : Allowed H x c → IsVertex H x
-  x_in a = actor_held v j s.store x (acts a)
-
-  x_in_G : Allowed H x c → IsVertex G x
-  x_in_G a = IsVertex-from_kind G x _ (acts a).subject
-
   decided : Decided G (free_slots v.store) v.store.free_cells x c o
-  decided = elim asks [
-    | inl active ↦ decided_so v j s.store x (principal_acts v j s.store x active) c (free_slots v.store) v.store.free_cells o s.carried.decided
-    | inr gone ↦ retired_decided G x c gone H (free_slots v.store) v.store.free_cells o gone s.carried.decided
+  decided = elim who.1 [
+    | inl actor ↦ decided_so v j s.store x actor c (free_slots v.store) v.store.free_cells o s.carried.decided
+    | inr retired ↦ retired_decided G H (free_slots v.store) v.store.free_cells x c o retired retired s.carried.decided
   ]
 
   allowed : o ≡ outcome.Allowed → Allowed G x c
@@ -156,7 +190,7 @@ module _ (v : Contents) (seat x : ℕ) (c : Command) (answer : Reply) (t : Store
   allowed_held = allowed_of H (free_slots v.store) v.store.free_cells x c o s.carried.decided
 
   carried : Carried G in_G x c o
-  carried is = (x_in_G (allowed_held is), allowed is)
+  carried is = elim (acts (allowed_held is)) [ inl actor ↦ inl (IsVertex-from_kind G x _ actor.subject, allowed is) | inr leaves ↦ inr leaves ]
 
   permitted : Permitted v.limits G x c o
   permitted = decided_permitted v.limits G (free_slots v.store) v.store.free_cells x c o j.many_slots j.many_cells decided
@@ -164,7 +198,10 @@ module _ (v : Contents) (seat x : ℕ) (c : Command) (answer : Reply) (t : Store
   replied : answer ≡ reply_of G x c o
   replied = s.carried.replied ∙ by o allowed_held where
     by : (p : Outcome) → (p ≡ outcome.Allowed → Allowed H x c) → reply_of H x c p ≡ reply_of G x c p
-    by outcome.Allowed a = replied_so v j s.store x (acts (a refl)) c (a refl)
+    by outcome.Allowed a = elim (acts (a refl)) [
+      | inl actor ↦ replied_so v j s.store x actor c (a refl)
+      | inr leaves ↦ subst (λ k. reply_of H x k outcome.Allowed ≡ reply_of G x k outcome.Allowed) (sym leaves) refl
+    ]
     by (outcome.Denied rule cause) a = refl
     by (outcome.Full w) a = refl
 
@@ -182,6 +219,7 @@ module _ (v : Contents) (seat x : ℕ) (c : Command) (answer : Reply) (t : Store
     world = record {
       graph = graph_left i;
       seats = v.seats;
+      agents = s.carried.agents i;
       pending = (s.carried.pending ∙ ap (with_target (pending v.store) seat) target_is) i;
       used = used i;
     };
@@ -219,38 +257,45 @@ module _ (v : Contents) (seat x : ℕ) (c : Command) (answer : Reply) (t : Store
     live = λ y is. live o allowed_held y is;
   } where
     live : (p : Outcome) → (p ≡ outcome.Allowed → Allowed H x c) → (y : ℕ) → target_of H x c p ≡ Some y → Live H (IsRootIn v.store) y ⊎ (H.next ≤ y)
-    live outcome.Allowed a y is = target_live H (IsRootIn v.store) x (acts (a refl)).root (x_in (a refl)) c (a refl) y is
+    live outcome.Allowed a y is = elim (acts (a refl)) [
+      | inl actor ↦ target_live H (IsRootIn v.store) x actor.root (actor_held v j s.store x actor) c (a refl) y is
+      | inr leaves ↦ absurd (cc (sym (ap (λ k. new_target H (terms x k).does) leaves) ∙ is))
+    ]
     live (outcome.Denied rule cause) a y is = absurd (cc is)
     live (outcome.Full w) a y is = absurd (cc is)
 
   still_vault : IsVault left
   still_vault = record {
-    legal = record { graphs = along_more v.limits v.opening v.history G e (graph_now left) j.vault.legal.graphs (asks, permitted, graph_left) };
+    legal = record { graphs = along_more v.limits [] v.opening v.history G e (graph_now left) j.vault.legal.graphs (who.0, permitted, graph_left) };
     began = j.vault.began;
     sat = All-append (λ (e : Entry). e.seat < 64) v.history (e ∷ []) j.vault.sat (All-cons (λ (e : Entry). e.seat < 64) e [] s.within (All-nil _));
     seats = j.vault.seats;
-    seated = λ k y at. subst (λ (K : Protection). MayAsk K y) (sym graph_left) (asks_stay G x c o y (j.vault.seated k y at));
+    seated = λ k y at. subst (λ (K : Protection). WasPrincipal K y) (sym graph_left) (was_stays G x c o y (j.vault.seated k y at));
   }
 
   part_next : IsPart (next_graph G x c o) (next_graph H x c o)
   part_next = by o allowed allowed_held where
     by : (p : Outcome) → (p ≡ outcome.Allowed → Allowed G x c) → (p ≡ outcome.Allowed → Allowed H x c) → IsPart (next_graph G x c p) (next_graph H x c p)
-    by outcome.Allowed a there = part_stays G H j.part x c in_G (held_is v j s.store) refl (x_in (there refl)) (x_in_G (there refl)) (a refl)
+    by outcome.Allowed a there = elim (acts (there refl)) [
+      | inl actor ↦ part_stays G H j.part x c in_G (held_is v j s.store) refl (actor_held v j s.store x actor) (IsVertex-from_kind G x _ actor.subject) (a refl)
+      | inr leaves ↦ subst (λ k. IsPart (next_graph G x k outcome.Allowed) (next_graph H x k outcome.Allowed)) (sym leaves) j.part
+    ]
     by (outcome.Denied rule cause) a there = j.part
     by (outcome.Full w) a there = j.part
 
   names_are : members ≡ (graph_now left).names
   names_are = ap (λ (K : Protection). K.names) s.carried.graph ∙ sym part_next.names ∙ sym (ap (λ (K : Protection). K.names) graph_left)
 
+  retired_are : set_of gone ≡ (graph_now left).retired
+  retired_are = ap (λ (K : Protection). K.retired) s.carried.graph ∙ sym part_next.retired ∙ sym (ap (λ (K : Protection). K.retired) graph_left)
+
   held_left : next_graph H x c o ≡ held_now left
-  held_left =
-      let retired_are : (next_graph H x c o).retired ≡ (graph_now left).retired = sym part_next.retired ∙ sym (ap (λ (K : Protection). K.retired) graph_left) in
-      sym s.carried.graph ∙ (λ i. seen t (after_is i) (names_are i) (retired_are i))
+  held_left = sym s.carried.graph ∙ (λ i. seen t (after_is i) (names_are i) (retired_are i))
 
   still_part : IsPart (graph_now left) (held_now left)
   still_part = subst (λ K. IsPart (graph_now left) K) held_left (subst (λ K. IsPart K (next_graph H x c o)) (sym graph_left) part_next)
 
-  pub serving_joined : IsTied left after
+  pub serving_joined : IsTied left after gone
   serving_joined = record {
     joins = record {
       vault = still_vault;
@@ -259,7 +304,7 @@ module _ (v : Contents) (seat x : ℕ) (c : Command) (answer : Reply) (t : Store
       parked = λ y h. subst (λ (K : Protection). IsVertex K y) (sym graph_left) (vertex_stays G in_G x c o carried y (j.parked y (acted_parked s.carried.acted y h)));
       names = names_are;
       principals = s.carried.principals;
-      agents = λ k. ap (λ table. at_seat table k) s.carried.acted.agents ∙ j.agents k;
+      assumed = λ k y at. assumed_after v.history e (agents v.store) j.assumed k y o refl (sym (ap (λ table. at_seat table k) s.carried.agents) ∙ at);
       slots = s.carried.acted.slots ∙ j.slots;
       cells = s.carried.acted.cells ∙ j.cells;
       many_slots =
@@ -274,54 +319,54 @@ module _ (v : Contents) (seat x : ℕ) (c : Command) (answer : Reply) (t : Store
           omega arith;
     };
     serial = after_is;
+    retired = retired_are;
   }
 
 -- the entry is that of the reply, and is pushed
-pub record Pushed (v : Contents) (next seat x : ℕ) (c : Command) (answer : Reply) (t : Stored) (members : List Member) (after : ℕ) (decision : Outcome) (history : List Entry) : Type 0 where
-  pub joined : IsTied v next
+pub record Pushed (v : Contents) (next : ℕ) (retired : List ℕ) (seat x : ℕ) (c : Command) (answer : Reply) (t : Stored) (members : List Member) (after : ℕ) (gone : List ℕ) (decision : Outcome) (history : List Entry) : Type 0 where
+  pub joined : IsTied v next retired
   pub store : IsStore v.store
   pub within : seat < 64
-  pub seated : at_seat v.seats seat ≡ Some x
-  pub carried : CarriedOutAmong v.store t next after v.names members (not (has_serial v.names x)) seat x c answer
+  pub acts : actor_at (moment v).world seat ≡ Some x
+  pub carried : CarriedOut v.store t next after v.names members (set_of retired) (set_of gone) seat x c answer
   pub decision_is : decision ≡ told answer
   pub history_is : history ≡ v.history ++ record { seat = seat; actor = x; command = c; outcome = decision } ∷ []
 
-module _ (v : Contents) (next seat x : ℕ) (c : Command) (answer : Reply) (t : Stored) (members : List Member) (after : ℕ) (decision : Outcome) (history : List Entry)
-    (p : Pushed v next seat x c answer t members after decision history) where
-  serving : Serving v seat x c answer t members after
+module _ (v : Contents) (next : ℕ) (retired : List ℕ) (seat x : ℕ) (c : Command) (answer : Reply) (t : Stored) (members : List Member) (after : ℕ) (gone : List ℕ) (decision : Outcome) (history : List Entry)
+    (p : Pushed v next retired seat x c answer t members after gone decision history) where
+  serving : Serving v seat x c answer t members after gone
   serving =
-      let ties = p.joined.joins in
-      let carried = p.carried (graph_now v).retired (asks_told v ties p.store x (ties.vault.seated seat x p.seated)) in
+      let tied = p.joined in
       record {
-        joins = ties;
+        joins = tied.joins;
         store = p.store;
         within = p.within;
-        seated = p.seated;
+        acts = p.acts;
         carried =
-            subst (λ (ms : List Member). CarriedOut v.store t (graph_now v).next after ms members (graph_now v).retired seat x c answer) ties.names
-            (subst (λ (n : ℕ). CarriedOut v.store t n after v.names members (graph_now v).retired seat x c answer) p.joined.serial carried);
+            subst (λ (w : ℕ × List Member × set.FinSet nat_cmp). CarriedOut v.store t w.0 after w.1 members w.2 (set_of gone) seat x c answer)
+            (λ i. (tied.serial i, tied.joins.names i, tied.retired i)) p.carried;
       }
 
-  pushed_is : left v seat x c answer t members after serving ≡ record v { store = t; names = members; history = history }
+  pushed_is : left v seat x c answer t members after gone serving ≡ record v { store = t; names = members; history = history }
   pushed_is =
       let s = serving in
       let told_is : told answer ≡ s.carried.outcome = ap told s.carried.replied ∙ told_outcome (held_now v) x c s.carried.outcome in
       λ i. record v { store = t; names = members; history = sym (p.history_is ∙ ap (λ d. v.history ++ record { seat = seat; actor = x; command = c; outcome = d } ∷ []) (p.decision_is ∙ told_is)) i }
 
-  pub pushed_joined : IsTied (record v { store = t; names = members; history = history }) after
-  pushed_joined = subst (λ (w : Contents). IsTied w after) pushed_is (serving_joined v seat x c answer t members after serving)
+  pub pushed_joined : IsTied (record v { store = t; names = members; history = history }) after gone
+  pushed_joined = subst (λ (w : Contents). IsTied w after gone) pushed_is (serving_joined v seat x c answer t members after gone serving)
 
   pub pushed_enters : Enters v.limits (moment v) seat x c answer (moment (record v { store = t; names = members; history = history }))
-  pushed_enters = subst (λ (w : Contents). Enters v.limits (moment v) seat x c answer (moment w)) pushed_is (serving_enters v seat x c answer t members after serving)
+  pushed_enters = subst (λ (w : Contents). Enters v.limits (moment v) seat x c answer (moment w)) pushed_is (serving_enters v seat x c answer t members after gone serving)
 
   pub pushed_same : SameForAgreeing v (record v { store = t; names = members; history = history }) answer
-  pushed_same = subst (λ (w : Contents). SameForAgreeing v w answer) pushed_is (serving_same v seat x c answer t members after serving)
+  pushed_same = subst (λ (w : Contents). SameForAgreeing v w answer) pushed_is (serving_same v seat x c answer t members after gone serving)
 
   pub pushed_exact : IsExact v (record v { store = t; names = members; history = history })
-  pushed_exact = subst (λ (w : Contents). IsExact v w) pushed_is (serving_exact v seat x c answer t members after serving)
+  pushed_exact = subst (λ (w : Contents). IsExact v w) pushed_is (serving_exact v seat x c answer t members after gone serving)
 
   pub pushed_acts : SessionStep v (record v { store = t; names = members; history = history })
-  pushed_acts = subst (λ (w : Contents). SessionStep v w) pushed_is (serving_acts v seat x c answer t members after serving)
+  pushed_acts = subst (λ (w : Contents). SessionStep v w) pushed_is (serving_acts v seat x c answer t members after gone serving)
 
 -- no vertex that waits to be swept has the next serial
 pub next_unparked : (v : Contents) → Ties v → IsStore v.store → IsParkedIn v.store (graph_now v).next → ⊥

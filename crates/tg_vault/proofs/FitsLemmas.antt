@@ -1,22 +1,15 @@
 -- What a vault keeps makes its store fit the graph of the history.
-use Rattle.std.proofs.Common.{◌≡◌, ℕ, zero, suc, List, [], ◌∷◌, sym, subst, ◌∙◌, inl, inr, Some, arith}
-use Rattle.std.specs.Prelude.{Option}
-use Rattle.tg_rights.specs.Membership.{Contains}
+use Rattle.std.proofs.Common.{◌≡◌, ℕ, List, [], ◌∷◌, subst, ◌∙◌, inl, inr, arith}
 use Rattle.tg_graph.specs.Protection.{Protection, IsVertex}
 use Rattle.tg_graph.specs.Paths.{IsPart, Leads}
 use Rattle.tg_graph.specs.Fullness.{edge_count}
-use Rattle.tg_collect.specs.Readings.{held, IsRootIn, pending}
+use Rattle.tg_collect.specs.Readings.{agents, held, IsRootIn, pending}
 use Rattle.tg_collect.specs.Views.{IsStore}
-use Rattle.tg_vault.specs.World.{at_seat}
 use Rattle.tg_vault.specs.Contents.{Contents, graph_now, held_now, moment}
 use Rattle.tg_vault.specs.Fits.{Ties, Fits, IsRoot}
 use Rattle.tg_vault.proofs.DecidedLemmas.{of_graph, principal_root}
 use Rattle.tg_vault.proofs.EdgeLemmas.{edge_count_seen}
-
-pub seat_contains : (table : List (Option ℕ)) (seat x : ℕ) → at_seat table seat ≡ Some x → Contains table (Some x)
-seat_contains [] seat x is = absurd (cc is)
-seat_contains (o ∷ table) zero x is = inl (sym is)
-seat_contains (o ∷ table) (suc seat) x is = inr (seat_contains table seat x is)
+use Rattle.tg_vault.proofs.PlaceLemmas.{seat_contains}
 
 -- a path of the graph from a vertex of the part stays in the part
 pub path_stays : (G H : Protection) → IsPart G H → (later : List ℕ) (x y : ℕ) → IsVertex H x → Leads G x later y → IsVertex H y
@@ -26,7 +19,8 @@ path_stays G H part (z ∷ zs) x y h leads = path_stays G H part zs z y (part.cl
 module _ (v : Contents) (j : Ties v) (s : IsStore v.store) where
   pub root_in : (x : ℕ) → IsRoot (moment v).world x → IsRootIn v.store x
   root_in x (inl active) = principal_root v j s x active
-  root_in x (inr target) = inr (inl (seat_contains (pending v.store) target.0 x target.1))
+  root_in x (inr (seat, inl target)) = inr (inl (seat_contains (pending v.store) seat x target))
+  root_in x (inr (seat, inr agent)) = inr (inr (seat_contains (agents v.store) seat x agent))
 
   pub fits_are : Fits v
   fits_are = record {

@@ -1,15 +1,16 @@
 -- A decision has passed each vertex that the effect works on, and has met what the effect takes for granted.
-use Rattle.std.proofs.Common.{◌≡◌, ◌≢◌, ℕ, List, false, sym, subst, ◌∙◌, inl, inr}
+use Rattle.std.proofs.Common.{◌≡◌, ◌≢◌, ℕ, List, Some, false, sym, ap, subst, ◌∙◌, inl, inr}
 use Rattle.std.specs.Prelude.{Option}
 use Rattle.tg_rights.specs.Letters.{Letters, is_none}
 use Rattle.tg_rights.specs.declared.kind.Kind.{Kind}
 use Rattle.tg_rights.specs.declared.command.Command.{Command}
+use Rattle.tg_rights.specs.declared.command.Command.TheVariants as command
 use Rattle.tg_graph.specs.declared.rules.Found.{Found}
 use Rattle.tg_graph.specs.Terms as effect
 use Rattle.tg_graph.specs.Terms.{Does, terms}
 use Rattle.tg_graph.specs.Protection.{Protection, IsEdge, label}
 use Rattle.tg_graph.specs.Rules.{Allowed}
-use Rattle.tg_graph.specs.Deciding.{Covers, DocumentNear, IsFound, IsNear, IsSubjectIfNamed, LeadTo}
+use Rattle.tg_graph.specs.Deciding.{Covers, WantedNear, IsFound, IsNear, IsSubjectIfNamed, LeadTo}
 use Rattle.tg_graph.specs.Names.{MayBeNamed}
 use Rattle.tg_graph.proofs.DecidingLemmas.{sound}
 use Rattle.tg_graph.proofs.ProtectionLemmas.{Entitled, entitled, includes_some}
@@ -29,13 +30,16 @@ module _ {P : Type 0} (x : ℕ) (c : Command) (f : Found P) (actor : f.actor.ser
   joined_to from to α is = leads to (covered (effect.Joins from α to) is).1
 
   pub rewritten : (over : ℕ) (text : _) → effect.Rewrites over text ≡ (terms x c).does → IsFound f over
-  rewritten over text is = leads over (subst (DocumentNear (terms x c).needs) (covered (effect.Rewrites over text) is) (sound x c).document)
+  rewritten over text is = leads over (subst (WantedNear (terms x c).needs) (covered (effect.Rewrites over text) is) (sound x c).wants)
 
   pub told : (over : ℕ) → effect.Tells over ≡ (terms x c).does → IsFound f over
   told over is = leads over (covered (effect.Tells over) is)
 
   pub listed : (at : ℕ) → effect.Lists at ≡ (terms x c).does → IsFound f at
   listed at is = near at (covered (effect.Lists at) is)
+
+  pub assumed : (agent : ℕ) → effect.Acts (Some agent) ≡ (terms x c).does → IsFound f agent
+  assumed agent is = leads agent (subst (WantedNear (terms x c).needs) (covered (effect.Acts (Some agent)) is) (sound x c).wants)
 
 module _ (G : Protection) (x : ℕ) (c : Command) (allowed : Allowed G x c) where
   granted : (d : Does) → d ≡ (terms x c).does → Entitled G (λ _. Unit {0}) (λ v z k e. tt) x tt d
@@ -52,3 +56,17 @@ module _ (G : Protection) (x : ℕ) (c : Command) (allowed : Allowed G x c) wher
 
   pub made_named : (k : Kind) (α : Letters) (name : Option (List ℕ)) → effect.Makes k α name ≡ (terms x c).does → (is_none α ≡ false) × IsSubjectIfNamed k name × MayBeNamed G.names name
   made_named k α name is = granted (effect.Makes k α name) is
+
+-- only an assume makes somebody the agent
+pub acts_for : (x : ℕ) (c : Command) (agent : ℕ) → effect.Acts (Some agent) ≡ (terms x c).does → c ≡ command.Assume agent
+acts_for x (command.Take α over from) agent is = absurd (cc is)
+acts_for x (command.Grant α over to) agent is = absurd (cc is)
+acts_for x (command.Create k α) agent is = absurd (cc is)
+acts_for x (command.Remove α over) agent is = absurd (cc is)
+acts_for x (command.Read over) agent is = absurd (cc is)
+acts_for x (command.Write over text) agent is = absurd (cc is)
+acts_for x (command.Look at) agent is = absurd (cc is)
+acts_for x (command.Enrol name α) agent is = absurd (cc is)
+acts_for x command.Retire agent is = absurd (cc is)
+acts_for x (command.Assume other) agent is = let same : agent ≡ other = cc is in ap (λ n. command.Assume n) (sym same)
+acts_for x command.Leave agent is = absurd (cc is)

@@ -1,5 +1,5 @@
 -- A vault before any event.
-use Rattle.std.proofs.Common.{◌≡◌, ℕ, zero, suc, [], length, replicate, refl, sym, ap, subst, ◌∙◌, Some, None, arith}
+use Rattle.std.proofs.Common.{◌≡◌, ℕ, zero, suc, List, [], length, replicate, refl, sym, ap, subst, ◌∙◌, Some, None, arith}
 use Rattle.std.specs.Prelude.{Option}
 use Rattle.std.specs.FinMap as map
 use Rattle.std.proofs.lemmas.List.Elements.{All-nil}
@@ -19,7 +19,7 @@ use Rattle.tg_collect.specs.Readings.{held, principals}
 use Rattle.tg_collect.specs.Views.{IsStore}
 use Rattle.tg_collect.specs.Openings.{IsOpening, Opened, first_serials}
 use Rattle.tg_vault.specs.World.{at_seat}
-use Rattle.tg_vault.specs.Seen.{serials}
+use Rattle.tg_vault.specs.Seen.{serials, set_of}
 use Rattle.tg_vault.specs.Contents.{Contents, IsFresh}
 use Rattle.tg_vault.specs.Fits.{IsTied}
 use Rattle.tg_vault.proofs.EdgeLemmas.{edge_count_seen}
@@ -51,8 +51,9 @@ module _ (c : Config) (G : Protection) (s : Stored) (is : G ≡ opening c) (soun
   principals_are : principals s ≡ serials G.names
   principals_are = o.opens.principals ∙ ap first_serials (sym count_is) ∙ sym (opening_serials c) ∙ ap (λ (K : Protection). serials K.names) (sym is)
 
-  pub fresh_joined : IsTied fresh c.next
-  fresh_joined = record {
+  pub fresh_joined : (gone : List ℕ) → gone ≡ [] → IsTied fresh c.next gone
+  unfolding opening
+  fresh_joined gone none = record {
     joins = record {
       vault = record {
         legal = record { graphs = refl };
@@ -66,7 +67,7 @@ module _ (c : Config) (G : Protection) (s : Stored) (is : G ≡ opening c) (soun
       parked = λ x h. absurd (o.parked x h);
       names = refl;
       principals = principals_are;
-      agents = o.opens.agents;
+      assumed = λ seat x at. absurd (cc (at, o.opens.agents seat));
       slots = o.opens.slots;
       cells = o.opens.cells;
       many_slots = let all = o.opens.free in let many = counted in omega arith;
@@ -77,6 +78,7 @@ module _ (c : Config) (G : Protection) (s : Stored) (is : G ≡ opening c) (soun
           omega arith;
     };
     serial = sym (ap (λ (K : Protection). K.next) is ∙ (opened c).next);
+    retired = ap set_of none ∙ sym (ap (λ (K : Protection). K.retired) is);
   }
 
   pub fresh_is : IsFresh c fresh

@@ -1,5 +1,5 @@
 -- the headline of a course
-use Rattle.std.proofs.Common.{◌≡◌, List, [], ◌∷◌, refl, subst, ◌⊎◌, inl, inr}
+use Rattle.std.proofs.Common.{◌≡◌, List, [], ◌∷◌, ◌++◌, refl, subst, ◌⊎◌, inl, inr}
 use Rattle.tg_rights.specs.declared.command.Rule.{Rule}
 use Rattle.tg_rights.specs.declared.outcome.Cause.{Cause}
 use Rattle.tg_rights.specs.declared.outcome.Which.{Which}
@@ -23,9 +23,12 @@ use Rattle.tg_vault.proofs.FitsLemmas.{fits_are}
 use Rattle.tg_vault.proofs.DecidedLemmas.{not_both, judged_once}
 
 each : (P : Protection → Entry → Type 0) (limits : Limits) → ((G : Protection) (e : Entry) → Permitted limits G e.actor e.command e.outcome → P G e) →
-    (G : Protection) (es : List Entry) (H : Protection) → EntryRun limits G es H → EachEntry P G es
-each P limits holds G [] H along = tt
-each P limits holds G (e ∷ es) H along = (holds G e along.1.1, each P limits holds (next_graph G e.actor e.command e.outcome) es H (subst (λ K. EntryRun limits K es H) along.1.2 along.2))
+    (earlier : List Entry) (G : Protection) (es : List Entry) (H : Protection) → EntryRun limits earlier G es H → EachEntry P G es
+each P limits holds earlier G [] H along = tt
+each P limits holds earlier G (e ∷ es) H along = (
+  holds G e along.1.1,
+  each P limits holds (earlier ++ e ∷ []) (next_graph G e.actor e.command e.outcome) es H (subst (λ K. EntryRun limits (earlier ++ e ∷ []) K es H) along.1.2 along.2),
+)
 
 carried_out : (limits : Limits) (G : Protection) (e : Entry) → Permitted limits G e.actor e.command e.outcome → IsCarriedOutWhenAllowed limits G e
 carried_out limits G e p = record { only = only e.outcome p; unless_full = unless_full e.outcome p; full = full e.outcome p } where
@@ -62,11 +65,11 @@ denied limits G e p rule cause = (named e.outcome p, denies e.outcome p) where
   denies (outcome.Denied r why) p d = judged_once G e.actor e.command (outcome.Denied rule cause) (outcome.Denied r why) d p
   denies (outcome.Full w) p d = absurd (cc (not_both G e.actor e.command (outcome.Denied rule cause) p.0 d))
 
-each_carried_out : (limits : Limits) (G : Protection) (es : List Entry) (H : Protection) → EntryRun limits G es H → EachEntry (IsCarriedOutWhenAllowed limits) G es
-each_carried_out limits = each (IsCarriedOutWhenAllowed limits) limits (carried_out limits)
+each_carried_out : (limits : Limits) (G : Protection) (es : List Entry) (H : Protection) → EntryRun limits [] G es H → EachEntry (IsCarriedOutWhenAllowed limits) G es
+each_carried_out limits = each (IsCarriedOutWhenAllowed limits) limits (carried_out limits) []
 
-each_denied : (limits : Limits) (G : Protection) (es : List Entry) (H : Protection) → EntryRun limits G es H → EachEntry IsDenialNamed G es
-each_denied limits = each IsDenialNamed limits (denied limits)
+each_denied : (limits : Limits) (G : Protection) (es : List Entry) (H : Protection) → EntryRun limits [] G es H → EachEntry IsDenialNamed G es
+each_denied limits = each IsDenialNamed limits (denied limits) []
 
 pub courses_have_the_headline : runs.IsComplete → runs.IsBounded → CoursesHaveTheHeadline
 courses_have_the_headline complete bounded old es answers new coherent course =

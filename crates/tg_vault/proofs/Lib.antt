@@ -2,6 +2,7 @@ pub mod SerialsLemmas
 pub mod PlaceLemmas
 pub mod EdgeLemmas
 pub mod FoundLemmas
+pub mod RetiredLemmas
 pub mod CarriedOutLemmas
 pub mod HistoryLemmas
 pub mod DecidedLemmas

@@ -30,12 +30,6 @@ pub is_listed : (ms : List Member) (x : ℕ) → has_serial ms x ≡ true → Co
 is_listed [] x e = absurd (cc e)
 is_listed (m ∷ ms) x e = elim (or_cases (m.serial == x) (has_serial ms x) e) [ inl here ↦ inl (sym (eqb-true m.serial x here)) | inr later ↦ inr (is_listed ms x later) ]
 
-pub unlisted : (ms : List Member) (x : ℕ) → (Contains (serials ms) x → ⊥) → has_serial ms x ≡ false
-unlisted ms x none = by (has_serial ms x) refl where
-  by : (b : Bool) → has_serial ms x ≡ b → b ≡ false
-  by true e = absurd (none (is_listed ms x e))
-  by false e = refl
-
 -- whoever has a name is a principal
 pub named_active : (ms : List Member) (name : List ℕ) (x : ℕ) → serial_of ms name ≡ Some x → has_serial ms x ≡ true
 named_active [] name x is = absurd (cc is)

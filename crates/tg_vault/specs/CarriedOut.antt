@@ -21,9 +21,9 @@ use Rattle.tg_graph.specs.Protection.{Protection, label}
 use Rattle.tg_graph.specs.Rules.{Allowed, Denied, is_new, last_serial, next_graph, reply_of}
 use Rattle.tg_graph.specs.Fullness.{NewEdge, edges_at}
 use Rattle.tg_collect.specs.Stored.{Stored}
-use Rattle.tg_collect.specs.Readings.{IsEdgeIn, pending, principals, free_slots}
+use Rattle.tg_collect.specs.Readings.{IsEdgeIn, agents, pending, principals, free_slots}
 use Rattle.tg_collect.specs.Sessions.{EdgeStored, VertexStored, PrincipalStored, Acted}
-use Rattle.tg_vault.specs.World.{target_of, with_target, slots_taken}
+use Rattle.tg_vault.specs.World.{agents_after, target_of, with_target, slots_taken}
 use Rattle.tg_vault.specs.Seen.{seen, serials}
 
 -- the first of serials, slots and cells that an effect needs and that is used up
@@ -56,14 +56,15 @@ EdgeMoves G before after x (effect.Rewrites over text) = after ≡ before
 EdgeMoves G before after x (effect.Tells over) = after ≡ before
 EdgeMoves G before after x (effect.Lists at) = after ≡ before
 EdgeMoves G before after x effect.Retires = after ≡ before
+EdgeMoves G before after x (effect.Acts agent) = after ≡ before
 
 abbrev pub CellsMoved : Protection → (before after : ℕ) → ℕ → Command → Outcome → Type 0
 CellsMoved G before after x c outcome.Allowed = EdgeMoves G before after x (terms x c).does
 CellsMoved G before after x c (outcome.Denied rule cause) = after ≡ before
 CellsMoved G before after x c (outcome.Full w) = after ≡ before
 
--- whether an effect copies a text, a name or a list of edges, and so may need memory; room for vertices, edges and
--- principals was made when the store was opened
+-- whether an effect copies a text, a name or a list of edges, or adds to those who have retired, and so may need memory;
+-- room for vertices, edges and principals was made when the store was opened
 abbrev pub copies : Does → Bool
 copies (effect.Joins from α to) = false
 copies (effect.Makes k α None) = false
@@ -72,27 +73,22 @@ copies (effect.Drops α over) = false
 copies (effect.Rewrites over text) = true
 copies (effect.Tells over) = true
 copies (effect.Lists at) = true
-copies effect.Retires = false
+copies effect.Retires = true
+copies (effect.Acts agent) = false
 
--- the command of x, from the seat, was decided and carried out in the store and in the list of the active principals,
--- with this reply
-pub record CarriedOut (s t : Stored) (next after : ℕ) (names left : List Member) (retired : set.FinSet nat_cmp) (seat x : ℕ) (c : Command) (answer : Reply) : Type 0 where
+-- the command of x, from the seat, was decided and carried out in the store, in the list of the active principals and in
+-- the set of those who have retired, with this reply
+pub record CarriedOut (s t : Stored) (next after : ℕ) (names left : List Member) (retired gone : set.FinSet nat_cmp) (seat x : ℕ) (c : Command) (answer : Reply) : Type 0 where
   pub outcome : Outcome
   pub decided : Decided (seen s next names retired) (free_slots s) s.free_cells x c outcome
   pub replied : answer ≡ reply_of (seen s next names retired) x c outcome
-  pub graph : seen t after left (next_graph (seen s next names retired) x c outcome).retired ≡ next_graph (seen s next names retired) x c outcome
+  pub graph : seen t after left gone ≡ next_graph (seen s next names retired) x c outcome
   pub pending : pending t ≡ with_target (pending s) seat (target_of (seen s next names retired) x c outcome)
+  pub agents : agents t ≡ agents_after (agents s) seat x c outcome
   pub acted : Acted s t (new_serial next x c outcome) (target_of (seen s next names retired) x c outcome)
   pub principals : principals t ≡ serials left
   pub slots : free_slots s ≡ free_slots t + slots_taken x c outcome
   pub cells : CellsMoved (seen s next names retired) s.free_cells t.free_cells x c outcome
-
--- the same for every set of those who have retired, x among them or not
-abbrev pub AllowedAmong : Stored → (next : ℕ) → List Member → (gone : Bool) → ℕ → Command → Type 0
-AllowedAmong s next names gone x c = (retired : set.FinSet nat_cmp) → set.contains retired x ≡ gone → Allowed (seen s next names retired) x c
-
-abbrev pub CarriedOutAmong : (s t : Stored) → (next after : ℕ) → (names left : List Member) → (gone : Bool) → (seat x : ℕ) → Command → Reply → Type 0
-CarriedOutAmong s t next after names left gone seat x c answer = (retired : set.FinSet nat_cmp) → set.contains retired x ≡ gone → CarriedOut s t next after names left retired seat x c answer
 
 -- an edge from x to y gained rights, or no cell was free for it
 abbrev pub Joined : (v w : Stored) → (seat x y : ℕ) → Letters → Reply → Type 0

@@ -8,7 +8,7 @@ use Rattle.tg_graph.specs.Fullness.{Limits}
 use Rattle.tg_graph.specs.Opening as config
 use Rattle.tg_graph.specs.Codes.{protection_code}
 use Rattle.tg_collect.specs.Stored.{Stored}
-use Rattle.tg_collect.specs.Readings.{IsParkedIn, pending, pending_of, free_slots, phase}
+use Rattle.tg_collect.specs.Readings.{IsParkedIn, agents, pending, pending_of, free_slots, phase}
 use Rattle.tg_collect.specs.contracts.store.Store as store
 use Rattle.tg_vault.specs.declared.entry.Entry.{Entry}
 use Rattle.tg_vault.specs.contracts.entry.Entry as entry
@@ -18,7 +18,7 @@ use Rattle.tg_vault.specs.declared.vault.Vault.TheInside.{Inside}
 use Rattle.tg_collect.specs.declared.note.Phase.TheVariants.{Idle}
 use Rattle.tg_graph.specs.declared.member.Member.{Member}
 use Rattle.tg_graph.specs.contracts.member.Member as member
-use Rattle.tg_vault.specs.History.{Legal, MayAsk, graph_of}
+use Rattle.tg_vault.specs.History.{Legal, WasPrincipal, graph_of}
 use Rattle.tg_vault.specs.World.{Moment, Step, Run, at_seat}
 use Rattle.tg_vault.specs.Seen.{seen}
 
@@ -63,7 +63,10 @@ held_now v = seen v.store (graph_now v).next (graph_now v).names (graph_now v).r
 
 -- the world of the vault, with its entries
 abbrev pub moment : Contents → Moment
-moment v = record { world = record { graph = graph_now v; seats = v.seats; pending = pending v.store; used = v.limits.slots - free_slots v.store }; history = v.history }
+moment v = record {
+  world = record { graph = graph_now v; seats = v.seats; agents = agents v.store; pending = pending v.store; used = v.limits.slots - free_slots v.store };
+  history = v.history;
+}
 
 -- what no event changes
 pub record Keeps (old new : Contents) : Type 0 where
@@ -77,14 +80,14 @@ StepOf old e a new = Step old.limits (moment old) e a (moment new)
 abbrev pub RunOf : Contents → List Event → List Answer → Contents → Type 0
 RunOf old es answers new = Run old.limits (moment old) es answers (moment new)
 
--- the history is legal and begins with nobody retired, the tables have one place for each seat, and only those who may
--- ask sit on them
+-- the history is legal and begins with nobody retired, the table has one place for each seat, and nobody sits there but
+-- principals and those who were
 pub record IsVault (v : Contents) : Type 0 where
   pub legal : Legal v.limits v.opening v.history (graph_now v)
   pub began : (x : ℕ) → has_retired v.opening x ≡ false
   pub sat : All (λ e. e.seat < SEATS) v.history
   pub seats : length v.seats ≡ SEATS
-  pub seated : (seat x : ℕ) → at_seat v.seats seat ≡ Some x → MayAsk (graph_now v) x
+  pub seated : (seat x : ℕ) → at_seat v.seats seat ≡ Some x → WasPrincipal (graph_now v) x
 
 -- the vault of a configuration, before any event
 pub record IsFresh (c : Config) (v : Contents) : Type 0 where

@@ -1,18 +1,18 @@
 -- what is stored fits the graph of the history
-use Rattle.std.specs.Prelude.{◌≡◌, ◌≤◌, ℕ, ◌+◌, true, Some, None, ◌⊎◌}
+use Rattle.std.specs.Prelude.{◌≡◌, ◌≤◌, ℕ, ◌+◌, List, true, Some, ◌⊎◌}
 use Rattle.tg_rights.specs.declared.limits.TheConstants.{MAX_CELLS, MAX_SLOTS}
 use Rattle.tg_graph.specs.Fullness.{vertex_count, edge_count}
 use Rattle.tg_graph.specs.Paths.{IsPart, Live}
 use Rattle.tg_graph.specs.Protection.{IsGraph, IsVertex, is_active}
 use Rattle.tg_collect.specs.Readings.{IsHeldIn, IsParkedIn, agents, parked_count, principals, slot_count, free_slots}
-use Rattle.tg_vault.specs.History.{Legal}
+use Rattle.tg_vault.specs.History.{Legal, WasAssumed}
 use Rattle.tg_vault.specs.World.{World, at_seat}
-use Rattle.tg_vault.specs.Seen.{serials}
+use Rattle.tg_vault.specs.Seen.{serials, set_of}
 use Rattle.tg_vault.specs.Contents.{Contents, IsVault, graph_now, held_now, moment}
 
--- the roots of a world are the active principals and the pending targets
+-- the roots of a world are the active principals, the pending targets and the agents
 abbrev pub IsRoot : World → ℕ → Type 0
-IsRoot w x = (is_active w.graph x ≡ true) ⊎ ((seat : ℕ) × (at_seat w.pending seat ≡ Some x))
+IsRoot w x = (is_active w.graph x ≡ true) ⊎ ((seat : ℕ) × ((at_seat w.pending seat ≡ Some x) ⊎ (at_seat w.agents seat ≡ Some x)))
 
 -- a vertex has a slot: it is held, or parked until the sweep comes to it
 abbrev pub HasSlot : Contents → ℕ → Type 0
@@ -26,16 +26,17 @@ pub record Ties (v : Contents) : Type 0 where
   pub parked : (x : ℕ) → IsParkedIn v.store x → IsVertex (graph_now v) x
   pub names : v.names ≡ (graph_now v).names
   pub principals : principals v.store ≡ serials v.names
-  pub agents : (seat : ℕ) → at_seat (agents v.store) seat ≡ None
+  pub assumed : (seat x : ℕ) → at_seat (agents v.store) seat ≡ Some x → WasAssumed v.history seat x
   pub slots : slot_count v.store ≡ v.limits.slots
   pub cells : v.store.cells ≡ v.limits.cells
   pub many_slots : v.limits.slots ≤ free_slots v.store + vertex_count (graph_now v)
   pub many_cells : v.limits.cells ≤ v.store.free_cells + edge_count (graph_now v)
 
--- and the next serial is that of the graph
-pub record IsTied (v : Contents) (next : ℕ) : Type 0 where
+-- and the next serial and those who have retired are the graph's
+pub record IsTied (v : Contents) (next : ℕ) (gone : List ℕ) : Type 0 where
   pub joins : Ties v
   pub serial : next ≡ (graph_now v).next
+  pub retired : set_of gone ≡ (graph_now v).retired
 
 -- a vault has at most this many slots and cells
 pub record IsSmall (v : Contents) : Type 0 where

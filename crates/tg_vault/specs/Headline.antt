@@ -1,7 +1,7 @@
 -- the headline: for every list of session and collector steps, each command is carried out exactly when the take-grant
 -- rules allow it in the graph that is never collected, unless refused as full; every denial names its rule and missing
 -- rights; no vertex reachable from a principal or an unfinished step loses its slot; what is unreachable when a cycle
--- starts has no slot when the next cycle ends
+-- starts has no slot when the next cycle ends. (A subject that a seat acts for counts as a principal there.)
 use Rattle.std.specs.Prelude.{◌≡◌, ◌↔◌, ◌⊎◌, List, [], ◌∷◌}
 use Rattle.tg_rights.specs.declared.command.Rule.{Rule}
 use Rattle.tg_rights.specs.declared.outcome.Cause.{Cause}

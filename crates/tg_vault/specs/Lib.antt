@@ -2,6 +2,7 @@ pub mod Recorded
 pub mod History
 pub mod World
 pub mod Seen
+pub mod Acting
 pub mod CarriedOut
 pub mod Contents
 pub mod Fits

@@ -11,6 +11,10 @@ use Rattle.tg_collect.specs.Readings.{held}
 abbrev pub seen : Stored → (next : ℕ) → List Member → set.FinSet nat_cmp → Protection
 seen s next names retired = record (held s next) { names = names; retired = retired }
 
+-- the set of these serials
+abbrev pub set_of : List ℕ → set.FinSet nat_cmp
+set_of keys = set.from_list keys
+
 -- the serials of the active principals
 abbrev pub serials : List Member → List ℕ
 serials members = map (λ (m : Member). m.serial) members

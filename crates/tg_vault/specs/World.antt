@@ -26,6 +26,8 @@ pub record World : Type 0 where
   pub graph : Protection
   -- who sits on each seat that is in use: a principal, or one who has retired
   pub seats : List (Option ℕ)
+  -- for whom each seat acts, if it acts for another
+  pub agents : List (Option ℕ)
   -- the pending target of each seat that has one
   pub pending : List (Option ℕ)
   -- the slots that are not free
@@ -40,9 +42,13 @@ pub record Moment : Type 0 where
 abbrev pub at_seat : List (Option ℕ) → ℕ → Option ℕ
 at_seat table seat = get_or table seat None
 
--- the actor of the seat's next command
+-- the actor of a seat's next command: its agent, or else its principal
+abbrev pub acting : (agent principal : Option ℕ) → Option ℕ
+acting None principal = principal
+acting (Some agent) principal = Some agent
+
 abbrev pub actor_at : World → ℕ → Option ℕ
-actor_at w seat = at_seat w.seats seat
+actor_at w seat = acting (at_seat w.agents seat) (at_seat w.seats seat)
 
 -- the first fault of each call, if it has one
 module _ (w : World) (seat : ℕ) where
@@ -84,6 +90,7 @@ new_target G (effect.Rewrites over text) = None
 new_target G (effect.Tells over) = None
 new_target G (effect.Lists at) = None
 new_target G effect.Retires = None
+new_target G (effect.Acts agent) = agent
 
 -- the pending target that a command of x leaves
 abbrev pub target_of : Protection → ℕ → Command → Outcome → Option ℕ
@@ -94,6 +101,23 @@ target_of G x c (outcome.Full which) = None
 abbrev pub with_target : List (Option ℕ) → ℕ → Option ℕ → List (Option ℕ)
 with_target pending seat None = pending
 with_target pending seat (Some target) = slice_set pending seat (Some target)
+
+-- for whom the seats act once an effect was carried out at one of them
+abbrev pub new_agents : List (Option ℕ) → (seat : ℕ) → Does → List (Option ℕ)
+new_agents agents seat (effect.Joins from α to) = agents
+new_agents agents seat (effect.Makes k α name) = agents
+new_agents agents seat (effect.Drops α over) = agents
+new_agents agents seat (effect.Rewrites over text) = agents
+new_agents agents seat (effect.Tells over) = agents
+new_agents agents seat (effect.Lists at) = agents
+new_agents agents seat effect.Retires = agents
+new_agents agents seat (effect.Acts agent) = slice_set agents seat agent
+
+-- for whom the seats act after a command of x
+abbrev pub agents_after : List (Option ℕ) → (seat x : ℕ) → Command → Outcome → List (Option ℕ)
+agents_after agents seat x c outcome.Allowed = new_agents agents seat (terms x c).does
+agents_after agents seat x c (outcome.Denied rule cause) = agents
+agents_after agents seat x c (outcome.Full which) = agents
 
 -- an allowed create or enrol takes a slot
 abbrev pub slots_taken : ℕ → Command → Outcome → ℕ
@@ -106,6 +130,7 @@ abbrev pub entered : Moment → Entry → Moment
 entered m e = record {
   world = record m.world {
     graph = next_graph m.world.graph e.actor e.command e.outcome;
+    agents = agents_after m.world.agents e.seat e.actor e.command e.outcome;
     pending = with_target m.world.pending e.seat (target_of m.world.graph e.actor e.command e.outcome);
     used = m.world.used + slots_taken e.actor e.command e.outcome;
   };
@@ -114,6 +139,9 @@ entered m e = record {
 
 abbrev pub with_seats : Moment → List (Option ℕ) → Moment
 with_seats m seats = record m { world = record m.world { seats = seats } }
+
+abbrev pub with_agents : Moment → List (Option ℕ) → Moment
+with_agents m agents = record m { world = record m.world { agents = agents } }
 
 abbrev pub with_pending : Moment → List (Option ℕ) → Moment
 with_pending m pending = record m { world = record m.world { pending = pending } }
@@ -139,7 +167,7 @@ abbrev pub Step : Limits → Moment → Event → Answer → Moment → Type 0
 Step limits m (event.Hello seat name) (answer.Hello x) n =
     (hello_fault m.world seat name ≡ None) × (named m.world.graph name ≡ Some x) × (n ≡ with_seats m (slice_set m.world.seats seat (Some x)))
 Step limits m (event.Hello seat name) (answer.Seat fault) n = (hello_fault m.world seat name ≡ Some fault) × (n ≡ m)
-Step limits m (event.Bye seat) answer.Bye n = (bye_fault m.world seat ≡ None) × (n ≡ with_seats m (slice_set m.world.seats seat None))
+Step limits m (event.Bye seat) answer.Bye n = (bye_fault m.world seat ≡ None) × (n ≡ with_agents (with_seats m (slice_set m.world.seats seat None)) (slice_set m.world.agents seat None))
 Step limits m (event.Bye seat) (answer.Seat fault) n = (bye_fault m.world seat ≡ Some fault) × (n ≡ m)
 Step limits m (event.Ask seat c) (answer.Asked number reply) n =
     (ask_refusal m.world seat ≡ None) × (number ≡ length m.history)

@@ -1,22 +1,26 @@
 //! Carrying out what the rules allow in the store.
-ghost use Rattle.std.specs.Prelude.{◌≡◌, ◌≢◌, ◌<◌, ◌+◌, ℕ, List, IfOk, IfErr, OnErr, OnOk, IsSome, Some, None, true, false, not};
+ghost use Rattle.std.specs.Prelude.{◌≡◌, ◌≢◌, ◌<◌, ◌+◌, ℕ, List, IfOk, IfErr, OnErr, OnOk, IsSome, Some, None, true, false};
+ghost use Rattle.std.specs.FinSet as set;
 ghost use Rattle.std.specs.Option.{is_some};
 ghost use Rattle.tg_rights.specs.Letters.{is_none, includes};
 ghost use Rattle.tg_rights.specs.declared.limits.TheConstants.{SEATS};
 ghost use Rattle.tg_rights.specs.declared.outcome.Reply.TheVariants as reply;
 ghost use Rattle.tg_graph.specs.Deciding.{IsSubjectIfNamed};
-ghost use Rattle.tg_graph.specs.Names.{MayBeNamed, has_serial, without_member};
+ghost use Rattle.tg_graph.specs.Names.{MayBeNamed, without_member};
 ghost use Rattle.tg_graph.specs.Protection.{label};
-ghost use Rattle.tg_graph.specs.Rules.{edges_of, text_of};
+ghost use Rattle.tg_graph.specs.Rules.{Allowed, edges_of, text_of};
 ghost use Rattle.tg_graph.specs.Terms.{terms, name_in, text_in};
 ghost use Rattle.tg_collect.specs.Readings.{held, free_slots, IsEdgeIn, IsHeldIn, IsParkedIn, pending_of, place, principals, serial_at};
-ghost use Rattle.tg_collect.specs.Sessions.{Retired, RightsRemoved, TextReplaced, Acted};
-ghost use Rattle.tg_vault.specs.CarriedOut.{AllowedAmong, CarriedOutAmong, HasRoom, Joined, Made, Stores, copies};
-ghost use Rattle.tg_vault.specs.Seen.{serials};
+ghost use Rattle.tg_collect.specs.Sessions.{Assumed, Left, Retired, RightsRemoved, TextReplaced, Acted};
+ghost use Rattle.tg_vault.specs.Acting.{IsHere, serial_in};
+ghost use Rattle.tg_vault.specs.CarriedOut.{CarriedOut, HasRoom, Joined, Made, Stores, copies};
+ghost use Rattle.tg_vault.specs.Seen.{seen, serials, set_of};
 
+use crate::acting::Actor;
 use std::alloc::{AllocError, Global};
+use std::collections::BTreeSet;
 use tg_collect::{HeapFull, Store};
-use tg_graph::{Effect, LAST_SERIAL, Roll, Spot, decide, effect_of, into_text};
+use tg_graph::{Effect, LAST_SERIAL, Roll, Spot, decide, effect_of, into_text, is_for_retired};
 use tg_rights::{Cause, Command, EdgeList, Kind, Name, Reply, Rights, Text, Which};
 
 /// The edge gains the rights, and its target becomes the seat's; full if it is new and no cell is free.
@@ -122,15 +126,49 @@ fn name_of(command: &Command, alloc: Global) -> Result<Option<Name>, AllocError>
     }
 }
 
-/// The actor is a principal no longer.
-fn retire(store: &mut Store, names: &mut Roll, actor: u64) -> Reply
-    ensures done { result ≡ reply.Done }
-    ensures retired { Retired store.old store.new actor }
-    ensures acted { Acted store.old store.new None None }
-    ensures left { names.new ≡ without_member names.old actor }
+/// The actor has retired, and is a principal no longer. Only the first of this can fail.
+fn retire(
+    store: &mut Store,
+    names: &mut Roll,
+    retired: &mut BTreeSet<u64>,
+    actor: u64,
+) -> Result<Reply, AllocError>
+    ensures done { IfOk result (λ answer. answer ≡ reply.Done) }
+    ensures gone { OnOk result (set_of retired.new.keys ≡ set.insert (set_of retired.old.keys) actor) }
+    ensures retired { OnOk result (Retired store.old store.new actor) }
+    ensures acted { OnOk result (Acted store.old store.new None None) }
+    ensures left { OnOk result (names.new ≡ without_member names.old actor) }
+    ensures unchanged { OnErr result (store.new ≡ store.old) }
+    ensures kept { OnErr result (names.new ≡ names.old) }
+    ensures none { OnErr result (retired.new.keys ≡ retired.old.keys) }
 {
+    retired.insert(actor)?;
     store.retire(actor);
     names.remove(actor);
+    Ok(Reply::Done)
+}
+
+/// The seat acts for the vertex in the slot, which is its target.
+fn assume(store: &mut Store, seat: u64, agent: u32) -> Reply
+    requires seat { seat < SEATS }
+    requires idle { pending_of store.old seat ≡ None }
+    requires held { IsSome (place store.old agent) }
+    ensures done { result ≡ reply.Done }
+    ensures assumed { Assumed store.old store.new seat (serial_at store.old agent) }
+    ensures acted { Acted store.old store.new None (Some (serial_at store.old agent)) }
+{
+    store.assume(seat, agent);
+    Reply::Done
+}
+
+/// The seat acts for nobody but who sits there.
+fn leave(store: &mut Store, seat: u64) -> Reply
+    requires { seat < SEATS }
+    ensures done { result ≡ reply.Done }
+    ensures left { Left store.old store.new seat }
+    ensures acted { Acted store.old store.new None None }
+{
+    store.leave(seat);
     Reply::Done
 }
 
@@ -183,12 +221,14 @@ fn list(store: &Store, alloc: Global, of: u32) -> Result<Reply, AllocError>
     Ok(Reply::Edges(EdgeList::new(edges)))
 }
 
-/// Decides a principal's command, carries it out if the rules allow it and nothing that it needs is used up, and
-/// returns the reply: whoever else has retired. `AllocError` leaves everything as it was; it occurs only for an allowed
-/// command that copies a text, a name or a list, so never for a denial.
-fn answer_principal(
+/// Decides the command of an actor that has not retired, carries it out if the rules allow it and nothing that it needs
+/// is used up, and returns the reply. `AllocError` leaves everything as it was; it occurs only for an allowed command
+/// that copies a text, a name or a list, and for a retire, so never for a denial.
+#[inline(always)]
+fn answer_at(
     store: &mut Store,
     names: &mut Roll,
+    retired: &mut BTreeSet<u64>,
     next: &mut u64,
     alloc: Global,
     seat: u64,
@@ -199,13 +239,15 @@ fn answer_principal(
     requires idle { pending_of store.old seat ≡ None }
     requires listed { principals store.old ≡ serials names.old }
     requires actor { place store.old actor.place ≡ Some actor.serial }
+    requires unretired { set.contains (set_of retired.old.keys) actor.serial ≡ false }
     requires unheld { IsHeldIn store.old next.old → ⊥ }
     requires unparked { IsParkedIn store.old next.old → ⊥ }
-    ensures carried { IfOk result (λ answer. CarriedOutAmong store.old store.new next.old next.new names.old names.new false seat actor.serial command.now answer) }
-    ensures needed { OnErr result (AllowedAmong store.old next.old names.old false actor.serial command.now) }
+    ensures carried { IfOk result (λ answer. CarriedOut store.old store.new next.old next.new names.old names.new (set_of retired.old.keys) (set_of retired.new.keys) seat actor.serial command.now answer) }
+    ensures needed { OnErr result (Allowed (seen store.old next.old names.old (set_of retired.old.keys)) actor.serial command.now) }
     ensures memory { OnErr result (copies (terms actor.serial command.now).does ≡ true) }
     ensures unchanged { OnErr result (store.new ≡ store.old) }
     ensures kept { OnErr result (names.new ≡ names.old) }
+    ensures none { OnErr result (retired.new.keys ≡ retired.old.keys) }
     ensures same { OnErr result (next.new ≡ next.old) }
 {
     let found = match decide(store, names.as_slice(), actor, command) {
@@ -227,41 +269,43 @@ fn answer_principal(
         Effect::Rewrites { over } => replace(store, alloc, found.spot(over).place, command),
         Effect::Tells { over } => tell(store, alloc, found.spot(over).place),
         Effect::Lists { at } => list(store, alloc, found.spot(at).place),
-        Effect::Retires => Ok(retire(store, names, actor.serial)),
+        Effect::Retires => retire(store, names, retired, actor.serial),
+        Effect::Acts { agent } => match agent {
+            Some(agent) => Ok(assume(store, seat, found.spot(agent).place)),
+            None => Ok(leave(store, seat)),
+        },
     }
 }
 
-/// Decides the actor's command and carries it out as `answer_principal` does; an actor that is no principal has
-/// retired, and is denied each command.
+/// Decides the actor's command and carries it out as `answer_at` does. An actor that has retired is denied each command
+/// but a leave, which is carried out.
 pub fn answer(
     store: &mut Store,
     names: &mut Roll,
+    retired: &mut BTreeSet<u64>,
     next: &mut u64,
     alloc: Global,
     seat: u64,
-    actor: u64,
+    actor: Actor,
     command: &Command,
 ) -> Result<Reply, AllocError>
     requires seat { seat < SEATS }
     requires idle { pending_of store.old seat ≡ None }
     requires listed { principals store.old ≡ serials names.old }
+    requires here { IsHere store.old (set_of retired.old.keys) actor }
     requires unheld { IsHeldIn store.old next.old → ⊥ }
     requires unparked { IsParkedIn store.old next.old → ⊥ }
-    ensures carried { IfOk result (λ answer. CarriedOutAmong store.old store.new next.old next.new names.old names.new (not (has_serial names.old actor)) seat actor command.now answer) }
-    ensures needed { OnErr result (AllowedAmong store.old next.old names.old (not (has_serial names.old actor)) actor command.now) }
-    ensures memory { OnErr result (copies (terms actor command.now).does ≡ true) }
+    ensures carried { IfOk result (λ answer. CarriedOut store.old store.new next.old next.new names.old names.new (set_of retired.old.keys) (set_of retired.new.keys) seat (serial_in actor) command.now answer) }
+    ensures needed { OnErr result (Allowed (seen store.old next.old names.old (set_of retired.old.keys)) (serial_in actor) command.now) }
+    ensures memory { OnErr result (copies (terms (serial_in actor) command.now).does ≡ true) }
     ensures unchanged { OnErr result (store.new ≡ store.old) }
     ensures kept { OnErr result (names.new ≡ names.old) }
+    ensures none { OnErr result (retired.new.keys ≡ retired.old.keys) }
     ensures same { OnErr result (next.new ≡ next.old) }
 {
-    match store.principal(actor) {
-        Some(place) => {
-            let spot = Spot {
-                serial: actor,
-                place,
-            };
-            answer_principal(store, names, next, alloc, seat, spot, command)
-        }
-        None => Ok(Reply::Denied(command.rule(), Cause::Retired)),
+    match actor {
+        Actor::At(spot) => answer_at(store, names, retired, next, alloc, seat, spot, command),
+        Actor::Gone(serial) if is_for_retired(serial, command) => Ok(leave(store, seat)),
+        Actor::Gone(_) => Ok(Reply::Denied(command.rule(), Cause::Retired)),
     }
 }

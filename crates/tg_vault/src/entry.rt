@@ -40,6 +40,11 @@ enum Decided {
         rule: Rule,
         vertex: u64,
     },
+    NotSubject {
+        seat: u8,
+        rule: Rule,
+        vertex: u64,
+    },
     NotPrincipal {
         seat: u8,
         rule: Rule,
@@ -91,7 +96,7 @@ impl Entry {
         u64::from(self.decided.seat())
     }
 
-    /// The serial of the actor for whom it was judged: a principal, or one who has retired.
+    /// The serial of the actor for whom it was judged.
     pub fn actor(&self) -> u64
         ensures { result ≡ self.now.actor }
     {
@@ -133,6 +138,7 @@ fn with_seat(seat: u8, outcome: Outcome) -> Decided
                 to,
             },
             Cause::NotDocument { vertex } => Decided::NotDocument { seat, rule, vertex },
+            Cause::NotSubject { vertex } => Decided::NotSubject { seat, rule, vertex },
             Cause::NotPrincipal => Decided::NotPrincipal { seat, rule },
             Cause::NameTaken => Decided::NameTaken { seat, rule },
             Cause::Crowded => Decided::Crowded { seat, rule },
@@ -152,6 +158,7 @@ impl Decided {
             Decided::NotDistinct { seat, .. } => seat,
             Decided::Missing { seat, .. } => seat,
             Decided::NotDocument { seat, .. } => seat,
+            Decided::NotSubject { seat, .. } => seat,
             Decided::NotPrincipal { seat, .. } => seat,
             Decided::NameTaken { seat, .. } => seat,
             Decided::Crowded { seat, .. } => seat,
@@ -176,6 +183,9 @@ impl Decided {
             } => Outcome::Denied(rule, Cause::Missing { rights, from, to }),
             Decided::NotDocument { rule, vertex, .. } => {
                 Outcome::Denied(rule, Cause::NotDocument { vertex })
+            }
+            Decided::NotSubject { rule, vertex, .. } => {
+                Outcome::Denied(rule, Cause::NotSubject { vertex })
             }
             Decided::NotPrincipal { rule, .. } => Outcome::Denied(rule, Cause::NotPrincipal),
             Decided::NameTaken { rule, .. } => Outcome::Denied(rule, Cause::NameTaken),

@@ -1,6 +1,7 @@
 //! The vault: a history of commands, and the seats from which they come, over a store with its collector.
 #![tactic(auto)]
 
+mod acting;
 mod carry_out;
 mod entry;
 mod event;

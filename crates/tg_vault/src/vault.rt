@@ -1,5 +1,5 @@
 //! The vault: the seats, the store, and the history of the commands.
-ghost use Rattle.std.specs.Prelude.{◌≡◌, ◌<◌, ◌≤◌, ◌+◌, ◌⊎◌, ◌∷◌, [], length, slice_get, Some, None, IfOk, IfErr, IfSome, IfNone, OnErr, MatchResult, take};
+ghost use Rattle.std.specs.Prelude.{◌≡◌, ◌<◌, ◌≤◌, ◌+◌, ℕ, ◌⊎◌, ◌∷◌, [], length, slice_get, Some, None, IfOk, IfErr, IfSome, IfNone, OnErr, OnOk, MatchResult, take};
 ghost use Rattle.tg_rights.specs.declared.limits.TheConstants.{SEATS};
 ghost use Rattle.tg_rights.specs.declared.outcome.Outcome.{Outcome};
 ghost use Rattle.tg_graph.specs.Opening.{first_fault, IsRefusal};
@@ -7,8 +7,8 @@ ghost use Rattle.tg_vault.specs.declared.entry.Entry.{Entry};
 ghost use Rattle.tg_vault.specs.declared.event.Event.TheVariants as event;
 ghost use Rattle.tg_vault.specs.declared.event.Answer.TheVariants as answer;
 ghost use Rattle.tg_collect.specs.Readings.{pending_of};
-ghost use Rattle.tg_collect.specs.Sessions.{Shaded};
-ghost use Rattle.tg_vault.specs.World.{at_seat, bye_fault, shade_fault, ask_refusal, Enters, IsAskFault};
+ghost use Rattle.tg_collect.specs.Sessions.{Left, Shaded};
+ghost use Rattle.tg_vault.specs.World.{actor_at, at_seat, bye_fault, shade_fault, ask_refusal, Enters, IsAskFault};
 ghost use Rattle.tg_vault.specs.Contents.{Contents, StepOf, IsFresh, RunOf, Keeps, IsVault, moment};
 ghost use Rattle.tg_vault.specs.Fits.{Fits, IsSmall};
 ghost use Rattle.tg_vault.specs.StoreSteps.{SessionStep, StoreAnswer, StoreStep};
@@ -20,21 +20,23 @@ ghost use Rattle.tg_vault.specs.Course.{Course, IsCoherent, VaultStep};
 ghost use Rattle.tg_vault.specs.Cycles.{IsBounded, IsCycle};
 ghost use Rattle.tg_vault.specs.Headline.{Headline};
 
+use crate::acting::acting_at;
 use crate::carry_out::answer;
 use crate::entry::Entry;
 use crate::event::{Answer, AskFault, Event, SeatFault};
 use crate::laws::courses_have_the_headline;
 use crate::seats::{at_seat, empty_seats};
 use std::alloc::{AllocError, Global};
+use std::collections::BTreeSet;
 use std::marker::Model;
 use tg_collect::{Key, Note, Store};
 use tg_graph::{Config, Graph, OpenFault, Roll, serial_of};
 use tg_rights::{Command, Outcome, Reply, SEATS};
 
-/// The whole state of the server: the opening graph, the active principals by their names, the seats, the store with its
-/// collector and the pending target of each seat, and the history of commands. Each call is one atomic step. Contracts
-/// see its `Contents`. Only they have the graph of the history and who has retired; what is stored is the part of the
-/// graph still in use.
+/// The whole state of the server: the opening graph, the active principals by their names, who has retired, the seats,
+/// the store with its collector and the pending target and agent of each seat, and the history of commands. Each call is
+/// one atomic step. Contracts see its `Contents`. Only they have the graph of the history; what is stored is the part of
+/// the graph still in use.
 ///
 /// The history is kept whole, and is legal: each entry's outcome is one that the take-grant rules (Lipton and Snyder
 /// 1977; Bishop) permit in the graph that the entries before it leave.
@@ -43,6 +45,7 @@ pub struct Vault {
     alloc: Global,
     opening: Graph,
     names: Roll,
+    retired: BTreeSet<u64>,
     slots: u64,
     cells: u64,
     seats: Vec<Option<u64>>,
@@ -61,7 +64,7 @@ impl Model for Vault {
 
     ghost view = { λ v. contents v };
 
-    ghost invariant = { λ v. IsTied (contents v) v.next };
+    ghost invariant = { λ v. IsTied (contents v) v.next v.retired.keys };
 }
 
 /// What the collector steps of a cycle did.
@@ -144,6 +147,7 @@ impl Vault {
             alloc,
             opening,
             names,
+            retired: BTreeSet::new(alloc),
             slots: config.slots,
             cells: config.cells,
             seats,
@@ -212,7 +216,7 @@ impl Vault {
     }
 
     /// Who sits on the seat.
-    fn actor_at(&self, seat: u64) -> Result<u64, SeatFault>
+    fn principal_at(&self, seat: u64) -> Result<u64, SeatFault>
         ensures ok { IfOk result (λ x. (seat < SEATS) × (at_seat self.now.seats seat ≡ Some x)) }
         ensures err { IfErr result (λ fault. shade_fault (moment self.now).world seat ≡ Some fault) }
     {
@@ -220,7 +224,7 @@ impl Vault {
             return Err(SeatFault::NoSeat);
         }
         match at_seat(self.seats.as_slice(), seat) {
-            Some(actor) => Ok(actor),
+            Some(principal) => Ok(principal),
             None => Err(SeatFault::NoActor),
         }
     }
@@ -230,23 +234,26 @@ impl Vault {
         ensures ok { IfOk result (λ x. (seat < SEATS) × (at_seat self.now.seats seat ≡ Some x) × (pending_of self.now.store seat ≡ None)) }
         ensures err { IfErr result (λ fault. bye_fault (moment self.now).world seat ≡ Some fault) }
     {
-        let actor = self.actor_at(seat)?;
+        let principal = self.principal_at(seat)?;
         if self.store.pending(seat).is_some() {
             return Err(SeatFault::Busy);
         }
-        Ok(actor)
+        Ok(principal)
     }
 
-    /// Empties the seat. Faults, in this order, after which everything is as before: `NoSeat` for a seat above 63,
-    /// `NoActor` for an empty one, `Busy` while the seat has a pending target. Allocates nothing.
+    /// Empties the seat, and takes its agent away. Faults, in this order, after which everything is as before: `NoSeat`
+    /// for a seat above 63, `NoActor` for an empty one, `Busy` while the seat has a pending target. Allocates nothing.
+    #[tactic(auto, using(crate::proofs::CollectLemmas::still_acts))]
     pub fn bye(&mut self, seat: u64) -> Result<(), SeatFault>
         ensures step { MatchResult result (λ _. StepOf self.old (event.Bye seat) answer.Bye self.new) (λ fault. StepOf self.old (event.Bye seat) (answer.Seat fault) self.new) }
         ensures keeps { Keeps self.old self.new }
-        ensures store { self.new.store ≡ self.old.store }
+        ensures store { OnOk result (Left self.old.store self.new.store seat) }
+        ensures acts { SessionStep self.old self.new }
         ensures unchanged { OnErr result (self.new ≡ self.old) }
     {
         self.idle_at(seat)?;
         self.seats[seat as usize] = None;
+        self.store.leave(seat);
         Ok(())
     }
 
@@ -261,7 +268,7 @@ impl Vault {
         ensures acts { SessionStep self.old self.new }
         ensures unchanged { OnErr result (self.new ≡ self.old) }
     {
-        self.actor_at(seat)?;
+        self.principal_at(seat)?;
         self.store.soundness();
         let target = self.store.shade(seat);
         self.store.soundness();
@@ -281,10 +288,11 @@ impl Vault {
         note
     }
 
-    /// Judges the command of the seat's actor, a principal or one who has retired, carries it out if it is allowed, and
-    /// enters it in the history with its outcome. Returns the entry's number, from 0, and the reply. An allowed take or
-    /// grant makes `over` the seat's pending target, even if the edge was there already; an allowed create or enrol, the
-    /// new vertex. Whoever retires stays on its seats, and is denied each later command.
+    /// Judges the command of the seat's actor, which is its agent, or else who sits there, carries it out if it is
+    /// allowed, and enters it in the history with its outcome. Returns the entry's number, from 0, and the reply. An
+    /// allowed take or grant makes `over` the seat's pending target, even if the edge was there already; an allowed
+    /// create or enrol, the new vertex; an allowed assume, the agent. Whoever retires stays on its seats, and the agent
+    /// of those that act for it, and is denied each later command but a leave.
     ///
     /// Faults, in this order, after which everything is as before, nothing is entered and the command is dropped:
     /// `NoSeat` for a seat above 63, `NoActor` for an empty one, `Busy` while the seat has a pending target,
@@ -301,34 +309,39 @@ impl Vault {
         ensures acts { SessionStep self.old self.new }
         ensures unchanged { OnErr result (self.new ≡ self.old) }
     {
-        let actor = self.ready_at(seat)?;
-        match self.enter(seat, actor, command) {
+        let principal = self.ready_at(seat)?;
+        match self.enter(seat, principal, command) {
             Ok(entered) => Ok(entered),
             Err(_) => Err(AskFault::OutOfMemory),
         }
     }
 
-    /// The actor of the seat's next command.
+    /// Who sits on the seat, if a command may be asked there.
     fn ready_at(&self, seat: u64) -> Result<u64, AskFault>
         ensures ok { IfOk result (λ x. (seat < SEATS) × (at_seat self.now.seats seat ≡ Some x) × (pending_of self.now.store seat ≡ None) × (ask_refusal (moment self.now).world seat ≡ None)) }
         ensures err { IfErr result (λ fault. IsAskFault (moment self.now).world seat fault) }
     {
         match self.idle_at(seat) {
-            Ok(actor) => Ok(actor),
+            Ok(principal) => Ok(principal),
             Err(SeatFault::NoSeat) => Err(AskFault::NoSeat),
             Err(SeatFault::NoActor) => Err(AskFault::NoActor),
             Err(_) => Err(AskFault::Busy),
         }
     }
 
-    /// Carries out the actor's command and enters it.
+    /// Carries out the command of the seat's actor and enters it.
     #[tactic(auto, using(crate::proofs::CollectLemmas::still_acts))]
-    fn enter(&mut self, seat: u64, actor: u64, command: Command) -> Result<(u64, Reply), AllocError>
+    fn enter(
+        &mut self,
+        seat: u64,
+        principal: u64,
+        command: Command,
+    ) -> Result<(u64, Reply), AllocError>
         requires seat { seat < SEATS }
-        requires seated { at_seat self.old.seats seat ≡ Some actor }
+        requires seated { at_seat self.old.seats seat ≡ Some principal }
         requires idle { pending_of self.old.store seat ≡ None }
         ensures number { IfOk result (λ r. r.0 ≡ length self.old.history) }
-        ensures ok { IfOk result (λ r. Enters self.old.limits (moment self.old) seat actor command r.1 (moment self.new)) }
+        ensures ok { IfOk result (λ r. (actor : ℕ) × (actor_at (moment self.old).world seat ≡ Some actor) × Enters self.old.limits (moment self.old) seat actor command r.1 (moment self.new)) }
         ensures err { OnErr result (self.new ≡ self.old) }
         ensures keeps { Keeps self.old self.new }
         ensures agrees { IfOk result (λ r. SameForAgreeing self.old self.new r.1) }
@@ -339,9 +352,11 @@ impl Vault {
         self.history.try_reserve(1)?;
         self.opening.soundness();
         self.store.soundness();
+        let actor = acting_at(&self.store, &self.retired, seat, principal);
         let reply = answer(
             &mut self.store,
             &mut self.names,
+            &mut self.retired,
             &mut self.next,
             self.alloc,
             seat,
@@ -349,7 +364,7 @@ impl Vault {
             &command,
         )?;
         self.store.soundness();
-        let entry = entry_of(seat, actor, command, &reply);
+        let entry = entry_of(seat, actor.serial(), command, &reply);
         self.history.push(entry)?;
         Ok((number, reply))
     }
@@ -457,8 +472,9 @@ impl Vault {
     /// answers. Each command is carried out exactly when the take-grant rules (Lipton and Snyder 1977; Bishop) allow it
     /// in the graph that is never collected, unless refused as full; every denial names its rule and missing rights; no
     /// vertex reachable from a principal or an unfinished step loses its slot; what is unreachable when a cycle starts
-    /// has no slot when the next cycle ends (the collector of Dijkstra, Lamport, Martin, Scholten and Steffens 1978).
-    /// Among any `S * S + 3 * S + C + 3` collector steps in a row, for S slots and C cells, one ends a cycle.
+    /// has no slot when the next cycle ends (the collector of Dijkstra, Lamport, Martin, Scholten and Steffens 1978). A
+    /// subject that a seat acts for counts as a principal there. Among any `S * S + 3 * S + C + 3` collector steps in a
+    /// row, for S slots and C cells, one ends a cycle.
     pub fn run(self, events: &[Event]) -> Ran
         ensures headline { Headline self (take (length result.answers.items) events.now) result.answers.items result.vault }
         ensures run { RunOf self (take (length result.answers.items) events.now) result.answers.items result.vault }

@@ -1,30 +1,32 @@
-use Rattle.std.proofs.Common.{false, not, Result, Ok, Err, OnErr, sym, subst, ◌∙◌}
-use Rattle.std.proofs.lemmas.Result.{IfOk-weaker}
+use Rattle.std.proofs.Common.{None, ap, subst, sym, ◌∙◌}
 use Rattle.tg_rights.specs.declared.outcome.Cause.TheVariants as cause
 use Rattle.tg_rights.specs.declared.outcome.Reply.TheVariants as reply
-use Rattle.tg_graph.specs.Names.{has_serial}
-use Rattle.tg_vault.specs.CarriedOut.{AllowedAmong, CarriedOutAmong}
-use Rattle.tg_vault.proofs.CarriedOutLemmas.{active_here, retired_among}
+use Rattle.tg_graph.specs.Terms as effect
+use Rattle.tg_graph.specs.Terms.{terms}
+use Rattle.tg_graph.proofs.DecidingLemmas.{only_leave}
+use Rattle.tg_vault.specs.declared.acting.Actor.{Actor}
+use Rattle.tg_vault.specs.Acting.{IsHere, serial_in}
+use Rattle.tg_vault.specs.Seen.{seen, set_of}
+use Rattle.tg_vault.specs.CarriedOut.{CarriedOut}
+use Rattle.tg_vault.proofs.CarriedOutLemmas.{carried_by, denied_carried, leave_done}
+use Rattle.tg_vault.proofs.RetiredLemmas.{leave_allowed, retired_denied}
 use Rattle.tg_vault.proofs.carry_out.answer.Goals as goal
 
-on_err : {A E : Type 0} (P Q : Type 0) (r : Result A E) → (P → Q) → OnErr r P → OnErr r Q
-on_err P Q (Ok x) f p = tt
-on_err P Q (Err e) f p = f p
+pub returns-in-Gone-clause-carried : goal.returns-in-Gone-clause-carried
+returns-in-Gone-clause-carried c =
+    let retired = set_of c.args.retired.now.keys in
+    let leaves = only_leave c.in-Gone.serial c.args.command.now (sym c.is_for_retired.ensures ∙ c.if-is_for_retired.true) in
+    subst (λ (a : Actor). CarriedOut c.args.store.now c.leave.new.store c.args.next.now c.args.next.now c.args.names.now c.args.names.now retired retired c.args.seat (serial_in a) c.args.command.now c.leave.result) (sym c.in-Gone.is)
+    (subst (CarriedOut c.args.store.now c.leave.new.store c.args.next.now c.args.next.now c.args.names.now c.args.names.now retired retired c.args.seat c.in-Gone.serial c.args.command.now) (sym c.leave.ensures.done)
+    (carried_by c.args.store.now c.leave.new.store c.args.next.now c.args.names.now retired c.args.seat c.requires.listed c.args.next.now c.args.names.now retired c.in-Gone.serial c.args.command.now (effect.Acts None) reply.Done
+    (ap (λ k. (terms c.in-Gone.serial k).does) (sym leaves)) (leave_allowed (seen c.args.store.now c.args.next.now c.args.names.now retired) c.in-Gone.serial c.args.command.now leaves)
+    (leave_done c.args.store.now c.leave.new.store c.args.next.now c.args.names.now retired c.args.seat c.requires.listed c.in-Gone.serial c.leave.ensures.left c.leave.ensures.acted)))
 
-pub returns-in-Some-clause-carried : goal.returns-in-Some-clause-carried
-returns-in-Some-clause-carried c =
-    let active = active_here c.args.store.now c.args.next.now c.args.names.now c.args.seat c.requires.listed c.args.actor c.args.command.now c.in-Some.ensures.0 in
-    IfOk-weaker c.answer_principal.result _ _ (λ answer carried. λ retired gone. carried retired (gone ∙ active)) c.answer_principal.ensures.carried
-
-pub returns-in-Some-clause-needed : goal.returns-in-Some-clause-needed
-returns-in-Some-clause-needed c =
-    let active = active_here c.args.store.now c.args.next.now c.args.names.now c.args.seat c.requires.listed c.args.actor c.args.command.now c.in-Some.ensures.0 in
-    on_err (AllowedAmong c.args.store.now c.args.next.now c.args.names.now false c.args.actor c.args.command.now)
-    (AllowedAmong c.args.store.now c.args.next.now c.args.names.now (not (has_serial c.args.names.now c.args.actor)) c.args.actor c.args.command.now)
-    c.answer_principal.result (λ needed. λ retired gone. needed retired (gone ∙ active)) c.answer_principal.ensures.needed
-
-pub returns-in-None-clause-carried : goal.returns-in-None-clause-carried
-returns-in-None-clause-carried c =
-    subst (λ rule. CarriedOutAmong c.args.store.now c.args.store.now c.args.next.now c.args.next.now c.args.names.now c.args.names.now (not (has_serial c.args.names.now c.args.actor)) c.args.seat c.args.actor c.args.command.now (reply.Denied rule cause.Retired))
-    (sym c.rule.ensures)
-    (retired_among c.args.store.now c.args.next.now c.args.names.now c.args.seat c.requires.listed c.args.actor c.args.command.now c.in-None.ensures)
+pub returns-in-Gone-2-clause-carried : goal.returns-in-Gone-2-clause-carried
+returns-in-Gone-2-clause-carried c =
+    let retired = set_of c.args.retired.now.keys in
+    let gone = subst (IsHere c.args.store.now retired) c.in-Gone.is c.requires.here in
+    subst (λ (a : Actor). CarriedOut c.args.store.now c.args.store.now c.args.next.now c.args.next.now c.args.names.now c.args.names.now retired retired c.args.seat (serial_in a) c.args.command.now (reply.Denied c.rule.result cause.Retired)) (sym c.in-Gone.is)
+    (subst (λ rule. CarriedOut c.args.store.now c.args.store.now c.args.next.now c.args.next.now c.args.names.now c.args.names.now retired retired c.args.seat c.in-Gone.serial c.args.command.now (reply.Denied rule cause.Retired)) (sym c.rule.ensures)
+    (denied_carried c.args.store.now c.args.next.now c.args.names.now retired c.args.seat c.requires.listed c.in-Gone.serial c.args.command.now cause.Retired
+    (retired_denied (seen c.args.store.now c.args.next.now c.args.names.now retired) c.in-Gone.serial c.args.command.now (sym c.is_for_retired.ensures ∙ c.if-is_for_retired.false) gone)))

@@ -8,6 +8,7 @@ pub invariant_of-self : goal.invariant_of-self
 invariant_of-self c = record {
   joins = collected_joins (contents c.self.inside) c.self.invariant.joins c.collect-note.new.self c.soundness.ensures.sound c.soundness-2.ensures.sound _ _ c.collect-note.ensures.collected;
   serial = c.self.invariant.serial;
+  retired = c.self.invariant.retired;
 }
 
 pub returns-clause-step : goal.returns-clause-step

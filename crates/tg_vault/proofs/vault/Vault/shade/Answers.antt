@@ -14,11 +14,12 @@ pub invariant_of-self : goal.invariant_of-self
 invariant_of-self c = record {
   joins = shaded_joins (contents c.self.inside) c.self.invariant.joins c.shade-target.new.self c.args.seat c.shade-target.result c.shade-target.ensures.shaded c.shade-target.ensures.acted;
   serial = c.self.invariant.serial;
+  retired = c.self.invariant.retired;
 }
 
 pub returns-clause-step : goal.returns-clause-step
 returns-clause-step c =
-    let faultless = no_fault (moment c.args.self.now).world c.args.seat _ c.in_ok-actor_at.ensures.ok.0 c.in_ok-actor_at.ensures.ok.1 in
+    let faultless = no_fault (moment c.args.self.now).world c.args.seat _ c.in_ok-principal_at.ensures.ok.0 c.in_ok-principal_at.ensures.ok.1 in
     let went = subst (λ (w : Contents). (c.shade-target.result ≡ pending_of w.store c.args.seat) × (moment (record (contents c.self.inside) { store = c.shade-target.new.self }) ≡ with_pending (moment w) (set (pending w.store) c.args.seat None)))
     c.self.view_is (shaded_step (contents c.self.inside) c.self.invariant.joins c.shade-target.new.self c.args.seat c.shade-target.result c.shade-target.ensures.shaded c.shade-target.ensures.acted) in
     (faultless, went.0, went.1)

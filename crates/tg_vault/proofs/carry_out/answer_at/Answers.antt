@@ -1,0 +1,185 @@
+use Rattle.std.proofs.Common.{◌≡◌, ℕ, List, true, Result, Ok, Err, OnOk, OnErr, ap, subst, sym, ◌∙◌, Some, None}
+use Rattle.std.specs.Prelude.{Option}
+use Rattle.std.proofs.lemmas.Result.{IfOk-weaker}
+use Rattle.tg_rights.specs.declared.outcome.Reply.{Reply}
+use Rattle.tg_rights.specs.declared.outcome.Reply.TheVariants as reply
+use Rattle.tg_graph.specs.declared.member.Member.{Member}
+use Rattle.tg_graph.specs.Terms as effect
+use Rattle.tg_graph.specs.Terms.{Does, name_in, terms, text_in}
+use Rattle.tg_graph.specs.Deciding.{IsSubjectIfNamed}
+use Rattle.tg_graph.specs.Names.{MayBeNamed}
+use Rattle.tg_graph.specs.Protection.{Protection, IsEdge}
+use Rattle.tg_graph.specs.Rules.{Allowed, edges_of, text_of}
+use Rattle.tg_collect.specs.Stored.{Stored}
+use Rattle.tg_collect.specs.Readings.{held, IsEdgeIn, place, serial_at}
+use Rattle.tg_collect.specs.Sessions.{Acted, Assumed, RightsRemoved, TextReplaced}
+use Rattle.tg_collect.proofs.StoreLemmas.{edge_in}
+use Rattle.tg_vault.specs.Seen.{seen, set_of}
+use Rattle.tg_vault.specs.CarriedOut.{CarriedOut, Joined, Made, copies}
+use Rattle.tg_vault.proofs.CarriedOutLemmas.{ByEffect, assume_done, carried_by, copies_name, denied_carried, drop_done, join_done, leave_done, list_done, make_done, placed, retire_carried, rewrite_carried, serial_found, tell_done}
+use Rattle.tg_vault.proofs.EdgeLemmas.{seen_edge}
+use Rattle.tg_vault.proofs.FoundLemmas.{dropped_edge, joined_apart, joined_named, made_named}
+use Rattle.tg_vault.proofs.PlaceLemmas.{serial_is}
+use Rattle.tg_vault.proofs.RetiredLemmas.{denial_seen}
+use Rattle.tg_vault.proofs.SerialsLemmas.{has_room}
+use Rattle.tg_vault.proofs.carry_out.answer_at.Goals as goal
+use Rattle.tg_vault.proofs.carry_out.answer_at.Goals.{In-Ok}
+
+-- what is true whatever the result
+whatever : {A E P : Type 0} (r : Result A E) → P → OnErr r P
+whatever (Ok x) p = tt
+whatever (Err e) p = p
+
+-- what is held, as a graph, allows the command
+abbrev graph : In-Ok → Protection
+graph c = seen c.args.store.now c.args.next.now c.args.names.now (set_of c.args.retired.now.keys)
+
+granted : (c : In-Ok) → Allowed (graph c) c.args.actor.serial c.args.command.now
+granted c =
+    denial_seen c.args.store.now c.args.next.now c.args.names.now c.as_slice.result.now (set_of c.args.retired.now.keys) c.args.actor.serial c.args.command.now c.as_slice.ensures c.requires.unretired
+    ∙ c.in-Ok.ensures.allowed
+
+edge : (c : In-Ok) (over : ℕ) (rights : _) → effect.Drops rights over ≡ (terms c.args.actor.serial c.args.command.now).does → (next : ℕ) → IsEdge (held c.args.store.now next) c.args.actor.serial over
+edge c over rights does next =
+    seen_edge c.args.store.now c.args.next.now next c.args.names.now (set_of c.args.retired.now.keys) c.args.actor.serial over
+    (dropped_edge (graph c) c.args.actor.serial c.args.command.now (granted c) over rights does)
+
+named : (c : In-Ok) (k : _) (rights : _) → effect.Makes k rights (name_in c.args.command.now) ≡ (terms c.args.actor.serial c.args.command.now).does → (name : Option (List ℕ)) → name ≡ name_in c.args.command.now →
+    IsSubjectIfNamed k name × MayBeNamed c.args.names.now name
+named c k rights does name copied =
+    let may = made_named (graph c) c.args.actor.serial c.args.command.now (granted c) k rights (name_in c.args.command.now) does in
+    subst (λ (n : Option (List ℕ)). IsSubjectIfNamed k n × MayBeNamed c.args.names.now n) (sym copied) (may.1, may.2)
+
+-- what an effect does, this command does
+carried : (c : In-Ok) (t : Stored) (after : ℕ) (left : List Member) (d : Does) (answer : Reply) → d ≡ (terms c.args.actor.serial c.args.command.now).does →
+    ByEffect c.args.store.now t c.args.next.now c.args.names.now (set_of c.args.retired.now.keys) c.args.seat after left (set_of c.args.retired.now.keys) c.args.actor.serial d answer →
+    CarriedOut c.args.store.now t c.args.next.now after c.args.names.now left (set_of c.args.retired.now.keys) (set_of c.args.retired.now.keys) c.args.seat c.args.actor.serial c.args.command.now answer
+carried c t after left d answer does came =
+    carried_by c.args.store.now t c.args.next.now c.args.names.now (set_of c.args.retired.now.keys) c.args.seat c.requires.listed after left (set_of c.args.retired.now.keys) c.args.actor.serial c.args.command.now d answer
+    does (granted c) came
+
+pub returns-in-Err-clause-carried : goal.returns-in-Err-clause-carried
+returns-in-Err-clause-carried c =
+    let retired = set_of c.args.retired.now.keys in
+    subst (λ rule. CarriedOut c.args.store.now c.args.store.now c.args.next.now c.args.next.now c.args.names.now c.args.names.now retired retired c.args.seat c.args.actor.serial c.args.command.now (reply.Denied rule c.in-Err.cause))
+    (sym c.rule.ensures)
+    (denied_carried c.args.store.now c.args.next.now c.args.names.now retired c.args.seat c.requires.listed c.args.actor.serial c.args.command.now c.in-Err.cause
+    (denial_seen c.args.store.now c.args.next.now c.args.names.now c.as_slice.result.now retired c.args.actor.serial c.args.command.now c.as_slice.ensures c.requires.unretired ∙ c.in-Err.ensures.denied))
+
+pub join-requires-clause-distinct : goal.join-requires-clause-distinct
+join-requires-clause-distinct c same =
+    let w = (goal.at.join-requires-clause-distinct c).In-Ok in
+    let from = placed c.args.store.now c.in-Ok.found c.spot-source.result c.in-Joins.from c.in-Ok.ensures.places c.spot-source.ensures.is c.spot-source.ensures.serial in
+    let to = placed c.args.store.now c.in-Ok.found c.spot-target.result c.in-Joins.to c.in-Ok.ensures.places c.spot-target.ensures.is c.spot-target.ensures.serial in
+    joined_apart (graph w) c.args.actor.serial c.args.command.now (granted w) c.in-Joins.from c.in-Joins.to c.in-Joins.rights c.in-Joins.ensures (cc (from, to, ap (place c.args.store.now) same))
+
+pub make-requires-clause-subject : goal.make-requires-clause-subject
+make-requires-clause-subject c =
+    (named (goal.at.make-requires-clause-subject c).In-Ok c.in-Makes.kind c.in-Makes.rights c.in-Makes.ensures c.in_ok-name-in-Makes.name c.in_ok-name-in-Makes.ensures.copy).0
+
+pub make-requires-clause-room : goal.make-requires-clause-room
+make-requires-clause-room c =
+    let may = named (goal.at.make-requires-clause-room c).In-Ok c.in-Makes.kind c.in-Makes.rights c.in-Makes.ensures c.in_ok-name-in-Makes.name c.in_ok-name-in-Makes.ensures.copy in
+    has_room c.args.store.now c.args.names.now c.requires.listed c.in_ok-name-in-Makes.name may.1
+
+pub make-requires-clause-named : goal.make-requires-clause-named
+make-requires-clause-named c =
+    (named (goal.at.make-requires-clause-named c).In-Ok c.in-Makes.kind c.in-Makes.rights c.in-Makes.ensures c.in_ok-name-in-Makes.name c.in_ok-name-in-Makes.ensures.copy).1
+
+pub remove-requires-clause-edge : goal.remove-requires-clause-edge
+remove-requires-clause-edge c =
+    subst (λ x. IsEdgeIn c.args.store.now x c.in-Drops.over) (sym (serial_is c.args.store.now c.args.actor.place c.args.actor.serial c.requires.actor))
+    (edge_in c.args.store.now 0 c.args.actor.serial c.in-Drops.over (edge (goal.at.remove-requires-clause-edge c).In-Ok c.in-Drops.over c.in-Drops.rights c.in-Drops.ensures 0))
+
+pub returns-in-Joins-clause-carried : goal.returns-in-Joins-clause-carried
+returns-in-Joins-clause-carried c =
+    let w = (goal.at.returns-in-Joins-clause-carried c).In-Ok in
+    let some = joined_named (graph w) c.args.actor.serial c.args.command.now (granted w) c.in-Joins.from c.in-Joins.to c.in-Joins.rights c.in-Joins.ensures in
+    let from = serial_found c.args.store.now c.in-Ok.found c.spot-source.result c.in-Joins.from c.in-Ok.ensures.places c.spot-source.ensures.is c.spot-source.ensures.serial in
+    let to = serial_found c.args.store.now c.in-Ok.found c.spot-target.result c.in-Joins.to c.in-Ok.ensures.places c.spot-target.ensures.is c.spot-target.ensures.serial in
+    let joined = subst (λ y. Joined c.args.store.now c.join.new.store c.args.seat c.in-Joins.from y c.in-Joins.rights c.join.result) to
+    (subst (λ x. Joined c.args.store.now c.join.new.store c.args.seat x (serial_at c.args.store.now c.spot-target.result.place) c.in-Joins.rights c.join.result) from c.join.ensures) in
+    carried w c.join.new.store c.args.next.now c.args.names.now (effect.Joins c.in-Joins.from c.in-Joins.rights c.in-Joins.to) c.join.result c.in-Joins.ensures
+    (join_done c.args.store.now c.join.new.store c.args.next.now c.args.names.now (set_of c.args.retired.now.keys) c.args.seat c.requires.listed c.args.actor.serial c.in-Joins.from c.in-Joins.to c.in-Joins.rights c.join.result some joined)
+
+pub returns-in_ok-name-in-Makes-clause-carried : goal.returns-in_ok-name-in-Makes-clause-carried
+returns-in_ok-name-in-Makes-clause-carried c =
+    let made = subst (λ (name : Option (List ℕ)). Made c.args.store.now c.make.new.store c.args.next.now c.make.new.next c.args.names.now c.make.new.names c.args.seat c.args.actor.serial c.in-Makes.kind c.in-Makes.rights name c.make.result)
+    c.in_ok-name-in-Makes.ensures.copy
+    (subst (λ x. Made c.args.store.now c.make.new.store c.args.next.now c.make.new.next c.args.names.now c.make.new.names c.args.seat x c.in-Makes.kind c.in-Makes.rights c.in_ok-name-in-Makes.name c.make.result)
+    (serial_is c.args.store.now c.args.actor.place c.args.actor.serial c.requires.actor) c.make.ensures) in
+    carried (goal.at.returns-in_ok-name-in-Makes-clause-carried c).In-Ok c.make.new.store c.make.new.next c.make.new.names (effect.Makes c.in-Makes.kind c.in-Makes.rights (name_in c.args.command.now)) c.make.result c.in-Makes.ensures
+    (make_done c.args.store.now c.make.new.store c.args.next.now c.args.names.now (set_of c.args.retired.now.keys) c.args.seat c.requires.listed c.args.actor.serial c.make.new.next c.make.new.names c.in-Makes.kind c.in-Makes.rights (name_in c.args.command.now) c.make.result made)
+
+pub returns-in_err-name-in-Makes-clause-needed : goal.returns-in_err-name-in-Makes-clause-needed
+returns-in_err-name-in-Makes-clause-needed c = whatever c.from_residual.result (granted (goal.at.returns-in_err-name-in-Makes-clause-needed c).In-Ok)
+
+pub returns-in_err-name-in-Makes-clause-memory : goal.returns-in_err-name-in-Makes-clause-memory
+returns-in_err-name-in-Makes-clause-memory c =
+    whatever c.from_residual.result (subst (λ d. copies d ≡ true) c.in-Makes.ensures (copies_name c.in-Makes.kind c.in-Makes.rights (name_in c.args.command.now) c.in_err-name-in-Makes.ensures.memory))
+
+pub returns-in-Drops-clause-carried : goal.returns-in-Drops-clause-carried
+returns-in-Drops-clause-carried c =
+    let w = (goal.at.returns-in-Drops-clause-carried c).In-Ok in
+    let here = edge w c.in-Drops.over c.in-Drops.rights c.in-Drops.ensures c.args.next.now in
+    let removed = subst (λ x. RightsRemoved c.args.store.now c.remove.new.store x c.in-Drops.over c.in-Drops.rights) (serial_is c.args.store.now c.args.actor.place c.args.actor.serial c.requires.actor) c.remove.ensures.removed in
+    carried w c.remove.new.store c.args.next.now c.args.names.now (effect.Drops c.in-Drops.rights c.in-Drops.over) c.remove.result c.in-Drops.ensures
+    (subst (ByEffect _ _ _ _ _ _ _ _ _ _ _) (sym c.remove.ensures.done)
+    (drop_done c.args.store.now c.remove.new.store c.args.next.now c.args.names.now (set_of c.args.retired.now.keys) c.args.seat c.requires.listed c.args.actor.serial c.in-Drops.over c.in-Drops.rights here removed c.remove.ensures.acted))
+
+pub returns-in-Rewrites-clause-carried : goal.returns-in-Rewrites-clause-carried
+returns-in-Rewrites-clause-carried c =
+    let over = serial_found c.args.store.now c.in-Ok.found c.spot.result c.in-Rewrites.over c.in-Ok.ensures.places c.spot.ensures.is c.spot.ensures.serial in
+    rewrite_carried c.args.store.now c.replace.new.store c.args.next.now c.args.names.now (set_of c.args.retired.now.keys) c.args.seat c.requires.listed c.args.actor.serial c.args.command.now c.in-Rewrites.over (text_in c.args.command.now)
+    c.replace.result c.in-Rewrites.ensures (granted (goal.at.returns-in-Rewrites-clause-carried c).In-Ok) c.replace.ensures.done
+    (subst (λ v. OnOk c.replace.result ((old : List ℕ) × TextReplaced c.args.store.now c.replace.new.store v (text_in c.args.command.now) old)) over c.replace.ensures.replaced)
+    c.replace.ensures.acted
+
+pub returns-in-Tells-clause-carried : goal.returns-in-Tells-clause-carried
+returns-in-Tells-clause-carried c =
+    let over = serial_found c.args.store.now c.in-Ok.found c.spot-in-Tells.result c.in-Tells.over c.in-Ok.ensures.places c.spot-in-Tells.ensures.is c.spot-in-Tells.ensures.serial in
+    IfOk-weaker c.tell.result _ _
+    (λ answer is. carried (goal.at.returns-in-Tells-clause-carried c).In-Ok c.args.store.now c.args.next.now c.args.names.now (effect.Tells c.in-Tells.over) answer c.in-Tells.ensures
+    (tell_done c.args.store.now c.args.next.now c.args.names.now (set_of c.args.retired.now.keys) c.args.seat c.requires.listed c.args.actor.serial c.in-Tells.over answer
+    (is c.args.next.now ∙ ap (λ v. reply.Text (text_of (held c.args.store.now c.args.next.now) v)) over)))
+    c.tell.ensures
+
+pub returns-in-Lists-clause-carried : goal.returns-in-Lists-clause-carried
+returns-in-Lists-clause-carried c =
+    let at = serial_found c.args.store.now c.in-Ok.found c.spot-in-Lists.result c.in-Lists.at c.in-Ok.ensures.places c.spot-in-Lists.ensures.is c.spot-in-Lists.ensures.serial in
+    IfOk-weaker c.list.result _ _
+    (λ answer is. carried (goal.at.returns-in-Lists-clause-carried c).In-Ok c.args.store.now c.args.next.now c.args.names.now (effect.Lists c.in-Lists.at) answer c.in-Lists.ensures
+    (list_done c.args.store.now c.args.next.now c.args.names.now (set_of c.args.retired.now.keys) c.args.seat c.requires.listed c.args.actor.serial c.in-Lists.at answer
+    (is c.args.next.now ∙ ap (λ v. reply.Edges (edges_of (held c.args.store.now c.args.next.now) v)) at)))
+    c.list.ensures
+
+pub returns-in-Retires-clause-carried : goal.returns-in-Retires-clause-carried
+returns-in-Retires-clause-carried c =
+    retire_carried c.args.store.now c.retire.new.store c.args.next.now c.args.names.now (set_of c.args.retired.now.keys) c.args.seat c.requires.listed c.args.actor.serial c.args.command.now c.retire.new.names (set_of c.retire.new.retired.keys)
+    c.retire.result c.in-Retires.ensures (granted (goal.at.returns-in-Retires-clause-carried c).In-Ok) c.retire.ensures.done c.retire.ensures.left c.retire.ensures.gone c.retire.ensures.retired c.retire.ensures.acted
+
+pub returns-in-Some-clause-carried : goal.returns-in-Some-clause-carried
+returns-in-Some-clause-carried c =
+    let agent = serial_found c.args.store.now c.in-Ok.found c.spot-in-Some.result c.in-Some.agent c.in-Ok.ensures.places c.spot-in-Some.ensures.is c.spot-in-Some.ensures.serial in
+    carried (goal.at.returns-in-Some-clause-carried c).In-Ok c.assume.new.store c.args.next.now c.args.names.now (effect.Acts (Some c.in-Some.agent)) c.assume.result (ap (λ a. effect.Acts a) (sym c.in-Some.is) ∙ c.in-Acts.ensures)
+    (subst (ByEffect _ _ _ _ _ _ _ _ _ _ _) (sym c.assume.ensures.done)
+    (assume_done c.args.store.now c.assume.new.store c.args.next.now c.args.names.now (set_of c.args.retired.now.keys) c.args.seat c.requires.listed c.args.actor.serial c.in-Some.agent
+    (subst (Assumed c.args.store.now c.assume.new.store c.args.seat) agent c.assume.ensures.assumed) (subst (λ x. Acted c.args.store.now c.assume.new.store None (Some x)) agent c.assume.ensures.acted)))
+
+pub returns-in-None-clause-carried : goal.returns-in-None-clause-carried
+returns-in-None-clause-carried c =
+    carried (goal.at.returns-in-None-clause-carried c).In-Ok c.leave.new.store c.args.next.now c.args.names.now (effect.Acts None) c.leave.result (ap (λ a. effect.Acts a) (sym c.in-None.is) ∙ c.in-Acts.ensures)
+    (subst (ByEffect _ _ _ _ _ _ _ _ _ _ _) (sym c.leave.ensures.done)
+    (leave_done c.args.store.now c.leave.new.store c.args.next.now c.args.names.now (set_of c.args.retired.now.keys) c.args.seat c.requires.listed c.args.actor.serial c.leave.ensures.left c.leave.ensures.acted))
+
+pub returns-in-Rewrites-clause-needed : goal.returns-in-Rewrites-clause-needed
+returns-in-Rewrites-clause-needed c = whatever c.replace.result (granted (goal.at.returns-in-Rewrites-clause-needed c).In-Ok)
+
+pub returns-in-Tells-clause-needed : goal.returns-in-Tells-clause-needed
+returns-in-Tells-clause-needed c = whatever c.tell.result (granted (goal.at.returns-in-Tells-clause-needed c).In-Ok)
+
+pub returns-in-Lists-clause-needed : goal.returns-in-Lists-clause-needed
+returns-in-Lists-clause-needed c = whatever c.list.result (granted (goal.at.returns-in-Lists-clause-needed c).In-Ok)
+
+pub returns-in-Retires-clause-needed : goal.returns-in-Retires-clause-needed
+returns-in-Retires-clause-needed c = whatever c.retire.result (granted (goal.at.returns-in-Retires-clause-needed c).In-Ok)
