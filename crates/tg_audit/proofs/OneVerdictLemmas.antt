@@ -1,5 +1,6 @@
 -- Steps have exactly one verdict.
 use Rattle.std.proofs.Common.{◌≡◌, ℕ, zero, suc, ◌<◌, ◌≤◌, List, [], ◌∷◌, length, take, refl, sym, ap, ◌∙◌, subst, arith, Bool, true, false, cond, slice_get, Option, Some, None}
+use Rattle.std.proofs.lemmas.List.{take_all}
 use Rattle.std.proofs.lemmas.Option.{none-some, same_Some, slice_get_within, slice_get_cases}
 use Rattle.std.proofs.lemmas.Bool.{cases_lt, false≢true}
 use Rattle.std.proofs.Math.Nat.{eq-or-lt_of_le}
@@ -20,7 +21,7 @@ use Rattle.tg_audit.specs.declared.derivations.Stop.{Stop}
 use Rattle.tg_audit.specs.declared.derivations.Stop.TheVariants as stop
 use Rattle.tg_audit.specs.Stops.{StopsBy, verdict_at}
 use Rattle.tg_audit.specs.Verdicts.{IsVerdict, StopsAt}
-use Rattle.tg_audit.proofs.VerdictLemmas.{derives_more, end_verdict, stop_verdict, take_all}
+use Rattle.tg_audit.proofs.VerdictLemmas.{derives_more, end_verdict, stop_verdict}
 
 -- the result of a step: it is carried out, or stops the derivation
 abbrev Fate : Protection → Step → Type 0
@@ -130,7 +131,7 @@ whole_stops : (G : Protection) (steps : List Step) (H : Protection) (n : ℕ) (w
 whole_stops G steps H n why derived stops =
     let D : List Step → Type 0 = λ ss. Derives G ss H in
     none_stops G steps (length steps) n H stops.reached stops.step why (slice_get_within steps n stops.step stops.at)
-    (subst D (sym (take_all steps (length steps) (omega arith))) derived) stops.at stops.derived stops.why
+    (subst D (sym (take_all (length steps) steps (omega arith))) derived) stops.at stops.derived stops.why
 
 -- two steps that stop are the same, for the same reason
 stops_once : (G : Protection) (steps : List Step) (n m : ℕ) (why other : Stop) → n ≤ m → StopsAt G steps n (λ K s. StopsBy K s why) → StopsAt G steps m (λ K s. StopsBy K s other) → verdict_at n why ≡ verdict_at m other
@@ -188,5 +189,5 @@ some_verdict G steps goal = elim (so_far G steps goal (length steps) (omega arit
       let H = derived.0 in
       let v = weighed H goal (is_met H goal) in
       let D : List Step → Type 0 = λ ss. Derives G ss H in
-      (v, end_verdict G steps goal H v (subst D (take_all steps (length steps) (omega arith)) derived.1) (weighed_is H goal (is_met H goal) refl))
+      (v, end_verdict G steps goal H v (subst D (take_all (length steps) steps (omega arith)) derived.1) (weighed_is H goal (is_met H goal) refl))
 ]

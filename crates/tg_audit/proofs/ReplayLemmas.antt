@@ -1,9 +1,9 @@
 -- A history, replayed entry by entry.
-use Rattle.std.proofs.Common.{◌≡◌, ℕ, zero, suc, ◌+◌, ◌≤◌, List, [], ◌∷◌, ◌++◌, drop, take, length, refl, sym, ap, ◌∙◌, subst, arith, slice_get, true, false, inl, inr, Some, None}
+use Rattle.std.proofs.Common.{◌≡◌, ℕ, zero, suc, ◌+◌, List, [], ◌∷◌, ◌++◌, drop, take, length, refl, sym, ap, ◌∙◌, subst, arith, slice_get, Bool, true, false, cond, inl, inr, Some, None}
 use Rattle.std.proofs.lemmas.Option.{none-some, same_Some}
-use Rattle.std.proofs.lemmas.Grind.{common_steps}
 use Rattle.tg_rights.specs.Command.{rule_of}
 use Rattle.tg_rights.specs.declared.command.Command.{Command}
+use Rattle.tg_rights.specs.declared.command.Command.TheVariants as command
 use Rattle.tg_rights.specs.declared.outcome.Cause.TheVariants as cause
 use Rattle.tg_rights.specs.declared.outcome.Outcome.{Outcome}
 use Rattle.tg_rights.specs.declared.outcome.Outcome.TheVariants as outcome
@@ -12,13 +12,14 @@ use Rattle.tg_rights.specs.declared.outcome.Reply.{Reply}
 use Rattle.tg_rights.specs.declared.outcome.Reply.TheVariants as reply
 use Rattle.tg_graph.specs.Fullness.{Limits, Permitted}
 use Rattle.tg_graph.specs.Protection.{IsGraph, IsSubject, Protection, has_retired}
-use Rattle.tg_graph.specs.Rules.{Applies, PlainlyDecided, next_graph, reply_of}
+use Rattle.tg_graph.specs.Rules.{Applies, PlainlyDecided, denial, is_for_retired, next_graph, reply_of}
+use Rattle.tg_graph.proofs.DecidingLemmas.{only_leave}
 use Rattle.tg_vault.specs.declared.entry.Entry.{Entry}
 use Rattle.tg_vault.specs.Contents.{Contents, graph_now}
-use Rattle.tg_vault.specs.History.{EntryRun, Legal, MayAsk}
-use Rattle.tg_vault.proofs.CarriedOutLemmas.{retired_denied}
-use Rattle.tg_vault.proofs.HistoryLemmas.{active_subject}
-use Rattle.tg_audit.specs.Replies.{beyond, replies_of}
+use Rattle.tg_vault.specs.History.{EntryRun, Legal}
+use Rattle.tg_vault.proofs.HistoryLemmas.{IsLawful, asks_subject, turn_keeps}
+use Rattle.tg_vault.proofs.RetiredLemmas.{leave_allowed, retired_denied}
+use Rattle.tg_audit.specs.Replies.{IsSubjectOrRetired, beyond, replies_of, retired_reply}
 use Rattle.tg_audit.proofs.FollowingLemmas.{drop_some}
 
 -- what the plain graph decides, if it can, is what a history permits
@@ -52,21 +53,33 @@ graph_permitted limits G H x c d o answer permitted plain same applies =
     let here : Applies G x c answer H = (let A : Command → Type 0 = λ e. Applies G x e answer H in subst A same applies) in
     here.3 ∙ ap (next_graph G x c) (decided_as_permitted limits G x c o here.0 permitted plain here.1)
 
--- who may ask and has not retired is a subject
-pub asks_as_subject : (G : Protection) (x : ℕ) → IsGraph G → MayAsk G x → has_retired G x ≡ false → IsSubject G x
-asks_as_subject G x graph (inl active) unretired = active_subject G x graph active
-asks_as_subject G x graph (inr retired) unretired = absurd (cc (retired, unretired))
+-- who has retired is told that it is done if it leaves, and denied all else; neither changes the graph
+module _ (limits : Limits) (G : Protection) (x : ℕ) (retired : has_retired G x ≡ true) where
+  abbrev Settles : Command → Outcome → Reply → Type 0
+  Settles c o answer = (answer ≡ reply_of G x c o) × (G ≡ next_graph G x c o)
 
--- who has retired gets the reply that says so, and changes nothing
-pub reply_retired : (limits : Limits) (G : Protection) (x : ℕ) (c : Command) (o : Outcome) → Permitted limits G x c o → has_retired G x ≡ true → reply.Denied (rule_of c) cause.Retired ≡ reply_of G x c o
-reply_retired limits G x c outcome.Allowed permitted retired = absurd (none-some cause.Retired (sym permitted.0 ∙ retired_denied G x c retired))
-reply_retired limits G x c (outcome.Denied rule why) permitted retired = λ i. reply.Denied ((sym permitted.0) i) (same_Some cause.Retired why (sym (retired_denied G x c retired) ∙ permitted.1) i)
-reply_retired limits G x c (outcome.Full which) permitted retired = absurd (none-some cause.Retired (sym permitted.0 ∙ retired_denied G x c retired))
+  leave_settled : (o : Outcome) → Permitted limits G x command.Leave o → Settles command.Leave o reply.Done
+  leave_settled outcome.Allowed permitted = (refl, refl)
+  leave_settled (outcome.Denied rule why) permitted = absurd (none-some why (sym (leave_allowed G x command.Leave refl) ∙ permitted.1))
+  leave_settled (outcome.Full which.Serials) permitted = absurd (cc permitted.1.0)
+  leave_settled (outcome.Full which.Slots) permitted = absurd (cc permitted.1.0)
+  leave_settled (outcome.Full which.Cells) permitted = absurd permitted.1.0
 
-pub graph_retired : (limits : Limits) (G : Protection) (x : ℕ) (c : Command) (o : Outcome) → Permitted limits G x c o → has_retired G x ≡ true → G ≡ next_graph G x c o
-graph_retired limits G x c outcome.Allowed permitted retired = absurd (none-some cause.Retired (sym permitted.0 ∙ retired_denied G x c retired))
-graph_retired limits G x c (outcome.Denied rule why) permitted retired = refl
-graph_retired limits G x c (outcome.Full which) permitted retired = refl
+  denial_settled : (c : Command) (o : Outcome) → Permitted limits G x c o → denial G x c ≡ Some cause.Retired → Settles c o (reply.Denied (rule_of c) cause.Retired)
+  denial_settled c outcome.Allowed permitted denied = absurd (none-some cause.Retired (sym permitted.0 ∙ denied))
+  denial_settled c (outcome.Denied rule why) permitted denied = (λ i. reply.Denied ((sym permitted.0) i) (same_Some cause.Retired why (sym denied ∙ permitted.1) i), refl)
+  denial_settled c (outcome.Full which) permitted denied = absurd (none-some cause.Retired (sym permitted.0 ∙ denied))
+
+  pub retired_settled : (c : Command) (o : Outcome) → Permitted limits G x c o → Settles c o (retired_reply x c)
+  retired_settled c o permitted = by (is_for_retired x c) refl where
+    by : (b : Bool) → is_for_retired x c ≡ b → Settles c o (cond b reply.Done (reply.Denied (rule_of c) cause.Retired))
+    by true early = let C : Command → Type 0 = λ d. Permitted limits G x d o → Settles d o reply.Done in subst C (sym (only_leave x c early)) (leave_settled o) permitted
+    by false early = denial_settled c o permitted (retired_denied G x c early retired)
+
+-- whom the graph can answer is a subject if it has not retired
+pub unretired_subject : (G : Protection) (x : ℕ) → IsSubjectOrRetired G x → has_retired G x ≡ false → IsSubject G x
+unretired_subject G x (inl subject) unretired = subject
+unretired_subject G x (inr retired) unretired = absurd (cc (retired, unretired))
 
 drop_first : {X : Type 0} (xs : List X) (k : ℕ) → slice_get (drop k xs) 0 ≡ slice_get xs k
 drop_first [] zero = refl
@@ -86,39 +99,33 @@ take_more [] k x at = absurd (none-some x at)
 take_more (y ∷ xs) zero x at = ap (λ z. z ∷ []) (sym (same_Some y x at))
 take_more (y ∷ xs) (suc k) x at = ap (λ zs. y ∷ zs) (take_more xs k x at)
 
-pub take_past : {X : Type 0} (xs : List X) (k : ℕ) → length xs ≤ k → take k xs ≡ xs
-take_past xs k past = grind (arith, common_steps)
-
--- what is left of a legal history, starting from a graph
-pub record IsLeft (limits : Limits) (G : Protection) (es : List Entry) : Type 0 where
+-- a vault's history, parted: the first entries lead to a graph, and the others on from there
+pub record IsLeft (v : Contents) (G : Protection) (n : ℕ) : Type 0 where
+  pub lawful : IsLawful (take n v.history) G
   pub ends : Protection
-  pub run : EntryRun limits G es ends
-
-pub left_at_start : (limits : Limits) (first G : Protection) (es : List Entry) (ends : Protection) → G ≡ first → Legal limits first es ends → IsLeft limits G es
-left_at_start limits first G es ends same legal =
-    let R : Protection → Type 0 = λ F. EntryRun limits F es ends in
-    record { ends = ends; run = subst R (sym same) legal.graphs }
+  pub run : EntryRun v.limits (take n v.history) G (drop n v.history) ends
 
 -- the next entry leads on
-left_step : (limits : Limits) (G : Protection) (es : List Entry) (n : ℕ) (e : Entry) → (left : IsLeft limits G (drop n es)) → slice_get es n ≡ Some e → EntryRun limits G (e ∷ drop (suc n) es) left.ends
-left_step limits G es n e left at = let R : List Entry → Type 0 = λ xs. EntryRun limits G xs left.ends in subst R (drop_some es n e at) left.run
+left_step : (v : Contents) (G : Protection) (n : ℕ) (e : Entry) → (left : IsLeft v G n) → slice_get v.history n ≡ Some e → EntryRun v.limits (take n v.history) G (e ∷ drop (suc n) v.history) left.ends
+left_step v G n e left at = let R : List Entry → Type 0 = λ xs. EntryRun v.limits (take n v.history) G xs left.ends in subst R (drop_some v.history n e at) left.run
 
-pub left_asks : (v : Contents) (G : Protection) (n : ℕ) (e : Entry) → IsLeft v.limits G (drop n v.history) → slice_get v.history n ≡ Some e → MayAsk G e.actor
-left_asks v G n e left at = (left_step v.limits G v.history n e left at).1.0
+pub left_asks : (v : Contents) (G : Protection) (n : ℕ) (e : Entry) → IsLeft v G n → slice_get v.history n ≡ Some e → IsSubjectOrRetired G e.actor
+left_asks v G n e left at = asks_subject (take n v.history) G e.seat e.actor left.lawful (left_step v G n e left at).1.0
 
-pub left_permitted : (v : Contents) (G : Protection) (n : ℕ) (e : Entry) → IsLeft v.limits G (drop n v.history) → slice_get v.history n ≡ Some e → (limits : Limits) × Permitted limits G e.actor e.command e.outcome
-left_permitted v G n e left at = (v.limits, (left_step v.limits G v.history n e left at).1.1)
+pub left_permitted : (v : Contents) (G : Protection) (n : ℕ) (e : Entry) → IsLeft v G n → slice_get v.history n ≡ Some e → (limits : Limits) × Permitted limits G e.actor e.command e.outcome
+left_permitted v G n e left at = (v.limits, (left_step v G n e left at).1.1)
 
-pub left_more : (limits : Limits) (G H : Protection) (es : List Entry) (n : ℕ) (e : Entry) → IsLeft limits G (drop n es) → slice_get es n ≡ Some e → H ≡ next_graph G e.actor e.command e.outcome → IsLeft limits H (drop (n + 1) es)
-left_more limits G H es n e left at graph =
+left_more : (v : Contents) (G H : Protection) (n : ℕ) (e : Entry) → IsLeft v G n → slice_get v.history n ≡ Some e → H ≡ next_graph G e.actor e.command e.outcome → IsLeft v H (n + 1)
+left_more v G H n e left at graph =
     let next : n + 1 ≡ suc n = omega arith in
-    let run = left_step limits G es n e left at in
+    let run = left_step v G n e left at in
     let same : run.0 ≡ H = run.1.2 ∙ sym graph in
-    let L : ℕ → Type 0 = λ k. IsLeft limits H (drop k es) in
-    subst L (sym next) (record {
-      ends = left.ends;
-      run = (let R : Protection → Type 0 = λ F. EntryRun limits F (drop (suc n) es) left.ends in subst R same run.2);
-    })
+    let before = take n v.history in
+    let rest = drop (suc n) v.history in
+    let R : Protection → Type 0 = λ F. EntryRun v.limits (before ++ e ∷ []) F rest left.ends in
+    let B : List Entry → Type 0 = λ xs. IsLawful xs H × EntryRun v.limits xs H rest left.ends in
+    let both : B (take (suc n) v.history) = subst B (take_more v.history n e at) (turn_keeps v.limits before G e H left.lawful (run.1.0, run.1.1, graph), subst R same run.2) in
+    subst (IsLeft v H) (sym next) (record { lawful = both.0; ends = left.ends; run = both.1 })
 
 pub replies_length : (G : Protection) (es : List Entry) → length (replies_of G es) ≡ length es
 replies_length G [] = refl
@@ -127,13 +134,13 @@ replies_length G (e ∷ es) = ap suc (replies_length (next_graph G e.actor e.com
 -- a vault's history has been replayed up to an entry: the further replies are those that the graph gives
 pub record IsReplayed (v : Contents) (G : Protection) (number : ℕ) : Type 0 where
   pub further : drop number (replies_of v.opening v.history) ≡ replies_of G (drop number v.history)
-  pub left : IsLeft v.limits G (drop number v.history)
+  pub left : IsLeft v G number
 
-pub replayed_none : (v : Contents) (G : Protection) → G ≡ v.opening → Legal v.limits v.opening v.history (graph_now v) → IsReplayed v G 0
-replayed_none v G same legal = record {
-  further = ap (λ F. replies_of F v.history) (sym same);
-  left = left_at_start v.limits v.opening G v.history (graph_now v) same legal;
-}
+pub replayed_none : (v : Contents) (G : Protection) → G ≡ v.opening → IsGraph v.opening → Legal v.limits v.opening v.history (graph_now v) → IsReplayed v G 0
+replayed_none v G same opened legal = subst (λ F. IsReplayed v F 0) (sym same) (record {
+  further = refl;
+  left = record { lawful = record { graph = opened; agents = λ seat x was. absurd was.1 }; ends = graph_now v; run = legal.graphs };
+})
 
 -- the next reply is the next entry's
 further_next : (v : Contents) (G H : Protection) (n : ℕ) (e : Entry) (r : Reply) → IsReplayed v G n → slice_get v.history n ≡ Some e → r ≡ reply_of G e.actor e.command e.outcome → H ≡ next_graph G e.actor e.command e.outcome →
@@ -153,6 +160,6 @@ replays v G H n e r so_far at reply graph =
       told = sym (drop_first (replies_of v.opening v.history) n) ∙ ap (λ rs. slice_get rs 0) rest;
       replayed = record {
         further = rw next (sym (drop_rest (replies_of v.opening v.history) n) ∙ ap (drop 1) rest);
-        left = left_more v.limits G H v.history n e so_far.left at graph;
+        left = left_more v G H n e so_far.left at graph;
       };
     }

@@ -1,5 +1,5 @@
 -- Derivations step by step, and the one verdict on them.
-use Rattle.std.proofs.Common.{◌≡◌, ℕ, zero, suc, ◌+◌, ◌≤◌, List, [], ◌∷◌, length, take, refl, sym, ap, subst, arith, slice_get, Some}
+use Rattle.std.proofs.Common.{◌≡◌, ℕ, zero, suc, ◌+◌, List, [], ◌∷◌, take, refl, sym, subst, arith, slice_get, Some}
 use Rattle.std.proofs.lemmas.Option.{none-some, same_Some}
 use Rattle.tg_rights.specs.Letters.{without}
 use Rattle.tg_graph.specs.declared.derivation.Goal.{Goal}
@@ -20,12 +20,6 @@ derives_more G (t ∷ steps) zero s H K at derived step =
     let C : Protection → Step → Type 0 = λ F r. CarriesOut F r K in
     (K, subst (λ F. C F t) derived (subst (λ r. C H r) (sym (same_Some t s at)) step), refl)
 derives_more G (t ∷ steps) (suc n) s H K at derived step = (derived.0, derived.1, derives_more derived.0 steps n s H K at derived.2 step)
-
-pub take_all : {X : Type 0} (xs : List X) (n : ℕ) → length xs ≤ n → take n xs ≡ xs
-take_all [] zero past = refl
-take_all [] (suc n) past = refl
-take_all (x ∷ xs) zero past = absurd (omega arith)
-take_all (x ∷ xs) (suc n) past = ap (λ ys. x ∷ ys) (take_all xs n (omega arith))
 
 -- a step that stops determines the verdict
 pub stop_verdict : (G : Protection) (steps : List Step) (goal : Goal) (n : ℕ) (s : Step) (H : Protection) (why : Stop) → Derives G (take n steps) H → slice_get steps n ≡ Some s → StopsBy H s why → IsVerdict G steps goal (verdict_at n why)

@@ -5,7 +5,7 @@ use tg_vault::Vault;
 /// What a caller submitted, and what it received.
 #[derive(Debug, Drop)]
 pub struct Exchange {
-    /// The serial of the principal for whom it was submitted.
+    /// The serial of who asked: the principal on the seat, or the subject for which the seat acted.
     pub actor: u64,
     /// What was submitted.
     pub command: Command,

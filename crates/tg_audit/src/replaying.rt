@@ -2,12 +2,11 @@
 ghost use Rattle.std.specs.Prelude.{◌≡◌, IfOk, OnOk};
 ghost use Rattle.tg_graph.specs.Fullness.{Limits, Permitted};
 ghost use Rattle.tg_graph.specs.Rules.{next_graph, reply_of};
-ghost use Rattle.tg_vault.specs.History.{MayAsk};
-ghost use Rattle.tg_audit.specs.Replies.{beyond, replies_of};
+ghost use Rattle.tg_audit.specs.Replies.{IsSubjectOrRetired, beyond, replies_of, retired_reply};
 
 use std::alloc::{AllocError, Global};
-use tg_graph::Graph;
-use tg_rights::{Cause, Outcome, Reply, Which};
+use tg_graph::{Graph, is_for_retired};
+use tg_rights::{Cause, Command, Outcome, Reply, Which};
 use tg_vault::{Entry, Vault};
 
 /// What is used up in an outcome that no plain graph gives.
@@ -25,20 +24,30 @@ fn beyond(outcome: Outcome) -> Option<Which>
     }
 }
 
+/// The reply to an actor that has retired, whose command changes nothing.
+fn retired_reply(actor: u64, command: &Command) -> Reply
+    ensures { result ≡ retired_reply actor command.now }
+{
+    if is_for_retired(actor, command) {
+        Reply::Done
+    } else {
+        Reply::Denied(command.rule(), Cause::Retired)
+    }
+}
+
 /// Carries out the entry's command if the graph allows it, and returns the reply. What no plain graph can run out of is
-/// taken from the entry. A graph judges subjects alone, and those who ask are active principals, which are subjects, or
-/// have retired, which the graph knows.
+/// taken from the entry. A graph judges subjects alone, and those who ask are subjects, or have retired, which the graph
+/// knows.
 pub fn reply_to(alloc: Global, graph: &mut Graph, entry: &Entry) -> Result<Reply, AllocError>
-    requires asks { MayAsk graph.old entry.now.actor }
+    requires asks { IsSubjectOrRetired graph.old entry.now.actor }
     requires permitted { (limits : Limits) × Permitted limits graph.old entry.now.actor entry.now.command entry.now.outcome }
     ensures reply { IfOk result (λ r. r ≡ reply_of graph.old entry.now.actor entry.now.command entry.now.outcome) }
     ensures graph { OnOk result (graph.new ≡ next_graph graph.old entry.now.actor entry.now.command entry.now.outcome) }
 {
-    graph.soundness();
     let actor = entry.actor();
     let asked = entry.command();
     if graph.retired(actor) {
-        return Ok(Reply::Denied(asked.rule(), Cause::Retired));
+        return Ok(retired_reply(actor, asked));
     }
     match beyond(entry.outcome()) {
         Some(which) => Ok(Reply::Full(which)),

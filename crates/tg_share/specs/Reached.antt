@@ -1,8 +1,12 @@
 -- vaults to which nothing but events has happened, and their answers
 use Rattle.std.specs.Prelude.{◌≡◌, ℕ, List, [], length, Some, slice_get}
 use Rattle.std.specs.Option.{option_map}
+use Rattle.tg_rights.specs.declared.command.Command.{Command}
+use Rattle.tg_rights.specs.declared.outcome.Reply.{Reply}
 use Rattle.tg_vault.specs.declared.event.Event.{Event}
+use Rattle.tg_vault.specs.declared.event.Event.TheVariants as event
 use Rattle.tg_vault.specs.declared.event.Answer.{Answer}
+use Rattle.tg_vault.specs.declared.event.Answer.TheVariants as answer
 use Rattle.tg_vault.specs.Contents.{Contents}
 use Rattle.tg_vault.specs.Course.{Course, IsCoherent, VaultStep}
 use Rattle.tg_vault.specs.Cycles.{IsBounded}
@@ -34,3 +38,10 @@ pub record IsAnswered (v : Contents) (e : Event) (a : Answer) : Type 0 where
 -- the entry that was added is this actor's
 abbrev pub IsEnteredFor : Contents → Contents → ℕ → Type 0
 IsEnteredFor old new actor = option_map (λ e. e.actor) (slice_get new.history (length old.history)) ≡ Some actor
+
+-- the vault, which events have led to, enters the command of the seat for this actor, and gives this reply
+pub record IsEntered (v : Contents) (seat actor : ℕ) (command : Command) (reply : Reply) : Type 0 where
+  pub reached : IsReached v
+  pub after : Contents
+  pub step : VaultStep v (event.Ask seat command) (answer.Asked (length v.history) reply) after
+  pub actors : IsEnteredFor v after actor

@@ -4,7 +4,9 @@ use Rattle.std.specs.Borrow.{Bor}
 use Rattle.tg_rights.specs.declared.command.Command.{Command}
 use Rattle.tg_rights.specs.declared.outcome.Reply.{Reply}
 use Rattle.tg_vault.specs.declared.event.AskFault.{AskFault}
+use Rattle.tg_vault.specs.Contents.{Contents}
 use Rattle.tg_audit.specs.declared.logs.Exchange.{Exchange}
+use Rattle.tg_share.specs.Reached.{IsEntered}
 
 -- a principal on a seat, its log, and how much of the count of entries its share has
 pub record Sitting : Type 0 where
@@ -13,14 +15,18 @@ pub record Sitting : Type 0 where
   pub log : List Exchange
   pub counted : ℕ
 
--- the log has one more exchange, the share one more entry
-abbrev pub with_exchange : Sitting → Command → Reply → Sitting
-with_exchange s command reply = record s { log = s.log ++ record { actor = s.actor; command = command; reply = reply } ∷ []; counted = s.counted + 1 }
+-- the log has one more exchange, of this actor, and the share one more entry
+abbrev pub with_exchange : Sitting → ℕ → Command → Reply → Sitting
+with_exchange s actor command reply = record s { log = s.log ++ record { actor = actor; command = command; reply = reply } ∷ []; counted = s.counted + 1 }
 
--- the command was submitted and got some reply
-abbrev pub Grows : Sitting → Sitting → Command → Type 0
-Grows old new command = (reply : Reply) × (new ≡ with_exchange old command reply)
+-- some vault, to which nothing but events has happened, entered the command of the seat for an actor and gave this
+-- reply; the log has one more exchange, of that actor
+pub record Grows (old new : Sitting) (command : Command) (reply : Reply) : Type 0 where
+  pub actor : ℕ
+  pub vault : Contents
+  pub entered : IsEntered vault old.seat actor command reply
+  pub grown : new ≡ with_exchange old actor command reply
 
--- the command was submitted and got the reply that is returned; or nothing has changed
+-- the command was entered and got the reply that is returned; or nothing has changed
 abbrev pub HasAsked : Sitting → Command → Result (Bor Reply) AskFault → Sitting → Type 0
-HasAsked old command result new = MatchResult result (λ r. new ≡ with_exchange old command r.now) (λ _. new ≡ old)
+HasAsked old command result new = MatchResult result (λ r. Grows old new command r.now) (λ _. new ≡ old)

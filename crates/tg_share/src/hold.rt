@@ -1,12 +1,12 @@
 //! The lock, and holds of it. A hold is used up by its one event, and cannot be dropped without it: so nothing but
 //! events happens under the lock, and each hold makes one, or none if no part is left for a session.
-ghost use Rattle.std.specs.Prelude.{◌≡◌, ◌⊎◌, ◌+◌, ◌<◌, length, Err, IfOk, IfErr, OnOk, OnErr, MatchResult};
+ghost use Rattle.std.specs.Prelude.{◌≡◌, ◌⊎◌, ◌+◌, ◌<◌, Err, IfOk, IfErr, OnOk, OnErr, MatchResult};
 ghost use Rattle.tg_rights.specs.declared.limits.TheConstants.{SEATS};
 ghost use Rattle.tg_vault.specs.declared.event.AskFault.TheVariants as ask_fault;
 ghost use Rattle.tg_vault.specs.declared.event.SeatFault.TheVariants as seat_fault;
 ghost use Rattle.tg_vault.specs.declared.event.Event.TheVariants as event;
 ghost use Rattle.tg_vault.specs.declared.event.Answer.TheVariants as answer;
-ghost use Rattle.tg_share.specs.Reached.{IsAnswered};
+ghost use Rattle.tg_share.specs.Reached.{IsAnswered, IsEntered};
 
 use crate::locked::Locked;
 use std::marker::Model;
@@ -71,18 +71,23 @@ impl<'a, L: Ledger> Hold<'a, L> {
         guard.hello(seat, name)
     }
 
-    /// The event ask. If it enters the command, the share grows by one.
-    pub fn ask(self, seat: u64, command: Command, share: &mut Share<L>) -> Result<Reply, AskFault>
+    /// The event ask. If it enters the command, the share grows by one, and the result has the entry's actor as well as
+    /// the reply.
+    pub fn ask(
+        self,
+        seat: u64,
+        command: Command,
+        share: &mut Share<L>,
+    ) -> Result<(u64, Reply), AskFault>
         requires { 0 < share.old.parts }
-        ensures event { MatchResult result (λ reply. IsAnswered self.entry (event.Ask seat command) (answer.Asked (length self.entry.history) reply)) (λ fault. IsAnswered self.entry (event.Ask seat command) (answer.Ask fault)) }
+        ensures event { MatchResult result (λ r. IsEntered self.entry seat r.0 command r.1) (λ fault. IsAnswered self.entry (event.Ask seat command) (answer.Ask fault)) }
         ensures counted { OnOk result (share.new.amount ≡ share.old.amount + 1) }
         ensures uncounted { OnErr result (share.new.amount ≡ share.old.amount) }
         ensures parts { share.new.parts ≡ share.old.parts }
         ensures no_seat { seat < SEATS → result ≡ Err ask_fault.NoSeat → ⊥ }
     {
         let Hold { mut guard } = self;
-        let (_, reply) = guard.ask(seat, command, share)?;
-        Ok(reply)
+        guard.ask(seat, command, share)
     }
 
     /// The event shade.

@@ -6,7 +6,7 @@ ghost use Rattle.tg_vault.specs.declared.event.Event.TheVariants as event;
 ghost use Rattle.tg_vault.specs.declared.event.Answer.TheVariants as answer;
 ghost use Rattle.tg_vault.specs.Course.{VaultStep};
 ghost use Rattle.tg_share.specs.declared.locked.TheConstants.{PARTS};
-ghost use Rattle.tg_share.specs.Reached.{IsEnteredFor};
+ghost use Rattle.tg_share.specs.Reached.{IsEnteredFor, IsReached};
 
 use crate::running::Running;
 use std::sync::ledger::{Book, Ledger, Share};
@@ -82,6 +82,7 @@ impl<L: Ledger> Locked<L> {
         requires { 0 < share.old.parts }
         ensures event { MatchResult result (λ r. VaultStep self.old.vault (event.Ask seat command) (answer.Asked (length self.old.vault.history) r.1) self.new.vault) (λ fault. VaultStep self.old.vault (event.Ask seat command) (answer.Ask fault) self.new.vault) }
         ensures actor { IfOk result (λ r. IsEnteredFor self.old.vault self.new.vault r.0) }
+        ensures reached { IsReached self.old.vault }
         ensures counted { OnOk result (share.new.amount ≡ share.old.amount + 1) }
         ensures uncounted { OnErr result (share.new.amount ≡ share.old.amount) }
         ensures parts { share.new.parts ≡ share.old.parts }

@@ -69,6 +69,7 @@ impl Running {
     pub fn ask(&mut self, seat: u64, command: Command) -> Result<(u64, Reply), AskFault>
         ensures event { MatchResult result (λ r. VaultStep self.old (event.Ask seat command) (answer.Asked (length self.old.history) r.1) self.new) (λ fault. VaultStep self.old (event.Ask seat command) (answer.Ask fault) self.new) }
         ensures actor { IfOk result (λ r. IsEnteredFor self.old self.new r.0) }
+        ensures reached { IsReached self.old }
     {
         let answer = self.vault.command(seat, command);
         self.vault.soundness();

@@ -35,8 +35,8 @@ pub struct Worked {
     pub ended: u64,
 }
 
-/// A principal on a seat, with a log of its commands and the replies, and a share of the ledger that counts the log. It
-/// has to be ended: it cannot be dropped.
+/// A principal on a seat, with a log of the commands that were submitted there, each with its actor and its reply, and a
+/// share of the ledger that counts the log. It has to be ended: it cannot be dropped.
 pub struct Session<'a, L: Ledger> {
     shared: &'a Shared<L>,
     alloc: Global,
@@ -129,7 +129,7 @@ impl<L: Ledger> Shared<L> {
 }
 
 impl<'a, L: Ledger> Session<'a, L> {
-    /// The serial of the principal.
+    /// The serial of the principal, whomever the seat acts for.
     pub fn actor(&self) -> u64
         ensures { result ≡ self.now.actor }
     {
@@ -143,7 +143,7 @@ impl<'a, L: Ledger> Session<'a, L> {
         command: Command,
         gate: &G,
     ) -> Result<(), AskFault>
-        ensures ok { OnOk result (Grows self.old self.new command) }
+        ensures ok { OnOk result ((reply : Reply) × Grows self.old self.new command reply) }
         ensures err { OnErr result (self.new ≡ self.old) }
         ensures no_seat { result ≡ Err ask_fault.NoSeat → ⊥ }
     {
@@ -153,7 +153,7 @@ impl<'a, L: Ledger> Session<'a, L> {
         let Ok(asked) = command.copy(self.alloc) else {
             return Err(AskFault::OutOfMemory);
         };
-        let reply = self
+        let (actor, reply) = self
             .shared
             .locked
             .hold(rt)
@@ -161,7 +161,7 @@ impl<'a, L: Ledger> Session<'a, L> {
         gate.pause(rt, Place::AfterStore);
         let _ = self.shared.locked.hold(rt).shade(self.seat);
         let Ok(()) = self.log.push(Exchange {
-            actor: self.actor,
+            actor,
             command,
             reply,
         })
@@ -214,8 +214,9 @@ impl<'a, L: Ledger> Session<'a, L> {
     ghost use Rattle.tg_share.specs.Sessions.{HasAsked};
 
     /// Submits the command by the event ask, pauses, and shades what it left as the seat's target by the event shade.
-    /// The reply is that of the last exchange of the log. After a fault the log is as before, nothing is entered and
-    /// the command is dropped; if there is no memory for the log or for a copy of the command, there is no event.
+    /// The reply is that of the last exchange of the log, whose actor is the entry's: the one for whom the seat acts, or
+    /// else its principal. After a fault the log is as before, nothing is entered and the command is dropped; if there
+    /// is no memory for the log or for a copy of the command, there is no event.
     pub fn submit<R: Wait + Clock, G: Gate>(
         &mut self,
         rt: &R,

@@ -1,10 +1,11 @@
 use Rattle.std.proofs.Common.{◌≡◌, List, Some, length, refl, slice_get, subst, sym, take}
+use Rattle.std.proofs.lemmas.List.{take_all}
 use Rattle.std.proofs.lemmas.Option.{MatchOption-at_none, MatchOption-at_some, slice_get_read}
 use Rattle.tg_graph.specs.declared.derivation.Step.{Step}
 use Rattle.tg_graph.specs.Derivations.{CarriesOut, Derives}
 use Rattle.tg_audit.specs.Stops.{StopsBy}
 use Rattle.tg_audit.specs.Verdicts.{IsVerdict}
-use Rattle.tg_audit.proofs.VerdictLemmas.{can_share, derives_next, end_verdict, stop_verdict, take_all}
+use Rattle.tg_audit.proofs.VerdictLemmas.{can_share, derives_next, end_verdict, stop_verdict}
 use Rattle.tg_audit.proofs.derivations.check.Goals as goal
 
 pub returns-in-Some-clause-verdict : goal.returns-in-Some-clause-verdict
@@ -29,7 +30,7 @@ loop-index-preserved c =
 pub returns-clause-verdict : goal.returns-clause-verdict
 returns-clause-verdict c =
     let steps = c.args.steps.now in
-    let all : take c.loop-index.index steps ≡ steps = take_all {X = Step} steps c.loop-index.index c.loop-index-test.false in
+    let all : take c.loop-index.index steps ≡ steps = take_all c.loop-index.index steps c.loop-index-test.false in
     let derived : Derives c.args.graph steps c.loop-index.graph = (let D : List Step → Type 0 = λ ss. Derives c.args.graph ss c.loop-index.graph in subst D all c.loop-index.invariant) in
     end_verdict c.args.graph steps c.args.goal c.loop-index.graph c.weigh.result derived c.weigh.ensures
 

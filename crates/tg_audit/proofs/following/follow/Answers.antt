@@ -12,7 +12,7 @@ loop-number-init c =
     let G = c.in_ok-graph.graph in
     record {
       followed = followed_fresh v c.args.logs.now;
-      replayed = replayed_none v G (c.in_ok-graph.ensures.equal ∙ c.opening.ensures) c.soundness.ensures.vault.legal;
+      replayed = replayed_none v G (c.in_ok-graph.ensures.equal ∙ c.opening.ensures) c.soundness.ensures.coherent.ties.opened c.soundness.ensures.vault.legal;
     }
 
 pub reply_to-requires-clause-asks : goal.reply_to-requires-clause-asks

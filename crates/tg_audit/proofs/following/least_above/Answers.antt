@@ -1,9 +1,9 @@
 use Rattle.std.proofs.Common.{◌≡◌, ◌∙◌, ◌+◌, ◌++◌, [], ◌∷◌, suc, ap, sym, arith, length, refl, slice_get, Some, subst, take}
+use Rattle.std.proofs.lemmas.List.{take_all}
 use Rattle.std.proofs.lemmas.Option.{slice_get_read}
 use Rattle.tg_audit.specs.declared.logs.SeatLog.{SeatLog}
 use Rattle.tg_audit.specs.Following.{IsLeastAbove}
 use Rattle.tg_audit.proofs.AboveLemmas.{take_next}
-use Rattle.tg_audit.proofs.VerdictLemmas.{take_all}
 use Rattle.tg_audit.proofs.following.least_above.Goals as goal
 
 pub loop-log-preserved : goal.loop-log-preserved
@@ -17,4 +17,4 @@ loop-log-preserved c =
     subst (λ ls. IsLeastAbove ls c.least_with-least.result) more (c.least_with-least.ensures (take n logs) c.loop-log.invariant)
 
 pub returns : goal.returns
-returns c = subst (λ ls. IsLeastAbove ls c.loop-log.least) (take_all {X = SeatLog} c.args.logs.now c.loop-log.log-index c.loop-log-test.false) c.loop-log.invariant
+returns c = subst (λ ls. IsLeastAbove ls c.loop-log.least) (take_all c.loop-log.log-index c.args.logs.now c.loop-log-test.false) c.loop-log.invariant

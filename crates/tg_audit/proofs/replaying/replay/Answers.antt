@@ -1,10 +1,11 @@
 use Rattle.std.proofs.Common.{◌≡◌, ◌++◌, [], ◌∷◌, ◌∙◌, ◌+◌, ap, arith, suc}
+use Rattle.std.proofs.lemmas.List.{take_all}
 use Rattle.tg_audit.specs.Replies.{replies_of}
-use Rattle.tg_audit.proofs.ReplayLemmas.{left_asks, left_permitted, replayed_none, replays, replies_length, take_more, take_past}
+use Rattle.tg_audit.proofs.ReplayLemmas.{left_asks, left_permitted, replayed_none, replays, replies_length, take_more}
 use Rattle.tg_audit.proofs.replaying.replay.Goals as goal
 
 pub loop-number-init : goal.loop-number-init
-loop-number-init c = record { replied = c.new-replies.ensures.items; replayed = replayed_none c.args.vault.now c.in_ok-graph.graph (c.in_ok-graph.ensures.equal ∙ c.opening.ensures) c.soundness.ensures.vault.legal }
+loop-number-init c = record { replied = c.new-replies.ensures.items; replayed = replayed_none c.args.vault.now c.in_ok-graph.graph (c.in_ok-graph.ensures.equal ∙ c.opening.ensures) c.soundness.ensures.coherent.ties.opened c.soundness.ensures.vault.legal }
 
 pub reply_to-requires-clause-asks : goal.reply_to-requires-clause-asks
 reply_to-requires-clause-asks c = left_asks c.args.vault.now c.loop-number.graph c.loop-number.number c.in-Some.entry.now c.loop-number.invariant.replayed.left c.in-Some.ensures.some
@@ -25,4 +26,4 @@ pub returns : goal.returns
 returns c =
     let v = c.args.vault.now in
     let rs = replies_of v.opening v.history in
-    c.loop-number.invariant.replied ∙ take_past rs c.loop-number.number (omega (arith, replies_length v.opening v.history))
+    c.loop-number.invariant.replied ∙ take_all c.loop-number.number rs (omega (arith, replies_length v.opening v.history))

@@ -2,7 +2,8 @@ use Rattle.std.proofs.Common.{◌≡◌, true, false, ap, sym, ◌∙◌}
 use Rattle.std.proofs.lemmas.Result.{IfOk-weaker}
 use Rattle.tg_graph.specs.Protection.{has_retired}
 use Rattle.tg_graph.specs.Rules.{Applies, next_graph, reply_of}
-use Rattle.tg_audit.proofs.ReplayLemmas.{asks_as_subject, graph_permitted, graph_retired, reply_permitted, reply_retired}
+use Rattle.tg_audit.specs.Replies.{retired_reply}
+use Rattle.tg_audit.proofs.ReplayLemmas.{graph_permitted, reply_permitted, retired_settled, unretired_subject}
 use Rattle.tg_audit.proofs.replaying.reply_to.Goals as goal
 
 pub returns-then-retired-clause-reply : goal.returns-then-retired-clause-reply
@@ -10,20 +11,20 @@ returns-then-retired-clause-reply c =
     let G = c.args.graph.now in
     let e = c.args.entry.now in
     let retired : has_retired G e.actor ≡ true = ap (has_retired G) (sym c.actor-actor.ensures) ∙ (sym c.retired.ensures ∙ c.if-retired.true) in
-    rw (c.rule.ensures, c.command-asked.ensures) (reply_retired c.requires.permitted.0 G e.actor e.command e.outcome c.requires.permitted.1 retired)
+    c.retired_reply.ensures ∙ (λ i. retired_reply (c.actor-actor.ensures i) (c.command-asked.ensures i)) ∙ (retired_settled c.requires.permitted.0 G e.actor retired e.command e.outcome c.requires.permitted.1).0
 
 pub returns-then-retired-clause-graph : goal.returns-then-retired-clause-graph
 returns-then-retired-clause-graph c =
     let G = c.args.graph.now in
     let e = c.args.entry.now in
     let retired : has_retired G e.actor ≡ true = ap (has_retired G) (sym c.actor-actor.ensures) ∙ (sym c.retired.ensures ∙ c.if-retired.true) in
-    graph_retired c.requires.permitted.0 G e.actor e.command e.outcome c.requires.permitted.1 retired
+    (retired_settled c.requires.permitted.0 G e.actor retired e.command e.outcome c.requires.permitted.1).1
 
 pub apply-requires : goal.apply-requires
 apply-requires c =
     let G = c.args.graph.now in
     let unretired : has_retired G c.actor-actor.result ≡ false = sym c.retired.ensures ∙ c.if-retired.false in
-    asks_as_subject G c.actor-actor.result c.soundness.ensures (rw c.actor-actor.ensures c.requires.asks) unretired
+    unretired_subject G c.actor-actor.result (rw c.actor-actor.ensures c.requires.asks) unretired
 
 pub returns-in_ok-command-in-None-clause-reply : goal.returns-in_ok-command-in-None-clause-reply
 returns-in_ok-command-in-None-clause-reply c =

@@ -1,21 +1,12 @@
-use Rattle.std.proofs.Common.{rules, subst, MatchResult}
+use Rattle.std.proofs.Common.{rules, MatchResult}
 use Rattle.tg_vault.specs.declared.event.Event.TheVariants as event
 use Rattle.tg_vault.specs.declared.event.Answer.TheVariants as answer
-use Rattle.tg_vault.specs.Contents.{Contents}
 use Rattle.tg_vault.specs.Course.{VaultStep}
-use Rattle.tg_vault.specs.StoreSteps.{SessionStep}
-use Rattle.tg_vault.proofs.CollectLemmas.{still_acts}
 use Rattle.tg_share.proofs.ReachedLemmas.{reached_by}
 use Rattle.tg_share.proofs.running.Running.bye.Goals as goal
 
 pub invariant_of-self : goal.invariant_of-self
 invariant_of-self c =
-    let acts : SessionStep c.self.inside.vault c.bye-answer.new.self = still_acts c.self.inside.vault c.bye-answer.new.self c.bye-answer.ensures.store in
     let step : MatchResult c.bye-answer.result (λ _. VaultStep c.self.inside.vault (event.Bye c.args.seat) answer.Bye c.bye-answer.new.self) (λ fault. VaultStep c.self.inside.vault (event.Bye c.args.seat) (answer.Seat fault) c.bye-answer.new.self) =
     search rules in
     reached_by c.bye-answer.result (λ _. answer.Bye) (λ fault. answer.Seat fault) c.self.inside.vault c.bye-answer.new.self (event.Bye c.args.seat) c.self.invariant step
-
-pub returns : goal.returns
-returns c =
-    let acts : SessionStep c.args.self.now c.bye-answer.new.self = subst (λ (v : Contents). SessionStep v c.bye-answer.new.self) c.self.view_is (still_acts c.self.inside.vault c.bye-answer.new.self c.bye-answer.ensures.store) in
-    search rules
