@@ -1,16 +1,20 @@
 //! A session that draws its commands, and remembers the replies.
 
 use crate::board::Board;
-use crate::draws::{Drawn, Draws};
+use crate::draws::{Drawn, Draws, rights_to_act};
 use crate::figures::{micros_since, now};
 use crate::load::Load;
 use std::alloc::{AllocError, Global};
+use std::mem;
 use std::rt::Clock;
 use std::sync::Wait;
 use std::sync::atomic::Ordering;
 use std::sync::ledger::Ledger;
-use tg_rights::{Cause, Reply, Rights, Rule};
+use tg_rights::{Cause, Kind, Reply, Rights, Rule};
 use tg_share::{Open, Session};
+
+/// A session acts for a subject for fewer commands than these, and then leaves it.
+const TURNS: u64 = 8;
 
 /// What a session draws its commands by.
 #[derive(Drop)]
@@ -18,8 +22,14 @@ pub struct Actor {
     pub draws: Draws,
     /// Whether it may retire: the load stays as it is if few do.
     pub is_guest: bool,
-    /// Rights over vertices, which it made or took and will give up.
+    /// Rights over vertices, which whoever acts made or took and will give up.
     pub held: Vec<(u64, Rights)>,
+    /// The same of the principal, while the session acts for a subject.
+    pub kept: Vec<(u64, Rights)>,
+    /// A subject that was made, for which the session acts next.
+    pub subject: Option<u64>,
+    /// For how many more commands the session acts for a subject, the leave among them.
+    pub turns: u64,
     /// How many vertices it made.
     pub made: u64,
     /// The longest time that one command took, in microseconds.
@@ -41,12 +51,41 @@ impl Actor {
             Some(found) => found,
             None => (self.last(), self.draws.rights()),
         };
-        Drawn {
-            rule: Rule::Remove,
-            rights,
-            over,
-            other: 0,
+        Drawn::about(Rule::Remove, rights, over)
+    }
+
+    /// The command by which the session begins or ends to act for a subject, if it is due.
+    fn due(&mut self) -> Option<Drawn> {
+        if let Some(agent) = self.subject {
+            return Some(Drawn::about(Rule::Assume, rights_to_act(), agent));
         }
+        if self.turns == 1 {
+            return Some(Drawn::about(Rule::Leave, Rights::empty(), 0));
+        }
+        self.turns = self.turns.saturating_sub(1);
+        None
+    }
+
+    /// Acts for the subject, which its principal gives up once the session has left it. An agent's own subjects, and
+    /// what it holds, are given up with it.
+    fn begin(&mut self, drawn: &Drawn) -> Result<(), AllocError> {
+        if self.turns == 0 {
+            self.held.push((drawn.over, drawn.rights))?;
+            mem::swap(&mut self.held, &mut self.kept);
+        }
+        self.held.clear();
+        self.subject = None;
+        self.turns = 1 + self.draws.below(TURNS);
+        Ok(())
+    }
+
+    /// Acts for nobody any longer.
+    fn end(&mut self) {
+        if self.turns > 0 {
+            mem::swap(&mut self.held, &mut self.kept);
+        }
+        self.kept.clear();
+        self.turns = 0;
     }
 
     /// The next rule; a look in place of a retire of anyone but the guest.
@@ -59,19 +98,31 @@ impl Actor {
 
     /// The next command, given someone's newest vertex.
     fn draw(&mut self, newest: u64) -> Drawn {
+        if let Some(drawn) = self.due() {
+            return drawn;
+        }
         let rule = self.rule();
+        if rule == Rule::Assume {
+            return Drawn::of_agent();
+        }
         if rule == Rule::Remove || self.held.len() > 2 {
             return self.given_up();
         }
         let over = match rule {
             Rule::Take | Rule::Look => newest,
             Rule::Grant => self.draws.principal(),
-            Rule::Create | Rule::Remove | Rule::Read | Rule::Write | Rule::Enrol | Rule::Retire => {
-                self.last()
-            }
+            Rule::Create
+            | Rule::Remove
+            | Rule::Read
+            | Rule::Write
+            | Rule::Enrol
+            | Rule::Retire
+            | Rule::Assume
+            | Rule::Leave => self.last(),
         };
         Drawn {
             rule,
+            kind: Kind::Document,
             rights: self.draws.rights(),
             over,
             other: self.draws.principal(),
@@ -84,12 +135,21 @@ impl Actor {
             Reply::Created(serial) => {
                 self.made = self.made.wrapping_add(1);
                 board.newest.store(*serial, Ordering::SeqCst);
-                self.held.push((*serial, drawn.rights))?;
-            }
-            Reply::Done => {
-                if drawn.rule == Rule::Take {
-                    self.held.push((drawn.over, drawn.rights))?;
+                if drawn.kind == Kind::Subject {
+                    self.subject = Some(*serial);
+                } else {
+                    self.held.push((*serial, drawn.rights))?;
                 }
+            }
+            Reply::Done => match drawn.rule {
+                Rule::Take => self.held.push((drawn.over, drawn.rights))?,
+                Rule::Assume => self.begin(drawn)?,
+                Rule::Leave => self.end(),
+                _ => {}
+            },
+            Reply::Denied(Rule::Assume, _) => {
+                self.subject = None;
+                self.held.push((drawn.over, drawn.rights))?;
             }
             Reply::Denied(Rule::Remove, Cause::Missing { rights, .. }) => {
                 let left = drawn.rights.minus(*rights);

@@ -45,6 +45,9 @@ fn act<L: Ledger, R: Wait + Clock>(
         draws: Draws { state: seed },
         is_guest: is_guests(seat),
         held: Vec::new(alloc),
+        kept: Vec::new(alloc),
+        subject: None,
+        turns: 0,
         made: 0,
         longest: 0,
     };

@@ -5,7 +5,8 @@ use crate::opening::{GUEST, PRINCIPALS};
 use std::alloc::{AllocError, Global};
 use tg_rights::{Command, Kind, Name, Rights, Rule, Text};
 
-/// One rule in so many is an enrol, and one a retire. It is a multiple of 7, so that the others are drawn alike.
+/// Of so many rules one is an enrol, one a retire, one an assume and one a leave. It is a multiple of 7, so that the
+/// others are drawn alike.
 const RARELY: u64 = 700;
 
 /// Numbers drawn by SplitMix64 from a seed.
@@ -42,39 +43,67 @@ impl Draws {
     }
 
     pub fn rule(&mut self) -> Rule {
-        let drawn = self.below(RARELY);
-        if drawn < 2 {
-            return if drawn == 0 {
-                Rule::Enrol
-            } else {
-                Rule::Retire
-            };
-        }
-        match drawn % 7 {
-            0 => Rule::Take,
-            1 => Rule::Grant,
-            2 => Rule::Create,
-            3 => Rule::Remove,
-            4 => Rule::Read,
-            5 => Rule::Write,
-            _ => Rule::Look,
+        match self.below(RARELY) {
+            0 => Rule::Enrol,
+            1 => Rule::Retire,
+            2 => Rule::Assume,
+            3 => Rule::Leave,
+            drawn => match drawn % 7 {
+                0 => Rule::Take,
+                1 => Rule::Grant,
+                2 => Rule::Create,
+                3 => Rule::Remove,
+                4 => Rule::Read,
+                5 => Rule::Write,
+                _ => Rule::Look,
+            },
         }
     }
+}
+
+/// The rights over a subject with which one may act for it.
+pub fn rights_to_act() -> Rights {
+    Rights::take().union(Rights::grant())
 }
 
 /// A command, but for a write's text.
 #[derive(Drop)]
 pub struct Drawn {
     pub rule: Rule,
+    /// What a create makes.
+    pub kind: Kind,
     pub rights: Rights,
     pub over: u64,
     pub other: u64,
 }
 
 impl Drawn {
+    /// A command of this rule, which names at most these rights and this vertex.
+    pub fn about(rule: Rule, rights: Rights, over: u64) -> Drawn {
+        Drawn {
+            rule,
+            kind: Kind::Document,
+            rights,
+            over,
+            other: 0,
+        }
+    }
+
+    /// The create of a subject for which its maker may act.
+    pub fn of_agent() -> Drawn {
+        Drawn {
+            rule: Rule::Create,
+            kind: Kind::Subject,
+            rights: rights_to_act(),
+            over: 0,
+            other: 0,
+        }
+    }
+
     pub fn command(&self, alloc: Global) -> Result<Command, AllocError> {
         let Drawn {
             rule,
+            kind,
             rights,
             over,
             other,
@@ -82,7 +111,7 @@ impl Drawn {
         Ok(match rule {
             Rule::Take => Command::take(rights, over, other),
             Rule::Grant => Command::grant(rights, over, other),
-            Rule::Create => Command::create(Kind::Document, rights),
+            Rule::Create => Command::create(kind, rights),
             Rule::Remove => Command::remove(rights, over),
             Rule::Read => Command::read(over),
             Rule::Write => {
@@ -99,6 +128,8 @@ impl Drawn {
                 Err(_) => Command::look(over),
             },
             Rule::Retire => Command::retire(),
+            Rule::Assume => Command::assume(over),
+            Rule::Leave => Command::leave(),
         })
     }
 }

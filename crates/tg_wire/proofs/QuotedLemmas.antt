@@ -44,6 +44,7 @@ plain_key : (key : Key) (rest : List ℕ) → prefix_len is_plain (key_text key 
 plain_key key.Op rest = refl
 plain_key key.Seat rest = refl
 plain_key key.Actor rest = refl
+plain_key key.Agent rest = refl
 plain_key key.Over rest = refl
 plain_key key.From rest = refl
 plain_key key.To rest = refl

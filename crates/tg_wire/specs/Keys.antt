@@ -9,6 +9,7 @@ abbrev pub key_text : Key → List ℕ
 key_text key.Op = codes "op"
 key_text key.Seat = codes "seat"
 key_text key.Actor = codes "actor"
+key_text key.Agent = codes "agent"
 key_text key.Over = codes "over"
 key_text key.From = codes "from"
 key_text key.To = codes "to"

@@ -11,6 +11,7 @@ pub(crate) enum Key {
     Op,
     Seat,
     Actor,
+    Agent,
     Over,
     From,
     To,
@@ -35,6 +36,7 @@ impl Key {
             Key::Op => "op",
             Key::Seat => "seat",
             Key::Actor => "actor",
+            Key::Agent => "agent",
             Key::Over => "over",
             Key::From => "from",
             Key::To => "to",
@@ -80,6 +82,8 @@ impl Key {
             Some(Key::Actor)
         } else if Key::Name.is_before_quote(bytes) {
             Some(Key::Name)
+        } else if Key::Agent.is_before_quote(bytes) {
+            Some(Key::Agent)
         } else if Key::Principals.is_before_quote(bytes) {
             Some(Key::Principals)
         } else if Key::Edges.is_before_quote(bytes) {

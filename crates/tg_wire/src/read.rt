@@ -174,6 +174,8 @@ fn command(alloc: Global, rule: Rule, object: &LineObject<'_>) -> Result<Command
         }
         Rule::Enrol => enrol(alloc, object),
         Rule::Retire => Ok(Command::Retire),
+        Rule::Assume => assume(object),
+        Rule::Leave => Ok(Command::Leave),
     }
 }
 
@@ -183,4 +185,11 @@ fn enrol(alloc: Global, object: &LineObject<'_>) -> Result<Command, WireFault>
     let rights = field::rights(object).ok_or(WireFault::BadField)?;
     let name = field::name(alloc, object)?;
     Ok(Command::Enrol { name, rights })
+}
+
+fn assume(object: &LineObject<'_>) -> Result<Command, WireFault>
+    ensures { AnswersField result ((command_form Rule.Assume).value (data_of object.now)) }
+{
+    let agent = field::number(object, Key::Agent).ok_or(WireFault::BadField)?;
+    Ok(Command::Assume { agent })
 }

@@ -136,7 +136,6 @@ fn step_line(room: &mut LineRoom, step: u64, verdict: &str) -> Result<Vec<u8>, A
 fn denied_line(room: &mut LineRoom, rule: Rule, cause: Cause) -> Result<Vec<u8>, AllocError>
     ensures { IfOk result (λ line. line.items ≡ line_text (denied_data rule cause)) }
 {
-    let denied = Told::Word(of_command(rule).word);
     match cause {
         Cause::Retired => denied_for(room, rule, "retired"),
         Cause::Empty => denied_for(room, rule, "empty"),
@@ -144,20 +143,14 @@ fn denied_line(room: &mut LineRoom, rule: Rule, cause: Cause) -> Result<Vec<u8>,
         Cause::Missing { from, to, rights } => object_line(
             room,
             &[
-                ("denied", denied),
+                ("denied", Told::Word(of_command(rule).word)),
                 ("from", Told::Number(from)),
                 ("missing", Told::Letters(rights)),
                 ("to", Told::Number(to)),
             ],
         ),
-        Cause::NotDocument { vertex } => object_line(
-            room,
-            &[
-                ("cause", Told::Word("not document")),
-                ("denied", denied),
-                ("vertex", Told::Number(vertex)),
-            ],
-        ),
+        Cause::NotDocument { vertex } => denied_at(room, rule, "not document", vertex),
+        Cause::NotSubject { vertex } => denied_at(room, rule, "not subject", vertex),
         Cause::NotPrincipal => denied_for(room, rule, "not principal"),
         Cause::NameTaken => denied_for(room, rule, "name taken"),
         Cause::Crowded => denied_for(room, rule, "crowded"),
@@ -177,6 +170,26 @@ fn denied_for(room: &mut LineRoom, rule: Rule, cause: &str) -> Result<Vec<u8>, A
     )
 }
 
+/// The line of a denial for a cause with a word and a vertex.
+fn denied_at(
+    room: &mut LineRoom,
+    rule: Rule,
+    cause: &str,
+    vertex: u64,
+) -> Result<Vec<u8>, AllocError>
+    ensures { IfOk result (λ line. line.items ≡ line_text (object (member (codes "cause") (string cause.now) (member (codes "denied") (string (rule_text rule))
+        (member (codes "vertex") (number (unsigned vertex)) no_members))))) }
+{
+    object_line(
+        room,
+        &[
+            ("cause", Told::Word(cause)),
+            ("denied", Told::Word(of_command(rule).word)),
+            ("vertex", Told::Number(vertex)),
+        ],
+    )
+}
+
 fn denied_step_line(
     room: &mut LineRoom,
     step: u64,
@@ -185,8 +198,6 @@ fn denied_step_line(
 ) -> Result<Vec<u8>, AllocError>
     ensures { IfOk result (λ line. line.items ≡ line_text (denied_step_data step rule cause)) }
 {
-    let denied = Told::Word(of_command(rule).word);
-    let verdict = Told::Word("step denied");
     match cause {
         Cause::Retired => denied_step_for(room, step, rule, "retired"),
         Cause::Empty => denied_step_for(room, step, rule, "empty"),
@@ -194,24 +205,16 @@ fn denied_step_line(
         Cause::Missing { from, to, rights } => object_line(
             room,
             &[
-                ("denied", denied),
+                ("denied", Told::Word(of_command(rule).word)),
                 ("from", Told::Number(from)),
                 ("missing", Told::Letters(rights)),
                 ("step", Told::Number(step)),
                 ("to", Told::Number(to)),
-                ("verdict", verdict),
+                ("verdict", Told::Word("step denied")),
             ],
         ),
-        Cause::NotDocument { vertex } => object_line(
-            room,
-            &[
-                ("cause", Told::Word("not document")),
-                ("denied", denied),
-                ("step", Told::Number(step)),
-                ("verdict", verdict),
-                ("vertex", Told::Number(vertex)),
-            ],
-        ),
+        Cause::NotDocument { vertex } => denied_step_at(room, step, rule, "not document", vertex),
+        Cause::NotSubject { vertex } => denied_step_at(room, step, rule, "not subject", vertex),
         Cause::NotPrincipal => denied_step_for(room, step, rule, "not principal"),
         Cause::NameTaken => denied_step_for(room, step, rule, "name taken"),
         Cause::Crowded => denied_step_for(room, step, rule, "crowded"),
@@ -235,6 +238,29 @@ fn denied_step_for(
             ("denied", Told::Word(of_command(rule).word)),
             ("step", Told::Number(step)),
             ("verdict", Told::Word("step denied")),
+        ],
+    )
+}
+
+/// The line of a step that is denied for a cause with a word and a vertex.
+fn denied_step_at(
+    room: &mut LineRoom,
+    step: u64,
+    rule: Rule,
+    cause: &str,
+    vertex: u64,
+) -> Result<Vec<u8>, AllocError>
+    ensures { IfOk result (λ line. line.items ≡ line_text (object (member (codes "cause") (string cause.now) (member (codes "denied") (string (rule_text rule))
+        (member (codes "step") (number (unsigned step)) (member (codes "verdict") (string (codes "step denied")) (member (codes "vertex") (number (unsigned vertex)) no_members))))))) }
+{
+    object_line(
+        room,
+        &[
+            ("cause", Told::Word(cause)),
+            ("denied", Told::Word(of_command(rule).word)),
+            ("step", Told::Number(step)),
+            ("verdict", Told::Word("step denied")),
+            ("vertex", Told::Number(vertex)),
         ],
     )
 }
