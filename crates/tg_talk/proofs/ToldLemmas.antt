@@ -72,13 +72,13 @@ told_fault actor seat line command f bytes has_seat read (_, inl (told, _)) = no
 told_fault actor seat line command f bytes has_seat read (_, inr (told, _)) = no_memory refl refl told
 
 pub heard_ask : (s new : Sitting) (line : List ℕ) (d : Heard) (seat : ℕ) (command : Command) → line_of line ≡ Ok (Act (event.Ask seat command)) → Asks s command d new → Hears s line d new
-heard_ask s new line (heard.Answer t) seat command read (inl (reply, grown, told)) =
-    rw grown (record { log = record { actor = s.actor; command = command; reply = reply } ∷ []; grown = refl; says = exchanged s.actor seat command reply refl read refl refl told })
+heard_ask s new line (heard.Answer t) seat command read (inl (actor, reply, grown, told)) =
+    rw grown (record { log = record { actor = actor; command = command; reply = reply } ∷ []; grown = refl; says = exchanged s.actor actor seat command reply refl read refl refl told })
 heard_ask s new line (heard.Answer t) seat command read (inr (f, has_seat, same, tells)) = rw same (heard_quiet s line t (told_fault s.actor seat line command f (text_of t) has_seat read tells))
 heard_ask s new line (heard.Bye t) seat command read h = absurd h
-heard_ask s new line heard.Nothing seat command read (reply, grown) =
+heard_ask s new line heard.Nothing seat command read (actor, reply, grown) =
     rw grown (record {
-      log = record { actor = s.actor; command = command; reply = reply } ∷ [];
+      log = record { actor = actor; command = command; reply = reply } ∷ [];
       grown = refl;
-      says = record { actor = s.actor; seat = seat; command = command; reply = reply; sits_there = refl; read = read; stays = refl; entered = refl };
+      says = record { principal = s.actor; actor = actor; seat = seat; command = command; reply = reply; sits_there = refl; read = read; stays = refl; entered = refl };
     })

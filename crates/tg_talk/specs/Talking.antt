@@ -47,12 +47,12 @@ abbrev pub Seats : Option Sitting → List ℕ → ℕ → Type 0
 Seats None text seat = (f : SeatFault) × Tells (answer.Seat f) text
 Seats (Some s) text seat = (s.seat ≡ seat) × (s.log ≡ []) × Tells (answer.Hello s.actor) text
 
--- a command was submitted: the answer, and the session then
+-- a command was submitted for some actor: the answer, and the session then
 abbrev pub Asks : Sitting → Command → Heard → Sitting → Type 0
 Asks old command (heard.Answer t) new =
-    ((reply : Reply) × (new ≡ with_exchange old command reply) × (text_of t ≡ reply_line reply)) ⊎ ((f : AskFault) × (f ≢ ask_fault.NoSeat) × (new ≡ old) × Tells (answer.Ask f) (text_of t))
+    ((actor : ℕ) × (reply : Reply) × (new ≡ with_exchange old actor command reply) × (text_of t ≡ reply_line reply)) ⊎ ((f : AskFault) × (f ≢ ask_fault.NoSeat) × (new ≡ old) × Tells (answer.Ask f) (text_of t))
 Asks old command (heard.Bye t) new = ⊥
-Asks old command heard.Nothing new = (reply : Reply) × (new ≡ with_exchange old command reply)
+Asks old command heard.Nothing new = (actor : ℕ) × (reply : Reply) × (new ≡ with_exchange old actor command reply)
 
 -- the answer to a line, if these exchanges were entered for it
 abbrev pub Says : Heard → Option ℕ → List ℕ → Option ℕ → List Exchange → Type 0

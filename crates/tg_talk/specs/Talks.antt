@@ -37,8 +37,8 @@ is_for_no_session Cycle = true
 is_for_no_session _ = false
 
 -- A line is answered by a text, and the talk goes on. `sits` is the principal, once a hello has succeeded, `then` the
--- one after the line; `log` is the exchange that was entered for the line, if one was. A seat that a line names is not
--- used.
+-- one after the line; `log` is the exchange that was entered for the line, if one was, and names its own actor: the
+-- principal, or one for whom the seat acts. A seat that a line names is not used.
 pub data LineTold (sits : Option ℕ) (line : List ℕ) (then : Option ℕ) (log : List Exchange) (text : List ℕ) : Type 0 where
   refused : (f : WireFault) → line_of line ≡ Err f → then ≡ sits → log ≡ [] → text ≡ fault_line f → LineTold sits line then log text
   -- before a hello has succeeded
@@ -48,7 +48,7 @@ pub data LineTold (sits : Option ℕ) (line : List ℕ) (then : Option ℕ) (log
   -- after it
   bound : (actor seat : ℕ) (name : List ℕ) → sits ≡ Some actor → line_of line ≡ Ok (Act (event.Hello seat name)) → then ≡ sits → log ≡ [] → text ≡ answer_line (answer.Seat seat_fault.Bound) → LineTold sits line then log text
   not_for_a_session : (actor : ℕ) (asked : Line) → sits ≡ Some actor → line_of line ≡ Ok asked → is_for_no_session asked ≡ true → then ≡ sits → log ≡ [] → text ≡ not_for_a_session_line → LineTold sits line then log text
-  exchanged : (actor seat : ℕ) (command : Command) (reply : Reply) → sits ≡ Some actor → line_of line ≡ Ok (Act (event.Ask seat command)) → then ≡ sits
+  exchanged : (principal actor seat : ℕ) (command : Command) (reply : Reply) → sits ≡ Some principal → line_of line ≡ Ok (Act (event.Ask seat command)) → then ≡ sits
       → log ≡ record { actor = actor; command = command; reply = reply } ∷ [] → text ≡ reply_line reply → LineTold sits line then log text
   not_entered : (actor seat : ℕ) (command : Command) (f : AskFault) → f ≢ ask_fault.NoSeat → sits ≡ Some actor → line_of line ≡ Ok (Act (event.Ask seat command)) → then ≡ sits → log ≡ []
       → text ≡ answer_line (answer.Ask f) → LineTold sits line then log text
@@ -69,11 +69,12 @@ pub record ByeTold (sits : Option ℕ) (line : List ℕ) (then : Option ℕ) (lo
 
 -- the line's command was entered, and there was no memory for the line of its reply, which is left out
 pub record Untold (sits : Option ℕ) (line : List ℕ) (then : Option ℕ) (log : List Exchange) : Type 0 where
+  pub principal : ℕ
   pub actor : ℕ
   pub seat : ℕ
   pub command : Command
   pub reply : Reply
-  pub sits_there : sits ≡ Some actor
+  pub sits_there : sits ≡ Some principal
   pub read : line_of line ≡ Ok (Act (event.Ask seat command))
   pub stays : then ≡ sits
   pub entered : log ≡ record { actor = actor; command = command; reply = reply } ∷ []
