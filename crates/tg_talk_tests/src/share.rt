@@ -2,6 +2,7 @@
 //! be, and the results of cases that were worked by hand.
 ghost use Rattle.tg_talk_tests.specs.Fresh.{IsFresh};
 
+mod agents;
 mod growths;
 mod holds;
 mod races;

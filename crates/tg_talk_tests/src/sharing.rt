@@ -36,11 +36,11 @@ const TURNS: u32 = 1_000_000;
 pub struct Board {
     /// What comes before a session's command has been done.
     pub is_prepared: AtomicBool,
-    /// A session is held with its command entered.
+    /// Somebody is held at a pause, a session with its command entered.
     pub is_held: AtomicBool,
-    /// The session that is held may go on, as far as the other one is concerned.
+    /// The one that is held may go on, as far as the other one is concerned.
     pub is_released: AtomicBool,
-    /// How many times the collector has paused.
+    /// How many times the one whose pauses are counted has paused.
     pub pauses: AtomicU64,
     /// The turns of some wait were used up.
     pub is_late: AtomicBool,
@@ -95,6 +95,24 @@ impl Gate for Holds<'_> {
             board.is_released.load(Ordering::SeqCst)
                 && board.pauses.load(Ordering::SeqCst) >= pauses
         });
+    }
+}
+
+/// Counts the pauses, and holds the one who comes to this pause until the other one releases it.
+#[derive(Drop)]
+pub struct HoldsAt<'a> {
+    pub board: &'a Board,
+    /// How many pauses come before.
+    pub pause: u64,
+}
+
+impl Gate for HoldsAt<'_> {
+    fn pause<R: Wait + Clock>(&self, rt: &R, _place: Place) {
+        if self.board.pauses.fetch_add(1, Ordering::SeqCst) == self.pause {
+            self.board.is_held.store(true, Ordering::SeqCst);
+            self.board
+                .wait(rt, |board| board.is_released.load(Ordering::SeqCst));
+        }
     }
 }
 

@@ -1,15 +1,11 @@
 //! What no clause says: that calls which need memory succeed, and the results of cases that were worked by hand.
-use crate::cases::{
-    Ask, Asked, Edge, ONE_MORE, Opening, TO_CAROL, TWO, Want, command, is_reply, rights_of, rule_of,
-};
+use crate::cases::{Ask, Edge, Opening, TO_CAROL, TWO, command, rights_of};
 use crate::graph;
-use crate::vault::{ALICE, BOB, Case, Line, played};
 use std::alloc::{AllocError, Global};
 use std::process::Abort;
-use tg_audit::{Exchange, SeatLog, Settled, check, replay, settle};
+use tg_audit::check;
 use tg_graph::{Goal, Step, Verdict};
-use tg_rights::{Cause, Reply, Rule, Which};
-use tg_vault::Vault;
+use tg_rights::{Cause, Rule};
 
 /// The verdict on a derivation.
 #[derive(Clone, Copy)]
@@ -146,6 +142,25 @@ const DERIVATIONS: &[Derivation] = &[
         goal: (1, "", 1),
         finding: Finding::NotPrincipal(1, Rule::Retire),
     },
+    // an assume changes nothing, and each step names its own actor; whoever has retired may leave
+    Derivation {
+        opening: TO_CAROL,
+        steps: &[
+            (1, Ask::Subject("tg")),
+            (1, Ask::Assume(4)),
+            (1, Ask::Take("r", 3, 2)),
+            (1, Ask::Retire),
+            (1, Ask::Leave),
+        ],
+        goal: (1, "r", 3),
+        finding: Finding::Shared,
+    },
+    Derivation {
+        opening: TO_CAROL,
+        steps: &[(1, Ask::Leave), (1, Ask::Assume(2))],
+        goal: (1, "t", 2),
+        finding: Finding::Lacks(1, Rule::Assume, 1, 2, "g"),
+    },
 ];
 
 /// The verdict for this finding.
@@ -228,286 +243,4 @@ fn each_derivation_has_the_verdict_worked_out(rt: HostRuntime) -> Result<(), All
         assert!(rt; is_found(&rt, rt.alloc(), derivation)?);
     }
     Ok(())
-}
-
-/// What alice asks for at seat 0, and the replies: in a vault of three slots a document is made and dropped, another
-/// one is refused, and after two cycles it is made.
-pub const ENTRIES: &[Asked] = &[
-    (Ask::Document("r"), Want::Created(3)),
-    (Ask::Remove("r", 3), Want::Done),
-    (Ask::Document("r"), Want::Full(Which::Slots)),
-    (Ask::Document("r"), Want::Created(4)),
-];
-
-/// The same with another serial at the end.
-const INVENTED: &[Asked] = &[
-    (Ask::Document("r"), Want::Created(3)),
-    (Ask::Remove("r", 3), Want::Done),
-    (Ask::Document("r"), Want::Full(Which::Slots)),
-    (Ask::Document("r"), Want::Created(5)),
-];
-
-const FIRST_TWO: &[Asked] = &[
-    (Ask::Document("r"), Want::Created(3)),
-    (Ask::Remove("r", 3), Want::Done),
-];
-
-const LAST_TWO: &[Asked] = &[
-    (Ask::Document("r"), Want::Full(Which::Slots)),
-    (Ask::Document("r"), Want::Created(4)),
-];
-
-const ONE: &[Asked] = &[(Ask::Document("r"), Want::Created(4))];
-
-/// Exchanges of a principal at a seat.
-pub type Log = (u64, u64, &'static [Asked]);
-
-/// Logs, and the seat and the index at which they first differ from the history, if they do.
-pub struct Settlement {
-    pub logs: &'static [Log],
-    pub place: Option<(u64, u64)>,
-}
-
-pub const SETTLEMENTS: &[Settlement] = &[
-    Settlement {
-        logs: &[(0, 1, ENTRIES)],
-        place: None,
-    },
-    Settlement {
-        logs: &[(0, 1, INVENTED)],
-        place: Some((0, 3)),
-    },
-    Settlement {
-        logs: &[],
-        place: Some((0, 0)),
-    },
-    // another principal
-    Settlement {
-        logs: &[(0, 2, ENTRIES)],
-        place: Some((0, 0)),
-    },
-    // the logs of a seat are joined in the order given
-    Settlement {
-        logs: &[(0, 1, FIRST_TWO), (1, 2, &[]), (0, 1, LAST_TWO)],
-        place: None,
-    },
-    Settlement {
-        logs: &[(0, 1, LAST_TWO), (0, 1, FIRST_TWO)],
-        place: Some((0, 0)),
-    },
-    // one is longer
-    Settlement {
-        logs: &[(0, 1, FIRST_TWO)],
-        place: Some((0, 2)),
-    },
-    Settlement {
-        logs: &[(0, 1, ENTRIES), (0, 1, ONE)],
-        place: Some((0, 4)),
-    },
-    // the least seat is named, whatever the order of the logs
-    Settlement {
-        logs: &[(2, 1, ONE), (1, 1, ONE), (0, 1, ENTRIES)],
-        place: Some((1, 0)),
-    },
-    // no entry is of a seat above 63
-    Settlement {
-        logs: &[(64, 1, &[]), (0, 1, ENTRIES)],
-        place: None,
-    },
-    Settlement {
-        logs: &[(65, 1, ONE), (0, 1, ENTRIES), (64, 1, ONE)],
-        place: Some((64, 0)),
-    },
-];
-
-/// Those entries, with two cycles before the last.
-const HISTORY: Case = Case {
-    opening: ONE_MORE,
-    lines: &[
-        ALICE,
-        BOB,
-        Line::Make(0, "r", 3),
-        Line::Ask(0, Ask::Remove("r", 3), Want::Done),
-        Line::Ask(0, Ask::Document("r"), Want::Full(Which::Slots)),
-        Line::Cycle(0, 12),
-        Line::Cycle(1, 10),
-        Line::Ask(0, Ask::Document("r"), Want::Created(4)),
-    ],
-};
-
-/// The vault of those entries.
-pub fn opened(rt: &impl Abort, alloc: Global) -> Result<Vault, AllocError> {
-    played(rt, alloc, &HISTORY)
-}
-
-/// Whether these are the replies to what was asked.
-pub fn are_replies(found: &[Reply], asked: &[Asked]) -> bool {
-    found.len() == asked.len()
-        && found.iter().zip(asked.iter()).all(|(reply, entry)| is_reply(
-            reply,
-            rule_of(entry.0),
-            entry.1,
-        ))
-}
-
-#[test]
-fn a_history_is_replayed(rt: HostRuntime) -> Result<(), AllocError> {
-    let vault = opened(&rt, rt.alloc())?;
-    let replies = replay(rt.alloc(), &vault)?;
-    assert!(rt; are_replies(&replies, ENTRIES));
-    Ok(())
-}
-
-/// The reply to a command of this rule, which is one of those that hold no memory.
-fn reply(rt: &impl Abort, rule: Rule, want: Want) -> Reply {
-    match want {
-        Want::Done => Reply::Done,
-        Want::Created(serial) => Reply::Created(serial),
-        Want::Full(which) => Reply::Full(which),
-        Want::Retired => Reply::Denied(rule, Cause::Retired),
-        Want::NameTaken => Reply::Denied(rule, Cause::NameTaken),
-        _ => panic!(rt; "a reply of another kind"),
-    }
-}
-
-/// The log of these exchanges.
-fn log_of(rt: &impl Abort, alloc: Global, log: Log) -> Result<SeatLog, AllocError> {
-    let mut exchanges = Vec::new(alloc);
-    for (ask, want) in log.2 {
-        exchanges.push(Exchange {
-            actor: log.1,
-            command: command(alloc, *ask)?,
-            reply: reply(rt, rule_of(*ask), *want),
-        })?;
-    }
-    Ok(SeatLog {
-        seat: log.0,
-        exchanges,
-    })
-}
-
-/// The logs of the settlement.
-pub fn logs_of(
-    rt: &impl Abort,
-    alloc: Global,
-    settlement: &Settlement,
-) -> Result<Vec<SeatLog>, AllocError> {
-    let mut logs = Vec::new(alloc);
-    for log in settlement.logs {
-        logs.push(log_of(rt, alloc, *log)?)?;
-    }
-    Ok(logs)
-}
-
-/// Whether it was settled as worked out, if there was memory.
-pub fn is_settled(settled: &Settled, settlement: &Settlement) -> bool {
-    match settled {
-        Settled::Agreed(_) => settlement.place.is_none(),
-        Settled::Differs {
-            logs,
-            seat,
-            index,
-            ..
-        } => settlement.place == Some((*seat, *index)) && logs.len() == settlement.logs.len(),
-        Settled::NoMemory { .. } => true,
-    }
-}
-
-/// The vault, if there was memory to settle it.
-pub fn vault_of(settled: Settled) -> Result<Vault, AllocError> {
-    match settled {
-        Settled::Agreed(vault) => Ok(vault),
-        Settled::Differs { vault, .. } => Ok(vault),
-        Settled::NoMemory { .. } => Err(AllocError),
-    }
-}
-
-/// The logs are settled with the vault's history as worked out, one after another.
-fn settles(
-    rt: &impl Abort,
-    alloc: Global,
-    opened: Vault,
-    settlements: &[Settlement],
-) -> Result<(), AllocError> {
-    let mut vault = opened;
-    for settlement in settlements {
-        let logs = logs_of(rt, alloc, settlement)?;
-        let settled = settle(alloc, vault, logs);
-        assert!(rt; is_settled(&settled, settlement));
-        vault = vault_of(settled)?;
-    }
-    Ok(())
-}
-
-#[test]
-fn logs_are_settled_as_worked_out(rt: HostRuntime) -> Result<(), AllocError> {
-    let vault = opened(&rt, rt.alloc())?;
-    settles(&rt, rt.alloc(), vault, SETTLEMENTS)
-}
-
-/// Alice enrols carol, who retires and asks on.
-const COME_AND_GO: Case = Case {
-    opening: TWO,
-    lines: &[
-        ALICE,
-        Line::Ask(0, Ask::Enrol("carol", "t"), Want::Created(3)),
-        Line::Hello(1, "carol", Ok(3)),
-        Line::Ask(1, Ask::Enrol("alice", "t"), Want::NameTaken),
-        Line::Ask(1, Ask::Retire, Want::Done),
-        Line::Ask(1, Ask::Write(3, "x"), Want::Retired),
-        Line::Shaded(0, 3),
-        Line::Ask(0, Ask::Enrol("carol", "t"), Want::Created(4)),
-    ],
-};
-
-const ALICES: &[Asked] = &[
-    (Ask::Enrol("carol", "t"), Want::Created(3)),
-    (Ask::Enrol("carol", "t"), Want::Created(4)),
-];
-
-const CAROLS: &[Asked] = &[
-    (Ask::Enrol("alice", "t"), Want::NameTaken),
-    (Ask::Retire, Want::Done),
-    (Ask::Write(3, "x"), Want::Retired),
-];
-
-/// The same with another reply to the last command.
-const WRITTEN: &[Asked] = &[
-    (Ask::Enrol("alice", "t"), Want::NameTaken),
-    (Ask::Retire, Want::Done),
-    (Ask::Write(3, "x"), Want::Done),
-];
-
-/// In the order of the history.
-const COMING_AND_GOING: &[Asked] = &[
-    (Ask::Enrol("carol", "t"), Want::Created(3)),
-    (Ask::Enrol("alice", "t"), Want::NameTaken),
-    (Ask::Retire, Want::Done),
-    (Ask::Write(3, "x"), Want::Retired),
-    (Ask::Enrol("carol", "t"), Want::Created(4)),
-];
-
-const OF_BOTH: &[Settlement] = &[
-    Settlement {
-        logs: &[(1, 3, CAROLS), (0, 1, ALICES)],
-        place: None,
-    },
-    // the second carol is another actor
-    Settlement {
-        logs: &[(0, 1, ALICES), (1, 4, CAROLS)],
-        place: Some((1, 0)),
-    },
-    Settlement {
-        logs: &[(0, 1, ALICES), (1, 3, WRITTEN)],
-        place: Some((1, 2)),
-    },
-];
-
-/// The commands of one who enrols, who is enrolled, and who has retired are replayed and settled like all others.
-#[test]
-fn those_who_come_and_go_are_replayed_and_settled(rt: HostRuntime) -> Result<(), AllocError> {
-    let vault = played(&rt, rt.alloc(), &COME_AND_GO)?;
-    let replies = replay(rt.alloc(), &vault)?;
-    assert!(rt; are_replies(&replies, COMING_AND_GOING));
-    settles(&rt, rt.alloc(), vault, OF_BOTH)
 }

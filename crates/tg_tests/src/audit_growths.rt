@@ -1,8 +1,8 @@
 //! Calls that lack memory and are made again: tests/faults/growths.py makes each allocation of these tests fail in
 //! turn.
-use crate::audit::{
-    Derivation, ENTRIES, Finding, SETTLEMENTS, Settlement, are_replies, goal_of, is_found,
-    is_settled, is_verdict, logs_of, opened, steps_of, vault_of,
+use crate::audit::{Derivation, Finding, goal_of, is_found, is_verdict, steps_of};
+use crate::audit_logs::{
+    ENTRIES, SETTLEMENTS, Settlement, are_replies, is_settled, logs_of, opened, vault_of,
 };
 use crate::cases::{Ask, Opening, TWO};
 use crate::graph;
@@ -57,7 +57,7 @@ fn growth_refused_in_a_replay(rt: HostRuntime) -> Result<(), AllocError> {
         Ok(replies) => replies,
         Err(_) => {
             let _ = rt.println("no memory");
-            assert_eq!(rt; vault.count(), 4);
+            assert!(rt; vault.count() == 4);
             replay(rt.alloc(), &vault)?
         }
     };
@@ -83,7 +83,7 @@ fn settles_again(
     let settled = match settle(alloc, vault, logs) {
         Settled::NoMemory { vault, logs } => {
             let _ = rt.println("no memory");
-            assert_eq!(rt; vault.count(), 4);
+            assert!(rt; vault.count() == 4);
             assert!(rt; are_handed_back(&logs, settlement));
             settle(alloc, vault, logs)
         }

@@ -84,6 +84,9 @@ pub enum Ask {
     /// A principal of this name, and these rights over it.
     Enrol(&'static str, &'static str),
     Retire,
+    /// To act for this subject.
+    Assume(u64),
+    Leave,
 }
 
 /// The reply to a command.
@@ -98,6 +101,7 @@ pub enum Want {
     Empty,
     NotDistinct,
     NotDocument(u64),
+    NotSubject(u64),
     Retired,
     NotPrincipal,
     NameTaken,
@@ -162,6 +166,8 @@ pub fn rule_of(ask: Ask) -> Rule {
         Ask::Look(_) => Rule::Look,
         Ask::Enrol(..) => Rule::Enrol,
         Ask::Retire => Rule::Retire,
+        Ask::Assume(_) => Rule::Assume,
+        Ask::Leave => Rule::Leave,
     }
 }
 
@@ -188,6 +194,8 @@ pub fn command(alloc: Global, ask: Ask) -> Result<Command, AllocError> {
         Ask::Look(at) => Command::look(at),
         Ask::Enrol(letters, rights) => Command::enrol(name(alloc, letters)?, rights_of(rights)),
         Ask::Retire => Command::retire(),
+        Ask::Assume(agent) => Command::assume(agent),
+        Ask::Leave => Command::leave(),
     })
 }
 
@@ -208,6 +216,7 @@ pub fn is_cause(cause: Cause, want: Want) -> bool {
         Want::Empty => cause == Cause::Empty,
         Want::NotDistinct => cause == Cause::NotDistinct,
         Want::NotDocument(vertex) => cause == Cause::NotDocument { vertex },
+        Want::NotSubject(vertex) => cause == Cause::NotSubject { vertex },
         Want::Retired => cause == Cause::Retired,
         Want::NotPrincipal => cause == Cause::NotPrincipal,
         Want::NameTaken => cause == Cause::NameTaken,

@@ -8,6 +8,8 @@
 mod audit;
 #[cfg(test)]
 mod audit_growths;
+#[cfg(test)]
+mod audit_logs;
 pub mod cases;
 #[cfg(test)]
 mod cells;
@@ -25,6 +27,8 @@ mod rights;
 mod slots;
 #[cfg(test)]
 mod vault;
+#[cfg(test)]
+mod vault_agents;
 #[cfg(test)]
 mod vault_cases;
 #[cfg(test)]

@@ -146,7 +146,7 @@ pub fn played(rt: &impl Abort, alloc: Global, case: &Case) -> Result<Vault, Allo
 }
 
 /// The case's lines have the answers that it says.
-fn plays(rt: &impl Abort, alloc: Global, case: &Case) -> Result<(), AllocError> {
+pub fn plays(rt: &impl Abort, alloc: Global, case: &Case) -> Result<(), AllocError> {
     let mut vault = opened(rt, alloc, &case.opening)?;
     lines_are_answered(rt, alloc, &mut vault, case.lines)
 }

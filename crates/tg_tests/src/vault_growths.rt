@@ -1,6 +1,6 @@
 //! Calls that lack memory and are made again: tests/faults/growths.py makes each allocation of these tests fail in
 //! turn.
-use crate::cases::{Ask, Opening, TAKING, TWO, Want, command, config, is_reply, rule_of};
+use crate::cases::{Ask, CROWD, Opening, TAKING, TWO, Want, command, config, is_reply, rule_of};
 use crate::vault::{ALICE, BOB, Case, Line, Step, answers, event, events, opened, played};
 use std::alloc::{AllocError, Global};
 use std::io::Print;
@@ -144,7 +144,8 @@ fn growth_refused_in_commands_on_a_text(rt: HostRuntime) -> Result<(), AllocErro
     plays_again(&rt, rt.alloc(), &ON_A_TEXT)
 }
 
-/// Alice enrols carol, who retires: an enrol needs memory for the copy of its name.
+/// Alice enrols carol, who retires: an enrol needs memory for the copy of its name, a retire for the vault's set of those
+/// who have retired.
 const ENROLLED: Case = Case {
     opening: TWO,
     lines: &[
@@ -162,6 +163,60 @@ const ENROLLED: Case = Case {
 #[test]
 fn growth_refused_in_an_enrol_and_a_retire(rt: HostRuntime) -> Result<(), AllocError> {
     plays_again(&rt, rt.alloc(), &ENROLLED)
+}
+
+/// Whether the principal of this name says hello, retires and says bye; a retire that lacks memory is submitted again.
+fn visits_again(
+    rt: &(impl Abort + Print),
+    alloc: Global,
+    vault: &mut Vault,
+    name: &str,
+) -> Result<bool, AllocError> {
+    let is_seated = vault.hello(0, name).is_ok();
+    let is_gone = asks_again(rt, alloc, vault, 0, Ask::Retire, Want::Done)?;
+    Ok(is_seated && is_gone && vault.bye(0) == Ok(()))
+}
+
+/// As many as there may be retire, one after another.
+fn crowd_retires(rt: &(impl Abort + Print), alloc: Global) -> Result<(), AllocError> {
+    let mut vault = opened(rt, alloc, &CROWD)?;
+    for name in CROWD.names {
+        assert!(rt; visits_again(rt, alloc, &mut vault, name)?);
+    }
+    Ok(())
+}
+
+/// However many have retired, a retire that lacks memory leaves the principal.
+#[test]
+fn growth_refused_in_the_retires_of_a_crowd(rt: HostRuntime) -> Result<(), AllocError> {
+    crowd_retires(&rt, rt.alloc())
+}
+
+/// Alice acts for a subject that she made: neither an assume nor a leave needs memory but for the entry.
+const ACTED: Case = Case {
+    opening: TWO,
+    lines: &[
+        ALICE,
+        Line::Ask(0, Ask::Subject("tg"), Want::Created(3)),
+        Line::Shaded(0, 3),
+        Line::Ask(0, Ask::Assume(3), Want::Done),
+        Line::Shaded(0, 3),
+        Line::Ask(0, Ask::Leave, Want::Done),
+        Line::Ask(0, Ask::Leave, Want::Done),
+        Line::Ask(0, Ask::Assume(3), Want::Done),
+        Line::Shaded(0, 3),
+        Line::Ask(0, Ask::Read(1), Want::Lacks(3, 1, "r")),
+        Line::Make(0, "r", 4),
+        Line::Ask(0, Ask::Read(4), Want::Text("")),
+        Line::Ask(0, Ask::Leave, Want::Done),
+        Line::Ask(0, Ask::Read(4), Want::Lacks(1, 4, "r")),
+    ],
+};
+
+/// An assume that lacks memory leaves the seat to its principal, a leave to its agent.
+#[test]
+fn growth_refused_in_an_assume_and_a_leave(rt: HostRuntime) -> Result<(), AllocError> {
+    plays_again(&rt, rt.alloc(), &ACTED)
 }
 
 /// Bob creates a document.

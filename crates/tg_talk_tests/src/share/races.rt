@@ -1,7 +1,7 @@
 //! A take, while the edge that it went by is removed, in the middle of a marking.
 ghost use Rattle.tg_talk_tests.specs.Fresh.{IsFresh};
 
-use crate::sharing::{Board, Holds, Stage, agreed, are_told, both, opened};
+use crate::sharing::{Board, Holds, HoldsAt, Stage, agreed, are_told, both, opened};
 use std::alloc::{AllocError, Global};
 use std::marker::Brand;
 use std::rt::Clock;
@@ -10,24 +10,9 @@ use std::sync::atomic::Ordering;
 use std::sync::ledger::{Blank, Ledger};
 use std::thread;
 use std::thread::Threads;
-use tg_share::{Ended, Gate, Open, PARTS, Place, Shared, Worked};
+use tg_share::{Ended, Open, PARTS, Shared, Worked};
 use tg_tests::cases::{Ask, Asked, Opening, TAKING_AND_GRANTING, Want};
 use tg_vault::Vault;
-
-/// Counts the collector's pauses, and holds it at the first until it is released.
-#[derive(Drop)]
-struct HoldsFirst<'a> {
-    board: &'a Board,
-}
-
-impl Gate for HoldsFirst<'_> {
-    fn pause<R: Wait + Clock>(&self, rt: &R, _place: Place) {
-        if self.board.pauses.fetch_add(1, Ordering::SeqCst) == 0 {
-            self.board
-                .wait(rt, |board| board.is_released.load(Ordering::SeqCst));
-        }
-    }
-}
 
 const MADE: &[Asked] = &[
     (Ask::Document("rw"), Want::Created(3)),
@@ -78,7 +63,11 @@ fn remove_meanwhile<L: Ledger, R: Wait + Clock>(
 /// Once alice is held, the collector goes on through the rest of its cycle and further ones.
 fn collect_on<L: Ledger, R: Wait + Clock>(stage: &Stage<'_, L, R>) -> Worked {
     stage.wait(|board| board.is_held.load(Ordering::SeqCst));
-    stage.collect(102, &HoldsFirst { board: stage.board })
+    let gate = HoldsAt {
+        board: stage.board,
+        pause: 0,
+    };
+    stage.collect(102, &gate)
 }
 
 fn take_and_remove<L: Ledger + Send + Sync, R: Threads + Wait + Clock + Sync>(

@@ -1,7 +1,7 @@
 //! Each call that allocates, if an allocation fails: the call says so, and made again it returns what the protocol
 //! says. tests/faults/growths.py makes each allocation of a test fail in turn. A line that is read as a flat list of
 //! members allocates only for a name or a text that its command keeps.
-use crate::wire::{HOSTILE, REFUSED, Reader, fault_in, fault_of};
+use crate::wire::refusals::{HOSTILE, REFUSED, Reader, fault_in, fault_of};
 use std::alloc::Global;
 use tg_graph::Verdict;
 use tg_rights::{Cause, Command, Reply, Rights, Rule};
@@ -127,6 +127,8 @@ const FLAT: &[(&[u8], Option<WireFault>)] = &[
         None,
     ),
     (b"{\"op\":\"retire\",\"seat\":2}", None),
+    (b"{\"agent\":3,\"op\":\"assume\",\"seat\":2}", None),
+    (b"{\"op\":\"leave\"}", None),
     (
         b"{\"name\":\"Carol\",\"op\":\"enrol\",\"rights\":\"t\"}",
         Some(WireFault::BadField),

@@ -1,0 +1,375 @@
+//! What no clause says: that replays and settlements succeed if there is memory, and the results of histories that were
+//! worked by hand.
+use crate::cases::{Ask, Asked, ONE_MORE, TWO, Want, command, is_reply, rule_of};
+use crate::vault::{ALICE, BOB, Case, Line, played};
+use std::alloc::{AllocError, Global};
+use std::process::Abort;
+use tg_audit::{Exchange, SeatLog, Settled, replay, settle};
+use tg_rights::{Cause, Reply, Rule, Which};
+use tg_vault::Vault;
+
+/// What alice asks for at seat 0, and the replies: in a vault of three slots a document is made and dropped, another
+/// one is refused, and after two cycles it is made.
+pub const ENTRIES: &[Asked] = &[
+    (Ask::Document("r"), Want::Created(3)),
+    (Ask::Remove("r", 3), Want::Done),
+    (Ask::Document("r"), Want::Full(Which::Slots)),
+    (Ask::Document("r"), Want::Created(4)),
+];
+
+/// The same with another serial at the end.
+const INVENTED: &[Asked] = &[
+    (Ask::Document("r"), Want::Created(3)),
+    (Ask::Remove("r", 3), Want::Done),
+    (Ask::Document("r"), Want::Full(Which::Slots)),
+    (Ask::Document("r"), Want::Created(5)),
+];
+
+const FIRST_TWO: &[Asked] = &[
+    (Ask::Document("r"), Want::Created(3)),
+    (Ask::Remove("r", 3), Want::Done),
+];
+
+const LAST_TWO: &[Asked] = &[
+    (Ask::Document("r"), Want::Full(Which::Slots)),
+    (Ask::Document("r"), Want::Created(4)),
+];
+
+const ONE: &[Asked] = &[(Ask::Document("r"), Want::Created(4))];
+
+/// Exchanges of an actor at a seat.
+pub type Log = (u64, u64, &'static [Asked]);
+
+/// Logs, and the seat and the index at which they first differ from the history, if they do.
+pub struct Settlement {
+    pub logs: &'static [Log],
+    pub place: Option<(u64, u64)>,
+}
+
+pub const SETTLEMENTS: &[Settlement] = &[
+    Settlement {
+        logs: &[(0, 1, ENTRIES)],
+        place: None,
+    },
+    Settlement {
+        logs: &[(0, 1, INVENTED)],
+        place: Some((0, 3)),
+    },
+    Settlement {
+        logs: &[],
+        place: Some((0, 0)),
+    },
+    // another actor
+    Settlement {
+        logs: &[(0, 2, ENTRIES)],
+        place: Some((0, 0)),
+    },
+    // the logs of a seat are joined in the order given
+    Settlement {
+        logs: &[(0, 1, FIRST_TWO), (1, 2, &[]), (0, 1, LAST_TWO)],
+        place: None,
+    },
+    Settlement {
+        logs: &[(0, 1, LAST_TWO), (0, 1, FIRST_TWO)],
+        place: Some((0, 0)),
+    },
+    // one is longer
+    Settlement {
+        logs: &[(0, 1, FIRST_TWO)],
+        place: Some((0, 2)),
+    },
+    Settlement {
+        logs: &[(0, 1, ENTRIES), (0, 1, ONE)],
+        place: Some((0, 4)),
+    },
+    // the least seat is named, whatever the order of the logs
+    Settlement {
+        logs: &[(2, 1, ONE), (1, 1, ONE), (0, 1, ENTRIES)],
+        place: Some((1, 0)),
+    },
+    // no entry is of a seat above 63
+    Settlement {
+        logs: &[(64, 1, &[]), (0, 1, ENTRIES)],
+        place: None,
+    },
+    Settlement {
+        logs: &[(65, 1, ONE), (0, 1, ENTRIES), (64, 1, ONE)],
+        place: Some((64, 0)),
+    },
+];
+
+/// Those entries, with two cycles before the last.
+const HISTORY: Case = Case {
+    opening: ONE_MORE,
+    lines: &[
+        ALICE,
+        BOB,
+        Line::Make(0, "r", 3),
+        Line::Ask(0, Ask::Remove("r", 3), Want::Done),
+        Line::Ask(0, Ask::Document("r"), Want::Full(Which::Slots)),
+        Line::Cycle(0, 12),
+        Line::Cycle(1, 10),
+        Line::Ask(0, Ask::Document("r"), Want::Created(4)),
+    ],
+};
+
+/// The vault of those entries.
+pub fn opened(rt: &impl Abort, alloc: Global) -> Result<Vault, AllocError> {
+    played(rt, alloc, &HISTORY)
+}
+
+/// Whether these are the replies to what was asked.
+pub fn are_replies(found: &[Reply], asked: &[Asked]) -> bool {
+    found.len() == asked.len()
+        && found.iter().zip(asked.iter()).all(|(reply, entry)| is_reply(
+            reply,
+            rule_of(entry.0),
+            entry.1,
+        ))
+}
+
+/// The reply to a command of this rule, which is one of those that hold no memory.
+fn reply(rt: &impl Abort, rule: Rule, want: Want) -> Reply {
+    match want {
+        Want::Done => Reply::Done,
+        Want::Created(serial) => Reply::Created(serial),
+        Want::Full(which) => Reply::Full(which),
+        Want::Retired => Reply::Denied(rule, Cause::Retired),
+        Want::NotPrincipal => Reply::Denied(rule, Cause::NotPrincipal),
+        Want::NameTaken => Reply::Denied(rule, Cause::NameTaken),
+        _ => panic!(rt; "a reply of another kind"),
+    }
+}
+
+/// The log of these exchanges.
+fn log_of(rt: &impl Abort, alloc: Global, log: Log) -> Result<SeatLog, AllocError> {
+    let mut exchanges = Vec::new(alloc);
+    for (ask, want) in log.2 {
+        exchanges.push(Exchange {
+            actor: log.1,
+            command: command(alloc, *ask)?,
+            reply: reply(rt, rule_of(*ask), *want),
+        })?;
+    }
+    Ok(SeatLog {
+        seat: log.0,
+        exchanges,
+    })
+}
+
+/// The logs of the settlement.
+pub fn logs_of(
+    rt: &impl Abort,
+    alloc: Global,
+    settlement: &Settlement,
+) -> Result<Vec<SeatLog>, AllocError> {
+    let mut logs = Vec::new(alloc);
+    for log in settlement.logs {
+        logs.push(log_of(rt, alloc, *log)?)?;
+    }
+    Ok(logs)
+}
+
+/// Whether it was settled as worked out, if there was memory.
+pub fn is_settled(settled: &Settled, settlement: &Settlement) -> bool {
+    match settled {
+        Settled::Agreed(_) => settlement.place.is_none(),
+        Settled::Differs {
+            logs,
+            seat,
+            index,
+            ..
+        } => settlement.place == Some((*seat, *index)) && logs.len() == settlement.logs.len(),
+        Settled::NoMemory { .. } => true,
+    }
+}
+
+/// The vault, if there was memory to settle it.
+pub fn vault_of(settled: Settled) -> Result<Vault, AllocError> {
+    match settled {
+        Settled::Agreed(vault) => Ok(vault),
+        Settled::Differs { vault, .. } => Ok(vault),
+        Settled::NoMemory { .. } => Err(AllocError),
+    }
+}
+
+/// The logs are settled with the vault's history as worked out, one after another.
+fn settles(
+    rt: &impl Abort,
+    alloc: Global,
+    opened: Vault,
+    settlements: &[Settlement],
+) -> Result<(), AllocError> {
+    let mut vault = opened;
+    for settlement in settlements {
+        let logs = logs_of(rt, alloc, settlement)?;
+        let settled = settle(alloc, vault, logs);
+        assert!(rt; is_settled(&settled, settlement));
+        vault = vault_of(settled)?;
+    }
+    Ok(())
+}
+
+/// Alice enrols carol, who retires and asks on.
+const COME_AND_GO: Case = Case {
+    opening: TWO,
+    lines: &[
+        ALICE,
+        Line::Ask(0, Ask::Enrol("carol", "t"), Want::Created(3)),
+        Line::Hello(1, "carol", Ok(3)),
+        Line::Ask(1, Ask::Enrol("alice", "t"), Want::NameTaken),
+        Line::Ask(1, Ask::Retire, Want::Done),
+        Line::Ask(1, Ask::Write(3, "x"), Want::Retired),
+        Line::Shaded(0, 3),
+        Line::Ask(0, Ask::Enrol("carol", "t"), Want::Created(4)),
+    ],
+};
+
+const ALICES: &[Asked] = &[
+    (Ask::Enrol("carol", "t"), Want::Created(3)),
+    (Ask::Enrol("carol", "t"), Want::Created(4)),
+];
+
+const CAROLS: &[Asked] = &[
+    (Ask::Enrol("alice", "t"), Want::NameTaken),
+    (Ask::Retire, Want::Done),
+    (Ask::Write(3, "x"), Want::Retired),
+];
+
+/// The same with another reply to the last command.
+const WRITTEN: &[Asked] = &[
+    (Ask::Enrol("alice", "t"), Want::NameTaken),
+    (Ask::Retire, Want::Done),
+    (Ask::Write(3, "x"), Want::Done),
+];
+
+/// In the order of the history.
+const COMING_AND_GOING: &[Asked] = &[
+    (Ask::Enrol("carol", "t"), Want::Created(3)),
+    (Ask::Enrol("alice", "t"), Want::NameTaken),
+    (Ask::Retire, Want::Done),
+    (Ask::Write(3, "x"), Want::Retired),
+    (Ask::Enrol("carol", "t"), Want::Created(4)),
+];
+
+const OF_BOTH: &[Settlement] = &[
+    Settlement {
+        logs: &[(1, 3, CAROLS), (0, 1, ALICES)],
+        place: None,
+    },
+    // the second carol is another actor
+    Settlement {
+        logs: &[(0, 1, ALICES), (1, 4, CAROLS)],
+        place: Some((1, 0)),
+    },
+    Settlement {
+        logs: &[(0, 1, ALICES), (1, 3, WRITTEN)],
+        place: Some((1, 2)),
+    },
+];
+
+/// Alice's seat acts for a subject of hers and leaves it, before and after she retires.
+const ACTING: Case = Case {
+    opening: TWO,
+    lines: &[
+        ALICE,
+        Line::Ask(0, Ask::Subject("tg"), Want::Created(3)),
+        Line::Shaded(0, 3),
+        Line::Ask(0, Ask::Assume(3), Want::Done),
+        Line::Shaded(0, 3),
+        Line::Make(0, "r", 4),
+        Line::Ask(0, Ask::Retire, Want::NotPrincipal),
+        Line::Ask(0, Ask::Leave, Want::Done),
+        Line::Ask(0, Ask::Retire, Want::Done),
+        Line::Ask(0, Ask::Leave, Want::Done),
+        Line::Ask(0, Ask::Assume(3), Want::Retired),
+    ],
+};
+
+const BEFORE: &[Asked] = &[
+    (Ask::Subject("tg"), Want::Created(3)),
+    (Ask::Assume(3), Want::Done),
+];
+
+const AS_AGENT: &[Asked] = &[
+    (Ask::Document("r"), Want::Created(4)),
+    (Ask::Retire, Want::NotPrincipal),
+    (Ask::Leave, Want::Done),
+];
+
+const AFTER: &[Asked] = &[
+    (Ask::Retire, Want::Done),
+    (Ask::Leave, Want::Done),
+    (Ask::Assume(3), Want::Retired),
+];
+
+/// In the order of the history.
+const ACTED: &[Asked] = &[
+    (Ask::Subject("tg"), Want::Created(3)),
+    (Ask::Assume(3), Want::Done),
+    (Ask::Document("r"), Want::Created(4)),
+    (Ask::Retire, Want::NotPrincipal),
+    (Ask::Leave, Want::Done),
+    (Ask::Retire, Want::Done),
+    (Ask::Leave, Want::Done),
+    (Ask::Assume(3), Want::Retired),
+];
+
+const OF_AN_AGENT: &[Settlement] = &[
+    Settlement {
+        logs: &[(0, 1, BEFORE), (0, 3, AS_AGENT), (0, 1, AFTER)],
+        place: None,
+    },
+    // the principal is another actor than the agent
+    Settlement {
+        logs: &[(0, 1, ACTED)],
+        place: Some((0, 2)),
+    },
+    Settlement {
+        logs: &[(0, 1, BEFORE), (0, 3, AS_AGENT), (0, 3, AFTER)],
+        place: Some((0, 5)),
+    },
+];
+
+/// The lines of a vault, its entries with their replies, and logs that are settled with them.
+struct History {
+    case: Case,
+    entries: &'static [Asked],
+    settlements: &'static [Settlement],
+}
+
+const HISTORIES: &[History] = &[
+    History {
+        case: HISTORY,
+        entries: ENTRIES,
+        settlements: SETTLEMENTS,
+    },
+    // the commands of one who enrols, who is enrolled, and who has retired, are entries like all others
+    History {
+        case: COME_AND_GO,
+        entries: COMING_AND_GOING,
+        settlements: OF_BOTH,
+    },
+    // the commands of an agent are its own, those before and after it the principal's
+    History {
+        case: ACTING,
+        entries: ACTED,
+        settlements: OF_AN_AGENT,
+    },
+];
+
+/// The history is replayed, and its logs are settled, as worked out.
+fn is_told(rt: &impl Abort, alloc: Global, history: &History) -> Result<(), AllocError> {
+    let vault = played(rt, alloc, &history.case)?;
+    let replies = replay(alloc, &vault)?;
+    assert!(rt; are_replies(&replies, history.entries));
+    settles(rt, alloc, vault, history.settlements)
+}
+
+#[test]
+fn logs_are_settled_as_worked_out(rt: HostRuntime) -> Result<(), AllocError> {
+    for history in HISTORIES {
+        is_told(&rt, rt.alloc(), history)?;
+    }
+    Ok(())
+}
