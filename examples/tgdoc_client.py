@@ -9,6 +9,7 @@
 one thread at a time; it needs only Python's standard library.
 """
 
+import contextlib
 import json
 import select
 import socket
@@ -25,10 +26,10 @@ class Refused(Exception):
 
 class Denied(Refused):
     """The take-grant rules deny the command; `rule` is its name, and `cause` what is wrong: `retired`, `empty`,
-    `not distinct`, `missing`, `not document`, `not principal`, `name taken` or `crowded`.
+    `not distinct`, `missing`, `not document`, `not subject`, `not principal`, `name taken` or `crowded`.
 
-    If rights are missing, the label from `source` to `target` lacks the letters `missing`. If a vertex is not a document, it is
-    `vertex`. What the cause does not have is None.
+    If rights are missing, the label from `source` to `target` lacks the letters `missing`. If a vertex is not a document or not a
+    subject, it is `vertex`. What the cause does not have is None.
     """
 
     def __init__(self, answer):
@@ -42,7 +43,7 @@ class Denied(Refused):
         if self.missing is not None:
             text = "%s denied: %d has no %s over %d" % (self.rule, self.source, self.missing, self.target)
         elif self.vertex is not None:
-            text = "%s denied: %d is no document" % (self.rule, self.vertex)
+            text = "%s denied: %d is no %s" % (self.rule, self.vertex, self.cause.removeprefix("not "))
         super().__init__(answer, text)
 
 
@@ -166,7 +167,7 @@ class Client:
         self.ask(op="grant", rights=rights, over=over, to=to)
 
     def create(self, kind, rights):
-        """Makes a vertex, a `subject` or a `document`, over which the principal has these rights, and returns its
+        """Makes a vertex, a `subject` or a `document`, over which the one who asks has these rights, and returns its
         serial."""
         return self.ask(op="create", kind=kind, rights=rights)["vertex"]
 
@@ -176,12 +177,35 @@ class Client:
         return self.ask(op="enrol", name=name, rights=rights)["vertex"]
 
     def retire(self):
-        """Ends the principal: its name is free for another, and its commands are denied from then on, in every session.
-        The session goes on until `bye`, and its vertex stays as long as some principal reaches it."""
+        """Ends the principal who asks: its name is free for another, and its commands but `leave` are denied from then on,
+        in every session. The session goes on until `bye`, and its vertex stays as long as somebody reaches it."""
         self.ask(op="retire")
 
+    def assume(self, agent):
+        """Acts for a subject over which the one who asks has t and g: the rights of the subject are those that count from
+        then on in this session, until `leave` or `bye`. A subject that is acted for stays, even if nobody reaches it."""
+        self.ask(op="assume", agent=agent)
+
+    def leave(self):
+        """Acts for no subject any longer: the principal's own rights count again. It is never denied."""
+        self.ask(op="leave")
+
+    @contextlib.contextmanager
+    def acting_for(self, agent):
+        """Acts for a subject in a `with` block, and leaves it at the end, unless the connection is broken. One block
+        within another goes on from the first subject's rights, and its end leaves both."""
+        self.assume(agent)
+        try:
+            yield self
+        except OSError:
+            raise
+        except BaseException:
+            self.leave()
+            raise
+        self.leave()
+
     def remove(self, rights, over):
-        """Gives up the principal's own rights over `over`."""
+        """Gives up the rights over `over` of the one who asks."""
         self.ask(op="remove", rights=rights, over=over)
 
     def read(self, over):
