@@ -19,6 +19,7 @@ NO_VALUES = """True None nul 'a' a undefined [1,] [,1] {"a"} {"a":} {a:1} {1:1} 
 LETTERS_OF_RIGHTS = ["rr", "ww", "tt", "gg", "gwg", "rwtgr", "R", "x", "r w", " r", "r\\n", "\\u0072", "\\u0072r", "ŕ", "rwtg", "gtwr", "", "g", "tw", "\\u0000"]
 WORDS = ["Subject", "document ", "object", "documen", "DOCUMENT", "\\u0064ocument", "alice\\u0000", "Alice", "bob", "carol", "hell\\u006f", "look", "LOOK", "bye"]
 WORDS += ["enrol", "Enrol", "enroll", "retire", "retir\\u0065", "retired"]
+WORDS += ["assume", "Assume", "assum\\u0065", "leave", "Leave", "leaves"]
 ESCAPES = ["\\u0061", "\\u00E9", "\\u00e9", "\\uD83D\\uDE00", "\\ud83d\\ude00", "\\ud83d", "\\ude00", "\\ude00\\ud83d", "\\ud83d\\u0061", "\\ud83d\\ud83d\\ude00"]
 ESCAPES += ["\\uD800\\uDC00", "\\uDBFF\\uDFFF", "\\udbff", "\\udfffx", "\\ud83d \\ude00", "\\uffff", "\\u0000", "\\u001F", "\\/", "\\\\", '\\"', "\\b\\f\\n\\r\\t"]
 ESCAPES += ["\\x61", "\\u61", "\\u006", "\\u00g1", "\\U0061", "\\u{61}", "\\a", "\\'", "\\0", "\\", "\\u", "\\u+061", "\\u 061"]
@@ -26,7 +27,7 @@ BROKEN = [b"\x80", b"\xff", b"\xfe\xff", b"\xc0\xaf", b"\xc1\xbf", b"\xe0\x80\xa
 BROKEN += [b"\xc3", b"\xe2\x82", b"\xf0\x9f\x98", b"\xf8\x88\x80\x80\x80", b"\xc3\x28"]
 WHOLE = ["é", "😀", "\u2028", "\ufeff", "\ufffd", "\uffff", "\U0010ffff", "\x7f", "\x80", "\xa0"]
 CONTROLS = [bytes([byte]) for byte in range(32) if byte != 10]
-KEYS = ["x", "Seat", "OP", "op ", "", "\\u0000", "actor", "next", "slots", "edges", "principals", "кey", "over", "from", "to", "at", "seat", "name", "text", "kind"]
+KEYS = ["x", "Seat", "OP", "op ", "", "\\u0000", "actor", "next", "slots", "edges", "principals", "кey", "over", "from", "to", "at", "seat", "name", "text", "kind", "agent"]
 NAMES = ["a", "z" * 32, "z" * 33, "a1", "a b", "a-b", " a", "a\\n", "\\u0061", "a\\u0000", "é", "@", "`", "{", "ALICE"]
 GOOD = {
     "name": ['"alice"', '"bob"', '"carol"'],

@@ -337,6 +337,7 @@ def tests():
     yield "memory-refused-from-then-on", memory_refused(scripts.RUN, True)
     yield "memory-refused-in-a-run-without-errors", memory_refused(scripts.WITHOUT_ERRORS, False)
     yield "memory-refused-among-64-principals", memory_refused(scripts.CROWDED, False)
+    yield "memory-refused-while-acting-for-another", memory_refused(scripts.ACTING, False)
     openings = [([line], b'{"error":"config","fault":%d}' % fault) for line, fault in scripts.REFUSED_OPENINGS]
     yield "memory-refused-at-refused-openings", memory_of_one_answer_refused("run", openings)
     yield "memory-of-audits-refused", memory_of_one_answer_refused("audit", scripts.AUDITS)

@@ -44,8 +44,8 @@ def create(rights, kind=b"document", seat=0):
     return b'{"kind":"%s","op":"create","rights":"%s","seat":%d}' % (kind, rights, seat)
 
 
-def remove(rights, over):
-    return b'{"op":"remove","over":%d,"rights":"%s"}' % (over, rights)
+def remove(rights, over, seat=0):
+    return b'{"op":"remove","over":%d,"rights":"%s","seat":%d}' % (over, rights, seat)
 
 
 def read(over):
@@ -71,6 +71,10 @@ def enrol(name, rights, seat=0):
 def alone(op, seat=0):
     """The line of an op that has no field of its own."""
     return b'{"op":"%s","seat":%d}' % (op, seat)
+
+
+def assume(agent, seat=0):
+    return b'{"agent":%d,"op":"assume","seat":%d}' % (agent, seat)
 
 
 def welcome(vertex):
@@ -107,6 +111,10 @@ def caused(rule, cause):
 
 def no_document(rule, vertex):
     return b'{"cause":"not document","denied":"%s","vertex":%d}' % (rule, vertex)
+
+
+def no_subject(vertex):
+    return b'{"cause":"not subject","denied":"assume","vertex":%d}' % vertex
 
 
 def error(fault):
@@ -266,7 +274,7 @@ TOO_LONG = [(b"x" * 16385, error(b"line too long"))]
 MOST_OF_RUN = SEATS + COLLECTING + COMMANDS + DENIALS + REFUSED_LINES
 
 # Each command, cause, fault and answer, but `{"full":"serials"}`, which the second script has, `crowded`, which the
-# third has, `not principal`, since whoever sits somewhere is a principal or was one, and `too many lines`.
+# third has, what is asked for an agent, which the fourth has, and `too many lines`.
 RUN = Script(OPENING, MOST_OF_RUN + LONG_TEXTS + FREEING + PRINCIPALS + TOO_LONG)
 WITHOUT_ERRORS = Script(
     b'{"next":%d,"principals":["alice"]}' % LAST_SERIAL,
@@ -292,6 +300,48 @@ CROWDED = Script(
         (enrol(MOST[63], b"r"), created(65)),
         (alone(b"shade"), shaded(65)),
         (enrol(b"zoe", b"r"), caused(b"enrol", b"crowded")),
+    ],
+)
+# Alice acts for 3, a subject that she made, and retires at another seat. It works on until she leaves it: then the
+# first cycle frees her vertex, which was not shaded, and the second one those that she had.
+ACTING = Script(
+    b'{"cells":8,"principals":["alice","bob"],"slots":6}',
+    [
+        (assume(2), NO_ACTOR),
+        (alone(b"leave"), NO_ACTOR),
+        (hello(b"alice"), welcome(1)),
+        (alone(b"leave"), DONE),
+        (create(b"tg", b"subject"), created(3)),
+        (assume(3), BUSY),
+        (alone(b"leave"), BUSY),
+        (alone(b"shade"), shaded(3)),
+        (create(b"tg"), created(4)),
+        (alone(b"shade"), shaded(4)),
+        (assume(1), caused(b"assume", b"not distinct")),
+        (assume(2), missing(b"assume", 1, b"tg", 2)),
+        (assume(4), no_subject(4)),
+        (assume(3), DONE),
+        (alone(b"shade"), shaded(3)),
+        (look(1), missing(b"look", 3, b"t", 1)),
+        (alone(b"retire"), caused(b"retire", b"not principal")),
+        (enrol(b"alice", b"r"), caused(b"enrol", b"name taken")),
+        (create(b"rw"), created(5)),
+        (alone(b"shade"), shaded(5)),
+        (write(5, b"hi"), DONE),
+        (read(5), text(b"hi")),
+        (hello(b"alice", 1), welcome(1)),
+        (look(1, 1), edges(b'[3,"tg"],[4,"tg"]')),
+        (alone(b"retire", 1), DONE),
+        (assume(3, 1), caused(b"assume", b"retired")),
+        (alone(b"leave", 1), DONE),
+        (look(3), edges(b'[5,"rw"]')),
+        (alone(b"leave"), DONE),
+        (look(3), caused(b"look", b"retired")),
+        (alone(b"leave"), DONE),
+        (alone(b"cycle"), swept(1, 20)),
+        (alone(b"cycle"), swept(3, 12)),
+        (alone(b"bye"), BYE),
+        (alone(b"bye", 1), BYE),
     ],
 )
 # The same without what is long, for reads and writes of few bytes.
@@ -359,6 +409,8 @@ AUDITS = [
     Audit([DERIVED, goal(1, b"r", 4), b'{"actor":1,"op":"hello"}'], error(b"unknown op")),
     Audit([DERIVED, goal(1, b"r", 4), b'{"actor":1,"name":"dave","op":"enrol","rights":"r"}'], error(b"unknown op")),
     Audit([DERIVED, goal(1, b"r", 4), b'{"actor":1,"op":"retire"}'], error(b"unknown op")),
+    Audit([DERIVED, goal(1, b"r", 4), b'{"actor":2,"agent":1,"op":"assume"}'], error(b"unknown op")),
+    Audit([DERIVED, goal(1, b"r", 4), b'{"actor":1,"op":"leave"}'], error(b"unknown op")),
     Audit([DERIVED, b'{"from":1}'], error(b"missing field")),
     Audit([b'{"principals":[]}', goal(1, b"r", 4)], b'{"error":"config","fault":1}'),
 ]
@@ -385,6 +437,9 @@ TALKS = [
         (remove(b"w", 3), DONE),
         (enrol(b"bob", b"t"), caused(b"enrol", b"name taken")),
         (enrol(b"carol", b"t"), created(4)),
+        (assume(2), DONE),
+        (look(1), missing(b"look", 2, b"t", 1)),
+        (alone(b"leave"), DONE),
         (alone(b"bye"), BYE),
     ],
     [

@@ -1,8 +1,9 @@
 """Audits of what random runs did: the run's own answers say what each verdict has to be.
 
 The seed is printed; SEED names another. Each command that a run carried out is a step of its actor, in the order of the
-run. A derivation has no principals that come and go: an enrol is the create of a subject, and a retire is left out. A
-command that was refused as full for slots or cells is no step either, since a derivation needs neither.
+run. A derivation has no principals that come and go, and no seats that act for others: an enrol is the create of a
+subject, a retire, an assume and a leave are left out, and each step names its actor. A command that was refused as full
+for slots or cells is no step either, since a derivation needs neither.
 """
 
 import itertools
@@ -18,7 +19,7 @@ LAST_SERIAL = 18446744073709551615
 # Those who join while a run goes on, each at a seat of its own.
 JOINING = ["erin", "frank"]
 # Lines that are no steps, and why commands are denied that are no steps then.
-NO_STEPS = ["hello", "bye", "shade", "collect", "cycle", "retire"]
+NO_STEPS = ["hello", "bye", "shade", "collect", "cycle", "retire", "assume", "leave"]
 OF_PRINCIPALS = ["retired", "name taken"]
 
 
@@ -87,6 +88,10 @@ def drawn(source, config):
             rows.append({"op": "hello", "name": name, "seat": joining[name]})
         if source.random() < 0.01:
             rows.append({"op": "retire", "seat": seat})
+        if source.random() < 0.3:
+            rows += [{"op": "assume", "agent": source.choice(serials), "seat": seat}, {"op": "shade", "seat": seat}]
+        if source.random() < 0.1:
+            rows.append({"op": "leave", "seat": seat})
     return rows
 
 
@@ -96,22 +101,35 @@ def step_of(row, actor):
     return {"actor": actor, **fields, **({"op": "create", "kind": "subject"} if row["op"] == "enrol" else {})}
 
 
+def actors_of(rows, answers):
+    """The actor of each line: for whom its seat acts then, or else who sits there."""
+    seated, agents = {}, {}
+    for row, answer in zip(rows, answers):
+        seat = row.get("seat")
+        yield agents.get(seat, seated.get(seat))
+        if answer.get("ok") == "hello":
+            seated[seat] = answer["vertex"]
+        elif row["op"] == "assume" and "ok" in answer:
+            agents[seat] = row["agent"]
+        elif row["op"] in ("leave", "bye") and "ok" in answer:
+            agents.pop(seat, None)
+
+
 def asked(program, source):
     """A configuration, and each command of a random run over it as a step, with its answer."""
     config = opening(source)
     rows = drawn(source, config)
     found, _ = answered(program, "run", [config, *rows])
-    # In the end everybody looks at what they have.
+    # In the end everybody acts for nobody, and looks at what they have.
     seated = {row["seat"]: answer["vertex"] for row, answer in zip(rows, found) if answer.get("ok") == "hello"}
+    rows += [{"op": "leave", "seat": seat} for seat in seated]
     rows += [{"op": "look", "at": actor, "seat": seat} for seat, actor in seated.items()]
     answers, _ = answered(program, "run", [config, *rows])
     assert len(answers) == len(rows) and answers[: len(found)] == found, "not the same answers again"
-    steps, actors = [], {}
-    for row, answer in zip(rows, answers):
-        if answer.get("ok") == "hello":
-            actors[row["seat"]] = answer["vertex"]
-        elif row["op"] not in NO_STEPS and "error" not in answer and answer.get("cause") not in OF_PRINCIPALS:
-            steps.append((step_of(row, actors[row["seat"]]), answer))
+    steps = []
+    for row, answer, actor in zip(rows, answers, actors_of(rows, answers)):
+        if row["op"] not in NO_STEPS and "error" not in answer and answer.get("cause") not in OF_PRINCIPALS:
+            steps.append((step_of(row, actor), answer))
     return config, steps
 
 

@@ -20,8 +20,9 @@ from program.programs import SECONDS
 
 LINES = 20000
 LINES_OF_A_RUN = 500
-# The forms of a run's lines; `retire` is rare, since answers tell less of what a line changed once alice has retired.
-FORMS = [form for form in EVENTS for _ in range(1 if form == "retire" else 8)]
+# The forms of a run's lines; two are rare, since answers tell less of what a line changed once alice has retired, or
+# acts for bob.
+FORMS = [form for form in EVENTS for _ in range({"retire": 1, "assume": 2}.get(form, 8))]
 
 CONFIG = b'{"principals":["alice","bob"],"edges":[[1,"tg",2],[2,"r",1]],"slots":64,"cells":256}'
 BEGIN = [

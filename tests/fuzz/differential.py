@@ -26,9 +26,9 @@ NAMES = ["alice", "bob", "carol", "dave"]
 JOINING = [*NAMES, "erin", "frank", "z" * 32]
 CROWD = [*NAMES, *["x" * (number % 32 + 1) + "y" * (number // 32) for number in range(MOST_PRINCIPALS - len(NAMES))]]
 OPS = ["take"] * 4 + ["grant"] * 4 + ["create"] * 4 + ["remove"] * 5 + ["read", "write", "look"]
-SESSION_OPS = [*OPS * 2, *["enrol"] * 5, "retire"]
-KINDS = ["retired", "name taken", "crowded", "serials", "slots", "cells", "denied", "error", "ok", "shaded"]
-KINDS += ["mark", "sweep", "idle"]
+SESSION_OPS = [*OPS * 2, *["enrol"] * 5, "retire", *["assume"] * 6, "leave"]
+KINDS = ["retired", "not subject", "not principal", "name taken", "crowded", "serials", "slots", "cells", "denied"]
+KINDS += ["error", "ok", "shaded", "mark", "sweep", "idle"]
 OTHERS = ["shade", "shade", "cycle", "cycle", "hello", "hello", "bye"]
 
 
@@ -69,7 +69,7 @@ def at_random(source, graph, op):
         "kind": source.choice(["subject", "document"]),
         "text": source.choice(["", "hi", "é\u2028😀", '"\\\n\0\x7f', "text %d" % source.randint(0, 99)]),
         "name": source.choice(JOINING),
-        **{name: serial(source, graph) for name in ("over", "from", "to", "at")},
+        **{name: serial(source, graph) for name in ("over", "from", "to", "at", "agent")},
     }
     return {"op": op, **{name: fields[name] for name in COMMANDS[op]}}
 
@@ -86,8 +86,12 @@ def aimed(source, graph, actor, event):
         return {**event, "over": end_of([edge for edge in own if graph.kinds[edge[0]] == "document"], op[0])[0]}
     if op == "look":
         return {**event, "at": source.choice([actor, end_of(own, "t")[0]])}
-    if op == "retire":
+    if op in ("retire", "leave"):
         return event
+    if op == "assume":
+        held = [edge for edge in own if {"t", "g"} <= set(edge[1])]
+        subjects = [edge for edge in held if graph.kinds[edge[0]] == "subject"]
+        return {**event, "agent": end_of(subjects if source.random() < 0.8 else held)[0]}
     if op == "create":
         return {**event, "rights": "rwtg"}
     if op == "enrol":
@@ -122,11 +126,13 @@ def event_of(source, run):
     """The next line of a session."""
     graph = run.graph
     seat = source.choice(list(graph.seats)) if graph.seats and source.random() < 0.97 else source.choice([0, 1, 5, 63, 64])
-    actor = graph.seats.get(seat, 1)
+    actor = graph.actor(seat) or 1
     if seat in graph.pending and source.random() < 0.5:
         return {"op": "shade", "seat": seat}
     if actor in graph.retired and source.random() < 0.5:
-        return {"op": "bye", "seat": seat}
+        return {"op": source.choice(["bye", "leave"]), "seat": seat}
+    if seat in graph.agents and source.random() < 0.1:
+        return {"op": source.choice(["retire", "leave"]), "seat": seat}
     if source.random() < 0.85:
         return {"seat": seat, **command(source, graph, actor, SESSION_OPS)}
     op = source.choice(OTHERS)
@@ -157,7 +163,8 @@ def plan(source, run):
             yield {"op": "collect"}
     if source.random() < 0.5:
         yield from filled(source, run)
-    for seat, actor in list(run.graph.seats.items()):
+    for seat in list(run.graph.seats):
+        actor = run.graph.actor(seat)
         yield from [{"op": "look", "at": end, "seat": seat} for end in [actor, *[end for end, _ in run.graph.edges(actor)]]]
 
 

@@ -57,18 +57,20 @@ class Store:
             slot.colour = "grey"
             self.grey.insert(0, slot)
 
-    def step(self, principals, pending):
+    def step(self, graph):
         """One step of the collector: whether it ended a cycle, and how many slots it freed."""
-        return {"idle": self.start, "mark": self.mark, "sweep": self.sweep}[self.phase](principals, pending)
+        return {"idle": self.start, "mark": self.mark, "sweep": self.sweep}[self.phase](graph)
 
-    def start(self, principals, _):
-        for serial in sorted(principals, reverse=True):
+    def start(self, graph):
+        """The agents are shaded from the greatest seat to the least, then the principals from the last to the first."""
+        agents = [agent for _, agent in sorted(graph.agents.items(), reverse=True)]
+        for serial in [*agents, *sorted(graph.names.values(), reverse=True)]:
             self.shade(serial)
         self.phase = "mark"
         return False, 0
 
-    def mark(self, _, pending):
-        targets = [serial for _, serial in sorted(pending.items())]
+    def mark(self, graph):
+        targets = [serial for _, serial in sorted(graph.pending.items())]
         white = [serial for serial in targets if self.slots[self.where[serial]].colour == "white"]
         if self.scanned and self.ahead:
             self.shade(self.ahead.pop(0))
@@ -85,7 +87,7 @@ class Store:
             self.where = {serial: place for serial, place in self.where.items() if serial not in parked}
         return False, 0
 
-    def sweep(self, *_):
+    def sweep(self, _):
         if self.at == len(self.slots):
             self.phase = "idle"
             return True, 0
@@ -131,7 +133,7 @@ class Course:
             return "serials"
         if op in MAKES and not self.store.free:
             return "slots"
-        gains = op in ("take", "grant") and not graph.label(*gained(graph.seats[event["seat"]], event))
+        gains = op in ("take", "grant") and not graph.label(*gained(graph.actor(event["seat"]), event))
         return "cells" if (gains or op in MAKES) and not self.store.cells else None
 
     def carried_out(self, event):
@@ -149,12 +151,11 @@ class Course:
 
     def noted(self, op):
         """The answer of the collector."""
-        names, pending = self.graph.names.values(), self.graph.pending
-        ended, freed = self.store.step(names, pending)
+        ended, freed = self.store.step(self.graph)
         if op == "collect":
             return {"ended": ended, "freed": freed, "phase": self.store.phase}
         steps = 1
         while not ended:
-            ended, more = self.store.step(names, pending)
+            ended, more = self.store.step(self.graph)
             freed, steps = freed + more, steps + 1
         return {"freed": freed, "steps": steps}

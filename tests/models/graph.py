@@ -9,6 +9,8 @@ SEATS = 64
 MOST_PRINCIPALS = 64
 # The commands that make a vertex.
 MAKES = ("create", "enrol")
+# The field of a command that names a vertex which has to be of a kind, and the kind.
+OF_KIND = {"read": ("over", "document"), "write": ("over", "document"), "assume": ("agent", "subject")}
 
 
 def needs(actor, event):
@@ -20,8 +22,8 @@ def needs(actor, event):
         return [(actor, event["to"], "g"), (actor, over, rights)]
     if op == "look":
         return [(actor, event["at"], "t")] if event["at"] != actor else []
-    letters = {"remove": rights, "read": "r", "write": "w"}
-    return [(actor, over, letters[op])] if op in letters else []
+    letters = {"remove": rights, "read": "r", "write": "w", "assume": "tg"}
+    return [(actor, event.get("agent", over), letters[op])] if op in letters else []
 
 
 def gained(actor, event):
@@ -31,7 +33,7 @@ def gained(actor, event):
 
 class Graph:
     """The graph of a configuration and of all that was carried out since, with the names of the principals, who has
-    retired, who sits where, and the pending targets."""
+    retired, who sits where, for whom a seat acts, and the pending targets."""
 
     def __init__(self, config):
         self.names = {name: serial for serial, name in enumerate(config["principals"], 1)}
@@ -41,6 +43,7 @@ class Graph:
         self.triples = {(start, end, right) for start, rights, end in config["edges"] for right in rights}
         self.next = config["next"]
         self.seats = {}
+        self.agents = {}
         self.pending = {}
 
     def label(self, start, end):
@@ -67,18 +70,28 @@ class Graph:
             waiting.extend(new)
         return found
 
+    def actor(self, seat):
+        """The actor of a seat: for whom it acts, or else who sits there; none if nobody does."""
+        return self.agents.get(seat, self.seats.get(seat))
+
+    def roots(self):
+        """The principals, and for whom seats act."""
+        return {*self.names.values(), *self.agents.values()}
+
     def live(self):
-        """What the principals and the pending targets reach."""
-        return self.reached({*self.names.values(), *self.pending.values()})
+        """What these and the pending targets reach."""
+        return self.reached({*self.roots(), *self.pending.values()})
 
     def denial(self, actor, event):
         """Why the rules deny a command, the first cause that holds; nothing if they allow it."""
         op = event["op"]
+        if op == "leave":
+            return None
         if actor in self.retired:
             return {"cause": "retired", "denied": op}
         if event.get("rights") == "":
             return {"cause": "empty", "denied": op}
-        apart = [actor, *[event[name] for name in ("over", "from", "to") if name in event]]
+        apart = [actor, *[event[name] for name in ("over", "from", "to", "agent") if name in event]]
         if len(set(apart)) < len(apart):
             return {"cause": "not distinct", "denied": op}
         for start, end, rights in needs(actor, event):
@@ -86,8 +99,9 @@ class Graph:
             missing = "".join(right for right in LETTERS if right in rights and right not in label)
             if missing:
                 return {"denied": op, "from": start, "missing": missing, "to": end}
-        if op in ("read", "write") and self.kinds[event["over"]] != "document":
-            return {"cause": "not document", "denied": op, "vertex": event["over"]}
+        name, kind = OF_KIND.get(op, (None, None))
+        if name and self.kinds[event[name]] != kind:
+            return {"cause": "not " + kind, "denied": op, "vertex": event[name]}
         cause = self.bar(actor, event)
         return {"cause": cause, "denied": op} if cause else None
 
@@ -119,7 +133,7 @@ class Graph:
         refusal = self.refusal(event)
         if refusal:
             return {"error": refusal}
-        return self.denial(self.seats[event["seat"]], event) if event["op"] in COMMANDS else None
+        return self.denial(self.actor(event["seat"]), event) if event["op"] in COMMANDS else None
 
     def carried_out(self, event):
         """The answer to an event that is neither refused nor denied, and the change that it makes."""
@@ -129,12 +143,17 @@ class Graph:
             return {"ok": "hello", "vertex": self.seats[seat]}
         if event["op"] == "bye":
             del self.seats[seat]
+            self.agents.pop(seat, None)
             return {"ok": "bye"}
         if event["op"] == "shade":
             return {"shaded": self.pending.pop(seat, None)}
-        answer, target = self.done(self.seats[seat], event)
+        answer, target = self.done(self.actor(seat), event)
         if target is not None:
             self.pending[seat] = target
+        if event["op"] == "assume":
+            self.agents[seat] = target
+        if event["op"] == "leave":
+            self.agents.pop(seat, None)
         return answer
 
     def done(self, actor, event):
@@ -158,9 +177,10 @@ class Graph:
             self.texts[over] = event["text"]
         elif op == "remove":
             self.triples -= {(actor, over, right) for right in rights}
-        else:
+        elif op in ("take", "grant"):
             self.triples |= {(*gained(actor, event), right) for right in rights}
-        return {"ok": "done"}, over if op in ("take", "grant") else None
+            return {"ok": "done"}, over
+        return {"ok": "done"}, event.get("agent")
 
 
 def verdict(config, goal, steps):

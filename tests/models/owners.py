@@ -1,13 +1,14 @@
 """A model of one principal and of all that it makes, which nobody else reaches: it gives the answer to each command.
 
 Its methods are those of examples/tgdoc_client.py, by the rules of take and grant; nothing is collected. Commands are a
-method's name and its arguments. It asks for no name but one that is taken.
+method's name and its arguments. It asks for no name but one that is taken, and acts for subjects of its own.
 """
 
 LETTERS = "rwtg"
 WORDS = ["", "noon", 'a "quoted" word', "back\\slash", "two\nlines", "\u00e9t\u00e9", "\u6587\u66f8", "\U0001f4c4"]
 MOST_HELD = 8
 NAMES_OF_COMMANDS = ["create"] * 6 + ["grant", "read", "write"] * 4 + ["take", "remove", "look"] * 2 + ["enrol"]
+NAMES_OF_COMMANDS += ["assume"] * 4 + ["leave"] * 2
 
 
 def lacking(wanted, had):
@@ -16,15 +17,26 @@ def lacking(wanted, had):
 
 
 class Owner:
-    """The vertices of one principal, their edges and texts, and whether it has retired."""
+    """The vertices of one principal, their edges and texts, whether it has retired, and for whom it acts."""
 
     def __init__(self, serial, name):
         self.serial = serial
         self.name = name
         self.is_retired = False
+        self.agent = None
         self.kinds = {serial: "subject"}
         self.edges = {serial: {}}
         self.texts = {}
+
+    @property
+    def actor(self):
+        """Whose rights count: for whom it acts, or else the principal itself."""
+        return self.serial if self.agent is None else self.agent
+
+    @property
+    def is_gone(self):
+        """Whether the actor has retired."""
+        return self.is_retired and self.actor == self.serial
 
     def label(self, source, target):
         return self.edges.get(source, {}).get(target, "")
@@ -38,7 +50,7 @@ class Owner:
     def denial(self, rule, needs, ends):
         """The denial of a command that needs rights over targets, in this order, and has these ends; None if it is
         allowed."""
-        if self.is_retired:
+        if self.is_gone:
             return {"cause": "retired", "denied": rule}
         if len(set(ends)) < len(ends):
             return {"cause": "not distinct", "denied": rule}
@@ -50,20 +62,20 @@ class Owner:
 
     def rewriting(self, rule, rights, needs, ends):
         """The denial of a command that changes edges: no rights at all come first, but for one who has retired."""
-        if not rights and not self.is_retired:
+        if not rights and not self.is_gone:
             return {"cause": "empty", "denied": rule}
         return self.denial(rule, needs, ends)
 
     def take(self, rights, over, source):
-        needs = [(self.serial, "t", source), (source, rights, over)]
-        denial = self.rewriting("take", rights, needs, [self.serial, over, source])
+        needs = [(self.actor, "t", source), (source, rights, over)]
+        denial = self.rewriting("take", rights, needs, [self.actor, over, source])
         if denial is None:
-            self.relabel(self.serial, over, self.label(self.serial, over) + rights)
+            self.relabel(self.actor, over, self.label(self.actor, over) + rights)
         return denial
 
     def grant(self, rights, over, to):
-        needs = [(self.serial, "g", to), (self.serial, rights, over)]
-        denial = self.rewriting("grant", rights, needs, [self.serial, over, to])
+        needs = [(self.actor, "g", to), (self.actor, rights, over)]
+        denial = self.rewriting("grant", rights, needs, [self.actor, over, to])
         if denial is None:
             self.relabel(to, over, self.label(to, over) + rights)
         return denial
@@ -77,24 +89,39 @@ class Owner:
         return self.rewriting("enrol", rights, [], []) or {"cause": "name taken", "denied": "enrol"}
 
     def retire(self):
+        """A subject for whom it acts is no principal."""
+        if self.actor != self.serial:
+            return {"cause": "not principal", "denied": "retire"}
         denial = self.denial("retire", [], [])
         self.is_retired = True
         return denial
 
+    def assume(self, agent):
+        denial = self.denial("assume", [(self.actor, "tg", agent)], [self.actor, agent])
+        if denial is None and self.kinds[agent] != "subject":
+            return {"cause": "not subject", "denied": "assume", "vertex": agent}
+        if denial is None:
+            self.agent = agent
+        return denial
+
+    def leave(self):
+        """Never denied."""
+        self.agent = None
+
     def created(self, serial, kind, rights):
         self.kinds[serial] = kind
         self.edges[serial] = {}
-        self.relabel(self.serial, serial, rights)
+        self.relabel(self.actor, serial, rights)
 
     def remove(self, rights, over):
-        denial = self.rewriting("remove", rights, [(self.serial, rights, over)], [self.serial, over])
+        denial = self.rewriting("remove", rights, [(self.actor, rights, over)], [self.actor, over])
         if denial is None:
-            self.relabel(self.serial, over, lacking(self.label(self.serial, over), rights))
+            self.relabel(self.actor, over, lacking(self.label(self.actor, over), rights))
         return denial
 
     def opening(self, rule, right, over):
         """The denial of a command on a document's text."""
-        denial = self.denial(rule, [(self.serial, right, over)], [self.serial, over])
+        denial = self.denial(rule, [(self.actor, right, over)], [self.actor, over])
         if denial is None and self.kinds[over] != "document":
             denial = {"cause": "not document", "denied": rule, "vertex": over}
         return denial
@@ -109,16 +136,16 @@ class Owner:
         return denial
 
     def look(self, at):
-        denial = self.denial("look", [] if at == self.serial else [(self.serial, "t", at)], [])
+        denial = self.denial("look", [] if at == self.actor else [(self.actor, "t", at)], [])
         return denial or dict(sorted(self.edges[at].items()))
 
     def held(self):
-        """The vertices that the principal has rights over."""
-        return list(self.edges[self.serial])
+        """The vertices that the actor has rights over."""
+        return list(self.edges[self.actor])
 
     def reached(self):
-        """All vertices that the principal reaches over edges, itself among them."""
-        found = [self.serial]
+        """All vertices that the principal and the actor reach over edges, themselves among them."""
+        found = list({self.serial, self.actor})
         for vertex in found:
             found += [target for target in self.edges[vertex] if target not in found]
         return found
@@ -130,12 +157,14 @@ def rights_from(source):
 
 
 def command(source, owner):
-    """A random command; if much is held, all rights over a vertex are given up."""
+    """A random command; if much is held, all rights over a vertex are given up, or else it acts for itself."""
     held = owner.held()
+    if len(owner.reached()) > MOST_HELD and not held:
+        return "leave", ()
     if len(owner.reached()) > MOST_HELD:
         over = source.choice(held)
-        return "remove", (owner.label(owner.serial, over), over)
-    # Mostly what is held; now and then the principal itself, a vertex that was dropped, or one that never existed or is another's.
+        return "remove", (owner.label(owner.actor, over), over)
+    # Mostly what is held; now and then the actor itself, a vertex that was dropped, or one that never existed or is another's.
     serials = held * 5 + list(owner.kinds) + [source.randint(1, 5000)]
     over, other, rights = source.choice(serials), source.choice(serials), rights_from(source)
     name = source.choice(NAMES_OF_COMMANDS)
@@ -147,6 +176,8 @@ def command(source, owner):
         "remove": (rights, over),
         "read": (over,),
         "write": (over, "%s %d" % (source.choice(WORDS), source.randrange(1000))),
-        "look": (source.choice([owner.serial, over]),),
+        "look": (source.choice([owner.actor, over]),),
+        "assume": (over,),
+        "leave": (),
     }
     return name, arguments[name]

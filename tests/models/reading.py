@@ -21,7 +21,7 @@ STEPS = {
     "write": ["over", "text"],
     "look": ["at"],
 }
-COMMANDS = {**STEPS, "enrol": ["name", "rights"], "retire": []}
+COMMANDS = {**STEPS, "enrol": ["name", "rights"], "retire": [], "assume": ["agent"], "leave": []}
 EVENTS = {"hello": ["name"], "bye": [], **COMMANDS, "shade": [], "collect": [], "cycle": []}
 
 TEXT = re.compile(r'"(?:[^"\\]|\\.)*"', re.DOTALL)
@@ -118,7 +118,7 @@ def is_edge(value):
 
 
 GOOD = {
-    **dict.fromkeys(["seat", "over", "from", "to", "at", "actor", "next", "slots", "cells"], is_number),
+    **dict.fromkeys(["seat", "over", "from", "to", "at", "agent", "actor", "next", "slots", "cells"], is_number),
     "op": lambda value: True,
     "rights": is_rights,
     "kind": lambda value: value in ("subject", "document"),

@@ -12,8 +12,8 @@ from models.reading import line_of
 NOTE = re.compile(rb'\{"ended":(true|false),"freed":([01]),"phase":"(idle|mark|sweep)"\}')
 SWEPT = re.compile(rb'\{"freed":(0|[1-9][0-9]*),"steps":([1-9][0-9]*)\}')
 FOLLOWS = {"idle": ["mark"], "mark": ["mark", "sweep"], "sweep": ["sweep", "idle"]}
-# The commands that change the edges or the roots, if they are carried out.
-CHANGES = (*MAKES, "take", "grant", "remove", "retire")
+# The commands that change the edges or leave a target, if they are carried out.
+CHANGES = (*MAKES, "take", "grant", "remove", "assume")
 
 
 class Run:
@@ -41,9 +41,10 @@ class Run:
 
     def carried_out(self, event):
         """The answer to an event that is carried out; what it changes ends the quiet."""
+        roots = self.graph.roots()
         answer = self.graph.carried_out(event)
         self.used += event["op"] in MAKES
-        if event["op"] in CHANGES or answer.get("shaded"):
+        if event["op"] in CHANGES or answer.get("shaded") or self.graph.roots() != roots:
             self.is_alone, self.quiet = False, 0
         return answer
 
@@ -60,7 +61,7 @@ class Run:
             return "serials"
         if op in MAKES and self.used == self.slots:
             return "slots"
-        if op in MAKES or (op in ("take", "grant") and not graph.label(*gained(graph.seats[event["seat"]], event))):
+        if op in MAKES or (op in ("take", "grant") and not graph.label(*gained(graph.actor(event["seat"]), event))):
             fewest, most = self.cells_in_use()
             if fewest >= self.cells or (most >= self.cells and answer == b'{"full":"cells"}'):
                 return "cells"
@@ -105,7 +106,7 @@ class Run:
 
     def shaded_late(self):
         """How many pending targets a cycle shades for their seats, when sessions wait."""
-        found, late = self.graph.reached(self.graph.names.values()), 0
+        found, late = self.graph.reached(self.graph.roots()), 0
         for _, target in sorted(self.graph.pending.items()):
             if target not in found:
                 found, late = found | self.graph.reached([target]), late + 1

@@ -1,7 +1,7 @@
 """Every limit at once: a run, a server with its settling, and an audit, each with the greatest configuration, lines of
 16,384 bytes, texts of 4,096 bytes, an owner of an edge for each slot, and 63 sessions, 64 seats or 100,000 steps. And
-runs in which a name is that of 100,000 principals, and in which every slot is that of one who retired. No answer may be
-`out of memory`.
+runs in which a name is that of 100,000 principals, in which every slot is that of one who retired, and in which every
+seat acts for a subject of its own. No answer may be `out of memory`.
 
 Each answer is built here by the rules of docs/PROTOCOL.md, the steps of the cycle by docs/COLLECTOR.md. Each test takes
 the program's path and answers whether it passed.
@@ -14,9 +14,10 @@ from concurrent.futures import ThreadPoolExecutor
 
 from faults.refused import NO_MEMORY
 from faults.scripts import (
-    BYE, DONE, SHARED, alone, caused, create, created, edges, enrol, goal, hello, look, remove, shaded, swept, take,
+    BYE, DONE, SHARED, alone, assume, caused, create, created, edges, enrol, goal, hello, look, remove, shaded, swept, take,
     text, welcome, write,
 )
+from models.graph import SEATS
 from models.reading import LONGEST_LINE, LONGEST_TEXT
 from program.lines import joined
 from server.servers import AGREED, SECONDS, read_all, read_line, served
@@ -176,6 +177,33 @@ def lines_of_all_slots():
     yield alone(b"cycle"), swept(SLOTS, 3 + SLOTS + SLOTS - 1)
 
 
+def lines_of_64_agents():
+    """Each seat is alice's, and acts for a subject of its own that has a document; only of the last does alice keep her
+    rights. They are all kept, and after half of the seats left and half said bye all but the last are freed."""
+    slots = 1 + 2 * SEATS
+    yield b'{"principals":["alice"],"slots":%d}' % slots, None
+    for seat in range(SEATS):
+        agent = 2 + 2 * seat
+        yield hello(b"alice", seat), welcome(1)
+        yield create(b"tg", b"subject", seat), created(agent)
+        yield alone(b"shade", seat), shaded(agent)
+        if seat:
+            yield remove(b"tg", agent - 2, seat), DONE
+        yield assume(agent, seat), DONE
+        yield alone(b"shade", seat), shaded(agent)
+        yield create(b"r", seat=seat), created(agent + 1)
+        yield alone(b"shade", seat), shaded(agent + 1)
+    yield create(b"r"), b'{"full":"slots"}'
+    # The steps are those that `lines_of_run` counts; a cell that is freed takes one step like one that is looked at.
+    yield from [(alone(b"cycle"), swept(0, 3 + 3 * slots + SEATS + 1))] * 2
+    for seat in range(SEATS):
+        agent = 2 + 2 * seat
+        yield look(agent, seat), edges(b'[%d,"r"]' % (agent + 1))
+        yield (alone(b"leave", seat), DONE) if seat % 2 else (alone(b"bye", seat), BYE)
+    yield alone(b"cycle"), swept(slots - 3, 3 + slots + 2 * 3 + SEATS + 1)
+    yield look(1, 63), edges(b'[%d,"tg"]' % (2 * SEATS))
+
+
 def answered(lines):
     """A run whose lines have their answers; no answer is an error."""
 
@@ -192,6 +220,7 @@ def tests():
     """All tests by their names."""
     yield "a-name-of-100000-principals", answered(lines_of_one_name)
     yield "every-slot-of-a-principal-that-retired", answered(lines_of_all_slots)
+    yield "each-seat-acts-for-a-subject", answered(lines_of_64_agents)
     yield "run-at-every-limit", run_at_every_limit
     yield "talks-at-every-limit", talks_at_every_limit
     yield "audit-at-every-limit", audit_at_every_limit

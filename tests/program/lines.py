@@ -35,8 +35,10 @@ REQUIRED = {
     "look": ["at"],
     "enrol": ["name", "rights"],
     "retire": [],
+    "assume": ["agent"],
+    "leave": [],
 }
-GOOD = {"name": '"alice"', "rights": '"r"', "over": "3", "from": "2", "to": "2", "kind": '"document"', "text": '"hi"', "at": "1", "seat": "0"}
+GOOD = {"name": '"alice"', "rights": '"r"', "over": "3", "from": "2", "to": "2", "kind": '"document"', "text": '"hi"', "at": "1", "agent": "2", "seat": "0"}
 
 BAD_NUMBERS = ["-1", "-0", "1.5", "2.0", "2e0", "18446744073709551616", '"1"', "null", "true", "[1]", "{}"]
 BAD_RIGHTS = ['"rr"', '"x"', '"R"', '"r w"', '"rwtgr"', '"rwtgx"', "1", "null", "[]"]
@@ -46,6 +48,7 @@ BAD_VALUES = {
     "from": BAD_NUMBERS,
     "to": BAD_NUMBERS,
     "at": BAD_NUMBERS,
+    "agent": BAD_NUMBERS,
     "rights": BAD_RIGHTS,
     "kind": ['"object"', '"Subject"', '""', "1", "null"],
     "text": ["1", "null", '["hi"]', '"%s"' % ("a" * 4097)],
@@ -324,7 +327,7 @@ def answers():
     empty = [line_of(op, but=["rights"], extra=[("rights", '""')]) for op in rewriting]
     causes = [b'{"cause":"empty","denied":"%s"}' % op.encode() for op in rewriting]
     yield after_hello("empty-of-each-rule", *zip(empty, causes))
-    same = [("take", "over"), ("grant", "over"), ("remove", "over"), ("read", "over"), ("write", "over")]
+    same = [("take", "over"), ("grant", "over"), ("remove", "over"), ("read", "over"), ("write", "over"), ("assume", "agent")]
     yield after_hello("not-distinct-of-each-rule", *[(line_of(op, but=[field], extra=[(field, "1")]), b'{"cause":"not distinct","denied":"%s"}' % op.encode()) for op, field in same])
     yield after_hello(
         "missing-of-each-rule",
@@ -334,6 +337,7 @@ def answers():
         (b'{"op":"read","over":2}', b'{"denied":"read","from":1,"missing":"r","to":2}'),
         (b'{"op":"write","over":2,"text":""}', b'{"denied":"write","from":1,"missing":"w","to":2}'),
         (b'{"at":9,"op":"look"}', b'{"denied":"look","from":1,"missing":"t","to":9}'),
+        (b'{"agent":9,"op":"assume"}', b'{"denied":"assume","from":1,"missing":"tg","to":9}'),
     )
 
 
@@ -341,6 +345,7 @@ BOB = (b'{"name":"bob","op":"hello","seat":1}', b'{"ok":"hello","vertex":2}')
 ENROL = b'{"name":"carol","op":"enrol","rights":"tg"}'
 ENROLLED = b'{"ok":"created","vertex":3}'
 RETIRE = b'{"op":"retire"}'
+LEAVE = b'{"op":"leave"}'
 BUSY = b'{"error":"busy"}'
 
 
@@ -376,17 +381,17 @@ def enrolments():
 
 def retirements():
     """Principals that retire, and what their seats are answered then."""
-    commands = [*COMMANDS, "enrol", "retire"]
+    commands = [*COMMANDS, "enrol", "retire", "assume"]
     denied = [(line_of(op), b'{"cause":"retired","denied":"%s"}' % op.encode()) for op in commands]
     gone = (HELLO, b'{"error":"no principal"}')
     left = (b'{"op":"bye"}', b'{"ok":"bye"}')
-    yield after_hello("retired-of-each-rule", (RETIRE, DONE), *denied)
+    yield after_hello("retired-of-each-rule-but-leave", (RETIRE, DONE), *denied, (LEAVE, DONE))
     idle = (b'{"op":"shade"}', b'{"shaded":null}')
     yield after_hello("retired-sits-on", (RETIRE, DONE), (HELLO, b'{"error":"bound"}'), idle, left, gone)
     # All seats of the one who retires are answered so; a target that is pending at another one stays.
     again = (b'{"name":"alice","op":"hello","seat":1}', WELCOME)
     other, shade = (b'{"op":"retire","seat":1}', DONE), (b'{"op":"shade"}', b'{"shaded":3}')
-    late = [(LOOK, BUSY), shade, denied[-1], left, gone]
+    late = [(LOOK, BUSY), (LEAVE, BUSY), shade, denied[-1], left, gone]
     yield after_hello("busy-before-retired", (ENROL, ENROLLED), again, other, *late)
     # What bob is to others stays as it was: his vertex, the edges to it, and those from it.
     bobs = (b'{"at":2,"op":"look"}', b'{"edges":[],"ok":"edges"}')
@@ -394,6 +399,46 @@ def retirements():
     another = (b'{"name":"bob","op":"enrol","rights":"r"}', ENROLLED)
     anew = (b'{"name":"bob","op":"hello","seat":2}', b'{"ok":"hello","vertex":3}')
     yield after_hello("name-is-free-again-and-serial-is-not", BOB, other, another, anew)
+
+
+def acting():
+    """Seats that act for a subject, and why they may not, in the order of the causes."""
+    assume, shades = b'{"agent":%d,"op":"assume"}', b'{"op":"shade"}'
+    for_bob = [(assume % 2, DONE), (shades, b'{"shaded":2}')]
+    of_bob = (b'{"at":2,"op":"look"}', b'{"edges":[],"ok":"edges"}')
+    not_bobs = (LOOK, b'{"denied":"look","from":2,"missing":"t","to":1}')
+    yield after_hello("assume-and-leave", *for_bob, of_bob, not_bobs, (LEAVE, DONE), (LOOK, SEEN))
+    yield after_hello("assume-leaves-a-target", (assume % 2, DONE), (LOOK, BUSY), (LEAVE, BUSY), (b'{"op":"bye"}', BUSY), for_bob[1], (shades, b'{"shaded":null}'))
+    yield after_hello("leave-without-an-agent", (LEAVE, DONE), (LOOK, SEEN), (LEAVE, DONE))
+    yield after_hello("leave-twice", *for_bob, (LEAVE, DONE), (LEAVE, DONE), (LOOK, SEEN))
+    never = [(assume % serial, b'{"denied":"assume","from":1,"missing":"tg","to":%d}' % serial) for serial in (0, 3, 18446744073709551615)]
+    yield after_hello("assume-of-serials-that-never-were", *never, (LOOK, SEEN))
+    yield after_hello("not-distinct-before-missing-of-an-assume", *for_bob, (assume % 2, b'{"cause":"not distinct","denied":"assume"}'))
+    document = (b'{"kind":"document","op":"create","rights":"%s"}', b'{"ok":"created","vertex":3}')
+    shade = (b'{"op":"shade"}', b'{"shaded":3}')
+    lacks = b'{"denied":"assume","from":1,"missing":"g","to":3}'
+    yield after_hello("missing-before-not-subject", (document[0] % b"rt", document[1]), shade, (assume % 3, lacks))
+    yield after_hello("not-subject", (document[0] % b"tg", document[1]), shade, (assume % 3, b'{"cause":"not subject","denied":"assume","vertex":3}'), (LOOK, b'{"edges":[[2,"tg"],[3,"tg"]],"ok":"edges"}'))
+    # What bob may not, alice may not while she acts for him; an agent is a principal if it is one.
+    own = (b'{"agent":1,"op":"assume"}', b'{"denied":"assume","from":2,"missing":"tg","to":1}')
+    yield after_hello("assume-is-judged-for-the-agent", *for_bob, own, (RETIRE, DONE), (LOOK, b'{"cause":"retired","denied":"look"}'), (LEAVE, DONE), (LOOK, SEEN))
+    subject = (b'{"kind":"subject","op":"create","rights":"tg"}', b'{"ok":"created","vertex":3}')
+    other = b'{"cause":"not principal","denied":"retire"}'
+    yield after_hello("not-principal", subject, shade, (assume % 3, DONE), shade, (RETIRE, other), (LEAVE, DONE), (RETIRE, DONE))
+    # An assume while acting takes the place of the one before; one leave ends it.
+    through = [(assume % 4, DONE), (b'{"op":"shade"}', b'{"shaded":4}')]
+    second = (b'{"kind":"subject","op":"create","rights":"tg"}', b'{"ok":"created","vertex":4}')
+    seen = b'{"edges":[[2,"tg"],[3,"tg"]],"ok":"edges"}'
+    yield after_hello(
+        "assume-in-place-of-another", subject, shade, (assume % 3, DONE), shade, second, through[1], *through, (b'{"at":4,"op":"look"}', b'{"edges":[],"ok":"edges"}'), (LEAVE, DONE), (LOOK, seen)
+    )
+    # A seat's agent is its own, and a bye takes it away.
+    again = (b'{"name":"alice","op":"hello","seat":1}', WELCOME)
+    theirs = (b'{"at":1,"op":"look","seat":1}', SEEN)
+    yield after_hello("agent-of-one-seat-alone", again, *for_bob, theirs, not_bobs, (b'{"op":"bye"}', b'{"ok":"bye"}'), (HELLO, WELCOME), (LOOK, SEEN))
+    # Neither needs a slot or a cell, nor a serial.
+    none = b'{"cells":1,"edges":[[1,"tg",2]],"next":18446744073709551615,"principals":["alice","bob"],"slots":2}'
+    yield opening("assume-and-leave-are-never-full", none, (HELLO, WELCOME), *for_bob, (LEAVE, DONE))
 
 
 def collector():
@@ -476,7 +521,7 @@ def audit_refusals():
     for field in ["op", "seat", "actor", "over"]:
         line = object_of([("from", "1"), ("rights", '"r"'), ("to", "3"), (field, "1")])
         yield audited("goal-with-" + field, UNKNOWN_FIELD, THREE, line, STEP)
-    for op in ["hello", "bye", "shade", "collect", "cycle", "enrol", "retire"]:
+    for op in ["hello", "bye", "shade", "collect", "cycle", "enrol", "retire", "assume", "leave"]:
         yield audited("%s-is-no-step" % op, UNKNOWN_OP, THREE, GOAL, line_of(op), STEP)
     yield audited("unknown-op-before-a-missing-actor", UNKNOWN_OP, THREE, GOAL, b'{"op":"steal","seat":1}')
     for op in COMMANDS:
@@ -558,6 +603,6 @@ def verdicts():
 
 def tests():
     """All runs, each as a name, words, input, output and status."""
-    groups = [refusals, readings, texts, ends, configurations, answers, enrolments, retirements, collector]
+    groups = [refusals, readings, texts, ends, configurations, answers, enrolments, retirements, acting, collector]
     for group in [*groups, audit_refusals, verdicts]:
         yield from group()

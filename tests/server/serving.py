@@ -42,6 +42,7 @@ LOOK = b'{"at":1,"op":"look"}\n'
 SEEN = b'{"edges":[[2,"t"]],"ok":"edges"}\n'
 ENROL = b'{"name":"carol","op":"enrol","rights":"t"}\n'
 RETIRE = b'{"op":"retire"}\n'
+LEAVE = b'{"op":"leave"}\n'
 RETIRED = b'{"cause":"retired","denied":"%s"}\n'
 
 
@@ -87,6 +88,28 @@ LAST_TALK = [
     (ENROL, RETIRED % b"enrol"),
     (HELLO, b'{"error":"bound"}\n'),
     (b'{"op":"shade"}\n', b'{"error":"not for a session"}\n'),
+    (BYE, PARTED),
+]
+
+# A talk of one who acts for a subject that she made.
+ACTING_TALK = [
+    (b'{"agent":3,"op":"assume"}\n', b'{"error":"no actor"}\n'),
+    (LEAVE, b'{"error":"no actor"}\n'),
+    (HELLO, WELCOME),
+    (b'{"agent":2,"op":"assume"}\n', b'{"denied":"assume","from":1,"missing":"g","to":2}\n'),
+    (b'{"kind":"subject","op":"create","rights":"tg"}\n', MADE),
+    (b'{"agent":3,"op":"assume"}\n', b'{"ok":"done"}\n'),
+    (LOOK, b'{"denied":"look","from":3,"missing":"t","to":1}\n'),
+    (RETIRE, b'{"cause":"not principal","denied":"retire"}\n'),
+    (b'{"kind":"document","op":"create","rights":"tg"}\n', b'{"ok":"created","vertex":4}\n'),
+    (b'{"at":3,"op":"look"}\n', b'{"edges":[[4,"tg"]],"ok":"edges"}\n'),
+    (b'{"agent":3,"op":"assume"}\n', b'{"cause":"not distinct","denied":"assume"}\n'),
+    (b'{"agent":4,"op":"assume"}\n', b'{"cause":"not subject","denied":"assume","vertex":4}\n'),
+    (HELLO, b'{"error":"bound"}\n'),
+    (LEAVE, b'{"ok":"done"}\n'),
+    (LOOK, b'{"edges":[[2,"t"],[3,"tg"]],"ok":"edges"}\n'),
+    (LEAVE, b'{"ok":"done"}\n'),
+    (b'{"agent":3,"op":"assume"}\n', b'{"ok":"done"}\n'),
     (BYE, PARTED),
 ]
 
@@ -179,9 +202,15 @@ REFUSALS_OF_COMMANDS = [
     (("enrol", "carol", ""), ("enrol", "empty", None, None, None, None)),
     (("enrol", "bob", "r"), ("enrol", "name taken", None, None, None, None)),
     (("enrol", "Carol", "r"), "bad field"),
+    (("assume", 1), ("assume", "not distinct", None, None, None, None)),
+    (("assume", 2), ("assume", "missing", "g", 1, 2, None)),
+    (("assume", "2"), "bad field"),
+    (("leave",), None),
     (("retire",), None),
     (("look", 1), ("look", "retired", None, None, None, None)),
     (("retire",), ("retire", "retired", None, None, None, None)),
+    (("assume", 2), ("assume", "retired", None, None, None, None)),
+    (("leave",), None),
 ]
 
 
@@ -405,14 +434,15 @@ GUEST = "guest"
 
 
 def visit(server, serial):
-    """A guest, who has this serial and nothing yet, works, retires, and is denied whatever comes then; every other one
-    leaves without a bye. Returns the serials of what it made."""
+    """A guest, who has this serial and nothing yet, works, acts for nobody, retires, and is denied whatever comes then;
+    every other one leaves without a bye. Returns the serials of what it made."""
     source = random.Random(serial)
     with server.client() as client:
         assert client.hello(GUEST) == serial and client.look(serial) == {}
         owner, made = owners.Owner(serial, GUEST), [serial]
         for _ in range(30):
             one_more(source, client, owner, made)
+        assert (client.leave(), owner.leave()) == (None, None)
         assert (client.retire(), owner.retire()) == (None, None)
         for _ in range(10):
             one_more(source, client, owner, made)
@@ -603,6 +633,7 @@ def tests_of_talks():
     yield "short-talk-line-by-line", one_talk(CONFIG, *[row[0] for row in SHORT_TALK], short[1])
     yield "refused-lines", one_talk(CONFIG, column(REFUSALS, 0), column(REFUSALS, 1))
     yield "enrol-and-retire-in-a-talk", one_talk(CONFIG, column(LAST_TALK, 0), column(LAST_TALK, 1))
+    yield "assume-and-leave-in-a-talk", one_talk(CONFIG, column(ACTING_TALK, 0), column(ACTING_TALK, 1))
     yield "no-line", one_talk(CONFIG, b"")
     yield "no-hello", one_talk(CONFIG, LOOK, b'{"error":"no actor"}\n')
     yield "two-lines-in-one-segment", one_talk(CONFIG, HELLO + BYE, WELCOME + PARTED)
@@ -641,6 +672,7 @@ def tests_of_clients_at_once():
     yield "beside-one-that-floods-and-reads", beside(floods_and_reads, 1)
     yield "two-clients", example("two-clients", "bob reads: We meet at noon.", "carol made and dropped 200 documents")
     yield "join-and-leave", example("join-and-leave", "(no principal)", "(read denied: retired)", "(read denied: 9 has")
+    yield "act-for-another", example("act-for-another", "(read denied: 4 has", "(no slots left)", "(assume denied: 1 has")
 
 
 def tests():
