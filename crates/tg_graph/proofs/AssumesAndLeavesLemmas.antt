@@ -1,5 +1,5 @@
 -- Who may act for an agent, and that a leave is always allowed.
-use Rattle.std.proofs.Common.{◌≡◌, ◌≢◌, ℕ, ◌==◌, ◌∷◌, Bool, true, false, not, ◌||◌, refl, ap, Some}
+use Rattle.std.proofs.Common.{◌≡◌, ◌≢◌, ℕ, ◌==◌, ◌∷◌, true, false, not, ◌||◌, refl, ap, Some}
 use Rattle.std.proofs.lemmas.Bool.{and_from, and_parts, eq-eqb, eqb-true, not-true}
 use Rattle.tg_rights.specs.Command.{rule_of}
 use Rattle.tg_rights.specs.declared.command.Command.{Command}
@@ -7,7 +7,7 @@ use Rattle.tg_rights.specs.declared.command.Command.TheVariants as command
 use Rattle.tg_rights.specs.declared.command.Rule.TheVariants as rule
 use Rattle.tg_rights.specs.declared.outcome.Cause.TheVariants as cause
 use Rattle.tg_graph.specs.Laws.{AssumesAndLeaves, MayAssume}
-use Rattle.tg_graph.specs.Protection.{Protection, has_retired, label}
+use Rattle.tg_graph.specs.Protection.{Protection, has_retired}
 use Rattle.tg_graph.specs.Rules.{Allowed, denial, first_failure, is_for_retired, later_checks, unless}
 use Rattle.tg_graph.specs.Terms.{terms}
 use Rattle.tg_graph.proofs.AllowedIsMetLemmas.{allowed, meets}

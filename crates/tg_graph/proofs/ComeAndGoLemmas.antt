@@ -1,7 +1,6 @@
 -- Who is a principal after each command, and whom a name finds.
 use Rattle.std.proofs.Common.{◌≡◌, ◌≢◌, ℕ, ◌∷◌, [], List, Bool, true, false, cond, not, map, refl, sym, ap, subst, ◌∙◌, ◌==◌, inl, inr, Some, None}
 use Rattle.std.specs.Prelude.{Option}
-use Rattle.std.specs.List.{filter}
 use Rattle.std.specs.Cmp.{nat_cmp_total, unsigned_tied}
 use Rattle.std.specs.FinSet as set
 use Rattle.std.proofs.lemmas.Bool.{eqb-true, eq-eqb, not-true, or_cases, or_left, or_right}
@@ -18,7 +17,7 @@ use Rattle.tg_graph.specs.Names.{same_name, serial_of}
 use Rattle.tg_graph.specs.Protection.{Protection, IsGraph, vertex}
 use Rattle.tg_graph.specs.Rules.{after, with_text}
 use Rattle.tg_graph.proofs.PartsStayLemmas.{with_text-retired}
-use Rattle.tg_graph.proofs.RollLemmas.{contains_filter, is-same_name, names_contain, same_name-is, untrue}
+use Rattle.tg_graph.proofs.RollLemmas.{contains_filter, filter_contains, is-same_name, names_contain, same_name-is, untrue}
 
 finds : (ms : List Member) (name : List ℕ) (v : ℕ) → serial_of ms name ≡ Some v → Contains ms (record { name = name; serial = v })
 finds [] name v e = absurd (cc e)
@@ -36,15 +35,6 @@ is_found (m ∷ ms) name v d (inr h) =
     ap (λ b. cond b (Some m.serial) (serial_of ms name))
     (untrue (same_name m.name name) (λ e. d.0 (subst (Contains (map (λ m. m.name) ms)) (sym (same_name-is m.name name e)) (names_contain ms (record { name = name; serial = v }) h))))
     ∙ is_found ms name v d.1 h
-
-filter_contains : {X : Type 0} (p : X → Bool) (xs : List X) (x : X) → Contains xs x → p x ≡ true → Contains (filter p xs) x
-filter_contains p [] x h e = absurd h
-filter_contains {X} p (y ∷ xs) x h e = by (λ h. filter_contains p xs x h e) (p y) refl h where
-  by : (Contains xs x → Contains (filter p xs) x) → (b : Bool) → p y ≡ b → Contains (y ∷ xs) x → Contains (cond b (y ∷ filter p xs) (filter p xs)) x
-  by rest true here (inl is) = inl is
-  by rest true here (inr h) = inr (rest h)
-  by rest false gone (inl is) = absurd (cc (gone, ap p is, e))
-  by rest false gone (inr h) = rest h
 
 with_text-names : (G : Protection) (y : ℕ) (text : List ℕ) (o : Option Vertex) → (with_text G y text o).names ≡ G.names
 with_text-names G y text None = refl

@@ -6,11 +6,14 @@ pub mod ExactlyOneOutcomeLemmas
 pub mod FullnessLemmas
 pub mod LabelLemmas
 pub mod LawsLemmas
+pub mod ListedLemmas
 pub mod OpeningsFitLemmas
 pub mod OutcomesAgreeLemmas
+pub mod PartsLemmas
 pub mod PartsStayLemmas
 pub mod ProtectionLemmas
 pub mod RepliesAgreeLemmas
+pub mod RestrictionLemmas
 pub mod RollLemmas
 pub mod TriplesLemmas
 pub mod VertexLemmas

@@ -66,6 +66,18 @@ module _ (G H : Protection) (Known : ℕ → Type 0) (alike : Alike G H Known) w
     retired = retired;
   }
 
+-- and the other way round
+pub agree_back : (G H : Protection) (x : ℕ) → Agree G H x → Agree H G x
+agree_back G H x a = record {
+  subject = a.subject_too;
+  subject_too = a.subject;
+  paths = λ later y. ((a.paths later y).1, (a.paths later y).0);
+  vertices = λ later y p. sym (a.vertices later y ((a.paths later y).1 p));
+  labels = λ later y z p. sym (a.labels later y z ((a.paths later y).1 p));
+  names = sym a.names;
+  retired = sym a.retired;
+}
+
 some_joined : (b : Bool) (l m k : Letters) → is_none (cond b l m) ≡ false → (b ≡ true) ⊎ (is_none m ≡ false)
 some_joined true l m k e = inl refl
 some_joined false l m k e = inr e
@@ -241,7 +253,7 @@ pub with_text-retired : (G : Protection) (y : ℕ) (text : List ℕ) (o : Option
 with_text-retired G y text None = refl
 with_text-retired G y text (Some e) = refl
 
-done-retired : (G H : Protection) (x v : ℕ) → has_retired G v ≡ has_retired H v → (e : Does) → has_retired (done G x e) v ≡ has_retired (done H x e) v
+pub done-retired : (G H : Protection) (x v : ℕ) → has_retired G v ≡ has_retired H v → (e : Does) → has_retired (done G x e) v ≡ has_retired (done H x e) v
 done-retired G H x v same (effect.Joins from α to) = same
 done-retired G H x v same (effect.Makes k α name) = same
 done-retired G H x v same (effect.Drops α over) = same
@@ -279,6 +291,50 @@ module _ (G H : Protection) (viewers : set.FinSet nat_cmp) (x : ℕ) (x_in : set
       (still_known G H Reached reached_alike x (viewer x x_in) x_there in_G (terms x c).does v (viewer v v_in)) (subject_stays G x c in_G v (agree v v_in).subject)
       (done-retired G H x v (agree v v_in).retired (terms x c).does)
 
+-- a part, from what is alike and known
+pub part_of : (K L : Protection) (Known : ℕ → Type 0) → Alike K L Known → ((v : ℕ) → IsVertex L v → Known v) → ((v : ℕ) → Known v → IsVertex L v) → K.retired ≡ L.retired → IsPart K L
+part_of K L Known alike known back retired = record {
+  vertices = λ v h. alike.vertices v (known v h);
+  labels = λ v w h. alike.labels v w (known v h);
+  closed = λ v w h e. back w (alike.step v w (known v h) e);
+  names = alike.names;
+  retired = retired;
+}
+
+-- where all vertices of H are known, all that it has afterwards are
+module _ (G H : Protection) (alike : Alike G H (IsVertex H)) (x : ℕ) (x_there : IsVertex H x) (x_in : IsVertex G x) (in_G : IsGraph G) (next : G.next ≡ H.next) where
+  told_vertex : (y : ℕ) (text : List ℕ) (o : Option Vertex) → vertex H y ≡ o → (v : ℕ) → IsVertex (with_text H y text o) v → IsVertex H v
+  told_vertex y text None is v h = h
+  told_vertex y text (Some e) is v h = elim (or_cases _ _ (sym (IsVertex-insert H.vertices y (record e { text = text }) v) ∙ h)) [
+    | inl same ↦ ap (λ q. map.contains_key H.vertices q) (eqb-true v y same) ∙ ap is_some is
+    | inr old ↦ old
+  ]
+
+  vertex_told : (y : ℕ) (text : List ℕ) (o : Option Vertex) (v : ℕ) → IsVertex H v → IsVertex (with_text H y text o) v
+  vertex_told y text None v h = h
+  vertex_told y text (Some e) v h = IsVertex-insert H.vertices y (record e { text = text }) v ∙ or_right _ _ h
+
+  pub into : (e : Does) (v : ℕ) → IsVertex (done H x e) v → known_after G H (IsVertex H) alike x x_there x_in in_G e v
+  into (effect.Joins from α to) v h = h
+  into (effect.Makes k α name) v h = elim (or_cases _ _ (sym (IsVertex-insert H.vertices H.next (record { kind = k; text = [] }) v) ∙ h)) [ inl is ↦ inr (eqb-true v H.next is ∙ sym next) | inr old ↦ inl old ]
+  into (effect.Drops α over) v h = h
+  into (effect.Rewrites over text) v h = told_vertex over text (vertex H over) refl v h
+  into (effect.Tells over) v h = h
+  into (effect.Lists at) v h = h
+  into effect.Retires v h = h
+  into (effect.Acts agent) v h = h
+
+  pub out : (e : Does) (v : ℕ) → known_after G H (IsVertex H) alike x x_there x_in in_G e v → IsVertex (done H x e) v
+  out (effect.Joins from α to) v h = h
+  out (effect.Makes k α name) v (inl h) = IsVertex-insert H.vertices H.next (record { kind = k; text = [] }) v ∙ or_right _ _ h
+  out (effect.Makes k α name) v (inr is) = IsVertex-insert H.vertices H.next (record { kind = k; text = [] }) v ∙ or_left _ _ (eq-eqb v H.next (is ∙ next))
+  out (effect.Drops α over) v h = h
+  out (effect.Rewrites over text) v h = vertex_told over text (vertex H over) v h
+  out (effect.Tells over) v h = h
+  out (effect.Lists at) v h = h
+  out effect.Retires v h = h
+  out (effect.Acts agent) v h = h
+
 -- a part of a graph
 module _ (G H : Protection) (part : IsPart G H) where
   part_alike : Alike G H (IsVertex H)
@@ -287,20 +343,11 @@ module _ (G H : Protection) (part : IsPart G H) where
   pub part_agrees : (x : ℕ) → IsVertex H x → IsSubject G x → Agree G H x
   part_agrees x x_in s = agree_around G H (IsVertex H) part_alike x x_in s (ap (λ (rs : set.FinSet nat_cmp). set.contains rs x) part.retired)
 
-  part_of : (K L : Protection) (Known : ℕ → Type 0) → Alike K L Known → ((v : ℕ) → IsVertex L v → Known v) → ((v : ℕ) → Known v → IsVertex L v) → K.retired ≡ L.retired → IsPart K L
-  part_of K L Known alike known back retired = record {
-    vertices = λ v h. alike.vertices v (known v h);
-    labels = λ v w h. alike.labels v w (known v h);
-    closed = λ v w h e. back w (alike.step v w (known v h) e);
-    names = alike.names;
-    retired = retired;
-  }
-
   -- the part and the whole stay so when the same command is carried out in both
   pub part_stays : (x : ℕ) (c : Command) → IsGraph G → IsGraph H → G.next ≡ H.next → IsVertex H x → IsVertex G x → Allowed G x c → IsPart (after G x c) (after H x c)
   part_stays x c in_G in_H next x_there x_in a =
       part_of (after G x c) (after H x c) (known_after G H (IsVertex H) part_alike x x_there x_in in_G (terms x c).does) (alike_after G H (IsVertex H) part_alike x x_there x_in in_G c in_H next a)
-      (into (terms x c).does) (out (terms x c).does) (retired_left (terms x c).does) where
+      (into G H part_alike x x_there x_in in_G next (terms x c).does) (out G H part_alike x x_there x_in in_G next (terms x c).does) (retired_left (terms x c).does) where
         retired_left : (e : Does) → (done G x e).retired ≡ (done H x e).retired
         retired_left (effect.Joins from α to) = part.retired
         retired_left (effect.Makes k α name) = part.retired
@@ -310,35 +357,3 @@ module _ (G H : Protection) (part : IsPart G H) where
         retired_left (effect.Lists at) = part.retired
         retired_left effect.Retires = ap (λ rs. set.insert rs x) part.retired
         retired_left (effect.Acts agent) = part.retired
-
-        told_vertex : (y : ℕ) (text : List ℕ) (o : Option Vertex) → vertex H y ≡ o → (v : ℕ) → IsVertex (with_text H y text o) v → IsVertex H v
-        told_vertex y text None is v h = h
-        told_vertex y text (Some e) is v h = elim (or_cases _ _ (sym (IsVertex-insert H.vertices y (record e { text = text }) v) ∙ h)) [
-          | inl same ↦ ap (λ q. map.contains_key H.vertices q) (eqb-true v y same) ∙ ap is_some is
-          | inr old ↦ old
-        ]
-
-        vertex_told : (y : ℕ) (text : List ℕ) (o : Option Vertex) (v : ℕ) → IsVertex H v → IsVertex (with_text H y text o) v
-        vertex_told y text None v h = h
-        vertex_told y text (Some e) v h = IsVertex-insert H.vertices y (record e { text = text }) v ∙ or_right _ _ h
-
-        into : (e : Does) (v : ℕ) → IsVertex (done H x e) v → known_after G H (IsVertex H) part_alike x x_there x_in in_G e v
-        into (effect.Joins from α to) v h = h
-        into (effect.Makes k α name) v h = elim (or_cases _ _ (sym (IsVertex-insert H.vertices H.next (record { kind = k; text = [] }) v) ∙ h)) [ inl is ↦ inr (eqb-true v H.next is ∙ sym next) | inr old ↦ inl old ]
-        into (effect.Drops α over) v h = h
-        into (effect.Rewrites over text) v h = told_vertex over text (vertex H over) refl v h
-        into (effect.Tells over) v h = h
-        into (effect.Lists at) v h = h
-        into effect.Retires v h = h
-        into (effect.Acts agent) v h = h
-
-        out : (e : Does) (v : ℕ) → known_after G H (IsVertex H) part_alike x x_there x_in in_G e v → IsVertex (done H x e) v
-        out (effect.Joins from α to) v h = h
-        out (effect.Makes k α name) v (inl h) = IsVertex-insert H.vertices H.next (record { kind = k; text = [] }) v ∙ or_right _ _ h
-        out (effect.Makes k α name) v (inr is) = IsVertex-insert H.vertices H.next (record { kind = k; text = [] }) v ∙ or_left _ _ (eq-eqb v H.next (is ∙ next))
-        out (effect.Drops α over) v h = h
-        out (effect.Rewrites over text) v h = vertex_told over text (vertex H over) v h
-        out (effect.Tells over) v h = h
-        out (effect.Lists at) v h = h
-        out effect.Retires v h = h
-        out (effect.Acts agent) v h = h

@@ -70,6 +70,15 @@ contains_filter {X} p (y ∷ xs) x h = by (contains_filter p xs x) (p y) refl h 
   by rest true e (inr h) = (inr (rest h).0, (rest h).1)
   by rest false e h = (inr (rest h).0, (rest h).1)
 
+pub filter_contains : {X : Type 0} (p : X → Bool) (xs : List X) (x : X) → Contains xs x → p x ≡ true → Contains (filter p xs) x
+filter_contains p [] x h e = absurd h
+filter_contains {X} p (y ∷ xs) x h e = by (λ h. filter_contains p xs x h e) (p y) refl h where
+  by : (Contains xs x → Contains (filter p xs) x) → (b : Bool) → p y ≡ b → Contains (y ∷ xs) x → Contains (cond b (y ∷ filter p xs) (filter p xs)) x
+  by rest true here (inl is) = inl is
+  by rest true here (inr h) = inr (rest h)
+  by rest false gone (inl is) = absurd (cc (gone, ap p is, e))
+  by rest false gone (inr h) = rest h
+
 rise_filter : (p : Member → Bool) (ms : List Member) → Rise ms → Rise (filter p ms)
 rise_filter p [] r = tt
 rise_filter p (m ∷ ms) r =

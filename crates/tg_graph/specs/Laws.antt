@@ -22,10 +22,10 @@ use Rattle.tg_graph.specs.Names.{IsMember, MayBeNamed, same_name, with_member}
 use Rattle.tg_graph.specs.Triples.{Triple, edge}
 use Rattle.tg_graph.specs.Protection.{IsEdge, IsGraph, IsSubject, IsVertex, Protection, has_retired, kind_of, label, named, vertex}
 use Rattle.tg_graph.specs.Opening.{Edge, first_fault, has_twice, is_principal, principal_count, opening, same_pair}
-use Rattle.tg_graph.specs.Fullness.{vertex_count, edge_count, edges_at}
-use Rattle.tg_graph.specs.Paths.{Agree, IsPart}
+use Rattle.tg_graph.specs.Fullness.{Limits, Permitted, vertex_count, edge_count, edges_at}
+use Rattle.tg_graph.specs.Paths.{Agree, IsPart, IsRestriction}
 use Rattle.tg_graph.specs.Agreement.{IsRepliedAlike, KeepsViewers}
-use Rattle.tg_graph.specs.Rules.{Check, AllPass, Judged, Allowed, Applies, after, allowed_reply, checks, denial, edges_of, is_create, names_rights}
+use Rattle.tg_graph.specs.Rules.{Check, AllPass, Judged, Allowed, Applies, after, allowed_reply, checks, denial, edges_of, is_create, names_rights, next_graph}
 use Rattle.tg_graph.specs.Terms.{Terms, terms}
 use Rattle.tg_graph.specs.declared.rules.Need.{Need}
 use Rattle.tg_rights.specs.declared.outcome.Cause.{Cause}
@@ -143,6 +143,22 @@ abbrev pub PartsStay : Type 0
 PartsStay =
     (G H : Protection) (x : ℕ) (c : Command) → IsGraph G → IsGraph H → IsPart G H → G.next ≡ H.next → IsVertex H x → IsSubject G x → Allowed G x c →
     IsPart (after G x c) (after H x c)
+
+-- a restriction agrees with the graph for each of its subjects
+abbrev pub RestrictionsAgree : Type 0
+RestrictionsAgree = (G H : Protection) → IsRestriction G H (IsVertex H) → (x : ℕ) → IsVertex H x → IsSubject G x → Agree G H x
+
+-- what may happen to a subject's command in a restriction, may happen to it in the graph
+abbrev pub RestrictionsPermit : Type 0
+RestrictionsPermit =
+    (limits : Limits) (G H : Protection) (x : ℕ) (c : Command) (o : Outcome) → IsGraph G → IsGraph H → IsRestriction G H (IsVertex H) → IsSubject H x →
+    Permitted limits H x c o → Permitted limits G x c o
+
+-- and leaves a restriction of what it leaves of the graph
+abbrev pub RestrictionsStay : Type 0
+RestrictionsStay =
+    (limits : Limits) (G H : Protection) (x : ℕ) (c : Command) (o : Outcome) → IsGraph G → IsGraph H → IsRestriction G H (IsVertex H) → IsSubject H x →
+    Permitted limits H x c o → IsRestriction (next_graph G x c o) (next_graph H x c o) (IsVertex (next_graph H x c o))
 
 -- a configuration opens the graph of its list: the vertices are its principals, subjects of no text with the serials
 -- from 1 on, each active under its name, nobody has retired, and a triple is there exactly if some edge of the list has

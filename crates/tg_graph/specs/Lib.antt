@@ -9,6 +9,7 @@ pub mod Paths
 pub mod Agreement
 pub mod Searching
 pub mod Derivations
+pub mod Parts
 pub mod Laws
 pub mod Views
 pub mod Codes

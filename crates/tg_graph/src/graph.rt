@@ -35,12 +35,12 @@ pub const LAST_SERIAL: u64 = 18_446_744_073_709_551_614;
 /// the active principals and those that have retired.
 #[derive(Drop)]
 pub struct Graph {
-    vertices: BTreeMap<u64, Vertex>,
-    labels: BTreeMap<(u64, u64), Rights>,
-    next: u64,
-    roll: Roll,
-    retired: BTreeSet<u64>,
-    alloc: Global,
+    pub(crate) vertices: BTreeMap<u64, Vertex>,
+    pub(crate) labels: BTreeMap<(u64, u64), Rights>,
+    pub(crate) next: u64,
+    pub(crate) roll: Roll,
+    pub(crate) retired: BTreeSet<u64>,
+    pub(crate) alloc: Global,
 }
 
 impl Model for Graph {

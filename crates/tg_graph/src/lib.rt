@@ -1,12 +1,14 @@
 //! The take-grant rules over a plain graph that is never collected: the model of every other crate.
 #![tactic(auto)]
 
-ghost use Rattle.tg_graph.specs.Laws.{AgentsAreAssumedAndLeft, AllowedIsMet, AnswersAgree, DenialsAreFirst, CommandsKeepGraphs, EdgesAreCounted, EdgesAreListed, ExactlyOneOutcome, OpeningsAreAsListed, OpeningsAreSound, OpeningsFit, OutcomesAgree, PartsAgree, PartsStay, PrincipalsComeAndGo, RepliesAgree, TwiceIsTwoPlaces};
+ghost use Rattle.tg_graph.specs.Laws.{AgentsAreAssumedAndLeft, AllowedIsMet, AnswersAgree, DenialsAreFirst, CommandsKeepGraphs, EdgesAreCounted, EdgesAreListed, ExactlyOneOutcome, OpeningsAreAsListed, OpeningsAreSound, OpeningsFit, OutcomesAgree, PartsAgree, PartsStay, PrincipalsComeAndGo, RepliesAgree, RestrictionsAgree, RestrictionsPermit, RestrictionsStay, TwiceIsTwoPlaces};
+ghost use Rattle.tg_graph.specs.Parts.{PartsAreOneGraph};
 
 mod config;
 mod derivation;
 mod graph;
 mod member;
+mod parts;
 mod roll;
 mod rules;
 mod search;
@@ -16,6 +18,7 @@ pub use config::{Config, OpenFault};
 pub use derivation::{Goal, Step, Verdict};
 pub use graph::{Graph, LAST_SERIAL};
 pub use member::{Member, serial_of};
+pub use parts::Parts;
 pub use roll::Roll;
 pub use rules::{
     Effect, Found, Need, Reader, Spot, decide, effect_of, into_name, into_text, is_create,
@@ -82,6 +85,21 @@ pub fn parts_stay()
     ensures { PartsStay }
 {}
 
+/// A restriction of a graph to some vertices, with all their edges, agrees with the graph for each of its subjects.
+pub fn restrictions_agree()
+    ensures { RestrictionsAgree }
+{}
+
+/// What a restriction permits to one of its subjects, the graph permits.
+pub fn restrictions_permit()
+    ensures { RestrictionsPermit }
+{}
+
+/// A restriction of a graph stays one when a command of one of its subjects has an outcome that the restriction permits.
+pub fn restrictions_stay()
+    ensures { RestrictionsStay }
+{}
+
 /// A configuration without a fault has few principals, each a subject of the graph that it opens.
 pub fn openings_are_sound()
     ensures { OpeningsAreSound }
@@ -105,6 +123,11 @@ pub fn edges_are_listed()
 /// The number of edges changes by the one edge whose label changes; a new vertex adds one.
 pub fn edges_are_counted()
     ensures { EdgesAreCounted }
+{}
+
+/// Lists have what one graph has, and no other has exactly that.
+pub fn parts_are_one_graph()
+    ensures { PartsAreOneGraph }
 {}
 
 /// What a configuration has twice occurs at two places of its list.

@@ -1,8 +1,10 @@
 //! The list of the active principals.
 ghost use Rattle.std.specs.Prelude.{◌≡◌, ◌<◌, ◌≤◌, [], ◌∷◌, ◌++◌, length, IfOk, true};
 ghost use Rattle.std.specs.List.{list_all};
+ghost use Rattle.std.specs.List.Sorted.{IsNonDecreasingBy, IsPermutation};
 ghost use Rattle.tg_graph.specs.Names.{MayBeNamed, with_member, without_member};
 ghost use Rattle.tg_graph.specs.Opening.{first_members};
+ghost use Rattle.tg_graph.specs.Parts.{members_of};
 ghost use Rattle.tg_rights.specs.Name.{is_name};
 ghost use Rattle.tg_rights.specs.declared.limits.TheConstants.{MAX_PRINCIPALS};
 
@@ -54,6 +56,22 @@ impl Roll {
             };
             roll.push(Member { name, serial });
             serial += 1;
+        }
+        Ok(roll)
+    }
+
+    /// Principals of these names and serials, by rising serial.
+    pub(crate) fn of_pairs(alloc: Global, pairs: Vec<(Name, u64)>) -> Result<Roll, AllocError>
+        requires { length pairs.items ≤ MAX_PRINCIPALS }
+        ensures same { IfOk result (λ roll. IsPermutation (members_of pairs.items) roll) }
+        ensures rising { IfOk result (λ roll. IsNonDecreasingBy (λ m. m.serial) roll) }
+    {
+        let mut sorted = pairs;
+        sorted.sort_unstable_by_key(|pair| pair.1);
+        let mut roll = Roll::new(alloc)?;
+        for pair in sorted {
+            let (name, serial) = pair;
+            roll.push(Member { name, serial });
         }
         Ok(roll)
     }

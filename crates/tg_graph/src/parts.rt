@@ -1,0 +1,104 @@
+//! Graphs from lists.
+ghost use Rattle.std.specs.Prelude.{◌≡◌, ◌<◌, ℕ, map, IfOk};
+ghost use Rattle.std.specs.List.{list_any};
+ghost use Rattle.std.specs.Ordering.{eq_by_cmp, nat_cmp};
+ghost use Rattle.tg_graph.specs.Parts.{AreParts, Before, Lists, Rises, label_entry, vertex_entry};
+ghost use Rattle.tg_graph.specs.Protection.{IsGraph};
+
+use crate::graph::Graph;
+use crate::roll::Roll;
+use crate::vertex::Vertex;
+use std::alloc::{AllocError, Global};
+use std::collections::{BTreeMap, BTreeSet};
+use tg_rights::{Kind, Name, Rights, Text};
+
+/// What a graph has, in lists.
+#[derive(Drop)]
+pub struct Parts {
+    /// The vertices by rising serial: what each is, and its text.
+    pub vertices: Vec<(u64, Kind, Text)>,
+    /// The edges by rising pairs of ends, each with its label.
+    pub edges: Vec<(u64, Rights, u64)>,
+    /// The active principals.
+    pub names: Vec<(Name, u64)>,
+    /// Those that were principals and have retired, by rising serial.
+    pub retired: Vec<u64>,
+    /// The next serial.
+    pub next: u64,
+}
+
+impl Graph {
+    /// The graph that has exactly what these lists have. Vertices and those who have retired are listed by rising serial
+    /// and edges by rising pairs of ends; the ends of an edge are two different vertices, and its label is not empty;
+    /// there are at most 64 principals, subjects of different names and serials, and none of them has retired; who has
+    /// retired is a vertex; and the next serial is above all. `AllocError` if there is no memory for the graph.
+    pub fn from_parts(alloc: Global, parts: Parts) -> Result<Graph, AllocError>
+        requires { AreParts parts }
+        ensures lists { IfOk result (Lists parts) }
+        ensures graph { IfOk result IsGraph }
+    {
+        let Parts {
+            vertices,
+            edges,
+            names,
+            retired,
+            next,
+        } = parts;
+        let listed = edges.as_slice();
+        let gone = retired.as_slice();
+        let vertices = vertices_of(alloc, vertices)?;
+        let labels = labels_of(alloc, listed)?;
+        let roll = Roll::of_pairs(alloc, names)?;
+        let retired = serials_of(alloc, gone)?;
+        Ok(Graph {
+            vertices,
+            labels,
+            next,
+            roll,
+            retired,
+            alloc,
+        })
+    }
+}
+
+/// The vertices by their serials, which rise.
+fn vertices_of(
+    alloc: Global,
+    listed: Vec<(u64, Kind, Text)>,
+) -> Result<BTreeMap<u64, Vertex>, AllocError>
+    requires { Rises (λ v w. v.0 < w.0) listed.items }
+    ensures { IfOk result (λ found. found.entries ≡ map vertex_entry listed.items) }
+{
+    let mut found = BTreeMap::new(alloc);
+    for vertex in listed {
+        let (serial, kind, text) = vertex;
+        found.insert(serial, Vertex { kind, text })?;
+    }
+    Ok(found)
+}
+
+/// The labels by the ends of their edges, which rise.
+fn labels_of(
+    alloc: Global,
+    listed: &[(u64, Rights, u64)],
+) -> Result<BTreeMap<(u64, u64), Rights>, AllocError>
+    requires { Rises Before listed.now }
+    ensures { IfOk result (λ found. found.entries ≡ map label_entry listed.now) }
+{
+    let mut found = BTreeMap::new(alloc);
+    for edge in listed {
+        found.insert((edge.0, edge.2), edge.1)?;
+    }
+    Ok(found)
+}
+
+/// The set of these serials.
+fn serials_of(alloc: Global, listed: &[u64]) -> Result<BTreeSet<u64>, AllocError>
+    ensures { IfOk result (λ found. (q : ℕ) → list_any (eq_by_cmp nat_cmp q) found.keys ≡ list_any (eq_by_cmp nat_cmp q) listed.now) }
+{
+    let mut found = BTreeSet::new(alloc);
+    for serial in listed {
+        found.insert(*serial)?;
+    }
+    Ok(found)
+}
