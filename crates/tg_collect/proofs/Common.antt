@@ -2,27 +2,23 @@
 pub use Rattle.std.proofs.Math.ListN.{get_or-map}
 pub use Rattle.std.proofs.Math.Seq.{get_or-append_seam}
 pub use Rattle.std.proofs.lemmas.Bool.{and_from, and_parts, cases_eq, cases_lt, le-ltb, ltb-true, ne_eqb, or_cases, or_left, or_right}
-pub use Rattle.std.proofs.lemmas.Bool.Decides.{Decides-eqb}
 pub use Rattle.std.proofs.lemmas.List.{drop_all, get_or_append_left, get_or_default, length-map, length-replicate, map-set, set-get_or, set-set}
-pub use Rattle.std.proofs.lemmas.List.Sorted.{Contains-permutation, IsPermutation-map, IsPermutation-sym}
-pub use Rattle.std.proofs.lemmas.List.Sums.{count_by-le-length, length-filter, sum_by-append, sum_by-cons, sum_by-le-sum_by}
-pub use Rattle.std.proofs.lemmas.Map.Keys.{IsDistinct-IsPermutation}
-pub use Rattle.std.proofs.lemmas.Map.Made.{AllPairs-from_IsDistinct, IsDistinct-from_AllPairs}
+pub use Rattle.std.proofs.lemmas.List.Sorted.{IsPermutation-map, IsPermutation-sym}
+pub use Rattle.std.proofs.lemmas.List.Sums.{count_by-le-length, length-filter, sum_by-cons, sum_by-le-sum_by}
 pub use Rattle.std.proofs.lemmas.Option.{same_Some}
-pub use Rattle.std.specs.Cmp.{nat_cmp_is, nat_cmp_total, unsigned_tied}
+pub use Rattle.std.specs.Cmp.{nat_cmp_total, unsigned_tied}
 pub use Rattle.std.specs.FinMap.{contains_key-keys, find, get-empty, get-from_entries}
 pub use Rattle.std.specs.FinMap.Entries.{below_all}
 pub use Rattle.std.specs.FinSet.{contains-empty, contains-union}
-pub use Rattle.std.specs.List.{AllPairs, filter, list_any}
+pub use Rattle.std.specs.List.{filter, list_any}
 pub use Rattle.std.specs.List.Sorted.{IsNonDecreasingBy, IsPermutation}
 pub use Rattle.std.specs.Option.{is_some, option_map, unwrap_or}
 pub use Rattle.std.specs.Ordering.{eq_by_cmp, is_lt, nat_cmp}
-pub use Rattle.std.specs.Prelude.{IfErr, Contains as IsElement, OnErr, OnOk, nat_lt, ◌↔◌}
-pub use Rattle.std.specs.declared.cmp.Ordering.{Ordering}
+pub use Rattle.std.specs.Prelude.{IfErr, OnErr, OnOk, nat_lt, ◌↔◌}
 pub use Rattle.std.specs.declared.cmp.Ordering.TheVariants.{Equal, Greater, Less}
-pub use Rattle.tg_rights.proofs.Bools.{and_both, or_either, or_join, true_both, true_first, true_second}
+pub use Rattle.tg_rights.proofs.Bools.{and_both, or_either, or_join, true_first, true_second}
 pub use Rattle.tg_rights.proofs.LettersLemmas.{is_none-none, right_some, some_right}
-pub use Rattle.tg_rights.proofs.MembershipLemmas.{contains_append, contains_around, contains_left, contains_map, contains_middle, contains_right, distinct_around, map_append, same_by, split_at}
+pub use Rattle.tg_rights.proofs.MembershipLemmas.{contains_append, contains_left, contains_map, contains_middle, contains_right, map_append, same_by, split_at}
 pub use Rattle.tg_rights.specs.Letters.{Letters, Right, grant, has, includes, is_none, joined, none, read, rights_where, take, without, write}
 pub use Rattle.tg_rights.specs.Membership.{Contains, Distinct}
 pub use Rattle.tg_rights.specs.declared.kind.Kind.{Kind}
@@ -32,6 +28,7 @@ pub use Rattle.tg_graph.proofs.CommandsKeepGraphsLemmas.{principals_are_few}
 pub use Rattle.tg_graph.proofs.EdgesAreCountedLemmas.{edge_count-bare, edge_count-sums, edge_count-union, keys_occur_once}
 pub use Rattle.tg_graph.proofs.LabelLemmas.{contains-label, difference-Relabels}
 pub use Rattle.tg_graph.proofs.LawsLemmas.{edge_list}
+pub use Rattle.tg_graph.proofs.ListedLemmas.{distinct_last, mapped, ones, permuted, rises_append, rises_by, rises_map, same_in_order, serials_distinct, sum_among}
 pub use Rattle.tg_graph.proofs.OutcomesAgreeLemmas.{leads_on}
 pub use Rattle.tg_graph.proofs.PartsStayLemmas.{label-relabelled}
 pub use Rattle.tg_graph.proofs.RollLemmas.{contains_filter}

@@ -1,17 +1,19 @@
 -- How many vertices and edges the graph of what is held has.
-use Rattle.std.proofs.Common.{◌≡◌, ◌==◌, ◌≢◌, ℕ, zero, suc, List, [], ◌∷◌, length, map, Option, Some, None, inl, inr, true, false, sym, ◌∙◌, subst, ap, refl, arith, get_or, sum_by, ◌<◌, ◌≤◌, Bool, cond, eqb, eq-eqb, T, ◌+◌}
-use Rattle.tg_collect.proofs.Common.{length-map, sum_by-cons, cases_eq, is_none, Contains, Distinct, contains_map, Edge, Kept, total, Stored, kept, kept_from, progress, vertices, held, nat_cmp, Letters, edges, IsHeap, Spot, AtRest, Body}
-use Rattle.tg_collect.proofs.Common.{name_of, left, Root, Machine, lists_of, body, progress_of, Whole, stored, shown, spot, root_serial, serial_of, IsHeldIn, IsParkedIn, IsStore, IsElement, nat_lt, ◌↔◌, IsPermutation, IsNonDecreasingBy}
-use Rattle.tg_collect.proofs.Common.{IsPermutation-sym, IsPermutation-map, Contains-permutation, is_lt, nat_cmp_is, Ordering, Less, Equal, Greater, below_all, ltb-true, ne_eqb, AllPairs, IsDistinct-IsPermutation, AllPairs-from_IsDistinct}
-use Rattle.tg_collect.proofs.Common.{IsDistinct-from_AllPairs, Decides-eqb, true_first, true_second, true_both, Protection, IsGraph, vertex_count, edge_count, edge_list, keys_occur_once, serials, held_one, held_cells}
+use Rattle.std.proofs.Common.{◌≡◌, ◌==◌, ◌≢◌, ℕ, zero, suc, List, [], ◌∷◌, length, map, Option, Some, None, inl, inr, true, false, sym, ◌∙◌, subst, ap, refl, arith, get_or, sum_by, ◌<◌, ◌≤◌, Bool, cond, T, ◌+◌}
+use Rattle.tg_collect.proofs.Common.{length-map, sum_by-cons, is_none, Contains, Distinct, contains_map, Edge, Kept, total, Stored, kept, kept_from, progress, vertices, held, nat_cmp, Letters, edges, IsHeap, Spot, AtRest, Body}
+use Rattle.tg_collect.proofs.Common.{name_of, left, Root, Machine, lists_of, body, progress_of, Whole, stored, shown, spot, root_serial, serial_of, IsHeldIn, IsParkedIn, IsStore, nat_lt, ◌↔◌, IsPermutation, IsNonDecreasingBy}
+use Rattle.tg_collect.proofs.Common.{IsPermutation-sym, IsPermutation-map, Triple, ones, permuted, rises_by, same_in_order, serials_distinct, triples, is_lt, Less, Equal, Greater, below_all, ltb-true}
+use Rattle.tg_collect.proofs.Common.{true_first, true_second, Protection, IsGraph, vertex_count, edge_count, edge_list, keys_occur_once, serials, held_one, held_cells}
 use Rattle.tg_collect.proofs.Common.{parked_cells, Closed, left_most, counted, IsRootAt}
 use Rattle.std.specs.FinMap as finmap
+use Rattle.std.specs.FinSet as finset
 use Rattle.tg_marking.specs.Values as values
+use Rattle.tg_graph.specs.Parts.{Rises}
 use Rattle.tg_graph.specs.Protection.{label}
 use Rattle.tg_graph.specs.Rules.{edges_of}
 use Rattle.tg_marking.specs.Values.{Progress, Marking, Sweeping}
-use Rattle.tg_collect.proofs.SlotLemmas.{at_index, contains_mapped, total_list, total_same, out_all, cells_so, celled}
-use Rattle.tg_collect.proofs.ShownLemmas.{nobody, ones, Once, held_at, held_kept, kept_held, from_size, same_sum, same_length, contains_keys, keys_contains, place_kept}
+use Rattle.tg_collect.proofs.SlotLemmas.{contains_mapped, total_list, total_none, total_same, out_all, cells_so, celled}
+use Rattle.tg_collect.proofs.ShownLemmas.{nobody, Once, held_at, held_kept, kept_held, from_size, same_sum, same_length, contains_keys, keys_contains, place_kept}
 use Rattle.tg_collect.proofs.StoreLemmas.{label_edge, kept_is, closed_so, named_so, once_stored, no_black, swept_so, from_held, to_held, distinct, root_in, apart_so, edge_in, owned_here}
 
 below_sum : (xs : List ℕ) (x : ℕ) → Contains xs x → x ≤ sum_by (λ y. y) xs
@@ -41,6 +43,10 @@ above x (e ∷ es) t p (inl is) = subst (λ (q : ℕ × Letters). x < q.0) (sym 
     not_less false t = t
 above x (e ∷ es) t p (inr h) = above x es (true_second _ _ t) p h
 
+pub sorted_rises : (es : Pairs) → T (finmap.is_sorted nat_cmp es) → Rises (λ (p q : ℕ × Letters). p.0 < q.0) es
+sorted_rises [] t = tt
+sorted_rises (e ∷ es) t = (above e.0 es (true_first _ _ t), sorted_rises es (true_second _ _ t))
+
 sorted_once : (es : Pairs) → T (finmap.is_sorted nat_cmp es) → Distinct es
 sorted_once [] t = tt
 sorted_once (e ∷ es) t = (λ h. let l = above e.0 es (true_first _ _ t) e h in absurd (omega (arith, l)), sorted_once es (true_second _ _ t))
@@ -51,63 +57,6 @@ pairs_once (e ∷ es) d = (
   λ h. let x = contains_mapped (λ (q : Edge). (q.serial, q.rights)) es (e.serial, e.rights) h in d.0 (subst (Contains (serials es)) (ap (λ (q : ℕ × Letters). q.0) x.2) (contains_map (λ (q : Edge). q.serial) es x.0 x.1)),
   pairs_once es d.1,
 )
-
--- Two sorted lists with the same pairs are equal.
-same_order : (xs ys : Pairs) → T (finmap.is_sorted nat_cmp xs) → T (finmap.is_sorted nat_cmp ys) → ((p : ℕ × Letters) → Contains xs p → Contains ys p) → ((p : ℕ × Letters) → Contains ys p → Contains xs p) → xs ≡ ys
-same_order [] [] s t f g = refl
-same_order [] (y ∷ ys) s t f g = absurd (g y (inl refl))
-same_order (x ∷ xs) [] s t f g = absurd (f x (inl refl))
-same_order (x ∷ xs) (y ∷ ys) s t f g = λ n. head n ∷ same_order xs ys (true_second _ _ s) (true_second _ _ t) (rest x y xs ys (true_first _ _ s) head f) (rest y x ys xs (true_first _ _ t) (sym head) g) n where
-  head : x ≡ y
-  head = elim (f x (inl refl)) [
-    | inl is ↦ is
-    | inr h ↦ elim (g y (inl refl)) [
-      | inl is ↦ sym is
-      | inr k ↦ absurd (let a = above y.0 ys (true_first _ _ t) x h in let b = above x.0 xs (true_first _ _ s) y k in omega (arith, a, b))
-    ]
-  ]
-
-  rest : (a b : ℕ × Letters) (ps qs : Pairs) → T (below_all nat_cmp a.0 ps) → a ≡ b → ((p : ℕ × Letters) → Contains (a ∷ ps) p → Contains (b ∷ qs) p) → (p : ℕ × Letters) → Contains ps p → Contains qs p
-  rest a b ps qs low is f p h = elim (f p (inr h)) [ inl here ↦ absurd (let l = above a.0 ps low p h in let e = ap (λ (q : ℕ × Letters). q.0) (here ∙ sym is) in omega (arith, l, e)) | inr there ↦ there ]
-
--- Serials of their own, which stay so in another order.
-eqb_flips : (x y : ℕ) → eqb x y ≡ eqb y x
-eqb_flips x y = elim (cases_eq x y) [
-  | inl is ↦ eq-eqb x y is ∙ sym (eq-eqb y x (sym is))
-  | inr other ↦ ne_eqb x y other ∙ sym (ne_eqb y x (λ e. other (sym e)))
-]
-
-all_apart : (ks : List ℕ) → Distinct ks → AllPairs (λ x y. x ≢ y) ks
-all_apart [] d i j e a b q = absurd (omega (arith, b))
-all_apart (k ∷ ks) d i zero e a b q = absurd (omega (arith, a))
-all_apart (k ∷ ks) d zero (suc j) e a b q = d.0 (subst (Contains ks) (sym q) (at_index ks j e (omega (arith, b))))
-all_apart (k ∷ ks) d (suc i) (suc j) e a b q = all_apart ks d.1 i j e (omega (arith, a)) (omega (arith, b)) q
-
-still_apart : (ks ls : List ℕ) → IsPermutation ks ls → Distinct ks → AllPairs (λ x y. x ≢ y) ls
-still_apart ks ls p d = AllPairs-from_IsDistinct Decides-eqb ls (IsDistinct-IsPermutation eqb eqb_flips ks ls p (IsDistinct-from_AllPairs Decides-eqb ks (all_apart ks d)))
-
-in_order : (es : Pairs) → IsNonDecreasingBy (λ (e : ℕ × Letters). e.0) es → AllPairs (λ x y. x ≢ y) (map (λ (e : ℕ × Letters). e.0) es) → T (finmap.is_sorted nat_cmp es)
-in_order [] f d = tt
-in_order (e ∷ es) f d = true_both _ _ (below es (λ k b. f 0 (suc k) e (omega arith) (omega (arith, b))) (λ k b. d 0 (suc k) 0 (omega arith) (omega (arith, b))))
-    (in_order es (λ i j v a b. f (suc i) (suc j) v (omega (arith, a)) (omega (arith, b))) (λ i j v a b. d (suc i) (suc j) v (omega (arith, a)) (omega (arith, b))))
-  where
-    below : (ds : Pairs) → ((k : ℕ) → k < length ds → e.0 ≤ (get_or ds k e).0) → ((k : ℕ) → k < length (map (λ (q : ℕ × Letters). q.0) ds) → e.0 ≢ get_or (map (λ (q : ℕ × Letters). q.0) ds) k 0) → T (below_all nat_cmp e.0 ds)
-    below [] f n = tt
-    below (d ∷ ds) f n = true_both _ _
-        (let l : e.0 < d.0 = (let a = f 0 (omega arith) in let b : e.0 ≢ d.0 = n 0 (omega arith) in omega (arith, a, b)) in subst (λ (o : Ordering). T (is_lt o)) (nat_cmp_is e.0 d.0 Less l) tt)
-        (below ds (λ k b. f (suc k) (omega (arith, b))) (λ k b. n (suc k) (omega (arith, b))))
-
-permuted : (xs ys : Pairs) (x : ℕ × Letters) → IsPermutation xs ys → Contains xs x → Contains ys x
-permuted xs ys x p h = from ys (Contains-permutation xs ys x p (to xs h)) where
-  to : (zs : Pairs) → Contains zs x → IsElement zs x
-  to [] h = absurd h
-  to (z ∷ zs) (inl e) = (0, omega arith, sym e)
-  to (z ∷ zs) (inr h) = let r = to zs h in let b : suc r.0 < suc (length zs) = (let l = r.1 in omega (arith, l)) in (suc r.0, b, r.2)
-
-  from : (zs : Pairs) → IsElement zs x → Contains zs x
-  from [] c = absurd (let l = c.1 in omega (arith, l))
-  from (z ∷ zs) (zero, l, e) = inl (sym e)
-  from (z ∷ zs) (suc k, l, e) = inr (from zs (k, omega (arith, l), e))
 
 -- The serials of what is held, slot by slot.
 abbrev serials_in : List (Option Kept) → List ℕ
@@ -147,6 +96,28 @@ sum_serials g f (Some k ∷ os) z e =
     let first = e 0 k refl in
     omega (arith, a, b, r, first)
 
+-- The graph, with a next serial above all of it; a vertex's labels and edges do not depend on that.
+abbrev pub whole_of : Stored → Protection
+whole_of v = held v (suc (sum_by (λ x. x) (finmap.keys (vertices v))))
+
+module _ (v : Stored) where
+  pub whole_IsGraph : ((t : Triple) → finset.contains (triples v) t ≡ true → IsHeldIn v t.from) → ((t : Triple) → finset.contains (triples v) t ≡ true → IsHeldIn v t.to) → ((t : Triple) → finset.contains (triples v) t ≡ true → t.from ≢ t.to) → IsGraph (whole_of v)
+  whole_IsGraph from to apart = record {
+    below_next = λ x h. let l = below_sum (finmap.keys (vertices v)) x (contains_keys (vertices v) x h) in omega (arith, l);
+    from_vertex = from;
+    to_vertex = to;
+    distinct = apart;
+    roll = nobody (vertices v) (whole_of v).next;
+  }
+
+  pub labels_same : (next x y : ℕ) → label (held v next) x y ≡ label (whole_of v) x y
+  unfolding label
+  labels_same next x y = refl
+
+  pub edges_same : (next x : ℕ) → edges_of (held v next) x ≡ edges_of (whole_of v) x
+  unfolding label edges_of
+  edges_same next x = refl
+
 module _ (v : Stored) (once : Once v) where
   abbrev os : List (Option Kept)
   os = kept_from (progress v) 0 v.slots
@@ -180,22 +151,11 @@ module _ (v : Stored) (once : Once v) where
 
   module _ (closed : Closed (kept v) (IsRootAt v)) (serial_once : (i : ℕ) (k : Kept) → kept v i ≡ Some k → Distinct (serials k.edges))
       (some : (i : ℕ) (k : Kept) (e : Edge) → kept v i ≡ Some k → Contains k.edges e → is_none e.rights ≡ false) where
-    -- The graph, with a next serial above all of it; a vertex's edges do not depend on that.
     abbrev whole : Protection
-    whole = held v (suc (sum_by (λ x. x) (finmap.keys (vertices v))))
+    whole = whole_of v
 
     whole_graph : IsGraph whole
-    whole_graph = record {
-      below_next = λ x h. let l = below_sum (finmap.keys (vertices v)) x (contains_keys (vertices v) x h) in omega (arith, l);
-      from_vertex = from_held v closed once;
-      to_vertex = to_held v closed once;
-      distinct = distinct v closed once;
-      roll = nobody (vertices v) whole.next;
-    }
-
-    edges_same : (next x : ℕ) → edges_of (held v next) x ≡ edges_of whole x
-    unfolding label edges_of
-    edges_same next x = refl
+    whole_graph = whole_IsGraph v (from_held v closed once) (to_held v closed once) (distinct v closed once)
 
     -- A held vertex has the edges in the graph that its slot has.
     pairs_here : (i : ℕ) (k : Kept) → kept v i ≡ Some k → (p : ℕ × Letters) → Contains (edges_of whole k.serial) p ↔ Contains (pairs_of k.edges) p
@@ -217,15 +177,19 @@ module _ (v : Stored) (once : Once v) where
     rising_here x = subst T (sym (edge_list whole x whole_graph).rising) tt
 
     pub edges_counted : (next : ℕ) → edge_count (held v next) ≡ total (λ i. held_cells (kept v i)) (length v.slots)
-    edges_counted next = sum_held (λ x. length (edges_of (held v next) x)) held_cells refl (λ i k is. ap length (edges_same next k.serial) ∙ edges_here i k is) where
+    edges_counted next = sum_held (λ x. length (edges_of (held v next) x)) held_cells refl (λ i k is. ap length (edges_same v next k.serial) ∙ edges_here i k is) where
       edges_here : (i : ℕ) (k : Kept) → kept v i ≡ Some k → length (edges_of whole k.serial) ≡ length k.edges
       edges_here i k is = same_length (edges_of whole k.serial) (pairs_of k.edges) (sorted_once _ (rising_here k.serial)) (pairs_once k.edges (serial_once i k is)) (λ p. (pairs_here i k is p).0) (λ p. (pairs_here i k is p).1)
           ∙ length-map k.edges (λ (x : Edge). (x.serial, x.rights))
 
     -- The slot's edges in the order of their serials are the vertex's.
     pub edges_listed : (next i : ℕ) (k : Kept) (ys : Pairs) → kept v i ≡ Some k → IsPermutation (pairs_of k.edges) ys → IsNonDecreasingBy (λ (e : ℕ × Letters). e.0) ys → ys ≡ edges_of (held v next) k.serial
-    edges_listed next i k ys is p rising = same_order ys (edges_of whole k.serial) (in_order ys rising (still_apart _ (map (λ (e : ℕ × Letters). e.0) ys) (IsPermutation-map (λ (e : ℕ × Letters). e.0) (pairs_of k.edges) ys p) (subst Distinct (sym (keys_pairs k.edges)) (serial_once i k is)))) (rising_here k.serial)
-        (λ q h. (pairs_here i k is q).1 (permuted ys (pairs_of k.edges) q (IsPermutation-sym (pairs_of k.edges) ys p) h)) (λ q h. permuted (pairs_of k.edges) ys q p ((pairs_here i k is q).0 h)) ∙ sym (edges_same next k.serial)
+    edges_listed next i k ys is p rising =
+        same_in_order (λ (e : ℕ × Letters). e.0) ys (edges_of whole k.serial)
+        (rises_by (λ (e : ℕ × Letters). e.0) ys rising
+        (serials_distinct (map (λ (e : ℕ × Letters). e.0) (pairs_of k.edges)) (map (λ (e : ℕ × Letters). e.0) ys) (IsPermutation-map (λ (e : ℕ × Letters). e.0) (pairs_of k.edges) ys p) (subst Distinct (sym (keys_pairs k.edges)) (serial_once i k is))))
+        (sorted_rises (edges_of whole k.serial) (rising_here k.serial))
+        (λ q h. (pairs_here i k is q).1 (permuted ys (pairs_of k.edges) q (IsPermutation-sym (pairs_of k.edges) ys p) h)) (λ q h. permuted (pairs_of k.edges) ys q p ((pairs_here i k is q).0 h)) ∙ sym (edges_same v next k.serial)
 
 -- Each machine's value is a store.
 left_some : (b : Body) (p : Progress) (cells : ℕ) → 1 ≤ left cells b p
@@ -253,11 +217,7 @@ module _ (m : Machine) (ok : IsHeap m.heap) (w : Whole m) where
   cells_all next = let a = counted.cells (shown (stored m)) (progress (stored m)) in let b = cells_so m.heap (lists_of m.roots) ok in let c = edges_so next in omega (arith, a, b, c)
 
   none_parked : ((x : ℕ) → IsParkedIn (stored m) x → ⊥) → total (λ i. parked_cells (progress (stored m)) i (spot (stored m) i)) (length (stored m).slots) ≡ 0
-  none_parked none = total_same (λ i. parked_cells (progress (stored m)) i (spot (stored m) i)) (λ i. 0) (length (stored m).slots) (λ i. by i (spot (stored m) i) refl) ∙ zeros (length (stored m).slots) where
-    zeros : (n : ℕ) → total (λ i. 0) n ≡ 0
-    zeros zero = refl
-    zeros (suc n) = let r = zeros n in omega (arith, r)
-
+  none_parked none = total_none (λ i. parked_cells (progress (stored m)) i (spot (stored m) i)) (length (stored m).slots) (λ i. by i (spot (stored m) i) refl) where
     by : (i : ℕ) (o : Option Spot) → spot (stored m) i ≡ o → parked_cells (progress (stored m)) i o ≡ 0
     by i None e = refl
     by i (Some s) e = dark (values.keeps (progress (stored m)) i s.colour) refl where

@@ -13,5 +13,6 @@ mod EdgeLemmas
 mod EdgesLemmas
 mod LineLemmas
 mod OpeningEdges
+mod PartsLemmas
 mod RootLemmas
 mod SlotLemmas

@@ -1,8 +1,8 @@
 -- What the graph of what is held says of the slots, and back.
-use Rattle.std.proofs.Common.{◌≡◌, ℕ, zero, suc, ◌+◌, List, [], ◌∷◌, length, Option, Some, None, inl, inr, Bool, true, false, cond, ◌&&◌, ◌==◌, eqb-true, eq-eqb, sym, ◌∙◌, subst, ap, refl, arith, get_or, set, ◌++◌, sum_by}
+use Rattle.std.proofs.Common.{◌≡◌, ℕ, zero, suc, ◌+◌, List, [], ◌∷◌, length, Option, Some, None, inl, inr, Bool, true, false, cond, ◌&&◌, ◌==◌, eqb-true, eq-eqb, sym, ◌∙◌, subst, ap, refl, arith, get_or, set, sum_by}
 use Rattle.tg_collect.proofs.Common.{is_some, nat_cmp, Right, has, is_none, Contains, some_right, Triple, Edge, Spot, Kept, seen, vertex_of, Stored, kept_from, progress, serial_of, place, held, vertices, triples, IsHeldIn, IsEdgeIn}
-use Rattle.tg_collect.proofs.Common.{sum_by-cons, Distinct, eq_by_cmp, nat_cmp_total, unsigned_tied, find, get-from_entries, contains_key-keys, sum_by-append, list_any, or_right, split_at, distinct_around, contains_around, contains_append}
-use Rattle.tg_collect.proofs.Common.{contains_left, contains_right, or_either, or_join, and_both, Vertex, entries, says_edge, says, contains-held, IsRoll, Member, Protection, contains-empty}
+use Rattle.tg_collect.proofs.Common.{Distinct, eq_by_cmp, nat_cmp_total, unsigned_tied, find, get-from_entries, contains_key-keys, list_any, ones, or_right, sum_among}
+use Rattle.tg_collect.proofs.Common.{or_either, or_join, and_both, Vertex, entries, says_edge, says, contains-held, IsRoll, Member, Protection, contains-empty}
 use Rattle.tg_graph.specs.Protection.{label}
 use Rattle.std.specs.FinMap as finmap
 use Rattle.std.specs.FinSet as finset
@@ -169,30 +169,10 @@ place_kept v i x e = by (readings.kept v i) refl e where
 -- Lists without repetition, their lengths and their sums.
 -- Two lists without repetition that have the same elements have the same sums.
 pub same_sum : {X : Type 0} (f : X → ℕ) (xs ys : List X) → Distinct xs → Distinct ys → ((x : X) → Contains xs x → Contains ys x) → ((x : X) → Contains ys x → Contains xs x) → sum_by f xs ≡ sum_by f ys
-same_sum f [] [] d e to from = refl
-same_sum f [] (y ∷ ys) d e to from = absurd (from y (inl refl))
-same_sum f (x ∷ xs) ys d e to from =
-    let s = split_at ys x (to x (inl refl)) in
-    let around = distinct_around s.before s.after x (subst Distinct s.is e) in
-    let rest = same_sum f xs (s.before ++ s.after) d.1 around.0
-    (λ z h. elim (contains_append s.before (x ∷ s.after) z (subst (λ (l : List _). Contains l z) s.is (to z (inr h)))) [
-      | inl a ↦ contains_left s.before s.after z a
-      | inr b ↦ elim b [ inl is ↦ absurd (d.0 (subst (Contains xs) is h)) | inr c ↦ contains_right s.before s.after z c ]
-    ])
-    (λ z h. elim (from z (subst (λ (l : List _). Contains l z) (sym s.is) (contains_around s.before s.after x z h))) [
-      | inl is ↦ absurd (around.1 (subst (Contains (s.before ++ s.after)) is h))
-      | inr later ↦ later
-    ]) in
-    let a = sum_by-append f s.before s.after in
-    let b = sum_by-append f s.before (x ∷ s.after) in
-    let c = sum_by-cons f x s.after in
-    let d' = sum_by-cons f x xs in
-    let g : sum_by f ys ≡ sum_by f (s.before ++ x ∷ s.after) = ap (sum_by f) s.is in
-    omega (arith, rest, a, b, c, d', g)
-
-pub ones : {X : Type 0} (xs : List X) → sum_by (λ x. 1) xs ≡ length xs
-ones [] = refl
-ones (x ∷ xs) = (let a = sum_by-cons (λ (y : _). 1) x xs in let b = ones xs in omega (arith, a, b))
+same_sum f xs ys d e to from =
+    let a = sum_among f f xs ys d (λ x h. (to x h, omega arith)) in
+    let b = sum_among f f ys xs e (λ y h. (from y h, omega arith)) in
+    omega (arith, a, b)
 
 pub same_length : {X : Type 0} (xs ys : List X) → Distinct xs → Distinct ys → ((x : X) → Contains xs x → Contains ys x) → ((x : X) → Contains ys x → Contains xs x) → length xs ≡ length ys
 same_length xs ys d e to from = sym (ones xs) ∙ same_sum (λ x. 1) xs ys d e to from ∙ ones ys

@@ -227,6 +227,10 @@ pub total_same : (f g : ℕ → ℕ) (n : ℕ) → ((i : ℕ) → f i ≡ g i) �
 total_same f g zero e = refl
 total_same f g (suc n) e = let a = total_same f g n e in let b = e n in omega (arith, a, b)
 
+pub total_none : (f : ℕ → ℕ) (n : ℕ) → ((i : ℕ) → f i ≡ 0) → total f n ≡ 0
+total_none f zero e = refl
+total_none f (suc n) e = let a = total_none f n e in let b = e n in omega (arith, a, b)
+
 -- The free slots are those of the free list.
 pub free_so : (h : HeapGraph) (rs : RootLists) → IsHeap h → total (λ i. free_one (spot (body_of h rs) i)) (length (zip h.table.slots h.lists)) ≡ length h.table.free
 free_so h rs ok = total_list free_one (zip h.table.slots h.lists) None ∙ zipped h.table.slots h.lists ∙ sym ok.table.free_count where

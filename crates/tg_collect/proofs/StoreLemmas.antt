@@ -12,8 +12,10 @@ use Rattle.tg_rights.specs.Letters as right
 use Rattle.tg_slots.specs.Table as table
 use Rattle.tg_graph.specs.Protection.{label}
 use Rattle.tg_graph.specs.Paths.{Leads}
+use Rattle.tg_marking.specs.Left.{parked_one}
 use Rattle.tg_marking.specs.Values.{Progress, Marking, Sweeping, edges_of}
-use Rattle.tg_collect.proofs.SlotLemmas.{at_index, listed_root, zip_at, zip_size, as_spot, kept_within, root_listed, contains_mapped}
+use Rattle.tg_collect.specs.declared.note.Phase.TheVariants as phases
+use Rattle.tg_collect.proofs.SlotLemmas.{at_index, listed_root, zip_at, zip_size, as_spot, kept_within, root_listed, contains_mapped, total_none}
 use Rattle.tg_collect.proofs.LineLemmas.{kept_so}
 use Rattle.tg_collect.proofs.ShownLemmas.{Once, triple_owned, held_at, held_kept, kept_held, place_kept, vertex_found, says_triple, edge_shown, shown_edge}
 
@@ -227,6 +229,22 @@ found_edge m id y rights ok w at t i =
     let l : label (held (stored m) 0) (serial_at (stored m) id) y ≡ e.rights = ap (λ (x : ℕ). label (held (stored m) 0) x y) h.serial ∙ subst (λ (z : ℕ). label (held (stored m) 0) h.what.serial z ≡ e.rights) (sym o.2)
     (label_edge (stored m) 0 id h.what (once_stored m w) h.shows e (subst (λ (k : Kept). Distinct (map (λ (d : Edge). d.serial) k.edges)) h.same (ok.cells.serial_once id)) o.1) in
     (record { before = s.before; edge = e; after = s.after; is = s.is; here = sym o.2 }, subst (λ (r : Letters). includes r rights ≡ true) l i)
+
+-- Between cycles nothing is parked.
+pub idle_unparked : (v : Stored) → readings.phase v ≡ phases.Idle → (x : ℕ) → IsParkedIn v x → ⊥
+idle_unparked v idle x (i, (s, at, dark), named) = by v.stage idle dark where
+  by : (g : values.Stage) → readings.phase_in g ≡ phases.Idle → values.keeps (readings.as_progress g) i s.colour ≡ false → ⊥
+  by values.Idle is d = absurd (cc d)
+  by values.Mark is d = absurd (cc is)
+  by (values.Sweep k) is d = absurd (cc is)
+
+pub idle_none_parked : (v : Stored) → readings.phase v ≡ phases.Idle → readings.parked_count v ≡ 0
+idle_none_parked v idle = total_none (λ i. parked_one (progress v) i (spot v i)) (readings.slot_count v) (λ i. by v.stage idle i (spot v i)) where
+  by : (g : values.Stage) → readings.phase_in g ≡ phases.Idle → (i : ℕ) (o : Option Spot) → parked_one (readings.as_progress g) i o ≡ 0
+  by values.Idle is i None = refl
+  by values.Idle is i (Some s) = refl
+  by values.Mark is i o = absurd (cc is)
+  by (values.Sweep k) is i o = absurd (cc is)
 
 -- The seats, and the principals by their serials.
 pub seat_shown : (m : Machine) (seat : ℕ) → pending_of (stored m) seat ≡ root_serial (get_or m.roots.targets.items seat None)

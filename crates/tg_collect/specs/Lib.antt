@@ -3,6 +3,7 @@ pub mod Course
 pub mod Stored
 pub mod Readings
 pub mod Views
+pub mod Parts
 pub mod Sessions
 pub mod Runs
 pub mod Openings

@@ -1,13 +1,15 @@
 //! Calls whose allocations fail: what they leave, and the same calls made again. tests/faults/growths.py makes each
 //! allocation of a test fail in turn.
 use crate::Store;
-use crate::tests::Act::{Create, Cycle, FreeCells, FreeSlots, Join, Remove, Shade};
-use crate::tests::{PLAIN, Script, at, graph, open, play, rights};
+use crate::tests::Act::{
+    Create, Cycle, FreeCells, FreeSlots, Join, Mark, Remove, Shade, Sweep, Write,
+};
+use crate::tests::{PLAIN, Script, at, edges, graph, open, play, rights};
 use std::alloc::{AllocError, Global};
 use std::process::Abort;
 use tg_graph::Graph;
 use tg_heap::HeapFull;
-use tg_rights::{Kind, Rights};
+use tg_rights::{Kind, Rights, Text};
 
 const GARBAGE: &Script = &Script {
     name: "garbage outlives a cycle",
@@ -38,6 +40,70 @@ const JOINED: &Script = &Script {
     ],
     ..PLAIN
 };
+
+/// What is played next, and what is then held: the vertices, and the edges by the letters of their rights.
+struct Stage {
+    script: Script,
+    vertices: &'static [(u64, Kind, &'static str)],
+    edges: &'static [(u64, &'static str, u64)],
+}
+
+// 3 is parked in the third, and 4 has come ahead of the sweep in the last
+const STAGES: &[Stage] = &[
+    Stage {
+        script: Script {
+            name: "no cycle has started",
+            ..PLAIN
+        },
+        vertices: &[
+            (1, Kind::Subject, ""),
+            (2, Kind::Subject, ""),
+            (3, Kind::Document, ""),
+        ],
+        edges: &[(1, "tg", 2), (1, "rw", 3), (2, "rwg", 3)],
+    },
+    Stage {
+        script: Script {
+            name: "marking",
+            acts: &[Write(2, 3, "hi", ""), Mark(3)],
+            ..PLAIN
+        },
+        vertices: &[
+            (1, Kind::Subject, ""),
+            (2, Kind::Subject, ""),
+            (3, Kind::Document, "hi"),
+        ],
+        edges: &[(1, "tg", 2), (1, "rw", 3), (2, "rwg", 3)],
+    },
+    Stage {
+        script: Script {
+            name: "before the sweep's first slot",
+            acts: &[
+                Cycle(7, 9),
+                Remove(1, 3, "rw"),
+                Remove(2, 3, "rwg"),
+                Mark(6),
+                Sweep(1),
+            ],
+            ..PLAIN
+        },
+        vertices: &[(1, Kind::Subject, ""), (2, Kind::Subject, "")],
+        edges: &[(1, "tg", 2)],
+    },
+    Stage {
+        script: Script {
+            name: "before a parked slot",
+            acts: &[Sweep(2), Create(0, 1, 4, "r", None)],
+            ..PLAIN
+        },
+        vertices: &[
+            (1, Kind::Subject, ""),
+            (2, Kind::Subject, ""),
+            (4, Kind::Document, ""),
+        ],
+        edges: &[(1, "tg", 2), (1, "r", 4)],
+    },
+];
 
 /// The graph still has its two principals and nothing else.
 fn is_left(rt: &impl Abort, graph: &Graph) {
@@ -106,5 +172,56 @@ fn growth_refused_in_a_list_of_edges(rt: HostRuntime) -> Result<(), AllocError> 
     assert!(rt; has_edges(&rt, rt.alloc(), &store, 1, first.as_slice())?);
     let second = [(3, rights("rwg"))];
     assert!(rt; has_edges(&rt, rt.alloc(), &store, 2, second.as_slice())?);
+    Ok(())
+}
+
+/// What is held, asked for again if memory runs out.
+fn parts_again(
+    rt: &impl Print,
+    alloc: Global,
+    store: &Store,
+) -> Result<(Vec<(u64, Kind, Text)>, Vec<(u64, Rights, u64)>), AllocError> {
+    match store.parts(alloc) {
+        Ok(parts) => Ok(parts),
+        Err(_) => {
+            let _ = rt.println("no memory");
+            store.parts(alloc)
+        }
+    }
+}
+
+fn is_vertex(vertex: &(u64, Kind, Text), wanted: &(u64, Kind, &str)) -> bool {
+    vertex.0 == wanted.0 && vertex.1 == wanted.1 && vertex.2.get() == wanted.2
+}
+
+fn are_vertices(vertices: &[(u64, Kind, Text)], wanted: &[(u64, Kind, &str)]) -> bool {
+    for (vertex, other) in vertices.iter().zip(wanted.iter()) {
+        if !is_vertex(vertex, other) {
+            return false;
+        }
+    }
+    vertices.len() == wanted.len()
+}
+
+/// Whether a store lists what a stage says.
+fn lists(rt: &impl Print, alloc: Global, store: &Store, stage: &Stage) -> Result<bool, AllocError> {
+    let wanted = edges(alloc, stage.edges)?;
+    let (vertices, edges) = parts_again(rt, alloc, store)?;
+    Ok(are_vertices(vertices.as_slice(), stage.vertices) && edges.as_slice() == wanted.as_slice())
+}
+
+/// Lists that lack memory leave the store; what is held, and nothing that is parked, is listed on the next call.
+#[test]
+fn growth_refused_in_lists_of_what_is_held(rt: HostRuntime) -> Result<(), AllocError> {
+    let mut store = open(&rt, rt.alloc(), JOINED)?;
+    play(&rt, rt.alloc(), &mut store, JOINED)?;
+    for stage in STAGES {
+        play(&rt, rt.alloc(), &mut store, &stage.script)?;
+        assert!(rt;
+            lists(&rt, rt.alloc(), &store, stage)?,
+            "{}",
+            stage.script.name
+        );
+    }
     Ok(())
 }

@@ -9,6 +9,7 @@ mod laws;
 mod machine;
 mod note;
 mod opening;
+mod parts;
 mod reader;
 mod roster;
 #[cfg(test)]

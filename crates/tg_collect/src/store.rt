@@ -29,7 +29,7 @@ use tg_rights::{Kind, Rights, Text};
 /// A call that names a slot requires that a vertex is held there; one that names a seat, that it is 0 to 63.
 #[derive(Drop)]
 pub struct Store {
-    machine: Machine,
+    pub(crate) machine: Machine,
 }
 
 impl Model for Store {

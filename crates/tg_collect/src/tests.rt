@@ -136,7 +136,7 @@ fn words(alloc: Global, names: &[&str]) -> Result<Vec<Word>, AllocError> {
     Ok(principals)
 }
 
-fn edges(
+pub fn edges(
     alloc: Global,
     wanted: &[(u64, &str, u64)],
 ) -> Result<Vec<(u64, Rights, u64)>, AllocError> {

@@ -1,0 +1,30 @@
+use Rattle.std.proofs.Common.{◌≡◌, ◌≤◌, List, ℕ, add-one, ap, arith, length, rules, subst, sym, ◌∙◌}
+use Rattle.std.specs.List.Sorted.{IsPermutation}
+use Rattle.std.proofs.lemmas.List.Sorted.{IsNonDecreasingBy-from_sort_by_key}
+use Rattle.tg_collect.specs.Parts.{with_slot}
+use Rattle.tg_collect.specs.Readings.{place}
+use Rattle.tg_collect.specs.Stored.{Stored, stored}
+use Rattle.tg_collect.proofs.PartsLemmas.{held_below, slots_sorted}
+use Rattle.tg_collect.proofs.SlotLemmas.{zip_size}
+use Rattle.tg_collect.proofs.store.Store.held_slots.Goals as goal
+
+pub loop-id-preserved : goal.loop-id-preserved
+loop-id-preserved c =
+    let v : Stored = c.args.self.now in
+    let i = c.loop-id.id in
+    c.in_ok-add_slot.ensures
+    ∙ ap (λ (l : List (ℕ × ℕ)). with_slot l i c.held_at-serial.result) c.loop-id.invariant
+    ∙ ap (with_slot (held_below v i) i) (c.held_at-serial.ensures ∙ ap (λ (w : Stored). place w i) c.self.view_is)
+    ∙ ap (held_below v) (sym (add-one i))
+
+pub returns : goal.returns
+returns c =
+    let m = c.self.inside.machine in
+    let v : Stored = c.args.self.now in
+    let ts = c.sort_unstable_by_key.new.self.items in
+    let size = zip_size m.heap.table.slots m.heap.lists in
+    let shows : length (stored m).slots ≡ length v.slots = ap (λ (w : Stored). length w.slots) c.self.view_is in
+    let all : length v.slots ≤ c.loop-id.id = omega (arith, size, shows) in
+    slots_sorted v c.soundness.ensures.sound c.loop-id.id all ts
+    (subst (λ (l : List (ℕ × ℕ)). IsPermutation l ts) c.loop-id.invariant c.sort_unstable_by_key.ensures.permutation)
+    (IsNonDecreasingBy-from_sort_by_key (λ (t : ℕ × ℕ). t.0) ts c.sort_unstable_by_key.ensures.sorted (λ a r q k. search rules))
