@@ -228,7 +228,7 @@ module _ (v : Contents) (s : IsCoherent v) where
   root_so x (inr (inl target)) = let at = contains_seat (pending v.store) x target in inr (at.0, inl at.1)
   root_so x (inr (inr agent)) = let at = contains_seat (agents v.store) x agent in inr (at.0, inr at.1)
 
-  live_so : (x : ℕ) → Live H (IsRootIn v.store) x → Live (graph_now v) (IsRoot (moment v).world) x
+  pub live_so : (x : ℕ) → Live H (IsRootIn v.store) x → Live (graph_now v) (IsRoot (moment v).world) x
   live_so x live = (live.0, root_so live.0 live.1, (live.2.0, (of_graph v s.ties s.store live.0 live.2.1.0, leads_so live.2.0 live.0 x live.2.1.0 live.2.1.1)))
 
   held_below : (x : ℕ) → IsHeldIn v.store x → x < (graph_now v).next
@@ -243,7 +243,7 @@ follows_idle Mark q ended is f = absurd (cc is)
 follows_idle Sweep q ended is f = absurd (cc is)
 
 -- a cycle that starts here, and two that end from here on
-from_idle : runs.IsComplete → (m : Contents) → IsCoherent m → phase m.store ≡ Idle → (after : List Event) (note : Note) (back : List Answer) (w : Contents) → Course m after (answer.Noted note ∷ back) w →
+pub from_idle : runs.IsComplete → (m : Contents) → IsCoherent m → phase m.store ≡ Idle → (after : List Event) (note : Note) (back : List Answer) (w : Contents) → Course m after (answer.Noted note ∷ back) w →
     2 ≤ ended_in (answer.Noted note ∷ back) → (x : ℕ) → HasSlot w x → Live (held m.store (graph_now m).next) (IsRootIn m.store) x ⊎ ((graph_now m).next ≤ x)
 from_idle law m sound idle [] note back w course two x slot = absurd course
 from_idle law m sound idle (event.Hello seat name ∷ es) note back w course two x slot = absurd course.1.step

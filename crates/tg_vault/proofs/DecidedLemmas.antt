@@ -20,7 +20,7 @@ use Rattle.tg_graph.specs.Terms.{Does, terms}
 use Rattle.tg_graph.specs.Rules.{Allowed, Judged, allowed_reply, answered, denial, is_create, is_new, last_serial}
 use Rattle.tg_graph.proofs.OutcomesAgreeLemmas.{Judged-agrees}
 use Rattle.tg_graph.proofs.ProtectionLemmas.{Entitled, edge_to, entitled}
-use Rattle.tg_graph.proofs.PartsStayLemmas.{part_agrees}
+use Rattle.tg_graph.proofs.PartsStayLemmas.{agree_back, part_agrees}
 use Rattle.tg_graph.proofs.ExactlyOneOutcomeLemmas.{verdict-Judged}
 use Rattle.tg_graph.proofs.RepliesAgreeLemmas.{same_reply}
 use Rattle.tg_graph.proofs.RollLemmas.{member_finds, member_found}
@@ -37,17 +37,6 @@ use Rattle.tg_vault.proofs.SerialsLemmas.{is_listed, listed}
 use Rattle.tg_vault.proofs.PlaceLemmas.{seat_contains}
 use Rattle.tg_vault.proofs.RetiredLemmas.{retired_alike, retired_leaves}
 use Rattle.tg_vault.proofs.CarriedOutLemmas.{needs_none}
-
-pub agree_back : (G H : Protection) (x : ℕ) → Agree G H x → Agree H G x
-agree_back G H x a = record {
-  subject = a.subject_too;
-  subject_too = a.subject;
-  paths = λ later y. ((a.paths later y).1, (a.paths later y).0);
-  vertices = λ later y p. sym (a.vertices later y ((a.paths later y).1 p));
-  labels = λ later y z p. sym (a.labels later y z ((a.paths later y).1 p));
-  names = sym a.names;
-  retired = sym a.retired;
-}
 
 -- who can have a command carried out: a root of the store, and a subject
 pub record IsActor (v : Contents) (x : ℕ) : Type 0 where

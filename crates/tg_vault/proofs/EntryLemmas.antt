@@ -1,5 +1,5 @@
 -- A vault with one more entry.
-use Rattle.std.proofs.Common.{◌≡◌, ℕ, ◌+◌, ◌-◌, ◌<◌, ◌≤◌, List, [], ◌∷◌, ◌++◌, refl, sym, ap, subst, ◌∙◌, ◌⊎◌, inl, inr, Some, None, Bool, true, false, cond, arith}
+use Rattle.std.proofs.Common.{◌≡◌, ℕ, ◌+◌, ◌-◌, ◌<◌, ◌≤◌, List, [], ◌∷◌, ◌++◌, refl, sym, ap, subst, ◌∙◌, ◌⊎◌, inl, inr, Some, None, is_some, Bool, true, false, cond, arith}
 use Rattle.std.specs.Prelude.{Option}
 use Rattle.std.specs.Ordering.{nat_cmp}
 use Rattle.std.specs.FinSet as set
@@ -30,9 +30,9 @@ use Rattle.tg_collect.specs.Views.{IsStore}
 use Rattle.tg_collect.proofs.RunLemmas.{acted_parked}
 use Rattle.tg_vault.specs.History.{MayAsk, WasAssumed, WasPrincipal}
 use Rattle.tg_vault.specs.Seen.{seen, set_of}
-use Rattle.tg_vault.specs.World.{actor_at, agents_after, at_seat, new_agents, new_target, target_of, with_target, slots_taken, entered, Enters}
+use Rattle.tg_vault.specs.World.{acting, actor_at, agents_after, at_seat, in_use, new_target, target_of, with_target, slots_taken, entered, Enters}
 use Rattle.tg_vault.specs.Contents.{Contents, IsVault, graph_now, held_now, moment}
-use Rattle.tg_vault.specs.Fits.{Ties, IsTied}
+use Rattle.tg_vault.specs.Fits.{AreTaken, Ties, IsTied}
 use Rattle.tg_vault.specs.StoreSteps.{SessionStep}
 use Rattle.tg_vault.specs.Exact.{IsExact}
 use Rattle.tg_vault.specs.Agreement.{SameForAgreeing, JudgedAlike, IsOfGraph}
@@ -40,8 +40,7 @@ use Rattle.tg_vault.specs.Told.{told}
 use Rattle.tg_vault.specs.CarriedOut.{CarriedOut, Decided, CellsMoved, EdgeMoves, new_serial}
 use Rattle.tg_vault.proofs.HistoryLemmas.{along_more, graph_of_more, told_outcome, was_stays}
 use Rattle.tg_vault.proofs.DecidedLemmas.{IsActor, actor_held, acts_here, decided_permitted, decided_so, entitled_held, exact_full, exact_slots, graph_is, held_is, replied_so, retired_decided}
-use Rattle.tg_vault.proofs.FoundLemmas.{acts_for}
-use Rattle.tg_vault.proofs.PlaceLemmas.{set_seat}
+use Rattle.tg_vault.proofs.SeatLemmas.{agent_after, target_after}
 use Rattle.tg_vault.proofs.RetiredLemmas.{retired_leaves}
 use Rattle.tg_vault.proofs.CountLemmas.{Carried, edges_counted, next_same, target_same, vertex_stays, vertices_counted}
 
@@ -109,30 +108,20 @@ module _ (v : Contents) (j : Ties v) (store : IsStore v.store) (x : ℕ) (before
   moved_so c (outcome.Denied rule cause) a acts moved = moved
   moved_so c (outcome.Full w) a acts moved = moved
 
--- each agent was assumed: it was one before, or the entry has made it one
-module _ (earlier : List Entry) (e : Entry) (agents : List (Option ℕ)) (were : (k y : ℕ) → at_seat agents k ≡ Some y → WasAssumed earlier k y) (k y : ℕ) where
-  longer : WasAssumed earlier k y → WasAssumed (earlier ++ e ∷ []) k y
-  longer (d, within, at, is, allowed) = (d, contains_left earlier (e ∷ []) d within, at, is, allowed)
+-- each agent was assumed
+assumed_after : (earlier : List Entry) (e : Entry) (agents : List (Option ℕ)) → ((k y : ℕ) → at_seat agents k ≡ Some y → WasAssumed earlier k y) → (k y : ℕ) → at_seat (agents_after agents e.seat e.actor e.command e.outcome) k ≡ Some y →
+    WasAssumed (earlier ++ e ∷ []) k y
+assumed_after earlier e agents were k y at = elim (agent_after agents e.seat e.actor e.command k y e.outcome at) [
+  | inl (there, assumes, allowed) ↦ (e, contains_right earlier (e ∷ []) e (inl refl), sym there, assumes, allowed)
+  | inr before ↦ let was = were k y before in (was.0, contains_left earlier (e ∷ []) was.0 was.1, was.2, was.3, was.4)
+]
 
-  done_assumed : (d : Does) → d ≡ (terms e.actor e.command).does → e.outcome ≡ outcome.Allowed → at_seat (new_agents agents e.seat d) k ≡ Some y → WasAssumed (earlier ++ e ∷ []) k y
-  done_assumed (effect.Joins from α to) does allowed at = longer (were k y at)
-  done_assumed (effect.Makes kind α name) does allowed at = longer (were k y at)
-  done_assumed (effect.Drops α over) does allowed at = longer (were k y at)
-  done_assumed (effect.Rewrites over text) does allowed at = longer (were k y at)
-  done_assumed (effect.Tells over) does allowed at = longer (were k y at)
-  done_assumed (effect.Lists of) does allowed at = longer (were k y at)
-  done_assumed effect.Retires does allowed at = longer (were k y at)
-  done_assumed (effect.Acts agent) does allowed at = elim (set_seat agents e.seat k agent y at) [
-    | inl new ↦
-        let assumes = acts_for e.actor e.command y (ap (λ a. effect.Acts a) (sym new.1) ∙ does) in
-        (e, contains_right earlier (e ∷ []) e (inl refl), sym new.0, assumes, allowed)
-    | inr before ↦ longer (were k y before)
-  ]
-
-  assumed_after : (o : Outcome) → e.outcome ≡ o → at_seat (agents_after agents e.seat e.actor e.command o) k ≡ Some y → WasAssumed (earlier ++ e ∷ []) k y
-  assumed_after outcome.Allowed is at = done_assumed (terms e.actor e.command).does refl is at
-  assumed_after (outcome.Denied rule cause) is at = longer (were k y at)
-  assumed_after (outcome.Full w) is at = longer (were k y at)
+-- whoever acts has a seat that is in use
+acts_taken : (v : Contents) → Ties v → (seat x : ℕ) → actor_at (moment v).world seat ≡ Some x → in_use (moment v).world seat ≡ true
+acts_taken v j seat x acts = by (at_seat (agents v.store) seat) refl acts where
+  by : (a : Option ℕ) → at_seat (agents v.store) seat ≡ a → acting a (at_seat v.seats seat) ≡ Some x → in_use (moment v).world seat ≡ true
+  by None none at = ap is_some at
+  by (Some agent) here is = j.taken seat agent (inr here)
 
 -- what is free is at most all
 pub free_few : (v : Contents) → Ties v → IsStore v.store → free_slots v.store ≤ v.limits.slots
@@ -267,7 +256,6 @@ module _ (v : Contents) (seat x : ℕ) (c : Command) (answer : Reply) (t : Store
   still_vault : IsVault left
   still_vault = record {
     legal = record { graphs = along_more v.limits [] v.opening v.history G e (graph_now left) j.vault.legal.graphs (who.0, permitted, graph_left) };
-    began = j.vault.began;
     sat = All-append (λ (e : Entry). e.seat < 64) v.history (e ∷ []) j.vault.sat (All-cons (λ (e : Entry). e.seat < 64) e [] s.within (All-nil _));
     seats = j.vault.seats;
     seated = λ k y at. subst (λ (K : Protection). WasPrincipal K y) (sym graph_left) (was_stays G x c o y (j.vault.seated k y at));
@@ -295,6 +283,20 @@ module _ (v : Contents) (seat x : ℕ) (c : Command) (answer : Reply) (t : Store
   still_part : IsPart (graph_now left) (held_now left)
   still_part = subst (λ K. IsPart (graph_now left) K) held_left (subst (λ K. IsPart K (next_graph H x c o)) (sym graph_left) part_next)
 
+  still_taken : AreTaken (moment left).world
+  still_taken k y of = elim of [
+    | inl target ↦ elim (target_after (pending v.store) seat (target_of H x c o) k y (sym (ap (λ table. at_seat table k) s.carried.pending) ∙ target)) [
+      | inl there ↦ here k there
+      | inr before ↦ j.taken k y (inl before)
+    ]
+    | inr agent ↦ elim (agent_after (agents v.store) seat x c k y o (sym (ap (λ table. at_seat table k) s.carried.agents) ∙ agent)) [
+      | inl new ↦ here k new.0
+      | inr before ↦ j.taken k y (inr before)
+    ]
+  ] where
+    here : (k : ℕ) → k ≡ seat → in_use (moment v).world k ≡ true
+    here k there = subst (λ n. in_use (moment v).world n ≡ true) (sym there) (acts_taken v j seat x s.acts)
+
   pub serving_joined : IsTied left after gone
   serving_joined = record {
     joins = record {
@@ -304,7 +306,8 @@ module _ (v : Contents) (seat x : ℕ) (c : Command) (answer : Reply) (t : Store
       parked = λ y h. subst (λ (K : Protection). IsVertex K y) (sym graph_left) (vertex_stays G in_G x c o carried y (j.parked y (acted_parked s.carried.acted y h)));
       names = names_are;
       principals = s.carried.principals;
-      assumed = λ k y at. assumed_after v.history e (agents v.store) j.assumed k y o refl (sym (ap (λ table. at_seat table k) s.carried.agents) ∙ at);
+      assumed = λ k y at. assumed_after v.history e (agents v.store) j.assumed k y (sym (ap (λ table. at_seat table k) s.carried.agents) ∙ at);
+      taken = still_taken;
       slots = s.carried.acted.slots ∙ j.slots;
       cells = s.carried.acted.cells ∙ j.cells;
       many_slots =

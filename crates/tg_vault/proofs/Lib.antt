@@ -2,6 +2,7 @@ pub mod SerialsLemmas
 pub mod PlaceLemmas
 pub mod EdgeLemmas
 pub mod FoundLemmas
+pub mod SeatLemmas
 pub mod RetiredLemmas
 pub mod CarriedOutLemmas
 pub mod HistoryLemmas
@@ -16,3 +17,5 @@ pub mod AddedLemmas
 pub mod CycleLemmas
 pub mod SweptLemmas
 pub mod HeadlineLemmas
+pub mod ReopeningLemmas
+pub mod RebaseLemmas

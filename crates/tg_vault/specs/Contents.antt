@@ -1,14 +1,14 @@
 -- what the layers above see of a vault
-use Rattle.std.specs.Prelude.{◌≡◌, ◌<◌, ℕ, ◌-◌, false, List, [], length, Option, Some, None, All, refl, replicate}
+use Rattle.std.specs.Prelude.{◌≡◌, ◌<◌, ℕ, ◌-◌, List, [], length, Option, Some, None, All, refl, replicate}
 use Rattle.std.specs.Coded.{Coded, code_by, coded×, coded_ℕ, coded_list, coded_option}
 use Rattle.tg_rights.specs.declared.limits.TheConstants.{SEATS}
-use Rattle.tg_graph.specs.Protection.{Protection, has_retired}
+use Rattle.tg_graph.specs.Protection.{Protection}
 use Rattle.tg_graph.specs.declared.config.Config.{Config}
 use Rattle.tg_graph.specs.Fullness.{Limits}
 use Rattle.tg_graph.specs.Opening as config
 use Rattle.tg_graph.specs.Codes.{protection_code}
 use Rattle.tg_collect.specs.Stored.{Stored}
-use Rattle.tg_collect.specs.Readings.{IsParkedIn, agents, pending, pending_of, free_slots, phase}
+use Rattle.tg_collect.specs.Readings.{IsParkedIn, agent_of, agents, pending, pending_of, free_slots, phase}
 use Rattle.tg_collect.specs.contracts.store.Store as store
 use Rattle.tg_vault.specs.declared.entry.Entry.{Entry}
 use Rattle.tg_vault.specs.contracts.entry.Entry as entry
@@ -80,11 +80,9 @@ StepOf old e a new = Step old.limits (moment old) e a (moment new)
 abbrev pub RunOf : Contents → List Event → List Answer → Contents → Type 0
 RunOf old es answers new = Run old.limits (moment old) es answers (moment new)
 
--- the history is legal and begins with nobody retired, the table has one place for each seat, and nobody sits there but
--- principals and those who were
+-- the history is legal, the table has one place for each seat, and nobody sits there but principals and those who were
 pub record IsVault (v : Contents) : Type 0 where
   pub legal : Legal v.limits v.opening v.history (graph_now v)
-  pub began : (x : ℕ) → has_retired v.opening x ≡ false
   pub sat : All (λ e. e.seat < SEATS) v.history
   pub seats : length v.seats ≡ SEATS
   pub seated : (seat x : ℕ) → at_seat v.seats seat ≡ Some x → WasPrincipal (graph_now v) x
@@ -100,3 +98,4 @@ pub record IsFresh (c : Config) (v : Contents) : Type 0 where
   pub unparked : (x : ℕ) → IsParkedIn v.store x → ⊥
   pub phase : phase v.store ≡ Idle
   pub idle : (seat : ℕ) → pending_of v.store seat ≡ None
+  pub alone : (seat : ℕ) → agent_of v.store seat ≡ None

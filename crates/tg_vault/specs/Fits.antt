@@ -6,17 +6,25 @@ use Rattle.tg_graph.specs.Paths.{IsPart, Live}
 use Rattle.tg_graph.specs.Protection.{IsGraph, IsVertex, is_active}
 use Rattle.tg_collect.specs.Readings.{IsHeldIn, IsParkedIn, agents, parked_count, principals, slot_count, free_slots}
 use Rattle.tg_vault.specs.History.{Legal, WasAssumed}
-use Rattle.tg_vault.specs.World.{World, at_seat}
+use Rattle.tg_vault.specs.World.{World, at_seat, in_use}
 use Rattle.tg_vault.specs.Seen.{serials, set_of}
 use Rattle.tg_vault.specs.Contents.{Contents, IsVault, graph_now, held_now, moment}
 
+-- x is the seat's pending target or its agent
+abbrev pub IsOfSeat : World → (seat x : ℕ) → Type 0
+IsOfSeat w seat x = (at_seat w.pending seat ≡ Some x) ⊎ (at_seat w.agents seat ≡ Some x)
+
 -- the roots of a world are the active principals, the pending targets and the agents
 abbrev pub IsRoot : World → ℕ → Type 0
-IsRoot w x = (is_active w.graph x ≡ true) ⊎ ((seat : ℕ) × ((at_seat w.pending seat ≡ Some x) ⊎ (at_seat w.agents seat ≡ Some x)))
+IsRoot w x = (is_active w.graph x ≡ true) ⊎ ((seat : ℕ) × IsOfSeat w seat x)
 
 -- a vertex has a slot: it is held, or parked until the sweep comes to it
 abbrev pub HasSlot : Contents → ℕ → Type 0
 HasSlot v x = IsHeldIn v.store x ⊎ IsParkedIn v.store x
+
+-- a seat with a pending target or an agent is in use
+abbrev pub AreTaken : World → Type 0
+AreTaken w = (seat x : ℕ) → IsOfSeat w seat x → in_use w seat ≡ true
 
 -- what a vault keeps besides what its store keeps of itself
 pub record Ties (v : Contents) : Type 0 where
@@ -27,6 +35,7 @@ pub record Ties (v : Contents) : Type 0 where
   pub names : v.names ≡ (graph_now v).names
   pub principals : principals v.store ≡ serials v.names
   pub assumed : (seat x : ℕ) → at_seat (agents v.store) seat ≡ Some x → WasAssumed v.history seat x
+  pub taken : AreTaken (moment v).world
   pub slots : slot_count v.store ≡ v.limits.slots
   pub cells : v.store.cells ≡ v.limits.cells
   pub many_slots : v.limits.slots ≤ free_slots v.store + vertex_count (graph_now v)

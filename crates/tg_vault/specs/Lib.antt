@@ -15,3 +15,4 @@ pub mod Course
 pub mod Cycles
 pub mod Headline
 pub mod Laws
+pub mod Rebase

@@ -1,5 +1,5 @@
 -- worlds, and the answers that each event may have in one
-use Rattle.std.specs.Prelude.{◌≡◌, ◌↔◌, ◌≤◌, ℕ, ◌+◌, Bool, true, cond, not, nat_lt, List, [], ◌∷◌, ◌++◌, length, get_or, slice_set, Option, Some, None, is_some}
+use Rattle.std.specs.Prelude.{◌≡◌, ◌↔◌, ◌<◌, ◌≤◌, ℕ, ◌+◌, Bool, true, cond, not, nat_lt, List, [], ◌∷◌, ◌++◌, length, get_or, slice_set, Option, Some, None, is_some}
 use Rattle.tg_rights.specs.declared.limits.TheConstants.{SEATS}
 use Rattle.tg_rights.specs.declared.command.Command.{Command}
 use Rattle.tg_rights.specs.declared.outcome.Outcome.{Outcome}
@@ -41,6 +41,16 @@ pub record Moment : Type 0 where
 -- the table's entry for a seat
 abbrev pub at_seat : List (Option ℕ) → ℕ → Option ℕ
 at_seat table seat = get_or table seat None
+
+-- nobody has a seat
+abbrev pub NobodySits : List (Option ℕ) → Type 0
+NobodySits seats = (seat : ℕ) → at_seat seats seat ≡ None
+
+-- the least seat that somebody has
+pub record IsLeastInUse (seats : List (Option ℕ)) (seat : ℕ) : Type 0 where
+  pub within : seat < SEATS
+  pub taken : is_some (at_seat seats seat) ≡ true
+  pub least : (k : ℕ) → k < seat → at_seat seats k ≡ None
 
 -- the actor of a seat's next command: its agent, or else its principal
 abbrev pub acting : (agent principal : Option ℕ) → Option ℕ

@@ -2,9 +2,10 @@
 ghost use Rattle.std.specs.Prelude.{◌≡◌, ◌<◌};
 ghost use Rattle.tg_rights.specs.declared.limits.TheConstants.{SEATS};
 ghost use Rattle.tg_vault.specs.Recorded.{seat_of, outcome_of};
+ghost use Rattle.tg_vault.specs.Told.{told};
 
 use std::marker::Model;
-use tg_rights::{Cause, Command, Outcome, Rights, Rule, Which};
+use tg_rights::{Cause, Command, Outcome, Reply, Rights, Rule, Which};
 
 // The seat and the outcome. The small fields come first and share a word with the tag.
 #[derive(Clone, Copy, Debug)]
@@ -116,6 +117,26 @@ impl Entry {
     {
         self.decided.outcome()
     }
+}
+
+/// The outcome that a reply reports.
+fn told(reply: &Reply) -> Outcome
+    ensures { result ≡ told reply.now }
+{
+    match reply {
+        Reply::Denied(rule, cause) => Outcome::Denied(*rule, *cause),
+        Reply::Full(which) => Outcome::Full(*which),
+        Reply::Done | Reply::Created(_) | Reply::Text(_) | Reply::Edges(_) => Outcome::Allowed,
+    }
+}
+
+/// The entry of a command that got this reply.
+pub(crate) fn entry_of(seat: u64, actor: u64, command: Command, reply: &Reply) -> Entry
+    requires { seat < SEATS }
+    ensures { result ≡ record { seat = seat; actor = actor; command = command; outcome = told reply.now } }
+{
+    let outcome = told(reply);
+    Entry::new(seat, actor, command, outcome)
 }
 
 // A seat with an outcome.

@@ -6,11 +6,13 @@ mod carry_out;
 mod entry;
 mod event;
 mod laws;
+mod rebase;
 mod seats;
 mod vault;
 
 pub use entry::Entry;
 pub use event::{Answer, AskFault, Event, SeatFault};
 pub use laws::{courses_have_the_headline, courses_join};
+pub use rebase::Rebased;
 pub use tg_collect::Key;
 pub use vault::{Ran, Swept, Vault};

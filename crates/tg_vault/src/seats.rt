@@ -1,7 +1,7 @@
 //! The seats.
-ghost use Rattle.std.specs.Prelude.{◌≡◌, replicate, None, IfOk};
+ghost use Rattle.std.specs.Prelude.{◌≡◌, length, replicate, None, IfOk, IfSome, IfNone};
 ghost use Rattle.tg_rights.specs.declared.limits.TheConstants.{SEATS};
-ghost use Rattle.tg_vault.specs.World.{at_seat};
+ghost use Rattle.tg_vault.specs.World.{IsLeastInUse, NobodySits, at_seat};
 
 use std::alloc::{AllocError, Global};
 use tg_rights::SEATS;
@@ -25,4 +25,18 @@ pub(crate) fn empty_seats(alloc: Global) -> Result<Vec<Option<u64>>, AllocError>
         seats.push(None)?;
     }
     Ok(seats)
+}
+
+/// The least seat that somebody has; `None` if all are empty.
+pub(crate) fn first_in_use(table: &[Option<u64>]) -> Option<u64>
+    requires { length table.now ≡ SEATS }
+    ensures some { IfSome result (IsLeastInUse table.now) }
+    ensures none { IfNone result (NobodySits table.now) }
+{
+    for seat in 0..SEATS {
+        if at_seat(table, seat).is_some() {
+            return Some(seat);
+        }
+    }
+    None
 }

@@ -1,9 +1,7 @@
 //! The vault: the seats, the store, and the history of the commands.
 ghost use Rattle.std.specs.Prelude.{◌≡◌, ◌<◌, ◌≤◌, ◌+◌, ℕ, ◌⊎◌, ◌∷◌, [], length, slice_get, Some, None, IfOk, IfErr, IfSome, IfNone, OnErr, OnOk, MatchResult, take};
 ghost use Rattle.tg_rights.specs.declared.limits.TheConstants.{SEATS};
-ghost use Rattle.tg_rights.specs.declared.outcome.Outcome.{Outcome};
 ghost use Rattle.tg_graph.specs.Opening.{first_fault, IsRefusal};
-ghost use Rattle.tg_vault.specs.declared.entry.Entry.{Entry};
 ghost use Rattle.tg_vault.specs.declared.event.Event.TheVariants as event;
 ghost use Rattle.tg_vault.specs.declared.event.Answer.TheVariants as answer;
 ghost use Rattle.tg_collect.specs.Readings.{pending_of};
@@ -12,7 +10,6 @@ ghost use Rattle.tg_vault.specs.World.{actor_at, at_seat, bye_fault, shade_fault
 ghost use Rattle.tg_vault.specs.Contents.{Contents, StepOf, IsFresh, RunOf, Keeps, IsVault, moment};
 ghost use Rattle.tg_vault.specs.Fits.{Fits, IsSmall};
 ghost use Rattle.tg_vault.specs.StoreSteps.{SessionStep, StoreAnswer, StoreStep};
-ghost use Rattle.tg_vault.specs.Told.{told};
 ghost use Rattle.tg_vault.specs.Added.{AddsAsked};
 ghost use Rattle.tg_vault.specs.Agreement.{SameForAgreeing};
 ghost use Rattle.tg_vault.specs.Exact.{IsExact};
@@ -22,7 +19,7 @@ ghost use Rattle.tg_vault.specs.Headline.{Headline};
 
 use crate::acting::acting_at;
 use crate::carry_out::answer;
-use crate::entry::Entry;
+use crate::entry::{Entry, entry_of};
 use crate::event::{Answer, AskFault, Event, SeatFault};
 use crate::laws::courses_have_the_headline;
 use crate::seats::{at_seat, empty_seats};
@@ -31,27 +28,27 @@ use std::collections::BTreeSet;
 use std::marker::Model;
 use tg_collect::{Key, Note, Store};
 use tg_graph::{Config, Graph, OpenFault, Roll, serial_of};
-use tg_rights::{Command, Outcome, Reply, SEATS};
+use tg_rights::{Command, Reply, SEATS};
 
 /// The whole state of the server: the opening graph, the active principals by their names, who has retired, the seats,
 /// the store with its collector and the pending target and agent of each seat, and the history of commands. Each call is
 /// one atomic step. Contracts see its `Contents`. Only they have the graph of the history; what is stored is the part of
 /// the graph still in use.
 ///
-/// The history is kept whole, and is legal: each entry's outcome is one that the take-grant rules (Lipton and Snyder
-/// 1977; Bishop) permit in the graph that the entries before it leave.
+/// The history is kept whole until a rebase, and is legal: each entry's outcome is one that the take-grant rules (Lipton
+/// and Snyder 1977; Bishop) permit in the graph that the entries before it leave.
 #[derive(Drop)]
 pub struct Vault {
-    alloc: Global,
-    opening: Graph,
-    names: Roll,
-    retired: BTreeSet<u64>,
-    slots: u64,
-    cells: u64,
-    seats: Vec<Option<u64>>,
-    store: Store,
-    next: u64,
-    history: Vec<Entry>,
+    pub(crate) alloc: Global,
+    pub(crate) opening: Graph,
+    pub(crate) names: Roll,
+    pub(crate) retired: BTreeSet<u64>,
+    pub(crate) slots: u64,
+    pub(crate) cells: u64,
+    pub(crate) seats: Vec<Option<u64>>,
+    pub(crate) store: Store,
+    pub(crate) next: u64,
+    pub(crate) history: Vec<Entry>,
 }
 
 impl Model for Vault {
@@ -83,26 +80,6 @@ pub struct Ran {
     pub vault: Vault,
     /// One answer for each event that was carried out, in order.
     pub answers: Vec<Answer>,
-}
-
-/// The outcome that a reply reports.
-fn outcome_of(reply: &Reply) -> Outcome
-    ensures { result ≡ told reply.now }
-{
-    match reply {
-        Reply::Denied(rule, cause) => Outcome::Denied(*rule, *cause),
-        Reply::Full(which) => Outcome::Full(*which),
-        Reply::Done | Reply::Created(_) | Reply::Text(_) | Reply::Edges(_) => Outcome::Allowed,
-    }
-}
-
-/// The entry of a command that got this reply.
-fn entry_of(seat: u64, actor: u64, command: Command, reply: &Reply) -> Entry
-    requires { seat < SEATS }
-    ensures { result ≡ record { seat = seat; actor = actor; command = command; outcome = told reply.now } }
-{
-    let outcome = outcome_of(reply);
-    Entry::new(seat, actor, command, outcome)
 }
 
 impl Vault {

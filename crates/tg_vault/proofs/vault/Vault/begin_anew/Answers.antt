@@ -1,0 +1,23 @@
+use Rattle.std.proofs.Common.{List, Option, ℕ, [], length, ap, subst, sym, ◌∙◌}
+use Rattle.tg_vault.specs.World.{NobodySits}
+use Rattle.tg_vault.specs.Contents.{Contents}
+use Rattle.tg_vault.specs.Rebase.{IsRebased}
+use Rattle.tg_vault.proofs.RebaseLemmas.{is_idle, rebased, same_history, same_seats}
+use Rattle.tg_vault.proofs.vault.Vault.begin_anew.Goals as goal
+
+pub reopen-requires-clause-nobody : goal.reopen-requires-clause-nobody
+reopen-requires-clause-nobody c = subst (λ (seats : List (Option ℕ)). NobodySits seats) (sym (same_seats c.args.self c.cycle_thrice.new.self c.cycle_thrice.ensures)) c.requires
+
+pub reopen-requires-clause-idle : goal.reopen-requires-clause-idle
+reopen-requires-clause-idle c = is_idle c.args.self c.cycle_thrice.new.self c.cycle_thrice.ensures
+
+pub returns-in-Ok : goal.returns-in-Ok
+returns-in-Ok c = (
+  c.requires,
+  c.count-dropped.ensures ∙ ap length (same_history c.args.self c.cycle_thrice.new.self c.cycle_thrice.ensures),
+  subst (λ (w : Contents). IsRebased c.args.self w) (sym (c.reopen.ensures ∙ (λ i. record c.cycle_thrice.new.self { opening = c.in-Ok.ensures i; history = [] }))) (rebased c.runs_are_complete_and_bounded.ensures.complete c.restrictions_agree.ensures c.restrictions_permit.ensures c.restrictions_stay.ensures
+      c.args.self c.cycle_thrice.new.self c.cycle_thrice.ensures c.soundness.ensures.coherent c.soundness-2.ensures.coherent),
+)
+
+pub returns-in-Err : goal.returns-in-Err
+returns-in-Err c = (c.requires, c.cycle_thrice.ensures)

@@ -1,0 +1,17 @@
+use Rattle.std.proofs.Common.{◌≡◌, subst, sym, ap, ◌∙◌}
+use Rattle.tg_vault.specs.Rebase.{reopening}
+use Rattle.tg_vault.specs.World.{NobodySits}
+use Rattle.tg_collect.specs.declared.note.Phase.TheVariants.{Idle}
+use Rattle.tg_collect.specs.Readings.{phase}
+use Rattle.tg_vault.specs.Contents.{Contents, contents}
+use Rattle.tg_vault.proofs.RebaseLemmas.{reopened_tied}
+use Rattle.tg_vault.proofs.vault.Vault.reopen.Goals as goal
+
+pub invariant_of-self : goal.invariant_of-self
+invariant_of-self c =
+    reopened_tied (contents c.self.inside) c.self.inside.next c.self.inside.retired.keys c.self.invariant c.soundness.ensures.sound
+    (subst (λ (w : Contents). NobodySits w.seats) (sym c.self.view_is) c.requires.nobody) (subst (λ (w : Contents). phase w.store ≡ Idle) (sym c.self.view_is) c.requires.idle)
+    c.args.opening c.keep_retired.new.retired.keys c.new.result.items (c.requires.opening ∙ ap reopening (sym c.self.view_is)) c.keep_retired.ensures c.new.ensures.items
+
+pub returns : goal.returns
+returns c = λ i. record (c.self.view_is i) { opening = c.args.opening; history = c.new.ensures.items i }

@@ -1,0 +1,56 @@
+-- what a rebase leaves of a vault: what is live in the graph of its history, as the opening graph of another
+use Rattle.std.specs.Prelude.{◌≡◌, ℕ, true, List, [], length}
+use Rattle.std.specs.FinMap as map
+use Rattle.std.specs.FinSet as set
+use Rattle.tg_graph.specs.Paths.{Agree, IsRestriction, Live}
+use Rattle.tg_graph.specs.Protection.{Protection, IsGraph, is_active}
+use Rattle.tg_collect.specs.declared.note.Phase.TheVariants.{Idle}
+use Rattle.tg_collect.specs.Readings.{IsParkedIn, phase}
+use Rattle.tg_vault.specs.declared.entry.Entry.{Entry}
+use Rattle.tg_vault.specs.declared.rebase.Rebased.{Rebased}
+use Rattle.tg_vault.specs.declared.rebase.Rebased.TheVariants as rebased
+use Rattle.tg_vault.specs.declared.vault.Swept.{Swept}
+use Rattle.tg_vault.specs.History.{Legal}
+use Rattle.tg_vault.specs.World.{IsLeastInUse, NobodySits}
+use Rattle.tg_vault.specs.Contents.{Contents, graph_now, held_now, moment}
+use Rattle.tg_vault.specs.Fits.{IsRoot}
+use Rattle.tg_vault.specs.Cycles.{IsCycle}
+
+-- three cycles of the collector, one after another
+pub record ThreeCycles (v w : Contents) : Type 0 where
+  pub first : Contents
+  pub second : Contents
+  pub one : Swept
+  pub two : Swept
+  pub three : Swept
+  pub begins : IsCycle v one first
+  pub goes_on : IsCycle first two second
+  pub ends : IsCycle second three w
+
+-- what is held, as a graph with which a history may begin: of those who have retired it has the ones that are held
+abbrev pub reopening : Contents → Protection
+reopening v = record (held_now v) { retired = set.retain (graph_now v).retired (λ x. map.contains_key (held_now v).vertices x) }
+
+-- the new opening graph is the graph of the history restricted to what is live in it. It agrees with that graph for each
+-- principal, and each history that is legal from it is legal from that graph. The store is as three cycles leave it, and
+-- all that it holds is the opening graph
+pub record IsRebased (v w : Contents) : Type 0 where
+  pub opening : IsRestriction (graph_now v) w.opening (Live (graph_now v) (IsRoot (moment v).world))
+  pub graph : IsGraph w.opening
+  pub agrees : (x : ℕ) → is_active (graph_now v) x ≡ true → Agree (graph_now v) w.opening x
+  pub legal : (entries : List Entry) (H : Protection) → Legal w.limits w.opening entries H → (G : Protection) × Legal v.limits (graph_now v) entries G
+  pub names : w.names ≡ v.names
+  pub limits : w.limits ≡ v.limits
+  pub seats : w.seats ≡ v.seats
+  pub history : w.history ≡ []
+  pub cycled : Contents
+  pub cycles : ThreeCycles v cycled
+  pub store : w.store ≡ cycled.store
+  pub held : held_now w ≡ w.opening
+  pub unparked : (x : ℕ) → IsParkedIn w.store x → ⊥
+  pub phase : phase w.store ≡ Idle
+
+abbrev pub Rebases : Contents → Rebased → Type 0
+Rebases v (rebased.Fresh w dropped) = NobodySits v.seats × (dropped ≡ length v.history) × IsRebased v w
+Rebases v (rebased.Seated w seat) = (w ≡ v) × IsLeastInUse v.seats seat
+Rebases v (rebased.NoMemory w) = NobodySits v.seats × ThreeCycles v w

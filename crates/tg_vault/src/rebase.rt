@@ -1,0 +1,169 @@
+//! A vault whose history begins anew with what is live.
+ghost use Rattle.std.specs.Prelude.{◌≡◌, [], filter, map, IfOk, IfSome, IfNone};
+ghost use Rattle.std.specs.FinSet as set;
+ghost use Rattle.tg_graph.specs.Parts.{Listed, members_of};
+ghost use Rattle.tg_graph.specs.Protection.{has_retired};
+ghost use Rattle.tg_collect.specs.Readings.{phase};
+ghost use Rattle.tg_collect.specs.declared.note.Phase.TheVariants.{Idle};
+ghost use Rattle.tg_vault.specs.Rebase.{Rebases, ThreeCycles, reopening};
+ghost use Rattle.tg_vault.specs.Seen.{set_of};
+ghost use Rattle.tg_vault.specs.World.{IsLeastInUse, NobodySits};
+
+use crate::seats::first_in_use;
+use crate::vault::Vault;
+use std::alloc::{AllocError, Global};
+use std::collections::BTreeSet;
+use tg_collect::runs_are_complete_and_bounded;
+use tg_graph::{
+    Graph, Member, Parts, parts_are_one_graph, restrictions_agree, restrictions_permit,
+    restrictions_stay,
+};
+use tg_rights::{Kind, Name, Text};
+
+/// What a rebase leaves.
+#[derive(Drop)]
+pub enum Rebased {
+    /// The opening graph is what was live, and of the history, which had so many entries, nothing is left.
+    Fresh { vault: Vault, dropped: u64 },
+    /// This is the least seat that is in use; the vault is as before.
+    Seated { vault: Vault, seat: u64 },
+    /// An allocation failed; the vault is as after three cycles, with its whole history.
+    NoMemory { vault: Vault },
+}
+
+impl Vault {
+    /// `Seated` if somebody sits on a seat, whatever memory there is, and nothing changes. Otherwise makes three cycles,
+    /// then what is live the opening graph, and drops the history. Names, the next serial and the numbers of slots and
+    /// cells stay, and so does the store, which then holds what is live and nothing else; of those who have retired the
+    /// vault keeps the ones that are held. `NoMemory` if an allocation failed, after the cycles, with the whole history.
+    ///
+    /// The new opening graph is the graph of the history restricted to its live vertices, agrees with it for each
+    /// principal, and each history that is legal from the new graph is legal from the old one's.
+    pub fn rebase(self) -> Rebased
+        ensures { Rebases self result }
+    {
+        match self.first_taken() {
+            Some(seat) => Rebased::Seated { vault: self, seat },
+            None => self.begin_anew(),
+        }
+    }
+
+    /// The least seat that somebody has.
+    fn first_taken(&self) -> Option<u64>
+        ensures some { IfSome result (IsLeastInUse self.now.seats) }
+        ensures none { IfNone result (NobodySits self.now.seats) }
+    {
+        let seats = self.seats.as_slice();
+        first_in_use(seats)
+    }
+
+    /// The rebase of a vault with nobody on a seat.
+    fn begin_anew(self) -> Rebased
+        requires { NobodySits self.seats }
+        ensures { Rebases self result }
+    {
+        let mut vault = self;
+        vault.soundness();
+        vault.cycle_thrice();
+        vault.soundness();
+        runs_are_complete_and_bounded();
+        restrictions_agree();
+        restrictions_permit();
+        restrictions_stay();
+        match vault.live_graph() {
+            Ok(opening) => {
+                let dropped = vault.count();
+                vault.reopen(opening);
+                Rebased::Fresh { vault, dropped }
+            }
+            Err(_) => Rebased::NoMemory { vault },
+        }
+    }
+
+    /// Three cycles, one after another.
+    fn cycle_thrice(&mut self)
+        ensures { ThreeCycles self.old self.new }
+    {
+        self.cycle();
+        self.cycle();
+        self.cycle();
+    }
+
+    /// What is held, as a graph of its own, and with it those of the retired that are held.
+    fn live_graph(&self) -> Result<Graph, AllocError>
+        ensures { IfOk result (λ graph. graph ≡ reopening self.now) }
+    {
+        self.store.soundness();
+        parts_are_one_graph();
+        let (vertices, edges) = self.store.parts(self.alloc)?;
+        let listed = vertices.as_slice();
+        let retired = retired_among(self.alloc, &self.retired, listed)?;
+        let members = self.names.as_slice();
+        let names = pairs_of(self.alloc, members)?;
+        let parts = Parts {
+            vertices,
+            edges,
+            names,
+            retired,
+            next: self.next,
+        };
+        let graph = Graph::from_parts(self.alloc, parts)?;
+        Ok(graph)
+    }
+
+    /// Puts the graph of what is held in the place of the opening graph, and drops the history. Allocates nothing.
+    fn reopen(&mut self, opening: Graph)
+        requires nobody { NobodySits self.old.seats }
+        requires idle { phase self.old.store ≡ Idle }
+        requires opening { opening ≡ reopening self.old }
+        ensures { self.new ≡ record self.old { opening = opening; history = [] } }
+    {
+        self.store.soundness();
+        keep_retired(&mut self.retired, &opening);
+        self.opening = opening;
+        self.history = Vec::new(self.alloc);
+    }
+}
+
+/// The serials of those listed that have retired.
+fn retired_among(
+    alloc: Global,
+    retired: &BTreeSet<u64>,
+    vertices: &[(u64, Kind, Text)],
+) -> Result<Vec<u64>, AllocError>
+    ensures { IfOk result (λ found. found.items ≡ filter (λ x. set.contains (set_of retired.now.keys) x) (map (λ (v : Listed). v.0) vertices.now)) }
+{
+    let mut found = serials_in(alloc, vertices)?;
+    found.retain(|serial| retired.contains(serial));
+    Ok(found)
+}
+
+/// The serials of the vertices, in their order.
+fn serials_in(alloc: Global, vertices: &[(u64, Kind, Text)]) -> Result<Vec<u64>, AllocError>
+    ensures { IfOk result (λ found. found.items ≡ map (λ (v : Listed). v.0) vertices.now) }
+{
+    let mut found = Vec::new(alloc);
+    for vertex in vertices {
+        found.push(vertex.0)?;
+    }
+    Ok(found)
+}
+
+/// Copies of the principals' names, with their serials.
+fn pairs_of(alloc: Global, members: &[Member]) -> Result<Vec<(Name, u64)>, AllocError>
+    ensures { IfOk result (λ found. members_of found.items ≡ members.now) }
+{
+    let mut found = Vec::new(alloc);
+    for member in members {
+        let name = member.name.copy(alloc)?;
+        found.push((name, member.serial))?;
+    }
+    Ok(found)
+}
+
+/// Drops those from the set who have not retired in the graph. Allocates nothing.
+fn keep_retired(retired: &mut BTreeSet<u64>, opening: &Graph)
+    ensures { retired.new.keys ≡ filter (λ x. has_retired opening.now x) retired.old.keys }
+{
+    retired.retain(|serial| opening.retired(*serial));
+}
