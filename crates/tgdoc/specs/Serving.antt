@@ -1,5 +1,5 @@
 -- the configuration line of a server, and the lines of its own
-use Rattle.std.specs.Prelude.{◌≡◌, ◌<◌, ◌≤◌, ℕ, Bool, List, [], ◌∷◌, ◌++◌, length, Option, codes, decimal, false}
+use Rattle.std.specs.Prelude.{◌≡◌, ◌<◌, ◌≤◌, ◌*◌, ℕ, suc, Bool, List, [], ◌∷◌, ◌++◌, length, Option, Result, Ok, Err, codes, decimal, false}
 use Rattle.std.specs.Io.KnownBytes.{Appends}
 use Rattle.tg_audit.specs.declared.logs.Settled.TheVariants as settled
 use Rattle.tg_share.specs.Closing.{IsClosed}
@@ -9,11 +9,12 @@ use Rattle.tg_share.specs.declared.session.Ended.{Ended}
 use Rattle.tg_vault.specs.Contents.{Contents}
 use Rattle.tg_wire.specs.Faults.{fault_line}
 use Rattle.tg_wire.specs.declared.fault.WireFault.TheVariants as wire
+use Rattle.tg_talk.specs.Devices.{Sends}
 use Rattle.tg_talk.specs.InputLines.{lines_of}
 use Rattle.tgdoc.specs.Runs.{RefusesOpening}
 use Rattle.tgdoc.specs.Running.{Opens}
-use Rattle.tgdoc.specs.declared.serve.Found.{Found}
-use Rattle.tgdoc.specs.declared.serve.Found.TheVariants as found
+use Rattle.tgdoc.specs.declared.serve.Unsettled.{Unsettled}
+use Rattle.tgdoc.specs.declared.serve.Unsettled.TheVariants as unsettled
 
 -- the line that names the address listened on
 abbrev pub listening_line : List ℕ → List ℕ
@@ -27,39 +28,72 @@ agreed_line = codes "{\"settled\":\"agreed\"}\n"
 abbrev pub differs_line : ℕ → ℕ → List ℕ
 differs_line seat index = codes "{\"index\":" ++ decimal index ++ codes ",\"seat\":" ++ decimal seat ++ codes ",\"settled\":\"differs\"}\n"
 
--- the last line, if an allocation or the start of a thread failed
+-- the last line, if an allocation or the start of a thread failed in a round
 abbrev pub no_memory_line : List ℕ
 no_memory_line = codes "{\"settled\":\"no memory\"}\n"
 
--- the last line, by what was found
-abbrev pub found_line : Found → List ℕ
-found_line found.Agreed = agreed_line
-found_line (found.Differs seat index) = differs_line seat index
-found_line found.NoMemory = no_memory_line
+-- the last line, if an allocation failed between two rounds
+abbrev pub out_of_memory_line : List ℕ
+out_of_memory_line = codes "{\"error\":\"out of memory\"}\n"
 
--- what closing found
-abbrev pub found_of : {L : Type 0} → Closed L → Found
-found_of (closed.Done (settled.Agreed vault) counted) = found.Agreed
-found_of (closed.Done (settled.Differs vault logs seat index) counted) = found.Differs seat index
-found_of (closed.Done (settled.NoMemory vault logs) counted) = found.NoMemory
-found_of (closed.NoRoom shared ended) = found.NoMemory
+-- the last line, if a server has not settled
+abbrev pub end_line : Unsettled → List ℕ
+end_line (unsettled.Differs seat index) = differs_line seat index
+end_line unsettled.NoMemory = no_memory_line
+end_line unsettled.OutOfMemory = out_of_memory_line
+end_line unsettled.Seated = []
 
--- what a server found: that of a vault that was closed with the sessions that ended, or that an allocation or the start
+-- the line of a rebase: how many entries it dropped, and after which round
+abbrev pub rebased_line : ℕ → ℕ → List ℕ
+rebased_line dropped round = codes "{\"dropped\":" ++ decimal dropped ++ codes ",\"round\":" ++ decimal round ++ codes "}\n"
+
+-- the lines of all rebases, by what each dropped, the latest first; the first round is 1
+abbrev pub rebased_lines : List ℕ → List ℕ
+rebased_lines [] = []
+rebased_lines (dropped ∷ earlier) = rebased_lines earlier ++ rebased_line dropped (suc (length earlier))
+
+-- the vault that was closed, or why a round has not settled
+abbrev pub found_of : {L : Type 0} → Closed L → Result Contents Unsettled
+found_of (closed.Done (settled.Agreed vault) counted) = Ok vault
+found_of (closed.Done (settled.Differs vault logs seat index) counted) = Err (unsettled.Differs seat index)
+found_of (closed.Done (settled.NoMemory vault logs) counted) = Err unsettled.NoMemory
+found_of (closed.NoRoom shared ended) = Err unsettled.NoMemory
+
+-- what a round found: that of a vault that was closed with the sessions that ended, or that an allocation or the start
 -- of a thread failed before
-pub data IsFound (L : Type 0) (f : Found) : Type 0 where
+pub data IsFound (L : Type 0) (f : Result Contents Unsettled) : Type 0 where
   by_closing : (ended : List (Ended L)) (c : Closed L) → IsClosed ended c → f ≡ found_of c → IsFound L f
-  by_refusal : f ≡ found.NoMemory → IsFound L f
+  by_refusal : f ≡ Err unsettled.NoMemory → IsFound L f
+
+-- what a writer has got is still there, and these bytes behind it, or, if it failed, a prefix of them; none if it had
+-- failed before
+pub record SendsOn (old : Option (List ℕ)) (was : Bool) (new : Option (List ℕ)) (failed : Bool) (bytes : List ℕ) : Type 0 where
+  pub behind : (start : Option (List ℕ)) (before : List ℕ) → Sends start old was before → Sends start new failed (before ++ bytes)
+
+-- these full rounds and one more serve all connections, and this one has some if it is not the only one
+pub record AreRounds (connections round full : ℕ) : Type 0 where
+  pub enough : connections ≤ suc full * round
+  pub needed : 0 < full → full * round < connections
+
+-- there were as many rebases as so many connections need, and their lines were sent
+pub record HasRounds (connections round : ℕ) (old new : Option (List ℕ)) (failed : Bool) : Type 0 where
+  pub dropped : List ℕ
+  pub rounds : AreRounds connections round (length dropped)
+  pub sent : Sends old new failed (rebased_lines dropped)
 
 -- the writer has got the line of an address
 pub record Announces (old new : Option (List ℕ)) : Type 0 where
   pub address : List ℕ
   pub appended : Appends old new (listening_line address)
 
--- the writer has not failed, and has got the line of an address and the line that all agrees, and nothing else
-pub record IsServed (old new : Option (List ℕ)) (failed : Bool) : Type 0 where
+-- the writer has not failed, and has got the line of an address, that of each rebase, one between any two rounds, and
+-- the line that all agrees, and nothing else
+pub record IsServed (connections round : ℕ) (old new : Option (List ℕ)) (failed : Bool) : Type 0 where
   pub unfailed : failed ≡ false
   pub address : List ℕ
-  pub appended : Appends old new (listening_line address ++ agreed_line)
+  pub dropped : List ℕ
+  pub rounds : 1 ≤ round → AreRounds connections round (length dropped)
+  pub appended : Appends old new (listening_line address ++ (rebased_lines dropped ++ agreed_line))
 
 -- these lines begin with a configuration that opens this vault
 pub record OpensInput (v : Contents) (lines : List (List ℕ)) : Type 0 where

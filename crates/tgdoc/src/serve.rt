@@ -1,40 +1,41 @@
-//! A vault served to several clients at once, over connections.
-ghost use Rattle.std.specs.Prelude.{◌≡◌, ◌↔◌, ℕ, List, [], ◌++◌, Option, false, true};
+//! A round of a server: a vault served to several clients at once, over connections.
+ghost use Rattle.std.specs.Prelude.{◌≡◌, []};
 ghost use Rattle.tg_share.specs.declared.locked.TheConstants.{PARTS};
-ghost use Rattle.tg_talk.specs.Devices.{Sends, device_of, has_failed};
-ghost use Rattle.tgdoc.specs.Serving.{Announces, IsFound, IsServed, differs_line, found_line, found_of};
+ghost use Rattle.tgdoc.specs.Serving.{IsFound, found_of};
 
-use itoa::Buffer;
 use std::alloc::{AllocError, Global};
-use std::io::Write;
-use std::marker::Brand;
-use std::net::TcpListener;
+use std::net::{TcpListener, TcpStream};
 use std::rt::Clock;
 use std::sync::atomic::{AtomicBool, Ordering};
 use std::sync::ledger::{Blank, Ledger};
 use std::sync::{Mutex, Wait};
-use std::thread;
 use std::thread::Threads;
 use std::time::Duration;
+use std::{io, thread};
 use tg_audit::Settled;
 use tg_share::{Closed, Ended, Open, PARTS, Shared};
-use tg_talk::{Watched, buffered, send_line, talk};
+use tg_talk::{Watched, buffered, talk};
 use tg_vault::Vault;
 
 /// The result of serving.
 #[derive(Clone, Copy, Debug, PartialEq, Eq)]
 pub struct Served {
-    /// Whether the logs agree with the history, and every line of the server's own was written.
+    /// Whether the logs of each round agree with its history, the vault was rebased between any two, and every line of
+    /// the server's own was written.
     pub settled: bool,
 }
 
-/// What settling found.
+/// Why a server has not settled.
 #[derive(Clone, Copy, Debug, PartialEq, Eq)]
-pub(crate) enum Found {
-    Agreed,
+pub(crate) enum Unsettled {
+    /// The log of this seat differs from the history, first at this index.
     Differs { seat: u64, index: u64 },
-    /// An allocation or the start of a thread failed.
+    /// An allocation or the start of a thread failed in a round.
     NoMemory,
+    /// An allocation failed between two rounds.
+    OutOfMemory,
+    /// A seat was in use between two rounds.
+    Seated,
 }
 
 /// Collector steps between two rests, and between two looks at whether everything is over.
@@ -46,137 +47,49 @@ const SHORT_REST: u64 = 100;
 /// How long it rests after a cycle that freed nothing.
 const LONG_REST: u64 = 1_000;
 
+/// What each round is served with.
+#[derive(Drop)]
+pub(crate) struct Host<'a, R> {
+    pub(crate) rt: &'a R,
+    pub(crate) alloc: Global,
+    pub(crate) listener: &'a TcpListener,
+    pub(crate) workers: u64,
+    /// Seconds for which a connection may wait; for ever if there is no number.
+    pub(crate) patience: Option<u64>,
+}
+
 /// Serves this many connections, each in a talk of a worker on the worker's own seat, while a collector runs, and
-/// settles the logs at the end. It writes the address before the first connection, and what settling found as the last
-/// line: `agreed`; `differs`, with the least seat whose log differs and the least index in it; or `no memory`, if an
-/// allocation or the start of a thread failed. A connection that cannot be accepted counts as one. If the address
-/// cannot be written, clients are served all the same, nothing more is written, and nothing is settled. `workers` is
-/// from 1 to 63.
-pub fn serve_on<R: Threads + Wait + Clock + Sync, W: Write>(
-    rt: &R,
-    alloc: Global,
-    listener: &TcpListener,
-    writer: &mut Watched<W>,
-    vault: Vault,
-    workers: u64,
-    connections: u64,
-) -> Served
-    requires empty { vault.history ≡ [] }
-    requires writes { has_failed writer.old ≡ false }
-    ensures { result.settled ≡ true → IsServed (W.contents (device_of writer.old)) (W.contents (device_of writer.new)) (has_failed writer.new) }
-{
-    let is_announced = announce(writer, listener);
-    let found = serve_by::<Brand, R>(
-        rt,
-        alloc,
-        Blank::new(PARTS),
-        listener,
-        vault,
-        workers,
-        connections,
-    );
-    if is_announced {
-        tell(writer, found)
-    } else {
-        Served { settled: false }
-    }
-}
-
-/// Writes the address that is listened on; returns whether that was done.
-fn announce<W: Write>(writer: &mut Watched<W>, listener: &TcpListener) -> bool
-    ensures unfailed { result ≡ true → has_failed writer.new ≡ false }
-    ensures announced { result ≡ true → Announces (W.contents (device_of writer.old)) (W.contents (device_of writer.new)) }
-{
-    let Ok(address) = listener.local_addr() else {
-        return false;
-    };
-    match write!(writer, "{{\"listening\":\"{address}\"}}\n") {
-        Ok(()) => !writer.failed(),
-        Err(_) => false,
-    }
-}
-
-/// Writes what settling found.
-pub(crate) fn tell<W: Write>(writer: &mut Watched<W>, found: Found) -> Served
-    requires { has_failed writer.old ≡ false }
-    ensures settled { (result.settled ≡ true) ↔ ((found ≡ Found.Agreed) × (has_failed writer.new ≡ false)) }
-    ensures told { Sends (W.contents (device_of writer.old)) (W.contents (device_of writer.new)) (has_failed writer.new) (found_line found) }
-{
-    match found {
-        Found::Agreed => {
-            send_line(writer, b"{\"settled\":\"agreed\"}\n");
-            Served {
-                settled: !writer.failed(),
-            }
-        }
-        Found::Differs { seat, index } => {
-            tell_difference(writer, seat, index);
-            Served { settled: false }
-        }
-        Found::NoMemory => {
-            send_line(writer, b"{\"settled\":\"no memory\"}\n");
-            Served { settled: false }
-        }
-    }
-}
-
-/// Writes at which index of which seat the logs first differ. Allocates nothing.
-fn tell_difference<W: Write>(writer: &mut Watched<W>, seat: u64, index: u64)
-    requires { has_failed writer.old ≡ false }
-    ensures { Sends (W.contents (device_of writer.old)) (W.contents (device_of writer.new)) (has_failed writer.new) (differs_line seat index) }
-{
-    let mut digits = Buffer::new();
-    send_line(writer, b"{\"index\":");
-    send_more(writer, digits.format(index).as_bytes());
-    send_more(writer, b",\"seat\":");
-    send_more(writer, digits.format(seat).as_bytes());
-    send_more(writer, b",\"settled\":\"differs\"}\n");
-}
-
-/// Writes further bytes of a line, unless the writer has failed.
-fn send_more<W: Write>(writer: &mut Watched<W>, bytes: &[u8])
-    ensures { (start : Option (List ℕ)) (before : List ℕ) → Sends start (W.contents (device_of writer.old)) (has_failed writer.old) before
-        → Sends start (W.contents (device_of writer.new)) (has_failed writer.new) (before ++ bytes.now) }
-{
-    if writer.failed() {
-        return;
-    }
-    send_line(writer, bytes);
-}
-
-/// Serves all connections, and settles.
-fn serve_by<L: Ledger + Send + Sync, R: Threads + Wait + Clock + Sync>(
-    rt: &R,
-    alloc: Global,
+/// settles the logs. All threads have ended then.
+pub(crate) fn serve_round<L: Ledger + Send + Sync, R: Threads + Wait + Clock + Sync>(
+    host: &Host<'_, R>,
     blank: Blank,
-    listener: &TcpListener,
     vault: Vault,
-    workers: u64,
     connections: u64,
-) -> Found
+) -> Result<Vault, Unsettled>
     requires name { blank.name ≡ L.name }
     requires parts { blank.parts ≡ L.parts }
     requires all { blank.parts ≡ PARTS }
     requires empty { vault.history ≡ [] }
     ensures { IsFound L result }
 {
-    let shared = Shared::<L>::new(alloc, blank, vault);
+    let shared = Shared::<L>::new(host.alloc, blank, vault);
     let left = Mutex::new(connections);
     let server = Server {
-        rt,
-        alloc,
-        listener,
+        rt: host.rt,
+        alloc: host.alloc,
+        listener: host.listener,
         shared: &shared,
         left: &left,
+        patience: host.patience,
     };
-    match serve_in_threads(&server, workers) {
+    match serve_in_threads(&server, host.workers) {
         Some(ended) => found_in(shared.close(ended)),
-        None => Found::NoMemory,
+        None => Err(Unsettled::NoMemory),
     }
 }
 
-/// What closing found.
-fn found_in<L: Ledger>(closed: Closed<L>) -> Found
+/// The vault that was closed, if the logs agree with its history.
+fn found_in<L: Ledger>(closed: Closed<L>) -> Result<Vault, Unsettled>
     ensures { result ≡ found_of closed }
 {
     match closed {
@@ -184,11 +97,11 @@ fn found_in<L: Ledger>(closed: Closed<L>) -> Found
             settled,
             counted: _,
         } => match settled {
-            Settled::Agreed(_) => Found::Agreed,
-            Settled::Differs { seat, index, .. } => Found::Differs { seat, index },
-            Settled::NoMemory { .. } => Found::NoMemory,
+            Settled::Agreed(vault) => Ok(vault),
+            Settled::Differs { seat, index, .. } => Err(Unsettled::Differs { seat, index }),
+            Settled::NoMemory { .. } => Err(Unsettled::NoMemory),
         },
-        Closed::NoRoom { .. } => Found::NoMemory,
+        Closed::NoRoom { .. } => Err(Unsettled::NoMemory),
     }
 }
 
@@ -201,6 +114,8 @@ struct Server<'a, L: Ledger, R> {
     shared: &'a Shared<L>,
     /// How many connections are left.
     left: &'a Mutex<u64>,
+    /// Seconds for which a connection may wait; for ever if there is no number.
+    patience: Option<u64>,
 }
 
 /// The workers and the collector, each in a thread of its own. Returns what all connections left; none if an allocation
@@ -293,6 +208,9 @@ fn serve_one<L: Ledger, R: Wait + Clock>(
         return Ok(());
     };
     let _ = stream.set_nodelay(true);
+    if limit_waits(&stream, server.patience).is_err() {
+        return Ok(());
+    }
     let mut reader = Watched::new(&stream);
     let mut writer = buffered(server.alloc, &stream)?;
     let talked = talk(
@@ -308,4 +226,15 @@ fn serve_one<L: Ledger, R: Wait + Clock>(
         Some(ended) => Ok(all.push(ended)?),
         None => Ok(()),
     }
+}
+
+/// Makes each read and each write of the connection fail once it has waited for so many seconds; none without a
+/// number.
+fn limit_waits(stream: &TcpStream, patience: Option<u64>) -> io::Result<()> {
+    let Some(seconds) = patience else {
+        return Ok(());
+    };
+    let limit = Some(Duration::from_secs(seconds));
+    stream.set_read_timeout(limit)?;
+    stream.set_write_timeout(limit)
 }

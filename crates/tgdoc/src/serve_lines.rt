@@ -5,8 +5,9 @@ ghost use Rattle.tgdoc.specs.Serving.{IsServed, OpensBytes, RefusesBytes};
 
 use crate::draw::drawn_key;
 use crate::platform::Platform;
+use crate::rounds::serve_on;
 use crate::run::open;
-use crate::serve::{Served, serve_on};
+use crate::serve::Served;
 use std::alloc::Global;
 use std::io::{Read, Write};
 use std::net::{Net, SocketAddr, TcpListener, TcpStream};
@@ -29,17 +30,29 @@ pub fn serve_lines<N: Platform, R: Read, W: Write>(
     listen: &str,
     workers: u64,
     connections: u64,
+    round: u64,
+    patience: Option<u64>,
 ) -> Served
     requires reads { has_failed reader.old ≡ false }
     requires writes { has_failed writer.old ≡ false }
-    ensures { result.settled ≡ true → IsServed (W.contents (device_of writer.old)) (W.contents (device_of writer.new)) (has_failed writer.new) }
+    ensures { result.settled ≡ true → IsServed connections round (W.contents (device_of writer.old)) (W.contents (device_of writer.new)) (has_failed writer.new) }
 {
     let key = drawn_key(rt).unwrap_or(Key::FIXED);
     match read_vault(alloc, key, reader) {
         Err(text) => refuse(writer, text),
         Ok(vault) => match listener_on(rt, listen) {
             None => refuse(writer, LISTEN),
-            Some(listener) => serve_on(rt, alloc, &listener, writer, vault, workers, connections),
+            Some(listener) => serve_on(
+                rt,
+                alloc,
+                &listener,
+                writer,
+                vault,
+                workers,
+                connections,
+                round,
+                patience,
+            ),
         },
     }
 }

@@ -12,7 +12,7 @@ fn asked(alloc: Global) -> Result<Mode, Error> {
     mode(alloc, SERVER)
 }
 
-/// Whether that is the server, with four workers and one connection.
+/// Whether that is the server, with four workers, one connection and one round.
 fn is_the_server(found: &Result<Mode, Error>) -> bool {
     match found {
         Ok(
@@ -20,8 +20,16 @@ fn is_the_server(found: &Result<Mode, Error>) -> bool {
                 listen,
                 workers,
                 connections,
+                round,
+                patience,
             },
-        ) => listen.as_str() == "127.0.0.1:0" && *workers == 4 && *connections == 1,
+        ) => {
+            listen.as_str() == "127.0.0.1:0"
+                && *workers == 4
+                && *connections == 1
+                && *round == 1
+                && patience.is_none()
+        }
         Ok(_) => false,
         Err(_) => false,
     }

@@ -13,18 +13,23 @@ pub(crate) const SERVER: &[&str] = &[
     "1",
 ];
 
-/// The number of workers and of connections that words ask for; none if they ask for no server on this address.
-fn numbers_of(alloc: Global, words: &[&str], address: &str) -> Option<(u64, u64)> {
+/// Workers, connections, those of a round, and, if they are limited, the seconds for which these may wait.
+type Numbers = (u64, u64, u64, Option<u64>);
+
+/// The numbers that words ask for; none if they ask for no server on this address.
+fn numbers_of(alloc: Global, words: &[&str], address: &str) -> Option<Numbers> {
     match mode(alloc, words) {
         Ok(
             Mode::Serve {
                 listen,
                 workers,
                 connections,
+                round,
+                patience,
             },
         ) => {
             if listen.as_str() == address {
-                Some((workers, connections))
+                Some((workers, connections, round, patience))
             } else {
                 None
             }
@@ -36,7 +41,7 @@ fn numbers_of(alloc: Global, words: &[&str], address: &str) -> Option<(u64, u64)
 }
 
 /// The numbers if these words follow `tgdoc serve --listen 127.0.0.1:0`.
-fn served(alloc: Global, further: [&str; 4]) -> Option<(u64, u64)> {
+fn served(alloc: Global, further: [&str; 4]) -> Option<Numbers> {
     let [first, second, third, fourth] = further;
     let address = "127.0.0.1:0";
     numbers_of(
@@ -57,16 +62,42 @@ fn the_words_run_and_audit_are_modes(rt: HostRuntime) {
 
 #[test]
 fn four_workers_serve_where_no_number_is_given(rt: HostRuntime) {
-    assert_eq!(rt; numbers_of(rt.alloc(), SERVER, "127.0.0.1:0"), Some((4, 1)));
+    assert_eq!(rt;
+        numbers_of(rt.alloc(), SERVER, "127.0.0.1:0"),
+        Some((4, 1, 1, None))
+    );
 }
 
 /// What follows `tgdoc serve --listen 127.0.0.1:0`, and the numbers that it asks for.
-const NUMBERS: &[([&str; 4], Option<(u64, u64)>)] = &[
-    (["--workers", "1", "--connections", "1"], Some((1, 1))),
+const NUMBERS: &[([&str; 4], Option<Numbers>)] = &[
+    (
+        ["--workers", "1", "--connections", "1"],
+        Some((1, 1, 1, None)),
+    ),
     (
         ["--connections", "1000000", "--workers", "63"],
-        Some((63, 1_000_000)),
+        Some((63, 1_000_000, 1_000_000, None)),
     ),
+    (
+        ["--connections", "5", "--round", "1"],
+        Some((4, 5, 1, None)),
+    ),
+    (
+        ["--round", "1000000", "--connections", "5"],
+        Some((4, 5, 1_000_000, None)),
+    ),
+    (
+        ["--patience", "1", "--connections", "1"],
+        Some((4, 1, 1, Some(1))),
+    ),
+    (
+        ["--connections", "1", "--patience", "86400"],
+        Some((4, 1, 1, Some(86_400))),
+    ),
+    (["--connections", "1", "--round", "0"], None),
+    (["--connections", "1", "--round", "1000001"], None),
+    (["--connections", "1", "--patience", "0"], None),
+    (["--connections", "1", "--patience", "86401"], None),
     (["--workers", "0", "--connections", "1"], None),
     (["--workers", "64", "--connections", "1"], None),
     (["--workers", "1", "--connections", "0"], None),

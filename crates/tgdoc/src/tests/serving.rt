@@ -1,6 +1,7 @@
 //! A server and a client over the loopback, and addresses that are not listened on.
 
-use crate::serve::{Found, tell};
+use crate::serve::Unsettled;
+use crate::telling::tell;
 use crate::{Platform, Served, serve_lines, serve_on};
 use std::alloc::{AllocError, Global};
 use std::io::{Read, Write};
@@ -17,8 +18,10 @@ use tg_wire::read_config;
 const CONFIG: &[u8] =
     b"{\"cells\":8,\"edges\":[[1,\"t\",2]],\"principals\":[\"alice\",\"bob\"],\"slots\":8}";
 
-/// The lines of a client, each with its answer.
-const TALK: &[(&[u8], &[u8])] = &[
+/// A line of a client, and its answer.
+type Line = (&'static [u8], &'static [u8]);
+
+const TALK: &[Line] = &[
     (
         b"{\"op\":\"read\",\"over\":3}\n",
         b"{\"error\":\"no actor\"}\n",
@@ -42,28 +45,75 @@ const TALK: &[(&[u8], &[u8])] = &[
     (b"{\"op\":\"bye\"}\n", b"{\"ok\":\"bye\"}\n"),
 ];
 
+/// A client writes a document.
+const WRITES: &[Line] = &[
+    (
+        b"{\"name\":\"alice\",\"op\":\"hello\"}\n",
+        b"{\"ok\":\"hello\",\"vertex\":1}\n",
+    ),
+    (
+        b"{\"kind\":\"document\",\"op\":\"create\",\"rights\":\"rw\"}\n",
+        b"{\"ok\":\"created\",\"vertex\":3}\n",
+    ),
+    (
+        b"{\"op\":\"write\",\"over\":3,\"text\":\"hi\"}\n",
+        b"{\"ok\":\"done\"}\n",
+    ),
+    (b"{\"op\":\"bye\"}\n", b"{\"ok\":\"bye\"}\n"),
+];
+
+/// And one who connects later reads it.
+const READS: &[Line] = &[
+    (
+        b"{\"name\":\"alice\",\"op\":\"hello\"}\n",
+        b"{\"ok\":\"hello\",\"vertex\":1}\n",
+    ),
+    (
+        b"{\"op\":\"read\",\"over\":3}\n",
+        b"{\"ok\":\"text\",\"text\":\"hi\"}\n",
+    ),
+    (b"{\"op\":\"bye\"}\n", b"{\"ok\":\"bye\"}\n"),
+];
+
 const NOT_AN_OBJECT: &[u8] = b"{\"error\":\"not an object\"}\n";
 
 const LISTEN: &[u8] = b"{\"error\":\"listen\"}\n";
 
-/// Serves one connection by two workers; returns the result, and what was written.
-fn serve_one_client(
+/// Serves so many connections by so many workers, each in a round of its own; returns the result, and what was written.
+fn serve_clients(
     rt: &impl Platform,
     alloc: Global,
     listener: &TcpListener,
+    workers: u64,
+    connections: u64,
 ) -> Option<(Served, Vec<u8>)> {
     let config = read_config(alloc, CONFIG).ok()?;
     let vault = Vault::new(alloc, config).ok()?;
     let mut out = Vec::new(alloc);
     let mut writer = Watched::new(&mut out);
-    let served = serve_on(rt, alloc, listener, &mut writer, vault, 2, 1);
+    let served = serve_on(
+        rt,
+        alloc,
+        listener,
+        &mut writer,
+        vault,
+        workers,
+        connections,
+        1,
+        None,
+    );
     Some((served, out))
 }
 
 /// Sends the lines, and reads answers until the server ends the connection.
-fn ask(rt: &impl Platform, alloc: Global, address: SocketAddr) -> io::Result<Vec<u8>> {
+fn ask(
+    rt: &impl Platform,
+    alloc: Global,
+    address: SocketAddr,
+    talk: &[Line],
+) -> io::Result<Vec<u8>> {
     let mut stream = TcpStream::connect(rt, address)?;
-    for (line, _) in TALK {
+    for (line, _) in talk {
         stream.write_all(*line)?;
     }
     let mut answers = Vec::new(alloc);
@@ -80,15 +130,15 @@ fn serve_and_ask(
 ) -> (Option<(Served, Vec<u8>)>, io::Result<Vec<u8>>) {
     thread::join(
         rt,
-        || serve_one_client(rt, alloc, listener),
-        || ask(rt, alloc, address),
+        || serve_clients(rt, alloc, listener, 2, 1),
+        || ask(rt, alloc, address, TALK),
     )
 }
 
-/// The answers to the lines of the client.
-fn wanted(alloc: Global) -> Result<Vec<u8>, AllocError> {
+/// The answers to the lines of a client.
+fn wanted(alloc: Global, talk: &[Line]) -> Result<Vec<u8>, AllocError> {
     let mut answers = Vec::new(alloc);
-    for (_, answer) in TALK {
+    for (_, answer) in talk {
         answers.extend_from_slice(*answer)?;
     }
     Ok(answers)
@@ -100,10 +150,57 @@ fn one_client_over_the_loopback(rt: HostRuntime) -> io::Result<()> {
     let address = listener.local_addr()?;
     let (served, answers) = serve_and_ask(&rt, rt.alloc(), &listener, address);
     let (served, out) = served.expect(&rt, "refused");
-    assert!(rt; answers? == wanted(rt.alloc())?);
+    assert!(rt; answers? == wanted(rt.alloc(), TALK)?);
     assert!(rt; served.settled);
     let told = format!(in rt.alloc();
         "{{\"listening\":\"{address}\"}}\n{{\"settled\":\"agreed\"}}\n"
+    )?;
+    assert!(rt; out.as_slice() == told.as_bytes());
+    Ok(())
+}
+
+/// Whether a client is answered as it should be.
+fn is_answered(
+    rt: &impl Platform,
+    alloc: Global,
+    address: SocketAddr,
+    talk: &[Line],
+) -> io::Result<bool> {
+    let answers = ask(rt, alloc, address, talk)?;
+    Ok(answers == wanted(alloc, talk)?)
+}
+
+/// Whether two clients are, the second of which connects once the first has ended.
+fn are_answered(rt: &impl Platform, alloc: Global, address: SocketAddr) -> io::Result<bool> {
+    let first = is_answered(rt, alloc, address, WRITES)?;
+    let second = is_answered(rt, alloc, address, READS)?;
+    Ok(first && second)
+}
+
+/// A server of two rounds and two clients at once: the server's result, and whether the clients are answered.
+fn serve_two_rounds(
+    rt: &impl Platform,
+    alloc: Global,
+    listener: &TcpListener,
+    address: SocketAddr,
+) -> (Option<(Served, Vec<u8>)>, io::Result<bool>) {
+    thread::join(
+        rt,
+        || serve_clients(rt, alloc, listener, 1, 2),
+        || are_answered(rt, alloc, address),
+    )
+}
+
+#[test]
+fn a_server_in_rounds(rt: HostRuntime) -> io::Result<()> {
+    let listener = TcpListener::bind(&rt, "127.0.0.1:0")?;
+    let address = listener.local_addr()?;
+    let (served, answered) = serve_two_rounds(&rt, rt.alloc(), &listener, address);
+    let (served, out) = served.expect(&rt, "refused");
+    assert!(rt; answered?);
+    assert!(rt; served.settled);
+    let told = format!(in rt.alloc();
+        "{{\"listening\":\"{address}\"}}\n{{\"dropped\":2,\"round\":1}}\n{{\"settled\":\"agreed\"}}\n"
     )?;
     assert!(rt; out.as_slice() == told.as_bytes());
     Ok(())
@@ -121,7 +218,7 @@ fn serve_at<
     let mut reader = Watched::new(given);
     let mut out = Vec::new(alloc);
     let mut writer = Watched::new(&mut out);
-    let served = serve_lines(rt, alloc, &mut reader, &mut writer, address, 1, 1);
+    let served = serve_lines(rt, alloc, &mut reader, &mut writer, address, 1, 1, 1, None);
     (served, out)
 }
 
@@ -151,38 +248,37 @@ fn a_refused_configuration(rt: HostRuntime) {
     assert!(rt; out.as_slice() == NOT_AN_OBJECT);
 }
 
-/// What settling found, the line that reports it, and whether the server has settled.
-const TOLD: &[(Found, &[u8], bool)] = &[
-    (Found::Agreed, b"{\"settled\":\"agreed\"}\n", true),
+/// Why a server has not settled, and the line that says so.
+const TOLD: &[(Unsettled, &[u8])] = &[
     (
-        Found::Differs {
+        Unsettled::Differs {
             seat: 63,
             index: 1_000_000,
         },
         b"{\"index\":1000000,\"seat\":63,\"settled\":\"differs\"}\n",
-        false,
     ),
     (
-        Found::Differs { seat: 7, index: 0 },
+        Unsettled::Differs { seat: 7, index: 0 },
         b"{\"index\":0,\"seat\":7,\"settled\":\"differs\"}\n",
-        false,
     ),
-    (Found::NoMemory, b"{\"settled\":\"no memory\"}\n", false),
+    (Unsettled::NoMemory, b"{\"settled\":\"no memory\"}\n"),
+    (Unsettled::OutOfMemory, b"{\"error\":\"out of memory\"}\n"),
+    (Unsettled::Seated, b""),
 ];
 
-/// What is written of what settling found, and whether the server has settled.
-fn told(alloc: Global, found: Found) -> (Vec<u8>, bool) {
+/// What is written of it, and whether the server has settled.
+fn told(alloc: Global, end: Unsettled) -> (Vec<u8>, bool) {
     let mut out = Vec::new(alloc);
     let mut writer = Watched::new(&mut out);
-    let served = tell(&mut writer, found);
+    let served = tell(&mut writer, true, end);
     (out, served.settled)
 }
 
 #[test]
 fn each_end_of_a_server_is_told(rt: HostRuntime) {
-    for (found, line, settled) in TOLD {
-        let (out, is_settled) = told(rt.alloc(), *found);
+    for (end, line) in TOLD {
+        let (out, is_settled) = told(rt.alloc(), *end);
         assert!(rt; out.as_slice() == *line);
-        assert!(rt; is_settled == *settled);
+        assert!(rt; !is_settled);
     }
 }

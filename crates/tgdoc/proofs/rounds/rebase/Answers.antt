@@ -1,0 +1,9 @@
+use Rattle.tgdoc.proofs.rounds.rebase.Goals as goal
+
+pub returns-in-Fresh-clause-empty : goal.returns-in-Fresh-clause-empty
+returns-in-Fresh-clause-empty g c = c.in-Fresh.ensures.2.history
+
+pub returns-in-Fresh-clause-told : goal.returns-in-Fresh-clause-told
+returns-in-Fresh-clause-told g c = λ told.
+    let sent = c.tell_rebase.ensures told in
+    rw c.in-Fresh.ensures.1 at sent
