@@ -6,6 +6,7 @@ mod agents;
 mod growths;
 mod holds;
 mod races;
+mod rounds;
 
 use crate::sharing::{Tally, agreed, both, close, one, opened, play};
 use std::alloc::{AllocError, Global};

@@ -291,7 +291,7 @@ pub fn with_one<L: Ledger>(
 }
 
 /// Closes, and once more if there was no room.
-fn closed<L: Ledger>(shared: Shared<L>, ended: Vec<Ended<L>>) -> Closed<L>
+pub fn closed<L: Ledger>(shared: Shared<L>, ended: Vec<Ended<L>>) -> Closed<L>
     requires { L.parts ≡ PARTS }
 {
     match shared.close(ended) {
@@ -370,7 +370,7 @@ fn look_at<L: Ledger>(closed: &Closed<L>) -> Seen {
     }
 }
 
-/// Closes. No other function drops a `Closed`, as the drop costs most of the proof.
+/// Closes. But for `reclaim` of share/rounds.rt, no other function drops a `Closed`, as the drop costs most of the proof.
 pub fn close<L: Ledger>(shared: Shared<L>, ended: Vec<Ended<L>>) -> Seen
     requires { L.parts ≡ PARTS }
 {

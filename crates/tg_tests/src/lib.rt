@@ -33,3 +33,5 @@ mod vault_agents;
 mod vault_cases;
 #[cfg(test)]
 mod vault_growths;
+#[cfg(test)]
+mod vault_rebase;

@@ -126,7 +126,7 @@ pub fn opened(rt: &impl Abort, alloc: Global, opening: &Opening) -> Result<Vault
 }
 
 /// The lines have these answers, one after another.
-fn lines_are_answered(
+pub fn lines_are_answered(
     rt: &impl Abort,
     alloc: Global,
     vault: &mut Vault,
