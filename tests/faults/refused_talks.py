@@ -10,6 +10,7 @@ refused.py. Each test takes the program's path, returns whether it passed, and p
 import functools
 import itertools
 import os
+import re
 import socket
 import subprocess
 import threading
@@ -26,6 +27,12 @@ SECONDS = 30
 AGREED = b'{"settled":"agreed"}\n'
 SHORT = b'{"settled":"no memory"}\n'
 NOT_SETTLED = "not settled"
+# Of a server of two rounds, the first of which has agreed.
+NOT_REBASED = "not rebased"
+NOT_SETTLED_LATER = "second round not settled"
+CUT_LATER = "part of a line behind the address"
+REBASED = re.compile(rb'{"dropped":\d+,"round":1}\n')
+PART_OF_REBASED = re.compile(rb'.*\n{"dropped":(\d+(,"round":1?)?)?')
 HEARD = "no line in want"
 
 # Ports below those that the system gives to clients.
@@ -99,10 +106,15 @@ def wait_for_threads(process):
                 time.sleep(0.0005)
 
 
-def serve(program, talks, fault, workers=2):
-    """A server with this many workers, and for each of these talks a client, one after the other."""
+# Two workers, who serve two clients in one round, or each client in a round of its own.
+ONE_ROUND = ("--workers", "2")
+TWO_ROUNDS = (*ONE_ROUND, "--round", "1")
+
+
+def serve(program, talks, fault, options=ONE_ROUND):
+    """A server with these options, and for each of these talks a client, one after the other."""
     port = free_port()
-    words = [str(program), "serve", "--listen", "127.0.0.1:%d" % port, "--workers", str(workers), "--connections", str(len(talks))]
+    words = [str(program), "serve", "--listen", "127.0.0.1:%d" % port, *options, "--connections", str(len(talks))]
     with faults.source_of(scripts.OPENING + b"\n") as source, faults.at_fault(fault) as (environment, told):
         devices = {"stdin": source, "stdout": subprocess.PIPE, "stderr": subprocess.DEVNULL, "pass_fds": [told.fileno()]}
         with subprocess.Popen(words, env=environment, **devices) as process:
@@ -147,9 +159,26 @@ def end_of(found):
         (whole, 1): "no last line",
         (whole + AGREED, 0): "agreed",
         (whole + SHORT, 1): NOT_SETTLED,
+        (whole + joined([NO_MEMORY]), 1): NOT_REBASED,
     }
     is_cut = found.status == 1 and whole.startswith(found.output)
     return ends.get((found.output, found.status)) or ("part of the address" if is_cut else None)
+
+
+def end_in_rounds(found):
+    """How a server of two rounds ended; None if that is not allowed."""
+    output, rebases = REBASED.subn(b"", found.output)
+    end = end_of(found._replace(output=output))
+    if end == "no last line" or (found.status == 1 and PART_OF_REBASED.fullmatch(found.output)):
+        return CUT_LATER
+    if rebases:
+        return {"agreed": "agreed", NOT_SETTLED: NOT_SETTLED_LATER}.get(end) if rebases == 1 else None
+    return None if end == "agreed" else end
+
+
+def end_under(options):
+    """The function that says how a server with these options ended."""
+    return end_in_rounds if options == TWO_ROUNDS else end_of
 
 
 class Tried(NamedTuple):
@@ -175,12 +204,12 @@ def all_heard(tried):
     return all(one.told == HEARD for one in tried)
 
 
-def tried_each(program, fault, to_the_end, workers):
+def tried_each(program, fault, to_the_end, options):
     """A server for each call of a kind, which goes wrong."""
     references = References(lambda places: serve(program, lines_at(places), Fault()).answers)
     everything = lines_at(range(len(all_answers())))
-    found = [one for _, one in faults.each(lambda at: serve(program, everything, at, workers), fault, to_the_end)]
-    return [Tried(end_of(one), references.kind(one.answers), one) for one in found]
+    found = [one for _, one in faults.each(lambda at: serve(program, everything, at, options), fault, to_the_end)]
+    return [Tried(end_under(options)(one), references.kind(one.answers), one) for one in found]
 
 
 def print_failed(claims, tried):
@@ -191,16 +220,16 @@ def print_failed(claims, tried):
         print("    %d %s" % (len(list(group)), row))
 
 
-def gone_wrong(fault, claims_of, to_the_end=False, workers=2):
+def gone_wrong(fault, claims_of, to_the_end=False, options=ONE_ROUND):
     """Calls of a kind go wrong, each in turn. `claims_of` has what has to hold of the servers, each claim by its text."""
 
     def test(program):
-        tried = tried_each(program, fault, to_the_end, workers)
+        tried = tried_each(program, fault, to_the_end, options)
         print_counts(("calls of the kind %s %s" % (fault.kind, fault.whose)).rstrip(), Counter("%s, %s" % (one.end, one.told) for one in tried))
-        whole = serve(program, lines_at(range(len(all_answers()))), Fault(), workers)
+        whole = serve(program, lines_at(range(len(all_answers()))), Fault(), options)
         claims = {
-            "without a fault all is answered, and settled as agreed": (whole.answers, end_of(whole)) == (all_answers(), "agreed"),
-            "clients are told what they may be": all(one.told for one in tried),
+            "without a fault all is answered, and settled as agreed": (whole.answers, end_under(options)(whole)) == (all_answers(), "agreed"),
+            "clients are told what they may be, and each server ends as it may": all(one.told and one.end for one in tried),
             **claims_of(program, tried),
         }
         if not all(claims.values()):
@@ -269,6 +298,45 @@ def memory_refused_from_then_on(program, tried):
     }
 
 
+def is_cut_off(one):
+    """Whether the first client of a server of two rounds has all its answers, and the second none."""
+    first = len(scripts.TALKS[0])
+    return one.found.answers == all_answers()[:first] + [None] * len(scripts.TALKS[1])
+
+
+# Of a rebase behind the first talk: the lists of slots, vertices, edges and names, the text, the three names, the two maps and the list of principals.
+REBASE_GROWTHS = 4 + 1 + 3 + 2 + 1
+
+
+def own_memory_refused_in_rounds(program, tried):
+    """One allocation of the server's own thread fails: in a round, in the settling at its end, or in the rebase behind the first."""
+    server = stages(program, tried)[2]
+    return {
+        "they are refused in the first round, in its rebase, and in the second round": [end for end, _ in itertools.groupby(ends_of(server))] == [NOT_SETTLED, NOT_REBASED, NOT_SETTLED_LATER],
+        "settling the first round takes growths behind its last answer": any(is_cut_off(one) for one in server if one.end == NOT_SETTLED),
+        "a server whose rebase is refused has answered its first client, and nobody else": all(is_cut_off(one) for one in server if one.end == NOT_REBASED),
+        "a rebase takes %d growths at least" % REBASE_GROWTHS: ends_of(server).count(NOT_REBASED) >= REBASE_GROWTHS,
+    }
+
+
+def workers_memory_refused_in_rounds(_, tried):
+    """One allocation of a worker fails: it is told, or the worker's round does not settle."""
+    return {
+        "no rebase is refused": all_end(tried, "agreed", NOT_SETTLED, NOT_SETTLED_LATER),
+        "a growth of a talk is told to its client, and the server settles": not any(one.told == HEARD for one in tried if one.end == "agreed"),
+        "in each round some growth of a worker is none of its talk": {NOT_SETTLED, NOT_SETTLED_LATER} <= set(ends_of(tried)),
+    }
+
+
+def memory_refused_from_then_on_in_rounds(program, tried):
+    """An allocation and all after it fail."""
+    server = stages(program, tried)[2]
+    return {
+        "no server settles": all_end(server, NOT_SETTLED, NOT_REBASED, NOT_SETTLED_LATER),
+        "in some the rebase is the first to be refused": any(is_cut_off(one) for one in server if one.end == NOT_REBASED),
+    }
+
+
 # The workers of the servers that cannot start some thread, more than the clients.
 WORKERS = 5
 
@@ -307,6 +375,17 @@ def writes_wrong(_, tried):
     }
 
 
+def writes_wrong_in_rounds(_, tried):
+    """A write of a server of two rounds fails. Behind a line of its own that it could not write it serves on, and writes no other."""
+    later = [one for one in tried if one.end == CUT_LATER]
+    others = [one for one in tried if one.end != CUT_LATER]
+    return {
+        "the line of a rebase takes five writes, and the last line one": len(later) == 5 + 1,
+        "clients are answered all the same": all_heard(later),
+        "all other writes are those of the address and of answers": all_end(others, "nothing written", "part of the address", "agreed"),
+    }
+
+
 def one_byte(_, tried):
     """A read or a write moves one byte, which is as good as many."""
     return {"nothing changes": len(tried) > len(all_answers()) and all_end(tried, "agreed") and all_heard(tried)}
@@ -321,7 +400,7 @@ LATE = 4 * 80
 def memory_refused_late(program):
     """A server of 101 connections has no more memory once most were served: it takes no further one, and does not
     settle."""
-    found = serve(program, [GREETING] * 101, Fault("memory", LATE, faults.WITHOUT_END, whose="others"), workers=1)
+    found = serve(program, [GREETING] * 101, Fault("memory", LATE, faults.WITHOUT_END, whose="others"), ("--workers", "1"))
     greeted = sum(answer == scripts.welcome(1) for answer in found.answers)
     print("  %d of 101 clients were greeted" % greeted)
     return 60 < greeted < 101 and end_of(found) == NOT_SETTLED
@@ -338,12 +417,16 @@ def tests():
     yield "memory-of-a-server-itself-refused-once", gone_wrong(Fault("memory", whose="first"), own_memory_refused)
     yield "memory-of-workers-refused-once", gone_wrong(Fault("memory", whose="others"), workers_memory_refused)
     yield "memory-of-a-server-refused-from-then-on", gone_wrong(Fault("memory"), memory_refused_from_then_on, to_the_end=True)
+    yield "memory-of-a-server-in-rounds-refused-once", gone_wrong(Fault("memory", whose="first"), own_memory_refused_in_rounds, options=TWO_ROUNDS)
+    yield "memory-of-workers-in-rounds-refused-once", gone_wrong(Fault("memory", whose="others"), workers_memory_refused_in_rounds, options=TWO_ROUNDS)
+    yield "memory-of-a-server-in-rounds-refused-from-then-on", gone_wrong(Fault("memory"), memory_refused_from_then_on_in_rounds, to_the_end=True, options=TWO_ROUNDS)
     yield "memory-of-a-server-of-101-connections-refused-late", memory_refused_late
-    yield "threads-of-a-server-refused-once", gone_wrong(Fault("thread"), threads_refused, workers=WORKERS)
+    yield "threads-of-a-server-refused-once", gone_wrong(Fault("thread"), threads_refused, options=("--workers", str(WORKERS)))
     yield "thread-of-a-server-of-101-connections-refused", thread_refused_of_many
     yield "reads-of-a-server-that-fail", gone_wrong(Fault("read"), reads_wrong("nothing written"))
     yield "reads-of-a-server-that-find-the-end", gone_wrong(Fault("read", moves=0), reads_wrong("no opening"))
     yield "writes-of-a-server-that-fail", gone_wrong(Fault("write"), writes_wrong)
     yield "writes-of-a-server-that-take-no-byte", gone_wrong(Fault("write", moves=0), writes_wrong)
+    yield "writes-of-a-server-in-rounds-that-fail", gone_wrong(Fault("write"), writes_wrong_in_rounds, options=TWO_ROUNDS)
     for kind in ("read", "write"):
         yield kind + "s-of-a-server-that-move-one-byte", gone_wrong(Fault(kind, moves=1), one_byte)

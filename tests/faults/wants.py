@@ -38,6 +38,7 @@ LISTED = {
     # The faults of the lower crates are the refusals of lists, maps and texts.
     ("tg_audit/src/settling.rt", "settle", "first_difference", "Settled::NoMemory"): 1,
     ("tg_graph/src/graph.rt", "build", "Graph::open", "OpenFault::OutOfMemory"): 1,
+    ("tg_vault/src/rebase.rt", "begin_anew", "vault.live_graph", "Rebased::NoMemory"): 1,
     ("tg_vault/src/vault.rt", "with_key", "Store::with_key", "OpenFault::OutOfMemory"): 1,
     ("tg_vault/src/vault.rt", "with_key", "opening.principals().copy", "OpenFault::OutOfMemory"): 1,
     ("tg_vault/src/vault.rt", "with_key", "empty_seats", "OpenFault::OutOfMemory"): 1,
@@ -64,13 +65,14 @@ LISTED = {
     ("tgdoc/src/audit.rt", "answer", "write_verdict", "WireFault::OutOfMemory"): 1,
     ("tgdoc/src/audit.rt", "judge", "check", "WireFault::OutOfMemory"): 1,
     ("tgdoc/src/audit.rt", "take_steps", "steps.push", "WireFault::OutOfMemory"): 1,
-    # A server: its buffer of lines; what a worker was refused, and what the server itself was, threads among it; settling.
+    # A server: its buffer of lines; what a worker was refused, and what the server itself was, threads among it; settling; a rebase.
     ("tgdoc/src/serve_lines.rt", "read_vault", "InputLines::new", "WireFault::OutOfMemory"): 1,
     ("tgdoc/src/serve.rt", "work", "serve_one", "None"): 1,
     ("tgdoc/src/serve.rt", "serve_in_threads", FLAG, "None"): 1,
-    ("tgdoc/src/serve.rt", "serve_by", "serve_in_threads", "Found::NoMemory"): 1,
-    ("tgdoc/src/serve.rt", "found_in", "Settled::NoMemory", "Found::NoMemory"): 1,
-    ("tgdoc/src/serve.rt", "found_in", "Closed::NoRoom", "Found::NoMemory"): 1,
+    ("tgdoc/src/serve.rt", "serve_round", "serve_in_threads", "Unsettled::NoMemory"): 1,
+    ("tgdoc/src/serve.rt", "found_in", "Settled::NoMemory", "Unsettled::NoMemory"): 1,
+    ("tgdoc/src/serve.rt", "found_in", "Closed::NoRoom", "Unsettled::NoMemory"): 1,
+    ("tgdoc/src/rounds.rt", "rebase", "Rebased::NoMemory", "Unsettled::OutOfMemory"): 1,
     # A text of the tests' tables is never too long, and a name is one.
     ("tg_tests/src/cases.rt", "text", "Text::new", "AllocError"): 1,
     ("tg_tests/src/cases.rt", "name", "Name::new", "AllocError"): 1,

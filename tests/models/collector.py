@@ -116,6 +116,15 @@ class Course:
         wanted = line_of(self.answer(event))
         return None if answer == wanted else "wanted " + wanted.decode()
 
+    def rebase(self):
+        """Three cycles while nobody has a seat, and the graph of what is live in place of that of the history; the store
+        stays, and has nothing else."""
+        for _ in range(3):
+            self.noted("cycle")
+        self.graph = self.graph.rebased()
+        in_slots = {slot.serial for slot in self.store.slots if slot}
+        assert in_slots == set(self.graph.kinds) == set(self.store.where)
+
     def answer(self, event):
         """The answer to an event, and the change that it makes."""
         if event["op"] in ("collect", "cycle"):

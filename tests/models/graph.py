@@ -1,5 +1,7 @@
 """The rules of docs/PROTOCOL.md over a graph that is never collected: triples, texts and serials, with no slots, no cells and no collector."""
 
+import copy
+
 from models.reading import COMMANDS, LETTERS
 
 # The next serial at which none is left.
@@ -81,6 +83,17 @@ class Graph:
     def live(self):
         """What these and the pending targets reach."""
         return self.reached({*self.roots(), *self.pending.values()})
+
+    def rebased(self):
+        """The graph with which the history begins anew once nobody has a seat: what is live, with the same names and next
+        serial; of those who have retired, the ones that are live."""
+        assert not (self.seats or self.agents or self.pending)
+        live, fresh = self.live(), copy.deepcopy(self)
+        fresh.retired &= live
+        fresh.kinds = {serial: kind for serial, kind in self.kinds.items() if serial in live}
+        fresh.texts = {serial: text for serial, text in self.texts.items() if serial in live}
+        fresh.triples = {triple for triple in self.triples if triple[0] in live}
+        return fresh
 
     def denial(self, actor, event):
         """Why the rules deny a command, the first cause that holds; nothing if they allow it."""

@@ -48,6 +48,14 @@ class Run:
             self.is_alone, self.quiet = False, 0
         return answer
 
+    def rebase(self):
+        """Three cycles while nobody has a seat, after which exactly what is live has a slot; it is the graph from then
+        on."""
+        self.graph = self.graph.rebased()
+        self.used = len(self.graph.kinds)
+        self.phase, self.steps, self.is_alone, self.quiet = "idle", 0, True, 2
+        self.doomed, self.ripe, self.gone = set(), set(), set()
+
     def cells_in_use(self):
         """The fewest and the most cells that may be in use: the edges of what is live, and those of what may have a slot."""
         live, pairs = self.graph.live(), self.graph.pairs()

@@ -201,6 +201,8 @@ def tests_of_words():
         yield "workers-%s" % (number or "nothing"), refused(*address, "--workers", number, *one)
     for number in ("0", "1000001", "18446744073709551617", "-1", "x", ""):
         yield "connections-%s" % (number or "nothing"), refused(*address, "--connections", number)
+    for number in ("0", "86401", "-1", "1.5", "x", ""):
+        yield "patience-%s" % (number or "nothing"), refused(*address, *one, "--patience", number)
     yield "listen-missing", refused(*one)
     yield "connections-missing", refused(*address)
     yield "a-word-too-many-behind-serve", refused(*address, *one, "now")
@@ -208,10 +210,11 @@ def tests_of_words():
     yield "option-without-its-value", refused(*address, "--connections")
     yield "most-workers", accepted(*address, "--workers", "63", *one)
     yield "most-connections", most_connections
-    yield "options-in-another-order", accepted(*one, "--workers", "2", *address)
-    yield "options-in-one-word-each", accepted("--workers=3", "--connections=1", "--listen=127.0.0.1:0")
+    yield "most-patience", accepted(*address, *one, "--patience", "86400")
+    yield "options-in-another-order", accepted(*one, "--patience", "9", "--round", "1", "--workers", "2", *address)
+    yield "options-in-one-word-each", accepted("--workers=3", "--patience=9", "--round=1", "--connections=1", "--listen=127.0.0.1:0")
     yield "help-names-serve", helped(["run", "audit", "serve"], "--help")
-    yield "help-on-serve", helped(["--listen", "--workers", "--connections"], "serve", "--help")
+    yield "help-on-serve", helped(["--listen", "--workers", "--connections", "--round", "--patience"], "serve", "--help")
 
 
 def tests():
