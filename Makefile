@@ -26,15 +26,17 @@ load: ## prove and build tg_load, many sessions at once over one vault
 	cd crates/tg_load && rt run -- --sessions 1 --commands 1 > /dev/null
 
 # 63 sessions at once, a million commands in all, and the settle of their logs; then tests/soak: a million bad lines,
-# 20,000 random runs and derivations, and servers that are kept busy. No part of the gate, which runs fewer.
+# 20,000 random runs and derivations, and servers that are kept busy, one for 200 rounds. No part of the gate, which runs
+# fewer.
 soak: all load ## run at length: a million commands of 63 sessions, a million bad lines, busy servers
 	crates/tg_load/out/tg_load --sessions 63 --commands 15874 --reuse --figures
 	tests/soak
 
-bench: all load ## measure lines per second, peak memory, sessions on threads, and edges piled up; tests nothing
+bench: all load ## measure lines per second, peak memory, sessions on threads, edges piled up, and rounds; tests nothing
 	bench/lines.py
 	bench/threads.py
 	bench/piling.py
+	bench/rounds.py
 
 # The edit loop, over what earlier runs left: `make check tg_cells` proves that crate and its tests, tries its planted
 # bugs and proves the crates that stand on it; `make check` proves every crate, and no more.
