@@ -17,7 +17,7 @@ demo: ## play the README's example; without a proved program, on an unproved bui
 
 # The gate proves every crate and its tests from nothing, tries the planted bugs and runs the program as two compilers
 # build it; then the built program is tested from outside.
-test: ## prove everything from nothing, try the planted bugs, test the programs (an hour, four cores)
+test: ## prove everything from nothing, try the planted bugs, test the programs (90 minutes, four cores)
 	tests/gate
 	tests/run
 
