@@ -482,11 +482,11 @@ class Trial:
             Path(self.log, f"{self.crate.name}-{self.checks}").write_text(done.stdout, encoding="utf-8")
         return done
 
-    def batch(self, edits):
-        """Tries the edits in one check. Those that it does not refuse for certain get no result."""
+    def batch(self, edits, more=()):
+        """Tries the edits in one check, which also proves these functions. Those that it does not refuse for certain get no result."""
         texts, lines, names = self.made(edits)
         symbols = {*names.values()}
-        done = self.check(texts, [it.partition("::")[2] for it in sorted(symbols)])
+        done = self.check(texts, [*(it.partition("::")[2] for it in sorted(symbols)), *more])
         holes = {self.symbol(f) for f in self.source.functions} - symbols if not self.were else set()
         report = Report(self.crate, done, lines, symbols, holes)
         if report.unread:
@@ -518,12 +518,15 @@ class Trial:
                 found += [CONSTANT.match(was)] if was != row else []
         return [it[1] for it in found] if all(found) else []
 
+    def laws(self):
+        """The functions that only state something: with no arguments, and an empty body."""
+        return ["::".join(self.path(f)) for f in self.source.functions if not f.block and not f.params and not f.body]
+
     def about(self, edit):
         """The functions that an edit is about: the laws if it changes a definition, those that name a constant that it changes, or else
         those of the modules that it changes."""
         if any(not it.startswith("src/") for it in edit.texts):
-            laws = [f for f in self.source.functions if not f.block and not f.params and not f.body]
-            return ["::".join(self.path(f)) for f in laws]
+            return self.laws()
         named = [re.compile(rb"\b%s\b" % it) for it in self.constants(edit)]
         users = [f for f in self.source.functions if any(it.search(self.source.data[f.file], f.first, f.end) for it in named)]
         if users:
@@ -591,10 +594,11 @@ class Trial:
             self.kept = f"{room}/kept"
             if self.were:
                 linked(self.were[-1], self.kept)
-            batches = self.batches([it for it in self.edits if not it.result and it.fits(self.source)])
+            copied = [it for it in self.edits if not it.result and it.fits(self.source)]
+            batches = self.batches(copied)
             if not self.were and batches:
-                # (it makes what the others begin with)
-                self.batch(batches.pop(0))
+                # (it makes what the others begin with; the laws are for edits of definitions, which are tried alone)
+                self.batch(batches.pop(0), self.laws() if len(copied) < len(self.edits) else [])
             list(pool.map(self.batch, batches))
             list(pool.map(self.alone, [it for it in self.edits if not it.result]))
 
