@@ -1,25 +1,26 @@
--- A restriction of a graph: it agrees with the graph, permits no more, and stays one.
-use Rattle.std.proofs.Common.{◌≡◌, ℕ, ◌<◌, ◌≤◌, ◌+◌, List, true, length, refl, sym, ap, subst, ◌∙◌, inl, inr, Some, None, arith}
+-- A restriction of a graph: it agrees with the graph, permits no more, replies alike, and stays one.
+use Rattle.std.proofs.Common.{◌≡◌, ℕ, ◌<◌, ◌≤◌, ◌+◌, List, [], true, length, refl, sym, ap, subst, ◌∙◌, inl, inr, Some, None, arith}
 use Rattle.std.specs.Prelude.{Option}
-use Rattle.std.specs.Option.{is_some, option_map}
+use Rattle.std.specs.Option.{is_some, option_map, option_map_or}
 use Rattle.std.specs.Ordering.{nat_cmp, eq_by_cmp}
 use Rattle.std.specs.Cmp.{nat_cmp_total, unsigned_tied}
 use Rattle.std.specs.FinMap as map
 use Rattle.std.specs.FinSet as set
 use Rattle.std.proofs.lemmas.Bool.{eqb-true, eq-eqb, or_cases}
-use Rattle.tg_rights.specs.Letters.{is_none}
+use Rattle.tg_rights.specs.Letters.{Letters, is_none}
 use Rattle.tg_rights.specs.Membership.{Contains}
 use Rattle.tg_rights.specs.declared.kind.Kind.TheVariants as kind
 use Rattle.tg_rights.specs.declared.command.Command.{Command}
 use Rattle.tg_rights.specs.declared.outcome.Outcome.{Outcome}
 use Rattle.tg_rights.specs.declared.outcome.Outcome.TheVariants as outcome
+use Rattle.tg_rights.specs.declared.outcome.Reply.TheVariants as reply
 use Rattle.tg_rights.specs.declared.outcome.Which.{Which}
 use Rattle.tg_rights.specs.declared.outcome.Which.TheVariants as which
 use Rattle.tg_graph.specs.declared.vertex.Vertex.{Vertex}
 use Rattle.tg_graph.specs.Terms as effect
 use Rattle.tg_graph.specs.Terms.{Does, terms}
 use Rattle.tg_graph.specs.Protection.{Protection, IsEdge, IsGraph, IsSubject, IsVertex, has_retired, label, vertex}
-use Rattle.tg_graph.specs.Rules.{Allowed, Judged, after, done, edges_of, last_serial, next_graph, with_text}
+use Rattle.tg_graph.specs.Rules.{Allowed, Judged, after, answered, done, edges_of, last_serial, next_graph, reply_of, with_text}
 use Rattle.tg_graph.specs.Fullness.{Limits, MayBeFull, NewEdge, Permitted, edge_count, vertex_count}
 use Rattle.tg_graph.specs.Paths.{Agree, IsRestriction}
 use Rattle.tg_graph.proofs.EdgesAreCountedLemmas.{keys_occur_once}
@@ -115,6 +116,22 @@ module _ (G H : Protection) (r : IsRestriction G H (IsVertex H)) where
       restriction_permits limits c outcome.Allowed p = (judged c outcome.Allowed p.0, λ new. subst (λ (n : ℕ). n ≤ last_serial) r.next (p.1 new))
       restriction_permits limits c (outcome.Denied rule why) p = judged c (outcome.Denied rule why) p
       restriction_permits limits c (outcome.Full w) p = (judged c outcome.Allowed p.0, full limits c w p.0 p.1)
+
+      -- what it answers, the graph answers
+      replied : (d : Does) → Entitled H (IsVertex H) step x x_there d → answered G d ≡ answered H d
+      replied (effect.Joins from α to) h = refl
+      replied (effect.Makes k α name) h = ap (λ (n : ℕ). reply.Created n) (sym r.next)
+      replied (effect.Drops α over) h = refl
+      replied (effect.Rewrites over text) h = refl
+      replied (effect.Tells over) h = ap (λ (v : Option Vertex). reply.Text (option_map_or (λ e. e.text) v [])) (alike.vertices over h)
+      replied (effect.Lists at) h = ap (λ (es : List (ℕ × Letters)). reply.Edges es) (same_edges G H at in_G in_H (λ y. alike.labels at y h))
+      replied effect.Retires h = refl
+      replied (effect.Acts agent) h = refl
+
+      pub restriction_replies : (limits : Limits) (c : Command) (o : Outcome) → Permitted limits H x c o → reply_of G x c o ≡ reply_of H x c o
+      restriction_replies limits c outcome.Allowed p = replied (terms x c).does (entitled H (IsVertex H) step x x_there c p.0)
+      restriction_replies limits c (outcome.Denied rule why) p = refl
+      restriction_replies limits c (outcome.Full w) p = refl
 
       -- who is known afterwards is a vertex, and the other way round
       abbrev Known : Does → ℕ → Type 0

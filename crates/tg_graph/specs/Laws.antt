@@ -25,7 +25,7 @@ use Rattle.tg_graph.specs.Opening.{Edge, first_fault, has_twice, is_principal, p
 use Rattle.tg_graph.specs.Fullness.{Limits, Permitted, vertex_count, edge_count, edges_at}
 use Rattle.tg_graph.specs.Paths.{Agree, IsPart, IsRestriction}
 use Rattle.tg_graph.specs.Agreement.{IsRepliedAlike, KeepsViewers}
-use Rattle.tg_graph.specs.Rules.{Check, AllPass, Judged, Allowed, Applies, after, allowed_reply, checks, denial, edges_of, is_create, names_rights, next_graph}
+use Rattle.tg_graph.specs.Rules.{Check, AllPass, Judged, Allowed, Applies, after, allowed_reply, checks, denial, edges_of, is_create, names_rights, next_graph, reply_of}
 use Rattle.tg_graph.specs.Terms.{Terms, terms}
 use Rattle.tg_graph.specs.declared.rules.Need.{Need}
 use Rattle.tg_rights.specs.declared.outcome.Cause.{Cause}
@@ -159,6 +159,12 @@ abbrev pub RestrictionsStay : Type 0
 RestrictionsStay =
     (limits : Limits) (G H : Protection) (x : ℕ) (c : Command) (o : Outcome) → IsGraph G → IsGraph H → IsRestriction G H (IsVertex H) → IsSubject H x →
     Permitted limits H x c o → IsRestriction (next_graph G x c o) (next_graph H x c o) (IsVertex (next_graph H x c o))
+
+-- and the reply is the same
+abbrev pub RestrictionsReply : Type 0
+RestrictionsReply =
+    (limits : Limits) (G H : Protection) (x : ℕ) (c : Command) (o : Outcome) → IsGraph G → IsGraph H → IsRestriction G H (IsVertex H) → IsSubject H x →
+    Permitted limits H x c o → reply_of G x c o ≡ reply_of H x c o
 
 -- a configuration opens the graph of its list: the vertices are its principals, subjects of no text with the serials
 -- from 1 on, each active under its name, nobody has retired, and a triple is there exactly if some edge of the list has

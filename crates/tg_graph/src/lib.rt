@@ -1,7 +1,7 @@
 //! The take-grant rules over a plain graph that is never collected: the model of every other crate.
 #![tactic(auto)]
 
-ghost use Rattle.tg_graph.specs.Laws.{AgentsAreAssumedAndLeft, AllowedIsMet, AnswersAgree, DenialsAreFirst, CommandsKeepGraphs, EdgesAreCounted, EdgesAreListed, ExactlyOneOutcome, OpeningsAreAsListed, OpeningsAreSound, OpeningsFit, OutcomesAgree, PartsAgree, PartsStay, PrincipalsComeAndGo, RepliesAgree, RestrictionsAgree, RestrictionsPermit, RestrictionsStay, TwiceIsTwoPlaces};
+ghost use Rattle.tg_graph.specs.Laws.{AgentsAreAssumedAndLeft, AllowedIsMet, AnswersAgree, DenialsAreFirst, CommandsKeepGraphs, EdgesAreCounted, EdgesAreListed, ExactlyOneOutcome, OpeningsAreAsListed, OpeningsAreSound, OpeningsFit, OutcomesAgree, PartsAgree, PartsStay, PrincipalsComeAndGo, RepliesAgree, RestrictionsAgree, RestrictionsPermit, RestrictionsReply, RestrictionsStay, TwiceIsTwoPlaces};
 ghost use Rattle.tg_graph.specs.Parts.{PartsAreOneGraph};
 
 mod config;
@@ -98,6 +98,11 @@ pub fn restrictions_permit()
 /// A restriction of a graph stays one when a command of one of its subjects has an outcome that the restriction permits.
 pub fn restrictions_stay()
     ensures { RestrictionsStay }
+{}
+
+/// The reply to a command that a restriction permits to one of its subjects is the graph's.
+pub fn restrictions_reply()
+    ensures { RestrictionsReply }
 {}
 
 /// A configuration without a fault has few principals, each a subject of the graph that it opens.
