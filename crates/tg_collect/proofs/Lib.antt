@@ -11,6 +11,8 @@ mod CallLemmas
 mod Common
 mod EdgeLemmas
 mod EdgesLemmas
+mod FiguresLemmas
+mod FoundLemmas
 mod LineLemmas
 mod OpeningEdges
 mod PartsLemmas

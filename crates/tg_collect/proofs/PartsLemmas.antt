@@ -1,8 +1,8 @@
 -- What is held, listed slot by slot.
-use Rattle.std.proofs.Common.{◌≡◌, ℕ, zero, suc, ◌<◌, ◌≤◌, List, [], ◌∷◌, ◌++◌, append-nil, append_assoc, length, map, Option, Some, None, inl, inr, Bool, true, false, cond, T, sym, ◌∙◌, subst, ap, refl, arith, MatchOption}
-use Rattle.tg_collect.proofs.Common.{cases_eq, contains_append, contains_left, contains_map, contains_right, Contains, Distinct, distinct_last, edge_list, edges, Free, Has, held, is_none, is_some, IsNonDecreasingBy, IsPermutation, IsPermutation-map, IsPermutation-sym}
-use Rattle.tg_collect.proofs.Common.{in_slot, IsGraph, IsStore, join, Kept, kept, Kind, Letters, Machine, map_append, mapped, mark_at, nat_cmp, Occupant, option_map, permuted, place, Progress, progress, progress_in, progress_of, Idle, Marking, Sweeping}
-use Rattle.tg_collect.proofs.Common.{rises_append, rises_by, rises_map, same_Some, seen, serial_at, serial_of, serials_distinct, shown, slot, Stored, stored, unwrap_or, Vertex, vertex, vertices, White, Grey, Black, Colour, HeapGraph}
+use Rattle.std.proofs.Common.{◌≡◌, ℕ, ◌<◌, ◌≤◌, List, [], ◌∷◌, ◌++◌, append-nil, append_assoc, length, map, Option, Some, None, inl, inr, Bool, true, false, cond, T, sym, ◌∙◌, subst, ap, refl, arith, MatchOption}
+use Rattle.tg_collect.proofs.Common.{contains_append, contains_left, contains_map, contains_right, Contains, edge_list, edges, Free, Has, held, is_none, is_some, IsNonDecreasingBy, IsPermutation}
+use Rattle.tg_collect.proofs.Common.{in_slot, IsGraph, IsStore, join, Kept, kept, Kind, Letters, Machine, mapped, mark_at, nat_cmp, Occupant, option_map, place, Progress, progress, progress_in, progress_of, Idle, Marking, Sweeping}
+use Rattle.tg_collect.proofs.Common.{rises_append, rises_map, same_Some, seen, serial_at, serial_of, shown, slot, Stored, stored, unwrap_or, Vertex, vertex, vertices, White, Grey, Black, Colour, HeapGraph}
 use Rattle.std.specs.FinMap as finmap
 use Rattle.tg_slots.specs.Table as table
 use Rattle.tg_marking.specs.Values as values
@@ -10,14 +10,15 @@ use Rattle.tg_graph.specs.Opening.{Edge}
 use Rattle.tg_graph.specs.Parts as listed
 use Rattle.tg_graph.specs.Parts.{Before, Listed, Rises}
 use Rattle.tg_graph.specs.Rules.{edges_of}
-use Rattle.tg_collect.specs.Parts.{AreHeldSlots, ListsHeld, edge_from, edges_at, held_serial, keeps, kind_in, listed_at, text_in, with_slot}
+use Rattle.tg_collect.specs.Parts.{AreHeldSlots, ListsHeld, edge_from, edges_at, held_serial, keeps, kind_in, listed_at, text_in}
+use Rattle.tg_collect.proofs.FoundLemmas.{found_below, found_sorted}
 use Rattle.tg_collect.proofs.EdgesLemmas.{edges_same, labels_same, sorted_rises, whole_IsGraph, whole_of}
 use Rattle.tg_collect.proofs.ShownLemmas.{Once, place_kept, vertex_found}
 use Rattle.tg_collect.proofs.SlotLemmas.{kept_within, zip_at}
 use Rattle.tg_collect.proofs.StoreLemmas.{edge_in, once_so, stored_kept}
 
 -- The serial of what a slot holds, by its colour.
-same_keeps : (h : HeapGraph) (p : Progress) (i : ℕ) (c : Colour) → keeps p i c ≡ values.keeps (progress_in h p) i c
+pub same_keeps : (h : HeapGraph) (p : Progress) (i : ℕ) (c : Colour) → keeps p i c ≡ values.keeps (progress_in h p) i c
 same_keeps h Idle i c = refl
 same_keeps h (Marking s) i c = refl
 same_keeps h (Sweeping k) i White = refl
@@ -45,36 +46,6 @@ serial_shown m i p c x here colour serial =
         let same : o.colour ≡ d = cc in
         ap (λ b. cond b (Some o.serial) None) (same_keeps m.heap m.progress i d ∙ ap (λ (e : Colour). values.keeps (progress_of m) i e) (sym same)) ∙ if_kept (values.keeps (progress_of m) i o.colour) o
 
--- The slots below a number that hold something, in their order.
-abbrev pub held_below : Stored → ℕ → List (ℕ × ℕ)
-held_below v zero = []
-held_below v (suc n) = with_slot (held_below v n) n (place v n)
-
-below_has : (v : Stored) (n : ℕ) (t : ℕ × ℕ) → Contains (held_below v n) t → (t.1 < n) × (place v t.1 ≡ Some t.0)
-below_has v zero t h = absurd h
-below_has v (suc n) t h = by (place v n) refl h (below_has v n t) where
-  by : (o : Option ℕ) → place v n ≡ o → Contains (with_slot (held_below v n) n o) t → (Contains (held_below v n) t → (t.1 < n) × (place v t.1 ≡ Some t.0)) → (t.1 < suc n) × (place v t.1 ≡ Some t.0)
-  by None is h rest = let r = rest h in let low = r.0 in (omega (arith, low), r.1)
-  by (Some y) is h rest = elim (contains_append (held_below v n) ((y, n) ∷ []) t h) [
-    | inl old ↦ (let r = rest old in let low = r.0 in (omega (arith, low), r.1))
-    | inr last ↦ elim last [
-      | inl same ↦ ((let here : t.1 ≡ n = ap (λ (p : ℕ × ℕ). p.1) same in omega (arith, here)), ap (λ (p : ℕ × ℕ). place v p.1) same ∙ is ∙ ap (λ (p : ℕ × ℕ). Some p.0) (sym same))
-      | inr never ↦ absurd never
-    ]
-  ]
-
-below_in : (v : Stored) (n x i : ℕ) → i < n → place v i ≡ Some x → Contains (held_below v n) (x, i)
-below_in v zero x i low is = absurd (omega (arith, low))
-below_in v (suc n) x i low is = elim (cases_eq i n) [
-  | inl here ↦
-      subst (λ (o : Option ℕ). Contains (with_slot (held_below v n) n o) (x, i)) (sym (ap (place v) (sym here) ∙ is))
-      (contains_right (held_below v n) ((x, n) ∷ []) (x, i) (inl (λ j. (x, here j))))
-  | inr other ↦ still (place v n) (below_in v n x i (omega (arith, low, other)) is)
-] where
-  still : (o : Option ℕ) → Contains (held_below v n) (x, i) → Contains (with_slot (held_below v n) n o) (x, i)
-  still None h = h
-  still (Some y) h = contains_left (held_below v n) ((y, n) ∷ []) (x, i) h
-
 -- The edges of one slot's vertex more.
 pub edges_append : (v : Stored) (ts : List (ℕ × ℕ)) (t : ℕ × ℕ) → edges_at v (ts ++ t ∷ []) ≡ edges_at v ts ++ map (edge_from t.0) (edges_of (held v 0) t.0)
 edges_append v [] t = append-nil (map (edge_from t.0) (edges_of (held v 0) t.0))
@@ -89,33 +60,11 @@ module _ (v : Stored) (s : IsStore v) where
   one_place : (i j x : ℕ) → place v i ≡ Some x → place v j ≡ Some x → i ≡ j
   one_place i j x e f = let a = place_kept v i x e in let b = place_kept v j x f in once i j a.0 b.0 a.1 b.1 (a.2 ∙ sym b.2)
 
-  below_apart : (n : ℕ) → Distinct (map (λ (t : ℕ × ℕ). t.0) (held_below v n))
-  below_apart zero = tt
-  below_apart (suc n) = by (place v n) refl (below_apart n) where
-    by : (o : Option ℕ) → place v n ≡ o → Distinct (map (λ (t : ℕ × ℕ). t.0) (held_below v n)) → Distinct (map (λ (t : ℕ × ℕ). t.0) (with_slot (held_below v n) n o))
-    by None is d = d
-    by (Some x) is d =
-        subst Distinct (sym (map_append (λ (t : ℕ × ℕ). t.0) (held_below v n) ((x, n) ∷ [])))
-        (distinct_last (map (λ (t : ℕ × ℕ). t.0) (held_below v n)) x d (λ h.
-        let old = mapped (λ (t : ℕ × ℕ). t.0) (held_below v n) x h in
-        let there = below_has v n old.0 old.1 in
-        let low = there.0 in
-        let same = one_place old.0.1 n x (there.1 ∙ ap (λ (y : ℕ). Some y) (sym old.2)) is in
-        absurd (omega (arith, low, same))))
-
   -- All of them, sorted by their serials.
-  pub slots_sorted : (n : ℕ) → length v.slots ≤ n → (ts : List (ℕ × ℕ)) → IsPermutation (held_below v n) ts → IsNonDecreasingBy (λ (t : ℕ × ℕ). t.0) ts → AreHeldSlots v ts
-  slots_sorted n all ts moved up = record {
-    held = λ x i. (
-      λ h. (below_has v n (x, i) (permuted ts (held_below v n) (x, i) (IsPermutation-sym (held_below v n) ts moved) h)).1,
-      λ is.
-          let k = place_kept v i x is in
-          let within = kept_within (shown v) (progress v) i k.0 k.1 in
-          permuted (held_below v n) ts (x, i) moved (below_in v n x i (omega (arith, within, all)) is),
-    );
-    rising = rises_by (λ (t : ℕ × ℕ). t.0) ts up
-        (serials_distinct (map (λ (t : ℕ × ℕ). t.0) (held_below v n)) (map (λ (t : ℕ × ℕ). t.0) ts) (IsPermutation-map (λ (t : ℕ × ℕ). t.0) (held_below v n) ts moved) (below_apart n));
-  }
+  pub slots_sorted : (n : ℕ) → length v.slots ≤ n → (ts : List (ℕ × ℕ)) → IsPermutation (found_below (place v) n) ts → IsNonDecreasingBy (λ (t : ℕ × ℕ). t.0) ts → AreHeldSlots v ts
+  slots_sorted n all ts moved up =
+      let are = found_sorted (place v) one_place n (λ i x is. let k = place_kept v i x is in let within = kept_within (shown v) (progress v) i k.0 k.1 in omega (arith, within, all)) ts moved up in
+      record { held = are.found; rising = are.rising }
 
   -- What a slot holds is listed as its vertex.
   listed_shown : (next i x : ℕ) → place v i ≡ Some x → vertex (held v next) x ≡ Some (listed.vertex_of (listed_at v (x, i)))

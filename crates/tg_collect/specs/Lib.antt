@@ -4,6 +4,7 @@ pub mod Stored
 pub mod Readings
 pub mod Views
 pub mod Parts
+pub mod Figures
 pub mod Sessions
 pub mod Runs
 pub mod Openings

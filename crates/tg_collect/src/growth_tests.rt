@@ -1,10 +1,10 @@
 //! Calls whose allocations fail: what they leave, and the same calls made again. tests/faults/growths.py makes each
 //! allocation of a test fail in turn.
-use crate::Store;
 use crate::tests::Act::{
     Create, Cycle, FreeCells, FreeSlots, Join, Mark, Remove, Shade, Sweep, Write,
 };
 use crate::tests::{PLAIN, Script, at, edges, graph, open, play, rights};
+use crate::{Colour, Figure, Store};
 use std::alloc::{AllocError, Global};
 use std::process::Abort;
 use tg_graph::Graph;
@@ -41,11 +41,16 @@ const JOINED: &Script = &Script {
     ..PLAIN
 };
 
-/// What is played next, and what is then held: the vertices, and the edges by the letters of their rights.
+/// A vertex as its slot shows it, and whether it is held.
+type Shown = (u64, Kind, Colour, bool);
+
+/// What is played next, and what is then held: the vertices, and the edges by the letters of their rights; and what the
+/// slots show, whose edges are the same here.
 struct Stage {
     script: Script,
     vertices: &'static [(u64, Kind, &'static str)],
     edges: &'static [(u64, &'static str, u64)],
+    figures: &'static [Shown],
 }
 
 // 3 is parked in the third, and 4 has come ahead of the sweep in the last
@@ -61,6 +66,11 @@ const STAGES: &[Stage] = &[
             (3, Kind::Document, ""),
         ],
         edges: &[(1, "tg", 2), (1, "rw", 3), (2, "rwg", 3)],
+        figures: &[
+            (1, Kind::Subject, Colour::White, true),
+            (2, Kind::Subject, Colour::White, true),
+            (3, Kind::Document, Colour::Grey, true),
+        ],
     },
     Stage {
         script: Script {
@@ -74,6 +84,11 @@ const STAGES: &[Stage] = &[
             (3, Kind::Document, "hi"),
         ],
         edges: &[(1, "tg", 2), (1, "rw", 3), (2, "rwg", 3)],
+        figures: &[
+            (1, Kind::Subject, Colour::Grey, true),
+            (2, Kind::Subject, Colour::Grey, true),
+            (3, Kind::Document, Colour::Grey, true),
+        ],
     },
     Stage {
         script: Script {
@@ -89,6 +104,11 @@ const STAGES: &[Stage] = &[
         },
         vertices: &[(1, Kind::Subject, ""), (2, Kind::Subject, "")],
         edges: &[(1, "tg", 2)],
+        figures: &[
+            (1, Kind::Subject, Colour::Black, true),
+            (2, Kind::Subject, Colour::Black, true),
+            (3, Kind::Document, Colour::White, false),
+        ],
     },
     Stage {
         script: Script {
@@ -102,6 +122,12 @@ const STAGES: &[Stage] = &[
             (4, Kind::Document, ""),
         ],
         edges: &[(1, "tg", 2), (1, "r", 4)],
+        figures: &[
+            (1, Kind::Subject, Colour::White, true),
+            (2, Kind::Subject, Colour::White, true),
+            (3, Kind::Document, Colour::White, false),
+            (4, Kind::Document, Colour::Black, true),
+        ],
     },
 ];
 
@@ -210,6 +236,37 @@ fn lists(rt: &impl Print, alloc: Global, store: &Store, stage: &Stage) -> Result
     Ok(are_vertices(vertices.as_slice(), stage.vertices) && edges.as_slice() == wanted.as_slice())
 }
 
+/// What the slots show, asked for again if memory runs out.
+fn figures_again(
+    rt: &impl Print,
+    alloc: Global,
+    store: &Store,
+) -> Result<(Vec<Figure>, Vec<(u64, Rights, u64)>), AllocError> {
+    match store.figures(alloc) {
+        Ok(figures) => Ok(figures),
+        Err(_) => {
+            let _ = rt.println("no memory");
+            store.figures(alloc)
+        }
+    }
+}
+
+fn are_figures(figures: &[Figure], wanted: &[Shown]) -> bool {
+    for (figure, other) in figures.iter().zip(wanted.iter()) {
+        if (figure.serial, figure.kind, figure.colour, figure.is_held) != *other {
+            return false;
+        }
+    }
+    figures.len() == wanted.len()
+}
+
+/// Whether a store shows what a stage says.
+fn shows(rt: &impl Print, alloc: Global, store: &Store, stage: &Stage) -> Result<bool, AllocError> {
+    let wanted = edges(alloc, stage.edges)?;
+    let (figures, edges) = figures_again(rt, alloc, store)?;
+    Ok(are_figures(figures.as_slice(), stage.figures) && edges.as_slice() == wanted.as_slice())
+}
+
 /// Lists that lack memory leave the store; what is held, and nothing that is parked, is listed on the next call.
 #[test]
 fn growth_refused_in_lists_of_what_is_held(rt: HostRuntime) -> Result<(), AllocError> {
@@ -219,6 +276,22 @@ fn growth_refused_in_lists_of_what_is_held(rt: HostRuntime) -> Result<(), AllocE
         play(&rt, rt.alloc(), &mut store, &stage.script)?;
         assert!(rt;
             lists(&rt, rt.alloc(), &store, stage)?,
+            "{}",
+            stage.script.name
+        );
+    }
+    Ok(())
+}
+
+/// The same of what the slots show, what is parked among it.
+#[test]
+fn growth_refused_in_lists_of_what_is_shown(rt: HostRuntime) -> Result<(), AllocError> {
+    let mut store = open(&rt, rt.alloc(), JOINED)?;
+    play(&rt, rt.alloc(), &mut store, JOINED)?;
+    for stage in STAGES {
+        play(&rt, rt.alloc(), &mut store, &stage.script)?;
+        assert!(rt;
+            shows(&rt, rt.alloc(), &store, stage)?,
             "{}",
             stage.script.name
         );

@@ -3,6 +3,7 @@
 #![tactic(auto)]
 
 mod course;
+mod figures;
 #[cfg(test)]
 mod growth_tests;
 mod laws;
@@ -18,7 +19,9 @@ mod store;
 #[cfg(test)]
 mod tests;
 
+pub use figures::Figure;
 pub use laws::{openings_can_be_stored, runs_are_complete_and_bounded};
 pub use note::{Note, Phase};
 pub use store::Store;
 pub use tg_heap::{HeapFull, Key};
+pub use tg_slots::Colour;

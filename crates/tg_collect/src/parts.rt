@@ -94,7 +94,11 @@ impl Store {
 }
 
 /// Adds a slot at the end, if it holds something.
-fn add_slot(found: &mut Vec<(u64, u32)>, id: u32, serial: Option<u64>) -> Result<(), AllocError>
+pub(crate) fn add_slot(
+    found: &mut Vec<(u64, u32)>,
+    id: u32,
+    serial: Option<u64>,
+) -> Result<(), AllocError>
     ensures { OnOk result (found.new.items ≡ with_slot found.old.items id serial) }
 {
     match serial {
@@ -145,7 +149,7 @@ impl Progress {
     }
 
     /// Whether a vertex of this colour in a slot is held; else it waits to be swept.
-    fn keeps(self, id: u32, colour: Colour) -> bool
+    pub(crate) fn keeps(self, id: u32, colour: Colour) -> bool
         ensures { result ≡ keeps self id colour }
     {
         match self {

@@ -4,7 +4,8 @@ use Rattle.std.proofs.lemmas.List.Sorted.{IsNonDecreasingBy-from_sort_by_key}
 use Rattle.tg_collect.specs.Parts.{with_slot}
 use Rattle.tg_collect.specs.Readings.{place}
 use Rattle.tg_collect.specs.Stored.{Stored, stored}
-use Rattle.tg_collect.proofs.PartsLemmas.{held_below, slots_sorted}
+use Rattle.tg_collect.proofs.FoundLemmas.{found_below}
+use Rattle.tg_collect.proofs.PartsLemmas.{slots_sorted}
 use Rattle.tg_collect.proofs.SlotLemmas.{zip_size}
 use Rattle.tg_collect.proofs.store.Store.held_slots.Goals as goal
 
@@ -14,8 +15,8 @@ loop-id-preserved c =
     let i = c.loop-id.id in
     c.in_ok-add_slot.ensures
     ∙ ap (λ (l : List (ℕ × ℕ)). with_slot l i c.held_at-serial.result) c.loop-id.invariant
-    ∙ ap (with_slot (held_below v i) i) (c.held_at-serial.ensures ∙ ap (λ (w : Stored). place w i) c.self.view_is)
-    ∙ ap (held_below v) (sym (add-one i))
+    ∙ ap (with_slot (found_below (place v) i) i) (c.held_at-serial.ensures ∙ ap (λ (w : Stored). place w i) c.self.view_is)
+    ∙ ap (found_below (place v)) (sym (add-one i))
 
 pub returns : goal.returns
 returns c =
