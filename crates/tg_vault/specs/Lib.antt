@@ -16,3 +16,4 @@ pub mod Cycles
 pub mod Headline
 pub mod Laws
 pub mod Rebase
+pub mod Scenes

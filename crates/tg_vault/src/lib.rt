@@ -7,6 +7,7 @@ mod entry;
 mod event;
 mod laws;
 mod rebase;
+mod scene;
 mod seats;
 mod vault;
 
@@ -14,5 +15,6 @@ pub use entry::Entry;
 pub use event::{Answer, AskFault, Event, SeatFault};
 pub use laws::{courses_have_the_headline, courses_join};
 pub use rebase::Rebased;
+pub use scene::{Scene, Sitting};
 pub use tg_collect::Key;
 pub use vault::{Ran, Swept, Vault};
