@@ -12,11 +12,11 @@ use Rattle.tg_rights.specs.declared.outcome.Which.{Which}
 use Rattle.tg_rights.specs.declared.outcome.Which.TheVariants as which
 use Rattle.tg_graph.specs.declared.member.Member.{Member}
 use Rattle.tg_graph.specs.Fullness.{Limits, MayBeFull, Permitted}
-use Rattle.tg_graph.specs.Laws.{RestrictionsAgree, RestrictionsPermit, RestrictionsStay}
+use Rattle.tg_graph.specs.Laws.{RestrictionsAgree, RestrictionsPermit, RestrictionsReply, RestrictionsStay}
 use Rattle.tg_graph.specs.Names.{has_serial}
 use Rattle.tg_graph.specs.Paths.{IsPart, IsRestriction, Live}
 use Rattle.tg_graph.specs.Protection.{Protection, IsGraph, IsVertex, has_retired, is_active, label}
-use Rattle.tg_graph.specs.Rules.{is_create, next_graph}
+use Rattle.tg_graph.specs.Rules.{is_create, next_graph, reply_of}
 use Rattle.tg_graph.proofs.RestrictionLemmas.{by_vertices}
 use Rattle.tg_graph.proofs.RollLemmas.{any_is, contains_filter, filter_contains, is_any}
 use Rattle.tg_graph.proofs.VertexLemmas.{IsVertex-from_kind}
@@ -37,7 +37,7 @@ use Rattle.tg_vault.specs.Contents.{Contents, graph_now, held_now, moment}
 use Rattle.tg_vault.specs.Fits.{HasSlot, IsRoot, IsTied}
 use Rattle.tg_vault.specs.Course.{Course, IsCoherent}
 use Rattle.tg_vault.specs.Cycles.{IsCycle, ended_in, notes_in}
-use Rattle.tg_vault.specs.Rebase.{IsRebased, ThreeCycles, reopening}
+use Rattle.tg_vault.specs.Rebase.{IsLegalFrom, IsRebased, RepliedAlike, ThreeCycles, reopening}
 use Rattle.tg_vault.proofs.CourseLemmas.{course_keeps, course_run}
 use Rattle.tg_vault.proofs.CycleLemmas.{course_coherent, from_idle, live_so}
 use Rattle.tg_vault.proofs.DecidedLemmas.{graph_is}
@@ -129,6 +129,9 @@ module _ (v w : Contents) (c : ThreeCycles v w) where
   pub same_history : w.history ≡ v.history
   same_history = ap (λ (m : Moment). m.history) kept.1
 
+  pub same_opening : w.opening ≡ v.opening
+  same_opening = (course_keeps c.second _ _ w c.ends.course).opening ∙ (course_keeps c.first _ _ c.second c.goes_on.course).opening ∙ (course_keeps v _ _ c.first c.begins.course).opening
+
   same_limits : w.limits ≡ v.limits
   same_limits = (course_keeps c.second _ _ w c.ends.course).limits ∙ (course_keeps c.first _ _ c.second c.goes_on.course).limits ∙ (course_keeps v _ _ c.first c.begins.course).limits
 
@@ -174,7 +177,7 @@ module _ (v w : Contents) (c : ThreeCycles v w) where
 -- who has retired may do the same in a restriction as in the graph, which is next to nothing
 module _ (limits : Limits) (G H : Protection) (r : IsRestriction G H (IsVertex H)) (x : ℕ) (c : Command) (gone : has_retired G x ≡ true) (there : has_retired H x ≡ true) where
   abbrev Stays : Command → Outcome → Type 0
-  Stays k o = Permitted limits G x k o × IsRestriction (next_graph G x k o) (next_graph H x k o) (IsVertex (next_graph H x k o))
+  Stays k o = Permitted limits G x k o × IsRestriction (next_graph G x k o) (next_graph H x k o) (IsVertex (next_graph H x k o)) × (reply_of G x k o ≡ reply_of H x k o)
 
   never_full : (w : Which) → MayBeFull limits H x command.Leave w → ⊥
   never_full which.Serials may = cc may.0
@@ -183,43 +186,49 @@ module _ (limits : Limits) (G H : Protection) (r : IsRestriction G H (IsVertex H
 
   retired_stays : (o : Outcome) → Permitted limits H x c o → Stays c o
   retired_stays outcome.Allowed permitted =
-      subst (λ k. Stays k outcome.Allowed) (sym (retired_leaves H x c there permitted.0)) ((leave_allowed G x command.Leave refl, λ (new : is_create x command.Leave ≡ true). absurd (cc new)), r)
-  retired_stays (outcome.Denied rule cause) permitted = ((permitted.0, retired_alike G H x c gone there ∙ permitted.1), r)
+      subst (λ k. Stays k outcome.Allowed) (sym (retired_leaves H x c there permitted.0)) ((leave_allowed G x command.Leave refl, λ (new : is_create x command.Leave ≡ true). absurd (cc new)), r, refl)
+  retired_stays (outcome.Denied rule cause) permitted = ((permitted.0, retired_alike G H x c gone there ∙ permitted.1), r, refl)
   retired_stays (outcome.Full w) permitted = absurd (never_full w (subst (λ k. MayBeFull limits H x k w) (retired_leaves H x c there permitted.0) permitted.1))
 
--- whatever history is legal from a restriction is legal from the graph
-module _ (permit : RestrictionsPermit) (stay : RestrictionsStay) (limits : Limits) where
+-- whatever history is legal from a restriction is legal from the graph, with the same replies
+module _ (permit : RestrictionsPermit) (stay : RestrictionsStay) (reply : RestrictionsReply) (limits : Limits) where
   asks_before : (earlier : List Entry) (G H : Protection) (seat x : ℕ) → IsRestriction G H (IsVertex H) → MayAsk H earlier seat x → MayAsk G earlier seat x
   asks_before earlier G H seat x r (inl active) = inl (ap (λ (ms : List Member). has_serial ms x) r.part.names ∙ active)
   asks_before earlier G H seat x r (inr (inl gone)) = inr (inl ((r.retired x).0 gone).1)
   asks_before earlier G H seat x r (inr (inr was)) = inr (inr was)
 
   step_before : (earlier : List Entry) (G H : Protection) (seat x : ℕ) (c : Command) (o : Outcome) → IsLawful earlier G → IsLawful earlier H → (r : IsRestriction G H (IsVertex H)) → MayAsk H earlier seat x → Permitted limits H x c o →
-      Permitted limits G x c o × IsRestriction (next_graph G x c o) (next_graph H x c o) (IsVertex (next_graph H x c o))
+      Permitted limits G x c o × IsRestriction (next_graph G x c o) (next_graph H x c o) (IsVertex (next_graph H x c o)) × (reply_of G x c o ≡ reply_of H x c o)
   step_before earlier G H seat x c o lawful lawful_too r asks permitted = elim (asks_subject earlier H seat x lawful_too asks) [
-    | inl subject ↦ (permit limits G H x c o lawful.graph lawful_too.graph r subject permitted, stay limits G H x c o lawful.graph lawful_too.graph r subject permitted)
+    | inl subject ↦ (permit limits G H x c o lawful.graph lawful_too.graph r subject permitted, stay limits G H x c o lawful.graph lawful_too.graph r subject permitted, reply limits G H x c o lawful.graph lawful_too.graph r subject permitted)
     | inr gone ↦ retired_stays limits G H r x c ((r.retired x).0 gone).1 gone o permitted
   ]
 
   run_before : (earlier : List Entry) (G H : Protection) (es : List Entry) (K : Protection) → IsLawful earlier G → IsLawful earlier H → IsRestriction G H (IsVertex H) → EntryRun limits earlier H es K →
-      (L : Protection) × EntryRun limits earlier G es L
-  run_before earlier G H [] K lawful lawful_too r along = (G, refl)
+      (L : Protection) × EntryRun limits earlier G es L × IsRestriction L K (IsVertex K) × RepliedAlike G H es
+  run_before earlier G H [] K lawful lawful_too r along = (G, refl, subst (λ (k : Protection). IsRestriction G k (IsVertex k)) (sym along) r, tt)
   run_before earlier G H (e ∷ es) K lawful lawful_too r (between, (asks, permitted, left), along) =
       let did = step_before earlier G H e.seat e.actor e.command e.outcome lawful lawful_too r asks permitted in
       let step : EntryStep limits earlier G e (next_graph G e.actor e.command e.outcome) = (asks_before earlier G H e.seat e.actor r asks, did.0, refl) in
       let here = subst (λ (k : Protection). IsRestriction (next_graph G e.actor e.command e.outcome) k (IsVertex k)) (sym left) did.1 in
       let rest = run_before (earlier ++ e ∷ []) (next_graph G e.actor e.command e.outcome) between es K (turn_keeps limits earlier G e _ lawful step) (turn_keeps limits earlier H e between lawful_too (asks, permitted, left)) here along in
-      (rest.0, (next_graph G e.actor e.command e.outcome, step, rest.1))
+      let told = subst (λ (k : Protection). RepliedAlike (next_graph G e.actor e.command e.outcome) k es) left rest.3 in
+      (rest.0, (next_graph G e.actor e.command e.outcome, step, rest.1), rest.2, (did.2, told))
 
 -- the vault that begins with what is held
-pub rebased : runs.IsComplete → RestrictionsAgree → RestrictionsPermit → RestrictionsStay → (v w : Contents) → ThreeCycles v w → IsCoherent v → IsCoherent w → IsRebased v (record w { opening = reopening w; history = [] })
-rebased law agree permit stay v w c sound there = record {
+pub rebased : runs.IsComplete → RestrictionsAgree → RestrictionsPermit → RestrictionsStay → RestrictionsReply → (v w : Contents) → ThreeCycles v w → IsCoherent v → IsCoherent w → IsRebased v (record w { opening = reopening w; history = [] })
+rebased law agree permit stay reply v w c sound there = record {
   opening = whole;
   graph = reopening_graph w there;
   agrees = λ x active. agree (graph_now v) (reopening w) owned x (live_held v w c sound there x (active_live v w c sound there x active)) (active_subject (graph_now v) x graph active);
   legal = λ entries H legal.
-      let r = run_before permit stay w.limits [] (graph_now v) (reopening w) entries H (at_first (graph_now v) graph) (at_first (reopening w) (reopening_graph w there)) owned legal.graphs in
-      (r.0, record { graphs = subst (λ (l : Limits). EntryRun l [] (graph_now v) entries r.0) (same_limits v w c) r.1 });
+      let r = run_before permit stay reply w.limits [] (graph_now v) (reopening w) entries H (at_first (graph_now v) graph) (at_first (reopening w) (reopening_graph w there)) owned legal.graphs in
+      record {
+        whole = r.0;
+        legal = record { graphs = subst (λ (l : Limits). EntryRun l [] (graph_now v) entries r.0) (same_limits v w c) r.1 };
+        stays = r.2;
+        replies = r.3;
+      };
   names = there.ties.names ∙ ap (λ (K : Protection). K.names) (same_graph v w c) ∙ sym sound.ties.names;
   limits = same_limits v w c;
   seats = same_seats v w c;

@@ -16,7 +16,7 @@ use std::collections::BTreeSet;
 use tg_collect::runs_are_complete_and_bounded;
 use tg_graph::{
     Graph, Member, Parts, parts_are_one_graph, restrictions_agree, restrictions_permit,
-    restrictions_stay,
+    restrictions_reply, restrictions_stay,
 };
 use tg_rights::{Kind, Name, Text};
 
@@ -38,7 +38,8 @@ impl Vault {
     /// vault keeps the ones that are held. `NoMemory` if an allocation failed, after the cycles, with the whole history.
     ///
     /// The new opening graph is the graph of the history restricted to its live vertices, agrees with it for each
-    /// principal, and each history that is legal from the new graph is legal from the old one's.
+    /// principal, and each history that is legal from the new graph is legal from the old one's, with the same replies, and
+    /// leads to a restriction again: so nobody can tell, however many rebases follow one another.
     pub fn rebase(self) -> Rebased
         ensures { Rebases self result }
     {
@@ -70,6 +71,7 @@ impl Vault {
         restrictions_agree();
         restrictions_permit();
         restrictions_stay();
+        restrictions_reply();
         match vault.live_graph() {
             Ok(opening) => {
                 let dropped = vault.count();

@@ -2,7 +2,7 @@ use Rattle.std.proofs.Common.{List, Option, ℕ, [], length, ap, subst, sym, ◌
 use Rattle.tg_vault.specs.World.{NobodySits}
 use Rattle.tg_vault.specs.Contents.{Contents}
 use Rattle.tg_vault.specs.Rebase.{IsRebased}
-use Rattle.tg_vault.proofs.RebaseLemmas.{is_idle, rebased, same_history, same_seats}
+use Rattle.tg_vault.proofs.RebaseLemmas.{is_idle, rebased, same_history, same_opening, same_seats}
 use Rattle.tg_vault.proofs.vault.Vault.begin_anew.Goals as goal
 
 pub reopen-requires-clause-nobody : goal.reopen-requires-clause-nobody
@@ -15,9 +15,9 @@ pub returns-in-Ok : goal.returns-in-Ok
 returns-in-Ok c = (
   c.requires,
   c.count-dropped.ensures ∙ ap length (same_history c.args.self c.cycle_thrice.new.self c.cycle_thrice.ensures),
-  subst (λ (w : Contents). IsRebased c.args.self w) (sym (c.reopen.ensures ∙ (λ i. record c.cycle_thrice.new.self { opening = c.in-Ok.ensures i; history = [] }))) (rebased c.runs_are_complete_and_bounded.ensures.complete c.restrictions_agree.ensures c.restrictions_permit.ensures c.restrictions_stay.ensures
+  subst (λ (w : Contents). IsRebased c.args.self w) (sym (c.reopen.ensures ∙ (λ i. record c.cycle_thrice.new.self { opening = c.in-Ok.ensures i; history = [] }))) (rebased c.runs_are_complete_and_bounded.ensures.complete c.restrictions_agree.ensures c.restrictions_permit.ensures c.restrictions_stay.ensures c.restrictions_reply.ensures
       c.args.self c.cycle_thrice.new.self c.cycle_thrice.ensures c.soundness.ensures.coherent c.soundness-2.ensures.coherent),
 )
 
 pub returns-in-Err : goal.returns-in-Err
-returns-in-Err c = (c.requires, c.cycle_thrice.ensures)
+returns-in-Err c = (c.requires, c.cycle_thrice.ensures, same_history c.args.self c.cycle_thrice.new.self c.cycle_thrice.ensures, same_opening c.args.self c.cycle_thrice.new.self c.cycle_thrice.ensures)
