@@ -1,0 +1,4 @@
+pub mod Words
+pub mod Label
+pub mod Picture
+pub mod Laws

@@ -1,0 +1,7 @@
+//! A law: the function is a theorem, its contract, and costs nothing when it is called.
+ghost use Rattle.tg_draw.specs.Laws.{OnePicture};
+
+/// A vault has one picture under a label: the picture is a function of what the vault contains.
+pub fn one_picture()
+    ensures { OnePicture }
+{}
