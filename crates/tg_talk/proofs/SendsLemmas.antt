@@ -27,6 +27,12 @@ sent_whole old new failed text ok sent =
     let all : text ≡ sent.done = sent.split ∙ ap (λ r. sent.done ++ r) (sent.whole ok) ∙ append-nil sent.done in
     subst (Appends old new) (sym all) sent.appended
 
+-- the same of texts of which one is the last
+pub last_whole : (old new : Option (List ℕ)) (failed : Bool) (before last : List ℕ) → failed ≡ false → SendsLast old new failed before last → Appends old new (before ++ last)
+last_whole old new failed before last ok sent =
+    let all : last ≡ sent.done = sent.split ∙ ap (λ r. sent.done ++ r) (sent.whole ok) ∙ append-nil sent.done in
+    subst (λ (l : List ℕ). Appends old new (before ++ l)) (sym all) sent.appended
+
 -- nothing was sent if what is there stays
 pub sends_keeps : (old new : Option (List ℕ)) (failed : Bool) → Keeps old new → Sends old new failed []
 sends_keeps old new failed kept = record { done = []; rest = []; split = refl; appended = Appends-keeps old old new [] (Appends-none old) kept; whole = λ _. refl }

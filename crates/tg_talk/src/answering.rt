@@ -97,7 +97,7 @@ fn is_error(answer: &Answer) -> bool
 }
 
 /// Whether the text's line is an `error` line.
-fn is_wrong(text: &Text) -> bool
+pub(crate) fn is_wrong(text: &Text) -> bool
     ensures { result ≡ is_wrong text.now }
 {
     !matches!(text, Text::Line(_))
@@ -148,6 +148,7 @@ pub fn answer_lines<S: Responder, D: Read, W: Write + Drop>(
     ensures writing { (has_failed writer.new ≡ true) ↔ (result.finished.fault ≡ Some Writing) }
     ensures memory { result.finished.fault ≡ Some OutOfMemory → (S.may_give_up ≡ true) × (0 < result.finished.lines) }
     ensures few { result.finished.lines ≤ MOST_LINES + 1 }
+    ensures errors { result.finished.errors ≤ result.finished.lines }
     ensures answered { IfSome (prepend_known input.left (D.remaining (device_of reader.old)))
         (RestAnswered (both S.says) (responder.old, carried) input.taken (responder.new, result.carried) result.finished
         (promised W.contents writer.old) (promised W.contents writer.new) (has_failed writer.new)) }

@@ -11,6 +11,7 @@ mod refusal;
 mod talking;
 mod telling;
 mod watched;
+mod wording;
 mod write_line;
 
 pub use answering::{Finished, Over, Responder, Said, Text, answer_lines, text_of_answer};

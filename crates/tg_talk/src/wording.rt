@@ -1,0 +1,28 @@
+//! What a text says.
+ghost use Rattle.std.specs.Prelude.{◌≡◌};
+ghost use Rattle.tg_talk.specs.Answering.{is_wrong as is_wrong_text, text_of};
+
+use crate::answering::{Text, is_wrong};
+use crate::refusal::not_for_a_session_line;
+use tg_wire::error_line;
+
+impl Text {
+    /// The line.
+    pub fn bytes(&self) -> &[u8]
+        ensures { result.now ≡ text_of self.now }
+    {
+        match self {
+            Text::Line(line) => line.as_slice(),
+            Text::ErrorLine(line) => line.as_slice(),
+            Text::Refusal(refused) => error_line(*refused),
+            Text::NotForASession => not_for_a_session_line(),
+        }
+    }
+
+    /// Whether the line is an `error` line.
+    pub fn is_error(&self) -> bool
+        ensures { result ≡ is_wrong_text self.now }
+    {
+        is_wrong(self)
+    }
+}
