@@ -14,9 +14,9 @@ use Rattle.tg_wire.specs.Faults.{fault_line}
 use Rattle.tg_wire.specs.declared.fault.WireFault.TheVariants as wire
 use Rattle.tg_talk.specs.Devices.{SendsLast}
 use Rattle.tg_talk.specs.InputLines.{lines_of}
-use Rattle.tg_talk.specs.Answering.{Saying, goes_on, closes, unanswered, LinesAnswered}
+use Rattle.tg_talk.specs.Answering.{Saying, goes_on, closes, unanswered}
 use Rattle.tg_talk.specs.declared.answering.Finished.{Finished}
-use Rattle.tgdoc.specs.Runs.{Steps, VaultRan, LineAnswer, RunSays}
+use Rattle.tgdoc.specs.Runs.{Steps, Telling, VaultRan, LineAnswer}
 use Rattle.tgdoc.specs.declared.answer.Runner.{Runner}
 
 -- what the vault carried out for one event
@@ -49,11 +49,11 @@ RunnerSays old u line (closes text errors) new v = ⊥
 RunnerSays old u line unanswered new v = ⊥
 
 -- the result of the lines after the configuration, if the bytes xs are to come
-pub record LinesLeft (v : Contents) (finished : Finished) (old new : Option (List ℕ)) (failed : Bool) (xs : List ℕ) : Type 0 where
+pub record InputLeft (Told : Telling) (v : Contents) (finished : Finished) (old new : Option (List ℕ)) (failed : Bool) (xs : List ℕ) : Type 0 where
   pub steps : Steps
   pub after : Contents
   pub run : VaultRan v steps after
   pub before : List ℕ
   pub last : List ℕ
-  pub told : LinesAnswered RunSays [] 1 0 (lines_of xs) steps finished.fault finished.lines finished.errors before last
+  pub told : Told v steps after (lines_of xs) finished before last
   pub sent : SendsLast old new failed before last

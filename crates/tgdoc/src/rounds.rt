@@ -4,7 +4,7 @@ ghost use Rattle.std.specs.Prelude.{◌≡◌, ◌≤◌, [], IfOk, false, lengt
 ghost use Rattle.tg_talk.specs.Devices.{device_of, has_failed};
 ghost use Rattle.tgdoc.specs.Serving.{HasRounds, IsServed, SendsOn, rebased_line};
 
-use crate::serve::{Host, Served, Unsettled, serve_round};
+use crate::serve::{Served, Service, Unsettled, serve_round};
 use crate::telling::{agree, announce, tell, tell_rebase};
 use std::alloc::Global;
 use std::io::Write;
@@ -43,7 +43,7 @@ pub fn serve_on<R: Threads + Wait + Clock + Sync, W: Write>(
     requires writes { has_failed writer.old ≡ false }
     ensures { result.settled ≡ true → IsServed connections round (W.contents (device_of writer.old)) (W.contents (device_of writer.new)) (has_failed writer.new) }
 {
-    let host = Host {
+    let service = Service {
         rt,
         alloc,
         listener,
@@ -52,7 +52,7 @@ pub fn serve_on<R: Threads + Wait + Clock + Sync, W: Write>(
     };
     let is_announced = announce(writer, listener);
     let size = at_least_one(round);
-    match serve_rounds(&host, writer, is_announced, vault, connections, size) {
+    match serve_rounds(&service, writer, is_announced, vault, connections, size) {
         Ok(()) => agree(writer, is_announced),
         Err(end) => tell(writer, is_announced, end),
     }
@@ -69,7 +69,7 @@ fn at_least_one(number: u64) -> u64
 /// Serves all connections in rounds, and rebases the vault after each but the last. The first round whose logs do not
 /// agree, or rebase that fails, ends it.
 fn serve_rounds<R: Threads + Wait + Clock + Sync, W: Write>(
-    host: &Host<'_, R>,
+    service: &Service<'_, R>,
     writer: &mut Watched<W>,
     is_announced: bool,
     opened: Vault,
@@ -84,13 +84,13 @@ fn serve_rounds<R: Threads + Wait + Clock + Sync, W: Write>(
     let mut left = connections;
     let mut number = 1;
     'rounds: while left > round {
-        let settled = serve_round::<Brand, R>(host, Blank::new(PARTS), vault, round)?;
+        let settled = serve_round::<Brand, R>(service, Blank::new(PARTS), vault, round)?;
         let fresh = rebase(writer, is_announced, settled, number)?;
         vault = fresh;
         left -= round;
         number += 1;
     }
-    let _last = serve_round::<Brand, R>(host, Blank::new(PARTS), vault, left)?;
+    let _last = serve_round::<Brand, R>(service, Blank::new(PARTS), vault, left)?;
     Ok(())
 }
 

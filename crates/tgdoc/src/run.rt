@@ -4,17 +4,28 @@ ghost use Rattle.std.specs.Prelude.{◌≡◌, ◌≢◌, ◌↔◌, ◌≤◌, 
 ghost use Rattle.std.specs.Io.KnownBytes.{Keeps, prepend_known};
 ghost use Rattle.tg_talk.specs.Devices.{device_of, has_failed, owed, promised};
 ghost use Rattle.tg_talk.specs.declared.fault.TalkFault.TheVariants.{OutOfMemory, Reading, Writing};
+ghost use Rattle.tgdoc.specs.Drawings.{LinesDrew, Told};
 ghost use Rattle.tgdoc.specs.Ready.{AreReady};
-ghost use Rattle.tgdoc.specs.Runs.{LinesRan, RefusesOpening};
-ghost use Rattle.tgdoc.specs.Running.{Opens, LinesLeft};
+ghost use Rattle.tgdoc.specs.Runs.{AnswersTold, InputRan, LinesRan, RefusesOpening};
+ghost use Rattle.tgdoc.specs.Running.{InputLeft, Opens};
 
 use crate::answer::Runner;
 use crate::finish::finish;
+use crate::pictures::draw_rest;
 use std::alloc::Global;
 use std::io::{BufWriter, Read, Write};
 use tg_talk::{Finished, InputLines, Next, Over, TalkFault, Watched, answer_lines};
 use tg_vault::{Key, Vault, courses_have_the_headline, courses_join};
 use tg_wire::{WireFault, error_line, open_fault_line, read_config};
+
+/// What is written for the lines of a run.
+#[derive(Clone, Copy)]
+pub(crate) enum How {
+    /// The answer to each.
+    Answers,
+    /// Pictures of the vault: after each line, or only after the last one.
+    Pictures { each: bool },
+}
 
 /// Reads a configuration line and then event lines, and answers each. Answers to lines that came together are written
 /// together, and nothing is held back when more is read, nor at the end. A configuration line that is refused ends the
@@ -36,6 +47,50 @@ pub fn run_lines<R: Read, W: Write + Drop>(
         → (result.lines ≡ 0) × Keeps (R.remaining (device_of reader.old)) (R.remaining (device_of reader.new)) }
     ensures ran { IfSome (R.remaining (device_of reader.old))
         (LinesRan result (promised W.contents writer.old) (promised W.contents writer.new) (has_failed writer.new)) }
+{
+    take_lines(alloc, How::Answers, reader, writer)
+}
+
+/// Carries out lines as `run_lines` does, and draws the vault in place of the answers: after each line, with the line and
+/// its answer as the label, a refused one too; or once, after the last line, with how many lines there were, and how many
+/// of their answers are `error` lines. What ends a run otherwise than the end of its input is written as a run writes it,
+/// a last picture behind it. If the reader or the writer fails, nothing more is drawn. If there is no memory for a
+/// picture, `out of memory` is written in its place.
+pub fn draw_lines<R: Read, W: Write + Drop>(
+    alloc: Global,
+    each: bool,
+    reader: &mut Watched<R>,
+    writer: &mut Watched<BufWriter<W>>,
+) -> Finished
+    requires { AreReady (has_failed reader.old) (has_failed writer.old) (owed writer.old) }
+    ensures paid { has_failed writer.new ≡ false → owed writer.new ≡ [] }
+    ensures reading { (has_failed reader.new ≡ true) ↔ (result.fault ≡ Some Reading) }
+    ensures writing { (has_failed writer.new ≡ true) ↔ (result.fault ≡ Some Writing) }
+    ensures few { result.lines ≤ 1000001 }
+    ensures unread { result.fault ≡ Some OutOfMemory
+        → (result.lines ≡ 0) × Keeps (R.remaining (device_of reader.old)) (R.remaining (device_of reader.new)) }
+    ensures drew { IfSome (R.remaining (device_of reader.old))
+        (LinesDrew each result (promised W.contents writer.old) (promised W.contents writer.new) (has_failed writer.new)) }
+{
+    take_lines(alloc, How::Pictures { each }, reader, writer)
+}
+
+/// Reads a configuration line and then event lines, and writes for them what is asked for.
+fn take_lines<R: Read, W: Write + Drop>(
+    alloc: Global,
+    how: How,
+    reader: &mut Watched<R>,
+    writer: &mut Watched<BufWriter<W>>,
+) -> Finished
+    requires { AreReady (has_failed reader.old) (has_failed writer.old) (owed writer.old) }
+    ensures paid { has_failed writer.new ≡ false → owed writer.new ≡ [] }
+    ensures reading { (has_failed reader.new ≡ true) ↔ (result.fault ≡ Some Reading) }
+    ensures writing { (has_failed writer.new ≡ true) ↔ (result.fault ≡ Some Writing) }
+    ensures few { result.lines ≤ 1000001 }
+    ensures unread { result.fault ≡ Some OutOfMemory
+        → (result.lines ≡ 0) × Keeps (R.remaining (device_of reader.old)) (R.remaining (device_of reader.new)) }
+    ensures ran { IfSome (R.remaining (device_of reader.old))
+        (InputRan (Told how) result (promised W.contents writer.old) (promised W.contents writer.new) (has_failed writer.new)) }
 {
     courses_have_the_headline();
     let Ok(mut input) = InputLines::new(alloc) else {
@@ -62,7 +117,7 @@ pub fn run_lines<R: Read, W: Write + Drop>(
         Next::TooMany => unreachable!(),
         Next::Line => match open(alloc, Key::FIXED, input.line()) {
             Err(text) => finish(writer, 1, 1, text, None),
-            Ok(vault) => answer_rest(alloc, vault, input, reader, writer),
+            Ok(vault) => take_rest(alloc, how, vault, input, reader, writer),
         },
     }
 }
@@ -84,6 +139,32 @@ pub(crate) fn open(alloc: Global, key: Key, bytes: &[u8]) -> Result<Vault, &'sta
     }
 }
 
+/// Carries out the lines after the configuration, and writes for them what is asked for.
+fn take_rest<R: Read, W: Write + Drop>(
+    alloc: Global,
+    how: How,
+    vault: Vault,
+    input: InputLines,
+    reader: &mut Watched<R>,
+    writer: &mut Watched<BufWriter<W>>,
+) -> Finished
+    requires one { input.taken ≡ 1 }
+    requires reads { has_failed reader.old ≡ false }
+    requires writes { has_failed writer.old ≡ false }
+    ensures paid { has_failed writer.new ≡ false → owed writer.new ≡ [] }
+    ensures reading { (has_failed reader.new ≡ true) ↔ (result.fault ≡ Some Reading) }
+    ensures writing { (has_failed writer.new ≡ true) ↔ (result.fault ≡ Some Writing) }
+    ensures memory { result.fault ≢ Some OutOfMemory }
+    ensures few { result.lines ≤ 1000001 }
+    ensures told { IfSome (prepend_known input.left (R.remaining (device_of reader.old)))
+        (InputLeft (Told how) vault result (promised W.contents writer.old) (promised W.contents writer.new) (has_failed writer.new)) }
+{
+    match how {
+        How::Answers => answer_rest(alloc, vault, input, reader, writer),
+        How::Pictures { each } => draw_rest(alloc, each, vault, input, reader, writer),
+    }
+}
+
 /// Answers the lines after the configuration.
 fn answer_rest<R: Read, W: Write + Drop>(
     alloc: Global,
@@ -101,7 +182,7 @@ fn answer_rest<R: Read, W: Write + Drop>(
     ensures memory { result.fault ≢ Some OutOfMemory }
     ensures few { result.lines ≤ 1000001 }
     ensures answered { IfSome (prepend_known input.left (R.remaining (device_of reader.old)))
-        (LinesLeft vault result (promised W.contents writer.old) (promised W.contents writer.new) (has_failed writer.new)) }
+        (InputLeft AnswersTold vault result (promised W.contents writer.old) (promised W.contents writer.new) (has_failed writer.new)) }
 {
     courses_join();
     let mut runner = Runner { alloc, vault };

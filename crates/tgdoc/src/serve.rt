@@ -49,7 +49,7 @@ const LONG_REST: u64 = 1_000;
 
 /// What each round is served with.
 #[derive(Drop)]
-pub(crate) struct Host<'a, R> {
+pub(crate) struct Service<'a, R> {
     pub(crate) rt: &'a R,
     pub(crate) alloc: Global,
     pub(crate) listener: &'a TcpListener,
@@ -61,7 +61,7 @@ pub(crate) struct Host<'a, R> {
 /// Serves this many connections, each in a talk of a worker on the worker's own seat, while a collector runs, and
 /// settles the logs. All threads have ended then.
 pub(crate) fn serve_round<L: Ledger + Send + Sync, R: Threads + Wait + Clock + Sync>(
-    host: &Host<'_, R>,
+    service: &Service<'_, R>,
     blank: Blank,
     vault: Vault,
     connections: u64,
@@ -72,17 +72,17 @@ pub(crate) fn serve_round<L: Ledger + Send + Sync, R: Threads + Wait + Clock + S
     requires empty { vault.history ≡ [] }
     ensures { IsFound L result }
 {
-    let shared = Shared::<L>::new(host.alloc, blank, vault);
+    let shared = Shared::<L>::new(service.alloc, blank, vault);
     let left = Mutex::new(connections);
     let server = Server {
-        rt: host.rt,
-        alloc: host.alloc,
-        listener: host.listener,
+        rt: service.rt,
+        alloc: service.alloc,
+        listener: service.listener,
         shared: &shared,
         left: &left,
-        patience: host.patience,
+        patience: service.patience,
     };
-    match serve_in_threads(&server, host.workers) {
+    match serve_in_threads(&server, service.workers) {
         Some(ended) => found_in(shared.close(ended)),
         None => Err(Unsettled::NoMemory),
     }

@@ -1,5 +1,5 @@
 //! The lines that a server writes of itself. Without its address it writes none, and none behind one that failed.
-ghost use Rattle.std.specs.Prelude.{◌≡◌, false, true};
+ghost use Rattle.std.specs.Prelude.{◌≡◌, ◌↔◌, false, true};
 ghost use Rattle.tg_talk.specs.Devices.{device_of, has_failed};
 ghost use Rattle.tgdoc.specs.Serving.{Announces, SendsOn, agreed_line, differs_line, end_line, rebased_line};
 
@@ -45,8 +45,7 @@ pub(crate) fn tell_rebase<W: Write>(
 
 /// Writes that all logs agree.
 pub(crate) fn agree<W: Write>(writer: &mut Watched<W>, is_announced: bool) -> Served
-    ensures announced { result.settled ≡ true → is_announced ≡ true }
-    ensures unfailed { result.settled ≡ true → has_failed writer.new ≡ false }
+    ensures settled { (result.settled ≡ true) ↔ ((is_announced ≡ true) × (has_failed writer.new ≡ false)) }
     ensures told { is_announced ≡ true → SendsOn (W.contents (device_of writer.old)) (has_failed writer.old) (W.contents (device_of writer.new)) (has_failed writer.new) agreed_line }
 {
     if !is_announced {

@@ -1,11 +1,16 @@
-//! The command line if memory runs out: the error says so, and the words that are read again ask for what they do.
-//! tests/faults/growths.py makes each allocation of the test fail in turn.
+//! The command line if memory runs out: the error says so, and the words that are read again ask for what they do; and a
+//! picture, which is drawn again. tests/faults/growths.py makes each allocation of a test fail in turn.
 
+use super::CONFIG;
 use super::modes::SERVER;
+use crate::run::open;
 use crate::{Mode, mode};
 use clap::Error;
 use clap::error::ErrorKind;
-use std::alloc::Global;
+use std::alloc::{AllocError, Global};
+use std::io::Print;
+use tg_draw::draw;
+use tg_vault::{Key, Vault};
 
 /// What the words of a server ask for.
 fn asked(alloc: Global) -> Result<Mode, Error> {
@@ -52,4 +57,29 @@ fn growth_refused_in_mode(rt: HostRuntime) {
     } else {
         assert!(rt; is_the_server(&found));
     }
+}
+
+/// The picture of alice alone.
+const ALICE: &[u8] =
+    b"digraph { graph [labelloc=t,labeljust=l,label=\"hi\\lphase idle, free slots 1023, free cells 16384\\l\"]; node [shape=circle,width=1]; 1 [label=\"1 alice\\nwhite\",class=\"subject white\",style=filled,fillcolor=skyblue,penwidth=1]; }\n";
+
+/// The picture of a vault, drawn again if memory runs out.
+fn drawn_again(rt: &impl Print, alloc: Global, vault: &Vault) -> Result<Vec<u8>, AllocError> {
+    match draw(alloc, vault, b"hi\n") {
+        Ok(picture) => Ok(picture),
+        Err(_) => {
+            let _ = rt.println("no memory");
+            draw(alloc, vault, b"hi\n")
+        }
+    }
+}
+
+#[test]
+fn growth_refused_in_a_picture(rt: HostRuntime) -> Result<(), AllocError> {
+    let Ok(vault) = open(rt.alloc(), Key::FIXED, CONFIG) else {
+        return Err(AllocError);
+    };
+    let picture = drawn_again(&rt, rt.alloc(), &vault)?;
+    assert!(rt; picture.as_slice() == ALICE);
+    Ok(())
 }

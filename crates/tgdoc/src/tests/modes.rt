@@ -36,6 +36,7 @@ fn numbers_of(alloc: Global, words: &[&str], address: &str) -> Option<Numbers> {
         }
         Ok(Mode::Run) => None,
         Ok(Mode::Audit) => None,
+        Ok(Mode::Draw { .. }) => None,
         Err(_) => None,
     }
 }
@@ -58,6 +59,22 @@ fn the_words_run_and_audit_are_modes(rt: HostRuntime) {
     assert!(rt; matches!(&mode(rt.alloc(), &["tgdoc", "run"]), Ok(Mode::Run)));
     assert!(rt; matches!(&mode(rt.alloc(), &["tgdoc", "audit"]), Ok(Mode::Audit)));
     assert!(rt; matches!(&mode(rt.alloc(), &["tgdoc", "steal"]), Err(_)));
+}
+
+/// Whether these words ask for pictures: after each line, or only after the last one.
+fn draws(alloc: Global, words: &[&str]) -> Option<bool> {
+    match mode(alloc, words) {
+        Ok(Mode::Draw { each }) => Some(each),
+        _ => None,
+    }
+}
+
+#[test]
+fn the_last_vault_is_drawn_or_each(rt: HostRuntime) {
+    assert!(rt; draws(rt.alloc(), &["tgdoc", "draw"]) == Some(false));
+    assert!(rt; draws(rt.alloc(), &["tgdoc", "draw", "--each"]) == Some(true));
+    assert!(rt; draws(rt.alloc(), &["tgdoc", "draw", "--all"]).is_none());
+    assert!(rt; draws(rt.alloc(), &["tgdoc", "run", "--each"]).is_none());
 }
 
 #[test]

@@ -3,5 +3,5 @@ use Rattle.tgdoc.proofs.rounds.serve_on.Goals as goal
 
 pub returns-in-Ok : goal.returns-in-Ok
 returns-in-Ok g c settled =
-    let told = c.agree.ensures.announced settled in
-    is_served _ _ _ _ _ _ _ _ _ c.at_least_one-size.ensures.same (c.announce-is_announced.ensures.announced told) (c.in-Ok.ensures told) (c.agree.ensures.told told) (c.agree.ensures.unfailed settled)
+    let (told, unfailed) = c.agree.ensures.settled.0 settled in
+    is_served _ _ _ _ _ _ _ _ _ c.at_least_one-size.ensures.same (c.announce-is_announced.ensures.announced told) (c.in-Ok.ensures told) (c.agree.ensures.told told) unfailed

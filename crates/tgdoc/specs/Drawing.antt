@@ -1,0 +1,34 @@
+-- what is done to draw the vault for a line, and at the end
+use Rattle.std.specs.Prelude.{◌≡◌, ℕ, List, Bool, true, false, Option, ◌⊎◌}
+use Rattle.tg_vault.specs.Contents.{Contents}
+use Rattle.tg_talk.specs.Answering.{Saying, goes_on, closes, unanswered}
+use Rattle.tg_talk.specs.Devices.{Sends}
+use Rattle.tg_talk.specs.declared.answering.Finished.{Finished}
+use Rattle.tgdoc.specs.Drawings.{DrawnAtEnd, Shown, is_broken}
+use Rattle.tgdoc.specs.Running.{AnswersLine}
+use Rattle.tgdoc.specs.declared.pictures.Artist.{Artist}
+
+-- the vault carries out a line, and this is written for it
+pub record ArtistDraws (old : Artist) (line text : List ℕ) (errors : ℕ) (new : Artist) : Type 0 where
+  pub same : new.each ≡ old.each
+  pub answer : List ℕ
+  pub count : ℕ
+  pub answers : AnswersLine old.vault line new.vault answer count
+  pub shown : Shown old.each new.vault line answer count text errors
+
+-- what becomes of a line of a run that is drawn
+abbrev pub ArtistSays : Artist → Unit {0} → List ℕ → Saying → Artist → Unit {0} → Type 0
+ArtistSays old u line (goes_on text errors) new v = ArtistDraws old line text errors new
+ArtistSays old u line (closes text errors) new v = ⊥
+ArtistSays old u line unanswered new v = ⊥
+
+-- the vault is drawn after the last line, once the lines have ended in this way
+pub record DrawnLast (v : Contents) (ended finished : Finished) (old new : Option (List ℕ)) (failed : Bool) : Type 0 where
+  pub text : List ℕ
+  pub drawn : DrawnAtEnd v ended finished failed text
+  pub sent : Sends old new failed text
+
+-- once the lines have ended in this way, nothing more is drawn, or the last vault
+pub data EndsDrawing (artist : Artist) (ended finished : Finished) (old : Option (List ℕ)) (was : Bool) (new : Option (List ℕ)) (failed : Bool) : Type 0 where
+  stops : (artist.each ≡ true) ⊎ (is_broken ended.fault ≡ true) → finished ≡ ended → new ≡ old → failed ≡ was → EndsDrawing artist ended finished old was new failed
+  draws : artist.each ≡ false → is_broken ended.fault ≡ false → was ≡ false → DrawnLast artist.vault ended finished old new failed → EndsDrawing artist ended finished old was new failed

@@ -1,0 +1,104 @@
+-- what `tgdoc draw` writes for the lines of its input: pictures of the vaults of a run
+use Rattle.std.specs.Prelude.{◌≡◌, ℕ, ◌+◌, List, [], ◌∷◌, ◌++◌, Bool, true, false, Option, Some, None, codes, cond, decimal}
+use Rattle.tg_draw.specs.Picture.{Draws}
+use Rattle.tg_vault.specs.Contents.{Contents}
+use Rattle.tg_wire.specs.Faults.{fault_line}
+use Rattle.tg_wire.specs.declared.fault.WireFault.TheVariants as wire
+use Rattle.tg_talk.specs.Answering.{Saying, goes_on, closes, unanswered, LinesAnswered, one_if}
+use Rattle.tg_talk.specs.Endings.{EndsOnce}
+use Rattle.tg_talk.specs.declared.answering.Finished.{Finished}
+use Rattle.tg_talk.specs.declared.fault.TalkFault.{TalkFault}
+use Rattle.tg_talk.specs.declared.fault.TalkFault.TheVariants as talk
+use Rattle.tgdoc.specs.declared.run.How.{How}
+use Rattle.tgdoc.specs.declared.run.How.TheVariants as how
+use Rattle.tgdoc.specs.Runs.{AnswersTold, InputRan, LineAnswer, Steps, Telling, VaultRan}
+
+-- how far a run has come: the events that the vault carried out, each with its answer, and the vault then
+pub record Reached : Type 0 where
+  pub steps : Steps
+  pub vault : Contents
+
+-- a line is answered, for which the vault carries out some more
+pub record Carried (before : Reached) (line answer : List ℕ) (count : ℕ) (after : Reached) : Type 0 where
+  pub steps : Steps
+  pub are : after.steps ≡ before.steps ++ steps
+  pub run : VaultRan before.vault steps after.vault
+  pub answers : LineAnswer line steps answer count
+
+-- the text is the picture of a vault under a label, or, if there is no memory for it, the line of `out of memory`
+pub data Pictured (v : Contents) (label text : List ℕ) : Bool → Type 0 where
+  drawn : Draws v label text → Pictured v label text false
+  not_drawn : text ≡ fault_line wire.OutOfMemory → Pictured v label text true
+
+-- the label of a picture that is drawn for a line: the line and its answer, which ends with a line feed
+abbrev pub line_label : List ℕ → List ℕ → List ℕ
+line_label line answer = line ++ 10 ∷ answer
+
+-- the vault is drawn for a line; a picture counts as an `error` line if the answer does
+pub record DrawnFor (v : Contents) (line answer : List ℕ) (count : ℕ) (text : List ℕ) (errors : ℕ) : Type 0 where
+  pub lacks : Bool
+  pub pictured : Pictured v (line_label line answer) text lacks
+  pub counted : errors ≡ cond lacks 1 count
+
+-- what is written for a line: the picture of the vault then; or nothing, if only the last vault is drawn
+abbrev pub Shown : Bool → Contents → List ℕ → List ℕ → ℕ → List ℕ → ℕ → Type 0
+Shown true v line answer count text errors = DrawnFor v line answer count text errors
+Shown false v line answer count text errors = (text ≡ []) × (errors ≡ count)
+
+-- what becomes of a line of a run that is drawn
+pub record DrawsLine (each : Bool) (before : Reached) (line text : List ℕ) (errors : ℕ) (after : Reached) : Type 0 where
+  pub answer : List ℕ
+  pub count : ℕ
+  pub carried : Carried before line answer count after
+  pub shown : Shown each after.vault line answer count text errors
+
+abbrev pub DrawSays : Bool → Reached → List ℕ → Saying → Reached → Type 0
+DrawSays each before line (goes_on text errors) after = DrawsLine each before line text errors after
+DrawSays each before line (closes text errors) after = ⊥
+DrawSays each before line unanswered after = ⊥
+
+-- all lines after the configuration
+abbrev pub LinesDrawn : Bool → Contents → Steps → Contents → List (List ℕ) → Finished → List ℕ → List ℕ → Type 0
+LinesDrawn each start steps after ls finished before last =
+    LinesAnswered (DrawSays each) (record { steps = []; vault = start }) 1 0 ls (record { steps = steps; vault = after }) finished.fault finished.lines finished.errors before last
+
+-- the label of the last vault: how many lines were taken, and how many `error` lines a run would have answered
+abbrev pub ends_label : ℕ → ℕ → List ℕ
+ends_label lines errors = codes "lines " ++ decimal lines ++ codes ", errors " ++ decimal errors ++ codes "\n"
+
+-- the reader or the writer failed
+abbrev pub is_broken : Option TalkFault → Bool
+is_broken None = false
+is_broken (Some talk.Reading) = true
+is_broken (Some talk.Writing) = true
+is_broken (Some talk.TooLong) = false
+is_broken (Some talk.TooMany) = false
+is_broken (Some talk.OutOfMemory) = false
+
+-- the vault after the last line is drawn, behind what was written before
+pub record DrawnAtEnd (v : Contents) (ended finished : Finished) (failed : Bool) (text : List ℕ) : Type 0 where
+  pub lacks : Bool
+  pub pictured : Pictured v (ends_label ended.lines ended.errors) text lacks
+  pub lines : finished.lines ≡ ended.lines
+  pub errors : finished.errors ≡ ended.errors + one_if lacks
+  pub fault : EndsOnce ended.fault failed finished.fault
+
+-- only the last vault is drawn; nothing is, if the reader or the writer failed before
+pub data LastDrawn (start : Contents) (steps : Steps) (after : Contents) (ls : List (List ℕ)) (finished : Finished) (before last : List ℕ) : Type 0 where
+  at_end : (ended : Finished) (failed : Bool) (first refusal : List ℕ) → LinesDrawn false start steps after ls ended first refusal → is_broken ended.fault ≡ false
+      → DrawnAtEnd after ended finished failed last → before ≡ first ++ refusal → LastDrawn start steps after ls finished before last
+  cut_off : LinesDrawn false start steps after ls finished before last → is_broken finished.fault ≡ true → LastDrawn start steps after ls finished before last
+
+-- each vault is drawn, or the last one
+abbrev pub PicturesTold : Bool → Telling
+PicturesTold true = LinesDrawn true
+PicturesTold false = LastDrawn
+
+-- what is told in each way
+abbrev pub Told : How → Telling
+Told how.Answers = AnswersTold
+Told (how.Pictures each) = PicturesTold each
+
+-- what a whole run that is drawn does if the reader has the bytes input
+abbrev pub LinesDrew : Bool → Finished → (old new : Option (List ℕ)) (failed : Bool) → List ℕ → Type 0
+LinesDrew each finished old new failed = InputRan (PicturesTold each) finished old new failed

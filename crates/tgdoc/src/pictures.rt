@@ -1,0 +1,248 @@
+//! The vault drawn in place of answers.
+ghost use Rattle.std.specs.Prelude.{◌≡◌, ◌≢◌, ◌↔◌, ◌≤◌, [], true, false, IfSome, IfOk, Some};
+ghost use Rattle.std.specs.Io.KnownBytes.{prepend_known};
+ghost use Rattle.tg_draw.specs.Picture.{Draws};
+ghost use Rattle.tg_talk.specs.Answering.{is_wrong, one_if, text_of};
+ghost use Rattle.tg_talk.specs.Devices.{device_of, has_failed, owed, promised};
+ghost use Rattle.tg_talk.specs.declared.fault.TalkFault.TheVariants.{OutOfMemory, Reading, Writing};
+ghost use Rattle.tgdoc.specs.Drawings.{DrawnFor, PicturesTold, Shown, ends_label, is_broken, line_label};
+ghost use Rattle.tgdoc.specs.Drawing.{ArtistSays, DrawnLast, EndsDrawing};
+ghost use Rattle.tgdoc.specs.Running.{InputLeft};
+
+use crate::answer::answer;
+use crate::finish::finish;
+use itoa::Buffer;
+use std::alloc::{AllocError, Global};
+use std::io::{BufWriter, Read, Write};
+use tg_draw::draw;
+use tg_talk::{
+    Finished, InputLines, Over, Responder, Said, TalkFault, Text, Watched, answer_lines,
+};
+use tg_vault::{Vault, courses_join};
+use tg_wire::{LineRoom, WireFault, error_line};
+
+/// Who answers the lines of a run that is drawn: with a picture of the vault after each, or with nothing.
+#[derive(Drop)]
+pub(crate) struct Artist {
+    pub alloc: Global,
+    pub vault: Vault,
+    pub each: bool,
+}
+
+impl Responder for Artist {
+    type Carried = ();
+
+    ghost stays = { λ start now carried. now.each ≡ start.each };
+
+    ghost says = { ArtistSays };
+
+    ghost may_give_up = { false };
+
+    #[inline(always)]
+    fn respond(&mut self, _carried: (), line: &[u8], room: &mut LineRoom) -> Said<()> {
+        let answered = answer(self.alloc, &mut self.vault, line, room);
+        Said::Answer(
+            (),
+            shown(self.alloc, self.each, &self.vault, line, answered),
+        )
+    }
+}
+
+/// What is written for a line with this answer.
+fn shown(alloc: Global, each: bool, vault: &Vault, line: &[u8], answered: Text) -> Text
+    ensures { Shown each vault.now line.now (text_of answered) (one_if (is_wrong answered)) (text_of result) (one_if (is_wrong result)) }
+{
+    if each {
+        drawn(alloc, vault, line, &answered)
+    } else {
+        quiet(alloc, answered)
+    }
+}
+
+/// The picture of the vault for a line with this answer, or `out of memory` in its place.
+fn drawn(alloc: Global, vault: &Vault, line: &[u8], answered: &Text) -> Text
+    ensures { DrawnFor vault.now line.now (text_of answered.now) (one_if (is_wrong answered.now)) (text_of result) (one_if (is_wrong result)) }
+{
+    match draw_line(alloc, vault, line, answered.bytes()) {
+        Err(_) => Text::Refusal(WireFault::OutOfMemory),
+        Ok(picture) => counted(picture, answered.is_error()),
+    }
+}
+
+/// The picture of the vault, with a line and its answer as its label.
+fn draw_line(
+    alloc: Global,
+    vault: &Vault,
+    line: &[u8],
+    answered: &[u8],
+) -> Result<Vec<u8>, AllocError>
+    ensures { IfOk result (λ text. Draws vault.now (line_label line.now answered.now) text.items) }
+{
+    let label = label_of(alloc, line, answered)?;
+    let rows = label.as_slice();
+    draw(alloc, vault, rows)
+}
+
+/// A line and its answer as a label.
+fn label_of(alloc: Global, line: &[u8], answered: &[u8]) -> Result<Vec<u8>, AllocError>
+    ensures { IfOk result (λ label. label.items ≡ line_label line.now answered.now) }
+{
+    let mut label = Vec::new(alloc);
+    label.extend_from_slice(line)?;
+    label.push(b'\n')?;
+    label.extend_from_slice(answered)?;
+    Ok(label)
+}
+
+/// A line that counts as an `error` line or not.
+fn counted(line: Vec<u8>, is_error: bool) -> Text
+    ensures text { text_of result ≡ line.items }
+    ensures error { is_wrong result ≡ is_error }
+{
+    if is_error {
+        Text::ErrorLine(line)
+    } else {
+        Text::Line(line)
+    }
+}
+
+/// Nothing, which counts as the text does. It keeps the room of the text.
+fn quiet(alloc: Global, text: Text) -> Text
+    ensures silent { text_of result ≡ [] }
+    ensures error { is_wrong result ≡ is_wrong text }
+{
+    match text {
+        Text::Line(line) => Text::Line(emptied(line)),
+        Text::ErrorLine(line) => Text::ErrorLine(emptied(line)),
+        Text::Refusal(_) => Text::ErrorLine(Vec::new(alloc)),
+        Text::NotForASession => Text::ErrorLine(Vec::new(alloc)),
+    }
+}
+
+fn emptied(line: Vec<u8>) -> Vec<u8>
+    ensures { result.items ≡ [] }
+{
+    let mut bytes = line;
+    bytes.clear();
+    bytes
+}
+
+/// Carries out the lines after the configuration, and draws the vault after each of them, or after the last one.
+pub(crate) fn draw_rest<R: Read, W: Write + Drop>(
+    alloc: Global,
+    each: bool,
+    vault: Vault,
+    input: InputLines,
+    reader: &mut Watched<R>,
+    writer: &mut Watched<BufWriter<W>>,
+) -> Finished
+    requires one { input.taken ≡ 1 }
+    requires reads { has_failed reader.old ≡ false }
+    requires writes { has_failed writer.old ≡ false }
+    ensures paid { has_failed writer.new ≡ false → owed writer.new ≡ [] }
+    ensures reading { (has_failed reader.new ≡ true) ↔ (result.fault ≡ Some Reading) }
+    ensures writing { (has_failed writer.new ≡ true) ↔ (result.fault ≡ Some Writing) }
+    ensures memory { result.fault ≢ Some OutOfMemory }
+    ensures few { result.lines ≤ 1000001 }
+    ensures drawn { IfSome (prepend_known input.left (R.remaining (device_of reader.old)))
+        (InputLeft (PicturesTold each) vault result (promised W.contents writer.old) (promised W.contents writer.new) (has_failed writer.new)) }
+{
+    courses_join();
+    let mut artist = Artist { alloc, vault, each };
+    let Over {
+        carried: (),
+        finished,
+    } = answer_lines(alloc, input, &mut artist, (), reader, writer);
+    end_drawing(&artist, finished, writer)
+}
+
+/// Draws the vault after the last line, if it is not drawn after each, and neither the reader nor the writer failed.
+fn end_drawing<W: Write + Drop>(
+    artist: &Artist,
+    ended: Finished,
+    writer: &mut Watched<BufWriter<W>>,
+) -> Finished
+    requires paid { has_failed writer.old ≡ false → owed writer.old ≡ [] }
+    requires writing { (has_failed writer.old ≡ true) ↔ (ended.fault ≡ Some Writing) }
+    requires few { ended.errors ≤ 1000001 }
+    ensures paid { has_failed writer.new ≡ false → owed writer.new ≡ [] }
+    ensures reading { (result.fault ≡ Some Reading) ↔ (ended.fault ≡ Some Reading) }
+    ensures writing { (has_failed writer.new ≡ true) ↔ (result.fault ≡ Some Writing) }
+    ensures memory { result.fault ≡ Some OutOfMemory → ended.fault ≡ Some OutOfMemory }
+    ensures lines { result.lines ≡ ended.lines }
+    ensures ends { EndsDrawing artist.now ended result (promised W.contents writer.old) (has_failed writer.old) (promised W.contents writer.new) (has_failed writer.new) }
+{
+    let each = artist.each;
+    if each {
+        return ended;
+    }
+    let broken = is_broken(ended.fault);
+    if broken {
+        return ended;
+    }
+    draw_last(artist.alloc, &artist.vault, ended, writer)
+}
+
+/// Whether the reader or the writer failed.
+fn is_broken(fault: Option<TalkFault>) -> bool
+    ensures { result ≡ is_broken fault }
+{
+    match fault {
+        None => false,
+        Some(TalkFault::Reading) => true,
+        Some(TalkFault::Writing) => true,
+        Some(TalkFault::TooLong) => false,
+        Some(TalkFault::TooMany) => false,
+        Some(TalkFault::OutOfMemory) => false,
+    }
+}
+
+/// Draws the vault after the last line, once the lines have ended in this way.
+fn draw_last<W: Write + Drop>(
+    alloc: Global,
+    vault: &Vault,
+    ended: Finished,
+    writer: &mut Watched<BufWriter<W>>,
+) -> Finished
+    requires writes { has_failed writer.old ≡ false }
+    requires other { ended.fault ≢ Some Writing }
+    requires few { ended.errors ≤ 1000001 }
+    ensures paid { has_failed writer.new ≡ false → owed writer.new ≡ [] }
+    ensures writing { (has_failed writer.new ≡ true) ↔ (result.fault ≡ Some Writing) }
+    ensures lines { result.lines ≡ ended.lines }
+    ensures drawn { DrawnLast vault.now ended result (promised W.contents writer.old) (promised W.contents writer.new) (has_failed writer.new) }
+{
+    match draw_end(alloc, vault, ended.lines, ended.errors) {
+        Err(_) => {
+            let text = error_line(WireFault::OutOfMemory);
+            finish(writer, ended.lines, ended.errors + 1, text, ended.fault)
+        }
+        Ok(picture) => {
+            let text = picture.as_slice();
+            finish(writer, ended.lines, ended.errors, text, ended.fault)
+        }
+    }
+}
+
+/// The picture of the vault after so many lines, of which so many had an `error` line for an answer.
+fn draw_end(alloc: Global, vault: &Vault, lines: u64, errors: u64) -> Result<Vec<u8>, AllocError>
+    ensures { IfOk result (λ text. Draws vault.now (ends_label lines errors) text.items) }
+{
+    let label = end_label(alloc, lines, errors)?;
+    let rows = label.as_slice();
+    draw(alloc, vault, rows)
+}
+
+/// The label of the picture after the last line.
+fn end_label(alloc: Global, lines: u64, errors: u64) -> Result<Vec<u8>, AllocError>
+    ensures { IfOk result (λ label. label.items ≡ ends_label lines errors) }
+{
+    let mut digits = Buffer::new();
+    let mut label = Vec::new(alloc);
+    label.extend_from_slice(b"lines ")?;
+    label.extend_from_slice(digits.format(lines).as_bytes())?;
+    label.extend_from_slice(b", errors ")?;
+    label.extend_from_slice(digits.format(errors).as_bytes())?;
+    label.extend_from_slice(b"\n")?;
+    Ok(label)
+}
