@@ -34,35 +34,44 @@ pub fn name_of(seat: u64) -> &'static str {
     }
 }
 
+/// The names of all principals. None if memory ran out.
+fn names(alloc: Global) -> Option<Vec<Word>> {
+    let mut names = Vec::new(alloc);
+    for name in NAMES.iter().chain(&[KEEPER, GUEST]) {
+        names
+            .push(Word::new(String::from_str(alloc, name).ok()?))
+            .ok()?;
+    }
+    Some(names)
+}
+
+/// The rights of each principal to take from the next one and to grant to it. None if memory ran out.
+fn ring(alloc: Global) -> Option<Vec<(u64, Rights, u64)>> {
+    let rights = Rights::take().union(Rights::grant());
+    let mut edges = Vec::new(alloc);
+    for serial in 1..PRINCIPALS + 1 {
+        edges.push((serial, rights, serial % PRINCIPALS + 1)).ok()?;
+    }
+    Some(edges)
+}
+
+/// The configuration of 8 principals in a ring, the keeper and the guest. None if memory ran out.
+fn config(alloc: Global, slots: u64) -> Option<Config> {
+    let principals = names(alloc)?;
+    Some(Config {
+        principals,
+        edges: ring(alloc)?,
+        next: PRINCIPALS + 3,
+        slots,
+        cells: slots.saturating_mul(4).min(MAX_CELLS as u64),
+    })
+}
+
 /// A vault of 8 principals, each with the rights to take from the next one and to grant to it, and of the keeper and
 /// the guest. None if memory ran out.
 pub fn opened(alloc: Global, slots: u64) -> Option<Vault>
     ensures { IfSome result (λ vault. vault.history ≡ []) }
 {
-    let mut principals = Vec::new(alloc);
-    let mut edges = Vec::new(alloc);
-    let mut serial = 1u64;
-    for name in NAMES {
-        principals
-            .push(Word::new(String::from_str(alloc, name).ok()?))
-            .ok()?;
-        let next = serial % PRINCIPALS + 1;
-        edges
-            .push((serial, Rights::take().union(Rights::grant()), next))
-            .ok()?;
-        serial = next;
-    }
-    for name in [KEEPER, GUEST] {
-        principals
-            .push(Word::new(String::from_str(alloc, name).ok()?))
-            .ok()?;
-    }
-    let config = Config {
-        principals,
-        edges,
-        next: PRINCIPALS + 3,
-        slots,
-        cells: slots.saturating_mul(4).min(MAX_CELLS as u64),
-    };
+    let config = config(alloc, slots)?;
     Vault::new(alloc, config).ok()
 }

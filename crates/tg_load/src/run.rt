@@ -127,6 +127,17 @@ fn run_one<L: Ledger + Send + Sync, R: Threads + Wait + Clock + Sync>(
     Some((found_of(load, close, is_whole, made), figures))
 }
 
+/// A run over a new vault. None if memory ran out.
+fn run_new<R: Threads + Wait + Clock + Sync>(
+    rt: &R,
+    alloc: Global,
+    load: Load,
+    seed: u64,
+) -> Option<(Found, Figures)> {
+    let vault = opened(alloc, load.slots)?;
+    run_one::<Brand, _>(rt, alloc, load, Blank::new(PARTS), vault, seed)
+}
+
 /// Makes a run, and prints its result. Returns whether that is as it should be; an error if it cannot be printed.
 pub fn run_next<R: Threads + Wait + Clock + Print + Eprint + Sync>(
     rt: &R,
@@ -134,11 +145,7 @@ pub fn run_next<R: Threads + Wait + Clock + Print + Eprint + Sync>(
     load: Load,
     seed: u64,
 ) -> io::Result<bool> {
-    let Some(vault) = opened(alloc, load.slots) else {
-        println!(rt; "{}", Found::NoMemory)?;
-        return Ok(false);
-    };
-    let ran = run_one::<Brand, _>(rt, alloc, load, Blank::new(PARTS), vault, seed);
+    let ran = run_new(rt, alloc, load, seed);
     let Some((found, figures)) = ran else {
         println!(rt; "{}", Found::NoMemory)?;
         return Ok(false);
