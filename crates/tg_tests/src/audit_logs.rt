@@ -128,16 +128,23 @@ pub fn are_replies(found: &[Reply], asked: &[Asked]) -> bool {
         ))
 }
 
+/// The cause that is wanted, of those that the tables name.
+fn cause(rt: &impl Abort, want: Want) -> Cause {
+    match want {
+        Want::Retired => Cause::Retired,
+        Want::NotPrincipal => Cause::NotPrincipal,
+        Want::NameTaken => Cause::NameTaken,
+        _ => panic!(rt; "a reply of another kind"),
+    }
+}
+
 /// The reply to a command of this rule, which is one of those that hold no memory.
 fn reply(rt: &impl Abort, rule: Rule, want: Want) -> Reply {
     match want {
         Want::Done => Reply::Done,
         Want::Created(serial) => Reply::Created(serial),
         Want::Full(which) => Reply::Full(which),
-        Want::Retired => Reply::Denied(rule, Cause::Retired),
-        Want::NotPrincipal => Reply::Denied(rule, Cause::NotPrincipal),
-        Want::NameTaken => Reply::Denied(rule, Cause::NameTaken),
-        _ => panic!(rt; "a reply of another kind"),
+        _ => Reply::Denied(rule, cause(rt, want)),
     }
 }
 
@@ -193,6 +200,19 @@ pub fn vault_of(settled: Settled) -> Result<Vault, AllocError> {
     }
 }
 
+/// The vault, with whose history the logs are settled as worked out.
+fn after(
+    rt: &impl Abort,
+    alloc: Global,
+    vault: Vault,
+    logs: Vec<SeatLog>,
+    settlement: &Settlement,
+) -> Result<Vault, AllocError> {
+    let settled = settle(alloc, vault, logs);
+    assert!(rt; is_settled(&settled, settlement));
+    vault_of(settled)
+}
+
 /// The logs are settled with the vault's history as worked out, one after another.
 fn settles(
     rt: &impl Abort,
@@ -203,9 +223,7 @@ fn settles(
     let mut vault = opened;
     for settlement in settlements {
         let logs = logs_of(rt, alloc, settlement)?;
-        let settled = settle(alloc, vault, logs);
-        assert!(rt; is_settled(&settled, settlement));
-        vault = vault_of(settled)?;
+        vault = after(rt, alloc, vault, logs, settlement)?;
     }
     Ok(())
 }

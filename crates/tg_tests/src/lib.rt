@@ -35,3 +35,5 @@ mod vault_cases;
 mod vault_growths;
 #[cfg(test)]
 mod vault_rebase;
+#[cfg(test)]
+mod vault_scene;

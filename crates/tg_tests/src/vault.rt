@@ -116,13 +116,16 @@ pub fn answers(alloc: Global, vault: &mut Vault, line: Line) -> Result<bool, All
     })
 }
 
+/// The fault for which a configuration without faults may have no vault.
+fn no_memory(rt: &impl Abort, fault: OpenFault) -> AllocError {
+    assert!(rt; fault == OpenFault::OutOfMemory);
+    AllocError
+}
+
 /// The vault of this configuration.
 pub fn opened(rt: &impl Abort, alloc: Global, opening: &Opening) -> Result<Vault, AllocError> {
-    match Vault::new(alloc, config(alloc, opening)?) {
-        Ok(vault) => Ok(vault),
-        Err(OpenFault::OutOfMemory) => Err(AllocError),
-        Err(_) => panic!(rt; "refused"),
-    }
+    let config = config(alloc, opening)?;
+    Vault::new(alloc, config).map_err(|fault| no_memory(rt, fault))
 }
 
 /// The lines have these answers, one after another.
@@ -167,10 +170,9 @@ const ONE_BUCKET: Key = Key {
 
 /// The case's lines have the answers that it says, under this key too.
 fn plays_under(rt: &impl Abort, alloc: Global, key: Key, case: &Case) -> Result<(), AllocError> {
-    match Vault::with_key(alloc, key, config(alloc, &case.opening)?) {
-        Ok(mut vault) => lines_are_answered(rt, alloc, &mut vault, case.lines),
-        Err(_) => panic!(rt; "refused"),
-    }
+    let config = config(alloc, &case.opening)?;
+    let mut vault = Vault::with_key(alloc, key, config).map_err(|fault| no_memory(rt, fault))?;
+    lines_are_answered(rt, alloc, &mut vault, case.lines)
 }
 
 #[test]
@@ -181,46 +183,49 @@ fn each_case_is_answered_alike_under_another_key(rt: HostRuntime) -> Result<(), 
     Ok(())
 }
 
-/// A round: alice makes two documents, which get these serials, links one to the other, and drops both; two cycles free
-/// them.
-fn round_of(first: u64, second: u64) -> [Line; 8] {
-    [
-        Line::Make(0, "rg", first),
-        Line::Make(0, "rg", second),
-        Line::Ask(0, Ask::Grant("r", second, first), Want::Done),
-        Line::Shaded(0, second),
-        Line::Ask(0, Ask::Remove("rg", first), Want::Done),
-        Line::Ask(0, Ask::Remove("rg", second), Want::Done),
-        Line::Cycle(0, 16),
-        Line::Cycle(2, 12),
-    ]
-}
-
-/// Alice sits in a vault of four slots and three cells.
-const SMALL: Case = Case {
+/// Three times alice makes two documents, links one to the other and drops both, and two cycles free them. Then she makes
+/// one more.
+const ROUNDS: Case = Case {
     opening: Opening {
         slots: 4,
         cells: 3,
         ..TWO
     },
-    lines: &[ALICE],
+    lines: &[
+        ALICE,
+        Line::Make(0, "rg", 3),
+        Line::Make(0, "rg", 4),
+        Line::Ask(0, Ask::Grant("r", 4, 3), Want::Done),
+        Line::Shaded(0, 4),
+        Line::Ask(0, Ask::Remove("rg", 3), Want::Done),
+        Line::Ask(0, Ask::Remove("rg", 4), Want::Done),
+        Line::Cycle(0, 16),
+        Line::Cycle(2, 12),
+        Line::Make(0, "rg", 5),
+        Line::Make(0, "rg", 6),
+        Line::Ask(0, Ask::Grant("r", 6, 5), Want::Done),
+        Line::Shaded(0, 6),
+        Line::Ask(0, Ask::Remove("rg", 5), Want::Done),
+        Line::Ask(0, Ask::Remove("rg", 6), Want::Done),
+        Line::Cycle(0, 16),
+        Line::Cycle(2, 12),
+        Line::Make(0, "rg", 7),
+        Line::Make(0, "rg", 8),
+        Line::Ask(0, Ask::Grant("r", 8, 7), Want::Done),
+        Line::Shaded(0, 8),
+        Line::Ask(0, Ask::Remove("rg", 7), Want::Done),
+        Line::Ask(0, Ask::Remove("rg", 8), Want::Done),
+        Line::Cycle(0, 16),
+        Line::Cycle(2, 12),
+        Line::Ask(0, Ask::Document("r"), Want::Created(9)),
+    ],
 };
-
-/// Three rounds, after which alice makes one more document.
-fn plays_rounds(rt: &impl Abort, alloc: Global) -> Result<(), AllocError> {
-    let mut vault = played(rt, alloc, &SMALL)?;
-    for (first, second) in [(3, 4), (5, 6), (7, 8)] {
-        lines_are_answered(rt, alloc, &mut vault, &round_of(first, second))?;
-    }
-    let last = [Line::Ask(0, Ask::Document("r"), Want::Created(9))];
-    lines_are_answered(rt, alloc, &mut vault, &last)
-}
 
 /// After three rounds the graph that is never collected has three edges, as many as there are cells; all cells are
 /// free.
 #[test]
 fn cells_are_free_though_the_history_has_as_many_edges(rt: HostRuntime) -> Result<(), AllocError> {
-    plays_rounds(&rt, rt.alloc())
+    plays(&rt, rt.alloc(), &ROUNDS)
 }
 
 /// Configurations with two faults, and the fault that is returned.

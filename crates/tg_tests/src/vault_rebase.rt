@@ -10,24 +10,46 @@ use tg_graph::Graph;
 use tg_rights::{Kind, Which};
 use tg_vault::{Rebased, SeatFault, Vault};
 
+/// How many entries the history had, if the vault began anew.
+fn dropped(rebased: &Rebased) -> Option<u64> {
+    match rebased {
+        Rebased::Fresh { dropped, .. } => Some(*dropped),
+        Rebased::Seated { .. } => None,
+        Rebased::NoMemory { .. } => None,
+    }
+}
+
+/// The least seat in use, if the vault was handed back for it.
+fn seat(rebased: &Rebased) -> Option<u64> {
+    match rebased {
+        Rebased::Fresh { .. } => None,
+        Rebased::Seated { seat, .. } => Some(*seat),
+        Rebased::NoMemory { .. } => None,
+    }
+}
+
+/// The vault, whatever a rebase did.
+fn vault_of(rebased: Rebased) -> Vault {
+    match rebased {
+        Rebased::Fresh { vault, .. } => vault,
+        Rebased::Seated { vault, .. } => vault,
+        Rebased::NoMemory { vault, .. } => vault,
+    }
+}
+
 /// The vault that begins anew, and how many entries the history had.
 fn fresh(rt: &impl Abort, vault: Vault) -> Result<(Vault, u64), AllocError> {
-    match vault.rebase() {
-        Rebased::Fresh { vault, dropped } => Ok((vault, dropped)),
-        Rebased::NoMemory { .. } => Err(AllocError),
-        Rebased::Seated { .. } => panic!(rt; "seated"),
-    }
+    let rebased = vault.rebase();
+    assert!(rt; seat(&rebased).is_none());
+    let dropped = dropped(&rebased).ok_or(AllocError)?;
+    Ok((vault_of(rebased), dropped))
 }
 
 /// The vault, which is handed back because this is the least seat in use.
 fn seated(rt: &impl Abort, vault: Vault, least: u64) -> Vault {
-    match vault.rebase() {
-        Rebased::Seated { vault, seat } => {
-            assert!(rt; seat == least);
-            vault
-        }
-        _ => panic!(rt; "not seated"),
-    }
+    let rebased = vault.rebase();
+    assert!(rt; seat(&rebased) == Some(least));
+    vault_of(rebased)
 }
 
 /// Alice finishes her target, and both leave.
@@ -65,15 +87,14 @@ fn has_no_garbage(opening: &Graph) -> bool {
 fn answers_anew(
     rt: &impl Abort,
     alloc: Global,
-    anew: Vault,
+    anew: &mut Vault,
     lines: &[Line],
     asked: &[Asked],
 ) -> Result<(), AllocError> {
-    let mut vault = anew;
-    assert!(rt; vault.count() == 0);
-    lines_are_answered(rt, alloc, &mut vault, lines)?;
-    assert!(rt; vault.count() == asked.len() as u64);
-    let replies = replay(alloc, &vault)?;
+    assert!(rt; anew.count() == 0);
+    lines_are_answered(rt, alloc, anew, lines)?;
+    assert!(rt; anew.count() == asked.len() as u64);
+    let replies = replay(alloc, anew)?;
     assert!(rt; are_replies(&replies, asked));
     Ok(())
 }
@@ -83,9 +104,9 @@ fn begins_without_garbage(rt: &impl Abort, alloc: Global) -> Result<(), AllocErr
     let mut vault = seated(rt, opened(rt, alloc)?, 0);
     assert!(rt; vault.count() == 4);
     lines_are_answered(rt, alloc, &mut vault, ALL_LEAVE)?;
-    let (anew, dropped) = fresh(rt, vault)?;
+    let (mut anew, dropped) = fresh(rt, vault)?;
     assert!(rt; dropped == 4 && has_no_garbage(anew.opening()));
-    answers_anew(rt, alloc, anew, AFTER_GARBAGE, ASKED_AFTER_GARBAGE)
+    answers_anew(rt, alloc, &mut anew, AFTER_GARBAGE, ASKED_AFTER_GARBAGE)
 }
 
 #[test]
@@ -143,9 +164,9 @@ const ASKED_OF_CAROL: &[Asked] = &[
 /// Of those who have retired a rebase keeps the one that somebody has rights over.
 fn keeps_the_retired_that_are_held(rt: &impl Abort, alloc: Global) -> Result<(), AllocError> {
     let vault = played(rt, alloc, &TWO_RETIRE)?;
-    let (anew, dropped) = fresh(rt, vault)?;
+    let (mut anew, dropped) = fresh(rt, vault)?;
     assert!(rt; dropped == 5 && has_carol(anew.opening()));
-    answers_anew(rt, alloc, anew, CAROL_IS_KEPT, ASKED_OF_CAROL)
+    answers_anew(rt, alloc, &mut anew, CAROL_IS_KEPT, ASKED_OF_CAROL)
 }
 
 #[test]
