@@ -1,0 +1,127 @@
+"""The page of a film: all frames one below the other, of which a script shows one at a time."""
+
+from html import escape
+
+from film.svg import STYLE, svg_of
+
+PAGE_STYLE = """
+:root { color-scheme: light dark; --ink: #16191d; --paper: #ffffff; --soft: #eef1f4; --rule: #c9d0d7; --key: #0b57d0; }
+@media (prefers-color-scheme: dark) { :root { --ink: #f1f3f5; --paper: #1b1f24; --soft: #282e35; --rule: #4a535d; --key: #8ab4f8; } }
+* { box-sizing: border-box; }
+body { margin: 0 auto; max-width: 76rem; padding: 1rem; color: var(--ink); background: var(--paper); font: 16px/1.45 system-ui, sans-serif; }
+h1 { font-size: 1.35rem; margin: 0 0 .3rem; }
+p { margin: .3rem 0; }
+nav { display: flex; flex-wrap: wrap; gap: .4rem; align-items: center; margin: .8rem 0; }
+button { font: inherit; color: inherit; background: var(--soft); border: 1px solid var(--rule); border-radius: .4rem; padding: .35rem .8rem; min-width: 2.8rem; cursor: pointer; }
+button:disabled { opacity: .45; cursor: default; }
+button:focus-visible, input:focus-visible, section:focus-visible { outline: 3px solid var(--key); outline-offset: 2px; }
+input { flex: 1 1 10rem; accent-color: var(--key); }
+output { min-width: 4.5rem; text-align: right; font-variant-numeric: tabular-nums; }
+section { display: grid; grid-template-columns: minmax(0, 1.6fr) minmax(15rem, 1fr); gap: 1.2rem; align-items: start; border-top: 1px solid var(--rule); padding: 1rem 0; }
+section svg { max-width: 100%; height: auto; justify-self: center; }
+dl { margin: 0; }
+dt { font-size: .8rem; opacity: .75; margin-top: .7rem; }
+dt:first-child { margin-top: 0; }
+dd { margin: 0; overflow-wrap: anywhere; }
+code { font: .95rem/1.4 ui-monospace, monospace; background: var(--soft); border-radius: .3rem; padding: .1rem .3rem; box-decoration-break: clone; -webkit-box-decoration-break: clone; }
+kbd { font: .85rem ui-monospace, monospace; border: 1px solid var(--rule); border-radius: .25rem; padding: 0 .3rem; }
+.script section:not(.now) { display: none; }
+body:not(.script) nav { display: none; }
+.key { display: flex; flex-wrap: wrap; gap: .3rem 1.2rem; font-size: .9rem; margin: .6rem 0 0; padding: 0; list-style: none; }
+@media (max-width: 46rem) { section { grid-template-columns: 1fr; } }
+"""
+
+SCRIPT = """
+(() => {
+  const frames = [...document.querySelectorAll("section")];
+  const [first, back, play, on, last] = document.querySelectorAll("nav button");
+  const bar = document.querySelector("nav input"), count = document.querySelector("nav output");
+  let now = 0, timer = null;
+  function show(number) {
+    now = Math.min(Math.max(number, 0), frames.length - 1);
+    frames.forEach((frame, place) => frame.classList.toggle("now", place === now));
+    bar.value = now + 1;
+    bar.setAttribute("aria-valuetext", "frame " + (now + 1) + " of " + frames.length);
+    count.value = (now + 1) + " / " + frames.length;
+    first.disabled = back.disabled = now === 0;
+    on.disabled = last.disabled = now === frames.length - 1;
+    // refused in some frames, and when it is called often
+    try { history.replaceState(null, "", "#" + (now + 1)); } catch (_) { }
+  }
+  function stop() {
+    clearInterval(timer);
+    timer = null;
+    play.textContent = "Play";
+  }
+  function toggle() {
+    if (timer !== null) { stop(); return; }
+    if (now === frames.length - 1) show(0);
+    play.textContent = "Pause";
+    timer = setInterval(() => { show(now + 1); if (now === frames.length - 1) stop(); }, 1600);
+  }
+  function step(number) { stop(); show(number); }
+  first.onclick = () => step(0);
+  back.onclick = () => step(now - 1);
+  play.onclick = toggle;
+  on.onclick = () => step(now + 1);
+  last.onclick = () => step(frames.length - 1);
+  bar.oninput = () => step(bar.value - 1);
+  document.addEventListener("keydown", (event) => {
+    if (event.ctrlKey || event.altKey || event.metaKey) return;
+    const keys = { ArrowLeft: () => step(now - 1), ArrowRight: () => step(now + 1), Home: () => step(0), End: () => step(frames.length - 1) };
+    const key = event.key === " " && event.target.tagName !== "BUTTON" ? toggle : event.target === bar ? null : keys[event.key];
+    if (key) { key(); event.preventDefault(); }
+  });
+  window.onhashchange = () => show((parseInt(location.hash.slice(1)) || 1) - 1);
+  document.body.classList.add("script");
+  show((parseInt(location.hash.slice(1)) || 1) - 1);
+})();
+"""
+
+NAV = """<nav aria-label="Frames">
+<button type="button" aria-label="First frame">|&lt;</button>
+<button type="button" aria-label="Frame before">&lt;</button>
+<button type="button">Play</button>
+<button type="button" aria-label="Next frame">&gt;</button>
+<button type="button" aria-label="Last frame">&gt;|</button>
+<input type="range" min="1" max="%d" value="1" aria-label="Frame">
+<output aria-live="off"></output>
+</nav>"""
+
+ABOUT = """<p>Keys: <kbd>&larr;</kbd> <kbd>&rarr;</kbd> step, <kbd>space</kbd> plays, <kbd>Home</kbd> <kbd>End</kbd>.</p>
+<ul class="key"><li>filled: a subject</li><li>open: a document</li><li>rim white, grey or black: the collector&rsquo;s colour</li>
+<li>dashed: condemned, waits to be swept</li><li>dotted: the missing right</li></ul>"""
+
+
+def fact(name, text):
+    return "<dt>%s</dt><dd>%s</dd>" % (name, text)
+
+
+def code(text):
+    """A line, which may be broken behind its commas."""
+    return "<code>%s</code>" % escape(text).replace(",", ",<wbr>")
+
+
+def section(frame, places, count):
+    """A frame beside its line and its answer."""
+    shot = frame.picture
+    names = {vertex.serial: vertex.name for vertex in shot.vertices.values()}
+    seats = "; ".join(("seat %d: %d %s" % (seat, serial, names.get(serial, ""))).strip() for seat, serial in shot.seats.items())
+    state = "%s; free slots %d, free cells %d" % (shot.phase, shot.free_slots, shot.free_cells)
+    told = [
+        fact("Line", code(frame.line)),
+        fact("Answer", code(frame.answer)),
+        fact("What changes", "; ".join(frame.changes) or ("nothing that is drawn" if frame.number > 1 else "the first frame")),
+        fact("Collector", state),
+        fact("Who sits where", seats or "nobody"),
+    ]
+    head = '<section tabindex="-1" aria-label="Frame %d of %d">' % (frame.number, count)
+    return "%s%s<dl aria-live=\"polite\">%s</dl></section>" % (head, svg_of(frame, places), "".join(told))
+
+
+def page_of(title, frames, places):
+    """The whole page."""
+    head = '<!DOCTYPE html>\n<html lang="en"><head><meta charset="utf-8"><meta name="viewport" content="width=device-width, initial-scale=1">'
+    head += '<link rel="icon" href="data:,"><title>%s</title><style>%s%s</style></head>' % (escape(title), PAGE_STYLE, STYLE)
+    body = ["<h1>%s</h1>" % escape(title), ABOUT, NAV % len(frames), *[section(frame, places, len(frames)) for frame in frames]]
+    return "%s<body>\n%s\n<script>%s</script></body></html>\n" % (head, "\n".join(body), SCRIPT)
