@@ -60,7 +60,9 @@ LISTED = {
     ("tg_talk/src/talking.rt", "talk", "InputLines::new", "TalkFault::OutOfMemory"): 1,
     ("tg_talk/src/talking.rt", "respond", "Heard::Nothing", "Said::Nothing"): 1,
     ("tgdoc/src/answer.rt", "tell_swept", "write_swept_in", "WireFault::OutOfMemory"): 1,
-    ("tgdoc/src/run.rt", "run_lines", "InputLines::new", "TalkFault::OutOfMemory"): 1,
+    ("tgdoc/src/run.rt", "take_lines", "InputLines::new", "TalkFault::OutOfMemory"): 1,
+    ("tgdoc/src/pictures.rt", "drawn", "draw_line", "WireFault::OutOfMemory"): 1,
+    ("tgdoc/src/pictures.rt", "draw_last", "draw_end", "WireFault::OutOfMemory"): 1,
     ("tgdoc/src/audit.rt", "audit_lines", "InputLines::new", "TalkFault::OutOfMemory"): 1,
     ("tgdoc/src/audit.rt", "answer", "write_verdict", "WireFault::OutOfMemory"): 1,
     ("tgdoc/src/audit.rt", "judge", "check", "WireFault::OutOfMemory"): 1,
@@ -79,7 +81,6 @@ LISTED = {
     # The program of many sessions says what it found.
     ("tg_load/src/run.rt", "verdict_of", "Settled::NoMemory", "Verdict::NoMemory"): 1,
     ("tg_load/src/run.rt", "close_of", "Closed::NoRoom", "Verdict::NoRoom"): 1,
-    ("tg_load/src/run.rt", "run_next", "opened", "Found::NoMemory"): 1,
     ("tg_load/src/run.rt", "run_next", "ran", "Found::NoMemory"): 1,
 }
 

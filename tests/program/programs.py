@@ -18,6 +18,9 @@ HELLO = b'{"name":"alice","op":"hello"}\n'
 WELCOME = b'{"ok":"hello","vertex":1}\n'
 DERIVATION = CONFIG + b'{"from":1,"rights":"r","to":2}\n{"actor":1,"kind":"document","op":"create","rights":"r"}\n'
 SHARED = b'{"verdict":"shared"}\n'
+# What `draw` writes for alice, who has a seat, after both lines.
+PICTURE = b'digraph { graph [labelloc=t,labeljust=l,label="lines 2, errors 0\\lphase idle, free slots 1023, free cells 16384\\lseat 0: 1\\l"]; '
+PICTURE += b'node [shape=circle,width=1]; 1 [label="1 alice\\nwhite\\nseat 0",class="subject white",style=filled,fillcolor=skyblue,penwidth=1]; }\n'
 
 
 @contextlib.contextmanager
@@ -185,6 +188,14 @@ def help_on_run(program):
     return words[bar + 1] == "tgdoc" and (ran.stdout, ran.returncode) == (b'{"ok":"hello","vertex":1}\n', 0)
 
 
+def help_on_draw(program):
+    """Help on standard output, status 0; its example draws the lines of a file, for Graphviz."""
+    *words, sign, name, bar, dot, kind, into, _ = example_of(program, ["draw", "--each"], "draw", "--help")
+    ran = subprocess.run([str(program), *words[1:]], input=(ROOT / name).read_bytes(), capture_output=True, timeout=SECONDS)
+    written = (sign, bar, dot, kind, into) == ("<", "|", "dot", "-Tsvg", ">")
+    return written and ran.returncode == 0 and ran.stdout.startswith(b"digraph") and ran.stdout.count(b"\n") == 1
+
+
 def example(name, answer, status):
     """The verdict on the derivation of an example."""
 
@@ -234,21 +245,23 @@ def tests():
     yield "many-lines-before-any-answer-is-read", many_lines_before_any_answer_is_read
     yield "input-that-cannot-be-read", input_that_cannot_be_read("run")
     yield "input-of-an-audit-that-cannot-be-read", input_that_cannot_be_read("audit")
+    yield "input-of-a-picture-that-cannot-be-read", input_that_cannot_be_read("draw")
     yield "no-verdict-before-the-end", no_verdict_before_the_end
     yield "refused-line-of-an-audit-is-answered-at-once", refused_line_is_answered_at_once
     yield "verdict-that-cannot-be-written", verdict_that_cannot_be_written
     yield "output-that-cannot-be-written", output_that_cannot_be_written
     yield "nothing-to-write", nothing_to_write
-    for word, given, answer in [("run", CONFIG + HELLO, WELCOME), ("audit", DERIVATION, SHARED)]:
+    for word, given, answer in [("run", CONFIG + HELLO, WELCOME), ("audit", DERIVATION, SHARED), ("draw", CONFIG + HELLO, PICTURE)]:
         yield "%s-alone" % word, accepted(given, answer, word)
         yield "dashes-behind-" + word, accepted(given, answer, word, "--")
         yield "dashes-before-" + word, refused("--", word)
         yield "version-of-" + word, refused(word, "--version")
         yield "a-word-too-many-behind-" + word, refused(word, "now")
         yield "an-option-that-%s-does-not-have" % word, refused(word, "--fast")
-    yield "help", help_with_a_file(WELCOME, ["run", "audit", "serve"], "--help")
+    yield "help", help_with_a_file(WELCOME, ["run", "audit", "draw", "serve"], "--help")
     yield "help-on-run", help_on_run
     yield "help-on-audit", help_with_a_file(SHARED, ["audit"], "audit", "--help")
+    yield "help-on-draw", help_on_draw
     yield "version", versioned("--version")
     yield "version-before-other-words", versioned("--version", "run", "now")
     yield "example-derivation", example("derivation.jsonl", SHARED, 0)
