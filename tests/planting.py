@@ -6,17 +6,21 @@ and one check, which is asked only for the copies, judges many. A copy with no e
 function. An edit is refused if in that check the control is proved, nothing but what is edited is refused, and of the edited copy a goal
 fails, or a written proof no longer fits it. An edit of a constant is made in a copy of the constant, and of each function that names it.
 
-A function that one edit changes, and that no other function of the check may call, is edited in its place instead, and needs no
+A function that one edit changes, and that no other function of the check names in a call, is edited in its place instead, and needs no
 control: so the toolchain's own rule would try it. A trait's method and a method at chosen type arguments cannot be copied, and are always
 edited in their place, in checks without copies; other edits go with them that so need no copy either.
 
 If nothing is kept of the crate's checks, the functions that are only called are not proved once more: each gets a hole for its proof, and a
 caller knows its contract all the same. That they are proved is what the crate's own check says.
 
-All else is tried alone: what such a check does not clearly refuse, and each edit of anything but a body, of a trait's default and of
-a cycle of calls. It is first tried on the functions that it is about, and if those do not refuse it, by the toolchain's own rule, over what
-the crate's checks have kept and then from nothing. So only that rule ever says that an edit is not refused, or cannot be made. An edit
-that is refused only because a written proof names what it took away shows little of the contract; it counts as failed.
+An edit of definitions is made in their place, and tried on one function: the law whose contract comes to them by the fewest steps, or if none
+does, such a function (tests/reach.py). One check tries several edits if no law that is asked for one comes to what another changes; an edit
+is refused if its law is not proved, for an error in that law's proof or in the lemmas that this imports.
+
+All else is tried alone: what such a check does not clearly refuse, and each edit of anything else, of a trait's default and of a cycle of
+calls. It is first tried on the functions that it is about, and if those do not refuse it, by the toolchain's own rule, over what the crate's
+checks have kept and then from nothing. So only that rule ever says that an edit is not refused, or cannot be made. An edit that is refused
+only because a written proof names what it took away shows little of the contract; it counts as failed.
 """
 
 import heapq
@@ -35,9 +39,11 @@ from contextlib import contextmanager, suppress
 from importlib.machinery import SourceFileLoader
 from pathlib import Path
 
+from reach import Reach
+
 # The edits that one check tries at most, how many that then need no copy are worth a check of their own, and the functions that may name
 # a constant whose edit is tried with others.
-FLAGS, MOST, APART, USERS = ["--jobs", "1"], 40, 10, 3
+FLAGS, MOST, APART, USERS = ["--jobs", "1"], 40, 8, 3
 # Words of items and contracts, with which an edit may change more than a body.
 ITEMS = re.compile(r"\b(?:fn|impl|struct|enum|trait|mod|use|const|static|extern|macro_rules|ghost|requires|ensures|prove)\b|#\s*!?\[")
 CONSTANT = re.compile(rb"\s*(?:pub(?:\([a-z]+\))? )?const (\w+):")
@@ -58,6 +64,8 @@ HOLE = """use Rattle.{crate}.proofs.{module}.Statement.{{statement}}
 pub {name}_spec : {{M : Type 1}} → statement M
 {name}_spec = ?
 """
+# What a report says of a function of which nothing is wrong but what it calls.
+WAITS = re.compile(r"fn (\S+): no proof: it calls (`[^`]+`(?:(?:, | and |, and )`[^`]+`)*), which (?:is|are) not proved$")
 # What a report says of a function that is proved, given the contracts of those whose proof is a hole.
 PROVED = r"(?:proved|no holes$|depends on a hole in )"
 
@@ -223,12 +231,22 @@ class Edit:
         return bool(self.spans) and all(map(can_stand_twice, self.spans))
 
 
+def waiting(said, edited):
+    """The functions of a report that are not proved only because they call edited ones, or one another."""
+    calls = {it[1]: {*re.findall("`([^`]+)`", it[2])} for it in map(WAITS.match, said) if it}
+    found = set()
+    while more := {f for f, named in calls.items() if f not in found and named <= edited | found}:
+        found |= more
+    return found
+
+
 class Report:
     """What a check said of a crate with edited functions: the faults of each, those that are proved, and what else is wrong."""
 
     def __init__(self, crate, ran, lines, symbols, holes):
         self.faults, self.proved, self.unread, self.stray = {}, set(), set(), []
         said, notes = ran.stdout.rstrip("\n").split("\n"), []
+        waits = waiting(said, symbols)
         for line in said:
             error, name = ERROR.match(line), line[len("fn ") :].partition(": ")[0] if line.startswith("fn ") else ""
             if error:
@@ -245,17 +263,18 @@ class Report:
                 self.proved |= {copy} if re.match(rf"fn {re.escape(copy)}: {PROVED}", line) else set()
                 own = [*notes, *[line] * ("; `search` did not prove" in line)]
                 calls = line.partition("; it calls ")[2]
-                waits = "not proved" in calls and not {*re.findall("`([^`]+)`", calls)} <= holes
-                self.faults.setdefault(copy, []).extend([] if waits else own)
-            elif error or re.match(rf"(fn|impl) \S+: (?!assumed|{PROVED})", line) or "has not tried the goals of" in line:
+                is_open = "not proved" in calls and not {*re.findall("`([^`]+)`", calls)} <= holes
+                self.faults.setdefault(copy, []).extend([] if is_open else own)
+            elif error or name not in waits and re.match(rf"(fn|impl) \S+: (?!assumed|{PROVED})", line) or "has not tried the goals of" in line:
                 self.stray.append(line)
             notes = [] if line.startswith("fn ") else notes
         ended = ran.returncode in (0, 1) and said[-1].startswith("only=") and not rtlib.STALE.search(ran.stdout)
         self.stray += [] if ended else said[-1:]
 
 
-def refusal(ran, texts):
-    """What refuses the edited texts in a check that was asked for some functions, or None if that is not clear."""
+def refusal(ran, texts, own=None):
+    """What refuses the edited texts in a check that was asked for some functions, in one of its own files if any are given, or None if that
+    is not clear."""
     lines = ran.stdout.rstrip("\n").split("\n")
     if ran.returncode != 1 or not lines[-1].startswith("only=") or rtlib.STALE.search(ran.stdout):
         return None
@@ -263,6 +282,10 @@ def refusal(ran, texts):
         return None
     told = [it for it in lines if TOLD.match(it)]
     told = [it for it in told if ": error" in it or it.startswith("note: ")]
+    errors = [ERROR.match(it) for it in told]
+    if own and not all(it[1].startswith("proofs/") for it in errors if it):
+        return None
+    told = [it for it, error in zip(told, errors) if error and error[1] in own] if own else told
     return next((it for it in told if not (NAMES.search(it) and re.match(r"(note: )?(\./)?proofs/", it))), None)
 
 
@@ -332,7 +355,7 @@ class Trial:
         self.crate, self.edits, self.turns, self.rank, self.log, self.checks = crate, edits, turns, rank, log, 0
         places = [f"{crate.folder}/{rtlib.KEPT[1]}", *[f"{it}/{crate.name}" for it in [seeds] if it]]
         self.were = [it for it in places if os.path.isdir(it)]
-        self.source, self.stem, self.kept, self.reaches = bodies.Source(crate.folder), "_planted", "", {}
+        self.source, self.stem, self.kept = bodies.Source(crate.folder), "_planted", ""
         self.source.read("src/main.rt" if crate.is_program else "src/lib.rt")
         while any(self.stem.encode() in it for it in self.source.data.values()):
             self.stem += "_"
@@ -352,26 +375,15 @@ class Trial:
             return "::".join([self.crate.name, *f.module, f"{f.owner}{trait}", f.name])
         return "::".join([self.crate.name, *self.path(f)]) + ending
 
-    def called(self, edits, f):
-        """The functions that the function, as it stands or with one of the edits, may call, and those that these may call, or a method of a
-        trait, which may be called by no name."""
-        rows = [row for it in edits for _, _, row in it.spans.get(f, [])]
-        named = {it for it in self.source.functions if any(may_call(row, it) for row in rows)}
-        unnamed = set().union(*(self.reached(it) for it in self.source.functions if it.in_trait and it.has_body))
-        return named.union({it for it in unnamed if not it.in_trait}, *map(self.reached, [f, *named]))
+    def asked(self, f):
+        """The name by which a check is asked for the function."""
+        return self.symbol(f).partition("::")[2]
 
-    def reached(self, f):
-        """The functions that the function, as it stands, may call, and those that these may call."""
-        if f not in self.reaches:
-            found, left = set(), [f]
-            while left:
-                g = left.pop()
-                body = self.source.data[g.file][g.opens : g.end]
-                more = {it for it in self.source.functions if it not in found and may_call(body, it)}
-                found |= more
-                left += more
-            self.reaches[f] = found
-        return self.reaches[f]
+    def called(self, edits, f):
+        """The functions that the function, as it stands or with one of the edits, may name in a call. (What it comes to in another way, by
+        way of a function or a trait, a report says of it too, and then its edit is tried alone.)"""
+        rows = [self.source.data[f.file][f.opens : f.end], *[row for it in edits for _, _, row in it.spans.get(f, [])]]
+        return {it for it in self.source.functions if any(may_call(row, it) for row in rows)}
 
     def placed(self, edits):
         """Those of the edits that can be made in the functions themselves, and these: each is the only edit of the only function that it
@@ -519,31 +531,104 @@ class Trial:
         return [it[1] for it in found] if all(found) else []
 
     def laws(self):
-        """The functions that only state something: with no arguments, and an empty body."""
-        return ["::".join(self.path(f)) for f in self.source.functions if not f.block and not f.params and not f.body]
+        """The functions that only state something: with no arguments, and no result."""
+        laws = [f for f in self.source.functions if not (f.block or f.params or f.ret) and f.has_ensures]
+        return ["::".join(self.path(f)) for f in laws]
+
+    def reach(self):
+        """What the functions of the crate reach by their contracts, and the laws by their proofs too."""
+        text = lambda file, start, end: self.source.data[file][start:end].decode()
+        own = [f for f in self.source.functions if f.has_body and not f.in_trait]
+        functions = {"::".join(self.path(f)): (text(f.file, f.first, f.opens), len(f.body)) for f in own}
+        types = []
+        for file, data in self.source.data.items():
+            spans = sorted((f.first, f.end) for f in self.source.functions if f.file == file)
+            types += [text(file, done, start) for (_, done), (start, _) in zip([(0, 0), *spans], [*spans, (len(data), 0)])]
+        laws = [it for it in self.laws() if it not in {"::".join(self.path(f)) for f in own if self.called([], f)}]
+        return Reach(self.crate, functions, laws, "\n".join(types))
+
+    def groups(self, edits):
+        """The edits of definitions that one check each tries, each with the function that is asked for it."""
+        reach, groups = self.reach(), []
+        for edit in edits:
+            touched = reach.touched(edit.texts)
+            law = reach.nearest(touched)
+            fits = lambda some: all(reach.is_apart(law, them) and reach.is_apart(other, touched) for _, other, them in some)
+            room = next((it for it in groups if law and fits(it)), [])
+            groups += [room] if law and not room else []
+            room.append((edit, law, touched))
+        return [[(edit, law, reach.files.get(law)) for edit, law, _ in some] for some in groups]
+
+    def joined(self, edits):
+        """The texts with all of these edits, no two of which change the same line."""
+        texts = {}
+        for edit in edits:
+            for file, text in edit.texts.items():
+                was = rtlib.text_of(f"{self.crate.folder}/{file}")
+                rows = zip(was.split("\n"), text.split("\n"), texts.get(file, was).split("\n"))
+                texts[file] = "\n".join(now if old == new else new for old, new, now in rows)
+        return texts
+
+    def by_laws(self, group):
+        """Tries edits of definitions in one check of the functions that are asked for them."""
+        texts = self.joined([edit for edit, _, _ in group])
+        done = self.check(texts, [law for _, law, _ in group], is_alone=True)
+        for edit, law, files in group:
+            is_proved = f"\nfn {self.crate.name}::{law}: not proved" not in done.stdout
+            fault = refusal(done, texts, files) if len(group) > 1 else refusal(done, texts)
+            edit.seconds += done.elapsed / len(group)
+            if fault and not (is_proved and len(group) > 1):
+                edit.result = True, f"refused{', alone' * (len(group) == 1)}: {fault[:160]}"
+
+    def users(self, constants):
+        """The functions that name one of the constants: those that do so in their bodies and those of the others that call one of these, or if
+        no body does, all of them."""
+        named = [re.compile(rb"\b%s\b" % it) for it in constants]
+        names = lambda f, at: any(it.search(self.source.data[f.file], at, f.end) for it in named)
+        every = [f for f in self.source.functions if names(f, f.first)]
+        nearest = {f for f in every if f.has_body and names(f, f.opens)}
+        return [f for f in every if not nearest or f in nearest or self.called([], f) & nearest]
+
+    def inside(self, edit):
+        """The functions in which the edit changes lines; none if a change there changes more than one proof."""
+        found = set()
+        for file, text in edit.texts.items():
+            at, old, new = 0, self.source.data[file].split(b"\n"), text.encode().split(b"\n")
+            for was, row in zip(old, new):
+                found |= {f for f in self.source.functions if was != row and f.file == file and f.first <= at + len(was) and at < f.end}
+                at += len(was) + 1
+        return found if all(map(can_be_edited, found)) else set()
 
     def about(self, edit):
-        """The functions that an edit is about: the laws if it changes a definition, those that name a constant that it changes, or else
-        those of the modules that it changes."""
+        """The functions that an edit is about: the laws if it changes a definition, those that name a constant that it changes, those in
+        which it changes lines, or else those of the modules that it changes."""
         if any(not it.startswith("src/") for it in edit.texts):
             return self.laws()
-        named = [re.compile(rb"\b%s\b" % it) for it in self.constants(edit)]
-        users = [f for f in self.source.functions if any(it.search(self.source.data[f.file], f.first, f.end) for it in named)]
-        if users:
-            return sorted({"::".join(self.path(f)) for f in users})
+        own = self.users(self.constants(edit)) or self.inside(edit)
+        if own:
+            return sorted(map(self.asked, own))
         modules = {f.module for f in self.source.functions if f.file in edit.texts}
         return [] if () in modules else ["::".join(it) for it in sorted(modules)]
 
     def alone(self, edit):
         """Tries the edit on the functions that it is about, and then by the toolchain's own rule."""
         about = self.about(edit)
-        done = about and self.check(edit.texts, about, is_alone=True)
-        fault = done and refusal(done, edit.texts)
+        own = {f for f in self.source.functions if can_be_edited(f) and self.asked(f) in about}
+        is_holed = not self.were and len(own) == len(about) and edit.texts.keys() <= self.source.data.keys()
+        done = about and self.check((self.holes(own) if is_holed else {}) | edit.texts, about, is_alone=True)
+        fault = done and (self.fault(done, own) if is_holed else refusal(done, edit.texts))
         edit.seconds += done.elapsed if done else 0
         if fault:
             edit.result = True, f"refused, alone: {fault[:160]}"
         else:
             self.by_the_rule(edit)
+
+    def fault(self, done, own):
+        """What a check with holes says of these functions, if it refuses one for certain."""
+        symbols = {*map(self.symbol, own)}
+        report = Report(self.crate, done, {}, symbols, {*map(self.symbol, self.source.functions)} - symbols)
+        told = [it for name, some in sorted(report.faults.items()) if name not in report.proved for it in some if not NAMES.search(it)]
+        return told[0] if told and not report.stray else None
 
     def by_the_rule(self, edit):
         """Tries the edit by the toolchain's own rule, over what is kept and from nothing."""
@@ -599,7 +684,11 @@ class Trial:
             if not self.were and batches:
                 # (it makes what the others begin with; the laws are for edits of definitions, which are tried alone)
                 self.batch(batches.pop(0), self.laws() if len(copied) < len(self.edits) else [])
+            groups = self.groups([it for it in self.edits if not it.result and it not in copied])
+            if not os.path.isdir(self.kept) and groups:
+                self.by_laws(groups.pop(0))
             list(pool.map(self.batch, batches))
+            list(pool.map(self.by_laws, groups))
             list(pool.map(self.alone, [it for it in self.edits if not it.result]))
 
 

@@ -13,6 +13,7 @@ SOURCE = """//! A number and its echo.
 
 ghost use Rattle.std.specs.Prelude.{◌≡◌};
 ghost use Rattle.tiny.specs.Echo.{echo_of};
+ghost use Rattle.tiny.specs.Twice.{spare_of, twice_of};
 
 /// The most that is counted.
 const MOST: usize = 7;
@@ -20,6 +21,16 @@ const MOST: usize = 7;
 /// The echo of three is three.
 pub fn echo_of_three()
     ensures { echo_of 3 ≡ 3 }
+{}
+
+/// Twice two is four.
+pub fn twice_of_two()
+    ensures { twice_of 2 ≡ 4 }
+{}
+
+/// The spare of one is one.
+pub fn spare_of_one()
+    ensures { spare_of 1 ≡ 1 }
 {}
 
 /// The most that is counted.
@@ -92,6 +103,17 @@ unfoldable pub echo_of : ℕ → ℕ
 echo_of number = number
 """
 
+TWICE = """-- Twice a number's echo, and a spare number.
+use Rattle.std.specs.Prelude.{ℕ, ◌+◌}
+use Rattle.tiny.specs.Echo.{echo_of}
+
+unfoldable pub twice_of : ℕ → ℕ
+twice_of number = echo_of number + number
+
+unfoldable pub spare_of : ℕ → ℕ
+spare_of number = echo_of number
+"""
+
 LAW = """use Rattle.std.proofs.Common.{refl}
 use Rattle.tiny.specs.Echo.{echo_of}
 use Rattle.tiny.proofs.echo_of_three.Goals as goal
@@ -102,6 +124,16 @@ returns c = refl
 """
 
 ECHO = LAW.replace("echo_of_three", "echo")
+DOUBLE = """use Rattle.std.proofs.Common.{refl}
+use Rattle.tiny.specs.Echo.{echo_of}
+use Rattle.tiny.specs.Twice.{twice_of}
+use Rattle.tiny.proofs.twice_of_two.Goals as goal
+
+pub returns : goal.returns
+unfolding twice_of echo_of
+returns c = refl
+"""
+SPARE = DOUBLE.replace("twice_of_two", "spare_of_one").replace("twice_of", "spare_of")
 
 NAMED = """use Rattle.tiny.proofs.named.Goals as goal
 
@@ -113,9 +145,12 @@ FILES = {
     "HANDLES": "Handles allowed: none.\n",
     "crates.txt": "tiny:\n",
     "crates/tiny/src/lib.rt": SOURCE,
-    "crates/tiny/specs/Lib.antt": "pub mod Echo\n",
+    "crates/tiny/specs/Lib.antt": "pub mod Echo\npub mod Twice\n",
     "crates/tiny/specs/Echo.antt": SPEC,
+    "crates/tiny/specs/Twice.antt": TWICE,
     "crates/tiny/proofs/echo_of_three/Answers.antt": LAW,
+    "crates/tiny/proofs/twice_of_two/Answers.antt": DOUBLE,
+    "crates/tiny/proofs/spare_of_one/Answers.antt": SPARE,
     "crates/tiny/proofs/echo/Answers.antt": ECHO,
     "crates/tiny/proofs/named/Answers.antt": NAMED,
 }
@@ -124,6 +159,10 @@ FILES = {
 EDITS = [
     ("echo-of-nothing", "src/lib.rt", "let heard = number;", "let heard = 0;", "refused: "),
     ("law-echo-is-four", "specs/Echo.antt", "echo_of number = number", "echo_of number = 4", "refused, alone: "),
+    # tried with the next, and not with the one above, to which the laws of both come too
+    ("law-twice-is-thrice", "specs/Twice.antt", "echo_of number + number", "echo_of number + number + number", "refused: "),
+    # it means the same, beside a bug
+    ("law-spare-is-the-same", "specs/Twice.antt", "spare_of number = echo_of number", "spare_of number = (echo_of number)", "alone: NOT REFUSED"),
     # a constant; a function that nothing calls, and a trait's method, which need no control
     ("seven-is-eight", "src/lib.rt", "const MOST: usize = 7;", "const MOST: usize = 8;", "refused: "),
     ("kept-is-nothing", "src/lib.rt", "let kept_number = number;", "let kept_number = 0;", "refused: "),
@@ -145,7 +184,7 @@ def said(line):
 
 
 def edits_of_a_crate_are_told_apart(program):
-    """Five bugs are refused; a harmless edit, an absent text and an edit that only a proof's names refuse count as failed."""
+    """Six bugs are refused; harmless edits, an absent text and an edit that only a proof's names refuse count as failed."""
     with tempfile.TemporaryDirectory() as folder:
         edits = {f"crates/tiny/planted/{name}.edit": f"file: {file}\nold: {old}\nnew: {new}\n" for name, file, old, new, _ in EDITS}
         for path, text in (FILES | edits).items():
@@ -155,7 +194,7 @@ def edits_of_a_crate_are_told_apart(program):
     lines = ran.stdout.splitlines()
     found = dict(said(line) for line in lines if line.startswith("planted tiny/"))
     wrong = [name for name, _, _, _, begins in EDITS if not found.get(name, "").startswith(begins)]
-    if wrong or lines[-1:] != ["5 passed, 4 failed"] or ran.returncode != 1:
+    if wrong or lines[-1:] != ["6 passed, 5 failed"] or ran.returncode != 1:
         print(f"  not as wanted: {wrong}, status {ran.returncode}", *lines, ran.stderr, sep="\n    ")
         return False
     return True
