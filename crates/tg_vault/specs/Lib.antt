@@ -17,3 +17,4 @@ pub mod Headline
 pub mod Laws
 pub mod Rebase
 pub mod Scenes
+pub mod Room
