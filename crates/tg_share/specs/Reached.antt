@@ -11,6 +11,8 @@ use Rattle.tg_vault.specs.Contents.{Contents}
 use Rattle.tg_vault.specs.Course.{Course, IsCoherent, VaultStep}
 use Rattle.tg_vault.specs.Cycles.{IsBounded}
 use Rattle.tg_vault.specs.Headline.{Headline}
+use Rattle.tg_vault.specs.Room.{IsRoom}
+use Rattle.tg_vault.specs.declared.room.Room.{Room}
 
 -- some events, one after another, have led here from a vault without entries
 pub record IsReached (v : Contents) : Type 0 where
@@ -29,6 +31,12 @@ pub record HasHeadline (v : Contents) : Type 0 where
   pub empty : opened.history ≡ []
   pub headline : Headline opened events answers v
   pub bounded : IsBounded opened answers
+
+-- some vault that events have led to has this room left
+pub record HasRoom (r : Room) : Type 0 where
+  pub vault : Contents
+  pub reached : IsReached vault
+  pub room : IsRoom vault r
 
 -- the vault gives the event this answer, and some vault follows
 pub record IsAnswered (v : Contents) (e : Event) (a : Answer) : Type 0 where

@@ -14,6 +14,10 @@ pub enum Place {
 /// What is done at a pause. The lock is free, and any other call may take it.
 pub trait Gate {
     fn pause<R: Wait + Clock>(&self, rt: &R, place: Place);
+
+    /// Called after the pause of a command that made a vertex, which is not yet shaded. Does nothing unless a gate says
+    /// otherwise.
+    fn after_create<R: Wait + Clock>(&self, _rt: &R) {}
 }
 
 /// A gate that lets everyone pass.

@@ -1,20 +1,25 @@
 //! The lock, and holds of it. A hold is used up by its one event, and cannot be dropped without it: so nothing but
-//! events happens under the lock, and each hold makes one, or none if no part is left for a session.
+//! events happens under the lock, and each hold makes one, or none if no part is left for a session, or if it only
+//! looks how much room is left.
 ghost use Rattle.std.specs.Prelude.{◌≡◌, ◌⊎◌, ◌+◌, ◌<◌, Err, IfOk, IfErr, OnOk, OnErr, MatchResult};
 ghost use Rattle.tg_rights.specs.declared.limits.TheConstants.{SEATS};
 ghost use Rattle.tg_vault.specs.declared.event.AskFault.TheVariants as ask_fault;
 ghost use Rattle.tg_vault.specs.declared.event.SeatFault.TheVariants as seat_fault;
 ghost use Rattle.tg_vault.specs.declared.event.Event.TheVariants as event;
 ghost use Rattle.tg_vault.specs.declared.event.Answer.TheVariants as answer;
-ghost use Rattle.tg_share.specs.Reached.{IsAnswered, IsEntered};
+ghost use Rattle.tg_share.specs.Reached.{HasRoom, IsAnswered, IsEntered};
 
 use crate::locked::Locked;
+use std::hint::spin_loop;
 use std::marker::Model;
 use std::sync::ledger::{Ledger, Share};
 use std::sync::{Mutex, MutexGuard, Wait};
 use tg_collect::Note;
 use tg_rights::{Command, Reply};
-use tg_vault::{AskFault, SeatFault};
+use tg_vault::{AskFault, Room, SeatFault};
+
+/// How often the lock is tried before a thread sleeps until it is free.
+const TRIES: u32 = 1_000;
 
 /// The one lock. What lies under it is reached by a hold, until it is taken out.
 #[derive(Drop)]
@@ -45,8 +50,15 @@ impl<L: Ledger> Lock<L> {
         }
     }
 
-    /// Takes the lock.
+    /// Takes the lock. It is tried for a while before the thread sleeps, since no hold lasts long, and a thread that
+    /// sleeps makes those who come after it sleep as well.
     pub fn hold<R: Wait>(&self, rt: &R) -> Hold<'_, L> {
+        for _ in 0..TRIES {
+            if let Some(guard) = self.mutex.try_lock() {
+                return Hold { guard };
+            }
+            spin_loop();
+        }
         Hold {
             guard: self.mutex.lock(rt),
         }
@@ -88,6 +100,14 @@ impl<'a, L: Ledger> Hold<'a, L> {
     {
         let Hold { mut guard } = self;
         guard.ask(seat, command, share)
+    }
+
+    /// No event: how much room the vault has left.
+    pub fn room(self) -> Room
+        ensures { HasRoom result }
+    {
+        let Hold { guard } = self;
+        guard.vault.room()
     }
 
     /// The event shade.

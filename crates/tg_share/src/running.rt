@@ -4,12 +4,13 @@ ghost use Rattle.tg_vault.specs.declared.event.Event.TheVariants as event;
 ghost use Rattle.tg_vault.specs.declared.event.Answer.TheVariants as answer;
 ghost use Rattle.tg_vault.specs.Contents.{Contents};
 ghost use Rattle.tg_vault.specs.Course.{VaultStep};
+ghost use Rattle.tg_vault.specs.Room.{IsRoom};
 ghost use Rattle.tg_share.specs.Reached.{IsEnteredFor, IsReached};
 
 use std::marker::Model;
 use tg_collect::Note;
 use tg_rights::{Command, Reply};
-use tg_vault::{AskFault, SeatFault, Vault};
+use tg_vault::{AskFault, Room, SeatFault, Vault};
 
 /// A vault, and nothing but events has happened to it since it had no entries. Each method that changes it is one
 /// event. Contracts see the vault.
@@ -47,6 +48,14 @@ impl Running {
     {
         let Running { vault } = self;
         vault
+    }
+
+    /// How much room the vault has left.
+    pub fn room(&self) -> Room
+        ensures room { IsRoom self.now result }
+        ensures reached { IsReached self.now }
+    {
+        self.vault.room()
     }
 
     pub fn hello(&mut self, seat: u64, name: &str) -> Result<u64, SeatFault>

@@ -4,6 +4,7 @@ ghost use Rattle.tg_vault.specs.declared.event.AskFault.TheVariants as ask_fault
 ghost use Rattle.tg_vault.specs.declared.event.SeatFault.TheVariants as seat_fault;
 ghost use Rattle.tg_audit.specs.declared.logs.Exchange.{Exchange};
 ghost use Rattle.tg_share.specs.declared.locked.TheConstants.{PARTS};
+ghost use Rattle.tg_share.specs.Reached.{HasRoom};
 ghost use Rattle.tg_share.specs.Sessions.{Grows};
 
 use crate::gate::{Gate, Place};
@@ -16,7 +17,7 @@ use std::sync::Wait;
 use std::sync::ledger::{Blank, Ledger, Share};
 use tg_audit::{Exchange, SeatLog};
 use tg_rights::{Command, Reply};
-use tg_vault::{AskFault, SeatFault, Vault};
+use tg_vault::{AskFault, Room, SeatFault, Vault};
 
 /// One vault for many threads, under one lock. Nothing but events happens to it there, and a hold of the lock is used
 /// up by its event: a session makes its copies and keeps its log with the lock free.
@@ -107,6 +108,13 @@ impl<L: Ledger> Shared<L> {
         })
     }
 
+    /// How much room the vault has left, under a hold of its own that makes no event. Allocates nothing.
+    pub fn room<R: Wait>(&self, rt: &R) -> Room
+        ensures { HasRoom result }
+    {
+        self.locked.hold(rt).room()
+    }
+
     /// Makes this many steps of the collector, each the event collect under a hold of its own, with a pause after each
     /// but the last. Allocates nothing.
     pub fn collector<R: Wait + Clock, G: Gate>(&self, rt: &R, steps: u64, gate: &G) -> Worked
@@ -159,6 +167,9 @@ impl<'a, L: Ledger> Session<'a, L> {
             .hold(rt)
             .ask(self.seat, asked, &mut self.share)?;
         gate.pause(rt, Place::AfterStore);
+        if matches!(reply, Reply::Created(_)) {
+            gate.after_create(rt);
+        }
         let _ = self.shared.locked.hold(rt).shade(self.seat);
         let Ok(()) = self.log.push(Exchange {
             actor,
