@@ -20,14 +20,15 @@ use tg_vault::{Rebased, Vault};
 
 /// Serves this many connections in rounds of `round`: none of the next round is taken before all of this one have
 /// ended. Each worker has a seat of its own, and a collector runs. Then the logs are settled. If they agree and
-/// connections are left, the vault is rebased, and the next round begins with what lives; until then clients wait. It writes the address before the first connection, and
-/// after each rebase how many entries were dropped, and the round, from 1. The last line is `agreed`; or, in a round
-/// that ends the server, `differs`, with the least seat whose log differs and the least index in it; `no memory`, if an
-/// allocation or the start of a thread failed; or `out of memory`, if a rebase lacked it. A connection that cannot be
-/// accepted counts as one. If the address cannot be written, clients are served all the same, nothing more is written,
-/// and nothing is settled; nor is anything written behind another line that failed. `workers` is from 1 to 63, and 0
-/// for `round` is taken as 1. With a `patience` from 1 to 86,400, a read or a write of a connection fails once it has
-/// waited for so many seconds, which ends the talk; a connection that cannot be limited in this way ends at once.
+/// connections are left, the vault is rebased, and the next round begins with what lives; until then clients wait. It
+/// writes the address before the first connection, and after each rebase how many entries were dropped, and the round,
+/// from 1. The last line is `agreed`; or, in a round that ends the server, `differs`, with the least seat whose log
+/// differs and the least index in it; `no memory`, if an allocation or the start of a thread failed; or `out of
+/// memory`, if a rebase lacked it. A connection that cannot be accepted counts as one. If the address cannot be
+/// written, clients are served all the same, nothing more is written, and nothing is settled; nor is anything written
+/// behind another line that failed. `workers` is from 1 to 63, and 0 for `round` is taken as 1. With a `patience` from
+/// 1 to 86,400, a read or a write of a connection fails once it has waited for so many seconds, which ends the talk; a
+/// connection that cannot be limited in this way ends at once.
 pub fn serve_on<R: Threads + Wait + Clock + Sync, W: Write>(
     rt: &R,
     alloc: Global,
@@ -109,7 +110,13 @@ fn rebase<W: Write>(
             tell_rebase(writer, is_announced, dropped, round);
             Ok(vault)
         }
-        Rebased::Seated { .. } => Err(Unsettled::Seated),
-        Rebased::NoMemory { .. } => Err(Unsettled::OutOfMemory),
+        Rebased::Seated { vault, .. } => {
+            drop(vault);
+            Err(Unsettled::Seated)
+        }
+        Rebased::NoMemory { vault } => {
+            drop(vault);
+            Err(Unsettled::OutOfMemory)
+        }
     }
 }

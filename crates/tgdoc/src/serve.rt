@@ -3,6 +3,7 @@ ghost use Rattle.std.specs.Prelude.{◌≡◌, []};
 ghost use Rattle.tg_share.specs.declared.locked.TheConstants.{PARTS};
 ghost use Rattle.tgdoc.specs.Serving.{IsFound, found_of};
 
+use crate::pace::{Pace, Paying, REST};
 use std::alloc::{AllocError, Global};
 use std::net::{TcpListener, TcpStream};
 use std::rt::Clock;
@@ -37,15 +38,6 @@ pub(crate) enum Unsettled {
     /// A seat was in use between two rounds.
     Seated,
 }
-
-/// Collector steps between two rests, and between two looks at whether everything is over.
-const STEPS: u64 = 1_000;
-
-/// How long the collector rests, in microseconds, while its cycles free slots.
-const SHORT_REST: u64 = 100;
-
-/// How long it rests after a cycle that freed nothing.
-const LONG_REST: u64 = 1_000;
 
 /// What each round is served with.
 #[derive(Drop)]
@@ -155,21 +147,16 @@ fn serve_in_threads<L: Ledger + Send + Sync, R: Threads + Wait + Clock + Sync>(
     })
 }
 
-/// Collects until everything is over. It rests between its steps, for longer if the last cycle freed nothing.
+/// Collects until everything is over, some steps at a time, with rests between.
 fn collect_until<L: Ledger, R: Wait + Clock>(rt: &R, shared: &Shared<L>, is_over: &AtomicBool) {
-    let mut has_freed = false;
-    let mut rest = SHORT_REST;
+    let mut pace = Pace::new(shared.room(rt));
     for _ in rt.forever() {
         if is_over.load(Ordering::SeqCst) {
             break;
         }
-        let worked = shared.collector(rt, STEPS, &Open);
-        has_freed = has_freed || worked.freed > 0;
-        if worked.ended > 0 {
-            rest = if has_freed { SHORT_REST } else { LONG_REST };
-            has_freed = false;
-        }
-        thread::sleep(rt, Duration::from_micros(rest));
+        let steps = pace.steps(shared.room(rt));
+        pace.learn(shared.collector(rt, steps, &Open));
+        thread::sleep(rt, Duration::from_micros(REST));
     }
 }
 
@@ -220,7 +207,9 @@ fn serve_one<L: Ledger, R: Wait + Clock>(
         &mut writer,
         server.shared,
         seat,
-        &Open,
+        &Paying {
+            shared: server.shared,
+        },
     );
     match talked.ended {
         Some(ended) => Ok(all.push(ended)?),

@@ -1,0 +1,97 @@
+//! The collector's pace. Its own thread makes few steps and rests; whoever makes a vertex while less than half is free
+//! makes steps too, so many that two cycles have ended before nothing is left, however slow that thread is.
+
+use std::rt::Clock;
+use std::sync::Wait;
+use std::sync::ledger::Ledger;
+use tg_share::{Gate, Open, Place, Shared, Worked};
+use tg_vault::Room;
+
+/// How long the collector's thread rests between two turns, in microseconds.
+pub(crate) const REST: u64 = 2_000;
+
+/// Its steps in a turn.
+const STEPS: u64 = 150;
+
+/// Its steps in a turn while nothing is left to be freed.
+const IDLE_STEPS: u64 = 50;
+
+/// Two cycles free all that was garbage before them, and take some eight steps for each slot.
+const STEPS_A_SLOT: u64 = 8;
+
+/// What the collector's thread knows of its last turns.
+#[derive(Clone, Copy, Debug, PartialEq, Eq)]
+pub(crate) struct Pace {
+    /// How much was free at the last look.
+    room: Room,
+    /// Whether this cycle freed a slot, or something was taken or given up since it began.
+    has_changed: bool,
+    /// How many whole cycles in a row freed nothing, while nothing was taken or given up.
+    quiet: u64,
+}
+
+impl Pace {
+    pub(crate) fn new(room: Room) -> Pace {
+        Pace {
+            room,
+            has_changed: true,
+            quiet: 0,
+        }
+    }
+
+    /// Notes how much room there is before a turn, and returns how many steps this has: few after two cycles in which
+    /// nothing was taken or given up, since what nobody can reach has no slot then.
+    pub(crate) fn steps(&mut self, room: Room) -> u64 {
+        if room != self.room {
+            self.has_changed = true;
+            self.quiet = 0;
+        }
+        self.room = room;
+        if self.quiet > 1 { IDLE_STEPS } else { STEPS }
+    }
+
+    /// Notes what a turn did.
+    pub(crate) fn learn(&mut self, worked: Worked) {
+        self.has_changed = self.has_changed || worked.freed > 0;
+        if worked.ended > 0 {
+            self.quiet = if self.has_changed {
+                0
+            } else {
+                self.quiet.saturating_add(1)
+            };
+            self.has_changed = false;
+        }
+    }
+}
+
+/// The steps that a session makes after it made a vertex: none while half of the slots and cells is free; below, the
+/// more, the less is free.
+pub(crate) fn owed(room: Room) -> u64 {
+    let slots = owed_of(room.free_slots, room.slots);
+    let cells = owed_of(room.free_cells, room.cells);
+    slots.max(cells)
+}
+
+fn owed_of(free: u64, all: u64) -> u64 {
+    if free >= all / 2 {
+        0
+    } else {
+        all.saturating_mul(STEPS_A_SLOT) / free.max(all / 8).max(1)
+    }
+}
+
+/// The gate of a server's sessions: whoever makes a vertex also makes the steps that are owed for it, with the lock
+/// free between any two.
+#[derive(Drop)]
+pub(crate) struct Paying<'a, L: Ledger> {
+    pub(crate) shared: &'a Shared<L>,
+}
+
+impl<'a, L: Ledger> Gate for Paying<'a, L> {
+    fn pause<R: Wait + Clock>(&self, _rt: &R, _place: Place) {}
+
+    fn after_create<R: Wait + Clock>(&self, rt: &R) {
+        let steps = owed(self.shared.room(rt));
+        let _ = self.shared.collector(rt, steps, &Open);
+    }
+}
