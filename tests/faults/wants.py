@@ -79,7 +79,7 @@ LISTED = {
     ("tg_tests/src/cases.rt", "text", "Text::new", "AllocError"): 1,
     ("tg_tests/src/cases.rt", "name", "Name::new", "AllocError"): 1,
     # The program of many sessions says what it found.
-    ("tg_load/src/run.rt", "verdict_of", "Settled::NoMemory", "Verdict::NoMemory"): 1,
+    ("tg_load/src/run.rt", "settled_close", "Settled::NoMemory", "Verdict::NoMemory"): 1,
     ("tg_load/src/run.rt", "close_of", "Closed::NoRoom", "Verdict::NoRoom"): 1,
     ("tg_load/src/run.rt", "run_next", "ran", "Found::NoMemory"): 1,
 }

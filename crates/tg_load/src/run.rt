@@ -29,38 +29,47 @@ struct Close {
     entries: u64,
 }
 
-fn verdict_of(settled: &Settled) -> Verdict {
-    match settled {
-        Settled::Agreed(_) => Verdict::Agreed,
-        Settled::Differs { seat, index, .. } => Verdict::Differs {
-            seat: *seat,
-            index: *index,
-        },
-        Settled::NoMemory { .. } => Verdict::NoMemory,
+/// The result once the logs were settled.
+fn settled_close(settled: Settled, counted: bool) -> Close {
+    let (verdict, entries) = match settled {
+        Settled::Agreed(vault) => (Verdict::Agreed, vault.count()),
+        Settled::Differs {
+            vault,
+            logs,
+            seat,
+            index,
+        } => {
+            let entries = vault.count();
+            drop(vault);
+            drop(logs);
+            (Verdict::Differs { seat, index }, entries)
+        }
+        Settled::NoMemory { vault, logs } => {
+            let entries = vault.count();
+            drop(vault);
+            drop(logs);
+            (Verdict::NoMemory, entries)
+        }
+    };
+    Close {
+        verdict,
+        counted,
+        entries,
     }
 }
 
-/// The number of entries of the history.
-fn entries_of(settled: &Settled) -> u64 {
-    match settled {
-        Settled::Agreed(vault) => vault.count(),
-        Settled::Differs { vault, .. } => vault.count(),
-        Settled::NoMemory { vault, .. } => vault.count(),
-    }
-}
-
-fn close_of<L: Ledger>(closed: &Closed<L>) -> Close {
+fn close_of<L: Ledger>(closed: Closed<L>) -> Close {
     match closed {
-        Closed::Done { settled, counted } => Close {
-            verdict: verdict_of(settled),
-            counted: *counted,
-            entries: entries_of(settled),
-        },
-        Closed::NoRoom { .. } => Close {
-            verdict: Verdict::NoRoom,
-            counted: false,
-            entries: 0,
-        },
+        Closed::Done { settled, counted } => settled_close(settled, counted),
+        Closed::NoRoom { shared, ended } => {
+            drop(shared);
+            drop(ended);
+            Close {
+                verdict: Verdict::NoRoom,
+                counted: false,
+                entries: 0,
+            }
+        }
     }
 }
 
@@ -114,7 +123,7 @@ fn run_one<L: Ledger + Send + Sync, R: Threads + Wait + Clock + Sync>(
     let start = now(rt);
     let closed = shared.close(ended);
     let settling = micros_since(rt, start);
-    let close = close_of(&closed);
+    let close = close_of(closed);
     let figures = Figures {
         acting: micros,
         submits: load.sessions.saturating_mul(load.commands),
