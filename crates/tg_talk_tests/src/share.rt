@@ -8,7 +8,7 @@ mod holds;
 mod races;
 mod rounds;
 
-use crate::sharing::{Tally, agreed, both, close, one, opened, play};
+use crate::sharing::{Pauses, Tally, agreed, both, close, one, opened, play};
 use std::alloc::{AllocError, Global};
 use std::marker::Brand;
 use std::rt::Clock;
@@ -54,6 +54,29 @@ fn a_session_alone(rt: HostRuntime) -> Result<(), AllocError> {
     Ok(())
 }
 
+/// How many slots and cells are free.
+fn free_of<L: Ledger, R: Wait + Clock>(
+    rt: &R,
+    alloc: Global,
+    blank: Blank,
+    vault: Vault,
+) -> (u64, u64)
+    requires { IsFresh L.name L.parts blank vault.history }
+{
+    let shared = Shared::<L>::new(alloc, blank, vault);
+    let room = shared.room(rt);
+    (room.free_slots, room.free_cells)
+}
+
+/// Of eight slots two principals take two, and of eight cells their edge takes one.
+#[test]
+fn a_shared_vault_tells_how_much_room_is_left(rt: HostRuntime) -> Result<(), AllocError> {
+    let vault = opened(&rt, rt.alloc(), &TAKING)?;
+    let found = free_of::<Brand, _>(&rt, rt.alloc(), Blank::new(PARTS), vault);
+    assert_eq!(rt; found, (6, 7));
+    Ok(())
+}
+
 pub const CREATED: Asked = (Ask::Document("r"), Want::Created(3));
 
 pub const REMOVED: Asked = (Ask::Remove("r", 3), Want::Done);
@@ -85,6 +108,8 @@ fn a_collector_frees_in_two_cycles(rt: HostRuntime) -> Result<(), AllocError> {
 struct Tour {
     opening: Opening,
     lines: &'static [Asked],
+    /// Where alice pauses.
+    asked: Pauses,
     /// How many steps the first call makes. The second makes one.
     steps: u64,
     /// How many times the first call pauses.
@@ -94,6 +119,12 @@ struct Tour {
 }
 
 const NOTHING: Worked = Worked { freed: 0, ended: 0 };
+
+const NO_PAUSE: Pauses = Pauses {
+    after_store: 0,
+    after_create: 0,
+    between_steps: 0,
+};
 
 const A_CYCLE: Worked = Worked { freed: 0, ended: 1 };
 
@@ -112,6 +143,7 @@ const TOURS: &[Tour] = &[
     Tour {
         opening: ONE_MORE,
         lines: &[],
+        asked: NO_PAUSE,
         steps: 5,
         pauses: 4,
         worked: NOTHING,
@@ -121,6 +153,7 @@ const TOURS: &[Tour] = &[
     Tour {
         opening: ONE_MORE,
         lines: &[],
+        asked: NO_PAUSE,
         steps: 9,
         pauses: 8,
         worked: NOTHING,
@@ -130,6 +163,11 @@ const TOURS: &[Tour] = &[
     Tour {
         opening: ONE_MORE,
         lines: &[CREATED, REMOVED],
+        asked: Pauses {
+            after_store: 2,
+            after_create: 1,
+            ..NO_PAUSE
+        },
         steps: 11,
         pauses: 10,
         worked: NOTHING,
@@ -140,6 +178,11 @@ const TOURS: &[Tour] = &[
     Tour {
         opening: TWO,
         lines: THREE,
+        asked: Pauses {
+            after_store: 6,
+            after_create: 3,
+            ..NO_PAUSE
+        },
         steps: 5000,
         pauses: 4999,
         worked: Worked {
@@ -150,8 +193,8 @@ const TOURS: &[Tour] = &[
     },
 ];
 
-/// Whether the collector's calls do what they should, alice pauses once for each line, after its store, and the
-/// collector as many times as the tour says, between its steps.
+/// Whether the collector's calls do what they should, alice pauses once for each line, after its store, and is told of
+/// her creates, and the collector pauses as many times as the tour says, between its steps.
 fn is_as_counted<L: Ledger, R: Wait + Clock>(
     rt: &R,
     alloc: Global,
@@ -168,8 +211,12 @@ fn is_as_counted<L: Ledger, R: Wait + Clock>(
     let last = shared.collector(rt, 1, &collected);
     alice.is_some()
         && (worked, last) == (tour.worked, tour.last)
-        && asked.pauses() == (tour.lines.len() as u64, 0)
-        && collected.pauses() == (0, tour.pauses)
+        && asked.pauses() == tour.asked
+        && collected.pauses()
+            == Pauses {
+                between_steps: tour.pauses,
+                ..NO_PAUSE
+            }
 }
 
 /// Only the collector's own calls make steps of it, and they make as many as they should.

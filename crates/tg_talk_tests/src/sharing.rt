@@ -18,15 +18,18 @@ use tg_share::{Closed, Ended, Gate, PARTS, Place, Session, Shared, Worked};
 use tg_tests::cases::{Ask, Asked, Opening, Want, command, config, is_reply};
 use tg_vault::{AskFault, Vault};
 
+/// The fault for which a configuration without faults may not be opened.
+fn no_memory(rt: &impl Abort, fault: OpenFault) -> AllocError {
+    assert!(rt; fault == OpenFault::OutOfMemory);
+    AllocError
+}
+
 /// The vault of this configuration.
 pub fn opened(rt: &impl Abort, alloc: Global, opening: &Opening) -> Result<Vault, AllocError>
     ensures { IfOk result (λ vault. vault.history ≡ []) }
 {
-    match Vault::new(alloc, config(alloc, opening)?) {
-        Ok(vault) => Ok(vault),
-        Err(OpenFault::OutOfMemory) => Err(AllocError),
-        Err(_) => panic!(rt; "refused"),
-    }
+    let config = config(alloc, opening)?;
+    Vault::new(alloc, config).map_err(|fault| no_memory(rt, fault))
 }
 
 const TURNS: u32 = 1_000_000;
@@ -128,25 +131,37 @@ impl Gate for Counts<'_> {
     }
 }
 
-/// Counts the pauses at each place.
+/// Counts the pauses at each place, and the creates.
 #[derive(Drop)]
 pub struct Tally {
     after_store: AtomicU64,
+    after_create: AtomicU64,
     between_steps: AtomicU64,
+}
+
+/// How many pauses there were at each place, and how many creates.
+#[derive(Clone, Copy, PartialEq, Eq, Debug)]
+pub struct Pauses {
+    pub after_store: u64,
+    pub after_create: u64,
+    pub between_steps: u64,
 }
 
 impl Tally {
     pub fn new() -> Tally {
         Tally {
             after_store: AtomicU64::new(0),
+            after_create: AtomicU64::new(0),
             between_steps: AtomicU64::new(0),
         }
     }
 
-    /// How many pauses there were after a store, and how many between steps.
-    pub fn pauses(&self) -> (u64, u64) {
-        let after_store = self.after_store.load(Ordering::SeqCst);
-        (after_store, self.between_steps.load(Ordering::SeqCst))
+    pub fn pauses(&self) -> Pauses {
+        Pauses {
+            after_store: self.after_store.load(Ordering::SeqCst),
+            after_create: self.after_create.load(Ordering::SeqCst),
+            between_steps: self.between_steps.load(Ordering::SeqCst),
+        }
     }
 }
 
@@ -156,6 +171,10 @@ impl Gate for Tally {
             Place::AfterStore => self.after_store.fetch_add(1, Ordering::SeqCst),
             Place::BetweenSteps => self.between_steps.fetch_add(1, Ordering::SeqCst),
         };
+    }
+
+    fn after_create<R: Wait + Clock>(&self, _rt: &R) {
+        self.after_create.fetch_add(1, Ordering::SeqCst);
     }
 }
 
@@ -208,11 +227,7 @@ pub fn play<L: Ledger, R: Wait + Clock, G: Gate>(
     };
     let told = are_told(rt, alloc, &mut session, lines, gate);
     let ended = session.end(rt);
-    if matches!(told, Ok(true)) {
-        Some(ended)
-    } else {
-        None
-    }
+    matches!(told, Ok(true)).then_some(ended)
 }
 
 /// What the threads of a case share.
@@ -300,25 +315,20 @@ pub fn closed<L: Ledger>(shared: Shared<L>, ended: Vec<Ended<L>>) -> Closed<L>
     }
 }
 
-/// The vault, if the logs agree.
-fn vault_in(settled: &Settled) -> Option<&Vault> {
+/// The vault itself, if the logs agree.
+pub fn agreed_vault(settled: Settled) -> Option<Vault> {
     match settled {
         Settled::Agreed(vault) => Some(vault),
-        Settled::Differs { .. } => None,
-        Settled::NoMemory { .. } => None,
-    }
-}
-
-/// How many entries there are, if the logs agree.
-pub fn count_in(settled: &Settled) -> Option<u64> {
-    Some(vault_in(settled)?.count())
-}
-
-/// The vault, if the logs agree and all sessions were counted.
-fn vault_after<L: Ledger>(closed: &Closed<L>) -> Option<&Vault> {
-    match closed {
-        Closed::Done { settled, counted } => { if *counted { vault_in(settled) } else { None } }
-        Closed::NoRoom { .. } => None,
+        Settled::Differs { vault, logs, .. } => {
+            drop(vault);
+            drop(logs);
+            None
+        }
+        Settled::NoMemory { vault, logs } => {
+            drop(vault);
+            drop(logs);
+            None
+        }
     }
 }
 
@@ -334,18 +344,6 @@ fn is_opening(vault: &Vault) -> bool {
         && graph.rights(2, 1).is_empty()
 }
 
-/// Where the logs differ from the history, if they do, and whether all sessions were counted.
-fn found_in<L: Ledger>(closed: &Closed<L>) -> Option<(Option<(u64, u64)>, bool)> {
-    match closed {
-        Closed::Done { settled, counted } => match settled {
-            Settled::Agreed(_) => Some((None, *counted)),
-            Settled::Differs { seat, index, .. } => Some((Some((*seat, *index)), *counted)),
-            Settled::NoMemory { .. } => None,
-        },
-        Closed::NoRoom { .. } => None,
-    }
-}
-
 /// What is seen of the result of `Shared::close`.
 #[derive(Clone, Copy)]
 pub struct Seen {
@@ -356,26 +354,57 @@ pub struct Seen {
     pub found: Option<(Option<(u64, u64)>, bool)>,
 }
 
-/// How many entries there are, and whether the opening graph is as it was, if the logs agree and all sessions were
-/// counted.
-fn count_and_opening<L: Ledger>(closed: &Closed<L>) -> Option<(u64, bool)> {
-    let vault = vault_after(closed)?;
-    Some((vault.count(), is_opening(vault)))
-}
+const NOTHING_SEEN: Seen = Seen {
+    agreed: None,
+    found: None,
+};
 
-fn look_at<L: Ledger>(closed: &Closed<L>) -> Seen {
+/// What is seen of a vault whose logs agree.
+fn look_at(vault: &Vault, counted: bool) -> Seen {
+    let seen = (vault.count(), is_opening(vault));
     Seen {
-        agreed: count_and_opening(closed),
-        found: found_in(closed),
+        agreed: counted.then_some(seen),
+        found: Some((None, counted)),
     }
 }
 
-/// Closes. But for `reclaim` of share/rounds.rt, no other function drops a `Closed`, as the drop costs most of the proof.
+/// What is seen once the logs were settled.
+fn seen_in(settled: Settled, counted: bool) -> Seen {
+    match settled {
+        Settled::Agreed(vault) => look_at(&vault, counted),
+        Settled::Differs {
+            vault,
+            logs,
+            seat,
+            index,
+        } => {
+            drop(vault);
+            drop(logs);
+            Seen {
+                agreed: None,
+                found: Some((Some((seat, index)), counted)),
+            }
+        }
+        Settled::NoMemory { vault, logs } => {
+            drop(vault);
+            drop(logs);
+            NOTHING_SEEN
+        }
+    }
+}
+
+/// Closes, and looks at the result, whose parts are dropped one by one: a drop of the whole takes most of the proof.
 pub fn close<L: Ledger>(shared: Shared<L>, ended: Vec<Ended<L>>) -> Seen
     requires { L.parts ≡ PARTS }
 {
-    let closed = closed(shared, ended);
-    look_at(&closed)
+    match closed(shared, ended) {
+        Closed::Done { settled, counted } => seen_in(settled, counted),
+        Closed::NoRoom { shared, ended } => {
+            drop(shared);
+            drop(ended);
+            NOTHING_SEEN
+        }
+    }
 }
 
 /// How many entries there are, if there are ends to close with, the logs agree and all sessions were counted.

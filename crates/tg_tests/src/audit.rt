@@ -4,7 +4,7 @@ use crate::graph;
 use std::alloc::{AllocError, Global};
 use std::process::Abort;
 use tg_audit::check;
-use tg_graph::{Goal, Step, Verdict};
+use tg_graph::{Goal, Graph, Step, Verdict};
 use tg_rights::{Cause, Rule};
 
 /// The verdict on a derivation.
@@ -204,14 +204,16 @@ pub fn is_verdict(found: Verdict, finding: Finding) -> bool {
     found == verdict(finding)
 }
 
+fn step(alloc: Global, actor: u64, ask: Ask) -> Result<Step, AllocError> {
+    let command = command(alloc, ask)?;
+    Ok(Step { actor, command })
+}
+
 /// The derivation's steps.
 pub fn steps_of(alloc: Global, derivation: &Derivation) -> Result<Vec<Step>, AllocError> {
     let mut steps = Vec::new(alloc);
     for (actor, ask) in derivation.steps {
-        steps.push(Step {
-            actor: *actor,
-            command: command(alloc, *ask)?,
-        })?;
+        steps.push(step(alloc, *actor, *ask)?)?;
     }
     Ok(steps)
 }
@@ -225,6 +227,16 @@ pub fn goal_of(derivation: &Derivation) -> Goal {
     }
 }
 
+/// The verdict on the derivation's steps from this graph.
+fn verdict_from(
+    alloc: Global,
+    graph: Graph,
+    derivation: &Derivation,
+) -> Result<Verdict, AllocError> {
+    let steps = steps_of(alloc, derivation)?;
+    check(alloc, graph, &steps, goal_of(derivation))
+}
+
 /// Whether the derivation has the verdict that was worked out.
 pub fn is_found(
     rt: &impl Abort,
@@ -232,8 +244,7 @@ pub fn is_found(
     derivation: &Derivation,
 ) -> Result<bool, AllocError> {
     let graph = graph::opened(rt, alloc, &derivation.opening)?;
-    let steps = steps_of(alloc, derivation)?;
-    let found = check(alloc, graph, &steps, goal_of(derivation))?;
+    let found = verdict_from(alloc, graph, derivation)?;
     Ok(is_verdict(found, derivation.finding))
 }
 

@@ -2,14 +2,15 @@
 //! turn.
 use crate::audit::{Derivation, Finding, goal_of, is_found, is_verdict, steps_of};
 use crate::audit_logs::{
-    ENTRIES, SETTLEMENTS, Settlement, are_replies, is_settled, logs_of, opened, vault_of,
+    ENTRIES, SETTLEMENTS, Settlement, are_settled, is_replayed, logs_of, opened,
+    vault_as_worked_out,
 };
 use crate::cases::{Ask, Opening, TWO};
 use crate::graph;
 use std::alloc::{AllocError, Global};
 use std::io::Print;
 use std::process::Abort;
-use tg_audit::{SeatLog, Settled, check, replay, settle};
+use tg_audit::{SeatLog, Settled, check, settle};
 use tg_vault::Vault;
 
 /// Whether the derivation has the verdict that was worked out. If memory runs out the graph is used up, and is made
@@ -49,20 +50,38 @@ fn growth_refused_in_a_check(rt: HostRuntime) -> Result<(), AllocError> {
     Ok(())
 }
 
+/// Whether the history is replayed with the replies to its entries, again if memory runs out.
+fn is_replayed_again(
+    rt: &(impl Abort + Print),
+    alloc: Global,
+    vault: &Vault,
+) -> Result<bool, AllocError> {
+    match is_replayed(alloc, vault, ENTRIES) {
+        Ok(replayed) => Ok(replayed),
+        Err(_) => {
+            let _ = rt.println("no memory");
+            assert!(rt; vault.count() == 4);
+            is_replayed(alloc, vault, ENTRIES)
+        }
+    }
+}
+
+/// The history is replayed in that way.
+fn replays_again(
+    rt: &(impl Abort + Print),
+    alloc: Global,
+    vault: &Vault,
+) -> Result<(), AllocError> {
+    let replayed = is_replayed_again(rt, alloc, vault)?;
+    assert!(rt; replayed);
+    Ok(())
+}
+
 /// A replay that lacks memory leaves the history.
 #[test]
 fn growth_refused_in_a_replay(rt: HostRuntime) -> Result<(), AllocError> {
     let vault = opened(&rt, rt.alloc())?;
-    let replies = match replay(rt.alloc(), &vault) {
-        Ok(replies) => replies,
-        Err(_) => {
-            let _ = rt.println("no memory");
-            assert!(rt; vault.count() == 4);
-            replay(rt.alloc(), &vault)?
-        }
-    };
-    assert!(rt; are_replies(&replies, ENTRIES));
-    Ok(())
+    replays_again(&rt, rt.alloc(), &vault)
 }
 
 /// Whether these logs have the seats and the lengths of the settlement's.
@@ -72,7 +91,34 @@ fn are_handed_back(logs: &[SeatLog], settlement: &Settlement) -> bool {
             && log.exchanges.len() == given.2.len())
 }
 
-/// Settles the logs, and returns the vault. If memory runs out, vault and logs are returned, and settled again.
+/// Settles what a settlement without memory handed back.
+fn settled_later(
+    rt: &(impl Abort + Print),
+    alloc: Global,
+    vault: Vault,
+    logs: Vec<SeatLog>,
+    settlement: &Settlement,
+) -> Settled {
+    let _ = rt.println("no memory");
+    assert!(rt; vault.count() == 4 && are_handed_back(&logs, settlement));
+    settle(alloc, vault, logs)
+}
+
+/// Settles the logs. If memory runs out, vault and logs are returned, and settled again.
+fn settled_again(
+    rt: &(impl Abort + Print),
+    alloc: Global,
+    vault: Vault,
+    logs: Vec<SeatLog>,
+    settlement: &Settlement,
+) -> Settled {
+    match settle(alloc, vault, logs) {
+        Settled::NoMemory { vault, logs } => settled_later(rt, alloc, vault, logs, settlement),
+        settled => settled,
+    }
+}
+
+/// The vault, with whose history the settlement's logs are settled as worked out.
 fn settles_again(
     rt: &(impl Abort + Print),
     alloc: Global,
@@ -80,25 +126,31 @@ fn settles_again(
     settlement: &Settlement,
 ) -> Result<Vault, AllocError> {
     let logs = logs_of(rt, alloc, settlement)?;
-    let settled = match settle(alloc, vault, logs) {
-        Settled::NoMemory { vault, logs } => {
-            let _ = rt.println("no memory");
-            assert!(rt; vault.count() == 4);
-            assert!(rt; are_handed_back(&logs, settlement));
-            settle(alloc, vault, logs)
-        }
-        settled => settled,
-    };
-    assert!(rt; is_settled(&settled, settlement));
-    vault_of(settled)
+    let settled = settled_again(rt, alloc, vault, logs, settlement);
+    vault_as_worked_out(rt, settled, settlement)
+}
+
+/// The same for a vault that an earlier settlement returned, if there was memory.
+fn settles_another_again(
+    rt: &(impl Abort + Print),
+    alloc: Global,
+    settled: Result<Vault, AllocError>,
+    settlement: &Settlement,
+) -> Result<Vault, AllocError> {
+    settles_again(rt, alloc, settled?, settlement)
+}
+
+/// The settlements' logs are settled, one after another, as worked out.
+fn settles_all_again(rt: &(impl Abort + Print), alloc: Global) -> Result<(), AllocError> {
+    let mut settled = opened(rt, alloc);
+    for settlement in SETTLEMENTS {
+        settled = settles_another_again(rt, alloc, settled, settlement);
+    }
+    are_settled(settled)
 }
 
 /// A settlement that lacks memory leaves the vault and the logs.
 #[test]
 fn growth_refused_in_a_settlement(rt: HostRuntime) -> Result<(), AllocError> {
-    let mut vault = opened(&rt, rt.alloc())?;
-    for settlement in SETTLEMENTS {
-        vault = settles_again(&rt, rt.alloc(), vault, settlement)?;
-    }
-    Ok(())
+    settles_all_again(&rt, rt.alloc())
 }

@@ -128,6 +128,12 @@ pub fn are_replies(found: &[Reply], asked: &[Asked]) -> bool {
         ))
 }
 
+/// Whether the vault's history is replayed with these replies to what was asked.
+pub fn is_replayed(alloc: Global, vault: &Vault, asked: &[Asked]) -> Result<bool, AllocError> {
+    let replies = replay(alloc, vault)?;
+    Ok(are_replies(&replies, asked))
+}
+
 /// The cause that is wanted, of those that the tables name.
 fn cause(rt: &impl Abort, want: Want) -> Cause {
     match want {
@@ -178,7 +184,7 @@ pub fn logs_of(
 }
 
 /// Whether it was settled as worked out, if there was memory.
-pub fn is_settled(settled: &Settled, settlement: &Settlement) -> bool {
+fn is_settled(settled: &Settled, settlement: &Settlement) -> bool {
     match settled {
         Settled::Agreed(_) => settlement.place.is_none(),
         Settled::Differs {
@@ -192,7 +198,7 @@ pub fn is_settled(settled: &Settled, settlement: &Settlement) -> bool {
 }
 
 /// The vault, if there was memory to settle it.
-pub fn vault_of(settled: Settled) -> Result<Vault, AllocError> {
+fn vault_of(settled: Settled) -> Result<Vault, AllocError> {
     match settled {
         Settled::Agreed(vault) => Ok(vault),
         Settled::Differs { vault, .. } => Ok(vault),
@@ -200,17 +206,41 @@ pub fn vault_of(settled: Settled) -> Result<Vault, AllocError> {
     }
 }
 
-/// The vault, with whose history the logs are settled as worked out.
+/// The vault, which was settled as worked out.
+pub fn vault_as_worked_out(
+    rt: &impl Abort,
+    settled: Settled,
+    settlement: &Settlement,
+) -> Result<Vault, AllocError> {
+    assert!(rt; is_settled(&settled, settlement));
+    vault_of(settled)
+}
+
+/// The vault, with whose history the settlement's logs are settled as worked out.
 fn after(
     rt: &impl Abort,
     alloc: Global,
     vault: Vault,
-    logs: Vec<SeatLog>,
     settlement: &Settlement,
 ) -> Result<Vault, AllocError> {
-    let settled = settle(alloc, vault, logs);
-    assert!(rt; is_settled(&settled, settlement));
-    vault_of(settled)
+    let logs = logs_of(rt, alloc, settlement)?;
+    vault_as_worked_out(rt, settle(alloc, vault, logs), settlement)
+}
+
+/// The same for a vault that an earlier settlement returned, if there was memory.
+fn after_another(
+    rt: &impl Abort,
+    alloc: Global,
+    settled: Result<Vault, AllocError>,
+    settlement: &Settlement,
+) -> Result<Vault, AllocError> {
+    after(rt, alloc, settled?, settlement)
+}
+
+/// All was settled, if there was memory.
+pub fn are_settled(settled: Result<Vault, AllocError>) -> Result<(), AllocError> {
+    settled?;
+    Ok(())
 }
 
 /// The logs are settled with the vault's history as worked out, one after another.
@@ -220,12 +250,11 @@ fn settles(
     opened: Vault,
     settlements: &[Settlement],
 ) -> Result<(), AllocError> {
-    let mut vault = opened;
+    let mut settled = Ok(opened);
     for settlement in settlements {
-        let logs = logs_of(rt, alloc, settlement)?;
-        vault = after(rt, alloc, vault, logs, settlement)?;
+        settled = after_another(rt, alloc, settled, settlement);
     }
-    Ok(())
+    are_settled(settled)
 }
 
 /// Alice enrols carol, who retires and asks on.
@@ -376,18 +405,34 @@ const HISTORIES: &[History] = &[
     },
 ];
 
+/// The vault's history is replayed with these replies to what was asked.
+fn replays(
+    rt: &impl Abort,
+    alloc: Global,
+    vault: &Vault,
+    asked: &[Asked],
+) -> Result<(), AllocError> {
+    let replayed = is_replayed(alloc, vault, asked)?;
+    assert!(rt; replayed);
+    Ok(())
+}
+
 /// The history is replayed, and its logs are settled, as worked out.
 fn is_told(rt: &impl Abort, alloc: Global, history: &History) -> Result<(), AllocError> {
     let vault = played(rt, alloc, &history.case)?;
-    let replies = replay(alloc, &vault)?;
-    assert!(rt; are_replies(&replies, history.entries));
+    replays(rt, alloc, &vault, history.entries)?;
     settles(rt, alloc, vault, history.settlements)
+}
+
+/// Each history is.
+fn are_told(rt: &impl Abort, alloc: Global) -> Result<(), AllocError> {
+    for history in HISTORIES {
+        is_told(rt, alloc, history)?;
+    }
+    Ok(())
 }
 
 #[test]
 fn logs_are_settled_as_worked_out(rt: HostRuntime) -> Result<(), AllocError> {
-    for history in HISTORIES {
-        is_told(&rt, rt.alloc(), history)?;
-    }
-    Ok(())
+    are_told(&rt, rt.alloc())
 }

@@ -172,7 +172,7 @@ pub fn rule_of(ask: Ask) -> Rule {
 }
 
 /// A text of these bytes, which have to be few enough.
-fn text(alloc: Global, content: &str) -> Result<Text, AllocError> {
+pub fn text(alloc: Global, content: &str) -> Result<Text, AllocError> {
     Text::new(String::from_str(alloc, content)?).map_err(|_| AllocError)
 }
 

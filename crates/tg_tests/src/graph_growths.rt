@@ -106,34 +106,34 @@ fn growth_refused_in_a_create(rt: HostRuntime) -> Result<(), AllocError> {
     Ok(())
 }
 
+/// Whether carol is a principal, and bob has retired.
+fn has_carol_for_bob(graph: &Graph) -> bool {
+    graph.named("carol") == Some(3)
+        && graph.named("bob").is_none()
+        && graph.retired(2)
+        && !graph.retired(3)
+}
+
+/// Bob enrols carol, who is then a principal, and retires.
+fn enrols_and_retires(
+    rt: &(impl Abort + Print),
+    alloc: Global,
+    graph: &mut Graph,
+) -> Result<(), AllocError> {
+    let enrol = Ask::Enrol("carol", "t");
+    let before: &[Edge] = &[(2, "", 3)];
+    asks_again(rt, alloc, graph, 2, enrol, Want::Created(3), before)?;
+    let between: &[Edge] = &[(2, "t", 3)];
+    asks_again(rt, alloc, graph, 2, Ask::Retire, Want::Done, between)?;
+    assert!(rt; has_carol_for_bob(graph));
+    Ok(())
+}
+
 /// An enrol and a retire that lack memory leave who is a principal, and are then carried out.
 #[test]
 fn growth_refused_in_an_enrol_and_a_retire(rt: HostRuntime) -> Result<(), AllocError> {
     let mut graph = opened(&rt, rt.alloc(), &TWO)?;
-    let enrol = Ask::Enrol("carol", "t");
-    let labels: &[Edge] = &[(2, "", 3)];
-    asks_again(
-        &rt,
-        rt.alloc(),
-        &mut graph,
-        2,
-        enrol,
-        Want::Created(3),
-        labels,
-    )?;
-    let labels: &[Edge] = &[(2, "t", 3)];
-    asks_again(
-        &rt,
-        rt.alloc(),
-        &mut graph,
-        2,
-        Ask::Retire,
-        Want::Done,
-        labels,
-    )?;
-    assert!(rt; graph.named("carol") == Some(3) && graph.named("bob").is_none());
-    assert!(rt; graph.retired(2) && !graph.retired(3));
-    Ok(())
+    enrols_and_retires(&rt, rt.alloc(), &mut graph)
 }
 
 /// A graph with 15 edges, alice's and those to 14 documents that bob has made: with one edge more the labels no longer
@@ -244,12 +244,31 @@ fn copied(rt: &impl Print, graph: &Graph) -> Result<Graph, AllocError> {
     }
 }
 
+/// The graph is copied, and the copy changes.
+fn copy_changes(rt: &(impl Abort + Print), alloc: Global, graph: &Graph) -> Result<(), AllocError> {
+    let mut copy = copied(rt, graph)?;
+    plays(rt, alloc, &mut copy, ON_A_COPY)
+}
+
+/// Whether alice has one document.
+fn has_one_document(graph: &Graph) -> bool {
+    graph.kind(4).is_none() && has_labels(graph, &[(1, "r", 3)])
+}
+
+/// The graph stays as it was, and its copy changes.
+fn stays_as_its_copy_changes(
+    rt: &(impl Abort + Print),
+    alloc: Global,
+    graph: &Graph,
+) -> Result<(), AllocError> {
+    copy_changes(rt, alloc, graph)?;
+    assert!(rt; has_one_document(graph));
+    Ok(())
+}
+
 /// A copy that lacks memory leaves the graph, which is then copied, and stays as it was when the copy changes.
 #[test]
 fn growth_refused_in_a_copy_of_a_graph(rt: HostRuntime) -> Result<(), AllocError> {
     let graph = played(&rt, rt.alloc(), &CREATED)?;
-    let mut copy = copied(&rt, &graph)?;
-    plays(&rt, rt.alloc(), &mut copy, ON_A_COPY)?;
-    assert!(rt; graph.kind(4).is_none() && has_labels(&graph, &[(1, "r", 3)]));
-    Ok(())
+    stays_as_its_copy_changes(&rt, rt.alloc(), &graph)
 }

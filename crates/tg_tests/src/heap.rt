@@ -3,7 +3,7 @@ ghost use Rattle.std.specs.Prelude.{◌≡◌, ◌≢◌, ◌<◌};
 ghost use Rattle.tg_slots.specs.Table.{Has, Free};
 ghost use Rattle.tg_heap.specs.Graph.{mark_at};
 
-use crate::cases::rights_of;
+use crate::cases::{rights_of, text};
 use std::alloc::{AllocError, Global};
 use std::process::Abort;
 use tg_heap::{Dropped, Heap, HeapFull};
@@ -243,7 +243,8 @@ fn clear(rt: &impl Abort, heap: &mut Heap, id: u32) {
 /// Puts this many documents into the slots from the first on.
 fn fill(rt: &impl Abort, alloc: Global, heap: &mut Heap, count: u32) {
     for id in 0..count {
-        assert!(rt; put(rt, alloc, heap, u64::from(id) * 10 + 10) == id);
+        let serial = u64::from(id) * 10 + 10;
+        assert!(rt; put(rt, alloc, heap, serial) == id);
     }
 }
 
@@ -288,6 +289,11 @@ fn has_edges(rt: &impl Abort, heap: &Heap, id: u32, wanted: &[(u32, u64, &str)])
     assert!(rt; next.is_none());
 }
 
+/// So many slots and cells are free.
+fn has_free(rt: &impl Abort, heap: &Heap, slots: u32, cells: u32) {
+    assert!(rt; heap.free_slots() == slots && heap.free_cells() == cells);
+}
+
 /// Carries out one line of a script.
 fn play(rt: &impl Abort, alloc: Global, heap: &mut Heap, act: Act) {
     match act {
@@ -309,9 +315,7 @@ fn play(rt: &impl Abort, alloc: Global, heap: &mut Heap, act: Act) {
         }
         White(id) => has_colour(rt, heap, id, Colour::White),
         Clear(id) => clear(rt, heap, id),
-        Free(slots, cells) => {
-            assert!(rt; heap.free_slots() == slots && heap.free_cells() == cells);
-        }
+        Free(slots, cells) => has_free(rt, heap, slots, cells),
         Edges(id, wanted) => has_edges(rt, heap, id, wanted),
         NoEdge(id, serial) => {
             assert!(rt; id < heap.len());
@@ -344,47 +348,68 @@ fn each_script_runs_as_worked_out(rt: HostRuntime) -> Result<(), AllocError> {
     Ok(())
 }
 
+/// Whether there is a text, of these bytes.
+fn is_text(text: Option<&Text>, content: &str) -> bool {
+    match text {
+        Some(text) => reads(text, content),
+        None => false,
+    }
+}
+
 /// The slot has a black subject of this serial and text.
 fn has_subject(rt: &impl Abort, heap: &Heap, id: u32, serial: u64, content: &str) {
     assert!(rt; id < heap.len());
     assert!(rt; heap.serial(id) == Some(serial));
     assert!(rt; heap.kind(id) == Some(Kind::Subject));
     assert!(rt; heap.colour(id) == Some(Colour::Black));
-    match heap.text(id) {
-        Some(text) => assert!(rt; reads(text, content)),
-        None => panic!(rt; "slot {id} has no text"),
-    }
+    assert!(rt; is_text(heap.text(id), content));
+}
+
+/// The one slot gets a black subject of this serial and text.
+fn puts_subject(rt: &impl Abort, heap: &mut Heap, serial: u64, text: Text, content: &str) {
+    let added = heap.add_vertex(serial, Kind::Subject, Colour::Black, text);
+    assert!(rt; added.is_ok());
+    assert!(rt; heap.len() == 1);
+    has_subject(rt, heap, 0, serial, content);
+}
+
+/// The vertex in a slot loses its text, which was this one.
+fn loses_text(rt: &impl Abort, alloc: Global, heap: &mut Heap, id: u32, content: &str) {
+    is_taken(rt, heap, id);
+    assert!(rt; reads(&heap.set_text(id, Text::empty(alloc)), content));
 }
 
 #[test]
 fn a_vertex_is_read_as_it_was_put_in(rt: HostRuntime) -> Result<(), AllocError> {
-    let Ok(text) = Text::new(String::from_str(rt.alloc(), "hi")?) else {
-        panic!(rt; "refused")
-    };
+    let text = text(rt.alloc(), "hi")?;
     let mut heap = Heap::new(rt.alloc(), 1, 1)?;
-    assert!(rt;
-        heap.add_vertex(7, Kind::Subject, Colour::Black, text)
-            .is_ok()
-    );
-    assert!(rt; heap.len() == 1);
-    has_subject(&rt, &heap, 0, 7, "hi");
-    is_taken(&rt, &heap, 0);
-    assert!(rt; reads(&heap.set_text(0, Text::empty(rt.alloc())), "hi"));
+    puts_subject(&rt, &mut heap, 7, text, "hi");
+    loses_text(&rt, rt.alloc(), &mut heap, 0, "hi");
     Ok(())
+}
+
+/// Frees this many slots.
+fn clear_all(rt: &impl Abort, heap: &mut Heap, count: u32) {
+    for id in 0..count {
+        clear(rt, heap, id);
+    }
+}
+
+/// All slots are filled and freed, with an edge between the last and the first.
+fn is_filled_and_freed(rt: &impl Abort, alloc: Global, heap: &mut Heap) {
+    for id in 0..65_536 {
+        assert!(rt; put(rt, alloc, heap, 10) == id);
+    }
+    assert!(rt; add(rt, heap, 65_535, 0, Rights::grant()).is_ok());
+    has_free(rt, heap, 0, 1_048_575);
+    clear_all(rt, heap, 65_536);
 }
 
 #[test]
 fn as_many_slots_and_cells_as_there_may_be(rt: HostRuntime) -> Result<(), AllocError> {
     let mut heap = Heap::new(rt.alloc(), 65_536, 1_048_576)?;
-    for id in 0..65_536 {
-        assert!(rt; put(&rt, rt.alloc(), &mut heap, 10) == id);
-    }
-    assert!(rt; add(&rt, &mut heap, 65_535, 0, Rights::grant()).is_ok());
-    assert!(rt; heap.free_slots() == 0 && heap.free_cells() == 1_048_575);
-    for id in 0..65_536 {
-        clear(&rt, &mut heap, id);
-    }
-    assert!(rt; heap.free_slots() == 65_536 && heap.free_cells() == 1_048_576);
+    is_filled_and_freed(&rt, rt.alloc(), &mut heap);
+    has_free(&rt, &heap, 65_536, 1_048_576);
     Ok(())
 }
 
@@ -401,17 +426,21 @@ const FILLED: &[Act] = &[
     Free(0, 4),
 ];
 
-/// A heap that lacks memory is made again, with all of it free: tests/faults/growths.py makes each allocation fail in
-/// turn.
-#[test]
-fn growth_refused_in_a_new_heap(rt: HostRuntime) -> Result<(), AllocError> {
-    let mut heap = match Heap::new(rt.alloc(), 3, 4) {
-        Ok(heap) => heap,
+/// A heap, made again if memory runs out: tests/faults/growths.py makes each allocation fail in turn.
+fn made_again(rt: &impl Print, alloc: Global) -> Result<Heap, AllocError> {
+    match Heap::new(alloc, 3, 4) {
+        Ok(heap) => Ok(heap),
         Err(_) => {
             let _ = rt.println("no memory");
-            Heap::new(rt.alloc(), 3, 4)?
+            Heap::new(alloc, 3, 4)
         }
-    };
+    }
+}
+
+/// A heap that lacks memory is made again, with all of it free.
+#[test]
+fn growth_refused_in_a_new_heap(rt: HostRuntime) -> Result<(), AllocError> {
+    let mut heap = made_again(&rt, rt.alloc())?;
     play_all(&rt, rt.alloc(), &mut heap, FILLED);
     Ok(())
 }

@@ -231,18 +231,20 @@ fn has_nothing(rt: &impl Abort, slots: &Slots, id: u32) {
     assert!(rt; slots.text(id).is_none());
 }
 
+/// The first of two slots gets a black subject of this serial and text.
+fn puts_subject(rt: &impl Abort, slots: &mut Slots, serial: u64, text: Text, content: &str) {
+    slots.soundness();
+    let taken = slots.take_free(serial, Kind::Subject, Colour::Black, text);
+    assert!(rt; taken.is_ok());
+    assert!(rt; slots.len() == 2);
+    has_subject(rt, slots, 0, serial, content);
+}
+
 #[test]
 fn a_vertex_is_read_as_it_was_put_in(rt: HostRuntime) -> Result<(), AllocError> {
     let text = text(&rt, rt.alloc(), "first")?;
     let mut slots = Slots::new(rt.alloc(), 2)?;
-    slots.soundness();
-    assert!(rt;
-        slots
-            .take_free(7, Kind::Subject, Colour::Black, text)
-            .is_ok()
-    );
-    assert!(rt; slots.len() == 2);
-    has_subject(&rt, &slots, 0, 7, "first");
+    puts_subject(&rt, &mut slots, 7, text, "first");
     has_nothing(&rt, &slots, 1);
     Ok(())
 }

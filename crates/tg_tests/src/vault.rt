@@ -116,8 +116,8 @@ pub fn answers(alloc: Global, vault: &mut Vault, line: Line) -> Result<bool, All
     })
 }
 
-/// The fault for which a configuration without faults may have no vault.
-fn no_memory(rt: &impl Abort, fault: OpenFault) -> AllocError {
+/// The fault for which a configuration without faults may not be opened.
+pub fn no_memory(rt: &impl Abort, fault: OpenFault) -> AllocError {
     assert!(rt; fault == OpenFault::OutOfMemory);
     AllocError
 }
@@ -299,6 +299,15 @@ const DOCUMENT: Case = Case {
     opening: TWO,
     lines: &[ALICE, Line::Make(0, "rw", 3)],
 };
+
+/// Two principals and the document take slots, and the edge a cell.
+#[test]
+fn a_vault_tells_how_much_room_is_left(rt: HostRuntime) -> Result<(), AllocError> {
+    let room = played(&rt, rt.alloc(), &DOCUMENT)?.room();
+    assert_eq!(rt; (room.slots, room.free_slots), (8, 5));
+    assert_eq!(rt; (room.cells, room.free_cells), (8, 7));
+    Ok(())
+}
 
 /// Whether the longest text is written into the document, as the second entry.
 fn longest_is_written(

@@ -38,12 +38,17 @@ fn has_alice_alone(vault: &Vault) -> bool {
         && vault.opening().kind(2).is_none()
 }
 
+/// That is so, and she takes her seat.
+fn seats_alice_alone(rt: &impl Abort, vault: &mut Vault) {
+    assert!(rt; has_alice_alone(vault));
+    assert!(rt; vault.hello(0, "alice") == Ok(1));
+}
+
 /// After an opening that lacked memory the same configuration opens a vault: without entries, and with alice alone.
 #[test]
 fn growth_refused_in_an_opening(rt: HostRuntime) -> Result<(), AllocError> {
     let mut vault = opened_again(&rt, rt.alloc())?;
-    assert!(rt; has_alice_alone(&vault));
-    assert!(rt; vault.hello(0, "alice") == Ok(1));
+    seats_alice_alone(&rt, &mut vault);
     Ok(())
 }
 
@@ -97,7 +102,8 @@ fn lines_are_answered_again(
     lines: &[Line],
 ) -> Result<(), AllocError> {
     for line in lines {
-        assert!(rt; answers_again(rt, alloc, vault, *line)?);
+        let answered = answers_again(rt, alloc, vault, *line)?;
+        assert!(rt; answered);
     }
     Ok(())
 }
@@ -177,13 +183,23 @@ fn visits_again(
     Ok(is_seated && is_gone && vault.bye(0) == Ok(()))
 }
 
-/// As many as there may be retire, one after another.
-fn crowd_retires(rt: &(impl Abort + Print), alloc: Global) -> Result<(), AllocError> {
-    let mut vault = opened(rt, alloc, &CROWD)?;
-    for name in CROWD.names {
-        assert!(rt; visits_again(rt, alloc, &mut vault, name)?);
+/// Those of these names retire, one after another.
+fn all_retire(
+    rt: &(impl Abort + Print),
+    alloc: Global,
+    vault: &mut Vault,
+    names: &[&str],
+) -> Result<(), AllocError> {
+    for name in names {
+        assert!(rt; visits_again(rt, alloc, vault, name)?);
     }
     Ok(())
+}
+
+/// As many as there may be retire.
+fn crowd_retires(rt: &(impl Abort + Print), alloc: Global) -> Result<(), AllocError> {
+    let mut vault = opened(rt, alloc, &CROWD)?;
+    all_retire(rt, alloc, &mut vault, CROWD.names)
 }
 
 /// However many have retired, a retire that lacks memory leaves the principal.
@@ -279,12 +295,21 @@ fn is_created_again(
     )
 }
 
+/// Bob's create is answered in that way.
+fn creates_again(
+    rt: &(impl Abort + Print),
+    alloc: Global,
+    vault: &mut Vault,
+) -> Result<(), AllocError> {
+    assert!(rt; is_created_again(rt, alloc, vault)?);
+    Ok(())
+}
+
 /// A create that lacks memory as an event leaves no entry, and is answered when it comes again.
 #[test]
 fn growth_refused_in_an_event(rt: HostRuntime) -> Result<(), AllocError> {
     let mut vault = played(&rt, rt.alloc(), &SEATED)?;
-    assert!(rt; is_created_again(&rt, rt.alloc(), &mut vault)?);
-    Ok(())
+    creates_again(&rt, rt.alloc(), &mut vault)
 }
 
 /// Alice and bob take their seats; he creates a document, shades it, and has nothing more to shade.
@@ -356,11 +381,16 @@ fn run_again(rt: &(impl Abort + Print), vault: Vault, events: &[Event]) -> Vault
     again.vault
 }
 
+/// How many entries the vault has after the events.
+fn count_after(rt: &(impl Abort + Print), vault: Vault, events: &[Event]) -> u64 {
+    run_again(rt, vault, events).count()
+}
+
 /// How many entries a new vault has after those events.
 fn count_again(rt: &(impl Abort + Print), alloc: Global) -> Result<u64, AllocError> {
     let events = events(alloc, CREATE_AND_SHADE)?;
     let vault = opened(rt, alloc, &TWO)?;
-    Ok(run_again(rt, vault, &events).count())
+    Ok(count_after(rt, vault, &events))
 }
 
 /// A run that has no room for its answers carries out no event, and one that has none for a command goes on as though

@@ -1,21 +1,20 @@
 //! Vaults that begin anew with what is live: what is left, what is answered from then on, and who is refused.
-use crate::audit_logs::{are_replies, opened};
+use crate::audit_logs::{is_replayed, opened};
 use crate::cases::{Ask, Asked, TWO, Want, rights_of};
 use crate::vault::{ALICE, Case, Line, lines_are_answered, played};
 use std::alloc::{AllocError, Global};
 use std::io::Print;
 use std::process::Abort;
-use tg_audit::replay;
 use tg_graph::Graph;
 use tg_rights::{Kind, Which};
 use tg_vault::{Rebased, SeatFault, Vault};
 
-/// How many entries the history had, if the vault began anew.
-fn dropped(rebased: &Rebased) -> Option<u64> {
+/// Whether the vault began anew, and its history had this many entries, if there was memory.
+fn is_fresh(rebased: &Rebased, entries: u64) -> bool {
     match rebased {
-        Rebased::Fresh { dropped, .. } => Some(*dropped),
-        Rebased::Seated { .. } => None,
-        Rebased::NoMemory { .. } => None,
+        Rebased::Fresh { dropped, .. } => *dropped == entries,
+        Rebased::Seated { .. } => false,
+        Rebased::NoMemory { .. } => true,
     }
 }
 
@@ -37,12 +36,20 @@ fn vault_of(rebased: Rebased) -> Vault {
     }
 }
 
-/// The vault that begins anew, and how many entries the history had.
-fn fresh(rt: &impl Abort, vault: Vault) -> Result<(Vault, u64), AllocError> {
+/// The vault, if there was memory for a rebase.
+fn vault_with_memory(rebased: Rebased) -> Result<Vault, AllocError> {
+    match rebased {
+        Rebased::Fresh { vault, .. } => Ok(vault),
+        Rebased::Seated { vault, .. } => Ok(vault),
+        Rebased::NoMemory { .. } => Err(AllocError),
+    }
+}
+
+/// The vault that begins anew, whose history had this many entries.
+fn fresh(rt: &impl Abort, vault: Vault, entries: u64) -> Result<Vault, AllocError> {
     let rebased = vault.rebase();
-    assert!(rt; seat(&rebased).is_none());
-    let dropped = dropped(&rebased).ok_or(AllocError)?;
-    Ok((vault_of(rebased), dropped))
+    assert!(rt; is_fresh(&rebased, entries));
+    vault_with_memory(rebased)
 }
 
 /// The vault, which is handed back because this is the least seat in use.
@@ -94,19 +101,39 @@ fn answers_anew(
     assert!(rt; anew.count() == 0);
     lines_are_answered(rt, alloc, anew, lines)?;
     assert!(rt; anew.count() == asked.len() as u64);
-    let replies = replay(alloc, anew)?;
-    assert!(rt; are_replies(&replies, asked));
+    assert!(rt; is_replayed(alloc, anew, asked)?);
     Ok(())
+}
+
+/// All leave the vault that a rebase handed back, with its four entries.
+fn all_leave(rt: &impl Abort, alloc: Global, vault: &mut Vault) -> Result<(), AllocError> {
+    assert!(rt; vault.count() == 4);
+    lines_are_answered(rt, alloc, vault, ALL_LEAVE)
+}
+
+/// The vault in which a document became garbage and was freed, after a rebase was refused and all have left.
+fn left_with_garbage(rt: &impl Abort, alloc: Global) -> Result<Vault, AllocError> {
+    let used = opened(rt, alloc)?;
+    let mut vault = seated(rt, used, 0);
+    all_leave(rt, alloc, &mut vault)?;
+    Ok(vault)
+}
+
+/// The vault began without the document that was garbage, and answers so.
+fn answers_without_garbage(
+    rt: &impl Abort,
+    alloc: Global,
+    anew: &mut Vault,
+) -> Result<(), AllocError> {
+    assert!(rt; has_no_garbage(anew.opening()));
+    answers_anew(rt, alloc, anew, AFTER_GARBAGE, ASKED_AFTER_GARBAGE)
 }
 
 /// After a document became garbage and was freed, a rebase is refused while somebody sits, and leaves what lives.
 fn begins_without_garbage(rt: &impl Abort, alloc: Global) -> Result<(), AllocError> {
-    let mut vault = seated(rt, opened(rt, alloc)?, 0);
-    assert!(rt; vault.count() == 4);
-    lines_are_answered(rt, alloc, &mut vault, ALL_LEAVE)?;
-    let (mut anew, dropped) = fresh(rt, vault)?;
-    assert!(rt; dropped == 4 && has_no_garbage(anew.opening()));
-    answers_anew(rt, alloc, &mut anew, AFTER_GARBAGE, ASKED_AFTER_GARBAGE)
+    let vault = left_with_garbage(rt, alloc)?;
+    let mut anew = fresh(rt, vault, 4)?;
+    answers_without_garbage(rt, alloc, &mut anew)
 }
 
 #[test]
@@ -161,12 +188,17 @@ const ASKED_OF_CAROL: &[Asked] = &[
     (Ask::Enrol("carol", "r"), Want::Created(5)),
 ];
 
+/// The vault began with carol and without dave, and answers so.
+fn answers_with_carol(rt: &impl Abort, alloc: Global, anew: &mut Vault) -> Result<(), AllocError> {
+    assert!(rt; has_carol(anew.opening()));
+    answers_anew(rt, alloc, anew, CAROL_IS_KEPT, ASKED_OF_CAROL)
+}
+
 /// Of those who have retired a rebase keeps the one that somebody has rights over.
 fn keeps_the_retired_that_are_held(rt: &impl Abort, alloc: Global) -> Result<(), AllocError> {
     let vault = played(rt, alloc, &TWO_RETIRE)?;
-    let (mut anew, dropped) = fresh(rt, vault)?;
-    assert!(rt; dropped == 5 && has_carol(anew.opening()));
-    answers_anew(rt, alloc, &mut anew, CAROL_IS_KEPT, ASKED_OF_CAROL)
+    let mut anew = fresh(rt, vault, 5)?;
+    answers_with_carol(rt, alloc, &mut anew)
 }
 
 #[test]
@@ -198,15 +230,18 @@ const STILL_WRITTEN: &[Line] = &[
     Line::Bye(0, Ok(())),
 ];
 
+/// The vault has its whole history and what was written, and gets two more entries.
+fn is_still_written(rt: &impl Abort, alloc: Global, vault: &mut Vault) -> Result<(), AllocError> {
+    assert!(rt; vault.count() == 4);
+    lines_are_answered(rt, alloc, vault, STILL_WRITTEN)
+}
+
 /// The vault that begins anew with what a rebase without memory handed back: with its whole history, to which two more
 /// entries are added first.
 fn fresh_later(rt: &impl Abort, alloc: Global, handed_back: Vault) -> Result<Vault, AllocError> {
     let mut vault = handed_back;
-    assert!(rt; vault.count() == 4);
-    lines_are_answered(rt, alloc, &mut vault, STILL_WRITTEN)?;
-    let (anew, dropped) = fresh(rt, vault)?;
-    assert!(rt; dropped == 6);
-    Ok(anew)
+    is_still_written(rt, alloc, &mut vault)?;
+    fresh(rt, vault, 6)
 }
 
 /// The vault that begins anew. If memory runs out all is there, and the rebase is made again.
@@ -235,12 +270,26 @@ fn has_what_was_written(vault: &Vault) -> bool {
         && vault.opening().retired(4)
 }
 
+/// The vault began with all of it, and answers so.
+fn answers_what_was_written(
+    rt: &impl Abort,
+    alloc: Global,
+    anew: &mut Vault,
+) -> Result<(), AllocError> {
+    assert!(rt; has_what_was_written(anew));
+    lines_are_answered(rt, alloc, anew, STILL_WRITTEN)
+}
+
+/// The vault that begins anew has all of it.
+fn begins_anew_again(rt: &(impl Abort + Print), alloc: Global) -> Result<(), AllocError> {
+    let written = played(rt, alloc, &WRITTEN)?;
+    let mut vault = fresh_again(rt, alloc, written)?;
+    answers_what_was_written(rt, alloc, &mut vault)
+}
+
 /// A rebase that lacks memory leaves the vault with its history: tests/faults/growths.py makes each allocation fail in
 /// turn.
 #[test]
 fn growth_refused_in_a_rebase(rt: HostRuntime) -> Result<(), AllocError> {
-    let written = played(&rt, rt.alloc(), &WRITTEN)?;
-    let mut vault = fresh_again(&rt, rt.alloc(), written)?;
-    assert!(rt; has_what_was_written(&vault));
-    lines_are_answered(&rt, rt.alloc(), &mut vault, STILL_WRITTEN)
+    begins_anew_again(&rt, rt.alloc())
 }

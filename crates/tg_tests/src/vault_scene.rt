@@ -150,19 +150,33 @@ fn is_shot(scene: &Scene, shot: &Shot) -> bool {
         && scene.phase == shot.phase
 }
 
+/// Whether the vault shows what a shot says.
+fn shows(rt: &impl Print, vault: &Vault, shot: &Shot) -> Result<bool, AllocError> {
+    let scene = scene_again(rt, vault)?;
+    Ok(is_shot(&scene, shot))
+}
+
 /// The vault goes through the shots.
-fn goes_through(rt: &(impl Abort + Print), alloc: Global) -> Result<(), AllocError> {
-    let mut vault = opened(rt, alloc, &SMALL)?;
+fn goes_through(
+    rt: &(impl Abort + Print),
+    alloc: Global,
+    vault: &mut Vault,
+) -> Result<(), AllocError> {
     for shot in SHOTS {
-        lines_are_answered(rt, alloc, &mut vault, shot.lines)?;
-        let scene = scene_again(rt, &vault)?;
-        assert!(rt; is_shot(&scene, shot));
+        lines_are_answered(rt, alloc, vault, shot.lines)?;
+        assert!(rt; shows(rt, vault, shot)?);
     }
     Ok(())
+}
+
+/// A new vault does.
+fn a_vault_goes_through(rt: &(impl Abort + Print), alloc: Global) -> Result<(), AllocError> {
+    let mut vault = opened(rt, alloc, &SMALL)?;
+    goes_through(rt, alloc, &mut vault)
 }
 
 /// A scene that lacks memory leaves the vault; it shows the same on the next call.
 #[test]
 fn growth_refused_in_a_scene(rt: HostRuntime) -> Result<(), AllocError> {
-    goes_through(&rt, rt.alloc())
+    a_vault_goes_through(&rt, rt.alloc())
 }

@@ -6,7 +6,7 @@ ghost use Rattle.tg_share.specs.declared.locked.TheConstants.{PARTS};
 ghost use Rattle.tg_talk_tests.specs.Fresh.{IsFresh};
 
 use crate::share::{ALONE, CREATED};
-use crate::sharing::{Tally, agreed, both, count_in, one, opened, play, told};
+use crate::sharing::{Pauses, Tally, agreed, agreed_vault, both, one, opened, play, told};
 use std::alloc::{AllocError, Global};
 use std::io::Print;
 use std::marker::Brand;
@@ -39,13 +39,13 @@ fn are_told_again<L: Ledger, R: Wait + Clock + Print>(
 }
 
 /// How many entries there are after a session of alice, who asks again if memory runs out, and how many times she
-/// paused after a store and between steps.
+/// paused at each place.
 fn play_again<L: Ledger, R: Wait + Clock + Print>(
     rt: &R,
     alloc: Global,
     blank: Blank,
     vault: Vault,
-) -> Option<(u64, (u64, u64))>
+) -> Option<(u64, Pauses)>
     requires { IsFresh L.name L.parts blank vault.history }
 {
     let shared = Shared::<L>::new(alloc, blank, vault);
@@ -59,13 +59,22 @@ fn play_again<L: Ledger, R: Wait + Clock + Print>(
     agreed(shared, one(alloc, alice)).zip(Some(gate.pauses()))
 }
 
+/// One of the lines is a create.
+const PAUSES: Pauses = Pauses {
+    after_store: 8,
+    after_create: 1,
+    between_steps: 0,
+};
+
 /// A submit that lacks memory enters nothing, in the history or in the log, and does not pause: in the end they agree,
 /// with one entry and one pause for each line.
 #[test]
 fn growth_refused_in_a_submit(rt: HostRuntime) -> Result<(), AllocError> {
     let vault = opened(&rt, rt.alloc(), &TAKING)?;
     let done = play_again::<Brand, _>(&rt, rt.alloc(), Blank::new(PARTS), vault);
-    assert_eq!(rt; done.ok_or(AllocError)?, (8, (8, 0)));
+    let (entries, pauses) = done.ok_or(AllocError)?;
+    assert_eq!(rt; entries, 8);
+    assert_eq!(rt; pauses, PAUSES);
     Ok(())
 }
 
@@ -106,15 +115,13 @@ fn settled_again<R: Print>(rt: &R, alloc: Global, settled: Settled) -> Settled {
     }
 }
 
-/// How many entries there are, if the logs agree and all sessions were counted.
-fn count_of(settled: &Settled, counted: bool) -> Option<u64> {
-    if counted { count_in(settled) } else { None }
-}
-
-/// The same, settled again if memory ran out.
+/// How many entries there are, if the logs agree and all sessions were counted, settled again if memory ran out.
 fn count_after<R: Print>(rt: &R, alloc: Global, settled: Settled, counted: bool) -> Option<u64> {
     let settled = settled_again(rt, alloc, settled);
-    count_of(&settled, counted)
+    match agreed_vault(settled) {
+        Some(vault) => { if counted { Some(vault.count()) } else { None } }
+        None => None,
+    }
 }
 
 /// The same for a vault that is closed again, if both ends were returned.

@@ -3,7 +3,7 @@ ghost use Rattle.std.specs.Prelude.{◌≡◌, []};
 ghost use Rattle.tg_share.specs.declared.locked.TheConstants.{PARTS};
 ghost use Rattle.tg_talk_tests.specs.Fresh.{IsFresh};
 
-use crate::sharing::{Board, Stage, both, closed, opened};
+use crate::sharing::{Board, Stage, agreed_vault, both, closed, opened};
 use std::alloc::{AllocError, Global};
 use std::marker::Brand;
 use std::process::Abort;
@@ -55,13 +55,14 @@ fn ask_and_look<L: Ledger + Send + Sync, R: Threads + Wait + Clock + Sync>(
     thread::join(stage.rt, || ask(stage, round), || look(stage))
 }
 
-/// The vault itself, if the logs agree.
-fn agreed_vault(settled: Settled) -> Option<Vault> {
-    match settled {
-        Settled::Agreed(vault) => Some(vault),
-        Settled::Differs { .. } => None,
-        Settled::NoMemory { .. } => None,
+/// The vault, if the logs agree and all sessions were counted.
+fn counted_vault(settled: Settled, counted: bool) -> Option<Vault> {
+    let vault = agreed_vault(settled);
+    if counted {
+        return vault;
     }
+    drop(vault);
+    None
 }
 
 /// Closes, and takes the vault out, if the logs agree and all sessions were counted.
@@ -69,8 +70,12 @@ fn reclaim<L: Ledger>(shared: Shared<L>, ended: Vec<Ended<L>>) -> Option<Vault>
     requires { L.parts ≡ PARTS }
 {
     match closed(shared, ended) {
-        Closed::Done { settled, counted } => { if counted { agreed_vault(settled) } else { None } }
-        Closed::NoRoom { .. } => None,
+        Closed::Done { settled, counted } => counted_vault(settled, counted),
+        Closed::NoRoom { shared, ended } => {
+            drop(shared);
+            drop(ended);
+            None
+        }
     }
 }
 
