@@ -2,7 +2,7 @@
 passed.
 
 A well-behaved client is that of examples/tgdoc_client.py; the others send bytes. How a server starts is tested in
-listening.py, for how long it waits in waiting.py, rounds in rounds.py.
+listening.py, for how long it waits in waiting.py, rounds in rounds.py, the collector's pace in pacing.py.
 """
 
 import contextlib
@@ -18,7 +18,7 @@ from concurrent.futures import ThreadPoolExecutor
 from pathlib import Path
 
 from models import owners
-from server import listening, rounds, waiting
+from server import listening, pacing, rounds, waiting
 from server.servers import (
     AGREED, CONFIG, NOT_JSON, SECONDS, Server, exchange, greet, is_silent, read_all, read_line, running, served,
 )
@@ -682,3 +682,4 @@ def tests():
     yield from listening.tests()
     yield from waiting.tests()
     yield from rounds.tests()
+    yield from pacing.tests()

@@ -1,0 +1,93 @@
+"""The collector's pace: a server beside a busy program on one processor, and one with nothing to do."""
+
+import contextlib
+import os
+import subprocess
+import sys
+import threading
+import time
+from pathlib import Path
+
+from models.reading import line_of
+from server.servers import AGREED, Server, running, served
+
+SLOTS, CLIENTS, ROUNDS, AT_ONCE = 256, 4, 150, 16
+CONFIG = line_of({"principals": ["alice"], "slots": SLOTS}) + b"\n"
+CREATE = b'{"kind":"document","op":"create","rights":"rw"}\n'
+# Seconds for which a server with nothing to do is watched, and the part of a processor that it may then take.
+WATCHED, MOST_BUSY = 3, 0.05
+
+
+@contextlib.contextmanager
+def busy_processor():
+    """A processor that a program which does nothing else shares with whatever else is begun in the block."""
+    free = os.sched_getaffinity(0)
+    os.sched_setaffinity(0, {max(free)})
+    try:
+        with subprocess.Popen([sys.executable, "-c", "while True: pass"]) as busy:
+            try:
+                yield
+            finally:
+                busy.kill()
+    finally:
+        os.sched_setaffinity(0, free)
+
+
+def makes_and_drops(server, refused):
+    """A client that over and over makes some documents and drops them, of which it sends as many lines at once; notes each that is not
+    made."""
+    with server.connection() as one, one.makefile("rb") as answers:
+        one.sendall(b'{"name":"alice","op":"hello"}\n')
+        answers.readline()
+        for _ in range(ROUNDS):
+            one.sendall(CREATE * AT_ONCE)
+            made = [answers.readline() for _ in range(AT_ONCE)]
+            serials = [row.rstrip(b"}\n").rpartition(b":")[2] for row in made if row.startswith(b'{"ok":"created"')]
+            refused += [row for row in made if not row.startswith(b'{"ok":"created"')]
+            one.sendall(b"".join(b'{"op":"remove","over":%s,"rights":"rw"}\n' % it for it in serials))
+            refused += [row for row in (answers.readline() for _ in serials) if row != b'{"ok":"done"}\n']
+        one.sendall(b'{"op":"bye"}\n')
+        answers.readline()
+
+
+def keeps_pace(program):
+    """No create is refused as full where at most a quarter of the slots are reachable, however slow the server is."""
+    refused, words = [], ["--listen", "127.0.0.1:0", "--workers", str(CLIENTS), "--connections", str(CLIENTS)]
+    with busy_processor(), running(program, *words, config=CONFIG) as process:
+        server = Server(process)
+        clients = [threading.Thread(target=makes_and_drops, args=(server, refused)) for _ in range(CLIENTS)]
+        for client in clients:
+            client.start()
+        for client in clients:
+            client.join()
+        ended = server.end()
+    print("  %d documents in %d slots, refused: %d %s" % (CLIENTS * ROUNDS * AT_ONCE, SLOTS, len(refused), refused[:3]))
+    return not refused and ended == AGREED
+
+
+def busy_seconds(process):
+    """The processor time that the threads of a process have taken."""
+    threads = Path(f"/proc/{process}/task").glob("*/schedstat")
+    return sum(int(it.read_text().split()[0]) for it in threads) / 1e9
+
+
+def rests(program):
+    """A server with nothing to do hardly takes a processor."""
+    with served(program, 1, 1, CONFIG) as server:
+        with server.client() as alice:
+            alice.hello("alice")
+            alice.remove("rw", alice.create("document", "rw"))
+            time.sleep(1)
+            begun, before = time.monotonic(), busy_seconds(server.process.pid)
+            time.sleep(WATCHED)
+            part = (busy_seconds(server.process.pid) - before) / (time.monotonic() - begun)
+            alice.bye()
+        ended = server.end()
+    print("  it took %.2f %% of a processor" % (100 * part))
+    return part < MOST_BUSY and ended == AGREED
+
+
+def tests():
+    """All tests by their names."""
+    yield "creates-on-a-busy-processor", keeps_pace
+    yield "server-with-nothing-to-do", rests
