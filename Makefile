@@ -17,7 +17,7 @@ demo: ## play the README's example; without a proved program, on an unproved bui
 
 # The gate proves every crate and its tests from nothing, tries the planted bugs and runs the program as two compilers
 # build it; then the built program is tested from outside.
-test: ## prove everything from nothing, try the planted bugs, test the programs (90 minutes, four cores)
+test: ## prove everything from nothing, try the planted bugs, test the programs (an hour, four cores)
 	tests/gate
 	tests/run
 
@@ -32,11 +32,12 @@ soak: all load ## run at length: a million commands of 63 sessions, a million ba
 	crates/tg_load/out/tg_load --sessions 63 --commands 15874 --reuse --figures
 	tests/soak
 
-bench: all load ## measure lines per second, peak memory, sessions on threads, edges piled up, and rounds; tests nothing
+bench: all load ## measure lines per second, peak memory, threads, piled edges, rounds, and a server beside Redis; tests nothing
 	bench/lines.py
 	bench/threads.py
 	bench/piling.py
 	bench/rounds.py
+	bench/redis.py
 
 # The edit loop, over what earlier runs left: `make check tg_cells` proves that crate and its tests, tries its planted
 # bugs and proves the crates that stand on it; `make check` proves every crate, and no more.
