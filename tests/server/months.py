@@ -4,11 +4,14 @@ Its clients come one after the other, a host and a guest in turn. The host enrol
 and retires, and both make and drop documents; each answer is that of models/graph.py, which is cut down to what lives after each
 round. The documents and rights that are there are read at the end of a round and again at the start of the next. The peak of the
 memory in the later rounds is that of the earlier ones, and so is the number of open files. Since a slot takes memory once it is used,
-and how many are in use at a time is up to the collector's pace, most are used once before that.
+and how many are in use at a time is up to the collector's pace, most are used once before that. The server has one arena of malloc: what
+several hold is up to the scheduler, and more on a busy machine.
 """
 
 import json
+import os
 from pathlib import Path
+from unittest.mock import patch
 
 from models.graph import Graph
 from models.reading import line_of, read_config
@@ -144,7 +147,8 @@ def lasted(rounds):
     def test(program):
         graph, before, peaks, files = Graph(read_config(CONFIG[:-1])), None, [], []
         # A round more comes before the others, and a talk more keeps the server alive behind them.
-        with in_rounds(program, 2, (rounds + 1) * CONNECTIONS + 1, CONNECTIONS, CONFIG, 3_600) as server:
+        one_arena = patch.dict(os.environ, MALLOC_ARENA_MAX="1")
+        with one_arena, in_rounds(program, 2, (rounds + 1) * CONNECTIONS + 1, CONNECTIONS, CONFIG, 3_600) as server:
             use = Use(server)
             for number in range(rounds + 1):
                 good, before = one_round(server, graph, before) if number else (first_round(server, graph), None)
