@@ -1,5 +1,6 @@
 //! The collector's pace. Its own thread makes few steps and rests; whoever makes a vertex while less than half is free
-//! makes steps too, so many that two cycles have ended before nothing is left, however slow that thread is.
+//! makes steps too: with up to three edges a slot, so many that two cycles end before no slot is left, however slow that
+//! thread is. No contract says so.
 
 use std::rt::Clock;
 use std::sync::Wait;
@@ -16,7 +17,8 @@ const STEPS: u64 = 150;
 /// Its steps in a turn while nothing is left to be freed.
 const IDLE_STEPS: u64 = 50;
 
-/// Two cycles free all that was garbage before them, and take some eight steps for each slot.
+/// A cycle takes up to three steps for each slot, and one for each edge. From half to none the steps that are owed are
+/// nineteen for each slot, of which a cycle that is under way and two whole ones take eighteen at three edges a slot.
 const STEPS_A_SLOT: u64 = 8;
 
 /// What the collector's thread knows of its last turns.
