@@ -64,8 +64,9 @@ HOLE = """use Rattle.{crate}.proofs.{module}.Statement.{{statement}}
 pub {name}_spec : {{M : Type 1}} → statement M
 {name}_spec = ?
 """
-# What a report says of a function of which nothing is wrong but what it calls.
-WAITS = re.compile(r"fn (\S+): no proof: it calls (`[^`]+`(?:(?:, | and |, and )`[^`]+`)*), which (?:is|are) not proved$")
+# What a report says of a function of which nothing is wrong but what it calls, or the impl that it hands on.
+UNPROVED = r"it (?:calls|passes the blocks?) `[^`]+`(?:(?:, | and |, and )`[^`]+`)*, which (?:is|are) not proved"
+WAITS = re.compile(rf"fn (\S+): no proof: ({UNPROVED}(?:; {UNPROVED})*)$")
 # What a report says of a function that is proved, given the contracts of those whose proof is a hole.
 PROVED = r"(?:proved|no holes$|depends on a hole in )"
 
@@ -232,10 +233,11 @@ class Edit:
 
 
 def waiting(said, edited):
-    """The functions of a report that are not proved only because they call edited ones, or one another."""
+    """The functions of a report that are not proved only because they call edited ones, or one another, or hand on an impl with an edited one."""
     calls = {it[1]: {*re.findall("`([^`]+)`", it[2])} for it in map(WAITS.match, said) if it}
+    unproved = {*edited, *(f.rpartition("::")[0] for f in edited)}
     found = set()
-    while more := {f for f, named in calls.items() if f not in found and named <= edited | found}:
+    while more := {f for f, named in calls.items() if f not in found and named <= unproved | found}:
         found |= more
     return found
 
