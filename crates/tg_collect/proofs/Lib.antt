@@ -1,7 +1,5 @@
 -- Lemma files that other crates may use.
-pub mod AgentLemmas
 pub mod OpeningLemmas
-pub mod PrincipalLemmas
 pub mod RunLemmas
 pub mod SeatLemmas
 pub mod ShownLemmas
@@ -16,5 +14,7 @@ mod FoundLemmas
 mod LineLemmas
 mod OpeningEdges
 mod PartsLemmas
+mod PrincipalLemmas
 mod RootLemmas
 mod SlotLemmas
+mod VertexLemmas

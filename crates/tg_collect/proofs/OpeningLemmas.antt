@@ -1,9 +1,8 @@
 -- A machine that holds the first principals, before any cycle.
-use Rattle.std.proofs.Common.{◌≡◌, ◌≢◌, ℕ, zero, suc, ◌+◌, ◌<◌, ◌≤◌, List, [], ◌∷◌, ◌++◌, length, map, replicate, Option, Some, None, ◌⊎◌, inl, inr, Ok, sym, ◌∙◌, subst, ap, refl, arith, get_or, set, length-set, length-append}
-use Rattle.tg_collect.proofs.Common.{SEATS, Contains, Distinct, Table, Free, Has, slot, Colour, White, Occupant, Edge, edges, mark_at, IsHeap, Spot, AtRest, Kept, as_kept, seen, name, name_of, mark, mark_of, new_colour, put_each, comes}
-use Rattle.tg_collect.proofs.Common.{Root, Roots, Progress, Idle, Machine, RootLists, IsListed, lists_of, body, progress_in, progress_of, CursorFits, Whole, stored, as_progress, kept_from, spot, held, serial_of, root_serial, Puts, cases_lt}
-use Rattle.tg_collect.proofs.Common.{length-replicate, get_or_append_left, get_or-append_seam, contains_append, map_append, Subject, principal_count, principals_are_few, indices, fresh, nones_length, nones_free, indices_length, Invariant}
-use Rattle.tg_collect.proofs.Common.{first_serials, Opens, OpeningsCanBeStored, subject, first_root, first_roots, AreFrom, HoldsSubject, HasOpened, OpensFirst, OpensNext, root_count}
+use Rattle.std.proofs.Common.{◌≡◌, ◌≢◌, ℕ, zero, suc, ◌+◌, ◌<◌, List, [], ◌∷◌, ◌++◌, length, map, replicate, Option, Some, None, ◌⊎◌, inl, inr, Ok, true, sym, ◌∙◌, subst, ap, refl, arith, add-one, get_or, set, length-set, length-append}
+use Rattle.tg_collect.proofs.Common.{cases_eq, MAX_PRINCIPALS, SEATS, Contains, contains_left, contains_right, length-replicate, map_append, Subject, Protection, subjects-within, principal_count, principals_are_few, Table, Free, Has, White, Grey, indices, fresh, nones_length, nones_free, indices_length, IsHeap}
+use Rattle.tg_collect.proofs.Common.{Spot, AtRest, IsScanned, mark, new_colour, blank_keeps, Root, Idle, Machine, RootLists, IsListed, lists_of, with_principal, body, progress_in, progress_of, Whole, Puts, Rerooted, Stored, stored, progress, kept_from, spot, place, root_serial, vertices, triples, IsParkedIn}
+use Rattle.tg_collect.proofs.Common.{first_serials, Opens, OpeningsCanBeStored, first_root, first_roots, HasOpened, OpensFirst, KeepsSize}
 use Rattle.std.specs.FinMap as finmap
 use Rattle.std.specs.FinSet as finset
 use Rattle.tg_slots.specs.Table as table
@@ -11,9 +10,10 @@ use Rattle.tg_marking.specs.Values as values
 use Rattle.tg_held.specs.Held as graph
 use Rattle.tg_graph.proofs.OpeningsFitLemmas as fitting
 use Rattle.tg_graph.specs.Opening.{opening}
-use Rattle.tg_marking.specs.Values.{kept}
-use Rattle.tg_collect.proofs.SlotLemmas.{zip_slot, zip_size, at_slot, at_free, mark_so, occupied, as_spot, root_listed, free_so}
-use Rattle.tg_collect.proofs.ShownLemmas.{held_at, held_set, from_size}
+use Rattle.tg_collect.proofs.SlotLemmas.{zip_size, at_free, root_listed, free_so}
+use Rattle.tg_collect.proofs.StoreLemmas.{named_so, no_black}
+use Rattle.tg_collect.proofs.RootLemmas.{principal_added}
+use Rattle.tg_collect.proofs.VertexLemmas.{Came, came}
 
 -- Seats without a root, and the first principals.
 no_seat : {X : Type 0} (n : ℕ) (x : X) → Contains (replicate n None) (Some x) → ⊥
@@ -26,250 +26,137 @@ seat_idle zero k = refl
 seat_idle (suc n) zero = refl
 seat_idle (suc n) (suc k) = seat_idle n k
 
-first_listed : (n : ℕ) (r : Root) → Contains (first_roots n) r → (r.slot < n) × (r.serial ≡ r.slot + 1)
-first_listed zero r h = absurd h
-first_listed (suc n) r h = elim (contains_append (first_roots n) (first_root n ∷ []) r h) [
-  | inl old ↦ (let l = first_listed n r old in let b = l.0 in (omega (arith, b), l.1))
-  | inr new ↦ elim new [
-    | inl is ↦ (let at = ap (λ (q : Root). q.slot) is in (omega (arith, at), ap (λ (q : Root). q.serial) is ∙ ap (λ (x : ℕ). x + 1) (sym at)))
-    | inr never ↦ absurd never
-  ]
-]
-
-pub length-first : (n : ℕ) → length (first_roots n) ≡ n
+length-first : (n : ℕ) → length (first_roots n) ≡ n
 length-first zero = refl
 length-first (suc n) = let a = length-append (first_roots n) (first_root n ∷ []) in let r = length-first n in omega (arith, a, r)
 
-pub first_at : (n k : ℕ) (d : Root) → k < n → get_or (first_roots n) k d ≡ first_root k
-first_at zero k d b = absurd (omega (arith, b))
-first_at (suc n) k d b = elim (cases_lt k n) [
-  | inl l ↦ (let s = length-first n in get_or_append_left (first_roots n) (first_root n ∷ []) d k (omega (arith, l, s)) ∙ first_at n k d l)
-  | inr g ↦ (
-      let is : k ≡ n = omega (arith, b, g) in
-      let end : k ≡ length (first_roots n) = is ∙ sym (length-first n) in
-      ap (λ (j : ℕ). get_or (first_roots n ++ first_root n ∷ []) j d) end ∙ get_or-append_seam (first_roots n) (first_root n) [] d ∙ ap first_root (sym is))
+first_listed : (n i : ℕ) → i < n → Contains (first_roots n) (first_root i)
+first_listed zero i b = absurd (omega (arith, b))
+first_listed (suc n) i b = elim (cases_eq i n) [
+  | inl is ↦ contains_right (first_roots n) (first_root n ∷ []) (first_root i) (inl (ap first_root is))
+  | inr other ↦ contains_left (first_roots n) (first_root n ∷ []) (first_root i) (first_listed n i (omega (arith, b, other)))
 ]
 
 serials_first : (n : ℕ) → map (λ (r : Root). r.serial) (first_roots n) ≡ first_serials n
 serials_first zero = refl
-serials_first (suc n) = map_append (λ (r : Root). r.serial) (first_roots n) (first_root n ∷ []) ∙ (λ i. serials_first n i ++ one i ∷ []) where
-  one : n + 1 ≡ suc n
-  one = omega arith
+serials_first (suc n) = map_append (λ (r : Root). r.serial) (first_roots n) (first_root n ∷ []) ∙ (λ i. serials_first n i ++ add-one n i ∷ [])
+
+-- At rest nothing is parked.
+pub none_parked : (m : Machine) → m.progress ≡ Idle → (x : ℕ) → IsParkedIn (stored m) x → ⊥
+none_parked m idle x h = grind arith
 
 module _ (m : Machine) (count : ℕ) (o : HasOpened m count) where
-  -- What a slot holds, and what is read off it.
-  holds : (i : ℕ) → (values.spot (body m) i ≡ None) ⊎ ((i < count) × HoldsSubject count i (values.spot (body m) i))
-  holds i = elim (cases_lt i count) [ inl b ↦ inr (b, o.here i b) | inr b ↦ inl (o.others i b) ]
+  pub count_is : length m.roots.principals ≡ count
+  count_is = ap (λ (r : RootLists). length r.principals) o.roots ∙ length-first count
 
-  marked : (i : ℕ) → (mark (body m) i ≡ Free) ⊎ (mark (body m) i ≡ Has White)
-  marked i = elim (holds i) [ inl none ↦ inl (ap mark_of none) | inr s ↦ inr (ap mark_of s.1.is) ]
+  pub at_rest : progress_of m ≡ AtRest
+  at_rest = ap (progress_in m.heap) o.progress
 
-  pub white : (i : ℕ) (c : Colour) → mark (body m) i ≡ Has c → c ≡ White
-  white i c e = elim (marked i) [ inl f ↦ absurd (let u : Free ≡ Has c = sym f ∙ e in cc) | inr w ↦ (let u : Has c ≡ Has White = sym e ∙ w in cc) ]
+  pub principal_at : (i : ℕ) → i < count → place (stored m) i ≡ Some (i + 1)
+  principal_at i b = named_so m o.whole (first_root i) (inr (inl (subst (λ (r : RootLists). Contains r.principals (first_root i)) (sym o.roots) (first_listed count i b))))
 
-  -- A principal's slot in the heap.
-  pub principal_mark : (i : ℕ) → i < count → mark_at m.heap i ≢ Free
-  principal_mark i b f = let w = ap mark_of (o.here i b).is in let u : Free ≡ Has White = sym f ∙ sym (mark_so m.heap (lists_of m.roots) i) ∙ w in cc
+  not_grey : (i : ℕ) → mark (body m) i ≢ Has Grey
+  not_grey i e = elim (o.whole.kept.greys.known i e) [ inl w ↦ subst (λ (l : List ℕ). Contains l i) o.grey w | inr s ↦ subst (λ (p : values.Progress). IsScanned p i) at_rest s ]
 
-  pub principal_at : (i : ℕ) (b : i < count) → (q : Occupant) × (slot m.heap.table i ≡ Some q) × (as_spot q (edges m.heap i) ≡ subject i (o.here i b).edges)
-  principal_at i b =
-      let q = occupied m.heap i (principal_mark i b) in
-      (q.0, q.1, (let u : Some (as_spot q.0 (edges m.heap i)) ≡ Some (subject i (o.here i b).edges) = sym (at_slot m.heap (lists_of m.roots) i q.0 q.1) ∙ (o.here i b).is in cc))
-
-  named : (i x : ℕ) → name (body m) i ≡ Some x → (i < count) × (x ≡ i + 1)
-  named i x e = elim (holds i) [
-    | inl none ↦ absurd (let u : None ≡ Some x = sym (ap name_of none) ∙ e in cc)
-    | inr s ↦ (s.0, (let u : Some x ≡ Some (i + 1) = sym e ∙ ap name_of s.1.is in cc))
-  ]
-
-  held_here : (i : ℕ) (k : Kept) → kept (body m) AtRest i ≡ Some k → (i < count) × (s : HoldsSubject count i (values.spot (body m) i)) × (k ≡ as_kept (subject i s.edges))
-  held_here i k e = elim (holds i) [
-    | inl none ↦ absurd (let u : None ≡ Some k = sym (ap (seen AtRest i) none) ∙ e in cc)
-    | inr s ↦ (s.0, s.1, (let u : Some k ≡ Some (as_kept (subject i s.1.edges)) = sym e ∙ ap (seen AtRest i) s.1.is in cc))
-  ]
-
-  here_held : (i : ℕ) → i < count → (k : Kept) × (kept (body m) AtRest i ≡ Some k) × (k.serial ≡ i + 1)
-  here_held i b = let s = o.here i b in (as_kept (subject i s.edges), ap (seen AtRest i) s.is, refl)
-
-  listed : (r : Root) → IsListed (lists_of m.roots) r → (r.slot < count) × (r.serial ≡ r.slot + 1)
-  listed r h = by (subst (λ (rs : RootLists). IsListed rs r) o.roots h) where
-    by : IsListed (record { targets = replicate SEATS None; principals = first_roots count; agents = replicate SEATS None }) r → (r.slot < count) × (r.serial ≡ r.slot + 1)
-    by (inl t) = absurd (no_seat SEATS r t)
-    by (inr (inl p)) = first_listed count r p
-    by (inr (inr a)) = absurd (no_seat SEATS r a)
-
-  invariant : Invariant (body m) AtRest
-  invariant = record {
-    closed = record {
-      roots = λ i r. let l = root_listed (lists_of m.roots) i r in let k = here_held i (subst (λ (j : ℕ). j < count) l.2 (listed l.0 l.1).0) in (k.0, k.1);
-      edges = λ i k e h c.
-          let s = held_here i k h in
-          let l = s.1.lead e (subst (λ (q : Kept). Contains q.edges e) s.2 c) in
-          let t = here_held e.target l.0 in
-          (t.0, t.1, t.2 ∙ sym l.1, l.2);
-    };
-    once = λ i j x a b. let p = (named i x a).1 in let q = (named j x b).1 in omega (arith, p, q);
-    greys = record {
-      waits = λ i w. absurd (subst (λ (l : List ℕ). Contains l i) o.grey w);
-      once = subst Distinct (sym o.grey) tt;
-      known = λ i g. absurd (let u = white i _ g in cc);
-      scanned = λ i x. absurd x;
-    };
-    phase = λ i b. let u = white i _ b in cc;
-  }
-
-  pub opened_whole : Whole m
-  opened_whole = record {
-    kept = subst (λ (p : Progress). Invariant (body m) (progress_in m.heap p)) (sym o.progress) invariant;
-    cursor = subst (CursorFits m.heap) (sym o.progress) tt;
-    roots = record {
-      seats = ap (λ (r : RootLists). length r.targets) o.roots ∙ length-replicate {A = Option Root} SEATS None;
-      few = let e = ap (λ (r : RootLists). length r.principals) o.roots in let s = length-first count in let f = o.most in omega (arith, e, s, f);
-      agents = ap (λ (r : RootLists). length r.agents) o.roots ∙ length-replicate {A = Option Root} SEATS None;
-      named = λ r h. let l = listed r h in ap name_of (o.here r.slot l.0).is ∙ ap Some (sym l.1);
-    };
-  }
+  pub marks_opened : (i : ℕ) → (mark (body m) i ≡ Free) ⊎ (mark (body m) i ≡ Has White)
+  marks_opened i = let black = no_black (body m) (progress_of m) o.whole.kept.phase (ap values.shown at_rest) i in let grey = not_grey i in grind arith
 
   pub opened_opens : (slots cells : ℕ) → IsHeap m.heap → length m.heap.table.slots ≡ slots → m.heap.cell_count ≡ cells → Opens (stored m) count slots cells
   opened_opens slots cells ok es ec = record {
     vertices = o.vertices;
     principals = ap (λ (r : RootLists). map (λ (q : Root). q.serial) r.principals) o.roots ∙ serials_first count;
-    places = λ k b. ap (λ (p : Progress). serial_of (seen (as_progress (values.shown (progress_in m.heap p))) k (spot (stored m) k))) o.progress ∙ ap (λ (s : Option Spot). serial_of (seen AtRest k s)) (o.here k b).is;
-    stage = ap (λ (p : Progress). values.shown (progress_in m.heap p)) o.progress;
+    places = principal_at;
+    stage = ap values.shown at_rest;
     idle = λ seat. ap (λ (r : RootLists). get_or (map (λ q. root_serial q) r.targets) seat None) o.roots ∙ seat_idle SEATS seat;
     agents = λ seat. ap (λ (r : RootLists). get_or (map (λ q. root_serial q) r.agents) seat None) o.roots ∙ seat_idle SEATS seat;
-    marks = marked;
+    marks = marks_opened;
     slots = zip_size m.heap.table.slots m.heap.lists ∙ es;
-    free = let f = free_so m.heap (lists_of m.roots) ok in let g = o.free in omega (arith, f, g, es);
+    free = let f = free_so m.heap (lists_of m.roots) ok in let g = ap length o.free in let l = indices_length count o.others in let a = o.all in omega (arith, f, g, l, a, es);
     cells = ec;
   }
 
--- What is held before any cycle, as a graph.
-abbrev pub kept_rest : Machine → List (Option Kept)
-kept_rest m = kept_from AtRest 0 (stored m).slots
-
-pub held_rest : (m : Machine) → m.progress ≡ Idle → held (stored m) 0 ≡ graph.held (kept_rest m) 0
-held_rest m e = ap (λ (p : Progress). graph.held (kept_from (as_progress (values.shown (progress_in m.heap p))) 0 (stored m).slots) 0) e
-
-pub rest_at : (m : Machine) (i : ℕ) → get_or (kept_rest m) i None ≡ kept (body m) AtRest i
-rest_at m i = held_at (record (stored m) { stage = values.Idle }) i
-
--- One slot is set: what holds of each slot, and the graph.
-module _ (m n : Machine) (i : ℕ) (s : Spot) (is : (stored n).slots ≡ set (stored m).slots i (Some s)) where
-  pub put_in : i < length (stored m).slots → (P : ℕ → Option Spot → Type 0) → P i (Some s) → ((j : ℕ) → j ≢ i → P j (spot (stored m) j)) → (j : ℕ) → P j (spot (stored n) j)
-  put_in within P here there j = subst (λ (os : List (Option Spot)). P j (get_or os j None)) (sym is) (put_each P (body m) i (Some s) within here there j)
-
-  pub held_in : n.progress ≡ Idle → held (stored n) 0 ≡ graph.held (set (kept_rest m) i (seen AtRest i (Some s))) 0
-  held_in idle = held_rest n idle ∙ ap (λ (os : List (Option Spot)). graph.held (kept_from AtRest 0 os) 0) is
-      ∙ ap (λ (ks : List (Option Kept)). graph.held ks 0) (held_set AtRest i (stored m).slots (Some s))
-
 -- A blank machine.
-indices_from : (i n : ℕ) → AreFrom i (indices i n)
-indices_from i zero = tt
-indices_from i (suc n) = (refl, indices_from (suc i) n)
+none_kept : (p : values.Progress) (k : ℕ) (os : List (Option Spot)) → ((i : ℕ) → get_or os i None ≡ None) → (graph.entries (kept_from p k os) ≡ []) × (graph.triples (kept_from p k os) ≡ [])
+none_kept p k [] e = (refl, refl)
+none_kept p k (None ∷ os) e = none_kept p (suc k) os (λ i. e (suc i))
+none_kept p k (Some s ∷ os) e = absurd (let u : Some s ≡ None = e 0 in cc)
 
-none_kept : (k : ℕ) (os : List (Option Spot)) → ((i : ℕ) → get_or os i None ≡ None) → (graph.entries (kept_from AtRest k os) ≡ []) × (graph.triples (kept_from AtRest k os) ≡ [])
-none_kept k [] e = (refl, refl)
-none_kept k (None ∷ os) e = none_kept (suc k) os (λ i. e (suc i))
-none_kept k (Some s ∷ os) e = absurd (let u : Some s ≡ None = e 0 in cc)
-
-pub blank_first : (m : Machine) (slots : ℕ) → m.heap.table ≡ fresh slots → m.heap.free_cells ≡ m.heap.cell_count → m.progress ≡ Idle
+pub blank_first : (m : Machine) (slots : ℕ) → m.heap.table ≡ fresh slots → m.progress ≡ Idle
     → lists_of m.roots ≡ record { targets = replicate SEATS None; principals = []; agents = replicate SEATS None } → OpensFirst m 0
-blank_first m slots is cells idle roots = record {
+blank_first m slots is idle roots = record {
   opened = record {
-    most = omega arith;
-    here = λ i b. absurd (omega (arith, b));
-    others = λ i b. none i;
-    vertices = ap (λ g. g.vertices) (held_rest m idle) ∙ ap (λ es. finmap.from_entries es) (none_kept 0 (stored m).slots none).0;
+    whole = record {
+      kept = rw idle (blank_keeps (body m) none (ap (λ (t : Table). t.grey) is) (λ i r. let q = root_listed (lists_of m.roots) i r in nobody q.0 q.1));
+      cursor = rw idle tt;
+      roots = record {
+        seats = ap (λ (r : RootLists). length r.targets) roots ∙ length-replicate {A = Option Root} SEATS None;
+        few = let e = ap (λ (r : RootLists). length r.principals) roots in omega (arith, e);
+        agents = ap (λ (r : RootLists). length r.agents) roots ∙ length-replicate {A = Option Root} SEATS None;
+        named = λ r h. absurd (nobody r h);
+      };
+    };
+    vertices = ap (λ es. finmap.from_entries es) (none_kept (progress (stored m)) 0 (stored m).slots none).0;
     roots = roots;
     progress = idle;
     grey = ap (λ (t : Table). t.grey) is;
-    next = subst (λ (t : Table). AreFrom 0 t.free) (sym is) (indices_from 0 slots);
-    free = let f = ap (λ (t : Table). length t.free) is in let l = ap (λ (t : Table). length t.slots) is in let n = nones_length slots in let k = indices_length 0 slots in omega (arith, f, l, n, k);
+    others = slots;
+    free = ap (λ (t : Table). t.free) is;
+    all = let l = ap (λ (t : Table). length t.slots) is in let n = nones_length slots in omega (arith, l, n);
   };
-  triples = ap (λ g. g.triples) (held_rest m idle) ∙ ap (λ ts. finset.from_list ts) (none_kept 0 (stored m).slots none).1;
-  cells = cells;
+  triples = ap (λ ts. finset.from_list ts) (none_kept (progress (stored m)) 0 (stored m).slots none).1;
 } where
   none : (i : ℕ) → spot (stored m) i ≡ None
   none i = at_free m.heap (lists_of m.roots) i (ap (λ (t : Table). table.mark t i) is ∙ nones_free slots i)
 
+  nobody : (q : Root) → IsListed (lists_of m.roots) q → ⊥
+  nobody q h = by (subst (λ (rs : RootLists). IsListed rs q) roots h) where
+    by : IsListed (record { targets = replicate SEATS None; principals = []; agents = replicate SEATS None }) q → ⊥
+    by (inl t) = no_seat SEATS q t
+    by (inr (inl p)) = p
+    by (inr (inr a)) = no_seat SEATS q a
+
 -- One more principal, in the first free slot.
-abbrev placed : Machine → (i serial : ℕ) → (text : List ℕ) → Colour → List ℕ → Roots → Machine
-placed m i serial text colour rest rs = record m {
-  heap = record m.heap { table = record m.heap.table { slots = set m.heap.table.slots i (Some (record { serial = serial; kind = Subject; colour = colour; text = text })); free = rest } };
-  roots = rs;
-}
+taken : (first others i : ℕ) (rest : List ℕ) → i ∷ rest ≡ indices first others → (i ≡ first) × (r : ℕ) × (others ≡ suc r) × (rest ≡ indices (suc first) r)
+taken first zero i rest e = absurd (cc)
+taken first (suc r) i rest e = (cc, r, refl, cc)
 
-module _ (m : Machine) (rs : Roots) (k : ℕ) (rest : List ℕ) (ok : IsHeap m.heap) (f : OpensFirst m k) (room : k < 64) (free : m.heap.table.free ≡ k ∷ rest)
-    (roots : lists_of rs ≡ record (lists_of m.roots) { principals = m.roots.principals ++ first_root k ∷ [] }) where
-  abbrev after : Machine
-  after = placed m k (k + 1) [] White rest rs
-
-  o : HasOpened m k
-  o = f.opened
-
-  listed_free : (k < length m.heap.table.slots) × (mark_at m.heap k ≡ Free)
-  listed_free = ok.table.listed_free k (subst (λ (l : List ℕ). Contains l k) (sym free) (inl refl))
-
-  slots_are : (stored after).slots ≡ set (stored m).slots k (Some (subject k []))
-  slots_are = zip_slot m.heap.table.slots m.heap.lists k (Some (record { serial = k + 1; kind = Subject; colour = White; text = [] }))
-      ∙ ap (λ (es : List Edge). set (stored m).slots k (Some (subject k es))) (ok.free_bare k listed_free.1)
-
-  each : (P : ℕ → Option Spot → Type 0) → P k (Some (subject k [])) → ((j : ℕ) → j ≢ k → P j (spot (stored m) j)) → (j : ℕ) → P j (spot (stored after) j)
-  each = put_in m after k (subject k []) slots_are (let l = listed_free.0 in let z = zip_size m.heap.table.slots m.heap.lists in omega (arith, l, z))
-
-  graph_is : held (stored after) 0 ≡ record (held (stored m) 0) { vertices = finmap.insert (held (stored m) 0).vertices (k + 1) (record { kind = Subject; text = [] }) }
-  graph_is = held_in m after k (subject k []) slots_are o.progress
-      ∙ comes (kept_rest m) k 0 (as_kept (subject k [])) (let s = from_size AtRest 0 (stored m).slots in let l = listed_free.0 in let z = zip_size m.heap.table.slots m.heap.lists in omega (arith, s, l, z))
-      (λ j t n e is. let h = held_here m k o j t (sym (rest_at m j) ∙ e) in let s = ap (λ (q : Kept). q.serial) h.2 in n (omega (arith, s, is)))
-      (inl (rest_at m k ∙ ap (seen AtRest k) (o.others k (omega arith)), refl))
-      ∙ (λ i. let g = sym (held_rest m o.progress) i in record g { vertices = finmap.insert g.vertices (k + 1) (record { kind = Subject; text = [] }) })
-
-  one : k + 1 ≡ suc k
-  one = omega arith
-
-  first_after : AreFrom (suc k) rest → OpensFirst after (suc k)
-  first_after next = record {
+pub principal_opens : (m a n : Machine) (count i : ℕ) (text : List ℕ) → IsHeap m.heap → OpensFirst m count → count < MAX_PRINCIPALS → text ≡ [] → Puts m (count + 1) Subject text (Ok i) a
+    → Rerooted a (with_principal (lists_of a.roots) (record { serial = count + 1; slot = i })) n → OpensFirst n (count + 1) × KeepsSize m n
+principal_opens m a n count i text ok first few bare put added = (
+  subst (OpensFirst n) (sym (add-one count)) (record {
     opened = record {
-      most = room;
-      here = each (λ j s. j < suc k → HoldsSubject (suc k) j s) (λ b. record { edges = []; is = refl; lead = λ e h. absurd h })
-          (λ j n b. let s = o.here j (omega (arith, b, n)) in record { edges = s.edges; is = s.is; lead = λ e h. let l = s.lead e h in let t = l.0 in (omega (arith, t), l.1, l.2) });
-      others = each (λ j s. suc k ≤ j → s ≡ None) (λ b. absurd (omega (arith, b))) (λ j n b. o.others j (omega (arith, b)));
-      vertices = ap (λ g. g.vertices) graph_is ∙ (λ i. finmap.insert (o.vertices i) (one i) (record { kind = Subject; text = [] }));
-      roots = roots ∙ (λ i. record (o.roots i) { principals = (o.roots i).principals ++ first_root k ∷ [] });
-      progress = o.progress;
-      grey = o.grey;
-      next = next;
-      free = let l = ap length free in let s = length-set m.heap.table.slots k (Some (record { serial = k + 1; kind = Subject; colour = White; text = [] })) in let p = o.free in omega (arith, l, s, p);
+      whole = done.0;
+      vertices = ap (λ (v : Stored). vertices v) done.1 ∙ ap (λ (g : Protection). g.vertices) (c.graph 0) ∙ (λ z. finmap.insert (o.vertices z) (add-one count z) (record { kind = Subject; text = bare z }));
+      roots = added.0 ∙ (λ z. with_principal (lists_of (put.2 z).roots) (record { serial = count + 1; slot = at.0 z })) ∙ ap (λ (r : RootLists). with_principal r (first_root count)) o.roots;
+      progress = ap (λ (x : Machine). x.progress) same ∙ o.progress;
+      grey = ap (λ (x : Machine). x.heap.table.grey) same ∙ o.grey;
+      others = at.1;
+      free = ap (λ (x : Machine). x.heap.table.free) same ∙ at.3;
+      all = let l = size in let k = o.all in let r = at.2 in omega (arith, l, k, r);
     };
-    triples = ap (λ g. g.triples) graph_is ∙ f.triples;
-    cells = f.cells;
-  }
+    triples = ap (λ (v : Stored). triples v) done.1 ∙ ap (λ (g : Protection). g.triples) (c.graph 0) ∙ first.triples;
+  }),
+  record { slots = size; cells = ap (λ (x : Machine). x.heap.cell_count) same },
+) where
+  o : HasOpened m count
+  o = first.opened
 
-pub principal_opens : (m a : Machine) (rs : Roots) (serial i : ℕ) (text : List ℕ) → IsHeap m.heap → OpensFirst m (root_count m) → root_count m < 64 → serial ≡ root_count m + 1 → text ≡ []
-    → Puts m serial Subject text (Ok i) a → lists_of rs ≡ record (lists_of a.roots) { principals = a.roots.principals ++ record { serial = serial; slot = i } ∷ [] } → OpensNext m (record a { roots = rs })
-principal_opens m a rs serial i text ok f room named bare p roots = record {
-  first = subst (OpensFirst (record a { roots = rs })) (sym grown) (subst (λ (n : Machine). OpensFirst n (suc (root_count m))) (sym same) (first_after m rs (root_count m) p.0 ok f room free shown at.1));
-  more = let g = grown in omega (arith, g);
-  size = record { slots = ap (λ (n : Machine). length n.heap.table.slots) same ∙ length-set m.heap.table.slots (root_count m) _; cells = ap (λ (n : Machine). n.heap.cell_count) same };
-} where
-  at : (i ≡ root_count m) × AreFrom (suc (root_count m)) p.0
-  at = subst (AreFrom (root_count m)) p.1 f.opened.next
+  at : (i ≡ count) × (r : ℕ) × (o.others ≡ suc r) × (put.0 ≡ indices (suc count) r)
+  at = taken count o.others i put.0 (sym put.1 ∙ o.free)
 
-  free : m.heap.table.free ≡ root_count m ∷ p.0
-  free = p.1 ∙ ap (λ (j : ℕ). j ∷ p.0) at.0
+  c : Came m a i (count + 1) Subject text
+  c = came m a i (count + 1) Subject text ok o.whole
+      (λ h. let l = subjects-within count (count + 1) (subst (λ vs. finmap.contains_key vs (count + 1) ≡ true) o.vertices h) in omega (arith, l)) (none_parked m o.progress (count + 1)) put
 
-  colour : new_colour (progress_of m) i ≡ White
-  colour = ap (λ (q : Progress). new_colour (progress_in m.heap q) i) f.opened.progress
+  same : n ≡ record m { heap = record m.heap { table = record m.heap.table { slots = set m.heap.table.slots i (Some (record { serial = count + 1; kind = Subject; colour = new_colour (progress_of m) i; text = text })); free = put.0 } }; roots = n.roots }
+  same = added.1 ∙ ap (λ (x : Machine). record x { roots = n.roots }) put.2
 
-  same : record a { roots = rs } ≡ placed m (root_count m) (root_count m + 1) [] White p.0 rs
-  same = (λ j. record (p.2 j) { roots = rs }) ∙ (λ j. placed m (at.0 j) (named j) (bare j) (colour j) p.0 rs)
+  size : length n.heap.table.slots ≡ length m.heap.table.slots
+  size = ap (λ (x : Machine). length x.heap.table.slots) same ∙ length-set m.heap.table.slots i _
 
-  shown : lists_of rs ≡ record (lists_of m.roots) { principals = m.roots.principals ++ first_root (root_count m) ∷ [] }
-  shown = roots ∙ (λ j. record (lists_of (p.2 j).roots) { principals = (p.2 j).roots.principals ++ record { serial = named j; slot = at.0 j } ∷ [] })
-
-  grown : root_count (record a { roots = rs }) ≡ suc (root_count m)
-  grown = let l = ap (λ (r : RootLists). length r.principals) shown in let s = length-append m.roots.principals (first_root (root_count m) ∷ []) in omega (arith, l, s)
+  done : Whole n × (stored n ≡ record (stored a) { roots = with_principal (stored a).roots (record { serial = count + 1; slot = i }) })
+  done = principal_added a (record { serial = count + 1; slot = i }) c.whole (let l = ap (λ (x : Machine). length x.roots.principals) put.2 in let k = count_is m count o in omega (arith, l, k, few))
+      (inr (inr (ap progress_of put.2 ∙ at_rest m count o), c.here)) n added
 
 -- A configuration without a fault opens a graph that a store can open.
 pub openings_can_be_stored : OpeningsCanBeStored

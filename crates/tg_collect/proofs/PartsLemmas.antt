@@ -1,142 +1,82 @@
 -- What is held, listed slot by slot.
-use Rattle.std.proofs.Common.{◌≡◌, ℕ, ◌<◌, ◌≤◌, List, [], ◌∷◌, ◌++◌, append-nil, append_assoc, length, map, Option, Some, None, inl, inr, Bool, true, false, cond, T, sym, ◌∙◌, subst, ap, refl, arith, MatchOption}
-use Rattle.tg_collect.proofs.Common.{contains_append, contains_left, contains_map, contains_right, Contains, edge_list, edges, Free, Has, held, is_none, is_some, IsNonDecreasingBy, IsPermutation}
-use Rattle.tg_collect.proofs.Common.{in_slot, IsGraph, IsStore, join, Kept, kept, Kind, Letters, Machine, mapped, mark_at, nat_cmp, Occupant, option_map, place, Progress, progress, progress_in, progress_of, Idle, Marking, Sweeping}
-use Rattle.tg_collect.proofs.Common.{rises_append, rises_map, same_Some, seen, serial_at, serial_of, shown, slot, Stored, stored, unwrap_or, Vertex, vertex, vertices, White, Grey, Black, Colour, HeapGraph}
-use Rattle.std.specs.FinMap as finmap
-use Rattle.tg_slots.specs.Table as table
+use Rattle.std.proofs.Common.{◌≡◌, ◌<◌, ℕ, List, Option, Some, None, true, false, sym, ◌∙◌, subst, ap, refl, MatchOption}
+use Rattle.tg_collect.proofs.Common.{Contains, Edge, edges, edges_of, Free, held, in_slot, is_none, is_some, IsStore, join, Kept, kept, Listed, lists_of, Machine, mark_at, Occupant, option_map, option_to_list, progress, same_Some}
+use Rattle.tg_collect.proofs.Common.{serial_of, slot, spot, Stored, stored, vertex}
+use Rattle.std.specs.Prelude.{IsSome}
 use Rattle.tg_marking.specs.Values as values
-use Rattle.tg_graph.specs.Opening.{Edge}
-use Rattle.tg_graph.specs.Parts as listed
-use Rattle.tg_graph.specs.Parts.{Before, Listed, Rises}
-use Rattle.tg_graph.specs.Rules.{edges_of}
-use Rattle.tg_collect.specs.Parts.{AreHeldSlots, ListsHeld, edge_from, edges_at, held_serial, keeps, kind_in, listed_at, text_in}
-use Rattle.tg_collect.proofs.FoundLemmas.{found_below, found_sorted}
-use Rattle.tg_collect.proofs.EdgesLemmas.{edges_same, labels_same, sorted_rises, whole_IsGraph, whole_of}
-use Rattle.tg_collect.proofs.ShownLemmas.{Once, place_kept, vertex_found}
-use Rattle.tg_collect.proofs.SlotLemmas.{kept_within, zip_at}
-use Rattle.tg_collect.proofs.StoreLemmas.{edge_in, once_so, stored_kept}
+use Rattle.tg_collect.specs.Readings.{name}
+use Rattle.tg_graph.specs.Opening as graph
+use Rattle.tg_graph.specs.Protection.{label}
+use Rattle.tg_graph.specs.Parts as listing
+use Rattle.tg_collect.specs.declared.figures.Figure.{Figure}
+use Rattle.tg_collect.specs.Figures.{IsArrow, arrows, figure, figure_in}
+use Rattle.tg_collect.specs.Parts.{AreFound, ListsHeld, listed, listed_as}
+use Rattle.tg_collect.proofs.FiguresLemmas.{given, taken}
+use Rattle.tg_collect.proofs.FoundLemmas.{chosen, optional}
+use Rattle.tg_collect.proofs.EdgesLemmas.{label_here, slot_edges}
+use Rattle.tg_collect.proofs.ShownLemmas.{Once, place_kept, shown_edge, vertex_found}
+use Rattle.tg_collect.proofs.SlotLemmas.{at_free, zip_at}
+use Rattle.tg_collect.proofs.StoreLemmas.{edge_in, once_so, kept_name, stored_kept}
 
--- The serial of what a slot holds, by its colour.
-pub same_keeps : (h : HeapGraph) (p : Progress) (i : ℕ) (c : Colour) → keeps p i c ≡ values.keeps (progress_in h p) i c
-same_keeps h Idle i c = refl
-same_keeps h (Marking s) i c = refl
-same_keeps h (Sweeping k) i White = refl
-same_keeps h (Sweeping k) i Grey = refl
-same_keeps h (Sweeping k) i Black = refl
+-- What a slot that shows a held vertex holds.
+pub text_there : {X : Type 0} (m : Machine) (i : ℕ) (f : Figure) (text : Option X) (get : X → List ℕ) → Some f ≡ figure (stored m) i → MatchOption text (mark_at m.heap i ≡ Free) (λ t. in_slot (λ o. o.text) (slot m.heap.table i) ≡ Some (get t)) → IsSome text
+text_there m i f None get is free = absurd (cc (is, ap (figure_in (stored m).stage i) (at_free m.heap (lists_of m.roots) i free)))
+text_there m i f (Some t) get is there = refl
 
-pub serial_shown : (m : Machine) (i : ℕ) (p : Progress) (c : Option Colour) (x : Option ℕ) → p ≡ m.progress → MatchOption c (mark_at m.heap i ≡ Free) (λ d. mark_at m.heap i ≡ Has d) → x ≡ in_slot (λ o. o.serial) (slot m.heap.table i) →
-    held_serial p i c x ≡ place (stored m) i
-serial_shown m i p c x here colour serial =
-    ap (λ (q : Progress). held_serial q i c x) here
-    ∙ ap (held_serial m.progress i c) serial
-    ∙ by (slot m.heap.table i) c colour
-    ∙ sym (ap serial_of (stored_kept m i ∙ ap (seen (progress_of m) i) (zip_at m.heap.table.slots m.heap.lists i)))
-  where
-    if_kept : (b : Bool) (o : Occupant) → ◌≡◌ {A = Option ℕ} (cond b (Some o.serial) None) (serial_of (cond b (Some (record { serial = o.serial; kind = o.kind; text = o.text; edges = edges m.heap i })) None))
-    if_kept true o = refl
-    if_kept false o = refl
+pub listed_shown : (m : Machine) (i : ℕ) (f : Figure) (text : List ℕ) → Some f ≡ figure (stored m) i → f.is_held ≡ true → in_slot (λ o. o.text) (slot m.heap.table i) ≡ Some text → ◌≡◌ {A = Option Listed} (Some (f.serial, f.kind, text)) (listed (stored m) i)
+listed_shown m i f text is still there = by (slot m.heap.table i) (rw (zip_at m.heap.table.slots m.heap.lists i) at is) there ∙ sym (ap (option_map listed_as) (stored_kept m i ∙ ap (values.seen_at (stored m).stage i) (zip_at m.heap.table.slots m.heap.lists i))) where
+  by : (o : Option Occupant) → Some f ≡ figure_in (stored m).stage i (join o (edges m.heap i)) → in_slot (λ q. q.text) o ≡ Some text → ◌≡◌ {A = Option Listed} (Some (f.serial, f.kind, text)) (option_map listed_as (values.seen_at (stored m).stage i (join o (edges m.heap i))))
+  by None is there = absurd (cc)
+  by (Some o) is there = let keeps : values.keeps_at (stored m).stage i o.colour ≡ true = cc in rw keeps (cc)
 
-    by : (o : Option Occupant) (d : Option Colour) → MatchOption d (table.mark_of o ≡ Free) (λ e. table.mark_of o ≡ Has e) →
-        held_serial m.progress i d (in_slot (λ q. q.serial) o) ≡ serial_of (seen (progress_of m) i (join o (edges m.heap i)))
-    by None None is = refl
-    by None (Some d) is = absurd (cc)
-    by (Some o) None is = absurd (cc)
-    by (Some o) (Some d) is =
-        let same : o.colour ≡ d = cc in
-        ap (λ b. cond b (Some o.serial) None) (same_keeps m.heap m.progress i d ∙ ap (λ (e : Colour). values.keeps (progress_of m) i e) (sym same)) ∙ if_kept (values.keeps (progress_of m) i o.colour) o
+-- ---- what is listed, in the graph
 
--- The edges of one slot's vertex more.
-pub edges_append : (v : Stored) (ts : List (ℕ × ℕ)) (t : ℕ × ℕ) → edges_at v (ts ++ t ∷ []) ≡ edges_at v ts ++ map (edge_from t.0) (edges_of (held v 0) t.0)
-edges_append v [] t = append-nil (map (edge_from t.0) (edges_of (held v 0) t.0))
-edges_append v (u ∷ ts) t =
-    let first = map (edge_from u.0) (edges_of (held v 0) u.0) in
-    ap (λ (es : List Edge). first ++ es) (edges_append v ts t) ∙ sym (append_assoc first (edges_at v ts) (map (edge_from t.0) (edges_of (held v 0) t.0)))
+listed_kept : (o : Option Kept) (x : Listed) → option_map listed_as o ≡ Some x → (k : Kept) × (o ≡ Some k) × (listed_as k ≡ x)
+listed_kept None x is = absurd (cc)
+listed_kept (Some k) x is = (k, refl, same_Some _ x is)
+
+pub listed_named : (v : Stored) (i : ℕ) (x : Listed) → listed v i ≡ Some x → name v i ≡ Some x.0
+listed_named v i x is = let k = listed_kept (kept v i) x is in kept_name (progress v) i (spot v i) k.0 k.1 ∙ ap (λ (y : Listed). Some y.0) k.2
 
 module _ (v : Stored) (s : IsStore v) where
   once : Once v
   once = once_so v s.once
 
-  one_place : (i j x : ℕ) → place v i ≡ Some x → place v j ≡ Some x → i ≡ j
-  one_place i j x e f = let a = place_kept v i x e in let b = place_kept v j x f in once i j a.0 b.0 a.1 b.1 (a.2 ∙ sym b.2)
-
-  -- All of them, sorted by their serials.
-  pub slots_sorted : (n : ℕ) → length v.slots ≤ n → (ts : List (ℕ × ℕ)) → IsPermutation (found_below (place v) n) ts → IsNonDecreasingBy (λ (t : ℕ × ℕ). t.0) ts → AreHeldSlots v ts
-  slots_sorted n all ts moved up =
-      let are = found_sorted (place v) one_place n (λ i x is. let k = place_kept v i x is in let within = kept_within (shown v) (progress v) i k.0 k.1 in omega (arith, within, all)) ts moved up in
-      record { held = are.found; rising = are.rising }
-
-  -- What a slot holds is listed as its vertex.
-  listed_shown : (next i x : ℕ) → place v i ≡ Some x → vertex (held v next) x ≡ Some (listed.vertex_of (listed_at v (x, i)))
-  listed_shown next i x is =
-      let k = place_kept v i x is in
-      subst (λ (y : ℕ). vertex (held v next) y ≡ Some (listed.vertex_of (listed_at v (x, i)))) k.2
-      (vertex_found v next i k.0 once k.1 ∙ ap (λ (o : Option Kept). Some (listed.vertex_of (x, kind_in o, text_in o))) (sym k.1))
-
-  pub listed_as : (x i : ℕ) (k : Kind) (text : List ℕ) → place v i ≡ Some x → option_map (λ (u : Vertex). u.kind) (finmap.get (vertices v) (serial_at v i)) ≡ Some k →
-      option_map (λ (u : Vertex). u.text) (finmap.get (vertices v) (serial_at v i)) ≡ Some text → ◌≡◌ {A = Listed} (x, k, text) (listed_at v (x, i))
-  listed_as x i k text is of_kind of_text =
-      let found : finmap.get (vertices v) (serial_at v i) ≡ Some (listed.vertex_of (listed_at v (x, i))) = ap (λ (o : Option ℕ). finmap.get (vertices v) (unwrap_or o 0)) is ∙ listed_shown 0 i x is in
-      let as_kind : k ≡ kind_in (kept v i) = same_Some k (kind_in (kept v i)) (sym of_kind ∙ ap (option_map (λ (u : Vertex). u.kind)) found) in
-      let as_text : text ≡ text_in (kept v i) = same_Some text (text_in (kept v i)) (sym of_text ∙ ap (option_map (λ (u : Vertex). u.text)) found) in
-      λ j. (x, as_kind j, as_text j)
-
-  whole_graph : IsGraph (whole_of v)
-  whole_graph = whole_IsGraph v s.from_held s.to_held s.distinct
-
-  -- An edge in the list of all, and back.
-  from_edges : (ts : List (ℕ × ℕ)) (e : Edge) → Contains (edges_at v ts) e → (i : ℕ) × Contains ts (e.0, i) × Contains (edges_of (held v 0) e.0) (e.2, e.1)
-  from_edges [] e h = absurd h
-  from_edges (t ∷ ts) e h = elim (contains_append (map (edge_from t.0) (edges_of (held v 0) t.0)) (edges_at v ts) e h) [
-    | inl here ↦
-        (let one = mapped (edge_from t.0) (edges_of (held v 0) t.0) e here in
-        subst (λ (f : Edge). (i : ℕ) × Contains (t ∷ ts) (f.0, i) × Contains (edges_of (held v 0) f.0) (f.2, f.1)) (sym one.2) (t.1, inl refl, one.1))
-    | inr later ↦ (let rest = from_edges ts e later in (rest.0, inr rest.1, rest.2))
-  ]
-
-  to_edges : (ts : List (ℕ × ℕ)) (t : ℕ × ℕ) (p : ℕ × Letters) → Contains ts t → Contains (edges_of (held v 0) t.0) p → Contains (edges_at v ts) (edge_from t.0 p)
-  to_edges [] t p h c = absurd h
-  to_edges (u ∷ ts) t p (inl is) c =
-      contains_left (map (edge_from u.0) (edges_of (held v 0) u.0)) (edges_at v ts) (edge_from t.0 p)
-      (subst (λ (w : ℕ × ℕ). Contains (map (edge_from w.0) (edges_of (held v 0) w.0)) (edge_from t.0 p)) is (contains_map (edge_from t.0) (edges_of (held v 0) t.0) p c))
-  to_edges (u ∷ ts) t p (inr h) c = contains_right (map (edge_from u.0) (edges_of (held v 0) u.0)) (edges_at v ts) (edge_from t.0 p) (to_edges ts t p h c)
-
-  edges_rise : (ts : List (ℕ × ℕ)) → Rises (λ (t u : ℕ × ℕ). t.0 < u.0) ts → Rises Before (edges_at v ts)
-  edges_rise [] r = tt
-  edges_rise (t ∷ ts) r =
-      rises_append Before (map (edge_from t.0) (edges_of (held v 0) t.0)) (edges_at v ts)
-      (rises_map (edge_from t.0) (λ (p q : ℕ × Letters). p.0 < q.0) Before (edges_of (held v 0) t.0) (λ p q low. inr (refl, low))
-      (sorted_rises (edges_of (held v 0) t.0) (subst T (sym (ap (finmap.is_sorted nat_cmp) (edges_same v 0 t.0) ∙ (edge_list (whole_of v) t.0 whole_graph).rising)) tt)))
-      (edges_rise ts r.1)
-      (λ e f in_e in_f.
-      let here : e.0 ≡ t.0 = ap (λ (g : Edge). g.0) (mapped (edge_from t.0) (edges_of (held v 0) t.0) e in_e).2 in
-      let there = from_edges ts f in_f in
-      let low : t.0 < f.0 = r.0 (f.0, there.0) there.1 in
-      inl (omega (arith, here, low)))
-
-  -- The lists of all slots that hold something are lists of what is held.
-  pub lists_held : (ts : List (ℕ × ℕ)) → AreHeldSlots v ts → ListsHeld v (map (listed_at v) ts) (edges_at v ts)
-  lists_held ts are = record {
+  pub lists_held : (vs : List Listed) (es : List graph.Edge) → AreFound (λ i. option_to_list (listed v i)) (λ a b. a.0 < b.0) vs → AreFound (arrows v false) listing.Before es → ListsHeld v vs es
+  lists_held vs es found led = record {
     vertices = λ next x k text. (
-      λ h.
-          let one = mapped (listed_at v) ts (x, k, text) h in
-          subst (λ (l : Listed). vertex (held v next) l.0 ≡ Some (listed.vertex_of l)) (sym one.2) (listed_shown next one.0.1 one.0.0 ((are.held one.0.0 one.0.1).0 one.1)),
-      λ is.
+      λ h. (
+          let at = (found.has (x, k, text)).0 h in
+          let t = listed_kept (kept v at.0) (x, k, text) (optional _ (x, k, text) at.1) in
+          subst (λ (l : Listed). vertex (held v next) l.0 ≡ Some (listing.vertex_of l)) t.2 (vertex_found v next at.0 t.0 once t.1)),
+      λ is. (
           let at = s.has_place x (ap is_some is) in
-          let shown_as : listed.vertex_of (listed_at v (x, at.0)) ≡ record { kind = k; text = text } = same_Some _ _ (sym (listed_shown next at.0 x at.1) ∙ is) in
-          subst (Contains (map (listed_at v) ts)) (λ j. (x, (shown_as j).kind, (shown_as j).text)) (contains_map (listed_at v) ts (x, at.0) ((are.held x at.0).1 at.1)),
+          let t = place_kept v at.0 x at.1 in
+          let same : listing.vertex_of (t.0.serial, t.0.kind, t.0.text) ≡ record { kind = k; text = text } = same_Some _ _ (sym (vertex_found v next at.0 t.0 once t.1) ∙ ap (vertex (held v next)) t.2 ∙ is) in
+          (found.has (x, k, text)).1 (at.0, chosen _ (x, k, text) (ap (option_map listed_as) t.1 ∙ (λ j. Some (t.2 j, (same j).kind, (same j).text))))),
     );
     edges = λ next x y l. (
-      λ h.
-          let from = from_edges ts (x, l, y) h in
-          let is = ((edge_list (whole_of v) x whole_graph).edges y l).0 (subst (λ (es : List (ℕ × Letters)). Contains es (y, l)) (edges_same v 0 x) from.2) in
-          (is.0 ∙ sym (labels_same v next x y), ap is_none (labels_same v next x y) ∙ is.1),
-      λ is.
-          let edge = edge_in v next x y is.1 in
-          let at = s.has_place x (s.from_held (record { from = x; right = edge.0; to = y }) edge.1) in
-          let there = ((edge_list (whole_of v) x whole_graph).edges y l).1 (is.0 ∙ labels_same v next x y, ap is_none (sym (labels_same v next x y)) ∙ is.1) in
-          to_edges ts (x, at.0) (y, l) ((are.held x at.0).1 at.1) (subst (λ (es : List (ℕ × Letters)). Contains es (y, l)) (sym (edges_same v 0 x)) there),
+      λ h. (
+          let r = (led.has (x, l, y)).0 h in
+          let (a, same, at) = given v false r.0 (x, l, y) r.1 in
+          let t = place_kept v r.0 x at in
+          let owned = subst (λ (es : List Edge). Contains es a.edge) (ap (λ (i : ℕ). edges_of (spot v i)) same ∙ slot_edges v once s.closed s.serials s.labelled next r.0 t.0 t.1) a.owned in
+          let is : label (held v next) x y ≡ l = (λ j. label (held v next) (sym t.2 j) (sym a.to j)) ∙ label_here v once s.closed s.serials s.labelled next r.0 t.0 t.1 a.edge owned ∙ a.label in
+          (sym is, ap is_none (is ∙ sym a.label) ∙ s.labelled a.slot a.edge a.owned)),
+      λ is. (
+          let (i, k, e, here, owned, from, to) = shown_edge v x y (edge_in v next x y is.1) in
+          let there = s.closed.edges i k e here owned in
+          let arrow : IsArrow v x l y = record {
+            slot = i;
+            edge = e;
+            from = kept_name (progress v) i (spot v i) k here ∙ ap (λ (z : ℕ). Some z) from;
+            owned = subst (λ (l : List Edge). Contains l e) (sym (slot_edges v once s.closed s.serials s.labelled next i k here)) owned;
+            label = sym (label_here v once s.closed s.serials s.labelled next i k here e owned) ∙ (λ j. label (held v next) (from j) (to j)) ∙ sym is.0;
+            to = to;
+            there = kept_name (progress v) e.target (spot v e.target) there.0 there.1 ∙ ap (λ (z : ℕ). Some z) (there.2 ∙ to);
+          } in
+          (led.has (x, l, y)).1 (i, taken v false x y l arrow (ap serial_of here ∙ ap (λ (z : ℕ). Some z) from))),
     );
-    by_serial = rises_map (listed_at v) (λ (t u : ℕ × ℕ). t.0 < u.0) (λ (a b : Listed). a.0 < b.0) ts (λ t u low. low) are.rising;
-    by_pairs = edges_rise ts are.rising;
+    by_serial = found.rising;
+    by_pairs = led.rising;
   }

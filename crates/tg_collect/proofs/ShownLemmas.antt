@@ -1,9 +1,8 @@
 -- What the graph of what is held says of the slots, and back.
-use Rattle.std.proofs.Common.{◌≡◌, ℕ, zero, suc, ◌+◌, List, [], ◌∷◌, length, Option, Some, None, inl, inr, Bool, true, false, cond, ◌&&◌, ◌==◌, eqb-true, eq-eqb, sym, ◌∙◌, subst, ap, refl, arith, get_or, set, sum_by}
-use Rattle.tg_collect.proofs.Common.{is_some, nat_cmp, Right, has, is_none, Contains, some_right, Triple, Edge, Spot, Kept, seen, vertex_of, Stored, kept_from, progress, serial_of, place, held, vertices, triples, IsHeldIn, IsEdgeIn}
-use Rattle.tg_collect.proofs.Common.{Distinct, eq_by_cmp, nat_cmp_total, unsigned_tied, find, get-from_entries, contains_key-keys, list_any, ones, or_right, sum_among}
-use Rattle.tg_collect.proofs.Common.{or_either, or_join, and_both, Vertex, entries, says_edge, says, contains-held, IsRoll, Member, Protection, contains-empty}
+use Rattle.std.proofs.Common.{◌≡◌, ℕ, zero, suc, ◌+◌, List, [], ◌∷◌, length, Option, Some, None, true, false, eqb-true, eq-eqb, sym, ◌∙◌, ap, refl, arith, get_or, set, sum_by, inl, inr}
+use Rattle.tg_collect.proofs.Common.{Any-from_list_any, any_is, is_any, list_any_at, ext_get_or, get_or_default, at_within, says_slot, is_some, nat_cmp, Right, has, is_none, Contains, some_right, Triple, Edge, Spot, Kept, seen, vertex_of, Stored, kept_from, progress, place, held, vertices, triples, IsHeldIn, IsEdgeIn, Distinct, eq_by_cmp, nat_cmp_total, unsigned_tied, find, get-from_entries, ones, sum_among, and_both, Vertex, entries, says_edge, contains-held, Member, Protection, contains_key-keys}
 use Rattle.tg_graph.specs.Protection.{label}
+use Rattle.std.proofs.lemmas.Bool.{cases_Bool}
 use Rattle.std.specs.FinMap as finmap
 use Rattle.std.specs.FinSet as finset
 use Rattle.tg_held.specs.Held as graph
@@ -31,34 +30,14 @@ pub from_size : (p : Progress) (k : ℕ) (os : List (Option Spot)) → length (k
 from_size p k [] = refl
 from_size p k (o ∷ os) = ap suc (from_size p (suc k) os)
 
--- A graph in which nobody is a principal or was one, and labels, which are the same whoever is.
-pub nobody : (vs : finmap.FinMap nat_cmp Vertex) (next : ℕ) → IsRoll vs next [] finset.empty
-nobody vs next = record {
-  subjects = λ m h. absurd h;
-  active = λ m h. absurd h;
-  rising = tt;
-  apart = tt;
-  few = omega arith;
-  past = λ v h. absurd (cc (sym h ∙ contains-empty nat_cmp v));
-}
-
+-- Labels are the same whoever is a principal, or was one.
 pub named_label : (H : Protection) (names : List Member) (retired : finset.FinSet nat_cmp) (x y : ℕ) → label (record H { names = names; retired = retired }) x y ≡ label H x y
 unfolding label
 named_label H names retired x y = refl
 
--- Two lists that hold the same, hold the same graph.
-from_same : (p q : Progress) (k : ℕ) (os ps : List (Option Spot)) → length os ≡ length ps → ((i : ℕ) → seen p (k + i) (get_or os i None) ≡ seen q (k + i) (get_or ps i None)) → kept_from p k os ≡ kept_from q k ps
-from_same p q k [] [] l e = refl
-from_same p q k [] (x ∷ ps) l e = absurd (omega (arith, l))
-from_same p q k (o ∷ os) [] l e = absurd (omega (arith, l))
-from_same p q k (o ∷ os) (x ∷ ps) l e =
-    let stay : k + 0 ≡ k = omega arith in
-    let first : seen p k o ≡ seen q k x = subst (λ (n : ℕ). seen p n o ≡ seen q n x) stay (e 0) in
-    let rest = from_same p q (suc k) os ps (omega (arith, l)) (λ i. let move : k + suc i ≡ suc k + i = omega arith in subst (λ (n : ℕ). seen p n (get_or os i None) ≡ seen q n (get_or ps i None)) move (e (suc i))) in
-    λ n. first n ∷ rest n
-
+-- Slots that hold the same, hold the same graph.
 pub held_same : (v w : Stored) → length w.slots ≡ length v.slots → ((i : ℕ) → readings.kept w i ≡ readings.kept v i) → (next : ℕ) → held w next ≡ held v next
-held_same v w size e next = ap (λ os. graph.held os next) (from_same (progress w) (progress v) 0 w.slots v.slots size (λ i. let z : 0 + i ≡ i = omega arith in subst (λ (n : ℕ). seen (progress w) n (get_or w.slots i None) ≡ seen (progress v) n (get_or v.slots i None)) (sym z) (e i)))
+held_same v w size e next = ap (λ os. graph.held os next) (ext_get_or None _ _ (from_size (progress w) 0 w.slots ∙ size ∙ sym (from_size (progress v) 0 v.slots)) (λ i l. held_at w i ∙ e i ∙ sym (held_at v i)))
 
 -- A triple is a right of some edge of some slot.
 pub record Owns (os : List (Option Kept)) (t : Triple) : Type 0 where
@@ -71,42 +50,28 @@ pub record Owns (os : List (Option Kept)) (t : Triple) : Type 0 where
   pub to : t.to ≡ edge.serial
   pub right : has edge.rights t.right ≡ true
 
-edge_says : (es : List Edge) (t : Triple) → says_edge es t ≡ true → (e : Edge) × Contains es e × (t.to ≡ e.serial) × (has e.rights t.right ≡ true)
-edge_says [] t h = absurd (cc)
-edge_says (e ∷ es) t h = elim (or_either ((t.to == e.serial) && has e.rights t.right) (says_edge es t) h) [
-  | inl here ↦ (let b = and_both (t.to == e.serial) (has e.rights t.right) here in (e, inl refl, eqb-true t.to e.serial b.0, b.1))
-  | inr there ↦ (let r = edge_says es t there in (r.0, inr r.1, r.2, r.3))
-]
-
-slot_says : (os : List (Option Kept)) (t : Triple) → says os t ≡ true → Owns os t
-slot_says [] t h = absurd (cc)
-slot_says (None ∷ os) t h = let r = slot_says os t h in record { at = suc r.at; kept = r.kept; is = r.is; edge = r.edge; owned = r.owned; from = r.from; to = r.to; right = r.right }
-slot_says (Some k ∷ os) t h = elim (or_either ((t.from == k.serial) && says_edge k.edges t) (says os t) h) [
-  | inl here ↦ (
-      let b = and_both (t.from == k.serial) (says_edge k.edges t) here in
-      let e = edge_says k.edges t b.1 in
-      record { at = 0; kept = k; is = refl; edge = e.0; owned = e.1; from = eqb-true t.from k.serial b.0; to = e.2; right = e.3 })
-  | inr there ↦ (let r = slot_says os t there in record { at = suc r.at; kept = r.kept; is = r.is; edge = r.edge; owned = r.owned; from = r.from; to = r.to; right = r.right })
-]
-
-says_it : (es : List Edge) (e : Edge) (x : ℕ) (r : Right) → Contains es e → has e.rights r ≡ true → says_edge es (record { from = x; right = r; to = e.serial }) ≡ true
-says_it [] e x r c h = absurd c
-says_it (d ∷ es) e x r (inl is) h = rw (sym is, eq-eqb e.serial e.serial refl, h) refl
-says_it (d ∷ es) e x r (inr c) h = or_right _ _ (says_it es e x r c h)
-
-slot_says_it : (os : List (Option Kept)) (i : ℕ) (k : Kept) (e : Edge) (r : Right) → get_or os i None ≡ Some k → Contains k.edges e → has e.rights r ≡ true → says os (record { from = k.serial; right = r; to = e.serial }) ≡ true
-slot_says_it [] i k e r is c h = absurd (cc)
-slot_says_it (None ∷ os) zero k e r is c h = absurd (cc)
-slot_says_it (None ∷ os) (suc i) k e r is c h = slot_says_it os i k e r is c h
-slot_says_it (Some j ∷ os) zero k e r is c h = let same : j ≡ k = cc in rw (same, eq-eqb k.serial k.serial refl, says_it k.edges e k.serial r c h) refl
-slot_says_it (Some j ∷ os) (suc i) k e r is c h = or_right _ _ (slot_says_it os i k e r is c h)
+slot_says : (os : List (Option Kept)) (t : Triple) (i : ℕ) (o : Option Kept) → get_or os i None ≡ o → says_slot o t ≡ true → Owns os t
+slot_says os t i None is h = absurd (cc)
+slot_says os t i (Some k) is h =
+    let b = and_both _ _ h in
+    let e = any_is _ k.edges b.1 in
+    let l = and_both _ _ e.2 in
+    record { at = i; kept = k; is = is; edge = e.0; owned = e.1; from = eqb-true t.from k.serial b.0; to = eqb-true t.to e.0.serial l.0; right = l.1 }
 
 pub triple_owned : (v : Stored) (t : Triple) → finset.contains (triples v) t ≡ true → Owns (kept_from (progress v) 0 v.slots) t
-triple_owned v t h = slot_says (kept_from (progress v) 0 v.slots) t (sym (contains-held (kept_from (progress v) 0 v.slots) 0 t) ∙ h)
+triple_owned v t h =
+    let os = kept_from (progress v) 0 v.slots in
+    let r = Any-from_list_any (λ o. says_slot o t) os (sym (contains-held os 0 t) ∙ h) in
+    slot_says os t r.0 r.1 (get_or_default os r.0 None r.1 r.2 ∙ r.3) r.4
 
 -- An edge in words of serials.
 pub says_triple : (v : Stored) (i : ℕ) (k : Kept) (e : Edge) (r : Right) → readings.kept v i ≡ Some k → Contains k.edges e → has e.rights r ≡ true → finset.contains (triples v) (record { from = k.serial; right = r; to = e.serial }) ≡ true
-says_triple v i k e r is c h = contains-held (kept_from (progress v) 0 v.slots) 0 (record { from = k.serial; right = r; to = e.serial }) ∙ slot_says_it (kept_from (progress v) 0 v.slots) i k e r (held_at v i ∙ is) c h
+says_triple v i k e r is c h =
+    let os = kept_from (progress v) 0 v.slots in
+    let t : Triple = record { from = k.serial; right = r; to = e.serial } in
+    let there = held_at v i ∙ is in
+    let says : says_edge k.edges t ≡ true = is_any _ k.edges e c (rw (eq-eqb e.serial e.serial refl) h) in
+    contains-held os 0 t ∙ list_any_at (λ o. says_slot o t) os i None (at_within os i k there) (rw (there, eq-eqb k.serial k.serial refl) says)
 
 pub edge_shown : (v : Stored) (i : ℕ) (k : Kept) (e : Edge) → readings.kept v i ≡ Some k → Contains k.edges e → is_none e.rights ≡ false → IsEdgeIn v k.serial e.serial
 edge_shown v i k e is c some = let r = some_right e.rights some in (r.0, says_triple v i k e r.0 is c r.1)
@@ -126,21 +91,20 @@ key_same x k e = unsigned_tied x k ∙ eq-eqb x k e
 found_at : (os : List (Option Kept)) (q : ℕ) (u : Vertex) → find nat_cmp q (entries os) ≡ Some u → (i : ℕ) × (k : Kept) × (get_or os i None ≡ Some k) × (k.serial ≡ q) × (vertex_of k ≡ u)
 found_at [] q u h = absurd (cc)
 found_at (None ∷ os) q u h = let r = found_at os q u h in (suc r.0, r.1, r.2, r.3, r.4)
-found_at (Some k ∷ os) q u h = by (eq_by_cmp nat_cmp q k.serial) refl h (found_at os q u) where
-  by : (b : Bool) → eq_by_cmp nat_cmp q k.serial ≡ b → cond b (Some (vertex_of k)) (find nat_cmp q (entries os)) ≡ Some u
-      → (find nat_cmp q (entries os) ≡ Some u → (i : ℕ) × (j : Kept) × (get_or os i None ≡ Some j) × (j.serial ≡ q) × (vertex_of j ≡ u)) → (i : ℕ) × (j : Kept) × (get_or (Some k ∷ os) i None ≡ Some j) × (j.serial ≡ q) × (vertex_of j ≡ u)
-  by true e h rest = (0, k, refl, sym (same_key q k.serial e), (let a : Some (vertex_of k) ≡ Some u = h in cc))
-  by false e h rest = let r = rest h in (suc r.0, r.1, r.2, r.3, r.4)
+found_at (Some k ∷ os) q u h =
+    let rest = found_at os q u in
+    elim (cases_Bool (eq_by_cmp nat_cmp q k.serial)) [
+      | inl e ↦ (0, k, refl, sym (same_key q k.serial e), (let a : Some (vertex_of k) ≡ Some u = rw e at h in cc))
+      | inr e ↦ (let r = rest (rw e at h) in (suc r.0, r.1, r.2, r.3, r.4))
+    ]
 
 at_found : (os : List (Option Kept)) (i : ℕ) (k : Kept) → get_or os i None ≡ Some k → ((j : ℕ) (t : Kept) → get_or os j None ≡ Some t → t.serial ≡ k.serial → j ≡ i) → find nat_cmp k.serial (entries os) ≡ Some (vertex_of k)
 at_found [] i k is once = absurd (cc)
-at_found (None ∷ os) zero k is once = absurd (cc)
-at_found (None ∷ os) (suc i) k is once = at_found os i k is (λ j t e s. let u = once (suc j) t e s in omega (arith, u))
-at_found (Some t ∷ os) zero k is once = let same : t ≡ k = cc in rw (same, key_same k.serial k.serial refl) refl
-at_found (Some t ∷ os) (suc i) k is once = by (eq_by_cmp nat_cmp k.serial t.serial) refl (at_found os i k is (λ j t e s. let u = once (suc j) t e s in omega (arith, u))) where
-  by : (b : Bool) → eq_by_cmp nat_cmp k.serial t.serial ≡ b → find nat_cmp k.serial (entries os) ≡ Some (vertex_of k) → cond b (Some (vertex_of t)) (find nat_cmp k.serial (entries os)) ≡ Some (vertex_of k)
-  by true e rest = absurd (let u = once 0 t refl (sym (same_key k.serial t.serial e)) in omega (arith, u))
-  by false e rest = rest
+at_found (o ∷ os) zero k is once = let same = key_same k.serial k.serial refl in grind arith
+at_found (o ∷ os) (suc i) k is once =
+    let rest = at_found os i k is (λ j t e s. let u = once (suc j) t e s in omega (arith, u)) in
+    let first = once 0 in
+    grind (arith, same_key)
 
 -- No two slots hold a serial.
 abbrev pub Once : Stored → Type 0
@@ -161,10 +125,7 @@ kept_held v i k once is = ap is_some (vertex_found v 0 i k once is)
 
 -- A slot's serial.
 pub place_kept : (v : Stored) (i x : ℕ) → place v i ≡ Some x → (k : Kept) × (readings.kept v i ≡ Some k) × (k.serial ≡ x)
-place_kept v i x e = by (readings.kept v i) refl e where
-  by : (o : Option Kept) → readings.kept v i ≡ o → serial_of o ≡ Some x → (k : Kept) × (readings.kept v i ≡ Some k) × (k.serial ≡ x)
-  by None h e = absurd (cc)
-  by (Some k) h e = (k, h, (let u : Some k.serial ≡ Some x = e in cc))
+place_kept v i x e = grind arith
 
 -- Lists without repetition, their lengths and their sums.
 -- Two lists without repetition that have the same elements have the same sums.
@@ -178,16 +139,5 @@ pub same_length : {X : Type 0} (xs ys : List X) → Distinct xs → Distinct ys 
 same_length xs ys d e to from = sym (ones xs) ∙ same_sum (λ x. 1) xs ys d e to from ∙ ones ys
 
 -- The keys of a map.
-any_key : (ks : List ℕ) (x : ℕ) → list_any (eq_by_cmp nat_cmp x) ks ≡ true → Contains ks x
-any_key [] x t = absurd (cc)
-any_key (k ∷ ks) x t = elim (or_either _ _ t) [ inl e ↦ inl (same_key x k e) | inr u ↦ inr (any_key ks x u) ]
-
-key_any : (ks : List ℕ) (x : ℕ) → Contains ks x → list_any (eq_by_cmp nat_cmp x) ks ≡ true
-key_any [] x h = absurd h
-key_any (k ∷ ks) x h = or_join _ _ (elim h [ inl e ↦ inl (key_same x k e) | inr r ↦ inr (key_any ks x r) ])
-
-pub contains_keys : {X : Type 0} (m : finmap.FinMap nat_cmp X) (x : ℕ) → finmap.contains_key m x ≡ true → Contains (finmap.keys m) x
-contains_keys m x t = any_key (finmap.keys m) x (sym (contains_key-keys m x) ∙ t)
-
 pub keys_contains : {X : Type 0} (m : finmap.FinMap nat_cmp X) (x : ℕ) → Contains (finmap.keys m) x → finmap.contains_key m x ≡ true
-keys_contains m x h = contains_key-keys m x ∙ key_any (finmap.keys m) x h
+keys_contains m x h = contains_key-keys m x ∙ is_any (eq_by_cmp nat_cmp x) (finmap.keys m) x h (key_same x x refl)

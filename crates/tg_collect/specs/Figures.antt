@@ -1,23 +1,13 @@
 -- what the slots show, in lists: each vertex that has a slot, with its colour, and the edges between them
-use Rattle.std.specs.Prelude.{◌≡◌, ◌<◌, ◌==◌, ◌++◌, ℕ, Bool, true, cond, List, [], ◌∷◌, ◌↔◌, Option, Some, None}
-use Rattle.std.specs.List.{flat_map}
-use Rattle.std.specs.List.Sorted.{IsPermutation}
+use Rattle.std.specs.Prelude.{◌≡◌, ◌<◌, ℕ, nat_eq, Bool, cond, List, [], map, ◌↔◌, Option, Some, None}
+use Rattle.std.specs.List.{filter}
+use Rattle.std.specs.Option.{option_eq}
 use Rattle.tg_rights.specs.Letters.{Letters}
-use Rattle.tg_rights.specs.Membership.{Contains}
-use Rattle.tg_rights.specs.declared.kind.Kind.{Kind}
-use Rattle.tg_rights.specs.declared.kind.Kind.TheVariants as kind
 use Rattle.tg_graph.specs.Opening as graph
 use Rattle.tg_graph.specs.Parts.{Before, Rises}
-use Rattle.tg_slots.specs.Table.{in_slot, slot}
-use Rattle.tg_slots.specs.declared.colour.Colour.{Colour}
-use Rattle.tg_slots.specs.declared.colour.Colour.TheVariants.{White}
-use Rattle.tg_cells.specs.Lists.{Edge}
-use Rattle.tg_heap.specs.Graph.{HeapGraph}
-use Rattle.tg_marking.specs.Values.{Spot, Stage, edges_of, keeps_at}
+use Rattle.tg_marking.specs.Values.{Contains, Edge, Spot, Stage, edges_of, keeps_at}
 use Rattle.tg_collect.specs.declared.figures.Figure.{Figure}
-use Rattle.tg_collect.specs.declared.machine.Progress.{Progress}
-use Rattle.tg_collect.specs.Parts.{keeps}
-use Rattle.tg_collect.specs.Readings.{name, spot}
+use Rattle.tg_collect.specs.Readings.{name, place, spot}
 use Rattle.tg_collect.specs.Stored.{Stored}
 
 -- what a slot shows: the serial of its vertex, what it is, its colour, and whether it is held, or waits to be swept
@@ -46,68 +36,23 @@ pub record Shows (v : Stored) (figures : List Figure) (arrows : List graph.Edge)
   pub by_serial : Rises (λ (a b : Figure). a.serial < b.serial) figures
   pub by_pairs : Rises Before arrows
 
--- ---- slot by slot
+-- ---- how they are gathered
 
--- the slots in use, each with its serial, by rising serial
-pub record AreUsedSlots (v : Stored) (slots : List (ℕ × ℕ)) : Type 0 where
-  pub named : (x i : ℕ) → Contains slots (x, i) ↔ (name v i ≡ Some x)
-  pub rising : Rises (λ a b. a.0 < b.0) slots
+-- the serial of a slot's vertex, if it is held or the parked ones count too
+abbrev pub from_at : Stored → Bool → ℕ → Option ℕ
+from_at v parked i = cond parked (name v i) (place v i)
 
--- what a slot with these shows
-abbrev pub figure_of : Progress → ℕ → Option ℕ → Option Kind → Option Colour → Option Figure
-figure_of p i x k None = None
-figure_of p i x None (Some c) = None
-figure_of p i None (Some k) (Some c) = None
-figure_of p i (Some x) (Some k) (Some c) = Some (record { serial = x; kind = k; colour = c; is_held = keeps p i c })
+-- whether the slot that an edge leads to has its serial still
+abbrev pub is_there : Stored → Edge → Bool
+is_there v e = option_eq nat_eq (name v e.target) (Some e.serial)
 
--- what is shown in a slot, as it is listed
-abbrev pub kind_in : Option Spot → Kind
-kind_in None = kind.Subject
-kind_in (Some s) = s.kind
+-- the edges that are shown of a slot's vertex, which has this serial, in the order of its cells
+abbrev pub edge_from : ℕ → Edge → graph.Edge
+edge_from x e = (x, e.rights, e.serial)
 
-abbrev pub colour_in : Option Spot → Colour
-colour_in None = White
-colour_in (Some s) = s.colour
+abbrev pub arrows_from : Stored → Option ℕ → ℕ → List graph.Edge
+arrows_from v None i = []
+arrows_from v (Some x) i = map (edge_from x) (filter (is_there v) (edges_of (spot v i)))
 
-abbrev pub held_in : Stage → ℕ → Option Spot → Bool
-held_in g i None = true
-held_in g i (Some s) = keeps_at g i s.colour
-
-abbrev pub figure_as : Stage → ℕ → ℕ → Option Spot → Figure
-figure_as g i x o = record { serial = x; kind = kind_in o; colour = colour_in o; is_held = held_in g i o }
-
-abbrev pub figure_at : Stored → ℕ × ℕ → Figure
-figure_at v s = figure_as v.stage s.1 s.0 (spot v s.1)
-
--- the cell of an edge, as it is read: the slot and the serial that it leads to, and the rights
-abbrev pub Cell : Type 0
-Cell = ℕ × ℕ × Letters
-
-abbrev pub cell_of : Edge → Cell
-cell_of e = (e.target, e.serial, e.rights)
-
--- the edge from x that a cell has, if this serial, which the slot has that it leads to, is the cell's
-abbrev pub arrow_if : ℕ → Cell → Option ℕ → List graph.Edge
-arrow_if x c None = []
-arrow_if x c (Some y) = cond (y == c.1) ((x, c.2, c.1) ∷ []) []
-
--- the same for an edge, in a heap and in a store
-abbrev pub arrow_in : HeapGraph → ℕ → Edge → List graph.Edge
-arrow_in h x e = arrow_if x (cell_of e) (in_slot (λ o. o.serial) (slot h.table e.target))
-
-abbrev pub arrow_of : Stored → ℕ → Edge → List graph.Edge
-arrow_of v x e = arrow_if x (cell_of e) (name v e.target)
-
--- all edges of a slot's vertex x that are shown, in the order of their cells
-abbrev pub arrows_of : Stored → ℕ → ℕ → List graph.Edge
-arrows_of v x i = flat_map (arrow_of v x) (edges_of (spot v i))
-
--- the same by rising serial
-pub record AreArrowsOf (v : Stored) (x i : ℕ) (arrows : List graph.Edge) : Type 0 where
-  pub same : IsPermutation (arrows_of v x i) arrows
-  pub rising : Rises (λ (a b : graph.Edge). a.2 < b.2) arrows
-
--- those of all these slots, one after the other
-abbrev pub AreArrows : Stored → List (ℕ × ℕ) → List graph.Edge → Type 0
-AreArrows v [] arrows = arrows ≡ []
-AreArrows v (s ∷ slots) arrows = (first : List graph.Edge) × (rest : List graph.Edge) × (arrows ≡ first ++ rest) × AreArrowsOf v s.0 s.1 first × AreArrows v slots rest
+abbrev pub arrows : Stored → Bool → ℕ → List graph.Edge
+arrows v parked i = arrows_from v (from_at v parked i) i

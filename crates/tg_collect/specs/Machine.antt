@@ -5,13 +5,9 @@ use Rattle.tg_heap.specs.declared.heap.HeapFull.TheVariants as full
 use Rattle.std.specs.Prelude.{◌≡◌, ◌≢◌, ℕ, ◌+◌, ◌<◌, ◌≤◌, List, [], ◌∷◌, ◌++◌, length, map, Option, Some, None, ◌⊎◌, Bool, get_or, set, Result, Ok, Err, false, cond, eqb, not, ◌&&◌, ◌==◌, nat_lt}
 use Rattle.std.specs.List.{filter}
 use Rattle.tg_rights.specs.declared.limits.TheConstants.{MAX_PRINCIPALS, SEATS}
-use Rattle.tg_rights.specs.Membership.{Contains}
 use Rattle.tg_rights.specs.Letters.{Letters}
-use Rattle.tg_rights.specs.declared.kind.Kind.{Kind}
 use Rattle.tg_slots.specs.Table.{Table, Has, slot}
 use Rattle.tg_slots.specs.declared.slots.Occupant.{Occupant}
-use Rattle.tg_slots.specs.declared.colour.Colour.TheVariants.{White, Black}
-use Rattle.tg_slots.specs.declared.colour.Colour.{Colour}
 use Rattle.tg_cells.specs.Lists.{Edge, first_cell, HasNone}
 use Rattle.tg_heap.specs.Graph.{HeapGraph, edges, shaded}
 use Rattle.tg_heap.specs.Marking.{remaining}
@@ -19,7 +15,7 @@ use Rattle.tg_heap.specs.Calls.{IsAdded, IsDropped}
 use Rattle.tg_heap.specs.declared.heap.Dropped.{Dropped}
 use Rattle.tg_heap.specs.declared.heap.Dropped.TheVariants.{Kept, Gone}
 use Rattle.tg_heap.specs.declared.heap.HeapFull.{HeapFull}
-use Rattle.tg_marking.specs.Values.{Spot, Body, name, mark, IsTarget}
+use Rattle.tg_marking.specs.Values.{Contains, Kind, White, Black, Colour, Spot, Body, name, mark, IsTarget}
 use Rattle.tg_marking.specs.Steps.{Line, new_colour}
 use Rattle.tg_marking.specs.Invariant.{Invariant}
 use Rattle.tg_collect.specs.declared.note.Phase.{Phase}
@@ -124,14 +120,18 @@ pub record Whole (m : Machine) : Type 0 where
   pub cursor : CursorFits m.heap m.progress
   pub roots : AreRoots (lists_of m.roots) (body m)
 
+-- the cells stay, and this many slots are freed, with a cell at most
+pub record Counts (h g : HeapGraph) (freed : ℕ) : Type 0 where
+  pub cells : g.cell_count ≡ h.cell_count
+  pub free_slots : length g.table.free ≡ length h.table.free + freed
+  pub free_cells : (h.free_cells ≤ g.free_cells) × (g.free_cells ≤ h.free_cells + 1)
+
 -- a step of the collector: a line of its table
 pub record Steps (m n : Machine) (freed : ℕ) (ended : Bool) : Type 0 where
   pub line : Line (body m) (progress_of m) (body n) (progress_of n) freed ended
   pub cursor : CursorFits n.heap n.progress
   pub roots : n.roots ≡ m.roots
-  pub cells : n.heap.cell_count ≡ m.heap.cell_count
-  pub free_slots : length n.heap.table.free ≡ length m.heap.table.free + freed
-  pub free_cells : (m.heap.free_cells ≤ n.heap.free_cells) × (n.heap.free_cells ≤ m.heap.free_cells + 1)
+  pub counts : Counts m.heap n.heap freed
 
 -- no seat's target is white; the target of the least seat that has a white one
 abbrev pub NoneWhite : Machine → Type 0
@@ -195,7 +195,7 @@ abbrev pub progress_without : Progress → ℕ → ℕ → Option ℕ → Progre
 progress_without Idle i c n = Idle
 progress_without (Sweeping k) i c n = Sweeping k
 progress_without (Marking None) i c n = Marking None
-progress_without (Marking (Some s)) i c n = cond (eqb s.slot i && is_at s.cursor c) (Marking (Some (record { slot = i; cursor = n }))) (Marking (Some s))
+progress_without (Marking (Some s)) i c n = Marking (Some (record { slot = s.slot; cursor = cond (eqb s.slot i && is_at s.cursor c) n s.cursor }))
 
 abbrev pub progress_dropped : Progress → ℕ → Dropped → Progress
 progress_dropped p id Kept = p

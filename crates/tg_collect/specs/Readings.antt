@@ -5,16 +5,12 @@ use Rattle.std.specs.Ordering.{nat_cmp}
 use Rattle.std.specs.FinMap as finmap
 use Rattle.std.specs.FinSet as finset
 use Rattle.tg_rights.specs.Letters.{Right}
-use Rattle.tg_rights.specs.Membership.{Contains}
 use Rattle.tg_graph.specs.declared.vertex.Vertex.{Vertex}
 use Rattle.tg_graph.specs.Triples.{Triples}
 use Rattle.tg_graph.specs.Protection.{Protection}
 use Rattle.tg_slots.specs.Table as table
-use Rattle.tg_slots.specs.Table.{Has}
-use Rattle.tg_slots.specs.declared.colour.Colour.{Colour}
-use Rattle.tg_slots.specs.declared.colour.Colour.TheVariants.{Grey, Black}
 use Rattle.tg_marking.specs.Values as values
-use Rattle.tg_marking.specs.Values.{Spot, Stage, Progress, AtRest, Marking, Sweeping, Body, Kept, HasRoot}
+use Rattle.tg_marking.specs.Values.{Contains, Has, Colour, Grey, Black, Spot, Stage, Progress, AtRest, Marking, Sweeping, Body, Kept, HasRoot}
 use Rattle.tg_marking.specs.Left.{total, free_one, parked_one, bound}
 use Rattle.tg_held.specs.Held as graph
 use Rattle.tg_collect.specs.declared.note.Phase.{Phase}

@@ -1,16 +1,13 @@
 -- what each session call does to a store, exactly
-use Rattle.std.specs.Prelude.{◌≡◌, ℕ, ◌+◌, ◌<◌, ◌≤◌, List, [], length, map, Option, Some, None, ◌⊎◌, set}
+use Rattle.std.specs.Prelude.{◌≡◌, ℕ, ◌+◌, ◌<◌, ◌≤◌, List, [], length, Option, Some, None, ◌⊎◌, set}
 use Rattle.std.specs.FinMap as finmap
 use Rattle.std.specs.FinSet as finset
 use Rattle.tg_rights.specs.Letters.{Letters}
-use Rattle.tg_rights.specs.Membership.{Contains}
-use Rattle.tg_rights.specs.declared.kind.Kind.{Kind}
-use Rattle.tg_slots.specs.declared.colour.Colour.TheVariants.{White, Grey}
 use Rattle.tg_graph.specs.declared.vertex.Vertex.{Vertex}
 use Rattle.tg_graph.specs.Triples.{edge}
-use Rattle.tg_cells.specs.Lists.{Edge}
-use Rattle.tg_marking.specs.Values.{Spot}
+use Rattle.tg_marking.specs.Values.{Contains, Kind, Edge, Spot}
 use Rattle.tg_marking.specs.Steps.{new_colour, shade}
+use Rattle.tg_marking.specs.Runs.{Changes, LedTo}
 use Rattle.tg_collect.specs.declared.machine.Root.{Root}
 use Rattle.tg_rights.specs.declared.kind.Kind.TheVariants.{Subject}
 use Rattle.tg_collect.specs.Machine.{assuming, with_agent, with_principal, with_target, without_principal}
@@ -31,10 +28,6 @@ abbrev pub Shaded : Stored → Stored → ℕ → Option ℕ → Type 0
 Shaded v w seat None = (pending_of v seat ≡ None) × (w ≡ v)
 Shaded v w seat (Some x) = TargetShaded v w seat x
 
--- one of these edges leads to the same serial
-abbrev pub Leads : List Edge → Edge → Type 0
-Leads es e = Contains (map (λ (d : Edge). d.serial) es) e.serial
-
 -- x gains rights over y, which is the seat's target from then on. A new edge takes a cell.
 pub record EdgeStored (v w : Stored) (seat x y : ℕ) (rights : Letters) : Type 0 where
   pub graph : (next : ℕ) → held w next ≡ record (held v next) { triples = finset.union (held v next).triples (edge x rights y) }
@@ -45,7 +38,7 @@ pub record EdgeStored (v w : Stored) (seat x y : ℕ) (rights : Letters) : Type 
   pub owner : Spot
   pub at : spot v slot ≡ Some owner
   pub edges : List Edge
-  pub leads : (e : Edge) → Contains edges e → Leads owner.edges e ⊎ (e.serial ≡ y)
+  pub leads : (e : Edge) → Contains edges e → LedTo owner.edges e ⊎ (e.serial ≡ y)
   pub target : Root
   pub named : target.serial ≡ y
   pub is : w ≡ record v {
@@ -72,7 +65,7 @@ pub record VertexStored (v w : Stored) (seat x serial : ℕ) (kind : Kind) (text
   pub owner : Spot
   pub at : spot v slot ≡ Some owner
   pub edges : List Edge
-  pub leads : (e : Edge) → Contains edges e → Leads owner.edges e ⊎ (e.serial ≡ serial)
+  pub leads : (e : Edge) → Contains edges e → LedTo owner.edges e ⊎ (e.serial ≡ serial)
   pub is : w ≡ record v {
     slots = set (set v.slots new (Some (record { serial = serial; kind = kind; text = text; edges = []; colour = new_colour (progress v) new }))) slot (Some (record owner { edges = edges }));
     roots = with_target v.roots seat (Some (record { serial = serial; slot = new }));
@@ -110,7 +103,7 @@ pub record RightsRemoved (v w : Stored) (x y : ℕ) (rights : Letters) : Type 0 
   pub owner : Spot
   pub at : spot v slot ≡ Some owner
   pub edges : List Edge
-  pub leads : (e : Edge) → Contains edges e → Leads owner.edges e
+  pub leads : (e : Edge) → Contains edges e → LedTo owner.edges e
   pub is : w ≡ record v { slots = set v.slots slot (Some (record owner { edges = edges })); free_cells = w.free_cells; left = w.left }
 
 -- the text of x is replaced
@@ -125,15 +118,6 @@ pub record TextReplaced (v w : Stored) (x : ℕ) (text answer : List ℕ) : Type
   pub at : spot v slot ≡ Some owner
   pub is : w ≡ record v { slots = set v.slots slot (Some (record owner { text = text })); left = w.left }
 
--- what a session step does to one slot: nothing; a white root turns grey; edges go, or come that lead to the target, and
--- the text may be another; or the new vertex comes into a free slot. A vertex keeps its slot.
-pub data Changes (v : Stored) (new target : Option ℕ) (i : ℕ) : Option Spot → Option Spot → Type 0 where
-  same : (o : Option Spot) → Changes v new target i o o
-  shaded : (s : Spot) → s.colour ≡ White → IsRootAt v i → Changes v new target i (Some s) (Some (record s { colour = Grey }))
-  regards : (s : Spot) (es : List Edge) (text : List ℕ) → ((e : Edge) → Contains es e → Leads s.edges e ⊎ (target ≡ Some e.serial))
-      → Changes v new target i (Some s) (Some (record s { edges = es; text = text }))
-  comes : (s : Spot) → new ≡ Some s.serial → s.colour ≡ new_colour (progress v) i → ((e : Edge) → Contains s.edges e → target ≡ Some e.serial) → Changes v new target i None (Some s)
-
 -- one session step: the new serial, if any, and the target that it sets, if any; what is new may be a principal, and the
 -- target an agent
 pub record Acted (v w : Stored) (new target : Option ℕ) : Type 0 where
@@ -142,6 +126,6 @@ pub record Acted (v w : Stored) (new target : Option ℕ) : Type 0 where
   pub agents : (x : ℕ) → Contains (agents w) (Some x) → Contains (agents v) (Some x) ⊎ (target ≡ Some x)
   pub pending : (x : ℕ) → Contains (pending w) (Some x) → Contains (pending v) (Some x) ⊎ (target ≡ Some x)
   pub slots : length w.slots ≡ length v.slots
-  pub changes : (i : ℕ) → Changes v new target i (spot v i) (spot w i)
+  pub changes : (i : ℕ) → Changes (shown v) (progress v) new target i (spot v i) (spot w i)
   pub cells : w.cells ≡ v.cells
   pub left : w.left ≤ v.left

@@ -3,14 +3,11 @@ use Rattle.std.specs.Prelude.{◌≡◌, ◌≢◌, ℕ, ◌+◌, ◌<◌, ◌�
 use Rattle.std.specs.FinSet as finset
 use Rattle.tg_rights.specs.declared.limits.TheConstants.{MAX_PRINCIPALS, SEATS}
 use Rattle.tg_rights.specs.Letters.{is_none}
-use Rattle.tg_rights.specs.Membership.{Contains, Distinct}
-use Rattle.tg_slots.specs.Table.{Has}
-use Rattle.tg_slots.specs.declared.colour.Colour.TheVariants.{Grey, Black}
-use Rattle.tg_cells.specs.Lists.{Edge}
+use Rattle.tg_slots.specs.Table as table
 use Rattle.tg_graph.specs.Triples.{Triple}
 use Rattle.tg_graph.specs.Fullness.{vertex_count, edge_count}
 use Rattle.tg_marking.specs.Values as stage
-use Rattle.tg_marking.specs.Values.{edges_of}
+use Rattle.tg_marking.specs.Values.{Contains, Distinct, Has, Grey, Black, Edge, edges_of}
 use Rattle.tg_marking.specs.Invariant.{Closed}
 use Rattle.tg_marking.specs.Collected as marking
 use Rattle.tg_collect.specs.declared.note.Phase.{Phase}
@@ -64,11 +61,6 @@ abbrev pub Stays : Phase → Phase → Type 0
 Stays Mark Sweep = ⊥
 Stays _ _ = Unit {0}
 
--- that step finds nothing grey. What is black stays in its slot, with its edges; what is not is parked, and was
--- unreachable.
-abbrev pub Parks : Stored → Stored → Type 0
-Parks v w = marking.Parks (shown v) (shown w) (progress v) (progress w)
-
 -- how many marks a step may change, by the phase before it
 abbrev pub most_marks : Phase → ℕ
 most_marks Idle = MAX_PRINCIPALS + SEATS
@@ -76,13 +68,14 @@ most_marks Mark = 1
 most_marks Sweep = 1
 
 -- outside these slots the marks stay
-pub record ChangesMarks (v w : Stored) (most : ℕ) : Type 0 where
+pub record ChangesMarks (before after : ℕ → table.Mark) (most : ℕ) : Type 0 where
   pub slots : List ℕ
   pub count : length slots ≤ most
-  pub others : (i : ℕ) → (Contains slots i → ⊥) → mark_in w i ≡ mark_in v i
+  pub others : (i : ℕ) → (Contains slots i → ⊥) → after i ≡ before i
 
 -- one collector step, the slots that it freed, and whether it ended a cycle. `step` says what it does to each slot, and
--- why; that only the step into the sweep changes what is held; and that this step parks what is not black.
+-- why; that only the step into the sweep changes what is held; and that this step parks what is not black, finds nothing
+-- grey, and leaves what is black in its slot, with its edges.
 pub record Collected (v w : Stored) (count : ℕ) (ended : Bool) : Type 0 where
   pub step : marking.Collected (shown v) (progress v) (shown w) (progress w) ended
   pub phases : Follows (phase v) (phase w) ended
@@ -93,5 +86,5 @@ pub record Collected (v w : Stored) (count : ℕ) (ended : Bool) : Type 0 where
   pub few : count ≤ 1
   pub free_slots : free_slots w ≡ free_slots v + count
   pub free_cells : (v.free_cells ≤ w.free_cells) × (w.free_cells ≤ v.free_cells + 1)
-  pub marks : ChangesMarks v w (most_marks (phase v))
+  pub marks : ChangesMarks (mark_in v) (mark_in w) (most_marks (phase v))
   pub left : (ended ≡ true) ⊎ (w.left < v.left)

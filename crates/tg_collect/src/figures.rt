@@ -1,13 +1,16 @@
 //! What the slots show, in lists.
-ghost use Rattle.std.specs.Prelude.{◌≡◌, ◌<◌, ◌++◌, length, map, IfOk, OnOk, Some};
-ghost use Rattle.std.specs.List.{flat_map};
-ghost use Rattle.tg_heap.specs.Graph.{edges};
-ghost use Rattle.tg_collect.specs.Figures.{AreArrows, AreArrowsOf, AreUsedSlots, Shows, arrow_if, arrow_in, cell_of, figure, figure_at, figure_of};
-ghost use Rattle.tg_collect.specs.Readings.{name, slot_count};
+ghost use Rattle.std.specs.Prelude.{◌≡◌, ◌<◌, ◌++◌, length, IfOk, OnOk};
+ghost use Rattle.std.specs.Option.{option_to_list};
+ghost use Rattle.tg_graph.specs.Parts.{Before};
+ghost use Rattle.tg_heap.specs.Graph.{HeapGraph};
+ghost use Rattle.tg_marking.specs.Values.{keeps_at, shown};
+ghost use Rattle.tg_collect.specs.Figures.{Shows, arrows, arrows_from, figure, from_at};
+ghost use Rattle.tg_collect.specs.Machine.{progress_in};
+ghost use Rattle.tg_collect.specs.Parts.{AreFound};
 ghost use Rattle.tg_collect.specs.Stored.{stored};
+ghost use Rattle.tg_collect.specs.Views.{IsStore};
 
 use crate::machine::{Machine, Progress};
-use crate::parts::add_slot;
 use crate::store::Store;
 use std::alloc::{AllocError, Global};
 use tg_rights::{Kind, Rights};
@@ -33,203 +36,131 @@ impl Store {
         ensures { IfOk result (λ p. Shows self.now p.0.items p.1.items) }
     {
         self.soundness();
-        let found = self.used_slots(alloc)?;
-        let slots = found.as_slice();
-        let vertices = self.figures_at(alloc, slots)?;
-        let edges = self.arrows_at(alloc, slots)?;
+        let vertices = self.machine.figures(alloc)?;
+        let edges = self.machine.arrows(alloc, true)?;
         Ok((vertices, edges))
-    }
-
-    /// The slots in use, each with its serial, by rising serial.
-    fn used_slots(&self, alloc: Global) -> Result<Vec<(u64, u32)>, AllocError>
-        ensures { IfOk result (λ found. AreUsedSlots self.now found.items) }
-    {
-        self.soundness();
-        let mut found = Vec::new(alloc);
-        for id in 0..self.machine.heap.len() {
-            let serial = self.machine.named_at(id);
-            add_slot(&mut found, id, serial)?;
-        }
-        found.sort_unstable_by_key(|slot| slot.0);
-        Ok(found)
-    }
-
-    /// What these slots show, in their order.
-    fn figures_at(&self, alloc: Global, slots: &[(u64, u32)]) -> Result<Vec<Figure>, AllocError>
-        requires { AreUsedSlots self.now slots.now }
-        ensures { IfOk result (λ found. found.items ≡ map (figure_at self.now) slots.now) }
-    {
-        let mut found = Vec::new(alloc);
-        for slot in slots {
-            let shown = self.figure(slot.0, slot.1);
-            found.push(shown)?;
-        }
-        Ok(found)
-    }
-
-    /// What the slot of a serial shows.
-    fn figure(&self, serial: u64, id: u32) -> Figure
-        requires { name self.now id ≡ Some serial }
-        ensures { result ≡ figure_at self.now (serial, id) }
-    {
-        self.machine.figure_at(id).unwrap()
-    }
-
-    /// The edges of the vertices of these slots, in their order.
-    fn arrows_at(
-        &self,
-        alloc: Global,
-        slots: &[(u64, u32)],
-    ) -> Result<Vec<(u64, Rights, u64)>, AllocError>
-        requires { AreUsedSlots self.now slots.now }
-        ensures { IfOk result (λ found. AreArrows self.now slots.now found.items) }
-    {
-        let mut found = Vec::new(alloc);
-        for slot in slots {
-            let arrows = self.arrows_from(alloc, slot.0, slot.1)?;
-            let listed = arrows.as_slice();
-            add_arrows(&mut found, listed)?;
-        }
-        Ok(found)
-    }
-
-    /// The edges of a slot's vertex to those that have a slot, by rising serial.
-    fn arrows_from(
-        &self,
-        alloc: Global,
-        serial: u64,
-        id: u32,
-    ) -> Result<Vec<(u64, Rights, u64)>, AllocError>
-        requires { id < slot_count self.now }
-        ensures { IfOk result (λ found. AreArrowsOf self.now serial id found.items) }
-    {
-        self.machine.heap.soundness();
-        self.soundness();
-        let mut found = self.machine.arrow_list(alloc, serial, id)?;
-        found.sort_unstable_by_key(|arrow| arrow.2);
-        Ok(found)
     }
 }
 
 impl Machine {
-    /// The serial of what has a slot; none if it is free.
-    fn named_at(&self, id: u32) -> Option<u64>
-        requires { id < length self.now.heap.table.slots }
-        ensures { result ≡ name (stored self.now) id }
+    /// What the slots show, by rising serial.
+    fn figures(&self, alloc: Global) -> Result<Vec<Figure>, AllocError>
+        requires { IsStore (stored self.now) }
+        ensures { IfOk result (λ found. AreFound (λ i. option_to_list (figure (stored self.now) i)) (λ a b. a.serial < b.serial) found.items) }
     {
-        self.heap.serial(id)
+        let mut found = Vec::new(alloc);
+        for id in 0..self.heap.len() {
+            let shown = self.figure_at(id);
+            add_found(&mut found, shown)?;
+        }
+        found.sort_unstable_by_key(|figure| figure.serial);
+        Ok(found)
     }
 
     /// What a slot shows; none if it is free.
-    fn figure_at(&self, id: u32) -> Option<Figure>
+    pub(crate) fn figure_at(&self, id: u32) -> Option<Figure>
         requires { id < length self.now.heap.table.slots }
         ensures { result ≡ figure (stored self.now) id }
     {
-        let progress = self.progress.get();
-        let found = self.heap.serial(id);
-        let what = self.heap.kind(id);
-        let paint = self.heap.colour(id);
-        progress.figure_of(id, found, what, paint)
-    }
-
-    /// The slot and the serial that each of a slot's edges leads to, and its label, in the order of its cells.
-    fn cell_list(&self, alloc: Global, id: u32) -> Result<Vec<(u32, u64, Rights)>, AllocError>
-        requires { id < length self.now.heap.table.slots }
-        ensures { IfOk result (λ list. list.items ≡ map cell_of (edges self.now.heap id)) }
-    {
-        self.heap.soundness();
-        let mut list = Vec::new(alloc);
-        let mut cursor = self.heap.first(id);
-        while let Some(cell) = cursor {
-            let to = self.heap.target(cell);
-            list.push((to, self.heap.target_serial(cell), self.heap.label(cell)))?;
-            cursor = self.heap.next(cell);
+        match self.heap.colour(id) {
+            None => None,
+            Some(colour) => Some(Figure {
+                serial: self.heap.serial(id).unwrap(),
+                kind: self.heap.kind(id).unwrap(),
+                colour,
+                is_held: self.progress.get().keeps(id, colour),
+            }),
         }
-        Ok(list)
     }
 
-    /// The edges of a slot's vertex, which has this serial, to those that have a slot, in the order of its cells.
-    fn arrow_list(
+    /// The edges between vertices that have a slot, by rising pairs of ends: those from all of them, or from the held
+    /// ones only.
+    pub(crate) fn arrows(
         &self,
         alloc: Global,
-        from: u64,
-        id: u32,
+        parked: bool,
     ) -> Result<Vec<(u64, Rights, u64)>, AllocError>
+        requires { IsStore (stored self.now) }
+        ensures { IfOk result (λ found. AreFound (arrows (stored self.now) parked) Before found.items) }
+    {
+        let mut found = Vec::new(alloc);
+        for slot in 0..self.heap.len() {
+            let from = self.from_at(slot, parked);
+            self.add_arrows(&mut found, from, slot)?;
+        }
+        found.sort_unstable_by_key(|arrow| (arrow.0, arrow.2));
+        Ok(found)
+    }
+
+    /// The serial of a slot's vertex; none if it has none, or if this waits to be swept and those are left out.
+    fn from_at(&self, id: u32, parked: bool) -> Option<u64>
         requires { id < length self.now.heap.table.slots }
-        ensures { IfOk result (λ found. found.items ≡ flat_map (arrow_in self.now.heap from) (edges self.now.heap id)) }
+        ensures { result ≡ from_at (stored self.now) parked id }
+    {
+        match self.figure_at(id) {
+            None => None,
+            Some(shown) => {
+                if parked || shown.is_held {
+                    Some(shown.serial)
+                } else {
+                    None
+                }
+            }
+        }
+    }
+
+    /// Adds the edges from a slot's vertex, of this serial, to those that have a slot, in the order of its cells; none if
+    /// no serial is given.
+    fn add_arrows(
+        &self,
+        found: &mut Vec<(u64, Rights, u64)>,
+        from: Option<u64>,
+        id: u32,
+    ) -> Result<(), AllocError>
+        requires { id < length self.now.heap.table.slots }
+        ensures { OnOk result (found.new.items ≡ found.old.items ++ arrows_from (stored self.now) from id) }
     {
         self.heap.soundness();
-        let cells = self.cell_list(alloc, id)?;
-        let listed = cells.as_slice();
-        let mut found = Vec::new(alloc);
-        for cell in listed {
-            let there = self.heap.serial(cell.0);
-            add_arrow(&mut found, from, cell, there)?;
+        let Some(from) = from else {
+            return Ok(());
+        };
+        let mut cursor = self.heap.first(id);
+        while let Some(cell) = cursor {
+            let to = self.heap.target_serial(cell);
+            let is_there = self.heap.serial(self.heap.target(cell)) == Some(to);
+            add_found(found, is_there.then_some((from, self.heap.label(cell), to)))?;
+            cursor = self.heap.next(cell);
         }
-        Ok(found)
+        Ok(())
     }
 }
 
 impl Progress {
-    /// What a slot shows that has these.
-    fn figure_of(
-        self,
-        id: u32,
-        serial: Option<u64>,
-        kind: Option<Kind>,
-        colour: Option<Colour>,
-    ) -> Option<Figure>
-        ensures { result ≡ figure_of self id serial kind colour }
+    /// Whether a vertex of this colour in a slot is held; else it waits to be swept.
+    fn keeps(self, id: u32, colour: Colour) -> bool
+        ensures { (h : HeapGraph) → result ≡ keeps_at (shown (progress_in h self)) id colour }
     {
-        match colour {
-            None => None,
-            Some(colour) => match kind {
-                None => None,
-                Some(kind) => match serial {
-                    None => None,
-                    Some(serial) => Some(Figure {
-                        serial,
-                        kind,
-                        colour,
-                        is_held: self.keeps(id, colour),
-                    }),
-                },
+        match self {
+            Progress::Idle => true,
+            Progress::Marking(_) => true,
+            Progress::Sweeping(at) => match colour {
+                Colour::White => id < at,
+                Colour::Grey => true,
+                Colour::Black => true,
             },
         }
     }
 }
 
-/// Adds the edge of a cell at the end, if the slot that it leads to has its serial still.
-fn add_arrow(
-    found: &mut Vec<(u64, Rights, u64)>,
-    from: u64,
-    cell: &(u32, u64, Rights),
-    there: Option<u64>,
-) -> Result<(), AllocError>
-    ensures { OnOk result (found.new.items ≡ found.old.items ++ arrow_if from cell.now there) }
+/// Adds what was found at the end, if anything was.
+pub(crate) fn add_found<T: Drop>(list: &mut Vec<T>, found: Option<T>) -> Result<(), AllocError>
+    ensures { OnOk result (list.new.items ≡ list.old.items ++ option_to_list found) }
 {
-    match there {
+    match found {
         None => Ok(()),
-        Some(serial) => {
-            if serial == cell.1 {
-                found.push((from, cell.2, cell.1))?;
-                Ok(())
-            } else {
-                Ok(())
-            }
+        Some(one) => {
+            list.push(one)?;
+            Ok(())
         }
     }
-}
-
-/// Adds edges at the end.
-fn add_arrows(
-    found: &mut Vec<(u64, Rights, u64)>,
-    arrows: &[(u64, Rights, u64)],
-) -> Result<(), AllocError>
-    ensures { OnOk result (found.new.items ≡ found.old.items ++ arrows.now) }
-{
-    for arrow in arrows {
-        found.push((arrow.0, arrow.1, arrow.2))?;
-    }
-    Ok(())
 }

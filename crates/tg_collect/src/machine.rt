@@ -8,7 +8,7 @@ ghost use Rattle.tg_slots.specs.Table.{Free, Has, slot};
 ghost use Rattle.tg_slots.specs.declared.slots.Occupant.{Occupant};
 ghost use Rattle.tg_cells.specs.Lists.{HasNone, Found};
 ghost use Rattle.tg_heap.specs.Graph.{edges, mark_at};
-ghost use Rattle.tg_collect.specs.Machine.{Whole, Steps, phase_of, ShadesFirst, NoneWhite, AreWithin, slot_of, other_slots, with_shaded, Adds, Links, Removes, Puts, SetsText, ShadesSeat, Rerooted, assuming, lists_of, with_agent, with_principal, without_principal, progress_without, has_passed, colour_ahead};
+ghost use Rattle.tg_collect.specs.Machine.{Whole, Steps, phase_of, ShadesFirst, NoneWhite, AreWithin, other_slots, slot_of, with_shaded, Adds, Links, Removes, Puts, SetsText, ShadesSeat, Rerooted, assuming, lists_of, with_agent, with_principal, without_principal, progress_without, has_passed, colour_ahead};
 
 use crate::course::Course;
 use crate::note::{Note, Phase};
@@ -347,18 +347,19 @@ impl Machine {
         let mut left = self.roots.principals.len() + self.roots.agents.len();
         while left > 0 {
             left -= 1;
-            let root = self.roots.other(left);
-            self.shade_root(root);
+            self.shade_other(left);
         }
     }
 
-    /// Shades a root, if there is one.
-    fn shade_root(&mut self, root: Option<Root>)
-        requires within { AreWithin (slot_of root ∷ []) self.old.heap.table }
-        ensures step { self.new ≡ with_shaded self.old (slot_of root ∷ []) }
+    /// Shades the root at an index of these, if there is one.
+    fn shade_other(&mut self, index: usize)
+        requires index { index < length (other_slots self.old.roots) }
+        requires within { AreWithin (other_slots self.old.roots) self.old.heap.table }
+        ensures step { self.new ≡ with_shaded self.old (get_or (other_slots self.old.roots) index None ∷ []) }
     {
-        if let Some(root) = root {
-            self.heap.shade(root.slot);
+        match self.roots.other(index) {
+            None => {}
+            Some(root) => self.heap.shade(root.slot),
         }
     }
 
@@ -500,7 +501,7 @@ impl Progress {
         match self {
             Progress::Marking(Some(scan)) if scan.slot == id && scan.cursor == Some(cell) => {
                 Progress::Marking(Some(Scan {
-                    slot: id,
+                    slot: scan.slot,
                     cursor: next,
                 }))
             }

@@ -1,9 +1,9 @@
 //! The machine of an opening graph.
-ghost use Rattle.std.specs.Prelude.{◌≡◌, ℕ, ◌<◌, ◌≤◌, ◌+◌, length, replicate, None, IfOk};
+ghost use Rattle.std.specs.Prelude.{◌≡◌, ◌<◌, ◌≤◌, ◌+◌, length, replicate, None, IfOk};
 ghost use Rattle.tg_rights.specs.declared.limits.TheConstants.{MAX_CELLS, MAX_PRINCIPALS, MAX_SLOTS, SEATS};
 ghost use Rattle.tg_collect.specs.Machine.{Whole};
 ghost use Rattle.tg_collect.specs.Stored.{stored};
-ghost use Rattle.tg_collect.specs.Openings.{IsOpening, Opened, OpensFirst, OpensNext, OpensAll, OpensEdges, KeepsSize, root_count};
+ghost use Rattle.tg_collect.specs.Openings.{IsOpening, Opened, OpensFirst, OpensAll, OpensEdges, KeepsSize, rank};
 
 use crate::course::Course;
 use crate::machine::{Machine, Progress, Root, Roots};
@@ -45,7 +45,6 @@ impl Machine {
         requires low_cells { 1 ≤ cells }
         requires high_cells { cells ≤ MAX_CELLS }
         ensures first { IfOk result (λ m. OpensFirst m 0) }
-        ensures none { IfOk result (λ m. root_count m ≡ 0) }
         ensures slots { IfOk result (λ m. length m.heap.table.slots ≡ slots) }
         ensures cells { IfOk result (λ m. m.heap.cell_count ≡ cells) }
     {
@@ -66,73 +65,65 @@ impl Machine {
     /// Puts the graph's vertices into the first slots, in the order of their serials.
     fn open_principals(&mut self, alloc: Global, graph: &Graph)
         requires first { OpensFirst self.old 0 }
-        requires none { root_count self.old ≡ 0 }
         requires opening { IsOpening graph.now (length self.old.heap.table.slots) self.old.heap.cell_count }
-        ensures { OpensAll self.old self.new graph.now }
+        ensures all { OpensAll self.new graph.now }
+        ensures size { KeepsSize self.old self.new }
     {
-        let mut serial = 1;
-        while graph.kind(serial).is_some() {
-            self.open_principal(alloc, serial);
-            serial += 1;
+        let mut count = 0;
+        while graph.kind(count + 1).is_some() {
+            self.open_principal(alloc, count);
+            count += 1;
         }
     }
 
-    /// Puts a subject into the first free slot and makes it a principal.
-    fn open_principal(&mut self, alloc: Global, serial: u64)
-        requires first { OpensFirst self.old (root_count self.old) }
-        requires serial { serial ≡ root_count self.old + 1 }
-        requires few { root_count self.old < MAX_PRINCIPALS }
-        requires room { root_count self.old < length self.old.heap.table.slots }
-        ensures { OpensNext self.old self.new }
+    /// Puts a subject into the first free slot and makes it a principal, after as many as the count says.
+    fn open_principal(&mut self, alloc: Global, count: u64)
+        requires first { OpensFirst self.old count }
+        requires few { count < MAX_PRINCIPALS }
+        requires room { count < length self.old.heap.table.slots }
+        ensures { OpensFirst self.new (count + 1) × KeepsSize self.old self.new }
     {
         self.heap.soundness();
-        match self.place_vertex(serial, Kind::Subject, Text::empty(alloc)) {
+        match self.place_vertex(count + 1, Kind::Subject, Text::empty(alloc)) {
             Err(_) => unreachable!(),
-            Ok(slot) => self.add_principal(Root { serial, slot }),
+            Ok(slot) => self.add_principal(Root {
+                serial: count + 1,
+                slot,
+            }),
         }
     }
 
     /// Adds the graph's edges between the principals, by rising pairs of their ends.
     fn open_edges(&mut self, graph: &Graph)
-        requires { OpensEdges self.old graph.now (root_count self.old) 0 0 }
+        requires { OpensEdges self.old graph.now (rank 1 1) }
         ensures whole { Whole self.new }
         ensures opened { Opened (stored self.new) graph.now (length self.old.heap.table.slots)
             self.old.heap.cell_count }
     {
-        for from in 0..self.roots.principals.len() {
-            self.open_edges_of(graph, from);
+        let count = self.roots.principals.len() as u32;
+        for from in 0..count {
+            for to in 0..count {
+                self.open_pair(graph, from, to);
+            }
         }
         self.heap.soundness();
     }
 
-    /// Adds the edges of one principal.
-    fn open_edges_of(&mut self, graph: &Graph, from: usize)
-        requires from { from < root_count self.old }
-        requires opens { OpensEdges self.old graph.now (root_count self.old) from 0 }
-        ensures opens { OpensEdges self.new graph.now (root_count self.old) (from + 1) 0 }
-        ensures roots { root_count self.new ≡ root_count self.old }
-        ensures size { KeepsSize self.old self.new }
-    {
-        for to in 0..self.roots.principals.len() {
-            self.open_pair(graph, from, to);
-        }
-    }
-
-    /// Adds the edge of a pair of principals, if the graph has one.
-    fn open_pair(&mut self, graph: &Graph, from: usize, to: usize)
-        requires from { from < root_count self.old }
-        requires to { to < root_count self.old }
-        requires opens { OpensEdges self.old graph.now (root_count self.old) from to }
-        ensures opens { OpensEdges self.new graph.now (root_count self.old) from (to + 1) }
-        ensures roots { root_count self.new ≡ root_count self.old }
+    /// Adds the edge of a pair of principals, if the graph has one. The principals are in the first slots, in the order
+    /// of their serials, which begin with 1.
+    fn open_pair(&mut self, graph: &Graph, from: u32, to: u32)
+        requires from { from < length self.old.roots.principals }
+        requires to { to < length self.old.roots.principals }
+        requires opens { OpensEdges self.old graph.now (rank (from + 1) (to + 1)) }
+        ensures opens { OpensEdges self.new graph.now (rank (from + 1) (to + 1 + 1)) }
+        ensures roots { self.new.roots ≡ self.old.roots }
         ensures size { KeepsSize self.old self.new }
     {
         self.heap.soundness();
-        let source = self.roots.principals.at(from);
-        let target = self.roots.principals.at(to);
-        let rights = graph.rights(source.serial, target.serial);
+        let rights = graph.rights(from as u64 + 1, to as u64 + 1);
         if !rights.is_empty() {
-            self.heap.add_edge(source.slot, target.slot, rights);
+            self.heap.add_edge(from, to, rights);
+            self.heap.soundness();
         }
     }
 }

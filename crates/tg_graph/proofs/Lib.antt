@@ -2,11 +2,13 @@
 pub mod CommandsKeepGraphsLemmas
 pub mod DecidingLemmas
 pub mod EdgesAreCountedLemmas
+pub mod EdgesAreListedLemmas
 pub mod ExactlyOneOutcomeLemmas
 pub mod FullnessLemmas
 pub mod LabelLemmas
 pub mod LawsLemmas
 pub mod ListedLemmas
+pub mod OpeningLemmas
 pub mod OpeningsFitLemmas
 pub mod OutcomesAgreeLemmas
 pub mod PartsLemmas
@@ -22,9 +24,7 @@ mod AllowedIsMetLemmas
 mod AnswersAgreeLemmas
 mod AssumesAndLeavesLemmas
 mod ComeAndGoLemmas
-mod EdgesAreListedLemmas
 mod EdgesOfLemmas
-mod OpeningLemmas
 mod SameEdgesLemmas
 mod SearchingLemmas
 mod ViewsLemmas

@@ -149,7 +149,7 @@ spread G g s0 s v spreading = record {
   reached = spreading.reached;
   listed = spreading.listed;
   closed = λ q z h edge. elim (spreading.closed q z h edge) [
-    | inl is ↦ elim (spreading.passed (z, label G v z) (edge_listed G v z g (subst (λ p. IsEdge G p z) is edge))) [ inl never ↦ absurd never | inr there ↦ inr there ]
+    | inl is ↦ (let out = subst (λ p. IsEdge G p z) is edge in elim (spreading.passed (z, label G v z) (edge_listed G v z (edge_to G g v z out) out)) [ inl never ↦ absurd never | inr there ↦ inr there ])
     | inr rest ↦ rest
   ];
 }

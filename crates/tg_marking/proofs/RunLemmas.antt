@@ -1,10 +1,11 @@
 -- What was not live has no slot once two cycles have ended; without sessions three cycles leave what is live.
-use Rattle.std.proofs.Common.{◌≡◌, ◌≢◌, ℕ, zero, suc, ◌≤◌, Bool, true, false, cond, Option, Some, None, ◌⊎◌, inl, inr, sym, ◌∙◌, subst, ap, refl, arith}
-use Rattle.tg_marking.specs.Values.{Colour, White, Grey, Black, Has, Edge, Contains, Scan, Roots, HasRoot, Spot, Progress, AtRest, Marking, Sweeping, Body, spot, mark_of, name_of, IsRoot, seen, Kept, as_kept, kept}
+use Rattle.std.proofs.Common.{◌≡◌, ◌≢◌, ℕ, zero, suc, ◌-◌, ◌≤◌, Bool, true, false, cond, Option, Some, ◌⊎◌, inl, inr, sym, ◌∙◌, subst, refl, arith, length, ◌+◌, ap}
+use Rattle.std.proofs.lemmas.Bool.Decides.{nat_tests}
+use Rattle.tg_marking.specs.Values.{Colour, White, Grey, Black, Edge, Contains, Roots, HasRoot, Spot, Progress, AtRest, Body, spot, IsRoot, keeps_at, Kept, as_kept, kept, Stage, Sweep, shown, seen}
 use Rattle.tg_marking.specs.Invariant.{at_root, along, IsLive}
-use Rattle.tg_marking.specs.Collected.{IsCalled, Turns, stays, greys, blackens, whitens, strips, frees, Stays, Follows, parks, sweeps, passes, ends as ended, Parks, Collected}
-use Rattle.tg_marking.specs.Runs.{Sane, IsLiveIn, Changes, same, shaded, regards, comes, Acted, RunOf, begin, acts, goes, ends, Cycles, IsComplete, Settles}
-use Rattle.tg_marking.proofs.SpotLemmas.{mark_is, kept_name}
+use Rattle.tg_marking.specs.Collected.{IsCalled, Turns, stays, greys, blackens, whitens, strips, frees, Stays, Follows, begins, marks, parks, ends as ended, Parks, Collected, bare}
+use Rattle.tg_marking.specs.Runs.{Sane, IsLiveIn, Changes, same, shaded, regards, comes, Acted, RunOf, begin, acts, goes, ends, IsComplete, Settles}
+use Rattle.tg_marking.proofs.SpotLemmas.{contains_mapped, seen_is}
 
 -- Roots are good, and edges of good ones lead to good ones.
 record Fence (good : ℕ → Type 0) (b : Body) (p : Progress) : Type 0 where
@@ -14,75 +15,68 @@ record Fence (good : ℕ → Type 0) (b : Body) (p : Progress) : Type 0 where
 abbrev Coloured : (ℕ → Type 0) → Colour → Body → Type 0
 Coloured good c b = (i : ℕ) (s : Spot) → spot b i ≡ Some s → s.colour ≡ c → good s.serial
 
-abbrev AllHeld : (ℕ → Type 0) → Body → Progress → Type 0
-AllHeld good b p = (i : ℕ) (k : Kept) → kept b p i ≡ Some k → good k.serial
+-- How far the collector has come with what is not good, by the ends of cycles and the phase: which slots are good.
+abbrev Due : ℕ → Stage → ℕ → Colour → Type 0
+Due zero g i c = ⊥
+Due (suc zero) (Sweep k) i c = c ≡ Grey
+Due (suc zero) g i c = ⊥
+Due (suc (suc zero)) (Sweep k) i c = keeps_at (Sweep k) i c ≡ true
+Due (suc (suc zero)) g i c = c ≢ White
+Due (suc (suc (suc n))) g i c = Unit {0}
 
-abbrev AllSlots : (ℕ → Type 0) → Body → Type 0
-AllSlots good b = (i : ℕ) (s : Spot) → spot b i ≡ Some s → good s.serial
+abbrev HowFar : (ℕ → Type 0) → ℕ → Body → Stage → Type 0
+HowFar good n b g = (i : ℕ) (s : Spot) → spot b i ≡ Some s → Due n g i s.colour → good s.serial
 
--- How far the collector has come with what is not good, by the cycles that have ended and the phase.
-abbrev HowFar : (ℕ → Type 0) → ℕ → Progress → Body → Progress → Type 0
-HowFar good zero (Sweeping k) b p = Coloured good Grey b
-HowFar good zero q b p = Unit {0}
-HowFar good (suc zero) (Sweeping k) b p = Coloured good Grey b × AllHeld good b p
-HowFar good (suc zero) q b p = Coloured good Grey b × Coloured good Black b
-HowFar good (suc (suc n)) q b p = AllSlots good b
-
-same_serial : (b : Body) (p : Progress) (i : ℕ) (s : Spot) (k : Kept) → spot b i ≡ Some s → kept b p i ≡ Some k → s.serial ≡ k.serial
-same_serial b p i s k is h = serials (sym (ap name_of is) ∙ kept_name p i (spot b i) k h) where
-  serials : Some s.serial ≡ Some k.serial → s.serial ≡ k.serial
-  serials e = cc
+abbrev Far : (ℕ → Type 0) → ℕ → Body → Progress → Type 0
+Far good n b p = Fence good b p × HowFar good n b (shown p)
 
 live_keeps : (good : ℕ → Type 0) (b : Body) (p : Progress) → Sane b p → Fence good b p → (i : ℕ) (k : Kept) → IsLive b p i → kept b p i ≡ Some k → good k.serial
 live_keeps good b p g f i k (at_root _ r) h = f.roots i k r h
 live_keeps good b p g f _ k (along i t e r is o) h =
     let there = g.closed.edges i t e is o in
-    let u : there.0.serial ≡ k.serial = serials there.0 (sym there.1 ∙ h) in
-    subst good (sym there.2 ∙ u) (f.edges i t e is (live_keeps good b p g f i t r is) o)
-  where
-    serials : (x : Kept) → Some x ≡ Some k → x.serial ≡ k.serial
-    serials x e = cc
+    let old = f.edges i t e is (live_keeps good b p g f i t r is) o in grind arith
 
 -- Session steps.
 module _ (good : ℕ → Type 0) (next : ℕ) (fresh : (x : ℕ) → next ≤ x → good x) (b b' : Body) (p : Progress) (g : Sane b p) (a : Acted b p b' next) (f : Fence good b p) where
   wanted : (x : ℕ) → IsLiveIn b p x ⊎ (next ≤ x) → good x
-  wanted x (inl l) = subst good l.4 (live_keeps good b p g f l.0 l.1 l.2 l.3)
-  wanted x (inr n) = fresh x n
+  wanted x w = let new = fresh x in grind (arith, live_keeps good b p g f)
 
-  held_acts : AllHeld good b p → AllHeld good b' p
-  held_acts h i k is = elim (a.held i k is) [ inl old ↦ subst good old.2 (h i old.0 old.1) | inr n ↦ fresh k.serial n ]
+  live : (i : ℕ) (t : Spot) → spot b i ≡ Some t → IsRoot b i → good t.serial
+  live i t is r = let k = g.closed.roots i r in let h = f.roots i k.0 r k.1 in grind arith
 
-  coloured_acts : (c : Colour) → Coloured good c b → Coloured good c b'
-  coloured_acts c h i s is d = by (spot b i) (spot b' i) refl is (a.slots i) where
-    by : (o o' : Option Spot) → spot b i ≡ o → o' ≡ Some s → Changes b p next i o o' → good s.serial
-    by _ _ e e' (same o) = h i s (e ∙ e') d
-    by _ _ e e' (shaded t w r) = let u : t.serial ≡ s.serial = cc in let k = g.closed.roots i r in subst good (sym (same_serial b p i t k.0 e k.1) ∙ u) (f.roots i k.0 r k.1)
-    by _ _ e e' (regards t es text) = let u : t.serial ≡ s.serial = cc in let v : t.colour ≡ s.colour = cc in subst good u (h i t e (v ∙ d))
-    by _ _ e e' (comes t n x) = let u : t.serial ≡ s.serial = cc in subst good u (fresh t.serial n)
+  news : (x : ℕ) → a.new ≡ Some x → good x
+  news x is = fresh x (a.fresh x is)
 
-  progress_acts : (n : ℕ) (q : Progress) → HowFar good n q b p → HowFar good n q b' p
-  progress_acts zero (Sweeping k) h = coloured_acts Grey h
-  progress_acts zero q h = tt
-  progress_acts (suc zero) (Sweeping k) h = (coloured_acts Grey h.0, held_acts h.1)
-  progress_acts (suc zero) q h = (coloured_acts Grey h.0, coloured_acts Black h.1)
-  progress_acts (suc (suc n)) q h = λ i s is. coloured_acts s.colour (λ j t at d. h j t at) i s is refl
+  slot_acts : (i : ℕ) (P : Colour → Type 0) → ((s : Spot) → spot b i ≡ Some s → P s.colour → good s.serial) → (s : Spot) → spot b' i ≡ Some s → P s.colour → good s.serial
+  slot_acts i P old s is d = let t = a.slots i in grind (arith, live, news)
 
-  fence_acts : Fence good b' p
-  fence_acts = record {
-    roots = λ i k r h. wanted k.serial (a.roots i k r h);
-    edges = λ i k e h d o. elim (a.edges i k e h o) [ inl old ↦ subst good old.5 (f.edges i old.0 old.1 old.2 (subst good (sym old.3) d) old.4) | inr new ↦ wanted e.serial new ];
-  }
+  edge_acts : (i : ℕ) (o o' : Option Spot) → spot b i ≡ o → Changes b p a.new a.target i o o' → (k : Kept) (e : Edge) → seen p i o' ≡ Some k → good k.serial → Contains k.edges e → good e.serial
+  edge_acts i _ _ at (same o) k e h d c = f.edges i k e (ap (seen p i) at ∙ h) d c
+  edge_acts i _ _ at (shaded s w r) k e h d c = f.edges i k e (let root = (g.closed.roots i r).1 in grind arith) d c
+  edge_acts i _ _ at (regards s es text led) k e h d c =
+      let now = seen_is p i (record s { edges = es; text = text }) k h in
+      elim (led e (subst (λ (q : Kept). Contains q.edges e) (sym now.1) c)) [
+        | inl old ↦ (let x = contains_mapped (λ (z : Edge). z.serial) s.edges e.serial old in let here = f.edges i (as_kept s) x.0 in grind arith)
+        | inr to ↦ wanted e.serial (a.aimed e.serial to)
+      ]
+  edge_acts i _ _ at (comes s n colour led) k e h d c = wanted e.serial (a.aimed e.serial (led e (subst (λ (q : Kept). Contains q.edges e) (sym (seen_is p i s k h).1) c)))
+
+  far_acts : (n : ℕ) → HowFar good n b (shown p) → Far good n b' p
+  far_acts n old = (
+    record {
+      roots = λ i k r h. wanted k.serial (a.roots i k r h);
+      edges = λ i k e. edge_acts i (spot b i) (spot b' i) refl (a.slots i) k e;
+    },
+    λ i. slot_acts i (Due n (shown p) i) (old i),
+  )
 
 -- Collector steps.
 module _ (b b' : Body) (p p' : Progress) (e : Bool) (g : Sane b p) (g' : Sane b' p') (c : Collected b p b' p' e) where
-  stays_or : Stays p p' ⊎ Parks b b' p p'
-  stays_or = by p p' e c.phases c.parks where
-    by : (p p' : Progress) (e : Bool) → Follows b p p' e → ((s : Option Scan) → p ≡ Marking s → p' ≡ Sweeping 0 → Parks b b' p p') → Stays p p' ⊎ Parks b b' p p'
-    by _ _ _ (parks l) w = inr (w None refl refl)
-    by _ _ _ s w = inl tt
+  stays_or : Stays (shown p) (shown p') ⊎ Parks (bare b) (bare b') (shown p) (shown p')
+  stays_or = let f = c.phases in let w = c.parks in grind arith
 
   -- What is held afterwards was held.
-  held_back : (i : ℕ) (k : Kept) → kept b' p' i ≡ Some k → kept b p i ≡ Some k
+  pub held_back : (i : ℕ) (k : Kept) → kept b' p' i ≡ Some k → kept b p i ≡ Some k
   held_back i k h = elim stays_or [ inl y ↦ sym (c.held y i) ∙ h | inr w ↦ (w.stays i k h).0 ]
 
   -- What is live stays so, with its edges.
@@ -93,162 +87,102 @@ module _ (b b' : Body) (p p' : Progress) (e : Bool) (g : Sane b p) (g' : Sane b'
   live_stays i (at_root _ r) = at_root i (subst (λ (q : Roots). HasRoot q i) (sym c.roots) r)
   live_stays _ (along i k x l h o) = along i k x (live_stays i l) (live_same i l ∙ h) o
 
-  live_in_stays : (x : ℕ) → IsLiveIn b p x → IsLiveIn b' p' x
-  live_in_stays x l = (l.0, l.1, live_stays l.0 l.2, live_same l.0 l.2 ∙ l.3, l.4)
-
-  -- What has a slot afterwards had it, and kept its colour or took its turn.
-  abbrev Turned : ℕ → Spot → Spot → Type 0
-  Turned i t s = (((k : ℕ) → p ≢ Sweeping k) × IsCalled b i) ⊎ ((t.colour ≡ Grey) ⊎ (s.colour ≡ White))
-
-  slot_back : (i : ℕ) (s : Spot) → spot b' i ≡ Some s → (t : Spot) × (spot b i ≡ Some t) × (t.serial ≡ s.serial) × ((t.colour ≡ s.colour) ⊎ Turned i t s)
-  slot_back i s is = by (spot b i) (spot b' i) refl is (c.turns i) where
-    by : (o o' : Option Spot) → spot b i ≡ o → o' ≡ Some s → Turns b p i o o' → (t : Spot) × (spot b i ≡ Some t) × (t.serial ≡ s.serial) × ((t.colour ≡ s.colour) ⊎ Turned i t s)
-    by _ _ e e' (stays o) = (s, e ∙ e', refl, inl refl)
-    by _ _ e e' (greys t w m l) = (t, e, (cc), inr (inl (m, l)))
-    by _ _ e e' (blackens t w m) = (t, e, (cc), inr (inr (inl w)))
-    by _ _ e e' (whitens t w m) = (t, e, (cc), inr (inr (inr (cc))))
-    by _ _ e e' (strips t x r w m l) = (t, e, (cc), inl (cc))
-    by _ _ e e' (frees t w m l) = absurd (cc)
-
   -- Outside the sweep each occupied slot is held.
-  occupied : (q : Progress) → ((k : ℕ) → q ≢ Sweeping k) → (a : Body) (i : ℕ) (s : Spot) → spot a i ≡ Some s → kept a q i ≡ Some (as_kept s)
-  occupied (Sweeping k) n a i s is = absurd (n k refl)
-  occupied q n a i s is = ap (seen q i) is
+  occupied : ((k : ℕ) → shown p ≢ Sweep k) → (i : ℕ) (s : Spot) → spot b i ≡ Some s → kept b p i ≡ Some (as_kept s)
+  occupied m i s is = grind arith
 
   module _ (good : ℕ → Type 0) (f : Fence good b p) where
-    fence_goes : Fence good b' p'
-    fence_goes = record {
-      roots = λ i k r h. f.roots i k (subst (λ (q : Roots). HasRoot q i) c.roots r) (held_back i k h);
-      edges = λ i k x h d o. f.edges i k x (held_back i k h) d o;
-    }
-
-    slots_goes : AllSlots good b → AllSlots good b'
-    slots_goes h i s is = let t = slot_back i s is in subst good t.2 (h i t.0 t.1)
-
     -- What turns grey is a root, or a good slot's edge leads to it.
-    called_good : Coloured good Grey b → ((k : ℕ) → p ≢ Sweeping k) → (i : ℕ) (t : Spot) → spot b i ≡ Some t → IsCalled b i → good t.serial
-    called_good h m i t e (inl r) = f.roots i (as_kept t) r (occupied p m b i t e)
+    called_good : Coloured good Grey b → ((k : ℕ) → shown p ≢ Sweep k) → (i : ℕ) (t : Spot) → spot b i ≡ Some t → IsCalled b i → good t.serial
+    called_good h m i t e (inl r) = f.roots i (as_kept t) r (occupied m i t e)
     called_good h m i t e (inr (j, y, x, at, grey, o, to)) =
-        let owner = occupied p m b j y at in
+        let owner = occupied m j y at in
         let there = g.closed.edges j (as_kept y) x owner o in
-        let mine : there.0 ≡ as_kept t = (let a = there.1 in let d = subst (λ (k : ℕ). kept b p k ≡ Some (as_kept t)) (sym to) (occupied p m b i t e) in cc) in
-        subst good (sym there.2 ∙ ap (λ (k : Kept). k.serial) mine) (f.edges j (as_kept y) x owner (h j y at grey) o)
+        let d = occupied m i t e in
+        let here = f.edges j (as_kept y) x owner (h j y at grey) o in grind arith
 
-    coloured_goes : (c : Colour) → c ≢ White → Coloured good Grey b → Coloured good c b → Coloured good c b'
-    coloured_goes c n d h i s is w = let t = slot_back i s is in subst good t.2 (elim t.3 [
-      | inl old ↦ h i t.0 t.1 (old ∙ w)
-      | inr (inl now) ↦ called_good d now.0 i t.0 t.1 now.1
-      | inr (inr (inl now)) ↦ d i t.0 t.1 now
-      | inr (inr (inr now)) ↦ absurd (n (sym w ∙ now))
-    ])
+    -- What has a slot afterwards had it, and kept its colour or took its turn.
+    slot_goes : (P : Colour → Type 0) → Coloured good Grey b → ((i : ℕ) (s : Spot) → spot b i ≡ Some s → P s.colour → good s.serial) → (P White → Coloured good Black b)
+        → (i : ℕ) (s : Spot) → spot b' i ≡ Some s → P s.colour → good s.serial
+    slot_goes P grey h black i s is w = by (spot b i) (spot b' i) refl is (c.turns i) where
+      by : (o o' : Option Spot) → spot b i ≡ o → o' ≡ Some s → Turns (IsCalled b) (shown p) i o o' → good s.serial
+      by _ _ e e' (stays o) = h i s (e ∙ e') w
+      by _ _ e e' (greys t v m l) = let old = called_good grey m i t e l in grind arith
+      by _ _ e e' (blackens t v m) = let old = grey i t e v in grind arith
+      by _ _ e e' (whitens t v m) = let k : s.colour ≡ White = cc in let old = black (subst P k w) i t e v in grind arith
+      by _ _ e e' (strips t y r v m l) = let k : s.colour ≡ t.colour = cc in let old = h i t e (subst P k w) in grind arith
+      by _ _ e e' (frees t v m l) = absurd (cc)
 
-    grey_goes : Coloured good Grey b → Coloured good Grey b'
-    grey_goes h = coloured_goes Grey (λ e. cc) h h
+    progress_goes : (n : ℕ) → HowFar good n b (shown p) → HowFar good (cond e (suc n) n) b' (shown p')
+    progress_goes n h = by n (shown p) (shown p') e c.phases refl refl h where
+      by : (n : ℕ) (q q' : Stage) (e : Bool) → Follows (length b.slots) q q' e → shown p ≡ q → shown p' ≡ q' → HowFar good n b q → HowFar good (cond e (suc n) n) b' q'
+      by zero _ _ _ (ended k l) a a' h i s is d = absurd d
+      by zero _ _ false f a a' h i s is d = absurd d
+      by (suc zero) _ _ _ begins a a' h i s is d = absurd d
+      by (suc zero) _ _ _ marks a a' h i s is d = absurd d
+      by (suc zero) _ _ _ parks a a' h i s is d = absurd (let w = c.parks a a' in let n = w.no_grey i in let t = w.same i in grind arith)
+      by (suc zero) _ _ _ f a a' h i s is d = let grey = slot_goes (λ x. x ≡ Grey) h h (λ w. cc) i s is in let n = g'.idle in grind arith
+      by (suc (suc zero)) _ _ _ begins a a' h i s is d = slot_goes (λ x. x ≢ White) (λ j t at x. h j t at (λ w. cc)) h (λ n. absurd (n refl)) i s is d
+      by (suc (suc zero)) _ _ _ marks a a' h i s is d = slot_goes (λ x. x ≢ White) (λ j t at x. h j t at (λ w. cc)) h (λ n. absurd (n refl)) i s is d
+      by (suc (suc zero)) _ _ _ parks a a' h i s is d = let t = (c.parks a a').same i in let here = h i s in grind (arith, nat_tests)
+      by (suc (suc zero)) _ _ _ f a a' h i s is d = let k = held_back i (as_kept s) in let here = h i in grind arith
+      by (suc (suc (suc n))) q q' e f a a' h i s is d = slot_goes (λ x. Unit {0}) (λ j t at x. h j t at tt) h (λ w j t at x. h j t at tt) i s is tt
 
-    held_goes : AllHeld good b p → AllHeld good b' p'
-    held_goes h i k is = h i k (held_back i k is)
+    far_goes : (n : ℕ) → HowFar good n b (shown p) → Far good (cond e (suc n) n) b' p'
+    far_goes n h = (
+      record {
+        roots = λ i k r h. f.roots i k (subst (λ (q : Roots). HasRoot q i) c.roots r) (held_back i k h);
+        edges = λ i k x h d o. f.edges i k x (held_back i k h) d o;
+      },
+      progress_goes n h,
+    )
 
-    no_greys : Parks b b' p p' → Coloured good Grey b'
-    no_greys w i s is d = absurd (w.no_grey i (ap mark_of (sym (w.same i) ∙ is) ∙ ap (λ (k : Colour). Has k) d))
+-- Along a run: what each step keeps, by the cycles that have ended.
+run_keeps : (Session : Body → Progress → Body → Type 0) (Q : ℕ → Body → Progress → Type 0) → ((c d : Body) (q : Progress) (n : ℕ) → Session c q d → Sane c q → Q n c q → Q n d q)
+    → ((c d : Body) (q r : Progress) (e : Bool) (n : ℕ) → Collected c q d r e → Sane c q → Sane d r → Q n c q → Q (cond e (suc n) n) d r)
+    → (b : Body) (p : Progress) (m : ℕ) (c : Body) (q : Progress) (n : ℕ) → Sane b p → Q m b p → RunOf Session b p c q n → Sane c q × Q (m + n) c q
+run_keeps S Q s t b p m _ _ _ g k begin = (g, subst (λ (x : ℕ). Q x b p) (let e : m ≡ m + 0 = omega arith in e) k)
+run_keeps S Q s t b p m _ _ _ g k (acts c d q n w a h) = let old = run_keeps S Q s t b p m c q n g k w in (h, s c d q (m + n) a old.0 old.1)
+run_keeps S Q s t b p m _ _ _ g k (goes c d q r n w a h) = let old = run_keeps S Q s t b p m c q n g k w in (h, t c d q r false (m + n) a old.0 h old.1)
+run_keeps S Q s t b p m _ _ _ g k (ends c d q r n w a h) =
+    let old = run_keeps S Q s t b p m c q n g k w in (h, subst (λ (x : ℕ). Q x d r) (let e : suc (m + n) ≡ m + suc n = omega arith in e) (t c d q r true (m + n) a old.0 h old.1))
 
-    blacks_held : Parks b b' p p' → Coloured good Black b → AllHeld good b' p'
-    blacks_held w h i k is =
-        let old = w.stays i k is in
-        let s = mark_is (spot b i) Black old.1 in
-        subst good (same_serial b p i s.0 k s.1 old.0) (h i s.0 s.1 s.2)
-
-    no_black : p' ≡ AtRest → Coloured good Black b'
-    no_black a i s is d = absurd (g'.idle a i (ap mark_of is ∙ ap (λ (k : Colour). Has k) d))
-
-    progress_goes : (n : ℕ) → HowFar good n p b p → HowFar good (cond e (suc n) n) p' b' p'
-    progress_goes n h = by n p p' e c.phases refl refl h where
-      by : (n : ℕ) (q q' : Progress) (e : Bool) → Follows b q q' e → p ≡ q → p' ≡ q' → HowFar good n q b p → HowFar good (cond e (suc n) n) q' b' p'
-      by zero _ _ _ (parks l) a a' h = no_greys (c.parks None a a')
-      by zero _ _ _ (sweeps k) a a' h = grey_goes h
-      by zero _ _ _ (passes k) a a' h = grey_goes h
-      by zero _ _ _ (ended k l) a a' h = (grey_goes h, no_black a')
-      by zero _ _ _ s a a' h = tt
-      by (suc zero) _ _ _ (parks l) a a' h = (no_greys (c.parks None a a'), blacks_held (c.parks None a a') h.1)
-      by (suc zero) _ _ _ (sweeps k) a a' h = (grey_goes h.0, held_goes h.1)
-      by (suc zero) _ _ _ (passes k) a a' h = (grey_goes h.0, held_goes h.1)
-      by (suc zero) _ _ _ (ended k l) a a' h = λ i s is. held_goes h.1 i (as_kept s) (occupied p' (λ m z. (let u : AtRest ≡ Sweeping m = sym a' ∙ z in cc)) b' i s is)
-      by (suc zero) _ _ _ s a a' h = (grey_goes h.0, coloured_goes Black (λ e. cc) h.0 h.1)
-      by (suc (suc n)) _ _ true s a a' h = slots_goes h
-      by (suc (suc n)) _ _ false s a a' h = slots_goes h
-
--- Along a run.
-module _ (Session : Body → Progress → Body → Type 0) where
-  run_keeps : (n : ℕ) (b c : Body) (p q : Progress) → Sane b p → RunOf Session b p c q n → Sane c q
-  run_keeps _ b _ p _ g begin = g
-  run_keeps _ b _ p _ g (acts c d q n r a k) = k
-  run_keeps _ b _ p _ g (goes c d q s n r a k) = k
-  run_keeps _ b _ p _ g (ends c d q s n r a k) = k
-
-  run_progress : (good : ℕ → Type 0)
-      → ((c d : Body) (q : Progress) → Session c q d → Sane c q → Fence good c q → Fence good d q × ((n : ℕ) → HowFar good n q c q → HowFar good n q d q))
-      → (b c : Body) (q : Progress) (n : ℕ) → Sane b AtRest → Fence good b AtRest → RunOf Session b AtRest c q n → Fence good c q × HowFar good n q c q
-  run_progress good step b _ _ _ g f begin = (f, tt)
-  run_progress good step b _ _ _ g f (acts c d q n r a k) =
-      let old = run_progress good step b c q n g f r in
-      let now = step c d q a (run_keeps n b c AtRest q g r) old.0 in (now.0, now.1 n old.1)
-  run_progress good step b _ _ _ g f (goes c d q s n r a k) =
-      let old = run_progress good step b c q n g f r in
-      let now = run_keeps n b c AtRest q g r in (fence_goes c d q s false now k a good old.0, progress_goes c d q s false now k a good old.0 n old.1)
-  run_progress good step b _ _ _ g f (ends c d q s n r a k) =
-      let old = run_progress good step b c q n g f r in
-      let now = run_keeps n b c AtRest q g r in (fence_goes c d q s true now k a good old.0, progress_goes c d q s true now k a good old.0 n old.1)
-
-live_fence : (b : Body) → Sane b AtRest → Fence (IsLiveIn b AtRest) b AtRest
-live_fence b g = record {
+live_fence : (b : Body) (p : Progress) → Sane b p → Fence (IsLiveIn b p) b p
+live_fence b p g = record {
   roots = λ i k r h. (i, k, at_root i r, h, refl);
   edges = λ i k e h l o.
-      let here : l.0 ≡ i = g.once l.0 i k.serial (kept_name AtRest l.0 (spot b l.0) l.1 l.3 ∙ ap (λ (x : ℕ). Some x) l.4) (kept_name AtRest i (spot b i) k h) in
+      let here : l.0 ≡ i = (let once = g.once l.0 i k.serial in grind arith) in
       let there = g.closed.edges i k e h o in
-      (e.target, there.0, along i k e (subst (IsLive b AtRest) here l.2) h o, there.1, there.2);
+      (e.target, there.0, along i k e (subst (IsLive b p) here l.2) h o, there.1, there.2);
 }
 
 pub complete : IsComplete
-complete b c q next zero g below r two i s is = absurd (omega (arith, two))
-complete b c q next (suc zero) g below r two i s is = absurd (omega (arith, two))
-complete b c q next (suc (suc n)) g below r two i s is = (run_progress (λ c q d. Acted c q d next) good step b c q (suc (suc n)) g fence r).1 i s is where
-  good : ℕ → Type 0
-  good x = IsLiveIn b AtRest x ⊎ (next ≤ x)
+complete b c q next n g below r two i s is =
+    let last = run_keeps (λ c q d. Acted c q d next) (Far good) (λ c d q n a k far. far_acts good next (λ x l. inr l) c d q k a far.0 n far.1)
+    (λ c d q r e n a k k' far. far_goes c d q r e k k' a good far.0 n far.1) b AtRest 1 c q n g (fence, λ i s is d. absurd d) r in
+    last.1.1 i s is (rw (let e : 1 + n ≡ suc (suc (suc (n - 2))) = omega (arith, two) in e) tt)
+  where
+    good : ℕ → Type 0
+    good x = IsLiveIn b AtRest x ⊎ (next ≤ x)
 
-  step : (c d : Body) (q : Progress) → Acted c q d next → Sane c q → Fence good c q → Fence good d q × ((n : ℕ) → HowFar good n q c q → HowFar good n q d q)
-  step c d q a k f = (fence_acts good next (λ x l. inr l) c d q k a f, λ n. progress_acts good next (λ x l. inr l) c d q k a f n q)
-
-  fence : Fence good b AtRest
-  fence = let live = live_fence b g in record {
-    roots = λ i k r h. inl (live.roots i k r h);
-    edges = λ i k e h d o. elim d [ inl l ↦ inl (live.edges i k e h l o) | inr n ↦ (let old = below i k h in absurd (omega (arith, old, n))) ];
-  }
-
--- Runs without session steps.
-cycles_live : (b : Body) (p : Progress) (c : Body) (q : Progress) (n : ℕ) → Sane b p → Cycles b p c q n → (x : ℕ) → IsLiveIn b p x → IsLiveIn c q x
-cycles_live b p _ _ _ g begin x l = l
-cycles_live b p _ _ _ g (acts c d q n w a k) x l = absurd a
-cycles_live b p _ _ _ g (goes c d q r n w a k) x l = live_in_stays c d q r false (run_keeps (λ c q d. ⊥) n b c p q g w) k a x (cycles_live b p c q n g w x l)
-cycles_live b p _ _ _ g (ends c d q r n w a k) x l = live_in_stays c d q r true (run_keeps (λ c q d. ⊥) n b c p q g w) k a x (cycles_live b p c q n g w x l)
-
-follows_ends : (b : Body) (p q : Progress) (e : Bool) → Follows b p q e → e ≡ true → q ≡ AtRest
-follows_ends b _ _ _ (ended k l) o = refl
-follows_ends b _ _ _ s o = absurd (cc)
-
--- From the first end on.
-after_first : (b : Body) (p : Progress) (c : Body) (q : Progress) (n m : ℕ) → n ≡ suc m → Cycles b p c q n → (u : Body) × Sane u AtRest × Cycles u AtRest c q m
-after_first b p _ _ _ m e begin = absurd (omega (arith, e))
-after_first b p _ _ _ m e (acts c d q n w a k) = absurd a
-after_first b p _ _ _ m e (goes c d q r n w a k) = let u = after_first b p c q n m e w in (u.0, u.1, goes c d q r m u.2 a k)
-after_first b p _ _ _ zero e (ends c d q r n w a k) =
-    let idle = follows_ends c q r true a.phases refl in
-    (d, subst (Sane d) idle k, subst (λ (s : Progress). Cycles d AtRest d s 0) (sym idle) begin)
-after_first b p _ _ _ (suc m) e (ends c d q r n w a k) = let u = after_first b p c q n m (omega (arith, e)) w in (u.0, u.1, ends c d q r m u.2 a k)
+    fence : Fence good b AtRest
+    fence = let live = live_fence b AtRest g in record {
+      roots = λ i k r h. inl (live.roots i k r h);
+      edges = λ i k e h d o. elim d [ inl l ↦ inl (live.edges i k e h l o) | inr n ↦ (let old = below i k h in absurd (omega (arith, old, n))) ];
+    }
 
 pub settles : Settles
 settles b c p q g w i s is =
-    let u = after_first b p c q 3 2 refl w in
-    let last = run_keeps (λ c q d. ⊥) 2 u.0 c AtRest q u.1 u.2 in
-    let good = run_progress (λ c q d. ⊥) (IsLiveIn u.0 AtRest) (λ c d q bad k f. absurd bad) u.0 c q 2 u.1 (live_fence u.0 u.1) u.2 in
-    let now = cycles_live u.0 AtRest c q 2 u.1 u.2 s.serial (good.1 i s is) in
-    let here : now.0 ≡ i = last.once now.0 i s.serial (kept_name q now.0 (spot c now.0) now.1 now.3 ∙ ap (λ (x : ℕ). Some x) now.4) (ap name_of is) in
+    let last = run_keeps (λ c q d. ⊥) StaysLive (λ c d q n bad. absurd bad) goes b p 0 c q 3 g ((live_fence b p g, λ i s is d. absurd d), λ x l. l) w in
+    let now = last.1.1 s.serial (last.1.0.1 i s is tt) in
+    let here : now.0 ≡ i = (let once = last.0.once now.0 i s.serial in grind arith) in
     subst (IsLive c q) here now.2
+  where
+    StaysLive : ℕ → Body → Progress → Type 0
+    StaysLive n c q = Far (IsLiveIn b p) n c q × ((x : ℕ) → IsLiveIn b p x → IsLiveIn c q x)
+
+    goes : (c d : Body) (q r : Progress) (e : Bool) (n : ℕ) → Collected c q d r e → Sane c q → Sane d r → StaysLive n c q → StaysLive (cond e (suc n) n) d r
+    goes c d q r e n a k k' (far, still) = (
+      far_goes c d q r e k k' a (IsLiveIn b p) far.0 n far.1,
+      λ x l. let old = still x l in (old.0, old.1, live_stays c d q r e k k' a old.0 old.2, live_same c d q r e k k' a old.0 old.2 ∙ old.3, old.4),
+    )

@@ -1,53 +1,61 @@
 -- what callers see of a collector step
 use Rattle.std.specs.Prelude.{◌≡◌, ◌≢◌, ℕ, ◌+◌, ◌≤◌, List, [], ◌∷◌, length, Option, Some, None, ◌⊎◌, Bool, true, false}
-use Rattle.tg_marking.specs.Values.{White, Grey, Black, Has, Edge, Contains, Spot, Scan, Progress, AtRest, Marking, Sweeping, Body, spot, mark, IsRoot, Kept, kept, Parked}
+use Rattle.tg_marking.specs.Values.{White, Grey, Black, Has, Edge, Contains, Spot, Progress, Stage, Idle, Mark, Sweep, shown, Body, spot, mark, IsRoot, Kept, kept_at, ParkedAt}
 use Rattle.tg_marking.specs.Steps.{Line}
-use Rattle.tg_marking.specs.Invariant.{IsLive, Invariant}
+use Rattle.tg_marking.specs.Invariant.{Reached, Invariant}
 
 -- why a collector step makes a slot grey: a root, or an edge from a grey slot leads to it
 abbrev pub IsCalled : Body → ℕ → Type 0
 IsCalled b i = IsRoot b i ⊎ ((j : ℕ) × (s : Spot) × (e : Edge) × (spot b j ≡ Some s) × (s.colour ≡ Grey) × Contains s.edges e × (e.target ≡ i))
 
--- what a collector step does to one slot
-pub data Turns (b : Body) (p : Progress) (i : ℕ) : Option Spot → Option Spot → Type 0 where
-  stays : (o : Option Spot) → Turns b p i o o
-  greys : (s : Spot) → s.colour ≡ White → ((k : ℕ) → p ≢ Sweeping k) → IsCalled b i → Turns b p i (Some s) (Some (record s { colour = Grey }))
-  blackens : (s : Spot) → s.colour ≡ Grey → ((k : ℕ) → p ≢ Sweeping k) → Turns b p i (Some s) (Some (record s { colour = Black }))
-  whitens : (s : Spot) → s.colour ≡ Black → p ≡ Sweeping i → Turns b p i (Some s) (Some (record s { colour = White }))
-  strips : (s : Spot) (e : Edge) (r : List Edge) → s.colour ≡ White → p ≡ Sweeping i → s.edges ≡ e ∷ r → Turns b p i (Some s) (Some (record s { edges = r }))
-  frees : (s : Spot) → s.colour ≡ White → p ≡ Sweeping i → s.edges ≡ [] → Turns b p i (Some s) None
+-- what a collector step does to one slot, in a phase; what is called may turn grey
+pub data Turns (Called : ℕ → Type 0) (g : Stage) (i : ℕ) : Option Spot → Option Spot → Type 0 where
+  stays : (o : Option Spot) → Turns Called g i o o
+  greys : (s : Spot) → s.colour ≡ White → ((k : ℕ) → g ≢ Sweep k) → Called i → Turns Called g i (Some s) (Some (record s { colour = Grey }))
+  blackens : (s : Spot) → s.colour ≡ Grey → ((k : ℕ) → g ≢ Sweep k) → Turns Called g i (Some s) (Some (record s { colour = Black }))
+  whitens : (s : Spot) → s.colour ≡ Black → g ≡ Sweep i → Turns Called g i (Some s) (Some (record s { colour = White }))
+  strips : (s : Spot) (e : Edge) (r : List Edge) → s.colour ≡ White → g ≡ Sweep i → s.edges ≡ e ∷ r → Turns Called g i (Some s) (Some (record s { edges = r }))
+  frees : (s : Spot) → s.colour ≡ White → g ≡ Sweep i → s.edges ≡ [] → Turns Called g i (Some s) None
 
--- the phases, and whether the cycle ended
-pub data Follows (b : Body) : Progress → Progress → Bool → Type 0 where
-  begins : Follows b AtRest (Marking None) false
-  marks : (s t : Option Scan) → Follows b (Marking s) (Marking t) false
-  parks : b.grey ≡ [] → Follows b (Marking None) (Sweeping 0) false
-  sweeps : (k : ℕ) → Follows b (Sweeping k) (Sweeping k) false
-  passes : (k : ℕ) → Follows b (Sweeping k) (Sweeping (k + 1)) false
-  ends : (k : ℕ) → length b.slots ≤ k → Follows b (Sweeping k) AtRest true
+-- the phases, with this many slots, and whether the cycle ended
+pub data Follows (size : ℕ) : Stage → Stage → Bool → Type 0 where
+  begins : Follows size Idle Mark false
+  marks : Follows size Mark Mark false
+  parks : Follows size Mark (Sweep 0) false
+  sweeps : (k : ℕ) → Follows size (Sweep k) (Sweep k) false
+  passes : (k : ℕ) → Follows size (Sweep k) (Sweep (k + 1)) false
+  ends : (k : ℕ) → size ≤ k → Follows size (Sweep k) Idle true
 
 -- only the step into the sweep changes what is held
-abbrev pub Stays : Progress → Progress → Type 0
-Stays (Marking s) (Sweeping k) = ⊥
+abbrev pub Stays : Stage → Stage → Type 0
+Stays Mark (Sweep k) = ⊥
 Stays _ _ = Unit {0}
 
 -- that step: what is black stays, what is not is parked, and was not live
-pub record Parks (b b' : Body) (p p' : Progress) : Type 0 where
+pub record Parks (b b' : Body) (g g' : Stage) : Type 0 where
   pub same : (i : ℕ) → spot b' i ≡ spot b i
-  pub stays : (i : ℕ) (k : Kept) → kept b' p' i ≡ Some k → (kept b p i ≡ Some k) × (mark b i ≡ Has Black)
+  pub stays : (i : ℕ) (k : Kept) → kept_at b' g' i ≡ Some k → (kept_at b g i ≡ Some k) × (mark b i ≡ Has Black)
   pub no_grey : (i : ℕ) → mark b i ≢ Has Grey
-  pub black : (i : ℕ) → mark b i ≡ Has Black → kept b' p' i ≡ kept b p i
-  pub parked : (i : ℕ) → Parked b' p' i → (mark b i ≢ Has Black) × (kept b' p' i ≡ None)
-  pub all : (i : ℕ) (k : Kept) → kept b p i ≡ Some k → mark b i ≢ Has Black → Parked b' p' i
-  pub unreached : (i : ℕ) → IsLive b p i → mark b i ≡ Has Black
+  pub black : (i : ℕ) → mark b i ≡ Has Black → kept_at b' g' i ≡ kept_at b g i
+  pub parked : (i : ℕ) → ParkedAt b' g' i → (mark b i ≢ Has Black) × (kept_at b' g' i ≡ None)
+  pub all : (i : ℕ) (k : Kept) → kept_at b g i ≡ Some k → mark b i ≢ Has Black → ParkedAt b' g' i
+  pub unreached : (i : ℕ) → Reached (kept_at b g) (IsRoot b) i → mark b i ≡ Has Black
 
-pub record Collected (b : Body) (p : Progress) (b' : Body) (p' : Progress) (ended : Bool) : Type 0 where
-  pub phases : Follows b p p' ended
+-- a step, by slots, roots and phases
+pub record Went (b : Body) (g : Stage) (b' : Body) (g' : Stage) (ended : Bool) : Type 0 where
+  pub phases : Follows (length b.slots) g g' ended
   pub roots : b'.roots ≡ b.roots
   pub size : length b'.slots ≡ length b.slots
-  pub turns : (i : ℕ) → Turns b p i (spot b i) (spot b' i)
-  pub held : Stays p p' → (i : ℕ) → kept b' p' i ≡ kept b p i
-  pub parks : (s : Option Scan) → p ≡ Marking s → p' ≡ Sweeping 0 → Parks b b' p p'
+  pub turns : (i : ℕ) → Turns (IsCalled b) g i (spot b i) (spot b' i)
+  pub held : Stays g g' → (i : ℕ) → kept_at b' g' i ≡ kept_at b g i
+  pub parks : g ≡ Mark → g' ≡ Sweep 0 → Parks b b' g g'
+
+-- nobody sees in which order the grey ones wait, nor the scan
+abbrev pub bare : Body → Body
+bare b = record b { grey = [] }
+
+abbrev pub Collected : Body → Progress → Body → Progress → Bool → Type 0
+Collected b p b' p' ended = Went (bare b) (shown p) (bare b') (shown p') ended
 
 -- each line of the step table keeps the invariant, and is a collector step
 abbrev pub LinesKeep : Type 0

@@ -1,6 +1,6 @@
 -- what holds between any two steps, and that each session step keeps it
-use Rattle.std.specs.Prelude.{◌≡◌, ◌≢◌, ℕ, ◌<◌, ◌≤◌, List, [], ◌++◌, replicate, Option, Some, None, ◌⊎◌}
-use Rattle.tg_marking.specs.Values.{White, Grey, Black, Has, Edge, Kind, Contains, Distinct, Roots, Scan, Progress, AtRest, Marking, Sweeping, Body, mark, out, name, IsRoot, IsTarget, Kept, kept}
+use Rattle.std.specs.Prelude.{◌≡◌, ◌≢◌, ℕ, ◌<◌, ◌≤◌, List, [], ◌++◌, Option, Some, None, ◌⊎◌}
+use Rattle.tg_marking.specs.Values.{White, Grey, Black, Has, Edge, Kind, Contains, Distinct, Roots, Scan, Progress, AtRest, Marking, Sweeping, Body, spot, mark, out, name, IsRoot, IsTarget, Kept, kept}
 use Rattle.tg_marking.specs.Steps.{Reroots, PutsEdge, ShadesTarget, Places, DropsEdge, Rewrites}
 
 -- an edge leads to a held slot of its serial, which is not its owner's
@@ -61,12 +61,13 @@ pub data Reached (held : ℕ → Option Kept) (Root : ℕ → Type 0) : ℕ → 
 abbrev pub IsLive : Body → Progress → ℕ → Type 0
 IsLive b p i = Reached (kept b p) (IsRoot b) i
 
--- each session step keeps it, and a blank store has it
+-- each session step keeps it, a vertex that comes is held, and a store without vertices and roots has it
 pub record SessionsKeep : Type 0 where
   pub reroots : (b b' : Body) (p : Progress) (rs : Roots) → Reroots b p rs b' → Invariant b p → Invariant b' p
   pub puts_edge : (b b' : Body) (p : Progress) (i : ℕ) (new : Edge) → PutsEdge b p i new b' → Invariant b p → Invariant b' p
   pub shades : (b b' : Body) (p : Progress) (seat i : ℕ) → ShadesTarget b seat i b' → Invariant b p → Invariant b' p
-  pub places : (b b' : Body) (p : Progress) (seat i serial : ℕ) (kind : Kind) (text : List ℕ) → Places b p seat i serial kind text b' → Invariant b p → Invariant b' p
+  pub places : (b b' : Body) (p : Progress) (i serial : ℕ) (kind : Kind) (text : List ℕ) → Places b p i serial kind text b' → Invariant b p
+      → Invariant b' p × (kept b' p i ≡ Some (record { serial = serial; kind = kind; text = text; edges = [] }))
   pub drops_edge : (b b' : Body) (p p' : Progress) (i : ℕ) (before : List Edge) (e : Edge) (news after : List Edge) → DropsEdge b p i before e news after b' p' → Invariant b p → Invariant b' p'
   pub rewrites : (b b' : Body) (p : Progress) (i : ℕ) (text : List ℕ) → Rewrites b i text b' → Invariant b p → Invariant b' p
-  pub blank : (slots seats : ℕ) → Invariant (record { slots = replicate slots None; grey = []; roots = record { targets = replicate seats None; others = [] } }) AtRest
+  pub blank : (b : Body) → ((i : ℕ) → spot b i ≡ None) → b.grey ≡ [] → ((i : ℕ) → IsRoot b i → ⊥) → Invariant b AtRest

@@ -1,7 +1,7 @@
 -- what is left of a cycle
-use Rattle.std.specs.Prelude.{◌≡◌, ℕ, zero, suc, ◌+◌, ◌-◌, ◌*◌, ◌<◌, ◌≤◌, List, length, map, Option, Some, None, false, cond, eqb}
+use Rattle.std.specs.Prelude.{◌≡◌, ℕ, zero, suc, ◌+◌, ◌-◌, ◌*◌, ◌<◌, ◌≤◌, List, length, map, Option, Some, None, false, cond}
 use Rattle.tg_slots.specs.Table.{Mark}
-use Rattle.tg_marking.specs.Values.{White, Grey, Black, Free, Has, Edge, Distinct, Kind, Roots, Spot, Scan, Progress, AtRest, Marking, Sweeping, Body, spot, mark, out, keeps, Kept, kept}
+use Rattle.tg_marking.specs.Values.{Grey, Black, Has, Edge, Distinct, Kind, Roots, Spot, Progress, AtRest, Marking, Sweeping, Body, spot, mark_of, out, keeps, Kept, kept}
 use Rattle.tg_marking.specs.Steps.{Line, shade, PutsEdge, Places, DropsEdge, Rewrites}
 use Rattle.tg_marking.specs.Invariant.{Invariant}
 
@@ -10,25 +10,33 @@ abbrev pub total : (ℕ → ℕ) → ℕ → ℕ
 total f zero = 0
 total f (suc n) = total f n + f n
 
--- the steps that a slot may still take while marking
-abbrev pub weight : ℕ → Option Scan → ℕ → Mark → ℕ
-weight size scan i Free = size + 2
-weight size scan i (Has White) = size + 2
-weight size scan i (Has Black) = 0
-weight size None i (Has Grey) = size + 1
-weight size (Some s) i (Has Grey) = cond (eqb i s.slot) (1 + length s.rest) (size + 1)
+-- the steps that a slot may still take while marking; a scan takes fewer steps than there are slots
+abbrev pub weight : ℕ → Mark → ℕ
+weight size (Has Black) = 0
+weight size (Has Grey) = size + 1
+weight size m = size + 2
 
 abbrev pub parked_cells : Progress → ℕ → Option Spot → ℕ
 parked_cells p i None = 0
 parked_cells p i (Some s) = cond (keeps p i s.colour) 0 (length s.edges)
 
+-- the steps that one slot may still take, and the other steps
+abbrev pub slot_left : ℕ → Progress → ℕ → Option Spot → ℕ
+slot_left size AtRest i o = 0
+slot_left size (Marking s) i o = weight size (mark_of o)
+slot_left size (Sweeping k) i o = parked_cells (Sweeping k) i o
+
 abbrev pub bound : (size cells : ℕ) → ℕ
 bound size cells = size * size + 3 * size + cells + 3
 
+abbrev pub phase_left : (size cells : ℕ) → Progress → ℕ
+phase_left size cells AtRest = bound size cells
+phase_left size cells (Marking None) = cells + 2 + size
+phase_left size cells (Marking (Some s)) = cells + 2 + length s.rest
+phase_left size cells (Sweeping k) = size - k + 1
+
 abbrev pub left : ℕ → Body → Progress → ℕ
-left cells b AtRest = bound (length b.slots) cells
-left cells b (Marking s) = length b.slots + cells + 2 + total (λ i. weight (length b.slots) s i (mark b i)) (length b.slots)
-left cells b (Sweeping k) = length b.slots - k + 1 + total (λ i. parked_cells (Sweeping k) i (spot b i)) (length b.slots)
+left cells b p = phase_left (length b.slots) cells p + total (λ i. slot_left (length b.slots) p i (spot b i)) (length b.slots)
 
 -- what a heap says of its cells: no serial twice in a list, and no more cells than there are
 pub record Celled (b : Body) (cells : ℕ) : Type 0 where
@@ -63,8 +71,8 @@ pub record IsCounted : Type 0 where
 -- no session step raises what is left
 pub record NeverRaises : Type 0 where
   pub roots : (b : Body) (p : Progress) (cells : ℕ) (rs : Roots) → left cells (record b { roots = rs }) p ≡ left cells b p
-  pub shades : (b : Body) (p : Progress) (i cells : ℕ) → Invariant b p → left cells (shade b i) p ≤ left cells b p
+  pub shades : (b : Body) (p : Progress) (i cells : ℕ) → left cells (shade b i) p ≤ left cells b p
   pub puts_edge : (b b' : Body) (p : Progress) (i cells : ℕ) (new : Edge) → PutsEdge b p i new b' → left cells b' p ≤ left cells b p
-  pub places : (b b' : Body) (p : Progress) (seat i serial cells : ℕ) (kind : Kind) (text : List ℕ) → Places b p seat i serial kind text b' → left cells b' p ≤ left cells b p
+  pub places : (b b' : Body) (p : Progress) (i serial cells : ℕ) (kind : Kind) (text : List ℕ) → Places b p i serial kind text b' → left cells b' p ≤ left cells b p
   pub drops_edge : (b b' : Body) (p p' : Progress) (i : ℕ) (before : List Edge) (e : Edge) (news after : List Edge) (cells : ℕ) → DropsEdge b p i before e news after b' p' → length news ≤ 1 → left cells b' p' ≤ left cells b p
   pub rewrites : (b b' : Body) (p : Progress) (i cells : ℕ) (text : List ℕ) → Rewrites b i text b' → left cells b' p ≤ left cells b p

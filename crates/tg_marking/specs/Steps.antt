@@ -48,21 +48,21 @@ new_colour p i = White
 abbrev pub with_target : Roots → ℕ → Option ℕ → Roots
 with_target r seat t = record r { targets = set r.targets seat t }
 
--- the session steps. Roots come and go: what comes is a root already, or held and then a seat's target; and a target
--- that is white stays one
+-- the session steps. Roots come and go: what comes is a root already, or held, and then a seat's target unless the
+-- collector rests; and a target that is white stays one
 pub record Reroots (b : Body) (p : Progress) (roots : Roots) (b' : Body) : Type 0 where
-  pub comes : (i : ℕ) → HasRoot roots i → IsRoot b i ⊎ (HasTarget roots i × (k : Kept) × (kept b p i ≡ Some k))
+  pub comes : (i : ℕ) → HasRoot roots i → IsRoot b i ⊎ ((HasTarget roots i ⊎ (p ≡ AtRest)) × (k : Kept) × (kept b p i ≡ Some k))
   pub stays : (i : ℕ) → mark b i ≡ Has White → IsTarget b i → HasTarget roots i
   pub is : b' ≡ record b { roots = roots }
 
--- an edge of a held slot to a seat's target is put in front
+-- an edge of a held slot is put in front: to a seat's target, or to any held slot if the collector rests
 pub record PutsEdge (b : Body) (p : Progress) (i : ℕ) (edge : Edge) (b' : Body) : Type 0 where
   pub owner : Spot
   pub at : spot b i ≡ Some owner
   pub held : (k : Kept) × (kept b p i ≡ Some k)
   pub there : (k : Kept) × (kept b p edge.target ≡ Some k) × (k.serial ≡ edge.serial)
   pub apart : edge.target ≢ i
-  pub target : IsTarget b edge.target
+  pub target : IsTarget b edge.target ⊎ (p ≡ AtRest)
   pub is : b' ≡ record b { slots = set b.slots i (Some (record owner { edges = edge ∷ owner.edges })) }
 
 -- the seat's target is shaded and cleared
@@ -70,17 +70,12 @@ pub record ShadesTarget (b : Body) (seat i : ℕ) (b' : Body) : Type 0 where
   pub was : get_or b.roots.targets seat None ≡ Some i
   pub is : b' ≡ record (shade b i) { roots = with_target b.roots seat None }
 
--- a vertex without edges comes into a free slot, as a seat's target
-pub record Places (b : Body) (p : Progress) (seat i serial : ℕ) (kind : Kind) (text : List ℕ) (b' : Body) : Type 0 where
+-- a vertex without edges comes into a free slot
+pub record Places (b : Body) (p : Progress) (i serial : ℕ) (kind : Kind) (text : List ℕ) (b' : Body) : Type 0 where
   pub free : spot b i ≡ None
   pub inside : i < length b.slots
   pub new : (j : ℕ) → name b j ≢ Some serial
-  pub places : seat < length b.roots.targets
-  pub idle : get_or b.roots.targets seat None ≡ None
-  pub is : b' ≡ record b {
-    slots = set b.slots i (Some (record { serial = serial; kind = kind; text = text; edges = []; colour = new_colour p i }));
-    roots = with_target b.roots seat (Some i);
-  }
+  pub is : b' ≡ put b i (Some (record { serial = serial; kind = kind; text = text; edges = []; colour = new_colour p i }))
 
 -- a text is replaced
 pub record Rewrites (b : Body) (i : ℕ) (text : List ℕ) (b' : Body) : Type 0 where
@@ -91,10 +86,7 @@ pub record Rewrites (b : Body) (i : ℕ) (text : List ℕ) (b' : Body) : Type 0 
 -- an edge gives way to others to the same vertex: none if it leaves its list, one if its label changes; the scan
 -- goes on with the edges from its cursor on
 pub data Trims (i : ℕ) (before : List Edge) (e : Edge) (news after : List Edge) : Progress → Progress → Type 0 where
-  idle : Trims i before e news after AtRest AtRest
-  sweeping : (k : ℕ) → Trims i before e news after (Sweeping k) (Sweeping k)
-  unscanned : Trims i before e news after (Marking None) (Marking None)
-  elsewhere : (s : Scan) → i ≢ s.slot → Trims i before e news after (Marking (Some s)) (Marking (Some s))
+  elsewhere : (p : Progress) → ((s : Scan) → p ≡ Marking (Some s) → i ≢ s.slot) → Trims i before e news after p p
   passed : (rest mid : List Edge) → after ≡ mid ++ rest → Trims i before e news after (Marking (Some (record { slot = i; rest = rest }))) (Marking (Some (record { slot = i; rest = rest })))
   ahead : (mid done : List Edge) → before ≡ done ++ mid → Trims i before e news after (Marking (Some (record { slot = i; rest = mid ++ e ∷ after }))) (Marking (Some (record { slot = i; rest = mid ++ (news ++ after) })))
 

@@ -112,8 +112,14 @@ seen_at p i (Some s) = cond (keeps_at p i s.colour) (Some (as_kept s)) None
 abbrev pub seen : Progress → ℕ → Option Spot → Option Kept
 seen p i o = seen_at (shown p) i o
 
+abbrev pub kept_at : Body → Stage → ℕ → Option Kept
+kept_at b g i = seen_at g i (spot b i)
+
 abbrev pub kept : Body → Progress → ℕ → Option Kept
-kept b p i = seen p i (spot b i)
+kept b p i = kept_at b (shown p) i
+
+abbrev pub ParkedAt : Body → Stage → ℕ → Type 0
+ParkedAt b g i = (s : Spot) × (spot b i ≡ Some s) × (keeps_at g i s.colour ≡ false)
 
 abbrev pub Parked : Body → Progress → ℕ → Type 0
-Parked b p i = (s : Spot) × (spot b i ≡ Some s) × (keeps p i s.colour ≡ false)
+Parked b p i = ParkedAt b (shown p) i

@@ -31,9 +31,7 @@ use Rattle.tg_collect.specs.Stored.{Stored}
 use Rattle.tg_collect.specs.Readings.{agents, held, pending, principals, free_slots, place, serial_at}
 use Rattle.tg_collect.specs.Sessions.{Assumed, EdgeStored, Left, Retired, RightsRemoved, TextReplaced, Acted}
 use Rattle.tg_collect.proofs.SeatLemmas.{acted_same}
-use Rattle.tg_collect.proofs.RunLemmas.{acted_slots, edge_agents, edge_pending, edge_principals, removed_agents, removed_pending, removed_principals, text_agents, text_cells, text_graph, text_pending, text_principals, vertex_agents, vertex_pending, vertex_principals}
-use Rattle.tg_collect.proofs.PrincipalLemmas.{principal_agents, principal_cells, principal_graph, principal_pending, principal_slots, retired_agents, retired_cells, retired_graph, retired_pending}
-use Rattle.tg_collect.proofs.AgentLemmas.{assumed_agents, assumed_cells, assumed_graph, assumed_pending, assumed_principals, left_agents, left_cells, left_graph, left_pending, left_principals}
+use Rattle.tg_collect.proofs.RunLemmas.{acted_slots, agents_set, pending_set, text_graph}
 use Rattle.tg_collect.proofs.StoreLemmas.{edge_in, in_edge}
 use Rattle.tg_vault.specs.World.{new_agents, new_target, with_target}
 use Rattle.tg_vault.specs.Seen.{seen, serials}
@@ -180,10 +178,10 @@ module _ (s t : Stored) (next : ℕ) (names : List Member) (retired : set.FinSet
       room = room;
       replied = refl;
       graph = among (j.0.graph next);
-      pending = edge_pending j.0;
-      agents = edge_agents j.0;
+      pending = pending_set s t seat (Some j.0.target) (ap (λ z. z.roots.targets) j.0.is) ∙ ap (λ n. set_at (pending s) seat (Some n)) j.0.named;
+      agents = ap (λ z. agents z) j.0.is;
       acted = j.1;
-      listed = edge_principals j.0 ∙ known;
+      listed = ap (λ z. principals z) j.0.is ∙ known;
       slots = let same = acted_slots j.1 in omega arith;
       cells = subst (λ l. t.free_cells + edges_at (joined l α) ≡ s.free_cells + edges_at l) (sym (label_seen s next next names retired from to)) (cells_joined s t next seat from to α some j.0);
     }) where
@@ -207,19 +205,19 @@ module _ (s t : Stored) (next : ℕ) (names : List Member) (retired : set.FinSet
     stored : (x : ℕ) (k : Kind) (α : Letters) (name : Option (List ℕ)) → Stores s t seat x next k α name → IsStored x k α name
     stored x k α None v = record {
       graph = v.graph;
-      targets = vertex_pending v;
-      agents = vertex_agents v;
-      listed = vertex_principals v ∙ known;
+      targets = pending_set s t seat (Some (record { serial = next; slot = v.new })) (ap (λ z. z.roots.targets) v.is);
+      agents = ap (λ z. agents z) v.is;
+      listed = ap (λ z. principals z) v.is ∙ known;
       slots = v.free_slots;
       cells = v.free_cells;
     }
     stored x k α (Some name) (subject, p) = subst (λ k. IsStored x k α (Some name)) (sym subject) (record {
-      graph = principal_graph p;
-      targets = principal_pending p;
-      agents = principal_agents p;
+      graph = λ n. ap (λ z. held z n) p.is ∙ p.vertex.graph n;
+      targets = pending_set s t seat (Some (record { serial = next; slot = p.vertex.new })) (ap (λ z. z.roots.targets) p.is ∙ ap (λ z. z.roots.targets) p.vertex.is);
+      agents = ap (λ z. agents z) p.is ∙ ap (λ z. agents z) p.vertex.is;
       listed = serials_pushed s t names known seat x next [] α name p;
-      slots = principal_slots p;
-      cells = principal_cells p;
+      slots = p.vertex.free_slots ∙ ap (λ z. free_slots z + 1) (sym p.is);
+      cells = p.vertex.free_cells ∙ ap (λ z. z.free_cells + 1) (sym p.is);
     })
 
     pub make_done : (x after : ℕ) (left : List Member) (k : Kind) (α : Letters) (name : Option (List ℕ)) (answer : Reply) → Made s t next after names left seat x k α name answer →
@@ -254,10 +252,10 @@ module _ (s t : Stored) (next : ℕ) (names : List Member) (retired : set.FinSet
       room = needs_none S (free_slots s) s.free_cells (effect.Drops α over) refl (λ u. u);
       replied = refl;
       graph = among (removed.graph next);
-      pending = removed_pending removed;
-      agents = removed_agents removed;
+      pending = ap (λ z. pending z) removed.is;
+      agents = ap (λ z. agents z) removed.is;
       acted = acted;
-      listed = removed_principals removed ∙ known;
+      listed = ap (λ z. principals z) removed.is ∙ known;
       slots = let same = acted_slots acted in omega arith;
       cells = subst (λ l. t.free_cells + edges_at (without l α) ≡ s.free_cells + edges_at l) (sym (label_seen s next next names retired x over)) (cells_cut s t next seat x over α here removed);
     })
@@ -267,12 +265,12 @@ module _ (s t : Stored) (next : ℕ) (names : List Member) (retired : set.FinSet
       room = needs_none S (free_slots s) s.free_cells (effect.Rewrites over text) refl (λ u. u);
       replied = refl;
       graph = among (text_graph replaced next) ∙ with_text_among names retired (held s next) over text (vertex (held s next) over);
-      pending = text_pending replaced;
-      agents = text_agents replaced;
+      pending = ap (λ z. pending z) replaced.is;
+      agents = ap (λ z. agents z) replaced.is;
       acted = acted;
-      listed = text_principals replaced ∙ known;
+      listed = ap (λ z. principals z) replaced.is ∙ known;
       slots = let same = acted_slots acted in omega arith;
-      cells = text_cells replaced;
+      cells = ap (λ z. z.free_cells) replaced.is;
     })
 
     pub retire_done : (x : ℕ) (left : List Member) (gone : set.FinSet nat_cmp) → left ≡ without_member names x → gone ≡ set.insert retired x → Retired s t x → Acted s t None None →
@@ -280,39 +278,39 @@ module _ (s t : Stored) (next : ℕ) (names : List Member) (retired : set.FinSet
     retire_done x left gone is more goes acted = inl (record {
       room = needs_none S (free_slots s) s.free_cells effect.Retires refl (λ u. u);
       replied = refl;
-      graph = (λ i. record (retired_graph s t x goes next i) { names = is i; retired = more i });
-      pending = retired_pending s t x goes;
-      agents = retired_agents s t x goes;
+      graph = (λ i. record (held (goes i) next) { names = is i; retired = more i });
+      pending = ap (λ z. pending z) goes;
+      agents = ap (λ z. agents z) goes;
       acted = acted;
       listed = serials_left s t names known x goes ∙ ap serials (sym is);
       slots = let same = acted_slots acted in omega arith;
-      cells = retired_cells s t x goes;
+      cells = ap (λ z. z.free_cells) goes;
     })
 
     pub assume_done : (x agent : ℕ) → Assumed s t seat agent → Acted s t None (Some agent) → ByEffect next names retired x (effect.Acts (Some agent)) reply.Done
     assume_done x agent assumed acted = inl (record {
       room = needs_none S (free_slots s) s.free_cells (effect.Acts (Some agent)) refl (λ u. u);
       replied = refl;
-      graph = among (assumed_graph assumed next);
-      pending = assumed_pending assumed;
-      agents = assumed_agents assumed;
+      graph = among (ap (λ z. held z next) assumed.is);
+      pending = pending_set s t seat (Some (record { serial = agent; slot = assumed.slot })) (ap (λ z. z.roots.targets) assumed.is);
+      agents = agents_set s t seat (Some (record { serial = agent; slot = assumed.slot })) (ap (λ z. z.roots.agents) assumed.is);
       acted = acted;
-      listed = assumed_principals assumed ∙ known;
+      listed = ap (λ z. principals z) assumed.is ∙ known;
       slots = let same = acted_slots acted in omega arith;
-      cells = assumed_cells assumed;
+      cells = ap (λ z. z.free_cells) assumed.is;
     })
 
     pub leave_done : (x : ℕ) → Left s t seat → Acted s t None None → ByEffect next names retired x (effect.Acts None) reply.Done
     leave_done x left acted = inl (record {
       room = needs_none S (free_slots s) s.free_cells (effect.Acts None) refl (λ u. u);
       replied = refl;
-      graph = among (left_graph s t seat left next);
-      pending = left_pending s t seat left;
-      agents = left_agents s t seat left;
+      graph = among (ap (λ z. held z next) left);
+      pending = ap (λ z. pending z) left;
+      agents = agents_set s t seat None (ap (λ z. z.roots.agents) left);
       acted = acted;
-      listed = left_principals s t seat left ∙ known;
+      listed = ap (λ z. principals z) left ∙ known;
       slots = let same = acted_slots acted in omega arith;
-      cells = left_cells s t seat left;
+      cells = ap (λ z. z.free_cells) left;
     })
 
 -- reads, looks and denials change nothing

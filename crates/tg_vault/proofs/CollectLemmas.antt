@@ -9,9 +9,8 @@ use Rattle.tg_collect.specs.Stored.{Stored}
 use Rattle.tg_collect.specs.Readings.{IsParkedIn, free_slots, held, agents, pending, pending_of, principals, slot_count}
 use Rattle.tg_collect.specs.Sessions.{Left, Shaded, Acted}
 use Rattle.tg_collect.specs.Views.{IsStore, Collected}
-use Rattle.tg_collect.proofs.AgentLemmas.{left_agents, left_cells, left_graph, left_pending, left_principals}
 use Rattle.tg_collect.proofs.SeatLemmas.{acted_same}
-use Rattle.tg_collect.proofs.RunLemmas.{acted_parked, acted_slots, collected_agents, collected_parked, collected_part, collected_pending, collected_principals, shaded_agents, shaded_cells, shaded_graph, shaded_pending, shaded_principals, shaded_was}
+use Rattle.tg_collect.proofs.RunLemmas.{acted_parked, acted_slots, agents_set, collected_parked, collected_part, shaded_graph, shaded_others, shaded_pending, shaded_was}
 use Rattle.tg_vault.specs.History.{WasPrincipal}
 use Rattle.tg_vault.specs.Seen.{seen}
 use Rattle.tg_vault.specs.World.{at_seat, with_agents, with_pending, with_seats, with_used}
@@ -112,8 +111,8 @@ module _ (v : Contents) (j : Ties v) (t : Stored) where
   module _ (seat : ℕ) (answer : Option ℕ) (shaded : Shaded v.store t seat answer) where
     pub shaded_joins : Acted v.store t None None → Ties (record v { store = t })
     shaded_joins acted =
-        still_held acted (shaded_graph v.store t seat answer shaded) (shaded_principals v.store t seat answer shaded)
-        (one_fewer (pending v.store) (pending t) seat (shaded_pending v.store t seat answer shaded)) (same_fewer (agents v.store) (agents t) (shaded_agents v.store t seat answer shaded)) (shaded_cells v.store t seat answer shaded)
+        still_held acted (shaded_graph v.store t seat answer shaded) (shaded_others v.store t seat answer shaded).0
+        (one_fewer (pending v.store) (pending t) seat (shaded_pending v.store t seat answer shaded)) (same_fewer (agents v.store) (agents t) (shaded_others v.store t seat answer shaded).1) (shaded_others v.store t seat answer shaded).2
 
     pub shaded_step : Acted v.store t None None → (answer ≡ pending_of v.store seat) × (moment (record v { store = t }) ≡ with_pending (moment v) (set (pending v.store) seat None))
     shaded_step acted = (
@@ -122,7 +121,7 @@ module _ (v : Contents) (j : Ties v) (t : Stored) where
         world = record {
           graph = graph_now v;
           seats = v.seats;
-          agents = shaded_agents v.store t seat answer shaded i;
+          agents = (shaded_others v.store t seat answer shaded).1 i;
           pending = shaded_pending v.store t seat answer shaded i;
           used = v.limits.slots - acted_slots acted i;
         };
@@ -135,13 +134,13 @@ module _ (v : Contents) (j : Ties v) (t : Stored) where
     collected_joins =
         let moved = c.free_slots in
         still_joined (collected_part c (graph_now v).next (graph_now v).names (graph_now v).retired (graph_now v) j.part sv st) (λ x h. elim (collected_parked c sv x h) [ inl parked ↦ j.parked x parked | inr was ↦ of_graph v j sv x was ])
-        (collected_principals c) (same_fewer (pending v.store) (pending t) (collected_pending c)) (same_fewer (agents v.store) (agents t) (collected_agents c)) c.step.size c.cells (omega arith) c.free_cells.0
+        (ap (λ rs. principals (record v.store { roots = rs })) c.roots) (same_fewer (pending v.store) (pending t) (ap (λ rs. pending (record v.store { roots = rs })) c.roots)) (same_fewer (agents v.store) (agents t) (ap (λ rs. agents (record v.store { roots = rs })) c.roots)) c.step.size c.cells (omega arith) c.free_cells.0
 
     pub collected_step : (used : ℕ) × ((moment v).world.used ≡ used + count) × (moment (record v { store = t }) ≡ with_used (moment v) used)
     collected_step = (
       v.limits.slots - free_slots t,
       (let all = st.slots 0 in let many = j.slots in let same = c.step.size in let moved = c.free_slots in omega arith),
-      λ i. record { world = record { graph = graph_now v; seats = v.seats; agents = collected_agents c i; pending = collected_pending c i; used = v.limits.slots - free_slots t }; history = v.history },
+      λ i. record { world = record { graph = graph_now v; seats = v.seats; agents = agents (record v.store { roots = c.roots i }); pending = pending (record v.store { roots = c.roots i }); used = v.limits.slots - free_slots t }; history = v.history },
     )
 
 -- somebody has left a seat, and its agent went
@@ -149,30 +148,33 @@ module _ (v : Contents) (next : ℕ) (retired : List ℕ) (tied : IsTied v next 
   abbrev emptied : Contents
   emptied = record v { seats = set v.seats seat None }
 
+  gone : agents t ≡ set (agents v.store) seat None
+  gone = agents_set v.store t seat None (ap (λ z. z.roots.agents) left)
+
   pub left_joins : IsTied (record emptied { store = t }) next retired
   left_joins = seat_set (record v { store = t }) next retired agentless seat None (λ y is. absurd (cc is)) (λ x at. absurd (elim at [ inl target ↦ no_target x target | inr agent ↦ no_agent x agent ])) where
     agentless : IsTied (record v { store = t }) next retired
     agentless = record {
       joins =
-          still_held v tied.joins t acted (left_graph v.store t seat left) (left_principals v.store t seat left)
-          (same_fewer (pending v.store) (pending t) (left_pending v.store t seat left)) (one_fewer (agents v.store) (agents t) seat (left_agents v.store t seat left)) (left_cells v.store t seat left);
+          still_held v tied.joins t acted (λ n. ap (λ z. held z n) left) (ap (λ z. principals z) left)
+          (same_fewer (pending v.store) (pending t) (ap (λ z. pending z) left)) (one_fewer (agents v.store) (agents t) seat gone) (ap (λ z. z.free_cells) left);
       serial = tied.serial;
       retired = tied.retired;
     }
 
     no_target : (x : ℕ) → at_seat (pending t) seat ≡ Some x → ⊥
-    no_target x at = cc (at, ap (λ table. at_seat table seat) (left_pending v.store t seat left) ∙ idle)
+    no_target x at = cc (at, ap (λ z. at_seat (pending z) seat) left ∙ idle)
 
     no_agent : (x : ℕ) → at_seat (agents t) seat ≡ Some x → ⊥
-    no_agent x at = set_none (agents v.store) seat x (sym (ap (λ table. at_seat table seat) (left_agents v.store t seat left)) ∙ at)
+    no_agent x at = set_none (agents v.store) seat x (sym (ap (λ table. at_seat table seat) gone) ∙ at)
 
   pub left_step : moment (record emptied { store = t }) ≡ with_agents (with_seats (moment v) (set v.seats seat None)) (set (agents v.store) seat None)
   left_step = λ i. record {
     world = record {
       graph = graph_now v;
       seats = set v.seats seat None;
-      agents = left_agents v.store t seat left i;
-      pending = left_pending v.store t seat left i;
+      agents = gone i;
+      pending = pending (left i);
       used = v.limits.slots - acted_slots acted i;
     };
     history = v.history;

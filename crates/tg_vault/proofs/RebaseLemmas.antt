@@ -37,7 +37,7 @@ use Rattle.tg_vault.specs.Contents.{Contents, graph_now, held_now, moment}
 use Rattle.tg_vault.specs.Fits.{HasSlot, IsRoot, IsTied}
 use Rattle.tg_vault.specs.Course.{Course, IsCoherent}
 use Rattle.tg_vault.specs.Cycles.{IsCycle, ended_in, notes_in}
-use Rattle.tg_vault.specs.Rebase.{IsLegalFrom, IsRebased, RepliedAlike, ThreeCycles, reopening}
+use Rattle.tg_vault.specs.Rebase.{IsRebased, RepliedAlike, ThreeCycles, reopening}
 use Rattle.tg_vault.proofs.CourseLemmas.{course_keeps, course_run}
 use Rattle.tg_vault.proofs.CycleLemmas.{course_coherent, from_idle, live_so}
 use Rattle.tg_vault.proofs.DecidedLemmas.{graph_is}

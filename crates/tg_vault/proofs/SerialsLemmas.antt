@@ -16,7 +16,6 @@ use Rattle.tg_collect.specs.Stored.{Stored}
 use Rattle.tg_collect.specs.Readings.{principals}
 use Rattle.tg_collect.specs.Sessions.{PrincipalStored, Retired}
 use Rattle.tg_collect.specs.Openings.{first_serials}
-use Rattle.tg_collect.proofs.PrincipalLemmas.{principal_principals}
 use Rattle.tg_vault.specs.CarriedOut.{HasRoom}
 use Rattle.tg_vault.specs.Seen.{serials}
 
@@ -55,8 +54,9 @@ length_serials (m ∷ ms) = ap suc (length_serials ms)
 module _ (v w : Stored) (ms : List Member) (same : principals v ≡ serials ms) where
   pub serials_pushed : (seat x serial : ℕ) (text : List ℕ) (rights : Letters) (name : List ℕ) → PrincipalStored v w seat x serial text rights → principals w ≡ serials (with_member ms (Some name) serial)
   serials_pushed seat x serial text rights name stored =
-      principal_principals stored
-      ∙ ap (λ (xs : List ℕ). xs ++ serial ∷ []) same
+      ap (λ (z : Stored). principals z) stored.is
+      ∙ map_append (λ (r : Root). r.serial) stored.between.roots.principals (record { serial = serial; slot = stored.vertex.new } ∷ [])
+      ∙ ap (λ (xs : List ℕ). xs ++ serial ∷ []) (ap (λ (z : Stored). principals z) stored.vertex.is ∙ same)
       ∙ sym (map_append (λ (m : Member). m.serial) ms (record { name = name; serial = serial } ∷ []))
 
   pub serials_left : (x : ℕ) → Retired v w x → principals w ≡ serials (without_member ms x)

@@ -1,20 +1,17 @@
-use Rattle.std.proofs.Common.{◌≡◌, ◌∙◌, ◌++◌, ◌∷◌, [], sym, ap, List, append_assoc, Some}
+use Rattle.std.proofs.Common.{◌++◌, ◌∷◌, []}
 use Rattle.tg_rights.proofs.MembershipLemmas.{map_append}
-use Rattle.tg_cells.specs.Lists.{Edge, Stands, first_cell}
-use Rattle.tg_heap.proofs.JoinLemmas.{first_is}
+use Rattle.tg_collect.proofs.FiguresLemmas.{turn}
 use Rattle.tg_collect.proofs.machine.Machine.edge_list.Goals as goal
 
 pub loop-cursor-preserved : goal.loop-cursor-preserved
 loop-cursor-preserved c =
     let inv = c.loop-cursor.invariant in
-    let some : Some c.in-Some.cell ≡ first_cell inv.1 = (cc) in
-    let f = first_is inv.1 c.in-Some.cell some in
-    let st : Stands c.args.self.now.heap.lists c.in-Some.cell c.args.id inv.0 f.edge f.after = record { is = inv.2 ∙ ap (λ (l : List Edge). inv.0 ++ l) f.is; here = f.here } in
-    let serial = c.target_serial.ensures c.args.id inv.0 f.edge f.after st in
-    let label = c.label.ensures c.args.id inv.0 f.edge f.after st in (
-      inv.0 ++ f.edge ∷ [],
-      f.after,
-      st.is ∙ sym (append_assoc inv.0 (f.edge ∷ []) f.after),
-      c.next-cursor.ensures c.args.id inv.0 f.edge f.after st,
-      c.in_ok-push.ensures.items ∙ (λ i. inv.4 i ++ (serial i, label i) ∷ []) ∙ sym (map_append (λ (e : Edge). (e.serial, e.rights)) inv.0 (f.edge ∷ [])),
+    let t = turn c.args.self.now.heap c.args.id c.in-Some.cell inv.0 inv.1 inv.2 (cc) in
+    let serial = c.target_serial.ensures c.args.id inv.0 t.edge t.after t.stands in
+    let label = c.label.ensures c.args.id inv.0 t.edge t.after t.stands in (
+      inv.0 ++ t.edge ∷ [],
+      t.after,
+      t.is,
+      c.next-cursor.ensures c.args.id inv.0 t.edge t.after t.stands,
+      rw (map_append, c.in_ok-push.ensures.items, inv.4, serial, label),
     )

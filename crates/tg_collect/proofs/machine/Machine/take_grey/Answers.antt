@@ -1,16 +1,20 @@
-use Rattle.std.proofs.Common.{ℕ, ◌≡◌, List, length, arith, sym, subst, ap, inl, refl}
-use Rattle.tg_rights.specs.Membership.{Contains}
-use Rattle.tg_heap.specs.Graph.{HeapGraph}
-use Rattle.tg_collect.proofs.LineLemmas.{step_takes}
+use Rattle.std.proofs.Common.{[], ap, arith, inl, refl, subst, ◌∙◌, ◌≡◌, sym}
+use Rattle.tg_collect.proofs.Common.{Counts, HeapGraph, body_of, first_cell, remaining, lists_of, takes, edges}
+use Rattle.tg_collect.proofs.SlotLemmas.{out_all}
+use Rattle.tg_collect.proofs.LineLemmas.{step_of, cursor_left}
 use Rattle.tg_collect.proofs.machine.Machine.take_grey.Goals as goal
 
 pub first-cursor-requires : goal.first-cursor-requires
 first-cursor-requires c =
-    let listed = c.soundness.ensures.sound.table.listed_grey c.in-Some.slot (subst (λ (l : List ℕ). Contains l c.in-Some.slot) (sym c.in-Some.ensures.0) (inl refl)) in
-    let size : length c.pop_grey.new.self.table.slots ≡ length c.args.self.now.heap.table.slots = ap (λ (h : HeapGraph). length h.table.slots) c.in-Some.ensures.1 in
-    let within = listed.0 in omega (arith, within, size)
+    let listed = c.soundness.ensures.sound.table.listed_grey c.in-Some.slot (rw c.in-Some.ensures.0 (inl refl)) in
+    rw c.in-Some.ensures.1 listed.0
 
 pub returns-in-Some-clause-line : goal.returns-in-Some-clause-line
 returns-in-Some-clause-line c =
-    let listed = c.soundness.ensures.sound.table.listed_grey c.in-Some.slot (subst (λ (l : List ℕ). Contains l c.in-Some.slot) (sym c.in-Some.ensures.0) (inl refl)) in
-    rw c.of-self.ensures (step_takes c.args.self.now c.pop_grey.new.self c.in-Some.slot c.first-cursor.result c.requires.at c.in-Some.ensures.0 listed.1 c.in-Some.ensures.1 c.first-cursor.ensures)
+    let m = c.args.self.now in
+    let g = c.pop_grey.new.self in
+    let i = c.in-Some.slot in
+    let same : edges g i ≡ edges m.heap i = ap (λ (h : HeapGraph). edges h i) c.in-Some.ensures.1 in
+    let left : remaining c.first-cursor.result (edges g i) ≡ edges m.heap i = rw (c.first-cursor.ensures, same) (cursor_left m.heap i [] (edges m.heap i) c.soundness.ensures.sound refl) in
+    rw c.of-self.ensures (step_of m g _ c.requires.at (ap (λ (h : HeapGraph). body_of h (lists_of m.roots)) c.in-Some.ensures.1) (rw (left, sym (out_all m.heap (lists_of m.roots) c.soundness.ensures.sound i)) (takes i g.table.grey c.in-Some.ensures.0))
+    (c.first-cursor.ensures ∙ ap first_cell (same ∙ sym left)) (subst (λ (h : HeapGraph). Counts m.heap h 0) (sym c.in-Some.ensures.1) (omega arith)))

@@ -1,19 +1,19 @@
-use Rattle.std.proofs.Common.{inl, ◌<◌, length, ◌∙◌, ap, arith}
-use Rattle.tg_slots.specs.Table.{Has}
-use Rattle.tg_collect.proofs.SlotLemmas.{at_seat, seat_slot, root_within, none_white, first_white}
+use Rattle.std.proofs.Common.{ap, arith, ◌∙◌}
+use Rattle.tg_collect.proofs.Common.{Has, at_within, lists_of}
+use Rattle.tg_collect.proofs.SlotLemmas.{mark_so, not_white, seat_root}
 use Rattle.tg_collect.proofs.machine.Machine.white_target.Goals as goal
 
 pub colour-requires : goal.colour-requires
-colour-requires c =
-    let below : c.loop-seat.seat < length c.args.self.now.roots.targets.items = omega arith in
-    let e = at_seat c.args.self.now.roots.targets.items c.loop-seat.seat c.index.result.now c.in-Some.root below c.index.ensures c.in-Some.is in
-    root_within c.args.self.now c.in-Some.root.slot c.requires.whole (inl (c.loop-seat.seat, seat_slot c.args.self.now.roots.targets.items c.loop-seat.seat c.in-Some.root e))
+colour-requires c = (seat_root c.args.self.now c.loop-seat.seat _ c.in-Some.root c.requires.whole (omega arith) c.index.ensures c.in-Some.is).1
 
 pub returns-in-Some-White : goal.returns-in-Some-White
 returns-in-Some-White c =
-    let below : c.loop-seat.seat < length c.args.self.now.roots.targets.items = omega arith in
-    let e = at_seat c.args.self.now.roots.targets.items c.loop-seat.seat c.index.result.now c.in-Some.root below c.index.ensures c.in-Some.is in
-    first_white c.args.self.now c.loop-seat.seat c.in-Some.root e (c.in-Some-White.ensures ∙ ap Has c.in-Some-White.field-0-is) c.loop-seat.invariant
+    let m = c.args.self.now in (
+      c.loop-seat.seat,
+      (seat_root m c.loop-seat.seat _ c.in-Some.root c.requires.whole (omega arith) c.index.ensures c.in-Some.is).0,
+      mark_so m.heap (lists_of m.roots) c.in-Some.root.slot ∙ c.in-Some-White.ensures ∙ ap Has c.in-Some-White.field-0-is,
+      λ l j b t. not_white m l j t (λ r. c.loop-seat.invariant l r b),
+    )
 
 pub returns : goal.returns
-returns c = none_white c.args.self.now (λ k r b e. c.loop-seat.invariant k r (omega (arith, b)) e)
+returns c = λ i t. not_white c.args.self.now t.0 i t.1 (λ r e. c.loop-seat.invariant t.0 r (let b = at_within c.args.self.now.roots.targets.items t.0 r e in omega (arith, b)) e)

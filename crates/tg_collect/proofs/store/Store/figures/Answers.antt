@@ -1,18 +1,17 @@
-use Rattle.std.proofs.Common.{List, subst, sym}
-use Rattle.tg_collect.specs.declared.figures.Figure.{Figure}
-use Rattle.tg_collect.specs.Figures.{AreUsedSlots, Shows}
-use Rattle.tg_collect.proofs.FiguresLemmas.{shows_all}
+use Rattle.std.proofs.Common.{true}
+use Rattle.tg_collect.specs.Stored.{stored}
+use Rattle.tg_collect.proofs.FiguresLemmas.{given, taken}
+use Rattle.tg_collect.proofs.FoundLemmas.{chosen, optional}
 use Rattle.tg_collect.proofs.store.Store.figures.Goals as goal
-
-pub figures_at-requires : goal.figures_at-requires
-figures_at-requires c = subst (AreUsedSlots c.args.self.now) (sym c.as_slice-slots.ensures.value) c.in_ok-found.ensures
-
-pub arrows_at-requires : goal.arrows_at-requires
-arrows_at-requires c = subst (AreUsedSlots c.args.self.now) (sym c.as_slice-slots.ensures.value) c.in_ok-found.ensures
 
 pub returns : goal.returns
 returns c =
-    let v = c.args.self.now in
-    let slots = c.as_slice-slots.result.now in
-    let are : AreUsedSlots v slots = subst (AreUsedSlots v) (sym c.as_slice-slots.ensures.value) c.in_ok-found.ensures in
-    subst (λ (vertices : List Figure). Shows v vertices c.in_ok-edges.edges.items) (sym c.in_ok-vertices.ensures) (shows_all v slots c.in_ok-edges.edges.items are c.in_ok-edges.ensures)
+    let v = stored c.self.inside.machine in
+    let vertices = c.in_ok-vertices.ensures in
+    let edges = c.in_ok-edges.ensures in
+    rw (← c.self.view_is) (record {
+      vertices = λ f. (λ h. let r = (vertices.has f).0 h in (r.0, optional _ f r.1), λ r. (vertices.has f).1 (r.0, chosen _ f r.1));
+      edges = λ x y l. (λ h. let r = (edges.has (x, l, y)).0 h in (given v true r.0 (x, l, y) r.1).0, λ a. (edges.has (x, l, y)).1 (a.slot, taken v true x y l a a.from));
+      by_serial = vertices.rising;
+      by_pairs = edges.rising;
+    })

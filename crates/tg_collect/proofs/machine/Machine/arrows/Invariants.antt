@@ -1,0 +1,9 @@
+use Rattle.std.proofs.Common.{◌≡◌}
+use Rattle.tg_collect.specs.Figures.{arrows}
+use Rattle.tg_collect.specs.Stored.{stored}
+use Rattle.tg_collect.proofs.FoundLemmas.{gathered}
+use Rattle.tg_collect.proofs.machine.Machine.arrows.Given as goal
+
+-- The edges of the slots so far.
+abbrev pub invariant-loop-slot : goal.invariant-loop-slot
+invariant-loop-slot l = l.found.items ≡ gathered (arrows (stored l.self) l.parked) l.slot

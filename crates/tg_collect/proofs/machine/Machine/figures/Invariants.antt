@@ -1,0 +1,10 @@
+use Rattle.std.proofs.Common.{◌≡◌}
+use Rattle.std.specs.Option.{option_to_list}
+use Rattle.tg_collect.specs.Figures.{figure}
+use Rattle.tg_collect.specs.Stored.{stored}
+use Rattle.tg_collect.proofs.FoundLemmas.{gathered}
+use Rattle.tg_collect.proofs.machine.Machine.figures.Given as goal
+
+-- What the slots so far show.
+abbrev pub invariant-loop-id : goal.invariant-loop-id
+invariant-loop-id l = l.found.items ≡ gathered (λ i. option_to_list (figure (stored l.self) i)) l.id
