@@ -233,12 +233,13 @@ class Edit:
 
 
 def waiting(said, edited):
-    """The functions of a report that are not proved only because they call edited ones, or one another, or hand on an impl with an edited one."""
+    """The functions of a report that are not proved only because they call edited ones or one another, or hand on an impl of such."""
     calls = {it[1]: {*re.findall("`([^`]+)`", it[2])} for it in map(WAITS.match, said) if it}
-    unproved = {*edited, *(f.rpartition("::")[0] for f in edited)}
-    found = set()
-    while more := {f for f, named in calls.items() if f not in found and named <= unproved | found}:
+    blocks = lambda some: {f.rpartition("::")[0] for f in some}
+    found, unproved = set(), edited | blocks(edited)
+    while more := {f for f, named in calls.items() if f not in found and named <= unproved}:
         found |= more
+        unproved |= more | blocks(more)
     return found
 
 
