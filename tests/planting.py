@@ -67,6 +67,8 @@ pub {name}_spec : {{M : Type 1}} → statement M
 # What a report says of a function of which nothing is wrong but what it calls, or the impl that it hands on.
 UNPROVED = r"it (?:calls|passes the blocks?) `[^`]+`(?:(?:, | and |, and )`[^`]+`)*, which (?:is|are) not proved"
 WAITS = re.compile(rf"fn (\S+): no proof: ({UNPROVED}(?:; {UNPROVED})*)$")
+# What a report says of a function that calls what is not proved, if its own written proof is refused too: its other goals are left.
+UNTRIED = re.compile(r"note: `search` has not tried the goals of `([^`]+)`, which wait for a callee's proof")
 # What a report says of a function that is proved, given the contracts of those whose proof is a hole.
 PROVED = r"(?:proved|no holes$|depends on a hole in )"
 
@@ -268,7 +270,9 @@ class Report:
                 calls = line.partition("; it calls ")[2]
                 is_open = "not proved" in calls and not {*re.findall("`([^`]+)`", calls)} <= holes
                 self.faults.setdefault(copy, []).extend([] if is_open else own)
-            elif error or name not in waits and re.match(rf"(fn|impl) \S+: (?!assumed|{PROVED})", line) or "has not tried the goals of" in line:
+            elif error or name not in waits and re.match(rf"(fn|impl) \S+: (?!assumed|{PROVED})", line):
+                self.stray.append(line)
+            elif "has not tried the goals of" in line and not {*UNTRIED.findall(line)} & symbols:
                 self.stray.append(line)
             notes = [] if line.startswith("fn ") else notes
         ended = ran.returncode in (0, 1) and said[-1].startswith("only=") and not rtlib.STALE.search(ran.stdout)
