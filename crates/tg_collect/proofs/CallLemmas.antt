@@ -4,7 +4,7 @@ use Rattle.tg_collect.proofs.Common.{Acted, Adds, HeapFull, IfErr, Occupant, OnE
 use Rattle.tg_collect.proofs.Common.{Apart, Dropped, Gone, HeapGraph, IsDropped, Protection, Rewrites, RightsRemoved, SetsText, Stayed, TextReplaced, at_within, body, cells, comes, difference-Relabels, drops, first_cell, is_none, is_none-none, label-relabelled, left_rewrites}
 use Rattle.tg_collect.proofs.Common.{none, progress_dropped, progress_of, progress_without, rewrites_keeps, same_Some, vertex_of, without}
 use Rattle.tg_collect.proofs.Common.{Contains, Edge, EdgeStored, Found, HasNone, IsAdded, IsEdgeIn, IsHeap, LedTo, Letters, Machine, Root, SEATS, Whole, as_kept, contains_map, edge, edges, fresh, gains, held, is_some, joined, relabelled}
-use Rattle.tg_collect.proofs.Common.{joins, kept_from, lists_of, pending_of, place, progress, serial_at, slot, stored, with_target}
+use Rattle.tg_collect.proofs.Common.{joins, kept_from, lists_of, pending_of, place, serial_at, slot, stored, with_target}
 use Rattle.tg_heap.specs.declared.heap.HeapFull.TheVariants as full
 use Rattle.std.specs.FinSet as finset
 use Rattle.tg_marking.specs.Values as values
@@ -12,7 +12,7 @@ use Rattle.tg_held.specs.Held as graph
 use Rattle.tg_graph.specs.Protection.{label}
 use Rattle.tg_collect.proofs.SlotLemmas.{seat_slot, put_slot}
 use Rattle.tg_collect.proofs.ShownLemmas.{held_at, vertex_found}
-use Rattle.tg_collect.proofs.StoreLemmas.{edge_in, edge_label, edge_owned, edge_visible, found_contains, holds, Holds, in_edge, owner, serial_is, owner_is, owner_within, once_stored}
+use Rattle.tg_collect.proofs.StoreLemmas.{edge_in, edge_label, edge_owned, edge_visible, found_contains, holds, Holds, in_edge, owner, serial_is, owner_is, owner_within, once_stored, owner_place}
 use Rattle.std.proofs.lemmas.Bool.{cases_Bool}
 use Rattle.tg_collect.proofs.SeatLemmas.{same_lists, acted_edge}
 use Rattle.tg_collect.proofs.RootLemmas.{target_set, targeted}
@@ -55,7 +55,7 @@ module _ (m n : Machine) (seat id : ℕ) (t : Root) (rights : Letters) (ok : IsH
   Joined free_cells = (IsEdgeIn (stored m) (serial_at (stored m) id) t.serial × (free_cells ≡ m.heap.free_cells)) ⊎ ((IsEdgeIn (stored m) (serial_at (stored m) id) t.serial → ⊥) × (m.heap.free_cells ≡ free_cells + 1))
 
   done : (lists : List (List Edge)) (free : ℕ) (es : List Edge) → Replaced m1 (relinked lists free) id (record (owner h) { edges = es }) → Joined free
-      → ((next : ℕ) → graph.held (set (kept_from (progress (stored m)) 0 (stored m).slots) id (Some (record (as_kept (owner h)) { edges = es }))) next
+      → ((next : ℕ) → graph.held (set (kept_from (stored m).stage 0 (stored m).slots) id (Some (record (as_kept (owner h)) { edges = es }))) next
       ≡ record (held (stored m) next) { triples = finset.union (held (stored m) next).triples (edge h.occupant.serial rights t.serial) })
       → ((e : Edge) → Contains es e → LedTo (edges m.heap id) e ⊎ (e.serial ≡ t.serial)) → Done (relinked lists free)
   done lists free es c how graph leads = record {
@@ -66,6 +66,7 @@ module _ (m n : Machine) (seat id : ℕ) (t : Root) (rights : Letters) (ok : IsH
       new = λ n. elim how [ inl old ↦ absurd (n old.0) | inr new ↦ new.1 ];
       left = c.left;
       slot = id;
+      place = owner_place h;
       owner = owner h;
       at = owner_is h;
       edges = es;
@@ -82,7 +83,7 @@ module _ (m n : Machine) (seat id : ℕ) (t : Root) (rights : Letters) (ok : IsH
   joined_so : (f : Found (edges m.heap id) t.serial) → IsHeap (relabelled m.heap id t.serial f (joined f.edge.rights rights)) → Done (record m1 { heap = relabelled m.heap id t.serial f (joined f.edge.rights rights) })
   joined_so f ok' = done (relabelled m.heap id t.serial f (joined f.edge.rights rights)).lists m.heap.free_cells (f.before ++ (relabel f.edge (joined f.edge.rights rights) ++ f.after))
       (edge_relabelled ok first.0 h f (joined f.edge.rights rights) ok') (inl (subst (IsEdgeIn (stored m) (serial_at (stored m) id)) f.here (edge_visible first.0 h ok f.edge (found_contains (edges m.heap id) t.serial f)), refl))
-      (λ next. joins (kept_from (progress (stored m)) 0 (stored m).slots) id next (as_kept (owner h)) f.before f.edge f.after rights (held_at (stored m) id ∙ h.shows) f.is
+      (λ next. joins (kept_from (stored m).stage 0 (stored m).slots) id next (as_kept (owner h)) f.before f.edge f.after rights (held_at (stored m) id ∙ h.shows) f.is
       ∙ ap (λ (z : ℕ). record (held (stored m) next) { triples = finset.union (held (stored m) next).triples (edge h.occupant.serial rights z) }) f.here)
       (λ e c. inl (rw f.is (still_lead f.before (relabel f.edge (joined f.edge.rights rights)) f.after f.edge (alike f.edge (joined f.edge.rights rights)) e c)))
 
@@ -90,7 +91,7 @@ module _ (m n : Machine) (seat id : ℕ) (t : Root) (rights : Letters) (ok : IsH
   came_so e k absent to serial label free ok' = done (relisted m.heap id k (e ∷ edges m.heap id)).lists k (e ∷ edges m.heap id)
       (edge_put ok first.0 h e k (rw (to, serial) here) (λ q. apart (sym to ∙ q)) (inl (rw to (seat, seat_slot n.roots.targets.items seat t (target_set m n.roots seat t w l roots)))) ok')
       (inr (λ q. (let o = edge_owned first.0 h t.serial q in absent o.0 o.1 o.2), free))
-      (λ next. gains (kept_from (progress (stored m)) 0 (stored m).slots) id next (as_kept (owner h)) e (held_at (stored m) id ∙ h.shows)
+      (λ next. gains (kept_from (stored m).stage 0 (stored m).slots) id next (as_kept (owner h)) e (held_at (stored m) id ∙ h.shows)
       ∙ (λ i. record (held (stored m) next) { triples = finset.union (held (stored m) next).triples (edge h.occupant.serial (label i) (serial i)) }))
       (λ d c. elim c [ inl new ↦ inr (ap (λ (x : Edge). x.serial) new ∙ serial) | inr old ↦ inl (contains_map (λ (x : Edge). x.serial) (edges m.heap id) d old) ])
 
@@ -120,7 +121,7 @@ add_called m n seat id target rights (Err e) ok ok' w source held apart idle l (
 }
 
 -- The other slots hold other serials.
-pub apart_so : {m : Machine} {id : ℕ} (w : Whole m) (h : Holds m id) → Apart (kept_from (progress (stored m)) 0 (stored m).slots) id h.occupant.serial
+pub apart_so : {m : Machine} {id : ℕ} (w : Whole m) (h : Holds m id) → Apart (kept_from (stored m).stage 0 (stored m).slots) id h.occupant.serial
 apart_so {m = m} {id = id} w h j t n e s = n (once_stored m w j id t (as_kept (owner h)) (sym (held_at (stored m) j) ∙ e) h.shows s)
 
 -- An edge loses rights: it stays with those that are left, or goes.
@@ -145,6 +146,7 @@ module _ {m : Machine} {id : ℕ} (y : ℕ) (rights : Letters) (ok : IsHeap m.he
         gone = λ n. elim (cases_Bool (is_none rest)) [ inl empty ↦ less empty | inr some ↦ absurd (n (edge_in (stored (cut news k)) 0 (serial_at (stored m) id) y (ap is_none label_is ∙ some))) ];
         left = c.left;
         slot = id;
+        place = owner_place h;
         owner = owner h;
         at = owner_is h;
         edges = f.before ++ (news ++ f.after);
@@ -157,7 +159,7 @@ module _ {m : Machine} {id : ℕ} (y : ℕ) (rights : Letters) (ok : IsHeap m.he
 
       graph_is : (next : ℕ) → held (stored (cut news k)) next ≡ record (held (stored m) next) { triples = finset.difference (held (stored m) next).triples (edge (serial_at (stored m) id) rights y) }
       graph_is next = rw (serial_is h) (graph_after w h (cut news k) (f.before ++ (news ++ f.after)) h.occupant.text c next
-          ∙ drops (kept_from (progress (stored m)) 0 (stored m).slots) id next (as_kept (owner h)) f.before f.edge f.after (f.before ++ (news ++ f.after)) rights (held_at (stored m) id ∙ h.shows) f.is (ok.cells.serial_once id) (apart_so w h)
+          ∙ drops (kept_from (stored m).stage 0 (stored m).slots) id next (as_kept (owner h)) f.before f.edge f.after (f.before ++ (news ++ f.after)) rights (held_at (stored m) id ∙ h.shows) f.is (ok.cells.serial_once id) (apart_so w h)
           (elim how [ inl one ↦ inl (rw one refl) | inr gone ↦ inr (rw gone.0 refl, gone.1) ])
           ∙ ap (λ (z : ℕ). record (held (stored m) next) { triples = finset.difference (held (stored m) next).triples (edge h.occupant.serial rights z) }) f.here)
 
@@ -196,10 +198,11 @@ module _ {m : Machine} {id : ℕ} (w : Whole m) (h : Holds m id) (text : List �
     was = λ next. rw (serial_is h) (vertex_found (stored m) next id (as_kept (owner h)) (once_stored m w) h.shows);
     old = refl;
     graph = λ next. rw (serial_is h) (graph_after w h after (edges m.heap id) text text_put next
-        ∙ comes (kept_from (progress (stored m)) 0 (stored m).slots) id next (record (as_kept (owner h)) { text = text }) (at_within (kept_from (progress (stored m)) 0 (stored m).slots) id (as_kept (owner h)) (held_at (stored m) id ∙ h.shows))
+        ∙ comes (kept_from (stored m).stage 0 (stored m).slots) id next (record (as_kept (owner h)) { text = text }) (at_within (kept_from (stored m).stage 0 (stored m).slots) id (as_kept (owner h)) (held_at (stored m) id ∙ h.shows))
         (apart_so w h) (inr (as_kept (owner h), held_at (stored m) id ∙ h.shows, refl, refl)));
     left = text_put.left;
     slot = id;
+    place = owner_place h;
     owner = owner h;
     at = owner_is h;
     is = text_put.is;

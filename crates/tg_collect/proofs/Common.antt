@@ -69,7 +69,6 @@ pub use Rattle.tg_marking.proofs.LeftLemmas.{bounded, counted, left_drops, left_
 pub use Rattle.tg_marking.proofs.SessionLemmas.{blank_keeps, drops_keeps, idle_stays, new_keeps, places_keeps, puts_keeps, reroots_keeps, rewrites_keeps, shades_keeps, trims_stage, without_one}
 pub use Rattle.tg_marking.proofs.KeepLemmas.{turns_name, line_collected, line_keeps}
 pub use Rattle.tg_marking.proofs.SpotLemmas.{at_within, closed_same, contains_mapped, held_keeps, keeps_grey, kept_is, kept_name, put_each, shade_each, shade_kept, shade_name, shade_size}
-pub use Rattle.tg_marking.specs.Collected.{Stays}
 pub use Rattle.tg_marking.specs.Invariant.{Closed, Invariant, IsLive, IsScanned, Phased, along, at_root}
 pub use Rattle.tg_marking.specs.Left.{Celled, free_one, held_cells, held_one, left, parked_cells, total}
 pub use Rattle.tg_marking.specs.Runs.{Changes, LedTo, IsLiveIn, Run, Sane}
@@ -79,7 +78,7 @@ pub use Rattle.tg_held.proofs.HeldLemmas.{comes, contains-held, drops, gains, jo
 pub use Rattle.tg_held.specs.Held.{Apart, entries, vertex_of}
 pub use Rattle.tg_collect.specs.Machine.{Adds, AreRoots, AreWithin, CursorFits, Counts, IsListed, Links, Puts, Rerooted, RootLists, SetsText, ShadesSeat, Steps, Whole, all_shaded, all_slots, assuming, bare, body, body_of, colour_ahead, has_passed, is_at, join, lists_of, other_slots, progress_dropped, progress_in, progress_of, progress_without, slot_of, slots_of, with_agent, with_principal, with_shaded, with_target, without_principal, zip}
 pub use Rattle.tg_collect.specs.Openings.{HasOpened, Opened, OpeningsCanBeStored, Opens, OpensEdges, OpensFirst, first_root, first_roots, first_serials, KeepsSize, OpensAll, rank}
-pub use Rattle.tg_collect.specs.Readings.{IsEdgeIn, IsHeldIn, IsParkedIn, IsRootAt, IsRootIn, agents, as_progress, cycle_bound, free_slots, held, kept, kept_from, pending, pending_of, phase, phase_in, place, principals, progress, root_serial, serial_at, serial_of, shown, slot_count, spot, triples, vertices}
+pub use Rattle.tg_collect.specs.Readings.{IsEdgeIn, IsHeldIn, IsParkedIn, IsRootAt, IsRootIn, agents, cycle_bound, free_slots, held, kept, kept_from, pending, pending_of, phase, phase_in, place, principals, root_serial, serial_at, serial_of, shown, slot_count, spot, triples, vertices}
 pub use Rattle.tg_collect.specs.Runs.{IsBounded, IsComplete, StoreRun, acts, goes, start}
 pub use Rattle.tg_collect.specs.Sessions.{Acted, Assumed, EdgeStored, Left, PrincipalStored, Retired, RightsRemoved, Shaded, TargetShaded, TextReplaced, VertexStored}
 pub use Rattle.tg_collect.specs.Stored.{Stored, stored}

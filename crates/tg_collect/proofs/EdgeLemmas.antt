@@ -1,9 +1,9 @@
 -- A held slot gets other edges, or another text.
 use Rattle.std.proofs.Common.{◌≡◌, ◌≢◌, ℕ, ◌<◌, List, [], ◌∷◌, ◌++◌, length, append_assoc, Option, Some, None, ◌⊎◌, inl, inr, cond, eq-eqb, sym, ◌∙◌, subst, ap, refl, set, get_or-set_same, get_or-set_other, ◌≤◌, arith, append-nil}
-use Rattle.tg_collect.proofs.Common.{trims_stage, without_one, HasRoot, bare, cases_eq, Contains, Distinct, Edge, first_cell, HeapGraph, edges, remaining, Progress, Marking, progress_in, CursorFits, Letters, contains_map, Found, IsHeap, Spot, Body, as_kept, name, name_of, put, put_each, at_within, Machine, lists_of, body, AtRest, progress_of, Whole, Stored, stored, kept_from, progress, held, LedTo, ne_eqb, cells, passed, split_whole, remaining_split, Trims, elsewhere, ahead, DropsEdge, PutsEdge, IsTarget, Invariant, puts_keeps, drops_keeps, left_puts, left_drops, is_at, progress_without, place, relabelled, body_of, held_keeps, left, serials, shown, Idle, Sweeping}
+use Rattle.tg_collect.proofs.Common.{trims_stage, without_one, HasRoot, bare, cases_eq, Contains, Distinct, Edge, first_cell, HeapGraph, edges, remaining, Progress, Marking, progress_in, CursorFits, Letters, contains_map, Found, IsHeap, Spot, Body, as_kept, name, name_of, put, put_each, at_within, Machine, lists_of, body, AtRest, progress_of, Whole, Stored, stored, kept_from, held, LedTo, ne_eqb, cells, passed, split_whole, remaining_split, Trims, elsewhere, ahead, DropsEdge, PutsEdge, IsTarget, Invariant, puts_keeps, drops_keeps, left_puts, left_drops, is_at, progress_without, place, relabelled, body_of, held_keeps, left, serials, shown, Idle, Sweeping}
 use Rattle.tg_collect.proofs.SlotLemmas.{put_list}
 use Rattle.tg_collect.proofs.ShownLemmas.{held_set, place_kept}
-use Rattle.tg_collect.proofs.StoreLemmas.{Holds, owner, owner_is, owner_within, stored_kept}
+use Rattle.tg_collect.proofs.StoreLemmas.{Holds, owner, owner_is, owner_within}
 use Rattle.tg_collect.proofs.SeatLemmas.{roots_move, stored_is}
 use Rattle.tg_marking.specs.Values as values
 use Rattle.tg_marking.specs.Steps as steps
@@ -103,10 +103,10 @@ replaced {m = m} w g q i s shows inside named count holds cursor stage less = re
 module _ {m : Machine} {id : ℕ} (w : Whole m) (h : Holds m id) where
   -- The graph of what is then held.
   pub graph_after : (n : Machine) (es : List Edge) (text : List ℕ) → Replaced m n id (record (owner h) { edges = es; text = text })
-      → (next : ℕ) → held (stored n) next ≡ graph.held (set (kept_from (progress (stored m)) 0 (stored m).slots) id (Some (record (as_kept (owner h)) { edges = es; text = text }))) next
+      → (next : ℕ) → held (stored n) next ≡ graph.held (set (kept_from (stored m).stage 0 (stored m).slots) id (Some (record (as_kept (owner h)) { edges = es; text = text }))) next
   graph_after n es text c next = ap (λ (v : Stored). held v next) c.is
-      ∙ ap (λ os. graph.held os next) (held_set (progress (stored m)) id (stored m).slots _
-      ∙ ap (set (kept_from (progress (stored m)) 0 (stored m).slots) id) (rw (held_keeps (shown (stored m)) (progress (stored m)) id (as_kept (owner h)) h.shows (owner h) (owner_is h)) refl))
+      ∙ ap (λ os. graph.held os next) (held_set (stored m).stage id (stored m).slots _
+      ∙ ap (set (kept_from (stored m).stage 0 (stored m).slots) id) (rw (held_keeps (shown (stored m)) (stored m).stage id (as_kept (owner h)) h.shows (owner h) (owner_is h)) refl))
 
 -- A held slot of a sound heap has other edges.
 module _ {m : Machine} {id : ℕ} (ok : IsHeap m.heap) (w : Whole m) (h : Holds m id) where
@@ -130,8 +130,8 @@ module _ {m : Machine} {id : ℕ} (ok : IsHeap m.heap) (w : Whole m) (h : Holds 
       record {
         owner = owner h;
         at = owner_is h;
-        held = (as_kept (owner h), sym (stored_kept m id) ∙ h.shows);
-        there = (t.0, sym (stored_kept m e.target) ∙ t.1, t.2);
+        held = (as_kept (owner h), h.shows);
+        there = (t.0, t.1, t.2);
         apart = apart;
         target = rooted;
         is = shows (e ∷ edges m.heap id) k;

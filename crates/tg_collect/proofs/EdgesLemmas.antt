@@ -1,5 +1,5 @@
 use Rattle.std.proofs.Common.{◌≡◌, ◌≢◌, ℕ, zero, suc, List, [], ◌∷◌, length, map, Option, Some, None, true, false, sym, ◌∙◌, subst, ap, refl, arith, sum_by, ◌<◌, cond, T, ◌+◌}
-use Rattle.tg_collect.proofs.Common.{length-map, sum_by-append, is_none, place, Contains, Distinct, contains_map, Edge, Kept, total, Stored, kept, progress, vertices, held, Letters, edges, IsHeap, name_of, Root, Machine, lists_of, body, progress_of, Whole, stored, shown, spot, root_serial, serial_of, IsHeldIn, IsParkedIn, IsStore, ◌↔◌, IsPermutation, IsNonDecreasingBy, IsPermutation-sym, IsPermutation-map, ones, permuted, rises_by, same_in_order, serials_distinct, vertex_count, edge_count, edge_list, keys_occur_once, serials, held_one, held_cells, parked_cells, Closed, left_most, counted, IsRootAt, left_some, keys_apart, sorted_rises, edges_of, IsEdgeList, option_to_list, Rises, vertex_listed}
+use Rattle.tg_collect.proofs.Common.{length-map, sum_by-append, is_none, place, Contains, Distinct, contains_map, Edge, Kept, total, Stored, kept, vertices, held, Letters, edges, IsHeap, name_of, Root, Machine, lists_of, body, progress_of, Whole, stored, shown, spot, root_serial, serial_of, IsHeldIn, IsParkedIn, IsStore, ◌↔◌, IsPermutation, IsNonDecreasingBy, IsPermutation-sym, IsPermutation-map, ones, permuted, rises_by, same_in_order, serials_distinct, vertex_count, edge_count, edge_list, keys_occur_once, serials, held_one, held_cells, parked_cells, Closed, left_most, counted, IsRootAt, left_some, keys_apart, sorted_rises, edges_of, IsEdgeList, option_to_list, Rises, vertex_listed}
 -- How many vertices and edges the graph of what is held has, and which edges a held vertex has in it.
 use Rattle.std.specs.FinMap as finmap
 use Rattle.tg_marking.specs.Values as values
@@ -57,7 +57,7 @@ module _ (v : Stored) (once : Once v) where
   from_keys : (x : ℕ) → Contains (finmap.keys (vertices v)) x → Contains all x
   from_keys x h =
       let r = held_kept v x (keys_contains (vertices v) x h) in
-      gathered_to (λ i. option_to_list (place v i)) (length v.slots) r.0 x (kept_within (shown v) (progress v) r.0 r.1 r.2) (chosen (place v r.0) x (ap serial_of r.2 ∙ ap (λ (y : ℕ). Some y) r.3))
+      gathered_to (λ i. option_to_list (place v i)) (length v.slots) r.0 x (kept_within (shown v) v.stage r.0 r.1 r.2) (chosen (place v r.0) x (ap serial_of r.2 ∙ ap (λ (y : ℕ). Some y) r.3))
 
   apart : Distinct all
   apart = rises_distinct all (gathered_rises (λ i. option_to_list (place v i)) (λ x y. x ≢ y) (λ i. alone _ (place v i))
@@ -86,7 +86,7 @@ module _ (v : Stored) (once : Once v) where
       listed = graph.edges_of (held v next) k.serial
 
       pub slot_edges : edges_of (spot v i) ≡ k.edges
-      slot_edges = let o = kept_is (progress v) i (spot v i) k is in ap edges_of o.1 ∙ ap (λ (t : Kept). t.edges) o.3
+      slot_edges = let o = kept_is v.stage i (spot v i) k is in ap edges_of o.1 ∙ ap (λ (t : Kept). t.edges) o.3
 
       distinct_here : Distinct (serials k.edges)
       distinct_here = subst (λ (l : List Edge). Distinct (serials l)) slot_edges (serials_once i)
@@ -142,13 +142,13 @@ module _ (m : Machine) (ok : IsHeap m.heap) (w : Whole m) where
   labelled_so : (i : ℕ) (e : Edge) → Contains (edges_of (spot (stored m) i)) e → is_none e.rights ≡ false
   labelled_so i e c = ok.cells.labelled i e (subst (λ (l : List Edge). Contains l e) (out_is i) c)
 
-  cells_all : (next : ℕ) → (stored m).free_cells + edge_count (held (stored m) next) + total (λ i. parked_cells (progress (stored m)) i (spot (stored m) i)) (length (stored m).slots) ≡ (stored m).cells
-  cells_all next = let a = counted.cells (shown (stored m)) (progress (stored m)) in let b = cells_so m.heap (lists_of m.roots) ok in let c = edges_counted (stored m) (once_stored m w) (closed_so m w) serials_so labelled_so next in omega (arith, a, b, c)
+  cells_all : (next : ℕ) → (stored m).free_cells + edge_count (held (stored m) next) + total (λ i. parked_cells (stored m).stage i (spot (stored m) i)) (length (stored m).slots) ≡ (stored m).cells
+  cells_all next = let a = counted.cells (shown (stored m)) (stored m).stage in let b = cells_so m.heap (lists_of m.roots) ok in let c = edges_counted (stored m) (once_stored m w) (closed_so m w) serials_so labelled_so next in omega (arith, a, b, c)
 
-  none_parked : ((x : ℕ) → IsParkedIn (stored m) x → ⊥) → total (λ i. parked_cells (progress (stored m)) i (spot (stored m) i)) (length (stored m).slots) ≡ 0
-  none_parked none = total_none (λ i. parked_cells (progress (stored m)) i (spot (stored m) i)) (length (stored m).slots) (λ i. elim (spot (stored m) i) as (λ o. spot (stored m) i ≡ o → parked_cells (progress (stored m)) i o ≡ 0) [
+  none_parked : ((x : ℕ) → IsParkedIn (stored m) x → ⊥) → total (λ i. parked_cells (stored m).stage i (spot (stored m) i)) (length (stored m).slots) ≡ 0
+  none_parked none = total_none (λ i. parked_cells (stored m).stage i (spot (stored m) i)) (length (stored m).slots) (λ i. elim (spot (stored m) i) as (λ o. spot (stored m) i ≡ o → parked_cells (stored m).stage i o ≡ 0) [
     | None ↦ λ e. refl
-    | Some s ↦ λ e. elim (values.keeps (progress (stored m)) i s.colour) as (λ b. values.keeps (progress (stored m)) i s.colour ≡ b → cond b 0 (length s.edges) ≡ 0) [ true ↦ λ k. refl | false ↦ λ k. absurd (none s.serial (i, (s, e, k), ap name_of e)) ] refl
+    | Some s ↦ λ e. elim (values.keeps (stored m).stage i s.colour) as (λ b. values.keeps (stored m).stage i s.colour ≡ b → cond b 0 (length s.edges) ≡ 0) [ true ↦ λ k. refl | false ↦ λ k. absurd (none s.serial (i, (s, e, k), ap name_of e)) ] refl
   ] refl)
 
   placed : (i x : ℕ) → place (stored m) i ≡ Some x → IsHeldIn (stored m) x
@@ -173,7 +173,7 @@ module _ (m : Machine) (ok : IsHeap m.heap) (w : Whole m) where
     seats = length-map m.roots.targets.items (λ o. root_serial o) ∙ w.roots.seats;
     few = (let z = length-map m.roots.principals (λ (r : Root). r.serial) in let f = w.roots.few in omega (arith, z, f));
     agents = length-map m.roots.agents.items (λ o. root_serial o) ∙ w.roots.agents;
-    slots = λ next. (let a = counted.slots (shown (stored m)) (progress (stored m)) in let b = vertices_counted (stored m) (once_stored m w) next in omega (arith, a, b));
+    slots = λ next. (let a = counted.slots (shown (stored m)) (stored m).stage in let b = vertices_counted (stored m) (once_stored m w) next in omega (arith, a, b));
     few_edges = λ next. (let c = cells_all next in omega (arith, c));
     all_cells = λ none next. (let c = cells_all next in let z = none_parked none in omega (arith, c, z));
     some_left = left_some (body m) (progress_of m) m.heap.cell_count;

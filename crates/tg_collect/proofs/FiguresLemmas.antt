@@ -1,13 +1,13 @@
 -- What the slots show, listed slot by slot.
 use Rattle.std.proofs.Common.{◌≡◌, ◌≤◌, ◌≢◌, ◌++◌, ℕ, List, [], ◌∷◌, append_assoc, length, map, Option, Some, None, inl, inr, Bool, true, false, cond, sym, ◌∙◌, subst, ap, refl, eqb-true, eq-eqb, nat_eq}
 use Rattle.tg_collect.proofs.Common.{cells, Contains, contains_filter, contains_map, Distinct, Edge, edges, edges_of, ends_tied, Equal, filter, filter-append, filter_contains, first_cell, first_is, Greater, HeapGraph, in_slot, is_eq, is_lt, IsHeap}
-use Rattle.tg_collect.proofs.Common.{IsPermutation, IsSortedBy, IsStore, join, Less, Letters, Machine, map_append, mapped, name_of, nat_cmp, nat_cmp_total, on_total, option_eq, option_map, option_to_list, Ordering, ordering_then, progress}
+use Rattle.tg_collect.proofs.Common.{IsPermutation, IsSortedBy, IsStore, join, Less, Letters, Machine, map_append, mapped, name_of, nat_cmp, nat_cmp_total, on_total, option_eq, option_map, option_to_list, Ordering, ordering_then}
 use Rattle.tg_collect.proofs.Common.{remaining, remaining_split, Rises, rises_map, serial_tied, serials, slot, spot, Stands, Stored, stored, then_some, then_total, untrue}
 use Rattle.tg_collect.specs.Parts.{AreFound}
 use Rattle.tg_collect.specs.Readings.{name}
 use Rattle.tg_graph.specs.Opening as graph
 use Rattle.tg_graph.specs.Parts.{Before}
-use Rattle.tg_collect.specs.Figures.{IsArrow, arrows, arrows_from, edge_from, figure, figure_in, from_at, is_there}
+use Rattle.tg_collect.specs.Figures.{IsArrow, arrows, arrows_from, edge_from, figure, figure_in, source_at, is_there}
 use Rattle.tg_collect.proofs.FoundLemmas.{gathered, gathered_sorted, nat_less}
 use Rattle.tg_collect.proofs.ShownLemmas.{place_kept}
 use Rattle.tg_collect.proofs.SlotLemmas.{zip_at}
@@ -57,19 +57,19 @@ filter_apart p (e ∷ es) d = elim (p e) as (λ b. Rises (λ d e. d.serial ≢ e
 ]
 
 module _ (v : Stored) (parked : Bool) where
-  named : (b : Bool) (i x : ℕ) → from_at v b i ≡ Some x → name v i ≡ Some x
+  named : (b : Bool) (i x : ℕ) → source_at v b i ≡ Some x → name v i ≡ Some x
   named true i x is = is
-  named false i x is = let k = place_kept v i x is in kept_name (progress v) i (spot v i) k.0 k.1 ∙ ap (λ (y : ℕ). Some y) k.2
+  named false i x is = let k = place_kept v i x is in kept_name v.stage i (spot v i) k.0 k.1 ∙ ap (λ (y : ℕ). Some y) k.2
 
   -- What is listed of a slot is an edge that is shown, and back.
-  pub given : (i : ℕ) (a : graph.Edge) → Contains (arrows v parked i) a → (r : IsArrow v a.0 a.1 a.2) × (r.slot ≡ i) × (from_at v parked i ≡ Some a.0)
-  given i a = by (from_at v parked i) refl where
-    by : (o : Option ℕ) → from_at v parked i ≡ o → Contains (arrows_from v o i) a → (r : IsArrow v a.0 a.1 a.2) × (r.slot ≡ i) × (from_at v parked i ≡ Some a.0)
+  pub given : (i : ℕ) (a : graph.Edge) → Contains (arrows v parked i) a → (r : IsArrow v a.0 a.1 a.2) × (r.slot ≡ i) × (source_at v parked i ≡ Some a.0)
+  given i a = by (source_at v parked i) refl where
+    by : (o : Option ℕ) → source_at v parked i ≡ o → Contains (arrows_from v o i) a → (r : IsArrow v a.0 a.1 a.2) × (r.slot ≡ i) × (source_at v parked i ≡ Some a.0)
     by None at h = absurd h
     by (Some x) at h =
         let (e, kept, is) = mapped (edge_from x) (filter (is_there v) (edges_of (spot v i))) a h in
         let (owned, there) = contains_filter (is_there v) (edges_of (spot v i)) e kept in
-        let from : from_at v parked i ≡ Some a.0 = at ∙ ap (λ (b : graph.Edge). Some b.0) (sym is) in (
+        let from : source_at v parked i ≡ Some a.0 = at ∙ ap (λ (b : graph.Edge). Some b.0) (sym is) in (
           record {
             slot = i;
             edge = e;
@@ -83,7 +83,7 @@ module _ (v : Stored) (parked : Bool) where
           from,
         )
 
-  pub taken : (x y : ℕ) (l : Letters) (a : IsArrow v x l y) → from_at v parked a.slot ≡ Some x → Contains (arrows v parked a.slot) (x, l, y)
+  pub taken : (x y : ℕ) (l : Letters) (a : IsArrow v x l y) → source_at v parked a.slot ≡ Some x → Contains (arrows v parked a.slot) (x, l, y)
   taken x y l a from =
       let es = edges_of (spot v a.slot) in
       let there : is_there v a.edge ≡ true = ap (λ o. option_eq nat_eq o (Some a.edge.serial)) (a.there ∙ ap (λ (z : ℕ). Some z) (sym a.to)) ∙ eq-eqb a.edge.serial a.edge.serial refl in
@@ -101,7 +101,7 @@ module _ (m : Machine) (s : IsStore (stored m)) (parked : Bool) where
   pub arrows_sorted : (n : ℕ) → length m.heap.table.slots ≤ n → (ys : List graph.Edge) → IsPermutation (gathered (arrows (stored m) parked) n) ys → IsSortedBy (λ a b. is_lt (by_ends a b)) ys → AreFound (arrows (stored m) parked) Before ys
   arrows_sorted = gathered_sorted m s (arrows (stored m) parked) (λ a. a.0) (λ i a h. named (stored m) parked parked i a.0 (given (stored m) parked i a h).2) by_ends
       (on_total ends (then_total (on_total (λ (p : ℕ × ℕ). p.0) nat_cmp_total) (on_total (λ (p : ℕ × ℕ). p.1) nat_cmp_total)))
-      (λ a b t. ap (λ (p : ℕ × ℕ). p.0) ((ends_tied (ends a) (ends b)).0 t)) (λ i. within (from_at (stored m) parked i) i) Before comes_before
+      (λ a b t. ap (λ (p : ℕ × ℕ). p.0) ((ends_tied (ends a) (ends b)).0 t)) (λ i. within (source_at (stored m) parked i) i) Before comes_before
 
 -- A walk over the cells of a slot that comes to one of them.
 pub record Turn (h : HeapGraph) (i cell : ℕ) (p r : List Edge) : Type 0 where

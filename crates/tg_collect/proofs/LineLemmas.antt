@@ -1,12 +1,11 @@
 -- Each step of the machine is a line of the table.
 use Rattle.std.proofs.Common.{◌≡◌, zero, suc, ◌+◌, ◌<◌, ◌≤◌, List, [], ◌∷◌, ◌++◌, length, Option, Some, None, Bool, true, false, sym, ◌∙◌, subst, ap, refl, arith, ◌≢◌, ◌⊎◌, inl, inr, ℕ, get_or-set_other}
-use Rattle.tg_collect.proofs.Common.{turns_name, Contains, Grey, Has, Edge, first_cell, HeapGraph, edges, mark_at, IsHeap, remaining, Spot, Body, mark, Machine, RootLists, lists_of, body_of, body, progress_in, progress_of, CursorFits, Whole, SEATS, mark_of, seen, put, IsListed, stored, as_progress, same_Some, MAX_PRINCIPALS, passed, split_whole, remaining_split, shade_all, Line, starts, scans, blackens, shades_target, whitens, strips, frees, IsScanned, Phased, Stays, shade_each, line_keeps, line_collected, bounded, Steps, all_shaded}
+use Rattle.tg_collect.proofs.Common.{turns_name, Contains, Grey, Has, Edge, first_cell, HeapGraph, edges, mark_at, IsHeap, remaining, Spot, Body, mark, Machine, RootLists, lists_of, body_of, body, progress_in, progress_of, CursorFits, Whole, SEATS, mark_of, put, IsListed, stored, same_Some, MAX_PRINCIPALS, passed, split_whole, remaining_split, shade_all, Line, starts, scans, blackens, shades_target, whitens, strips, frees, IsScanned, Phased, shade_each, line_keeps, line_collected, bounded, Steps, all_shaded, shown}
 use Rattle.tg_collect.proofs.Common.{phase_in, Collected, most_marks, Counts, AreRoots, HasRoot, Invariant, Root, bare, IsLinkedBy}
 use Rattle.tg_marking.specs.Values as values
 use Rattle.tg_collect.specs.declared.machine.Progress.TheVariants as course
 use Rattle.tg_collect.specs.declared.machine.Progress as declared
 use Rattle.tg_marking.specs.Collected as marking
-use Rattle.tg_collect.specs.Views as views
 use Rattle.tg_collect.specs.declared.note.Phase.TheVariants as phases
 use Rattle.tg_marking.specs.Values.{name}
 use Rattle.tg_marking.proofs.SpotLemmas.{kept_name}
@@ -66,16 +65,9 @@ whole_steps m n freed ended s w = record { kept = kept; cursor = s.cursor; roots
   named : (r : Root) → IsListed (lists_of m.roots) r → name (body n) r.slot ≡ Some r.serial
   named r h =
       let k = kept.closed.roots r.slot (subst (λ (q : RootLists). HasRoot (bare q) r.slot) (sym same) (listed_root (lists_of m.roots) r h)) in
-      let now = kept_name (progress_of n) r.slot (spot (body n) r.slot) k.0 k.1 in
+      let now = kept_name (stored n).stage r.slot (spot (body n) r.slot) k.0 k.1 in
       let turned = (line_collected (body m) (body n) (progress_of m) (progress_of n) freed ended s.line w.kept).turns r.slot in
-      now ∙ sym (turns_name (body m) (progress_of m) r.slot k.0.serial _ _ turned now) ∙ w.roots.named r h
-
--- What callers see of a progress.
-pub stage_so : (g : values.Stage) → values.shown (as_progress g) ≡ g
-stage_so g = grind arith
-
-pub kept_so : (p : Progress) (i : ℕ) (o : Option Spot) → seen (as_progress (values.shown p)) i o ≡ seen p i o
-kept_so p i o = rw stage_so refl
+      now ∙ sym (turns_name (body m) (stored m).stage r.slot k.0.serial _ _ turned now) ∙ w.roots.named r h
 
 -- A line frees a slot in the sweep, and one at most.
 line_frees : (b b' : Body) (p p' : Progress) (n : ℕ) (e : Bool) → Line b p b' p' n e → ((phase_in (values.shown p) ≡ phases.Sweep) ⊎ (n ≡ 0)) × (n ≤ 1)
@@ -106,22 +98,15 @@ line_marks b _ _ _ _ _ (frees k s is c m) few = one_mark b k _
 line_marks b _ _ _ _ _ l few = root_marks b [] 1 (omega arith)
 
 -- A collector step as contracts see it.
-line_phases : (b b' : Body) (p p' : Progress) (n : ℕ) (e : Bool) → Line b p b' p' n e → views.Follows (phase_in (values.shown p)) (phase_in (values.shown p')) e
-line_phases b b' p p' n e l = grind arith
-
-stays_so : (g h : values.Stage) → views.Stays (phase_in g) (phase_in h) → Stays g h
-stays_so g h y = grind arith
-
 line_left : (m n : Machine) (freed : ℕ) (ended : Bool) → Line (body m) (progress_of m) (body n) (progress_of n) freed ended → n.heap.cell_count ≡ m.heap.cell_count → IsHeap m.heap → Whole m
     → (ended ≡ true) ⊎ ((stored n).left < (stored m).left)
 line_left m n freed true l cells ok w = inl refl
-line_left m n freed false l cells ok w = inr (rw cells (bounded (body m) (body n) (progress_of m) (progress_of n) freed m.heap.cell_count l w.kept (celled m.heap (lists_of m.roots) ok)).0)
+line_left m n freed false l cells ok w = inr (rw cells (bounded.lower (body m) (body n) (progress_of m) (progress_of n) freed m.heap.cell_count l w.kept (celled m.heap (lists_of m.roots) ok)))
 
 pub collected : (m n : Machine) (freed : ℕ) (ended : Bool) → Steps m n freed ended → IsHeap m.heap → IsHeap n.heap → Whole m → Collected (stored m) (stored n) freed ended
 collected m n freed ended s ok ok' w = record {
-  step = rw (stage_so (stored m).stage, stage_so (stored n).stage) step;
-  phases = line_phases (body m) (body n) (progress_of m) (progress_of n) freed ended s.line;
-  held = λ y. held_same (stored m) (stored n) step.size (rw (stage_so (stored m).stage, stage_so (stored n).stage) (step.held (stays_so (stored m).stage (stored n).stage y)));
+  step = step;
+  held = λ y. held_same (stored m) (stored n) step.size (step.held y);
   roots = ap lists_of s.roots;
   cells = s.counts.cells;
   freed = freed_so.0;
@@ -131,7 +116,7 @@ collected m n freed ended s ok ok' w = record {
   marks = line_marks (body m) (body n) (progress_of m) (progress_of n) freed ended s.line (let size = other_count m.roots in let few = w.roots.few in let seats = w.roots.agents in omega (arith, size, few, seats));
   left = line_left m n freed ended s.line s.counts.cells ok w;
 } where
-  step : marking.Collected (body m) (progress_of m) (body n) (progress_of n) ended
+  step : marking.Collected (shown (stored m)) (stored m).stage (shown (stored n)) (stored n).stage ended
   step = line_collected (body m) (body n) (progress_of m) (progress_of n) freed ended s.line w.kept
 
   freed_so : ((phase_in (values.shown (progress_of m)) ≡ phases.Sweep) ⊎ (freed ≡ 0)) × (freed ≤ 1)

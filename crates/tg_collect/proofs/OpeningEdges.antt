@@ -1,6 +1,6 @@
 -- A graph is opened: its edges, pair by pair, once the principals are there.
 use Rattle.std.proofs.Common.{◌≡◌, ◌≢◌, ℕ, ◌+◌, ◌<◌, ◌≤◌, ◌∷◌, length, Option, Some, ◌⊎◌, inl, inr, Bool, true, false, cond, ◌&&◌, ◌==◌, sym, ◌∙◌, subst, ap, arith, set, sum_by, nat_lt}
-use Rattle.tg_collect.proofs.Common.{cases_eq, is_some, unwrap_or, option_map, nat_cmp, sum_by-le-sum_by, contains-empty, Letters, has, is_none, none, joined, is_none-none, some_right, slot, Occupant, Triple, Protection, IsGraph, Vertex, Triples, kind_of, subjects, edge, edge_count, edges_at, same_triples, contains-label, label-relabelled, union-Relabels, edge_count-sums, edge_count-union, edge_from, edge_to, subjects-first, subjects-has, subjects-within, Edge, HasNone, HeapGraph, edges, mark_at, Free, IsHeap, IsAdded, Machine, stored, held, place, vertices, triples, gains, kept_from, progress, as_kept, serial_at, Opened, OpensEdges, rank, OpensAll}
+use Rattle.tg_collect.proofs.Common.{cases_eq, is_some, unwrap_or, option_map, nat_cmp, sum_by-le-sum_by, contains-empty, Letters, has, is_none, none, joined, is_none-none, some_right, slot, Occupant, Triple, Protection, IsGraph, Vertex, Triples, kind_of, subjects, edge, edge_count, edges_at, same_triples, contains-label, label-relabelled, union-Relabels, edge_count-sums, edge_count-union, edge_from, edge_to, subjects-first, subjects-has, subjects-within, Edge, HasNone, HeapGraph, edges, mark_at, Free, IsHeap, IsAdded, Machine, stored, held, place, vertices, triples, gains, kept_from, as_kept, serial_at, Opened, OpensEdges, rank, OpensAll}
 use Rattle.std.proofs.lemmas.Bool.Decides.{nat_tests}
 use Rattle.std.specs.FinMap as finmap
 use Rattle.std.specs.FinSet as finset
@@ -164,7 +164,7 @@ module _ (m : Machine) (G : Protection) (from to : ℕ) (rights : Letters) (o : 
         → OpensEdges (record m { heap = record m.heap { lists = set m.heap.lists from (e ∷ edges m.heap from); free_cells = f } }) G (rank (from + 1) (to + 1 + 1))
     added e f target serial same heap =
         let put = edge_put ok o.opened.whole h e f (ap (place (stored m)) target ∙ to_at ∙ ap (λ (x : ℕ). Some x) (sym serial)) (λ q. apart (sym q ∙ target)) (inr (at_rest m o.opening.count o.opened)) heap in
-        let graph = graph_after o.opened.whole h _ (e ∷ edges m.heap from) h.occupant.text put 0 ∙ gains (kept_from (progress (stored m)) 0 (stored m).slots) from 0 (as_kept (owner h)) e (held_at (stored m) from ∙ h.shows)
+        let graph = graph_after o.opened.whole h _ (e ∷ edges m.heap from) h.occupant.text put 0 ∙ gains (kept_from (stored m).stage 0 (stored m).slots) from 0 (as_kept (owner h)) e (held_at (stored m) from ∙ h.shows)
         ∙ (λ i. record K { triples = finset.union K.triples (edge ((sym (serial_is h) ∙ serial_here) i) (same i) (serial i)) }) in
         record {
           opening = o.opening;

@@ -1,7 +1,7 @@
 -- A machine that holds the first principals, before any cycle.
 use Rattle.std.proofs.Common.{◌≡◌, ◌≢◌, ℕ, zero, suc, ◌+◌, ◌<◌, List, [], ◌∷◌, ◌++◌, length, map, replicate, Option, Some, None, ◌⊎◌, inl, inr, Ok, true, sym, ◌∙◌, subst, ap, refl, arith, add-one, get_or, set, length-set, length-append}
 use Rattle.tg_collect.proofs.Common.{cases_eq, MAX_PRINCIPALS, SEATS, Contains, contains_left, contains_right, length-replicate, map_append, Subject, Protection, subjects-within, principal_count, principals_are_few, Table, Free, Has, White, Grey, indices, fresh, nones_length, nones_free, indices_length, IsHeap}
-use Rattle.tg_collect.proofs.Common.{Spot, AtRest, IsScanned, mark, new_colour, blank_keeps, Root, Idle, Machine, RootLists, IsListed, lists_of, with_principal, body, progress_in, progress_of, Whole, Puts, Rerooted, Stored, stored, progress, kept_from, spot, place, root_serial, vertices, triples, IsParkedIn}
+use Rattle.tg_collect.proofs.Common.{Spot, AtRest, IsScanned, mark, new_colour, blank_keeps, Root, Idle, Machine, RootLists, IsListed, lists_of, with_principal, body, progress_in, progress_of, Whole, Puts, Rerooted, Stored, stored, kept_from, spot, place, root_serial, vertices, triples, IsParkedIn}
 use Rattle.tg_collect.proofs.Common.{first_serials, Opens, OpeningsCanBeStored, first_root, first_roots, HasOpened, OpensFirst, KeepsSize}
 use Rattle.std.specs.FinMap as finmap
 use Rattle.std.specs.FinSet as finset
@@ -76,7 +76,7 @@ module _ (m : Machine) (count : ℕ) (o : HasOpened m count) where
   }
 
 -- A blank machine.
-none_kept : (p : values.Progress) (k : ℕ) (os : List (Option Spot)) → ((i : ℕ) → get_or os i None ≡ None) → (graph.entries (kept_from p k os) ≡ []) × (graph.triples (kept_from p k os) ≡ [])
+none_kept : (p : values.Stage) (k : ℕ) (os : List (Option Spot)) → ((i : ℕ) → get_or os i None ≡ None) → (graph.entries (kept_from p k os) ≡ []) × (graph.triples (kept_from p k os) ≡ [])
 none_kept p k [] e = (refl, refl)
 none_kept p k (None ∷ os) e = none_kept p (suc k) os (λ i. e (suc i))
 none_kept p k (Some s ∷ os) e = absurd (let u : Some s ≡ None = e 0 in cc)
@@ -95,7 +95,7 @@ blank_first m slots is idle roots = record {
         named = λ r h. absurd (nobody r h);
       };
     };
-    vertices = ap (λ es. finmap.from_entries es) (none_kept (progress (stored m)) 0 (stored m).slots none).0;
+    vertices = ap (λ es. finmap.from_entries es) (none_kept (stored m).stage 0 (stored m).slots none).0;
     roots = roots;
     progress = idle;
     grey = ap (λ (t : Table). t.grey) is;
@@ -103,7 +103,7 @@ blank_first m slots is idle roots = record {
     free = ap (λ (t : Table). t.free) is;
     all = let l = ap (λ (t : Table). length t.slots) is in let n = nones_length slots in omega (arith, l, n);
   };
-  triples = ap (λ ts. finset.from_list ts) (none_kept (progress (stored m)) 0 (stored m).slots none).1;
+  triples = ap (λ ts. finset.from_list ts) (none_kept (stored m).stage 0 (stored m).slots none).1;
 } where
   none : (i : ℕ) → spot (stored m) i ≡ None
   none i = at_free m.heap (lists_of m.roots) i (ap (λ (t : Table). table.mark t i) is ∙ nones_free slots i)
@@ -148,7 +148,7 @@ principal_opens m a n count i text ok first few bare put added = (
   c = came m a i (count + 1) Subject text ok o.whole
       (λ h. let l = subjects-within count (count + 1) (subst (λ vs. finmap.contains_key vs (count + 1) ≡ true) o.vertices h) in omega (arith, l)) (none_parked m o.progress (count + 1)) put
 
-  same : n ≡ record m { heap = record m.heap { table = record m.heap.table { slots = set m.heap.table.slots i (Some (record { serial = count + 1; kind = Subject; colour = new_colour (progress_of m) i; text = text })); free = put.0 } }; roots = n.roots }
+  same : n ≡ record m { heap = record m.heap { table = record m.heap.table { slots = set m.heap.table.slots i (Some (record { serial = count + 1; kind = Subject; colour = new_colour (stored m).stage i; text = text })); free = put.0 } }; roots = n.roots }
   same = added.1 ∙ ap (λ (x : Machine). record x { roots = n.roots }) put.2
 
   size : length n.heap.table.slots ≡ length m.heap.table.slots

@@ -1,6 +1,6 @@
 -- What is held, listed slot by slot.
 use Rattle.std.proofs.Common.{◌≡◌, ◌<◌, ℕ, List, Option, Some, None, true, false, sym, ◌∙◌, subst, ap, refl, MatchOption}
-use Rattle.tg_collect.proofs.Common.{Contains, Edge, edges, edges_of, Free, held, in_slot, is_none, is_some, IsStore, join, Kept, kept, Listed, lists_of, Machine, mark_at, Occupant, option_map, option_to_list, progress, same_Some}
+use Rattle.tg_collect.proofs.Common.{Contains, Edge, edges, edges_of, Free, held, in_slot, is_none, is_some, IsStore, join, Kept, kept, Listed, lists_of, Machine, mark_at, Occupant, option_map, option_to_list, same_Some}
 use Rattle.tg_collect.proofs.Common.{serial_of, slot, spot, Stored, stored, vertex}
 use Rattle.std.specs.Prelude.{IsSome}
 use Rattle.tg_marking.specs.Values as values
@@ -16,7 +16,7 @@ use Rattle.tg_collect.proofs.FoundLemmas.{chosen, optional}
 use Rattle.tg_collect.proofs.EdgesLemmas.{label_here, slot_edges}
 use Rattle.tg_collect.proofs.ShownLemmas.{Once, place_kept, shown_edge, vertex_found}
 use Rattle.tg_collect.proofs.SlotLemmas.{at_free, zip_at}
-use Rattle.tg_collect.proofs.StoreLemmas.{edge_in, once_so, kept_name, stored_kept}
+use Rattle.tg_collect.proofs.StoreLemmas.{edge_in, once_so, kept_name}
 
 -- What a slot that shows a held vertex holds.
 pub text_there : {X : Type 0} (m : Machine) (i : ℕ) (f : Figure) (text : Option X) (get : X → List ℕ) → Some f ≡ figure (stored m) i → MatchOption text (mark_at m.heap i ≡ Free) (λ t. in_slot (λ o. o.text) (slot m.heap.table i) ≡ Some (get t)) → IsSome text
@@ -24,10 +24,10 @@ text_there m i f None get is free = absurd (cc (is, ap (figure_in (stored m).sta
 text_there m i f (Some t) get is there = refl
 
 pub listed_shown : (m : Machine) (i : ℕ) (f : Figure) (text : List ℕ) → Some f ≡ figure (stored m) i → f.is_held ≡ true → in_slot (λ o. o.text) (slot m.heap.table i) ≡ Some text → ◌≡◌ {A = Option Listed} (Some (f.serial, f.kind, text)) (listed (stored m) i)
-listed_shown m i f text is still there = by (slot m.heap.table i) (rw (zip_at m.heap.table.slots m.heap.lists i) at is) there ∙ sym (ap (option_map listed_as) (stored_kept m i ∙ ap (values.seen_at (stored m).stage i) (zip_at m.heap.table.slots m.heap.lists i))) where
-  by : (o : Option Occupant) → Some f ≡ figure_in (stored m).stage i (join o (edges m.heap i)) → in_slot (λ q. q.text) o ≡ Some text → ◌≡◌ {A = Option Listed} (Some (f.serial, f.kind, text)) (option_map listed_as (values.seen_at (stored m).stage i (join o (edges m.heap i))))
+listed_shown m i f text is still there = by (slot m.heap.table i) (rw (zip_at m.heap.table.slots m.heap.lists i) at is) there ∙ sym (ap (option_map listed_as) (ap (values.seen (stored m).stage i) (zip_at m.heap.table.slots m.heap.lists i))) where
+  by : (o : Option Occupant) → Some f ≡ figure_in (stored m).stage i (join o (edges m.heap i)) → in_slot (λ q. q.text) o ≡ Some text → ◌≡◌ {A = Option Listed} (Some (f.serial, f.kind, text)) (option_map listed_as (values.seen (stored m).stage i (join o (edges m.heap i))))
   by None is there = absurd (cc)
-  by (Some o) is there = let keeps : values.keeps_at (stored m).stage i o.colour ≡ true = cc in rw keeps (cc)
+  by (Some o) is there = let keeps : values.keeps (stored m).stage i o.colour ≡ true = cc in rw keeps (cc)
 
 -- ---- what is listed, in the graph
 
@@ -36,7 +36,7 @@ listed_kept None x is = absurd (cc)
 listed_kept (Some k) x is = (k, refl, same_Some _ x is)
 
 pub listed_named : (v : Stored) (i : ℕ) (x : Listed) → listed v i ≡ Some x → name v i ≡ Some x.0
-listed_named v i x is = let k = listed_kept (kept v i) x is in kept_name (progress v) i (spot v i) k.0 k.1 ∙ ap (λ (y : Listed). Some y.0) k.2
+listed_named v i x is = let k = listed_kept (kept v i) x is in kept_name v.stage i (spot v i) k.0 k.1 ∙ ap (λ (y : Listed). Some y.0) k.2
 
 module _ (v : Stored) (s : IsStore v) where
   once : Once v
@@ -69,11 +69,11 @@ module _ (v : Stored) (s : IsStore v) where
           let arrow : IsArrow v x l y = record {
             slot = i;
             edge = e;
-            from = kept_name (progress v) i (spot v i) k here ∙ ap (λ (z : ℕ). Some z) from;
+            from = kept_name v.stage i (spot v i) k here ∙ ap (λ (z : ℕ). Some z) from;
             owned = subst (λ (l : List Edge). Contains l e) (sym (slot_edges v once s.closed s.serials s.labelled next i k here)) owned;
             label = sym (label_here v once s.closed s.serials s.labelled next i k here e owned) ∙ (λ j. label (held v next) (from j) (to j)) ∙ sym is.0;
             to = to;
-            there = kept_name (progress v) e.target (spot v e.target) there.0 there.1 ∙ ap (λ (z : ℕ). Some z) (there.2 ∙ to);
+            there = kept_name v.stage e.target (spot v e.target) there.0 there.1 ∙ ap (λ (z : ℕ). Some z) (there.2 ∙ to);
           } in
           (led.has (x, l, y)).1 (i, taken v false x y l arrow (ap serial_of here ∙ ap (λ (z : ℕ). Some z) from))),
     );

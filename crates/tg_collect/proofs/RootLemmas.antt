@@ -6,7 +6,7 @@ use Rattle.tg_marking.specs.Values as values
 use Rattle.tg_collect.specs.Readings as readings
 use Rattle.tg_collect.proofs.SlotLemmas.{contains_seat, listed_root, seat_contains, seat_slot, roots_by}
 use Rattle.tg_collect.proofs.ShownLemmas.{place_kept}
-use Rattle.tg_collect.proofs.StoreLemmas.{idle_seat, stored_kept}
+use Rattle.tg_collect.proofs.StoreLemmas.{idle_seat}
 use Rattle.tg_collect.proofs.SeatLemmas.{bare_seat, listed_seat, set_only, acted_roots, serial_set}
 
 -- Other roots: each was one, or is held, and then a seat's target unless the collector rests; and no target goes.
@@ -44,7 +44,7 @@ rerooted m rs w seats few agents known stays n (roots, is) = subst (λ (k : Mach
       | inl old ↦ inl (listed_root (lists_of m.roots) q old)
       | inr new ↦ (
           let k = place_kept (stored m) q.slot q.serial new.1 in
-          inr (elim new.0 [ inl target ↦ (let s = contains_seat rs.targets q target in inl (s.0, seat_slot rs.targets s.0 q s.1)) | inr rest ↦ inr rest ], k.0, sym (stored_kept m q.slot) ∙ k.1))
+          inr (elim new.0 [ inl target ↦ (let s = contains_seat rs.targets q target in inl (s.0, seat_slot rs.targets s.0 q s.1)) | inr rest ↦ inr rest ], k.0, k.1))
     ]);
     stays = λ i white. stays i;
     is = refl;

@@ -1,54 +1,49 @@
 -- A run of a store is a run of its slots; what was not live is gone, and there are few steps between two ends.
 use Rattle.std.proofs.Common.{◌≡◌, ℕ, suc, ◌+◌, ◌<◌, ◌≤◌, List, Option, Some, ◌⊎◌, inl, inr, Bool, true, false, sym, ◌∙◌, subst, ap, refl, arith, map, None, set}
-use Rattle.tg_collect.proofs.Common.{turns_name, keeps_grey, kept_is, Spot, AtRest, Body, Kept, seen, Stored, kept, progress, as_progress, shown, spot, held, IsHeldIn, IsParkedIn, IsStore, is_some, is_none, Protection, name_of, total, Root, serial_of, root_serial, pending_of, TextReplaced, map-set, set-get_or, same_Some, Live, IsPart, IsGraph, vertex, with_text, subjects, Stage, keeps, IsLiveIn, Sane, Run, free_one, phase_in, slot_count, cycle_bound, IsRootIn, phase, principals, pending, agents, new_keeps}
+use Rattle.tg_collect.proofs.Common.{turns_name, keeps_grey, kept_is, Spot, Body, Kept, seen, Stored, kept, shown, spot, held, IsHeldIn, IsParkedIn, IsStore, is_some, is_none, Protection, name_of, total, Root, serial_of, root_serial, pending_of, TextReplaced, map-set, set-get_or, same_Some, Live, IsPart, IsGraph, vertex, with_text, subjects, Stage, keeps, IsLiveIn, Sane, Run, free_one, phase_in, slot_count, cycle_bound, IsRootIn, phase, principals, pending, agents, new_keeps}
 use Rattle.tg_collect.proofs.Common.{free_slots, Changes, Acted, Shaded, StoreRun, start, acts, goes, IsComplete, IsBounded, Collected, Opened, IsRoll, Member, nat_cmp, vertices}
 use Rattle.tg_marking.specs.Values as values
 use Rattle.tg_marking.specs.Runs as runs
 use Rattle.tg_marking.proofs.RunLemmas as marked
+use Rattle.tg_marking.proofs.RunLemmas.{changes_grow}
+use Rattle.tg_marking.specs.Runs.{IsLiveOrNew}
+use Rattle.tg_marking.specs.Collected.{Follows}
 use Rattle.tg_collect.specs.declared.note.Phase.TheVariants as phases
 use Rattle.std.specs.FinSet as finset
 use Rattle.tg_graph.specs.Protection.{label}
 use Rattle.tg_marking.specs.Values.{Progress}
 use Rattle.tg_collect.specs.Runs.{ends}
-use Rattle.tg_collect.proofs.LineLemmas.{stage_so}
 use Rattle.tg_collect.proofs.SlotLemmas.{root_listed}
 use Rattle.tg_collect.proofs.ShownLemmas.{held_kept, kept_held, named_label, place_kept, Once, vertex_found}
 use Rattle.tg_collect.proofs.StoreLemmas.{once_so, in_root, live_slots, slots_live, root_live, edge_in, label_same}
 use Rattle.tg_collect.specs.declared.note.Phase.TheVariants.{Idle}
 
-sane : (v : Stored) → IsStore v → Sane (shown v) (progress v)
-sane v s = record { closed = s.closed; once = s.once; idle = λ e. s.idle (sym (stage_so v.stage) ∙ e) }
+sane : (v : Stored) → IsStore v → Sane (shown v) v.stage
+sane v s = record { closed = s.closed; once = s.once; idle = s.idle }
 
 -- A session step of a store is one of its slots.
 module _ (v w : Stored) (new target : Option ℕ) (next : ℕ) (s : IsStore v) (t : IsStore w) (a : Acted v w new target) (news : (x : ℕ) → new ≡ Some x → next ≤ x)
     (targets : (x : ℕ) → target ≡ Some x → Live (held v next) (IsRootIn v) x ⊎ (next ≤ x)) where
   abbrev Wanted : ℕ → Type 0
-  Wanted x = IsLiveIn (shown v) (progress v) x ⊎ (next ≤ x)
+  Wanted x = IsLiveOrNew (shown v) v.stage next x
 
   wanted : (x : ℕ) → target ≡ Some x → Wanted x
   wanted x e = elim (targets x e) [ inl l ↦ inl (live_slots v s next x l) | inr n ↦ inr n ]
-
-  same_progress : progress w ≡ progress v
-  same_progress = ap as_progress a.stage
 
   root_before : (x : ℕ) → IsRootIn w x → Wanted x
   root_before x (inl p) = elim (a.principals x p) [ inl old ↦ inl (root_live v s x (inl old)) | inr e ↦ inr (news x e) ]
   root_before x (inr (inl p)) = elim (a.pending x p) [ inl old ↦ inl (root_live v s x (inr (inl old))) | inr e ↦ wanted x e ]
   root_before x (inr (inr p)) = elim (a.agents x p) [ inl old ↦ inl (root_live v s x (inr (inr old))) | inr e ↦ wanted x e ]
 
-  acted : runs.Acted (shown v) (progress v) (shown w) next
+  acted : runs.Acted (shown v) v.stage (shown w) next
   acted = record {
-    new = new;
-    target = target;
-    fresh = news;
-    aimed = wanted;
     roots = λ i k r h. (
         let q = root_listed w.roots i r in
         let p = place_kept w q.0.slot q.0.serial (t.named q.0 q.1) in
-        let here : kept w q.0.slot ≡ Some k = subst (λ (j : ℕ). kept w j ≡ Some k) (sym q.2) (ap (λ (z : Progress). values.kept (shown w) z i) same_progress ∙ h) in
+        let here : kept w q.0.slot ≡ Some k = subst (λ (j : ℕ). kept w j ≡ Some k) (sym q.2) (ap (λ (z : Stage). values.kept (shown w) z i) a.stage ∙ h) in
         let serial : q.0.serial ≡ k.serial = sym p.2 ∙ ap (λ (z : Kept). z.serial) (same_Some p.0 k (sym p.1 ∙ here)) in
         subst Wanted serial (root_before q.0.serial (in_root w q.0 q.1)));
-    slots = a.changes;
+    slots = λ i. changes_grow (shown v) v.stage _ _ _ _ news wanted i _ _ (a.changes i);
   }
 
 -- The last state of a run is a store of the same size; collector steps since an end, and what is left, are at most the
@@ -72,34 +67,33 @@ known next first _ _ _ s (ends v w n k count r c t) =
     record { store = t; slots = slots; cells = cells; left = rw (sym slots, sym cells) (let l = t.most_left in omega (arith, l)) }
 
 -- The run is one of its slots.
-run_of : (next : ℕ) (b : Body) (p : Progress) (first v : Stored) (ended since : ℕ) → IsStore first → Run next b p (shown first) (progress first) 0 → StoreRun next first v ended since → Run next b p (shown v) (progress v) ended
+run_of : (next : ℕ) (b : Body) (p : Stage) (first v : Stored) (ended since : ℕ) → IsStore first → Run next b p (shown first) first.stage 0 → StoreRun next first v ended since → Run next b p (shown v) v.stage ended
 run_of next b p first _ _ _ s z start = z
 run_of next b p first _ _ _ s z (acts v w n k new target r a x y t) =
     let u = (known next first v n k s r).store in
-    let same = same_progress v w new target next u t a x y in
-    subst (λ (q : Progress). Run next b p (shown w) q n) (sym same) (runs.acts (shown v) (shown w) (progress v) n (run_of next b p first v n k s z r) (acted v w new target next u t a x y) (subst (λ (q : Progress). Sane (shown w) q) same (sane w t)))
-run_of next b p first _ _ _ s z (goes v w n k count r c t) = runs.goes (shown v) (shown w) (progress v) (progress w) n (run_of next b p first v n k s z r) c.step (sane w t)
+    subst (λ (q : Stage). Run next b p (shown w) q n) (sym a.stage) (runs.acts (shown v) (shown w) v.stage n (run_of next b p first v n k s z r) (acted v w new target next u t a x y) (subst (λ (q : Stage). Sane (shown w) q) a.stage (sane w t)))
+run_of next b p first _ _ _ s z (goes v w n k count r c t) = runs.goes (shown v) (shown w) v.stage w.stage n (run_of next b p first v n k s z r) c.step (sane w t)
 run_of next b p first _ _ _ s z (ends v w n k count r c t) =
     let up : suc n ≡ n + 1 = omega arith in
-    subst (λ (m : ℕ). Run next b p (shown w) (progress w) m) up (runs.ends (shown v) (shown w) (progress v) (progress w) n (run_of next b p first v n k s z r) c.step (sane w t))
+    subst (λ (m : ℕ). Run next b p (shown w) w.stage m) up (runs.ends (shown v) (shown w) v.stage w.stage n (run_of next b p first v n k s z r) c.step (sane w t))
 
-resting : (g : Stage) → phase_in g ≡ phases.Idle → as_progress g ≡ AtRest
+resting : (g : Stage) → phase_in g ≡ phases.Idle → g ≡ values.Idle
 resting g e = grind arith
 
 pub complete : IsComplete
 complete v w u next ended since count s idle c t below r two x has =
     let rest = resting v.stage idle in
-    let begin : Run next (shown v) (progress v) (shown w) (progress w) 0 = runs.goes (shown v) (shown w) (progress v) (progress w) 0 runs.begin c.step (sane w t) in
-    let whole : Run next (shown v) AtRest (shown u) (progress u) ended = subst (λ (p : Progress). Run next (shown v) p (shown u) (progress u) ended) rest (run_of next (shown v) (progress v) w u ended since t begin r) in
-    let low : (i : ℕ) (k : Kept) → values.kept (shown v) AtRest i ≡ Some k → k.serial < next = λ i k e. below k.serial (kept_held v i k (once_so v s.once) (ap (λ (p : Progress). values.kept (shown v) p i) rest ∙ e)) in
+    let begin : Run next (shown v) v.stage (shown w) w.stage 0 = runs.goes (shown v) (shown w) v.stage w.stage 0 runs.begin c.step (sane w t) in
+    let whole : Run next (shown v) values.Idle (shown u) u.stage ended = subst (λ (p : Stage). Run next (shown v) p (shown u) u.stage ended) rest (run_of next (shown v) v.stage w u ended since t begin r) in
+    let low : (i : ℕ) (k : Kept) → values.kept (shown v) values.Idle i ≡ Some k → k.serial < next = λ i k e. below k.serial (kept_held v i k (once_so v s.once) (ap (λ (p : Stage). values.kept (shown v) p i) rest ∙ e)) in
     let at = slot_of has in
-    elim (marked.complete (shown v) (shown u) (progress u) next ended (subst (λ (p : Progress). Sane (shown v) p) rest (sane v s)) low whole two at.0 at.1 at.2) [
-      | inl l ↦ inl (slots_live v s next x (subst (λ (y : ℕ). IsLiveIn (shown v) (progress v) y) at.3 (subst (λ (p : Progress). IsLiveIn (shown v) p at.1.serial) (sym rest) l)))
+    elim (marked.complete (shown v) (shown u) u.stage next ended (subst (λ (p : Stage). Sane (shown v) p) rest (sane v s)) low whole two at.0 at.1 at.2) [
+      | inl l ↦ inl (slots_live v s next x (subst (λ (y : ℕ). IsLiveIn (shown v) v.stage y) at.3 (subst (λ (p : Stage). IsLiveIn (shown v) p at.1.serial) (sym rest) l)))
       | inr n ↦ inr (subst (λ (y : ℕ). next ≤ y) at.3 n)
     ]
   where
     slot_of : IsHeldIn u x ⊎ IsParkedIn u x → (i : ℕ) × (z : Spot) × (spot u i ≡ Some z) × (z.serial ≡ x)
-    slot_of (inl h) = let k = held_kept u x h in let b = kept_is (progress u) k.0 (spot u k.0) k.1 k.2 in (k.0, b.0, b.1, ap (λ (q : Kept). q.serial) b.3 ∙ k.3)
+    slot_of (inl h) = let k = held_kept u x h in let b = kept_is u.stage k.0 (spot u k.0) k.1 k.2 in (k.0, b.0, b.1, ap (λ (q : Kept). q.serial) b.3 ∙ k.3)
     slot_of (inr (i, (z, e, dark), n)) = (i, z, e, same_Some z.serial x (sym (ap values.name_of e) ∙ n))
 
 pub bounded : IsBounded
@@ -137,11 +131,11 @@ module _ (v w : Stored) (seat : ℕ) where
   shaded_was (Some x) shaded = sym shaded.was
 
 -- what waits to be swept after a session step waited before it
-was_parked : (v : Stored) (new target : Option ℕ) (i : ℕ) (o p : Option Spot) → Changes (shown v) (progress v) new target i o p → (s : Spot) → p ≡ Some s → keeps (progress v) i s.colour ≡ false
-    → (t : Spot) × (o ≡ Some t) × (keeps (progress v) i t.colour ≡ false) × (t.serial ≡ s.serial)
-was_parked v new target i o p change s at gone = let grey = keeps_grey (progress v) i in let fresh = new_keeps (progress v) i in grind arith
+was_parked : (v : Stored) (new target : Option ℕ) (i : ℕ) (o p : Option Spot) → Changes (shown v) v.stage (λ x. new ≡ Some x) (λ x. target ≡ Some x) i o p → (s : Spot) → p ≡ Some s → keeps v.stage i s.colour ≡ false
+    → (t : Spot) × (o ≡ Some t) × (keeps v.stage i t.colour ≡ false) × (t.serial ≡ s.serial)
+was_parked v new target i o p change s at gone = let grey = keeps_grey v.stage i in let fresh = new_keeps v.stage i in grind arith
 
-still_free : (v : Stored) (target : Option ℕ) (i : ℕ) (o p : Option Spot) → Changes (shown v) (progress v) None target i o p → free_one p ≡ free_one o
+still_free : (v : Stored) (target : Option ℕ) (i : ℕ) (o p : Option Spot) → Changes (shown v) v.stage (λ x. None ≡ Some x) (λ x. target ≡ Some x) i o p → free_one p ≡ free_one o
 still_free v target i o p c = grind arith
 
 module _ {v w : Stored} {new target : Option ℕ} (acted : Acted v w new target) where
@@ -151,7 +145,7 @@ module _ {v w : Stored} {new target : Option ℕ} (acted : Acted v w new target)
   -- no session step parks
   pub acted_parked : (x : ℕ) → IsParkedIn w x → IsParkedIn v x
   acted_parked x (i, (s, at, gone), named) =
-      let t = was_parked v new target i (spot v i) (spot w i) (acted.changes i) s at (subst (λ g. keeps (as_progress g) i s.colour ≡ false) acted.stage gone) in
+      let t = was_parked v new target i (spot v i) (spot w i) (acted.changes i) s at (subst (λ g. keeps g i s.colour ≡ false) acted.stage gone) in
       (i, (t.0, t.1, t.2), ap name_of t.1 ∙ ap (λ n. Some n) t.3 ∙ sym (ap name_of at) ∙ named)
 
 module _ {v w : Stored} {target : Option ℕ} (acted : Acted v w None target) where
@@ -166,15 +160,25 @@ held_graph store next names retired below roll = record { below_next = below; fr
 
 -- after a collector step, what is held, with the principals, is still a part of the graph: the same, or once the rest was
 -- parked what is black
+phase_follows : (size : ℕ) (g h : Stage) (ended : Bool) → Follows size g h ended → (ended ≡ true → phase_in h ≡ Idle) × (phase_in g ≡ Idle → ended ≡ false)
+phase_follows size g h ended f = grind arith
+
 module _ {v w : Stored} {count : ℕ} {ended : Bool} (c : Collected v w count ended) where
+  -- the step that ends a cycle leaves the collector idle, and one that begins a cycle ends none
+  pub ended_idle : ended ≡ true → phase w ≡ Idle
+  ended_idle = (phase_follows (slot_count v) v.stage w.stage ended c.step.phases).0
+
+  pub idle_ends_none : phase v ≡ Idle → ended ≡ false
+  idle_ends_none = (phase_follows (slot_count v) v.stage w.stage ended c.step.phases).1
+
   -- what is parked then was parked, or held
   pub collected_parked : IsStore v → (x : ℕ) → IsParkedIn w x → IsParkedIn v x ⊎ IsHeldIn v x
-  collected_parked store x (i, dark, named) = by (spot v i) refl (turns_name (shown v) (progress v) i x (spot v i) (spot w i) (c.step.turns i) named) where
+  collected_parked store x (i, dark, named) = by (spot v i) refl (turns_name (shown v) v.stage i x (spot v i) (spot w i) (c.step.turns i) named) where
     by : (o : Option Spot) → spot v i ≡ o → name_of o ≡ Some x → IsParkedIn v x ⊎ IsHeldIn v x
     by None at was = absurd (cc was)
-    by (Some t) at was = of (keeps (progress v) i t.colour) refl where
-      of : (b : Bool) → keeps (progress v) i t.colour ≡ b → IsParkedIn v x ⊎ IsHeldIn v x
-      of true e = inr (store.placed i x (ap (λ o. serial_of (seen (progress v) i o)) at ∙ rw e was))
+    by (Some t) at was = of (keeps v.stage i t.colour) refl where
+      of : (b : Bool) → keeps v.stage i t.colour ≡ b → IsParkedIn v x ⊎ IsHeldIn v x
+      of true e = inr (store.placed i x (ap (λ o. serial_of (seen v.stage i o)) at ∙ rw e was))
       of false e = inl (i, (t, at, e), ap name_of at ∙ was)
 
   module _ (next : ℕ) (names : List Member) (retired : finset.FinSet nat_cmp) (G : Protection) (part : IsPart G (record (held v next) { names = names; retired = retired })) (store_v : IsStore v) (store_w : IsStore w) where
@@ -185,7 +189,7 @@ module _ {v w : Stored} {count : ℕ} {ended : Bool} (c : Collected v w count en
     once_w = once_so w store_w.once
 
     was_kept : (i : ℕ) (k : Kept) → kept w i ≡ Some k → kept v i ≡ Some k
-    was_kept i k e = marked.held_back (shown v) (shown w) (progress v) (progress w) ended (sane v store_v) (sane w store_w) c.step i k e
+    was_kept i k e = marked.held_back (shown v) (shown w) v.stage w.stage ended (sane v store_v) (sane w store_w) c.step i k e
 
     vertex_same : (x : ℕ) → IsHeldIn w x → vertex (held v next) x ≡ vertex (held w next) x
     vertex_same x h =

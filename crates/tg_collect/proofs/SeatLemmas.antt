@@ -1,6 +1,6 @@
 -- A seat's target comes or goes, and slots are shaded.
 use Rattle.std.proofs.Common.{◌≡◌, ℕ, zero, suc, ◌≤◌, List, [], ◌∷◌, length, Option, Some, None, ◌⊎◌, inl, inr, sym, ◌∙◌, subst, ap, refl, get_or, set, length-set, arith, map, ◌<◌}
-use Rattle.tg_collect.proofs.Common.{Contains, HeapGraph, shaded, Spot, Body, HasRoot, Kept, name, shade, left, Root, Roots, Progress, Machine, RootLists, IsListed, with_target, lists_of, slot_of, bare, body, progress_in, progress_of, CursorFits, Whole, stored, shown, root_serial, Kind, new_colour, Stored, progress, Letters, contains_map, Edge, put_each, at_within, EdgeStored, VertexStored, RightsRemoved, TextReplaced, map-set, keeps, shade_name, shade_kept, held_keeps, shades_keeps, left_shade, shade_each, zip, AreRoots, held, Table, shade_size, ShadesSeat, Shaded, TargetShaded, Changes, Acted, LedTo, agents, pending, principals, LedTo}
+use Rattle.tg_collect.proofs.Common.{Contains, HeapGraph, shaded, Spot, Body, HasRoot, Kept, name, shade, left, Root, Roots, Progress, Machine, RootLists, IsListed, with_target, lists_of, slot_of, bare, body, progress_in, progress_of, CursorFits, Whole, stored, shown, root_serial, Kind, new_colour, Stored, Letters, contains_map, Edge, put_each, at_within, EdgeStored, VertexStored, RightsRemoved, TextReplaced, map-set, keeps, shade_name, shade_kept, held_keeps, shades_keeps, left_shade, shade_each, zip, AreRoots, held, Table, shade_size, ShadesSeat, Shaded, TargetShaded, Changes, Acted, LedTo, agents, pending, principals, LedTo}
 use Rattle.tg_marking.specs.Values as values
 use Rattle.tg_marking.specs.Steps as steps
 use Rattle.tg_marking.specs.Runs as runs
@@ -78,7 +78,7 @@ module _ (m : Machine) (seat serial i : ℕ) (r : Roots) (w : Whole m) (at : get
     place = named_so m w (record { serial = serial; slot = i }) listed;
     left = rw same (subst (λ (b : Body). left m.heap.cell_count b (progress_of m) ≤ (stored m).left) (sym shows) (left_shade (body m) (progress_of m) i m.heap.cell_count));
     graph = λ next. ap (λ (v : Stored). held v next) is ∙ held_same (stored m) (record (stored m) { slots = (shade (shown (stored m)) i).slots }) (shade_size (shown (stored m)) i)
-        (shade_kept (shown (stored m)) (progress (stored m)) i (λ s e c. ap (values.keeps (progress (stored m)) i) (sym c) ∙ held_keeps (shown (stored m)) (progress (stored m)) i root_kept.0 root_kept.1 s e)) next;
+        (shade_kept (shown (stored m)) (stored m).stage i (λ s e c. ap (values.keeps (stored m).stage i) (sym c) ∙ held_keeps (shown (stored m)) (stored m).stage i root_kept.0 root_kept.1 s e)) next;
     is = is;
   } where
     root_kept : (k : Kept) × (readings.kept (stored m) i ≡ Some k) × (k.serial ≡ serial)
@@ -106,15 +106,15 @@ acted_same v w is = acted_roots v w v.roots None is (λ x h. h) (λ x h. inl h) 
 -- A step that leaves the phase, the principals, the agents and the number of cells.
 module _ (v : Stored) (new target : Option ℕ) where
   abbrev EachChanges : List (Option Spot) → Type 0
-  EachChanges os = (i : ℕ) → Changes (shown v) (progress v) new target i (readings.spot v i) (get_or os i None)
+  EachChanges os = (i : ℕ) → Changes (shown v) v.stage (λ x. new ≡ Some x) (λ x. target ≡ Some x) i (readings.spot v i) (get_or os i None)
 
   acted_by : (os : List (Option Spot)) (targets : List (Option Root)) (free left : ℕ) → ((x : ℕ) → Contains (map (λ o. root_serial o) targets) (Some x) → Contains (pending v) (Some x) ⊎ (target ≡ Some x)) → length os ≡ length v.slots
       → EachChanges os → left ≤ v.left → Acted v (record v { slots = os; roots = record v.roots { targets = targets }; free_cells = free; left = left }) new target
   acted_by os targets free left seats size each lower = record { stage = refl; principals = λ x h. inl h; agents = λ x h. inl h; pending = seats; slots = size; changes = each; cells = refl; left = lower }
 
   -- One slot more changes.
-  one_changes : (os : List (Option Spot)) (i : ℕ) (o : Option Spot) → i < length os → Changes (shown v) (progress v) new target i (readings.spot v i) o → EachChanges os → EachChanges (set os i o)
-  one_changes os i o within here each = put_each (λ j x. Changes (shown v) (progress v) new target j (readings.spot v j) x) (record (shown v) { slots = os }) i o within here (λ j n. each j)
+  one_changes : (os : List (Option Spot)) (i : ℕ) (o : Option Spot) → i < length os → Changes (shown v) v.stage (λ x. new ≡ Some x) (λ x. target ≡ Some x) i (readings.spot v i) o → EachChanges os → EachChanges (set os i o)
+  one_changes os i o within here each = put_each (λ j x. Changes (shown v) v.stage (λ x. new ≡ Some x) (λ x. target ≡ Some x) j (readings.spot v j) x) (record (shown v) { slots = os }) i o within here (λ j n. each j)
 
   -- A held slot gets other edges, or another text.
   acted_regards : (os : List (Option Spot)) (i : ℕ) (s : Spot) (es : List Edge) (text : List ℕ) (targets : List (Option Root)) (free left : ℕ) → ((x : ℕ) → Contains (map (λ o. root_serial o) targets) (Some x) → Contains (pending v) (Some x) ⊎ (target ≡ Some x))
@@ -126,7 +126,7 @@ module _ (v : Stored) (new target : Option ℕ) where
 pub acted_shaded : (v w : Stored) (seat : ℕ) (answer : Option ℕ) → Shaded v w seat answer → Acted v w None None
 acted_shaded v w seat None s = acted_same v w s.1
 acted_shaded v w seat (Some x) s = rw s.is (acted_by v None None (shade (shown v) s.slot).slots (set v.roots.targets seat None) v.free_cells w.left (serial_set v.roots.targets seat None) (shade_size (shown v) s.slot)
-    (shade_each (λ j o. Changes (shown v) (progress v) None None j (readings.spot v j) o) (shown v) s.slot (λ t e c. rw e (runs.shaded t c s.root)) (λ j. runs.same (readings.spot v j))) s.left)
+    (shade_each (λ j o. Changes (shown v) v.stage (λ x. None ≡ Some x) (λ x. None ≡ Some x) j (readings.spot v j) o) (shown v) s.slot (λ t e c. rw e (runs.shaded t c s.root)) (λ j. runs.same (readings.spot v j))) s.left)
 
 pub acted_edge : (v w : Stored) (seat x y : ℕ) (rights : Letters) → EdgeStored v w seat x y rights → Acted v w None (Some y)
 acted_edge v w seat x y rights s = rw s.is (acted_regards v None (Some y) v.slots s.slot s.owner s.edges s.owner.text (set v.roots.targets seat (Some s.target)) w.free_cells w.left
@@ -142,7 +142,7 @@ acted_text v w x text answer s = rw s.is (acted_regards v None None v.slots s.sl
 
 pub acted_vertex : (v w : Stored) (seat x serial : ℕ) (kind : Kind) (text : List ℕ) (rights : Letters) → VertexStored v w seat x serial kind text rights → Acted v w (Some serial) (Some serial)
 acted_vertex v w seat x serial kind text rights s =
-    let vertex : Spot = record { serial = serial; kind = kind; text = text; edges = []; colour = new_colour (progress v) s.new } in
+    let vertex : Spot = record { serial = serial; kind = kind; text = text; edges = []; colour = new_colour v.stage s.new } in
     let came = one_changes v (Some serial) (Some serial) v.slots s.new (Some vertex) s.within (rw s.free (runs.comes vertex refl refl (λ e never. absurd never))) (λ i. runs.same (readings.spot v i)) in
     rw s.is (acted_regards v (Some serial) (Some serial) (set v.slots s.new (Some vertex)) s.slot s.owner s.edges s.owner.text (set v.roots.targets seat (Some (record { serial = serial; slot = s.new }))) w.free_cells w.left
     (serial_set v.roots.targets seat (Some (record { serial = serial; slot = s.new }))) (length-set v.slots s.new _) came s.at (λ e h. let led = s.leads e h in grind arith) s.left)

@@ -1,11 +1,12 @@
 -- What each change of the heap is in one list of slots.
 use Rattle.std.proofs.Common.{◌≡◌, ◌≢◌, zero, suc, List, [], ◌∷◌, length, Option, Some, None, sym, ◌∙◌, ap, refl, arith, get_or, set, ◌+◌, ◌<◌, drop, inl, inr, subst, length-set, map, cond, drop-cons, length-append, sum_by, ℕ}
-use Rattle.tg_collect.proofs.Common.{Occupant, Colour, White, Table, Free, Has, slot, Edge, HeapGraph, edges, mark_at, shaded, Spot, mark, put, shade, RootLists, bare, body_of, length-map, Contains, Body}
-use Rattle.tg_collect.proofs.Common.{HasRoot, at_within, Root, Machine, IsListed, lists_of, slot_of, slots_of, body, progress_of, Whole, new_colour, Progress, progress_in, sum_by-cons, Distinct, IsHeap}
+use Rattle.tg_collect.proofs.Common.{Occupant, Colour, White, Table, Free, Has, slot, Edge, HeapGraph, edges, mark_at, shaded, Spot, mark, put, shade, RootLists, bare, body_of, length-map, Contains, Body, stored}
+use Rattle.tg_collect.proofs.Common.{HasRoot, at_within, Root, Machine, IsListed, lists_of, slot_of, slots_of, body, Whole, new_colour, Progress, progress_in, sum_by-cons, Distinct, IsHeap}
 use Rattle.tg_collect.proofs.Common.{total, get_or_default, get_or-map, same_Some, contains_left, contains_right, contains_append, contains_map, coloured, if_free, painted, out, IsRoot}
 use Rattle.tg_collect.proofs.Common.{free_one, Celled, join, zip, all_slots, all_shaded, with_shaded, AreWithin, other_slots, has_passed, colour_ahead, Roots, shade_all}
 pub use Rattle.tg_marking.proofs.SpotLemmas.{contains_mapped, kept_within}
 use Rattle.tg_graph.proofs.ListedLemmas.{placed}
+use Rattle.tg_marking.specs.Values as values
 use Rattle.tg_marking.specs.Values.{spot}
 
 pub zip_at : (os : List (Option Occupant)) (ls : List (List Edge)) (i : ℕ) → get_or (zip os ls) i None ≡ join (get_or os i None) (get_or ls i [])
@@ -119,7 +120,7 @@ listed_root rs r (inr (inr h)) = inr (contains_right (all_slots rs.principals) (
 
 -- A root's slot is one of the table's.
 pub root_within : (m : Machine) (i : ℕ) → Whole m → IsRoot (body m) i → i < length m.heap.table.slots
-root_within m i w r = let k = w.kept.closed.roots i r in rw zip_size at (kept_within (body m) (progress_of m) i k.0 k.1)
+root_within m i w r = let k = w.kept.closed.roots i r in rw zip_size at (kept_within (body m) (stored m).stage i k.0 k.1)
 
 pub seat_root : (m : Machine) (seat : ℕ) (o : Option Root) (r : Root) → Whole m → seat < length m.roots.targets.items → o ≡ get_or m.roots.targets.items seat o → o ≡ Some r
     → (get_or (body m).roots.targets seat None ≡ Some r.slot) × (r.slot < length m.heap.table.slots)
@@ -188,5 +189,5 @@ celled h rs ok = record {
 }
 
 -- A vertex that comes has the colour for its slot.
-pub colour_so : (h : HeapGraph) (p : Progress) (i : ℕ) → cond (has_passed p i) White (colour_ahead p) ≡ new_colour (progress_in h p) i
+pub colour_so : (h : HeapGraph) (p : Progress) (i : ℕ) → cond (has_passed p i) White (colour_ahead p) ≡ new_colour (values.shown (progress_in h p)) i
 colour_so h p i = grind arith

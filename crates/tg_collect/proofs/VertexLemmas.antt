@@ -1,7 +1,7 @@
 -- A vertex comes into a free slot, alone or with an edge to it.
 use Rattle.std.proofs.Common.{◌≡◌, ◌≢◌, ℕ, ◌<◌, ◌≤◌, List, [], length, Option, Some, None, Ok, inl, inr, true, sym, ◌∙◌, subst, ap, refl, arith, set, get_or-set_other}
-use Rattle.tg_collect.proofs.Common.{Table, IsAdded, kept_name, is_some, unwrap_or, same_Some, SEATS, Letters, Kind, Contains, Occupant, slot, Free, Colour, mark_at, IsHeap, edges, HasNone, Spot, as_kept, name, name_of, seen, keeps, new_colour, new_keeps, put, Places, places_keeps, left_places, Invariant, comes, edge}
-use Rattle.tg_collect.proofs.Common.{Machine, lists_of, with_target, body, progress_of, Whole, Puts, Links, Stored, stored, as_progress, kept, kept_from, progress, spot, held, place, serial_of, serial_at, pending_of, IsHeldIn, IsParkedIn, VertexStored}
+use Rattle.tg_collect.proofs.Common.{Table, IsAdded, kept_name, is_some, unwrap_or, same_Some, SEATS, Letters, Kind, Contains, Occupant, slot, Free, mark_at, IsHeap, edges, HasNone, Spot, as_kept, name, name_of, seen, keeps, new_colour, new_keeps, put, Places, places_keeps, left_places, Invariant, comes, edge}
+use Rattle.tg_collect.proofs.Common.{Machine, lists_of, with_target, body, progress_of, Whole, Puts, Links, Stored, stored, kept, kept_from, spot, held, place, serial_of, serial_at, pending_of, IsHeldIn, IsParkedIn, VertexStored}
 use Rattle.std.proofs.lemmas.Bool.{cases_Bool}
 use Rattle.std.specs.FinMap as finmap
 use Rattle.std.specs.FinSet as finset
@@ -9,7 +9,7 @@ use Rattle.tg_marking.specs.Values as values
 use Rattle.tg_held.specs.Held as graph
 use Rattle.tg_collect.proofs.SlotLemmas.{as_spot, at_free, put_slot, zip_size, free_so}
 use Rattle.tg_collect.proofs.ShownLemmas.{held_at, held_set, from_size, kept_held, place_kept}
-use Rattle.tg_collect.proofs.StoreLemmas.{stored_kept, once_stored, holds, placed_mark, kept_name, edge_leads, edge_owned}
+use Rattle.tg_collect.proofs.StoreLemmas.{once_stored, holds, placed_mark, kept_name, edge_leads, edge_owned, owner_place}
 use Rattle.tg_collect.proofs.SeatLemmas.{same_lists}
 use Rattle.tg_collect.proofs.CallLemmas.{occupant_serial, Linked, added}
 use Rattle.tg_collect.proofs.EdgeLemmas.{Replaced, replaced}
@@ -19,13 +19,10 @@ no_name : (m : Machine) (serial : ℕ) → Whole m → (IsHeldIn (stored m) seri
 no_name m serial w unheld unparked j e = by (values.spot (body m) j) refl e where
   by : (o : Option Spot) → values.spot (body m) j ≡ o → name_of o ≡ Some serial → ⊥
   by None is e = cc
-  by (Some s) is e = elim (cases_Bool (keeps (progress (stored m)) j s.colour)) [
-    | inl k ↦ unheld (subst (IsHeldIn (stored m)) (same_Some s.serial serial e) (kept_held (stored m) j (as_kept s) (once_stored m w) (ap (seen (progress (stored m)) j) is ∙ rw k refl)))
+  by (Some s) is e = elim (cases_Bool (keeps (stored m).stage j s.colour)) [
+    | inl k ↦ unheld (subst (IsHeldIn (stored m)) (same_Some s.serial serial e) (kept_held (stored m) j (as_kept s) (once_stored m w) (ap (seen (stored m).stage j) is ∙ rw k refl)))
     | inr k ↦ unparked (j, (s, is, k), ap name_of is ∙ e)
   ]
-
-new_same : (p : values.Progress) (i : ℕ) → new_colour p i ≡ new_colour (as_progress (values.shown p)) i
-new_same p i = grind arith
 
 -- What it does to a store: the vertex is held, and no other slot changes.
 pub record Came (m n : Machine) (i serial : ℕ) (kind : Kind) (text : List ℕ) : Type 0 where
@@ -36,18 +33,18 @@ pub record Came (m n : Machine) (i serial : ℕ) (kind : Kind) (text : List ℕ)
   pub other : (j : ℕ) → j ≢ i → spot (stored n) j ≡ spot (stored m) j
   pub graph : (next : ℕ) → held (stored n) next ≡ record (held (stored m) next) { vertices = finmap.insert (held (stored m) next).vertices serial (record { kind = kind; text = text }) }
   pub left : (stored n).left ≤ (stored m).left
-  pub is : stored n ≡ record (stored m) { slots = set (stored m).slots i (Some (record { serial = serial; kind = kind; text = text; edges = []; colour = new_colour (progress (stored m)) i })); left = (stored n).left }
+  pub is : stored n ≡ record (stored m) { slots = set (stored m).slots i (Some (record { serial = serial; kind = kind; text = text; edges = []; colour = new_colour (stored m).stage i })); left = (stored n).left }
 
 module _ (m : Machine) (i serial : ℕ) (kind : Kind) (text rest : List ℕ) (ok : IsHeap m.heap) (w : Whole m) (free : mark_at m.heap i ≡ Free) (within : i < length m.heap.table.slots)
     (unheld : IsHeldIn (stored m) serial → ⊥) (unparked : IsParkedIn (stored m) serial → ⊥) where
   abbrev occupant : Occupant
-  occupant = record { serial = serial; kind = kind; colour = new_colour (progress_of m) i; text = text }
+  occupant = record { serial = serial; kind = kind; colour = new_colour (stored m).stage i; text = text }
 
   abbrev n : Machine
-  n = record m { heap = record m.heap { table = record m.heap.table { slots = set m.heap.table.slots i (Some (record { serial = serial; kind = kind; colour = new_colour (progress_of m) i; text = text })); free = rest } } }
+  n = record m { heap = record m.heap { table = record m.heap.table { slots = set m.heap.table.slots i (Some (record { serial = serial; kind = kind; colour = new_colour (stored m).stage i; text = text })); free = rest } } }
 
   abbrev vertex : Spot
-  vertex = record { serial = serial; kind = kind; text = text; edges = []; colour = new_colour (progress (stored m)) i }
+  vertex = record { serial = serial; kind = kind; text = text; edges = []; colour = new_colour (stored m).stage i }
 
   shows : body n ≡ put (body m) i (Some (as_spot occupant []))
   shows = put_slot m.heap (lists_of m.roots) i (Some occupant) rest ∙ ap (λ es. put (body m) i (Some (as_spot occupant es))) (ok.free_bare i free)
@@ -61,7 +58,7 @@ module _ (m : Machine) (i serial : ℕ) (kind : Kind) (text rest : List ℕ) (ok
   step : Places (body m) (progress_of m) i serial kind text (body n)
   step = record { free = empty; inside = inside; new = no_name m serial w unheld unparked; is = shows }
 
-  kept_now : Invariant (body n) (progress_of m) × (values.kept (body n) (progress_of m) i ≡ Some (as_kept vertex))
+  kept_now : Invariant (body n) (progress_of m) × (values.kept (body n) (stored m).stage i ≡ Some (as_kept vertex))
   kept_now = places_keeps (body m) (body n) (progress_of m) i serial kind text step w.kept
 
   same : progress_of n ≡ progress_of m
@@ -69,24 +66,24 @@ module _ (m : Machine) (i serial : ℕ) (kind : Kind) (text rest : List ℕ) (ok
 
   came_put : Replaced m n i (as_spot occupant [])
   came_put = replaced w n.heap m.progress i (as_spot occupant []) shows inside
-      (λ r. absurd (let k = w.kept.closed.roots i r in let none : values.kept (body m) (progress_of m) i ≡ None = ap (seen (progress_of m) i) empty in let held = k.1 in cc))
+      (λ r. absurd (let k = w.kept.closed.roots i r in let none : values.kept (body m) (stored m).stage i ≡ None = ap (seen (stored m).stage i) empty in let held = k.1 in cc))
       refl (rw same kept_now.0) ((same_lists m.heap n.heap.table m.progress).1 w.cursor) (ap values.shown same) (rw same (left_places (body m) (body n) (progress_of m) i serial m.heap.cell_count kind text step))
 
   is : stored n ≡ record (stored m) { slots = set (stored m).slots i (Some vertex); left = (stored n).left }
-  is = came_put.is ∙ ap (λ (c : Colour). record (stored m) { slots = set (stored m).slots i (Some (record vertex { colour = c })); left = (stored n).left }) (new_same (progress_of m) i)
+  is = came_put.is
 
   came_so : Came m n i serial kind text
   came_so = record {
     whole = came_put.whole;
     within = inside;
     free = empty;
-    here = ap serial_of (stored_kept n i ∙ ap (λ (p : values.Progress). values.kept (body n) p i) same ∙ kept_now.1);
+    here = ap serial_of (ap (λ (p : values.Progress). values.kept (body n) (values.shown p) i) same ∙ kept_now.1);
     other = λ j o. ap (λ (v : Stored). spot v j) is ∙ get_or-set_other (stored m).slots i j _ None o;
     graph = λ next. ap (λ (v : Stored). held v next) is
-        ∙ ap (λ os. graph.held os next) (held_set (progress (stored m)) i (stored m).slots (Some vertex) ∙ ap (set (kept_from (progress (stored m)) 0 (stored m).slots) i) (rw (new_keeps (progress (stored m)) i) refl))
-        ∙ comes (kept_from (progress (stored m)) 0 (stored m).slots) i next (as_kept vertex) (let z = from_size (progress (stored m)) 0 (stored m).slots in let y = inside in omega (arith, z, y))
-        (λ j k o e s. no_name m serial w unheld unparked j (kept_name (progress (stored m)) j (spot (stored m) j) k (sym (held_at (stored m) j) ∙ e) ∙ ap (λ (y : ℕ). Some y) s))
-        (inl (held_at (stored m) i ∙ ap (seen (progress (stored m)) i) empty, refl));
+        ∙ ap (λ os. graph.held os next) (held_set (stored m).stage i (stored m).slots (Some vertex) ∙ ap (set (kept_from (stored m).stage 0 (stored m).slots) i) (rw (new_keeps (stored m).stage i) refl))
+        ∙ comes (kept_from (stored m).stage 0 (stored m).slots) i next (as_kept vertex) (let z = from_size (stored m).stage 0 (stored m).slots in let y = inside in omega (arith, z, y))
+        (λ j k o e s. no_name m serial w unheld unparked j (kept_name (stored m).stage j (spot (stored m) j) k (sym (held_at (stored m) j) ∙ e) ∙ ap (λ (y : ℕ). Some y) s))
+        (inl (held_at (stored m) i ∙ ap (seen (stored m).stage i) empty, refl));
     left = came_put.left;
     is = is;
   }
@@ -103,10 +100,10 @@ module _ (m n : Machine) (id i serial : ℕ) (kind : Kind) (text : List ℕ) (ok
   c = came m n i serial kind text ok w unheld unparked put
 
   apart : id ≢ i
-  apart e = let k = holds m id source in let none : kept (stored m) id ≡ None = ap (kept (stored m)) e ∙ ap (seen (progress (stored m)) i) c.free in let is = k.shows in cc
+  apart e = let k = holds m id source in let none : kept (stored m) id ≡ None = ap (kept (stored m)) e ∙ ap (seen (stored m).stage i) c.free in let is = k.shows in cc
 
   place_same : place (stored n) id ≡ place (stored m) id
-  place_same = (λ z. serial_of (seen (as_progress (ap (λ (v : Stored). v.stage) c.is z)) id (c.other id apart z)))
+  place_same = (λ z. serial_of (seen (ap (λ (v : Stored). v.stage) c.is z) id (c.other id apart z)))
 
   -- What the edge to the new vertex requires.
   pub still_owner : mark_at n.heap id ≢ Free
@@ -143,6 +140,7 @@ module _ (m n : Machine) (id i serial : ℕ) (kind : Kind) (text : List ℕ) (ok
       free_cells = ap (λ (v : Stored). v.free_cells) (sym c.is) ∙ e.edge.new (λ q. let x = edge_owned c.whole (holds n id (ap is_some place_same ∙ source)) serial q in bare x.0 x.1 x.2);
       left = let a = c.left in let b = e.edge.left in omega (arith, a, b);
       slot = e.edge.slot;
+      place = ap (place (stored m)) e.at ∙ owner_place (holds m id source);
       owner = e.edge.owner;
       at = sym (c.other e.edge.slot (λ loop. apart (sym e.at ∙ loop))) ∙ e.edge.at;
       edges = e.edge.edges;

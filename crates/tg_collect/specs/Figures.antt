@@ -5,7 +5,7 @@ use Rattle.std.specs.Option.{option_eq}
 use Rattle.tg_rights.specs.Letters.{Letters}
 use Rattle.tg_graph.specs.Opening as graph
 use Rattle.tg_graph.specs.Parts.{Before, Rises}
-use Rattle.tg_marking.specs.Values.{Contains, Edge, Spot, Stage, edges_of, keeps_at}
+use Rattle.tg_marking.specs.Values.{Contains, Edge, Spot, Stage, edges_of, keeps}
 use Rattle.tg_collect.specs.declared.figures.Figure.{Figure}
 use Rattle.tg_collect.specs.Readings.{name, place, spot}
 use Rattle.tg_collect.specs.Stored.{Stored}
@@ -13,7 +13,7 @@ use Rattle.tg_collect.specs.Stored.{Stored}
 -- what a slot shows: the serial of its vertex, what it is, its colour, and whether it is held, or waits to be swept
 abbrev pub figure_in : Stage → ℕ → Option Spot → Option Figure
 figure_in g i None = None
-figure_in g i (Some s) = Some (record { serial = s.serial; kind = s.kind; colour = s.colour; is_held = keeps_at g i s.colour })
+figure_in g i (Some s) = Some (record { serial = s.serial; kind = s.kind; colour = s.colour; is_held = keeps g i s.colour })
 
 abbrev pub figure : Stored → ℕ → Option Figure
 figure v i = figure_in v.stage i (spot v i)
@@ -39,8 +39,8 @@ pub record Shows (v : Stored) (figures : List Figure) (arrows : List graph.Edge)
 -- ---- how they are gathered
 
 -- the serial of a slot's vertex, if it is held or the parked ones count too
-abbrev pub from_at : Stored → Bool → ℕ → Option ℕ
-from_at v parked i = cond parked (name v i) (place v i)
+abbrev pub source_at : Stored → Bool → ℕ → Option ℕ
+source_at v with_parked i = cond with_parked (name v i) (place v i)
 
 -- whether the slot that an edge leads to has its serial still
 abbrev pub is_there : Stored → Edge → Bool
@@ -55,4 +55,4 @@ arrows_from v None i = []
 arrows_from v (Some x) i = map (edge_from x) (filter (is_there v) (edges_of (spot v i)))
 
 abbrev pub arrows : Stored → Bool → ℕ → List graph.Edge
-arrows v parked i = arrows_from v (from_at v parked i) i
+arrows v with_parked i = arrows_from v (source_at v with_parked i) i

@@ -201,10 +201,11 @@ abbrev pub progress_dropped : Progress → ℕ → Dropped → Progress
 progress_dropped p id Kept = p
 progress_dropped p id (Gone cell next) = progress_without p id cell next
 
+-- an edge loses rights, and goes if it is left with none
 abbrev pub Removes : Machine → (id serial : ℕ) → Letters → Machine → Type 0
 Removes m id serial rights n = (d : Dropped) × IsDropped m.heap n.heap id serial rights d × (n ≡ record m { heap = n.heap; progress = progress_dropped m.progress id d })
 
--- the colour of a vertex that comes: white, but black if the sweep has yet to reach its slot
+-- whether the sweep has passed a slot, and the colour of a vertex that comes into one that it has not
 abbrev pub has_passed : Progress → ℕ → Bool
 has_passed Idle i = false
 has_passed (Marking s) i = false
@@ -215,12 +216,13 @@ colour_ahead Idle = White
 colour_ahead (Marking s) = White
 colour_ahead (Sweeping k) = Black
 
+-- a vertex without edges comes into the first free slot, or no slot is free
 abbrev pub Puts : Machine → ℕ → Kind → List ℕ → Result ℕ (List ℕ) → Machine → Type 0
 Puts m serial kind text (Ok i) n = (rest : List ℕ) × (m.heap.table.free ≡ i ∷ rest)
     × (n ≡ record m {
       heap = record m.heap {
         table = record m.heap.table {
-          slots = set m.heap.table.slots i (Some (record { serial = serial; kind = kind; colour = new_colour (progress_of m) i; text = text }));
+          slots = set m.heap.table.slots i (Some (record { serial = serial; kind = kind; colour = new_colour (values.shown (progress_of m)) i; text = text }));
           free = rest;
         };
       };
@@ -231,6 +233,7 @@ Puts m serial kind text (Err back) n = (back ≡ text) × (m.heap.table.free ≡
 abbrev pub Rerooted : Machine → RootLists → Machine → Type 0
 Rerooted m rs n = (lists_of n.roots ≡ rs) × (n ≡ record m { roots = n.roots })
 
+-- the text in a slot is replaced
 abbrev pub SetsText : Machine → ℕ → (text old : List ℕ) → Machine → Type 0
 SetsText m id text old n = (o : Occupant) × (slot m.heap.table id ≡ Some o) × (old ≡ o.text)
     × (n ≡ record m { heap = record m.heap { table = record m.heap.table { slots = set m.heap.table.slots id (Some (record o { text = text })) } } })

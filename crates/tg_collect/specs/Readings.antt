@@ -10,7 +10,7 @@ use Rattle.tg_graph.specs.Triples.{Triples}
 use Rattle.tg_graph.specs.Protection.{Protection}
 use Rattle.tg_slots.specs.Table as table
 use Rattle.tg_marking.specs.Values as values
-use Rattle.tg_marking.specs.Values.{Contains, Has, Colour, Grey, Black, Spot, Stage, Progress, AtRest, Marking, Sweeping, Body, Kept, HasRoot}
+use Rattle.tg_marking.specs.Values.{Contains, Has, Colour, Grey, Black, Spot, Stage, Body, Kept, HasRoot}
 use Rattle.tg_marking.specs.Left.{total, free_one, parked_one, bound}
 use Rattle.tg_held.specs.Held as graph
 use Rattle.tg_collect.specs.declared.note.Phase.{Phase}
@@ -19,7 +19,7 @@ use Rattle.tg_collect.specs.declared.machine.Root.{Root}
 use Rattle.tg_collect.specs.Machine.{bare}
 use Rattle.tg_collect.specs.Stored.{Stored}
 
--- the phase, alone, and as a progress of which nobody sees the scan
+-- the phase alone
 abbrev pub phase_in : Stage → Phase
 phase_in values.Idle = Idle
 phase_in values.Mark = Mark
@@ -28,15 +28,7 @@ phase_in (values.Sweep k) = Sweep
 abbrev pub phase : Stored → Phase
 phase v = phase_in v.stage
 
-abbrev pub as_progress : Stage → Progress
-as_progress values.Idle = AtRest
-as_progress values.Mark = Marking None
-as_progress (values.Sweep k) = Sweeping k
-
-abbrev pub progress : Stored → Progress
-progress v = as_progress v.stage
-
--- the slots and the roots, of which nobody sees in which order the grey ones wait
+-- the slots and the roots; nobody sees in which order the grey ones wait
 abbrev pub shown : Stored → Body
 shown v = record { slots = v.slots; grey = []; roots = bare v.roots }
 
@@ -51,14 +43,15 @@ abbrev pub name : Stored → ℕ → Option ℕ
 name v i = values.name (shown v) i
 
 abbrev pub kept : Stored → ℕ → Option Kept
-kept v i = values.kept (shown v) (progress v) i
+kept v i = values.kept (shown v) v.stage i
 
 abbrev pub IsParkedAt : Stored → ℕ → Type 0
-IsParkedAt v i = values.Parked (shown v) (progress v) i
+IsParkedAt v i = values.Parked (shown v) v.stage i
 
 abbrev pub IsRootAt : Stored → ℕ → Type 0
 IsRootAt v i = HasRoot (bare v.roots) i
 
+-- how many slots there are, are free, and are parked
 abbrev pub slot_count : Stored → ℕ
 slot_count v = length v.slots
 
@@ -66,9 +59,9 @@ abbrev pub free_slots : Stored → ℕ
 free_slots v = total (λ i. free_one (spot v i)) (slot_count v)
 
 abbrev pub parked_count : Stored → ℕ
-parked_count v = total (λ i. parked_one (progress v) i (spot v i)) (slot_count v)
+parked_count v = total (λ i. parked_one v.stage i (spot v i)) (slot_count v)
 
--- the serial that a slot holds, if it holds one
+-- the serial of what is held in a slot, if anything is
 abbrev pub serial_of : Option Kept → Option ℕ
 serial_of None = None
 serial_of (Some k) = Some k.serial
@@ -80,13 +73,14 @@ abbrev pub serial_at : Stored → ℕ → ℕ
 serial_at v i = unwrap_or (place v i) 0
 
 -- what is held, slot by slot from number i on, and as a protection graph with this next serial
-abbrev pub kept_from : Progress → ℕ → List (Option Spot) → List (Option Kept)
-kept_from p i [] = []
-kept_from p i (o ∷ os) = values.seen p i o ∷ kept_from p (suc i) os
+abbrev pub kept_from : Stage → ℕ → List (Option Spot) → List (Option Kept)
+kept_from g i [] = []
+kept_from g i (o ∷ os) = values.seen g i o ∷ kept_from g (suc i) os
 
 abbrev pub held : Stored → ℕ → Protection
-held v next = graph.held (kept_from (progress v) 0 v.slots) next
+held v next = graph.held (kept_from v.stage 0 v.slots) next
 
+-- its vertices, and its edges right by right; neither depends on the next serial
 abbrev pub vertices : Stored → finmap.FinMap nat_cmp Vertex
 vertices v = (held v 0).vertices
 

@@ -12,7 +12,7 @@ use Rattle.tg_collect.specs.declared.machine.Root.{Root}
 use Rattle.tg_rights.specs.declared.kind.Kind.TheVariants.{Subject}
 use Rattle.tg_collect.specs.Machine.{assuming, with_agent, with_principal, with_target, without_principal}
 use Rattle.tg_collect.specs.Stored.{Stored}
-use Rattle.tg_collect.specs.Readings.{shown, spot, place, progress, held, free_slots, pending_of, IsEdgeIn, IsRootAt, principals, pending, agents}
+use Rattle.tg_collect.specs.Readings.{shown, spot, place, held, free_slots, pending_of, IsEdgeIn, IsRootAt, principals, pending, agents}
 
 -- the shade step of a seat that returns its target, which is in some slot
 pub record TargetShaded (v w : Stored) (seat x : ℕ) : Type 0 where
@@ -35,6 +35,7 @@ pub record EdgeStored (v w : Stored) (seat x y : ℕ) (rights : Letters) : Type 
   pub new : (IsEdgeIn v x y → ⊥) → v.free_cells ≡ w.free_cells + 1
   pub left : w.left ≤ v.left
   pub slot : ℕ
+  pub place : place v slot ≡ Some x
   pub owner : Spot
   pub at : spot v slot ≡ Some owner
   pub edges : List Edge
@@ -62,12 +63,13 @@ pub record VertexStored (v w : Stored) (seat x serial : ℕ) (kind : Kind) (text
   pub free_cells : v.free_cells ≡ w.free_cells + 1
   pub left : w.left ≤ v.left
   pub slot : ℕ
+  pub place : place v slot ≡ Some x
   pub owner : Spot
   pub at : spot v slot ≡ Some owner
   pub edges : List Edge
   pub leads : (e : Edge) → Contains edges e → LedTo owner.edges e ⊎ (e.serial ≡ serial)
   pub is : w ≡ record v {
-    slots = set (set v.slots new (Some (record { serial = serial; kind = kind; text = text; edges = []; colour = new_colour (progress v) new }))) slot (Some (record owner { edges = edges }));
+    slots = set (set v.slots new (Some (record { serial = serial; kind = kind; text = text; edges = []; colour = new_colour v.stage new }))) slot (Some (record owner { edges = edges }));
     roots = with_target v.roots seat (Some (record { serial = serial; slot = new }));
     free_cells = w.free_cells;
     left = w.left;
@@ -89,7 +91,7 @@ pub record Assumed (v w : Stored) (seat x : ℕ) : Type 0 where
   pub place : place v slot ≡ Some x
   pub is : w ≡ record v { roots = assuming v.roots seat (record { serial = x; slot = slot }) }
 
--- the seat has no agent any longer, who is a root then only as another one
+-- the seat has no agent any longer; who was is a root only if still a principal, or a target or agent of some seat
 abbrev pub Left : Stored → Stored → ℕ → Type 0
 Left v w seat = w ≡ record v { roots = with_agent v.roots seat None }
 
@@ -100,6 +102,7 @@ pub record RightsRemoved (v w : Stored) (x y : ℕ) (rights : Letters) : Type 0 
   pub gone : (IsEdgeIn w x y → ⊥) → w.free_cells ≡ v.free_cells + 1
   pub left : w.left ≤ v.left
   pub slot : ℕ
+  pub place : place v slot ≡ Some x
   pub owner : Spot
   pub at : spot v slot ≡ Some owner
   pub edges : List Edge
@@ -114,6 +117,7 @@ pub record TextReplaced (v w : Stored) (x : ℕ) (text answer : List ℕ) : Type
   pub graph : (next : ℕ) → held w next ≡ record (held v next) { vertices = finmap.insert (held v next).vertices x (record vertex { text = text }) }
   pub left : w.left ≤ v.left
   pub slot : ℕ
+  pub place : place v slot ≡ Some x
   pub owner : Spot
   pub at : spot v slot ≡ Some owner
   pub is : w ≡ record v { slots = set v.slots slot (Some (record owner { text = text })); left = w.left }
@@ -126,6 +130,6 @@ pub record Acted (v w : Stored) (new target : Option ℕ) : Type 0 where
   pub agents : (x : ℕ) → Contains (agents w) (Some x) → Contains (agents v) (Some x) ⊎ (target ≡ Some x)
   pub pending : (x : ℕ) → Contains (pending w) (Some x) → Contains (pending v) (Some x) ⊎ (target ≡ Some x)
   pub slots : length w.slots ≡ length v.slots
-  pub changes : (i : ℕ) → Changes (shown v) (progress v) new target i (spot v i) (spot w i)
+  pub changes : (i : ℕ) → Changes (shown v) v.stage (λ x. new ≡ Some x) (λ x. target ≡ Some x) i (spot v i) (spot w i)
   pub cells : w.cells ≡ v.cells
   pub left : w.left ≤ v.left

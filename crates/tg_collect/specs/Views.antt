@@ -15,7 +15,7 @@ use Rattle.tg_collect.specs.declared.note.Phase.TheVariants.{Idle, Mark, Sweep}
 use Rattle.tg_collect.specs.declared.machine.Root.{Root}
 use Rattle.tg_collect.specs.Machine.{IsListed}
 use Rattle.tg_collect.specs.Stored.{Stored}
-use Rattle.tg_collect.specs.Readings.{phase, progress, shown, spot, mark_in, name, kept, place, IsRootAt, slot_count, free_slots, parked_count, held, triples, principals, pending, agents, IsHeldIn, IsParkedIn, IsRootIn, cycle_bound}
+use Rattle.tg_collect.specs.Readings.{phase, shown, spot, mark_in, name, kept, place, IsRootAt, slot_count, free_slots, parked_count, held, triples, principals, pending, agents, IsHeldIn, IsParkedIn, IsRootIn, cycle_bound}
 
 -- what each store has
 pub record IsStore (v : Stored) : Type 0 where
@@ -26,7 +26,7 @@ pub record IsStore (v : Stored) : Type 0 where
   pub once : (i j x : ℕ) → name v i ≡ Some x → name v j ≡ Some x → i ≡ j
   pub serials : (i : ℕ) → Distinct (map (λ (e : Edge). e.serial) (edges_of (spot v i)))
   pub labelled : (i : ℕ) (e : Edge) → Contains (edges_of (spot v i)) e → is_none e.rights ≡ false
-  -- between cycles nothing is black; in the sweep nothing is that it has passed, and nothing is grey that it has not
+  -- between cycles nothing is black; in the sweep no slot that it has passed is black, and none that it has not is grey
   pub idle : v.stage ≡ stage.Idle → (i : ℕ) → mark_in v i ≢ Has Black
   pub swept : (k : ℕ) → v.stage ≡ stage.Sweep k → ((i : ℕ) → i < k → mark_in v i ≢ Has Black) × ((i : ℕ) → k ≤ i → mark_in v i ≢ Has Grey)
   -- by serials
@@ -47,20 +47,6 @@ pub record IsStore (v : Stored) : Type 0 where
   pub some_left : 1 ≤ v.left
   pub most_left : v.left ≤ cycle_bound (slot_count v) v.cells
 
--- the phase after a collector step, and whether the step ended a cycle
-abbrev pub Follows : Phase → Phase → Bool → Type 0
-Follows Idle Mark false = Unit {0}
-Follows Mark Mark false = Unit {0}
-Follows Mark Sweep false = Unit {0}
-Follows Sweep Sweep false = Unit {0}
-Follows Sweep Idle true = Unit {0}
-Follows _ _ _ = ⊥
-
--- only the step into the sweep changes what is held
-abbrev pub Stays : Phase → Phase → Type 0
-Stays Mark Sweep = ⊥
-Stays _ _ = Unit {0}
-
 -- how many marks a step may change, by the phase before it
 abbrev pub most_marks : Phase → ℕ
 most_marks Idle = MAX_PRINCIPALS + SEATS
@@ -73,18 +59,17 @@ pub record ChangesMarks (before after : ℕ → table.Mark) (most : ℕ) : Type 
   pub count : length slots ≤ most
   pub others : (i : ℕ) → (Contains slots i → ⊥) → after i ≡ before i
 
--- one collector step, the slots that it freed, and whether it ended a cycle. `step` says what it does to each slot, and
--- why; that only the step into the sweep changes what is held; and that this step parks what is not black, finds nothing
--- grey, and leaves what is black in its slot, with its edges.
-pub record Collected (v w : Stored) (count : ℕ) (ended : Bool) : Type 0 where
-  pub step : marking.Collected (shown v) (progress v) (shown w) (progress w) ended
-  pub phases : Follows (phase v) (phase w) ended
-  pub held : Stays (phase v) (phase w) → (next : ℕ) → held w next ≡ held v next
+-- one collector step, the slots that it freed, and whether it ended a cycle. `step` says which phase follows; what the
+-- step does to each slot, and why; that only the step into the sweep changes what is held; and that this step parks
+-- what is not black, finds nothing grey, and leaves what is black in its slot, with its edges.
+pub record Collected (v w : Stored) (freed_slots : ℕ) (ended : Bool) : Type 0 where
+  pub step : marking.Collected (shown v) v.stage (shown w) w.stage ended
+  pub held : marking.Stays v.stage w.stage → (next : ℕ) → held w next ≡ held v next
   pub roots : w.roots ≡ v.roots
   pub cells : w.cells ≡ v.cells
-  pub freed : (phase v ≡ Sweep) ⊎ (count ≡ 0)
-  pub few : count ≤ 1
-  pub free_slots : free_slots w ≡ free_slots v + count
+  pub freed : (phase v ≡ Sweep) ⊎ (freed_slots ≡ 0)
+  pub few : freed_slots ≤ 1
+  pub free_slots : free_slots w ≡ free_slots v + freed_slots
   pub free_cells : (v.free_cells ≤ w.free_cells) × (w.free_cells ≤ v.free_cells + 1)
   pub marks : ChangesMarks (mark_in v) (mark_in w) (most_marks (phase v))
   pub left : (ended ≡ true) ⊎ (w.left < v.left)

@@ -3,8 +3,8 @@ ghost use Rattle.std.specs.Prelude.{◌≡◌, ◌<◌, ◌++◌, length, IfOk, 
 ghost use Rattle.std.specs.Option.{option_to_list};
 ghost use Rattle.tg_graph.specs.Parts.{Before};
 ghost use Rattle.tg_heap.specs.Graph.{HeapGraph};
-ghost use Rattle.tg_marking.specs.Values.{keeps_at, shown};
-ghost use Rattle.tg_collect.specs.Figures.{Shows, arrows, arrows_from, figure, from_at};
+ghost use Rattle.tg_marking.specs.Values.{keeps, shown};
+ghost use Rattle.tg_collect.specs.Figures.{Shows, arrows, arrows_from, figure, source_at};
 ghost use Rattle.tg_collect.specs.Machine.{progress_in};
 ghost use Rattle.tg_collect.specs.Parts.{AreFound};
 ghost use Rattle.tg_collect.specs.Stored.{stored};
@@ -78,14 +78,14 @@ impl Machine {
     pub(crate) fn arrows(
         &self,
         alloc: Global,
-        parked: bool,
+        with_parked: bool,
     ) -> Result<Vec<(u64, Rights, u64)>, AllocError>
         requires { IsStore (stored self.now) }
-        ensures { IfOk result (λ found. AreFound (arrows (stored self.now) parked) Before found.items) }
+        ensures { IfOk result (λ found. AreFound (arrows (stored self.now) with_parked) Before found.items) }
     {
         let mut found = Vec::new(alloc);
         for slot in 0..self.heap.len() {
-            let from = self.from_at(slot, parked);
+            let from = self.source_at(slot, with_parked);
             self.add_arrows(&mut found, from, slot)?;
         }
         found.sort_unstable_by_key(|arrow| (arrow.0, arrow.2));
@@ -93,14 +93,14 @@ impl Machine {
     }
 
     /// The serial of a slot's vertex; none if it has none, or if this waits to be swept and those are left out.
-    fn from_at(&self, id: u32, parked: bool) -> Option<u64>
+    fn source_at(&self, id: u32, with_parked: bool) -> Option<u64>
         requires { id < length self.now.heap.table.slots }
-        ensures { result ≡ from_at (stored self.now) parked id }
+        ensures { result ≡ source_at (stored self.now) with_parked id }
     {
         match self.figure_at(id) {
             None => None,
             Some(shown) => {
-                if parked || shown.is_held {
+                if with_parked || shown.is_held {
                     Some(shown.serial)
                 } else {
                     None
@@ -138,7 +138,7 @@ impl Machine {
 impl Progress {
     /// Whether a vertex of this colour in a slot is held; else it waits to be swept.
     fn keeps(self, id: u32, colour: Colour) -> bool
-        ensures { (h : HeapGraph) → result ≡ keeps_at (shown (progress_in h self)) id colour }
+        ensures { (h : HeapGraph) → result ≡ keeps (shown (progress_in h self)) id colour }
     {
         match self {
             Progress::Idle => true,

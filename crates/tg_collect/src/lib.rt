@@ -15,6 +15,7 @@ mod reader;
 mod roster;
 #[cfg(test)]
 mod scripts;
+mod sessions;
 mod store;
 #[cfg(test)]
 mod tests;

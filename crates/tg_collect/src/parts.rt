@@ -1,6 +1,7 @@
 //! What is held, in lists.
-ghost use Rattle.std.specs.Prelude.{◌≡◌, ◌<◌, length, IfOk};
+ghost use Rattle.std.specs.Prelude.{◌≡◌, ◌<◌, length, map, IfOk};
 ghost use Rattle.std.specs.Option.{option_to_list};
+ghost use Rattle.tg_heap.specs.Graph.{edges};
 ghost use Rattle.tg_collect.specs.Parts.{AreFound, ListsHeld, listed};
 ghost use Rattle.tg_collect.specs.Stored.{stored};
 ghost use Rattle.tg_collect.specs.Views.{IsStore};
@@ -57,5 +58,20 @@ impl Machine {
                 Ok(Some((shown.serial, shown.kind, text)))
             }
         }
+    }
+
+    /// The serials and labels of a slot's edges, in the order of its cells.
+    pub fn edge_list(&self, alloc: Global, id: u32) -> Result<Vec<(u64, Rights)>, AllocError>
+        requires { id < length self.now.heap.table.slots }
+        ensures { IfOk result (λ list. list.items ≡ map (λ e. (e.serial, e.rights)) (edges self.now.heap id)) }
+    {
+        self.heap.soundness();
+        let mut list = Vec::new(alloc);
+        let mut cursor = self.heap.first(id);
+        while let Some(cell) = cursor {
+            list.push((self.heap.target_serial(cell), self.heap.label(cell)))?;
+            cursor = self.heap.next(cell);
+        }
+        Ok(list)
     }
 }

@@ -9,7 +9,7 @@ use std::alloc::{AllocError, Global};
 use std::marker::Model;
 use tg_rights::MAX_PRINCIPALS;
 
-/// The principals by rising serials, seen as their list. There is room for as many as there may be.
+/// The principals in the order in which they came, seen as their list. There is room for as many as there may be.
 #[derive(Drop)]
 pub(crate) struct Roster {
     roots: Vec<Root>,

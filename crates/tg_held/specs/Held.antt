@@ -28,7 +28,7 @@ triples [] = []
 triples (None ∷ os) = triples os
 triples (Some k ∷ os) = triples_from k.serial k.edges ++ triples os
 
--- (a store has no names, and nobody in it has retired)
+-- (a store knows no names, nor who has retired)
 abbrev pub held : List (Option Kept) → ℕ → Protection
 held os next = record { vertices = finmap.from_entries (entries os); next = next; triples = finset.from_list (triples os); names = []; retired = finset.empty }
 
@@ -52,7 +52,7 @@ Drops = (os : List (Option Kept)) (i next : ℕ) (k : Kept) (before : List Edge)
     → (es ≡ before ++ record e { rights = without e.rights rights } ∷ after) ⊎ ((es ≡ before ++ after) × (without e.rights rights ≡ none))
     → held (set os i (Some (record k { edges = es }))) next ≡ record (held os next) { triples = finset.difference (held os next).triples (edge k.serial rights e.serial) }
 
--- a vertex comes into a free slot, or another text into one
+-- a vertex comes into a free slot, or in place of one with its serial and its edges
 abbrev pub Comes : Type 0
 Comes = (os : List (Option Kept)) (i next : ℕ) (k : Kept) → i < length os → Apart os i k.serial
     → ((get_or os i None ≡ None) × (k.edges ≡ [])) ⊎ ((o : Kept) × (get_or os i None ≡ Some o) × (o.serial ≡ k.serial) × (o.edges ≡ k.edges))

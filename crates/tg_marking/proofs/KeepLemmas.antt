@@ -7,22 +7,22 @@ use Rattle.tg_rights.proofs.MembershipLemmas.{contains_append, contains_middle}
 use Rattle.tg_marking.specs.Values.{White, Grey, Black, Has, Edge, Contains, Distinct, Roots, HasTarget, Spot, Scan, Progress, AtRest, Marking, Sweeping, Body, spot, mark, mark_of, out, edges_of, name_of, IsRoot, IsTarget, seen, Kept, kept, Stage, Mark, Sweep, shown}
 use Rattle.tg_marking.specs.Steps.{put, shade, shade_all, Line, starts, scans, blackens, takes, shades_target, starts_sweep, skips, whitens, strips, frees, finishes}
 use Rattle.tg_marking.specs.Invariant.{Leads, IsScanned, Greys, Covered, Phased, Invariant, at_root, along, IsLive}
-use Rattle.tg_marking.specs.Collected.{IsCalled, Turns, stays, greys as turns_grey, blackens as turns_black, whitens as turns_white, strips as loses_edge, frees as turns_free, Stays, Follows, begins, marks, parks, sweeps, passes, ends, Collected}
+use Rattle.tg_marking.specs.Collected.{IsCalled, Turns, stays, greys as turns_grey, blackens as turns_black, whitens as turns_white, strips as loses_edge, frees as turns_free, Stays, Follows, begins, marks, parks, sweeps, passes, ends, Collected, without_grey}
 use Rattle.tg_marking.proofs.SpotLemmas.{at_within, mark_is, kept_edges, put_each, shade_each, shade_done, shade_roots, shade_size, shade_marks, same_root, closed_same, shade_greys, shade_tricolour, put_greys}
 
 abbrev Keeps : Body → Progress → Body → Progress → Bool → Type 0
-Keeps b p b' p' e = Invariant b' p' × Collected b p b' p' e
+Keeps b p b' p' e = Invariant b' p' × Collected (without_grey b) (shown p) (without_grey b') (shown p') e
 
-pub turns_name : (b : Body) (p : Progress) (i x : ℕ) (o o' : Option Spot) → Turns (IsCalled b) (shown p) i o o' → name_of o' ≡ Some x → name_of o ≡ Some x
-turns_name b p i x o o' t e = grind arith
+pub turns_name : (b : Body) (g : Stage) (i x : ℕ) (o o' : Option Spot) → Turns (IsCalled b) g i o o' → name_of o' ≡ Some x → name_of o ≡ Some x
+turns_name b g i x o o' t e = grind arith
 
 -- A line that leaves what is held, which all do but the one that starts the sweep.
 keeps_by : (b b' : Body) (p p' : Progress) (e : Bool) → Stays (shown p) (shown p') → Follows (length b.slots) (shown p) (shown p') e → b'.roots ≡ b.roots → length b'.slots ≡ length b.slots
-    → ((i : ℕ) → Turns (IsCalled b) (shown p) i (spot b i) (spot b' i)) → ((i : ℕ) → kept b' p' i ≡ kept b p i) → Greys b' (IsScanned p') → Phased b' p' → Invariant b p → Keeps b p b' p' e
+    → ((i : ℕ) → Turns (IsCalled b) (shown p) i (spot b i) (spot b' i)) → ((i : ℕ) → kept b' (shown p') i ≡ kept b (shown p) i) → Greys b' (IsScanned p') → Phased b' p' → Invariant b p → Keeps b p b' p' e
 keeps_by b b' p p' e stay follows roots size turns held greys phase g = (
   record {
-    closed = closed_same (kept b p) (kept b' p') (IsRoot b) (IsRoot b') held (λ i r. same_root b b' i roots r) g.closed;
-    once = λ i j x h k. g.once i j x (turns_name b p i x (spot b i) (spot b' i) (turns i) h) (turns_name b p j x (spot b j) (spot b' j) (turns j) k);
+    closed = closed_same (kept b (shown p)) (kept b' (shown p')) (IsRoot b) (IsRoot b') held (λ i r. same_root b b' i roots r) g.closed;
+    once = λ i j x h k. g.once i j x (turns_name b (shown p) i x (spot b i) (spot b' i) (turns i) h) (turns_name b (shown p) j x (spot b j) (spot b' j) (turns j) k);
     greys = greys;
     phase = phase;
   },
@@ -64,7 +64,7 @@ all_dark b (Some j ∷ rs) i c w =
     let rest = all_dark b rs i in let done = shade_done (shade_all b rs) j in let marks = shade_marks (shade_all b rs) j i in grind arith
 
 -- The lines that shade.
-shades_keep : (b c : Body) (p : Progress) (t : Option Scan) → Stays (shown p) Mark → ((k : ℕ) → shown p ≢ Sweep k) → ((j : ℕ) (o : Option Spot) → seen (Marking t) j o ≡ seen p j o)
+shades_keep : (b c : Body) (p : Progress) (t : Option Scan) → Stays (shown p) Mark → ((k : ℕ) → shown p ≢ Sweep k) → ((j : ℕ) (o : Option Spot) → seen Mark j o ≡ seen (shown p) j o)
     → Follows (length b.slots) (shown p) Mark false → Greys b (IsScanned (Marking t)) → Shades b c (IsCalled b) (IsScanned (Marking t)) → Phased c (Marking t) → Invariant b p → Keeps b p c (Marking t) false
 shades_keep b c p t stay marking same follows grey k phase g = keeps_by b c p (Marking t) false stay follows k.roots k.size
     (λ j. elim (k.slots j) [ inl is ↦ rw is (stays (spot b j)) | inr (s, is, w, now, called) ↦ rw (is, now) (turns_grey s w marking called) ])
@@ -72,10 +72,10 @@ shades_keep b c p t stay marking same follows grey k phase g = keeps_by b c p (M
 
 -- The lines of the sweep, which change the slot that it is at, and move on or not.
 swept_keeps : (b : Body) (k m : ℕ) (o : Option Spot) → k < length b.slots → k ≤ m → m ≤ k + 1 → Follows (length b.slots) (Sweep k) (Sweep m) false → Turns (IsCalled b) (Sweep k) k (spot b k) o
-    → seen (Sweeping m) k o ≡ kept b (Sweeping k) k → mark_of o ≢ Has Black → mark_of o ≢ Has Grey → Invariant b (Sweeping k) → Keeps b (Sweeping k) (put b k o) (Sweeping m) false
+    → seen (Sweep m) k o ≡ kept b (Sweep k) k → mark_of o ≢ Has Black → mark_of o ≢ Has Grey → Invariant b (Sweeping k) → Keeps b (Sweeping k) (put b k o) (Sweeping m) false
 swept_keeps b k m o within low high follows turns held black grey g = keeps_by b (put b k o) (Sweeping k) (Sweeping m) false tt follows refl (length-set b.slots k o)
     (put_each (λ j q. Turns (IsCalled b) (Sweep k) j (spot b j) q) b k o within turns (λ j n. stays (spot b j)))
-    (put_each (λ j q. seen (Sweeping m) j q ≡ kept b (Sweeping k) j) b k o within held (λ j n. grind (arith, nat_tests)))
+    (put_each (λ j q. seen (Sweep m) j q ≡ kept b (Sweep k) j) b k o within held (λ j n. grind (arith, nat_tests)))
     (put_greys b k o (λ j. ⊥) (λ j. ⊥) within grey (λ w. g.phase.1 k (omega arith) (g.greys.waits k w)) (λ j n x. x) (λ j x. absurd x) g.greys) (
       put_each (λ i q. i < m → mark_of q ≢ Has Black) b k o within (λ h. black) (λ i n h. g.phase.0 i (omega (arith, h, n, high))),
       put_each (λ i q. m ≤ i → mark_of q ≢ Has Grey) b k o within (λ h. grey) (λ i n h. g.phase.1 i (omega (arith, h, n, low))),
@@ -86,20 +86,20 @@ module _ (b : Body) (g : Invariant b (Marking None)) (l : b.grey ≡ []) (t : (i
   not_grey : (i : ℕ) → mark b i ≢ Has Grey
   not_grey i d = elim (g.greys.known i d) [ inl w ↦ subst (λ (xs : List ℕ). Contains xs i) l w | inr bad ↦ bad ]
 
-  was_black : (i : ℕ) (k : Kept) → kept b (Sweeping 0) i ≡ Some k → (kept b (Marking None) i ≡ Some k) × (mark b i ≡ Has Black)
+  was_black : (i : ℕ) (k : Kept) → kept b (Sweep 0) i ≡ Some k → (kept b Mark i ≡ Some k) × (mark b i ≡ Has Black)
   was_black i k h = let n = not_grey i in grind (arith, nat_tests)
 
-  held_black : (i : ℕ) (k : Kept) → kept b (Marking None) i ≡ Some k → Covered b i → (mark b i ≡ Has Black) × (kept b (Sweeping 0) i ≡ Some k)
+  held_black : (i : ℕ) (k : Kept) → kept b Mark i ≡ Some k → Covered b i → (mark b i ≡ Has Black) × (kept b (Sweep 0) i ≡ Some k)
   held_black i k h c = let n = not_grey i in let w = t i in grind arith
 
   -- What a black slot's edges lead to is black, and stays held.
-  next_black : (i : ℕ) (k : Kept) (e : Edge) → mark b i ≡ Has Black → kept b (Marking None) i ≡ Some k → Contains k.edges e → (mark b e.target ≡ Has Black) × Leads (kept b (Sweeping 0)) i e
+  next_black : (i : ℕ) (k : Kept) (e : Edge) → mark b i ≡ Has Black → kept b Mark i ≡ Some k → Contains k.edges e → (mark b e.target ≡ Has Black) × Leads (kept b (Sweep 0)) i e
   next_black i k e d h o =
       let there = g.closed.edges i k e h o in
-      let black = held_black e.target there.0 there.1 (g.phase.black i e d (subst (λ (es : List Edge). Contains es e) (sym (kept_edges (Marking None) i (spot b i) k h)) o)) in
+      let black = held_black e.target there.0 there.1 (g.phase.black i e d (subst (λ (es : List Edge). Contains es e) (sym (kept_edges Mark i (spot b i) k h)) o)) in
       (black.0, (there.0, black.1, there.2, there.3))
 
-  live_black : (i : ℕ) → IsLive b (Marking None) i → mark b i ≡ Has Black
+  live_black : (i : ℕ) → IsLive b Mark i → mark b i ≡ Has Black
   live_black i (at_root _ r) = let k = g.closed.roots i r in (held_black i k.0 k.1 (g.phase.roots i r)).0
   live_black _ (along i k e r h o) = (next_black i k e (live_black i r) h o).0
 
@@ -163,7 +163,7 @@ lines b _ _ _ _ _ (blackens i s is) g =
     let white = put_each (λ j o. mark_of o ≡ Has White → mark b j ≡ Has White) b i black within (λ w. absurd (cc)) (λ j n w. w) in
     keeps_by b (put b i black) (Marking (Some (record { slot = i; rest = [] }))) (Marking None) false tt marks refl (length-set b.slots i _)
     (put_each (λ j o. Turns (IsCalled b) Mark j (spot b j) o) b i black within (rw is (turns_black s (let m = (g.greys.scanned i refl).0 in let k = ap mark_of is in cc) (λ k e. cc))) (λ j n. stays (spot b j)))
-    (put_each (λ j o. seen (Marking None) j o ≡ kept b (Marking None) j) b i black within (rw is refl) (λ j n. refl))
+    (put_each (λ j o. seen Mark j o ≡ kept b Mark j) b i black within (rw is refl) (λ j n. refl))
     (put_greys b i black (λ j. j ≡ i) (λ j. ⊥) within (λ e. cc) (g.greys.scanned i refl).1 (λ j n e. n e) (λ j x. absurd x) g.greys)
     (record {
       roots = λ j r w. g.phase.roots j r (white j w);
@@ -202,5 +202,5 @@ lines b _ _ _ _ _ (finishes k l) g = keeps_by b b (Sweeping k) AtRest true tt (e
 pub line_keeps : (b b' : Body) (p p' : Progress) (n : ℕ) (e : Bool) → Line b p b' p' n e → Invariant b p → Invariant b' p'
 line_keeps b b' p p' n e l g = (lines b b' p p' n e l g).0
 
-pub line_collected : (b b' : Body) (p p' : Progress) (n : ℕ) (e : Bool) → Line b p b' p' n e → Invariant b p → Collected b p b' p' e
+pub line_collected : (b b' : Body) (p p' : Progress) (n : ℕ) (e : Bool) → Line b p b' p' n e → Invariant b p → Collected (without_grey b) (shown p) (without_grey b') (shown p') e
 line_collected b b' p p' n e l g = (lines b b' p p' n e l g).1

@@ -5,7 +5,7 @@ use Rattle.std.proofs.lemmas.Bool.Decides.{nat_tests}
 use Rattle.std.proofs.lemmas.List.{length-map}
 use Rattle.tg_rights.proofs.MembershipLemmas.{contains_map}
 use Rattle.tg_index.proofs.RowLemmas.{few}
-use Rattle.tg_marking.specs.Values.{White, Grey, Has, Edge, Contains, Distinct, Kind, Roots, Spot, Progress, AtRest, Marking, Sweeping, Body, spot, mark, out, keeps, as_kept, kept}
+use Rattle.tg_marking.specs.Values.{White, Grey, Has, Edge, Contains, Distinct, Kind, Roots, Spot, Progress, AtRest, Marking, Sweeping, Body, spot, mark, out, keeps, as_kept, kept, Sweep, shown}
 use Rattle.tg_marking.specs.Steps.{put, shade, shade_all, new_colour, Line, starts, scans, blackens, takes, shades_target, starts_sweep, skips, whitens, strips, frees, finishes, PutsEdge, Places, DropsEdge, Rewrites, Trims, ahead}
 use Rattle.tg_marking.specs.Invariant.{Invariant, Leads}
 use Rattle.tg_marking.specs.Left.{total, weight, slot_left, phase_left, parked_cells, bound, left, Celled, IsBounded, free_one, held_one, parked_one, held_cells, IsCounted, NeverRaises}
@@ -39,15 +39,15 @@ distinct_by f g (x ∷ xs) h d = (
 out_few : (b : Body) (p : Progress) (i : ℕ) → Invariant b p → mark b i ≡ Has Grey → Distinct (map (λ (e : Edge). e.serial) (out b i)) → length (out b i) < length b.slots
 out_few b p i g grey once =
     let s = mark_is (spot b i) Grey grey in
-    let held : kept b p i ≡ Some (as_kept s.0) = (let at = s.1 in let c = s.2 in grind arith) in
-    let leads : (e : Edge) → Contains (out b i) e → Leads (kept b p) i e = λ e o. g.closed.edges i (as_kept s.0) e held (rw s.1 at o) in
+    let held : kept b (shown p) i ≡ Some (as_kept s.0) = (let at = s.1 in let c = s.2 in grind arith) in
+    let leads : (e : Edge) → Contains (out b i) e → Leads (kept b (shown p)) i e = λ e o. g.closed.edges i (as_kept s.0) e held (rw s.1 at o) in
     let apart = distinct_by (λ (e : Edge). e.serial) (λ (e : Edge). e.target) (out b i)
     (λ x y c d same. let a = leads x c in let z = leads y d in grind arith) once in
     let all = few (length b.slots) (i ∷ map (λ (e : Edge). e.target) (out b i))
     (λ c. let m = contains_mapped (λ (e : Edge). e.target) (out b i) i c in (leads m.0 m.1).3 m.2, apart)
     (λ x c. elim c [
       | inl is ↦ rw is (at_within b.slots i s.0 s.1)
-      | inr o ↦ (let m = contains_mapped (λ (e : Edge). e.target) (out b i) x o in let l = leads m.0 m.1 in rw m.2 at (kept_within b p m.0.target l.0 l.1))
+      | inr o ↦ (let m = contains_mapped (λ (e : Edge). e.target) (out b i) x o in let l = leads m.0 m.1 in rw m.2 at (kept_within b (shown p) m.0.target l.0 l.1))
     ]) in
     omega (arith, all, length-map (out b i) (λ (e : Edge). e.target))
 
@@ -77,10 +77,10 @@ shade_left b p size i = shade_each (λ j o. slot_left size p j o ≤ slot_left s
 weights_most : (b : Body) (size : ℕ) → total (λ i. weight size (mark b i)) size ≤ size * (size + 2)
 weights_most b size = omega (arith, total_le (λ i. weight size (mark b i)) (λ i. size + 2) size (λ i. grind arith), total_same size (size + 2))
 
-parked_few : (b : Body) (p : Progress) (cells : ℕ) → Celled b cells → total (λ i. parked_cells p i (spot b i)) (length b.slots) ≤ cells
-parked_few b p cells h = omega (arith, total_le (λ i. parked_cells p i (spot b i)) (λ i. length (out b i)) (length b.slots) (λ i. grind arith), h.few)
+parked_few : (b : Body) (p : Progress) (cells : ℕ) → Celled b cells → total (λ i. parked_cells (shown p) i (spot b i)) (length b.slots) ≤ cells
+parked_few b p cells h = omega (arith, total_le (λ i. parked_cells (shown p) i (spot b i)) (λ i. length (out b i)) (length b.slots) (λ i. grind arith), h.few)
 
-parked_next : (k i : ℕ) (o : Option Spot) → i ≢ k → parked_cells (Sweeping (k + 1)) i o ≤ parked_cells (Sweeping k) i o
+parked_next : (k i : ℕ) (o : Option Spot) → i ≢ k → parked_cells (Sweep (k + 1)) i o ≤ parked_cells (Sweep k) i o
 parked_next k i o n = grind (arith, nat_tests)
 
 line_less : (b b' : Body) (p p' : Progress) (n cells : ℕ) (e : Bool) → Line b p b' p' n e → e ≡ false → Invariant b p → Celled b cells → left cells b' p' + 1 ≤ left cells b p
@@ -119,7 +119,7 @@ pub left_some : (b : Body) (p : Progress) (cells : ℕ) → 1 ≤ left cells b p
 left_some b p cells = grind arith
 
 pub bounded : IsBounded
-bounded b b' p p' n cells l g h = (omega (arith, line_less b b' p p' n cells false l refl g h), left_most b p cells g h, left_some b p cells)
+bounded = record { lower = λ b b' p p' n cells l g h. omega (arith, line_less b b' p p' n cells false l refl g h); most = left_most; some = left_some }
 
 -- What session steps leave of a cycle: a vertex that is held may change, and one may lose edges.
 pub same_roots : (b : Body) (p : Progress) (cells : ℕ) (rs : Roots) → left cells (record b { roots = rs }) p ≡ left cells b p
@@ -128,18 +128,18 @@ same_roots b p cells rs = refl
 pub left_shade : (b : Body) (p : Progress) (i cells : ℕ) → left cells (shade b i) p ≤ left cells b p
 left_shade b p i cells = omega (arith, left_le b (shade b i) p p cells 0 (shade_size b i) (omega arith) (shade_left b p (length b.slots) i))
 
-left_regards : (b : Body) (p : Progress) (i cells : ℕ) (s : Spot) (es : List Edge) (text : List ℕ) → spot b i ≡ Some s → (keeps p i s.colour ≡ true) ⊎ (length es ≤ length s.edges)
+left_regards : (b : Body) (p : Progress) (i cells : ℕ) (s : Spot) (es : List Edge) (text : List ℕ) → spot b i ≡ Some s → (keeps (shown p) i s.colour ≡ true) ⊎ (length es ≤ length s.edges)
     → left cells (put b i (Some (record s { edges = es; text = text }))) p ≤ left cells b p
 left_regards b p i cells s es text at fewer =
     omega (arith, left_put b p p i cells 0 (Some (record s { edges = es; text = text })) (at_within b.slots i s at) (grind arith) (λ j n. omega arith))
 
 pub left_puts : (b b' : Body) (p : Progress) (i cells : ℕ) (new : Edge) → PutsEdge b p i new b' → left cells b' p ≤ left cells b p
-left_puts b b' p i cells new s = rw s.is (left_regards b p i cells s.owner (new ∷ s.owner.edges) s.owner.text s.at (inl (held_keeps b p i s.held.0 s.held.1 s.owner s.at)))
+left_puts b b' p i cells new s = rw s.is (left_regards b p i cells s.owner (new ∷ s.owner.edges) s.owner.text s.at (inl (held_keeps b (shown p) i s.held.0 s.held.1 s.owner s.at)))
 
 pub left_places : (b b' : Body) (p : Progress) (i serial cells : ℕ) (kind : Kind) (text : List ℕ) → Places b p i serial kind text b' → left cells b' p ≤ left cells b p
 left_places b b' p i serial cells kind text s = rw s.is (omega (
   arith,
-  left_put b p p i cells 0 (Some (record { serial = serial; kind = kind; text = text; edges = []; colour = new_colour p i })) s.inside (rw s.free (grind arith)) (λ j n. omega arith),
+  left_put b p p i cells 0 (Some (record { serial = serial; kind = kind; text = text; edges = []; colour = new_colour (shown p) i })) s.inside (rw s.free (grind arith)) (λ j n. omega arith),
 ))
 
 pub left_rewrites : (b b' : Body) (p : Progress) (i cells : ℕ) (text : List ℕ) → Rewrites b i text b' → left cells b' p ≤ left cells b p
@@ -165,9 +165,9 @@ never_raises = record { roots = same_roots; shades = left_shade; puts_edge = lef
 
 pub counted : IsCounted
 counted = record {
-  slots = λ b p.
-      let used = total_two (λ i. free_one (spot b i)) (λ i. held_one (kept b p i)) (λ i. free_one (spot b i) + held_one (kept b p i)) (length b.slots) (λ i. refl) in
-      let all = total_two (λ i. free_one (spot b i) + held_one (kept b p i)) (λ i. parked_one p i (spot b i)) (λ i. 1) (length b.slots) (λ i. grind arith) in
+  slots = λ b g.
+      let used = total_two (λ i. free_one (spot b i)) (λ i. held_one (kept b g i)) (λ i. free_one (spot b i) + held_one (kept b g i)) (length b.slots) (λ i. refl) in
+      let all = total_two (λ i. free_one (spot b i) + held_one (kept b g i)) (λ i. parked_one g i (spot b i)) (λ i. 1) (length b.slots) (λ i. grind arith) in
       omega (arith, used, all, total_same (length b.slots) 1);
-  cells = λ b p. total_two (λ i. held_cells (kept b p i)) (λ i. parked_cells p i (spot b i)) (λ i. length (out b i)) (length b.slots) (λ i. grind arith);
+  cells = λ b g. total_two (λ i. held_cells (kept b g i)) (λ i. parked_cells g i (spot b i)) (λ i. length (out b i)) (length b.slots) (λ i. grind arith);
 }

@@ -1,14 +1,14 @@
 -- What was not live has no slot once two cycles have ended; without sessions three cycles leave what is live.
 use Rattle.std.proofs.Common.{◌≡◌, ◌≢◌, ℕ, zero, suc, ◌-◌, ◌≤◌, Bool, true, false, cond, Option, Some, ◌⊎◌, inl, inr, sym, ◌∙◌, subst, refl, arith, length, ◌+◌, ap}
 use Rattle.std.proofs.lemmas.Bool.Decides.{nat_tests}
-use Rattle.tg_marking.specs.Values.{Colour, White, Grey, Black, Edge, Contains, Roots, HasRoot, Spot, Progress, AtRest, Body, spot, IsRoot, keeps_at, Kept, as_kept, kept, Stage, Sweep, shown, seen}
+use Rattle.tg_marking.specs.Values.{Colour, White, Grey, Black, Edge, Contains, Roots, HasRoot, Spot, Stage, Idle, Sweep, Body, spot, IsRoot, keeps, Kept, as_kept, kept, seen}
 use Rattle.tg_marking.specs.Invariant.{at_root, along, IsLive}
-use Rattle.tg_marking.specs.Collected.{IsCalled, Turns, stays, greys, blackens, whitens, strips, frees, Stays, Follows, begins, marks, parks, ends as ended, Parks, Collected, bare}
-use Rattle.tg_marking.specs.Runs.{Sane, IsLiveIn, Changes, same, shaded, regards, comes, Acted, RunOf, begin, acts, goes, ends, IsComplete, Settles}
+use Rattle.tg_marking.specs.Collected.{IsCalled, Turns, stays, greys, blackens, whitens, strips, frees, Stays, Follows, begins, marks, parks, ends as ended, Parks, Collected}
+use Rattle.tg_marking.specs.Runs.{Sane, IsLiveIn, IsLiveOrNew, Changes, same, shaded, regards, comes, Acted, RunOf, begin, acts, goes, ends, IsComplete, Settles}
 use Rattle.tg_marking.proofs.SpotLemmas.{contains_mapped, seen_is}
 
 -- Roots are good, and edges of good ones lead to good ones.
-record Fence (good : ℕ → Type 0) (b : Body) (p : Progress) : Type 0 where
+record Fence (good : ℕ → Type 0) (b : Body) (p : Stage) : Type 0 where
   roots : (i : ℕ) (k : Kept) → IsRoot b i → kept b p i ≡ Some k → good k.serial
   edges : (i : ℕ) (k : Kept) (e : Edge) → kept b p i ≡ Some k → good k.serial → Contains k.edges e → good e.serial
 
@@ -20,59 +20,63 @@ abbrev Due : ℕ → Stage → ℕ → Colour → Type 0
 Due zero g i c = ⊥
 Due (suc zero) (Sweep k) i c = c ≡ Grey
 Due (suc zero) g i c = ⊥
-Due (suc (suc zero)) (Sweep k) i c = keeps_at (Sweep k) i c ≡ true
+Due (suc (suc zero)) (Sweep k) i c = keeps (Sweep k) i c ≡ true
 Due (suc (suc zero)) g i c = c ≢ White
 Due (suc (suc (suc n))) g i c = Unit {0}
 
 abbrev HowFar : (ℕ → Type 0) → ℕ → Body → Stage → Type 0
 HowFar good n b g = (i : ℕ) (s : Spot) → spot b i ≡ Some s → Due n g i s.colour → good s.serial
 
-abbrev Far : (ℕ → Type 0) → ℕ → Body → Progress → Type 0
-Far good n b p = Fence good b p × HowFar good n b (shown p)
+abbrev Far : (ℕ → Type 0) → ℕ → Body → Stage → Type 0
+Far good n b p = Fence good b p × HowFar good n b p
 
-live_keeps : (good : ℕ → Type 0) (b : Body) (p : Progress) → Sane b p → Fence good b p → (i : ℕ) (k : Kept) → IsLive b p i → kept b p i ≡ Some k → good k.serial
+live_keeps : (good : ℕ → Type 0) (b : Body) (p : Stage) → Sane b p → Fence good b p → (i : ℕ) (k : Kept) → IsLive b p i → kept b p i ≡ Some k → good k.serial
 live_keeps good b p g f i k (at_root _ r) h = f.roots i k r h
 live_keeps good b p g f _ k (along i t e r is o) h =
     let there = g.closed.edges i t e is o in
     let old = f.edges i t e is (live_keeps good b p g f i t r is) o in grind arith
 
+-- More serials are new, and more are targets.
+pub changes_grow : (b : Body) (g : Stage) (N N' T T' : ℕ → Type 0) → ((x : ℕ) → N x → N' x) → ((x : ℕ) → T x → T' x) → (i : ℕ) (o o' : Option Spot) → Changes b g N T i o o' → Changes b g N' T' i o o'
+changes_grow b g N N' T T' n t i _ _ (same o) = same o
+changes_grow b g N N' T T' n t i _ _ (shaded s w r) = shaded s w r
+changes_grow b g N N' T T' n t i _ _ (regards s es text led) = regards s es text (λ e c. elim (led e c) [ inl old ↦ inl old | inr to ↦ inr (t e.serial to) ])
+changes_grow b g N N' T T' n t i _ _ (comes s new colour led) = comes s (n s.serial new) colour (λ e c. t e.serial (led e c))
+
 -- Session steps.
-module _ (good : ℕ → Type 0) (next : ℕ) (fresh : (x : ℕ) → next ≤ x → good x) (b b' : Body) (p : Progress) (g : Sane b p) (a : Acted b p b' next) (f : Fence good b p) where
-  wanted : (x : ℕ) → IsLiveIn b p x ⊎ (next ≤ x) → good x
+module _ (good : ℕ → Type 0) (next : ℕ) (fresh : (x : ℕ) → next ≤ x → good x) (b b' : Body) (p : Stage) (g : Sane b p) (a : Acted b p b' next) (f : Fence good b p) where
+  wanted : (x : ℕ) → IsLiveOrNew b p next x → good x
   wanted x w = let new = fresh x in grind (arith, live_keeps good b p g f)
 
   live : (i : ℕ) (t : Spot) → spot b i ≡ Some t → IsRoot b i → good t.serial
   live i t is r = let k = g.closed.roots i r in let h = f.roots i k.0 r k.1 in grind arith
 
-  news : (x : ℕ) → a.new ≡ Some x → good x
-  news x is = fresh x (a.fresh x is)
-
   slot_acts : (i : ℕ) (P : Colour → Type 0) → ((s : Spot) → spot b i ≡ Some s → P s.colour → good s.serial) → (s : Spot) → spot b' i ≡ Some s → P s.colour → good s.serial
-  slot_acts i P old s is d = let t = a.slots i in grind (arith, live, news)
+  slot_acts i P old s is d = let t = a.slots i in grind (arith, live, fresh)
 
-  edge_acts : (i : ℕ) (o o' : Option Spot) → spot b i ≡ o → Changes b p a.new a.target i o o' → (k : Kept) (e : Edge) → seen p i o' ≡ Some k → good k.serial → Contains k.edges e → good e.serial
+  edge_acts : (i : ℕ) (o o' : Option Spot) → spot b i ≡ o → Changes b p (λ x. next ≤ x) (IsLiveOrNew b p next) i o o' → (k : Kept) (e : Edge) → seen p i o' ≡ Some k → good k.serial → Contains k.edges e → good e.serial
   edge_acts i _ _ at (same o) k e h d c = f.edges i k e (ap (seen p i) at ∙ h) d c
   edge_acts i _ _ at (shaded s w r) k e h d c = f.edges i k e (let root = (g.closed.roots i r).1 in grind arith) d c
   edge_acts i _ _ at (regards s es text led) k e h d c =
       let now = seen_is p i (record s { edges = es; text = text }) k h in
       elim (led e (subst (λ (q : Kept). Contains q.edges e) (sym now.1) c)) [
         | inl old ↦ (let x = contains_mapped (λ (z : Edge). z.serial) s.edges e.serial old in let here = f.edges i (as_kept s) x.0 in grind arith)
-        | inr to ↦ wanted e.serial (a.aimed e.serial to)
+        | inr to ↦ wanted e.serial to
       ]
-  edge_acts i _ _ at (comes s n colour led) k e h d c = wanted e.serial (a.aimed e.serial (led e (subst (λ (q : Kept). Contains q.edges e) (sym (seen_is p i s k h).1) c)))
+  edge_acts i _ _ at (comes s n colour led) k e h d c = wanted e.serial (led e (subst (λ (q : Kept). Contains q.edges e) (sym (seen_is p i s k h).1) c))
 
-  far_acts : (n : ℕ) → HowFar good n b (shown p) → Far good n b' p
+  far_acts : (n : ℕ) → HowFar good n b p → Far good n b' p
   far_acts n old = (
     record {
       roots = λ i k r h. wanted k.serial (a.roots i k r h);
       edges = λ i k e. edge_acts i (spot b i) (spot b' i) refl (a.slots i) k e;
     },
-    λ i. slot_acts i (Due n (shown p) i) (old i),
+    λ i. slot_acts i (Due n p i) (old i),
   )
 
 -- Collector steps.
-module _ (b b' : Body) (p p' : Progress) (e : Bool) (g : Sane b p) (g' : Sane b' p') (c : Collected b p b' p' e) where
-  stays_or : Stays (shown p) (shown p') ⊎ Parks (bare b) (bare b') (shown p) (shown p')
+module _ (b b' : Body) (p p' : Stage) (e : Bool) (g : Sane b p) (g' : Sane b' p') (c : Collected b p b' p' e) where
+  stays_or : Stays p p' ⊎ Parks b b' p p'
   stays_or = let f = c.phases in let w = c.parks in grind arith
 
   -- What is held afterwards was held.
@@ -88,12 +92,12 @@ module _ (b b' : Body) (p p' : Progress) (e : Bool) (g : Sane b p) (g' : Sane b'
   live_stays _ (along i k x l h o) = along i k x (live_stays i l) (live_same i l ∙ h) o
 
   -- Outside the sweep each occupied slot is held.
-  occupied : ((k : ℕ) → shown p ≢ Sweep k) → (i : ℕ) (s : Spot) → spot b i ≡ Some s → kept b p i ≡ Some (as_kept s)
+  occupied : ((k : ℕ) → p ≢ Sweep k) → (i : ℕ) (s : Spot) → spot b i ≡ Some s → kept b p i ≡ Some (as_kept s)
   occupied m i s is = grind arith
 
   module _ (good : ℕ → Type 0) (f : Fence good b p) where
     -- What turns grey is a root, or a good slot's edge leads to it.
-    called_good : Coloured good Grey b → ((k : ℕ) → shown p ≢ Sweep k) → (i : ℕ) (t : Spot) → spot b i ≡ Some t → IsCalled b i → good t.serial
+    called_good : Coloured good Grey b → ((k : ℕ) → p ≢ Sweep k) → (i : ℕ) (t : Spot) → spot b i ≡ Some t → IsCalled b i → good t.serial
     called_good h m i t e (inl r) = f.roots i (as_kept t) r (occupied m i t e)
     called_good h m i t e (inr (j, y, x, at, grey, o, to)) =
         let owner = occupied m j y at in
@@ -105,7 +109,7 @@ module _ (b b' : Body) (p p' : Progress) (e : Bool) (g : Sane b p) (g' : Sane b'
     slot_goes : (P : Colour → Type 0) → Coloured good Grey b → ((i : ℕ) (s : Spot) → spot b i ≡ Some s → P s.colour → good s.serial) → (P White → Coloured good Black b)
         → (i : ℕ) (s : Spot) → spot b' i ≡ Some s → P s.colour → good s.serial
     slot_goes P grey h black i s is w = by (spot b i) (spot b' i) refl is (c.turns i) where
-      by : (o o' : Option Spot) → spot b i ≡ o → o' ≡ Some s → Turns (IsCalled b) (shown p) i o o' → good s.serial
+      by : (o o' : Option Spot) → spot b i ≡ o → o' ≡ Some s → Turns (IsCalled b) p i o o' → good s.serial
       by _ _ e e' (stays o) = h i s (e ∙ e') w
       by _ _ e e' (greys t v m l) = let old = called_good grey m i t e l in grind arith
       by _ _ e e' (blackens t v m) = let old = grey i t e v in grind arith
@@ -113,9 +117,9 @@ module _ (b b' : Body) (p p' : Progress) (e : Bool) (g : Sane b p) (g' : Sane b'
       by _ _ e e' (strips t y r v m l) = let k : s.colour ≡ t.colour = cc in let old = h i t e (subst P k w) in grind arith
       by _ _ e e' (frees t v m l) = absurd (cc)
 
-    progress_goes : (n : ℕ) → HowFar good n b (shown p) → HowFar good (cond e (suc n) n) b' (shown p')
-    progress_goes n h = by n (shown p) (shown p') e c.phases refl refl h where
-      by : (n : ℕ) (q q' : Stage) (e : Bool) → Follows (length b.slots) q q' e → shown p ≡ q → shown p' ≡ q' → HowFar good n b q → HowFar good (cond e (suc n) n) b' q'
+    progress_goes : (n : ℕ) → HowFar good n b p → HowFar good (cond e (suc n) n) b' p'
+    progress_goes n h = by n p p' e c.phases refl refl h where
+      by : (n : ℕ) (q q' : Stage) (e : Bool) → Follows (length b.slots) q q' e → p ≡ q → p' ≡ q' → HowFar good n b q → HowFar good (cond e (suc n) n) b' q'
       by zero _ _ _ (ended k l) a a' h i s is d = absurd d
       by zero _ _ false f a a' h i s is d = absurd d
       by (suc zero) _ _ _ begins a a' h i s is d = absurd d
@@ -128,7 +132,7 @@ module _ (b b' : Body) (p p' : Progress) (e : Bool) (g : Sane b p) (g' : Sane b'
       by (suc (suc zero)) _ _ _ f a a' h i s is d = let k = held_back i (as_kept s) in let here = h i in grind arith
       by (suc (suc (suc n))) q q' e f a a' h i s is d = slot_goes (λ x. Unit {0}) (λ j t at x. h j t at tt) h (λ w j t at x. h j t at tt) i s is tt
 
-    far_goes : (n : ℕ) → HowFar good n b (shown p) → Far good (cond e (suc n) n) b' p'
+    far_goes : (n : ℕ) → HowFar good n b p → Far good (cond e (suc n) n) b' p'
     far_goes n h = (
       record {
         roots = λ i k r h. f.roots i k (subst (λ (q : Roots). HasRoot q i) c.roots r) (held_back i k h);
@@ -138,16 +142,16 @@ module _ (b b' : Body) (p p' : Progress) (e : Bool) (g : Sane b p) (g' : Sane b'
     )
 
 -- Along a run: what each step keeps, by the cycles that have ended.
-run_keeps : (Session : Body → Progress → Body → Type 0) (Q : ℕ → Body → Progress → Type 0) → ((c d : Body) (q : Progress) (n : ℕ) → Session c q d → Sane c q → Q n c q → Q n d q)
-    → ((c d : Body) (q r : Progress) (e : Bool) (n : ℕ) → Collected c q d r e → Sane c q → Sane d r → Q n c q → Q (cond e (suc n) n) d r)
-    → (b : Body) (p : Progress) (m : ℕ) (c : Body) (q : Progress) (n : ℕ) → Sane b p → Q m b p → RunOf Session b p c q n → Sane c q × Q (m + n) c q
+run_keeps : (Session : Body → Stage → Body → Type 0) (Q : ℕ → Body → Stage → Type 0) → ((c d : Body) (q : Stage) (n : ℕ) → Session c q d → Sane c q → Q n c q → Q n d q)
+    → ((c d : Body) (q r : Stage) (e : Bool) (n : ℕ) → Collected c q d r e → Sane c q → Sane d r → Q n c q → Q (cond e (suc n) n) d r)
+    → (b : Body) (p : Stage) (m : ℕ) (c : Body) (q : Stage) (n : ℕ) → Sane b p → Q m b p → RunOf Session b p c q n → Sane c q × Q (m + n) c q
 run_keeps S Q s t b p m _ _ _ g k begin = (g, subst (λ (x : ℕ). Q x b p) (let e : m ≡ m + 0 = omega arith in e) k)
 run_keeps S Q s t b p m _ _ _ g k (acts c d q n w a h) = let old = run_keeps S Q s t b p m c q n g k w in (h, s c d q (m + n) a old.0 old.1)
 run_keeps S Q s t b p m _ _ _ g k (goes c d q r n w a h) = let old = run_keeps S Q s t b p m c q n g k w in (h, t c d q r false (m + n) a old.0 h old.1)
 run_keeps S Q s t b p m _ _ _ g k (ends c d q r n w a h) =
     let old = run_keeps S Q s t b p m c q n g k w in (h, subst (λ (x : ℕ). Q x d r) (let e : suc (m + n) ≡ m + suc n = omega arith in e) (t c d q r true (m + n) a old.0 h old.1))
 
-live_fence : (b : Body) (p : Progress) → Sane b p → Fence (IsLiveIn b p) b p
+live_fence : (b : Body) (p : Stage) → Sane b p → Fence (IsLiveIn b p) b p
 live_fence b p g = record {
   roots = λ i k r h. (i, k, at_root i r, h, refl);
   edges = λ i k e h l o.
@@ -159,14 +163,14 @@ live_fence b p g = record {
 pub complete : IsComplete
 complete b c q next n g below r two i s is =
     let last = run_keeps (λ c q d. Acted c q d next) (Far good) (λ c d q n a k far. far_acts good next (λ x l. inr l) c d q k a far.0 n far.1)
-    (λ c d q r e n a k k' far. far_goes c d q r e k k' a good far.0 n far.1) b AtRest 1 c q n g (fence, λ i s is d. absurd d) r in
+    (λ c d q r e n a k k' far. far_goes c d q r e k k' a good far.0 n far.1) b Idle 1 c q n g (fence, λ i s is d. absurd d) r in
     last.1.1 i s is (rw (let e : 1 + n ≡ suc (suc (suc (n - 2))) = omega (arith, two) in e) tt)
   where
     good : ℕ → Type 0
-    good x = IsLiveIn b AtRest x ⊎ (next ≤ x)
+    good x = IsLiveOrNew b Idle next x
 
-    fence : Fence good b AtRest
-    fence = let live = live_fence b AtRest g in record {
+    fence : Fence good b Idle
+    fence = let live = live_fence b Idle g in record {
       roots = λ i k r h. inl (live.roots i k r h);
       edges = λ i k e h d o. elim d [ inl l ↦ inl (live.edges i k e h l o) | inr n ↦ (let old = below i k h in absurd (omega (arith, old, n))) ];
     }
@@ -178,10 +182,10 @@ settles b c p q g w i s is =
     let here : now.0 ≡ i = (let once = last.0.once now.0 i s.serial in grind arith) in
     subst (IsLive c q) here now.2
   where
-    StaysLive : ℕ → Body → Progress → Type 0
+    StaysLive : ℕ → Body → Stage → Type 0
     StaysLive n c q = Far (IsLiveIn b p) n c q × ((x : ℕ) → IsLiveIn b p x → IsLiveIn c q x)
 
-    goes : (c d : Body) (q r : Progress) (e : Bool) (n : ℕ) → Collected c q d r e → Sane c q → Sane d r → StaysLive n c q → StaysLive (cond e (suc n) n) d r
+    goes : (c d : Body) (q r : Stage) (e : Bool) (n : ℕ) → Collected c q d r e → Sane c q → Sane d r → StaysLive n c q → StaysLive (cond e (suc n) n) d r
     goes c d q r e n a k k' (far, still) = (
       far_goes c d q r e k k' a (IsLiveIn b p) far.0 n far.1,
       λ x l. let old = still x l in (old.0, old.1, live_stays c d q r e k k' a old.0 old.2, live_same c d q r e k k' a old.0 old.2 ∙ old.3, old.4),

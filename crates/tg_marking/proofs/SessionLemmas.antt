@@ -3,7 +3,7 @@ use Rattle.std.proofs.Common.{◌≡◌, ◌≢◌, ℕ, ◌<◌, ◌≤◌, Lis
 use Rattle.std.proofs.lemmas.Bool.Decides.{nat_tests}
 use Rattle.std.proofs.lemmas.List.{append_assoc, append_cancel_right}
 use Rattle.tg_rights.proofs.MembershipLemmas.{contains_append, contains_left, contains_right, contains_middle}
-use Rattle.tg_marking.specs.Values.{Colour, White, Grey, Black, Has, Edge, Contains, Distinct, Kind, Scan, Spot, Progress, AtRest, Marking, Sweeping, Body, Roots, HasRoot, HasTarget, shown, spot, mark, mark_of, out, edges_of, name, name_of, IsRoot, IsTarget, keeps, seen, seen_at, Kept, as_kept, kept}
+use Rattle.tg_marking.specs.Values.{Colour, White, Grey, Black, Has, Edge, Contains, Distinct, Kind, Scan, Spot, Progress, AtRest, Marking, Sweeping, Body, Roots, HasRoot, HasTarget, shown, spot, mark, mark_of, out, edges_of, name, name_of, IsRoot, IsTarget, keeps, seen, seen, Kept, as_kept, kept, Stage}
 use Rattle.tg_marking.specs.Steps.{put, shade, new_colour, with_target, Reroots, PutsEdge, ShadesTarget, Places, Trims, elsewhere, passed, ahead, DropsEdge, Rewrites}
 use Rattle.tg_marking.specs.Invariant.{Leads, IsScanned, Greys, Covered, ScanFits, Tricolour, Phased, Invariant}
 use Rattle.tg_marking.proofs.SpotLemmas.{at_within, seen_is, kept_edges, held_keeps, new_is, put_each, shade_done, shade_marks, shade_name, shade_roots, shade_kept, black_before, same_root, closed_same, closed_moves, shade_greys, shade_tricolour}
@@ -15,9 +15,9 @@ Like es x = (d : Edge) × Contains es d × (d.target ≡ x.target) × (d.serial 
 
 data Moves (b : Body) (p : Progress) (new n : ℕ) : Option Spot → Option Spot → Type 0 where
   rests : (o : Option Spot) → Moves b p new n o o
-  regards : (s : Spot) (es : List Edge) (text : List ℕ) → ((x : Edge) → Contains es x → Like s.edges x ⊎ (Leads (kept b p) n x × (IsTarget b x.target ⊎ (p ≡ AtRest))))
+  regards : (s : Spot) (es : List Edge) (text : List ℕ) → ((x : Edge) → Contains es x → Like s.edges x ⊎ (Leads (kept b (shown p)) n x × (IsTarget b x.target ⊎ (p ≡ AtRest))))
       → Moves b p new n (Some s) (Some (record s { edges = es; text = text }))
-  arrives : (s : Spot) → n ≡ new → ((j : ℕ) → name b j ≢ Some s.serial) → s.edges ≡ [] → s.colour ≡ new_colour p n → Moves b p new n None (Some s)
+  arrives : (s : Spot) → n ≡ new → ((j : ℕ) → name b j ≢ Some s.serial) → s.edges ≡ [] → s.colour ≡ new_colour (shown p) n → Moves b p new n None (Some s)
 
 -- What it does to the scan: what is passed of the slot's edges afterwards is like what was, or leads to a target.
 abbrev Goes : Body → (es es' rest rest' : List Edge) → Type 0
@@ -40,7 +40,7 @@ changed b os rs = record { slots = os; grey = b.grey; roots = rs }
 record Moved (b : Body) (p p' : Progress) (os : List (Option Spot)) (rs : Roots) : Type 0 where
   new : ℕ
   slots : (n : ℕ) → Moves b p new n (spot b n) (get_or os n None)
-  comes : (i : ℕ) → HasRoot rs i → IsRoot b i ⊎ ((HasTarget rs i ⊎ (p ≡ AtRest)) × (k : Kept) × (kept b p i ≡ Some k))
+  comes : (i : ℕ) → HasRoot rs i → IsRoot b i ⊎ ((HasTarget rs i ⊎ (p ≡ AtRest)) × (k : Kept) × (kept b (shown p) i ≡ Some k))
   stays : (i : ℕ) → mark b i ≡ Has White → IsTarget b i → HasTarget rs i
   scan : ScanMoves b (changed b os rs) p p'
 
@@ -50,7 +50,7 @@ module _ (b : Body) (p p' : Progress) (os : List (Option Spot)) (rs : Roots) (m 
 
   -- Marks and names.
   marked : (c : Colour) (n : ℕ) (o o' : Option Spot) → Moves b p m.new n o o' → mark_of o' ≡ Has c → (mark_of o ≡ Has c) ⊎ ((o ≡ None) × ((c ≡ White) ⊎ ((k : ℕ) × (p ≡ Sweeping k) × (k ≤ n) × (c ≡ Black))))
-  marked c n o o' t d = let u = new_is p n in grind arith
+  marked c n o o' t d = let u = new_is (shown p) n in grind arith
 
   mark_stays : (c : Colour) (n : ℕ) (o o' : Option Spot) → Moves b p m.new n o o' → mark_of o ≡ Has c → mark_of o' ≡ Has c
   mark_stays c n o o' t d = grind arith
@@ -62,25 +62,25 @@ module _ (b : Body) (p p' : Progress) (os : List (Option Spot)) (rs : Roots) (m 
   named n x o o' t e = grind arith
 
   -- What is held, and what its edges lead to.
-  seen_same : (n : ℕ) (o : Option Spot) → seen p' n o ≡ seen p n o
-  seen_same n o = ap (λ h. seen_at h n o) (same_phase b b' p p' m.scan).0
+  seen_same : (n : ℕ) (o : Option Spot) → seen (shown p') n o ≡ seen (shown p) n o
+  seen_same n o = ap (λ h. seen h n o) (same_phase b b' p p' m.scan).0
 
-  forward : (n : ℕ) (o o' : Option Spot) → Moves b p m.new n o o' → (t : Kept) → seen p n o ≡ Some t → (t' : Kept) × (seen p' n o' ≡ Some t') × (t'.serial ≡ t.serial)
+  forward : (n : ℕ) (o o' : Option Spot) → Moves b p m.new n o o' → (t : Kept) → seen (shown p) n o ≡ Some t → (t' : Kept) × (seen (shown p') n o' ≡ Some t') × (t'.serial ≡ t.serial)
   forward n o o' move t h = let a = seen_same n o in let c = seen_same n o' in grind arith
 
-  backward : (n : ℕ) (o o' : Option Spot) → Moves b p m.new n o o' → spot b n ≡ o → (t' : Kept) (x : Edge) → seen p' n o' ≡ Some t' → Contains t'.edges x
-      → ((t : Kept) × (d : Edge) × (kept b p n ≡ Some t) × Contains t.edges d × (d.target ≡ x.target) × (d.serial ≡ x.serial)) ⊎ Leads (kept b' p') n x
-  backward n _ _ (rests o) at t' x h c = inl (t', x, ap (seen p n) at ∙ sym (seen_same n o) ∙ h, c, refl, refl)
+  backward : (n : ℕ) (o o' : Option Spot) → Moves b p m.new n o o' → spot b n ≡ o → (t' : Kept) (x : Edge) → seen (shown p') n o' ≡ Some t' → Contains t'.edges x
+      → ((t : Kept) × (d : Edge) × (kept b (shown p) n ≡ Some t) × Contains t.edges d × (d.target ≡ x.target) × (d.serial ≡ x.serial)) ⊎ Leads (kept b' (shown p')) n x
+  backward n _ _ (rests o) at t' x h c = inl (t', x, ap (seen (shown p) n) at ∙ sym (seen_same n o) ∙ h, c, refl, refl)
   backward n _ _ (regards s es text like) at t' x h c =
-      let r = seen_is p n (record s { edges = es; text = text }) t' (sym (seen_same n (Some (record s { edges = es; text = text }))) ∙ h) in
+      let r = seen_is (shown p) n (record s { edges = es; text = text }) t' (sym (seen_same n (Some (record s { edges = es; text = text }))) ∙ h) in
       elim (like x (subst (λ (k : Kept). Contains k.edges x) (sym r.1) c)) [
-        | inl old ↦ inl (as_kept s, old.0, ap (seen p n) at ∙ rw r.0 refl, old.1, old.2, old.3)
+        | inl old ↦ inl (as_kept s, old.0, ap (seen (shown p) n) at ∙ rw r.0 refl, old.1, old.2, old.3)
         | inr (l, t) ↦ (let k = forward x.target _ _ (m.slots x.target) l.0 l.1 in inr (k.0, k.1, k.2 ∙ l.2, l.3))
       ]
-  backward n _ _ (arrives s is fresh bare colour) at t' x h c = absurd (subst (λ (es : List Edge). Contains es x) (sym (kept_edges p' n (Some s) t' h) ∙ bare) c)
+  backward n _ _ (arrives s is fresh bare colour) at t' x h c = absurd (subst (λ (es : List Edge). Contains es x) (sym (kept_edges (shown p') n (Some s) t' h) ∙ bare) c)
 
   -- What is held and covered stays covered.
-  covered : (j : ℕ) (k : Kept) → kept b p j ≡ Some k → Covered b j → Covered b' j
+  covered : (j : ℕ) (k : Kept) → kept b (shown p) j ≡ Some k → Covered b j → Covered b' j
   covered j k h c = let u = marked White j _ _ (m.slots j) in let s = m.stays j in grind arith
 
   aimed : (j : ℕ) → IsTarget b j → Covered b' j
@@ -130,7 +130,7 @@ module _ (b : Body) (p p' : Progress) (os : List (Option Spot)) (rs : Roots) (m 
 
   moved : Invariant b' p'
   moved = record {
-    closed = closed_moves (kept b p) (kept b' p') (IsRoot b) (IsRoot b') (λ n t h. forward n _ _ (m.slots n) t h) (λ n t' x h c. backward n _ _ (m.slots n) refl t' x h c)
+    closed = closed_moves (kept b (shown p)) (kept b' (shown p')) (IsRoot b) (IsRoot b') (λ n t h. forward n _ _ (m.slots n) t h) (λ n t' x h c. backward n _ _ (m.slots n) refl t' x h c)
         (λ i r. elim (m.comes i r) [ inl old ↦ inl old | inr (_, k, h) ↦ (let n = forward i _ _ (m.slots i) k h in inr (n.0, n.1)) ]) g.closed;
     once = λ a c x h l. let u = named a x _ _ (m.slots a) h in let v = named c x _ _ (m.slots c) l in let w = g.once a c x in grind arith;
     greys = subst (Greys b') (sym (same_phase b b' p p' m.scan).1) (record {
@@ -160,17 +160,17 @@ pub idle_stays : (r : Roots) (k : ℕ) (v : Option ℕ) (i : ℕ) → get_or r.t
 idle_stays r k v i none t = target_stays r k v i t (let h = t.1 in grind arith)
 
 -- A held slot is shaded.
-shade_keeps : (b : Body) (p : Progress) (i : ℕ) (k : Kept) → kept b p i ≡ Some k → Invariant b p → Invariant (shade b i) p
+shade_keeps : (b : Body) (p : Progress) (i : ℕ) (k : Kept) → kept b (shown p) i ≡ Some k → Invariant b p → Invariant (shade b i) p
 shade_keeps b p i k held g = record {
-  closed = closed_same (kept b p) (kept (shade b i) p) (IsRoot b) (IsRoot (shade b i)) (shade_kept b p i white) (λ j r. same_root b (shade b i) j (shade_roots b i) r) g.closed;
+  closed = closed_same (kept b (shown p)) (kept (shade b i) (shown p)) (IsRoot b) (IsRoot (shade b i)) (shade_kept b (shown p) i white) (λ j r. same_root b (shade b i) j (shade_roots b i) r) g.closed;
   once = λ a c x h l. g.once a c x (sym (shade_name b i a) ∙ h) (sym (shade_name b i c) ∙ l);
   greys = shade_greys b i (IsScanned p) g.greys;
   phase = by p white g.phase;
 } where
-  white : (s : Spot) → spot b i ≡ Some s → s.colour ≡ White → keeps p i White ≡ true
-  white s e c = ap (keeps p i) (sym c) ∙ held_keeps b p i k held s e
+  white : (s : Spot) → spot b i ≡ Some s → s.colour ≡ White → keeps (shown p) i White ≡ true
+  white s e c = ap (keeps (shown p) i) (sym c) ∙ held_keeps b (shown p) i k held s e
 
-  by : (p : Progress) → ((s : Spot) → spot b i ≡ Some s → s.colour ≡ White → keeps p i White ≡ true) → Phased b p → Phased (shade b i) p
+  by : (p : Progress) → ((s : Spot) → spot b i ≡ Some s → s.colour ≡ White → keeps (shown p) i White ≡ true) → Phased b p → Phased (shade b i) p
   by AtRest w f = λ j d. f j (black_before b i j d)
   by (Marking s) w f = shade_tricolour b i s f
   by (Sweeping k) w f = (
@@ -211,8 +211,8 @@ puts_keeps b b' p i new s g = rw s.is (put_keeps b p p i (Some s.owner) (Some (r
     within : i < length b.slots
     within = at_within b.slots i s.owner s.at
 
-    like : (x : Edge) → Contains (new ∷ s.owner.edges) x → Like s.owner.edges x ⊎ (Leads (kept b p) i x × (IsTarget b x.target ⊎ (p ≡ AtRest)))
-    like x (inl is) = inr (subst (λ (e : Edge). Leads (kept b p) i e × (IsTarget b e.target ⊎ (p ≡ AtRest))) (sym is) ((s.there.0, s.there.1, s.there.2, s.apart), s.target))
+    like : (x : Edge) → Contains (new ∷ s.owner.edges) x → Like s.owner.edges x ⊎ (Leads (kept b (shown p)) i x × (IsTarget b x.target ⊎ (p ≡ AtRest)))
+    like x (inl is) = inr (subst (λ (e : Edge). Leads (kept b (shown p)) i e × (IsTarget b e.target ⊎ (p ≡ AtRest))) (sym is) ((s.there.0, s.there.1, s.there.2, s.apart), s.target))
     like x (inr c) = inl (x, c, refl, refl)
 
     scan : (c : Scan) → p ≡ Marking (Some c) → Goes b (out b c.slot) (out (put b i (Some (record s.owner { edges = new ∷ s.owner.edges }))) c.slot) c.rest c.rest
@@ -274,18 +274,18 @@ rewrites_keeps b b' p i text s g =
     (keeps_on p (λ c is. put_each (λ n o. Goes b (out b n) (edges_of o) c.rest c.rest) b i _ within (same_edges b _ _ c.rest (ap edges_of (sym s.at))) (λ n o. same_edges b _ _ c.rest refl) c.slot)) g)
 
 -- A vertex without edges comes into a free slot, where it is held.
-pub new_keeps : (p : Progress) (i : ℕ) → keeps p i (new_colour p i) ≡ true
-new_keeps p i = let u = new_is p i in grind arith
+pub new_keeps : (g : Stage) (i : ℕ) → keeps g i (new_colour g i) ≡ true
+new_keeps g i = let u = new_is g i in grind arith
 
 pub places_keeps : (b b' : Body) (p : Progress) (i serial : ℕ) (kind : Kind) (text : List ℕ) → Places b p i serial kind text b' → Invariant b p
-    → Invariant b' p × (kept b' p i ≡ Some (record { serial = serial; kind = kind; text = text; edges = [] }))
+    → Invariant b' p × (kept b' (shown p) i ≡ Some (record { serial = serial; kind = kind; text = text; edges = [] }))
 places_keeps b b' p i serial kind text s g = rw s.is (
   put_keeps b p p i None (Some vertex) s.free s.inside (arrives vertex refl s.new refl refl)
       (keeps_on p (λ c is. put_each (λ n o. Goes b (out b n) (edges_of o) c.rest c.rest) b i _ s.inside (same_edges b _ _ c.rest (ap edges_of (sym s.free))) (λ n o. same_edges b _ _ c.rest refl) c.slot)) g,
-  ap (seen p i) (get_or-set_same b.slots i (Some vertex) None s.inside) ∙ rw (new_keeps p i) refl,
+  ap (seen (shown p) i) (get_or-set_same b.slots i (Some vertex) None s.inside) ∙ rw (new_keeps (shown p) i) refl,
 ) where
   vertex : Spot
-  vertex = record { serial = serial; kind = kind; text = text; edges = []; colour = new_colour p i }
+  vertex = record { serial = serial; kind = kind; text = text; edges = []; colour = new_colour (shown p) i }
 
 -- Nothing is there.
 pub blank_keeps : (b : Body) → ((i : ℕ) → spot b i ≡ None) → b.grey ≡ [] → ((i : ℕ) → IsRoot b i → ⊥) → Invariant b AtRest

@@ -2,7 +2,7 @@
 use Rattle.std.proofs.Common.{◌≡◌, ◌≢◌, ℕ, ◌<◌, ◌≤◌, List, [], ◌∷◌, length, length-set, map, true, Option, Some, None, ◌⊎◌, inl, inr, sym, ◌∙◌, subst, ap, refl, arith, get_or, get_or-set_same, get_or-set_other}
 use Rattle.std.proofs.lemmas.Bool.Decides.{nat_tests}
 use Rattle.std.proofs.lemmas.List.{get_or_past}
-use Rattle.tg_marking.specs.Values.{Colour, White, Grey, Black, Has, Edge, Contains, Roots, HasRoot, HasTarget, Spot, Scan, Progress, Sweeping, Body, spot, mark, mark_of, out, edges_of, name, name_of, IsRoot, keeps, seen, Kept, as_kept, kept}
+use Rattle.tg_marking.specs.Values.{Colour, White, Grey, Black, Has, Edge, Contains, Roots, HasRoot, HasTarget, Spot, Scan, Body, spot, mark, mark_of, out, edges_of, name, name_of, IsRoot, keeps, seen, Kept, as_kept, kept, Stage, Sweep}
 use Rattle.tg_marking.specs.Steps.{put, shade, shade_spot, new_colour}
 use Rattle.tg_marking.specs.Invariant.{Leads, Closed, Greys, Covered, ScanFits, Tricolour}
 
@@ -19,30 +19,30 @@ contains_mapped f (x ∷ xs) y (inr c) = let r = contains_mapped f xs y c in (r.
 pub mark_is : (o : Option Spot) (c : Colour) → mark_of o ≡ Has c → (s : Spot) × (o ≡ Some s) × (s.colour ≡ c)
 mark_is o c e = grind arith
 
-pub seen_is : (p : Progress) (i : ℕ) (s : Spot) (k : Kept) → seen p i (Some s) ≡ Some k → (keeps p i s.colour ≡ true) × (as_kept s ≡ k)
-seen_is p i s k e = grind arith
+pub seen_is : (g : Stage) (i : ℕ) (s : Spot) (k : Kept) → seen g i (Some s) ≡ Some k → (keeps g i s.colour ≡ true) × (as_kept s ≡ k)
+seen_is g i s k e = grind arith
 
-pub kept_is : (p : Progress) (i : ℕ) (o : Option Spot) (k : Kept) → seen p i o ≡ Some k → (s : Spot) × (o ≡ Some s) × (keeps p i s.colour ≡ true) × (as_kept s ≡ k)
-kept_is p i o k e = grind arith
+pub kept_is : (g : Stage) (i : ℕ) (o : Option Spot) (k : Kept) → seen g i o ≡ Some k → (s : Spot) × (o ≡ Some s) × (keeps g i s.colour ≡ true) × (as_kept s ≡ k)
+kept_is g i o k e = grind arith
 
-pub kept_name : (p : Progress) (i : ℕ) (o : Option Spot) (k : Kept) → seen p i o ≡ Some k → name_of o ≡ Some k.serial
-kept_name p i o k e = grind arith
+pub kept_name : (g : Stage) (i : ℕ) (o : Option Spot) (k : Kept) → seen g i o ≡ Some k → name_of o ≡ Some k.serial
+kept_name g i o k e = grind arith
 
-pub kept_edges : (p : Progress) (i : ℕ) (o : Option Spot) (k : Kept) → seen p i o ≡ Some k → edges_of o ≡ k.edges
-kept_edges p i o k e = grind arith
+pub kept_edges : (g : Stage) (i : ℕ) (o : Option Spot) (k : Kept) → seen g i o ≡ Some k → edges_of o ≡ k.edges
+kept_edges g i o k e = grind arith
 
-pub kept_within : (b : Body) (p : Progress) (i : ℕ) (k : Kept) → kept b p i ≡ Some k → i < length b.slots
-kept_within b p i k e = grind (arith, at_within b.slots i)
+pub kept_within : (b : Body) (g : Stage) (i : ℕ) (k : Kept) → kept b g i ≡ Some k → i < length b.slots
+kept_within b g i k e = grind (arith, at_within b.slots i)
 
-pub held_keeps : (b : Body) (p : Progress) (i : ℕ) (k : Kept) → kept b p i ≡ Some k → (s : Spot) → spot b i ≡ Some s → keeps p i s.colour ≡ true
-held_keeps b p i k h s e = grind arith
+pub held_keeps : (b : Body) (g : Stage) (i : ℕ) (k : Kept) → kept b g i ≡ Some k → (s : Spot) → spot b i ≡ Some s → keeps g i s.colour ≡ true
+held_keeps b g i k h s e = grind arith
 
-pub keeps_grey : (p : Progress) (i : ℕ) → keeps p i Grey ≡ true
-keeps_grey p i = grind arith
+pub keeps_grey : (g : Stage) (i : ℕ) → keeps g i Grey ≡ true
+keeps_grey g i = grind arith
 
 -- A new vertex is white and held, or black in a slot that the sweep has yet to reach.
-pub new_is : (p : Progress) (i : ℕ) → ((new_colour p i ≡ White) × (keeps p i White ≡ true)) ⊎ ((k : ℕ) × (p ≡ Sweeping k) × (k ≤ i) × (new_colour p i ≡ Black))
-new_is p i = grind (arith, nat_tests)
+pub new_is : (g : Stage) (i : ℕ) → ((new_colour g i ≡ White) × (keeps g i White ≡ true)) ⊎ ((k : ℕ) × (g ≡ Sweep k) × (k ≤ i) × (new_colour g i ≡ Black))
+new_is g i = grind (arith, nat_tests)
 
 -- Each slot after one was put: it, or another that stays.
 pub put_each : (P : ℕ → Option Spot → Type 0) (b : Body) (i : ℕ) (o : Option Spot) → i < length b.slots → P i o → ((j : ℕ) → j ≢ i → P j (spot b j)) → (j : ℕ) → P j (spot (put b i o) j)
@@ -77,8 +77,8 @@ pub black_before : (b : Body) (i j : ℕ) → mark (shade b i) j ≡ Has Black �
 black_before b i j w = elim (shade_marks b i j) [ inl same ↦ sym same ∙ w | inr turned ↦ absurd (let g = turned.1 in cc) ]
 
 -- While nothing is swept, a shade leaves what is held; and in the sweep that of a held slot.
-pub shade_kept : (b : Body) (p : Progress) (i : ℕ) → ((s : Spot) → spot b i ≡ Some s → s.colour ≡ White → keeps p i White ≡ true) → (j : ℕ) → kept (shade b i) p j ≡ kept b p j
-shade_kept b p i held = shade_each (λ j o. seen p j o ≡ kept b p j) b i (λ s e c. let h = held s e c in grind arith) (λ j. refl)
+pub shade_kept : (b : Body) (g : Stage) (i : ℕ) → ((s : Spot) → spot b i ≡ Some s → s.colour ≡ White → keeps g i White ≡ true) → (j : ℕ) → kept (shade b i) g j ≡ kept b g j
+shade_kept b g i held = shade_each (λ j o. seen g j o ≡ kept b g j) b i (λ s e c. let h = held s e c in grind arith) (λ j. refl)
 
 -- The roots of a store whose roots are the same.
 pub same_root : (b b' : Body) (i : ℕ) → b'.roots ≡ b.roots → IsRoot b' i → IsRoot b i

@@ -1,8 +1,8 @@
 -- what callers see of a collector step
 use Rattle.std.specs.Prelude.{◌≡◌, ◌≢◌, ℕ, ◌+◌, ◌≤◌, List, [], ◌∷◌, length, Option, Some, None, ◌⊎◌, Bool, true, false}
-use Rattle.tg_marking.specs.Values.{White, Grey, Black, Has, Edge, Contains, Spot, Progress, Stage, Idle, Mark, Sweep, shown, Body, spot, mark, IsRoot, Kept, kept_at, ParkedAt}
+use Rattle.tg_marking.specs.Values.{White, Grey, Black, Has, Edge, Contains, Spot, Progress, Stage, Idle, Mark, Sweep, shown, Body, spot, mark, IsRoot, Kept, kept, Parked}
 use Rattle.tg_marking.specs.Steps.{Line}
-use Rattle.tg_marking.specs.Invariant.{Reached, Invariant}
+use Rattle.tg_marking.specs.Invariant.{IsLive, Invariant}
 
 -- why a collector step makes a slot grey: a root, or an edge from a grey slot leads to it
 abbrev pub IsCalled : Body → ℕ → Type 0
@@ -34,29 +34,26 @@ Stays _ _ = Unit {0}
 -- that step: what is black stays, what is not is parked, and was not live
 pub record Parks (b b' : Body) (g g' : Stage) : Type 0 where
   pub same : (i : ℕ) → spot b' i ≡ spot b i
-  pub stays : (i : ℕ) (k : Kept) → kept_at b' g' i ≡ Some k → (kept_at b g i ≡ Some k) × (mark b i ≡ Has Black)
+  pub stays : (i : ℕ) (k : Kept) → kept b' g' i ≡ Some k → (kept b g i ≡ Some k) × (mark b i ≡ Has Black)
   pub no_grey : (i : ℕ) → mark b i ≢ Has Grey
-  pub black : (i : ℕ) → mark b i ≡ Has Black → kept_at b' g' i ≡ kept_at b g i
-  pub parked : (i : ℕ) → ParkedAt b' g' i → (mark b i ≢ Has Black) × (kept_at b' g' i ≡ None)
-  pub all : (i : ℕ) (k : Kept) → kept_at b g i ≡ Some k → mark b i ≢ Has Black → ParkedAt b' g' i
-  pub unreached : (i : ℕ) → Reached (kept_at b g) (IsRoot b) i → mark b i ≡ Has Black
+  pub black : (i : ℕ) → mark b i ≡ Has Black → kept b' g' i ≡ kept b g i
+  pub parked : (i : ℕ) → Parked b' g' i → (mark b i ≢ Has Black) × (kept b' g' i ≡ None)
+  pub all : (i : ℕ) (k : Kept) → kept b g i ≡ Some k → mark b i ≢ Has Black → Parked b' g' i
+  pub unreached : (i : ℕ) → IsLive b g i → mark b i ≡ Has Black
 
 -- a step, by slots, roots and phases
-pub record Went (b : Body) (g : Stage) (b' : Body) (g' : Stage) (ended : Bool) : Type 0 where
+pub record Collected (b : Body) (g : Stage) (b' : Body) (g' : Stage) (ended : Bool) : Type 0 where
   pub phases : Follows (length b.slots) g g' ended
   pub roots : b'.roots ≡ b.roots
   pub size : length b'.slots ≡ length b.slots
   pub turns : (i : ℕ) → Turns (IsCalled b) g i (spot b i) (spot b' i)
-  pub held : Stays g g' → (i : ℕ) → kept_at b' g' i ≡ kept_at b g i
+  pub held : Stays g g' → (i : ℕ) → kept b' g' i ≡ kept b g i
   pub parks : g ≡ Mark → g' ≡ Sweep 0 → Parks b b' g g'
 
--- nobody sees in which order the grey ones wait, nor the scan
-abbrev pub bare : Body → Body
-bare b = record b { grey = [] }
-
-abbrev pub Collected : Body → Progress → Body → Progress → Bool → Type 0
-Collected b p b' p' ended = Went (bare b) (shown p) (bare b') (shown p') ended
+-- nobody sees in which order the grey ones wait
+abbrev pub without_grey : Body → Body
+without_grey b = record b { grey = [] }
 
 -- each line of the step table keeps the invariant, and is a collector step
 abbrev pub LinesKeep : Type 0
-LinesKeep = (b b' : Body) (p p' : Progress) (n : ℕ) (e : Bool) → Line b p b' p' n e → Invariant b p → Invariant b' p' × Collected b p b' p' e
+LinesKeep = (b b' : Body) (p p' : Progress) (n : ℕ) (e : Bool) → Line b p b' p' n e → Invariant b p → Invariant b' p' × Collected (without_grey b) (shown p) (without_grey b') (shown p') e

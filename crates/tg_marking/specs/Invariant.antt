@@ -1,6 +1,6 @@
 -- what holds between any two steps, and that each session step keeps it
 use Rattle.std.specs.Prelude.{◌≡◌, ◌≢◌, ℕ, ◌<◌, ◌≤◌, List, [], ◌++◌, Option, Some, None, ◌⊎◌}
-use Rattle.tg_marking.specs.Values.{White, Grey, Black, Has, Edge, Kind, Contains, Distinct, Roots, Scan, Progress, AtRest, Marking, Sweeping, Body, spot, mark, out, name, IsRoot, IsTarget, Kept, kept}
+use Rattle.tg_marking.specs.Values.{White, Grey, Black, Has, Edge, Kind, Contains, Distinct, Roots, Scan, Progress, AtRest, Marking, Sweeping, Body, spot, mark, out, name, IsRoot, IsTarget, Kept, kept, Stage, shown}
 use Rattle.tg_marking.specs.Steps.{Reroots, PutsEdge, ShadesTarget, Places, DropsEdge, Rewrites}
 
 -- an edge leads to a held slot of its serial, which is not its owner's
@@ -48,7 +48,7 @@ Phased b (Marking s) = Tricolour b s
 Phased b (Sweeping k) = ((i : ℕ) → i < k → mark b i ≢ Has Black) × ((i : ℕ) → k ≤ i → mark b i ≢ Has Grey)
 
 pub record Invariant (b : Body) (p : Progress) : Type 0 where
-  pub closed : Closed (kept b p) (IsRoot b)
+  pub closed : Closed (kept b (shown p)) (IsRoot b)
   pub once : (i j x : ℕ) → name b i ≡ Some x → name b j ≡ Some x → i ≡ j
   pub greys : Greys b (IsScanned p)
   pub phase : Phased b p
@@ -58,16 +58,17 @@ pub data Reached (held : ℕ → Option Kept) (Root : ℕ → Type 0) : ℕ → 
   at_root : (i : ℕ) → Root i → Reached held Root i
   along : (i : ℕ) (k : Kept) (e : Edge) → Reached held Root i → held i ≡ Some k → Contains k.edges e → Reached held Root e.target
 
-abbrev pub IsLive : Body → Progress → ℕ → Type 0
-IsLive b p i = Reached (kept b p) (IsRoot b) i
+abbrev pub IsLive : Body → Stage → ℕ → Type 0
+IsLive b g i = Reached (kept b g) (IsRoot b) i
 
--- each session step keeps it, a vertex that comes is held, and a store without vertices and roots has it
+-- each session step keeps the invariant, a vertex that comes is held, and a store without vertices, roots and grey
+-- slots has it
 pub record SessionsKeep : Type 0 where
   pub reroots : (b b' : Body) (p : Progress) (rs : Roots) → Reroots b p rs b' → Invariant b p → Invariant b' p
   pub puts_edge : (b b' : Body) (p : Progress) (i : ℕ) (new : Edge) → PutsEdge b p i new b' → Invariant b p → Invariant b' p
   pub shades : (b b' : Body) (p : Progress) (seat i : ℕ) → ShadesTarget b seat i b' → Invariant b p → Invariant b' p
   pub places : (b b' : Body) (p : Progress) (i serial : ℕ) (kind : Kind) (text : List ℕ) → Places b p i serial kind text b' → Invariant b p
-      → Invariant b' p × (kept b' p i ≡ Some (record { serial = serial; kind = kind; text = text; edges = [] }))
+      → Invariant b' p × (kept b' (shown p) i ≡ Some (record { serial = serial; kind = kind; text = text; edges = [] }))
   pub drops_edge : (b b' : Body) (p p' : Progress) (i : ℕ) (before : List Edge) (e : Edge) (news after : List Edge) → DropsEdge b p i before e news after b' p' → Invariant b p → Invariant b' p'
   pub rewrites : (b b' : Body) (p : Progress) (i : ℕ) (text : List ℕ) → Rewrites b i text b' → Invariant b p → Invariant b' p
   pub blank : (b : Body) → ((i : ℕ) → spot b i ≡ None) → b.grey ≡ [] → ((i : ℕ) → IsRoot b i → ⊥) → Invariant b AtRest

@@ -1,7 +1,7 @@
 -- what is left of a cycle
 use Rattle.std.specs.Prelude.{◌≡◌, ℕ, zero, suc, ◌+◌, ◌-◌, ◌*◌, ◌<◌, ◌≤◌, List, length, map, Option, Some, None, false, cond}
 use Rattle.tg_slots.specs.Table.{Mark}
-use Rattle.tg_marking.specs.Values.{Grey, Black, Has, Edge, Distinct, Kind, Roots, Spot, Progress, AtRest, Marking, Sweeping, Body, spot, mark_of, out, keeps, Kept, kept}
+use Rattle.tg_marking.specs.Values.{Grey, Black, Has, Edge, Distinct, Kind, Roots, Spot, Progress, AtRest, Marking, Sweeping, Body, spot, mark_of, out, keeps, Kept, kept, Stage, Sweep}
 use Rattle.tg_marking.specs.Steps.{Line, shade, PutsEdge, Places, DropsEdge, Rewrites}
 use Rattle.tg_marking.specs.Invariant.{Invariant}
 
@@ -16,15 +16,15 @@ weight size (Has Black) = 0
 weight size (Has Grey) = size + 1
 weight size m = size + 2
 
-abbrev pub parked_cells : Progress → ℕ → Option Spot → ℕ
-parked_cells p i None = 0
-parked_cells p i (Some s) = cond (keeps p i s.colour) 0 (length s.edges)
+abbrev pub parked_cells : Stage → ℕ → Option Spot → ℕ
+parked_cells g i None = 0
+parked_cells g i (Some s) = cond (keeps g i s.colour) 0 (length s.edges)
 
--- the steps that one slot may still take, and the other steps
+-- the steps that one slot may still take; the most of a cycle; those of no one slot; and all
 abbrev pub slot_left : ℕ → Progress → ℕ → Option Spot → ℕ
 slot_left size AtRest i o = 0
 slot_left size (Marking s) i o = weight size (mark_of o)
-slot_left size (Sweeping k) i o = parked_cells (Sweeping k) i o
+slot_left size (Sweeping k) i o = parked_cells (Sweep k) i o
 
 abbrev pub bound : (size cells : ℕ) → ℕ
 bound size cells = size * size + 3 * size + cells + 3
@@ -43,8 +43,11 @@ pub record Celled (b : Body) (cells : ℕ) : Type 0 where
   pub once : (i : ℕ) → Distinct (map (λ e. e.serial) (out b i))
   pub few : total (λ i. length (out b i)) (length b.slots) ≤ cells
 
-abbrev pub IsBounded : Type 0
-IsBounded = (b b' : Body) (p p' : Progress) (n cells : ℕ) → Line b p b' p' n false → Invariant b p → Celled b cells → (left cells b' p' < left cells b p) × (left cells b p ≤ bound (length b.slots) cells) × (1 ≤ left cells b p)
+-- each line lowers what is left, unless it ends the cycle, from the bound at most to one at least
+pub record IsBounded : Type 0 where
+  pub lower : (b b' : Body) (p p' : Progress) (n cells : ℕ) → Line b p b' p' n false → Invariant b p → Celled b cells → left cells b' p' < left cells b p
+  pub most : (b : Body) (p : Progress) (cells : ℕ) → Invariant b p → Celled b cells → left cells b p ≤ bound (length b.slots) cells
+  pub some : (b : Body) (p : Progress) (cells : ℕ) → 1 ≤ left cells b p
 
 -- how many slots are free, held and parked
 abbrev pub free_one : Option Spot → ℕ
@@ -55,18 +58,19 @@ abbrev pub held_one : Option Kept → ℕ
 held_one None = 0
 held_one (Some k) = 1
 
-abbrev pub parked_one : Progress → ℕ → Option Spot → ℕ
-parked_one p i None = 0
-parked_one p i (Some s) = cond (keeps p i s.colour) 0 1
+abbrev pub parked_one : Stage → ℕ → Option Spot → ℕ
+parked_one g i None = 0
+parked_one g i (Some s) = cond (keeps g i s.colour) 0 1
 
 abbrev pub held_cells : Option Kept → ℕ
 held_cells None = 0
 held_cells (Some k) = length k.edges
 
--- free slots, held and parked ones are all slots; the cells of what is held and of what is parked are all in use
+-- free slots, held and parked ones are all slots; the cells of what is held and of what is parked are all the cells in
+-- use
 pub record IsCounted : Type 0 where
-  pub slots : (b : Body) (p : Progress) → total (λ i. free_one (spot b i)) (length b.slots) + total (λ i. held_one (kept b p i)) (length b.slots) + total (λ i. parked_one p i (spot b i)) (length b.slots) ≡ length b.slots
-  pub cells : (b : Body) (p : Progress) → total (λ i. held_cells (kept b p i)) (length b.slots) + total (λ i. parked_cells p i (spot b i)) (length b.slots) ≡ total (λ i. length (out b i)) (length b.slots)
+  pub slots : (b : Body) (g : Stage) → total (λ i. free_one (spot b i)) (length b.slots) + total (λ i. held_one (kept b g i)) (length b.slots) + total (λ i. parked_one g i (spot b i)) (length b.slots) ≡ length b.slots
+  pub cells : (b : Body) (g : Stage) → total (λ i. held_cells (kept b g i)) (length b.slots) + total (λ i. parked_cells g i (spot b i)) (length b.slots) ≡ total (λ i. length (out b i)) (length b.slots)
 
 -- no session step raises what is left
 pub record NeverRaises : Type 0 where

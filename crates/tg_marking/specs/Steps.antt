@@ -1,6 +1,6 @@
 -- the steps, each an exact change of the value
 use Rattle.std.specs.Prelude.{◌≡◌, ◌≢◌, ℕ, ◌+◌, ◌<◌, ◌≤◌, List, [], ◌∷◌, ◌++◌, length, Option, Some, None, ◌⊎◌, Bool, true, false, cond, get_or, set, nat_lt}
-use Rattle.tg_marking.specs.Values.{Colour, White, Grey, Black, Has, Edge, Contains, Kind, Spot, Scan, Progress, AtRest, Marking, Sweeping, Body, Roots, HasRoot, HasTarget, spot, mark, out, name, IsRoot, IsTarget, Kept, kept}
+use Rattle.tg_marking.specs.Values.{Colour, White, Grey, Black, Has, Edge, Contains, Kind, Spot, Scan, Progress, AtRest, Marking, Sweeping, Body, Roots, HasRoot, HasTarget, spot, mark, out, name, IsRoot, IsTarget, Kept, kept, Stage, shown, Sweep}
 
 abbrev pub put : Body → ℕ → Option Spot → Body
 put b i o = record b { slots = set b.slots i o }
@@ -40,18 +40,18 @@ pub data Line (b : Body) : Progress → Body → Progress → ℕ → Bool → T
   finishes : (k : ℕ) → length b.slots ≤ k → Line b (Sweeping k) b AtRest 0 true
 
 -- the colour of a vertex that comes into a slot
-abbrev pub new_colour : Progress → ℕ → Colour
-new_colour (Sweeping k) i = cond (nat_lt i k) White Black
-new_colour p i = White
+abbrev pub new_colour : Stage → ℕ → Colour
+new_colour (Sweep k) i = cond (nat_lt i k) White Black
+new_colour g i = White
 
--- a seat's target is another
+-- the roots with another target for a seat
 abbrev pub with_target : Roots → ℕ → Option ℕ → Roots
 with_target r seat t = record r { targets = set r.targets seat t }
 
 -- the session steps. Roots come and go: what comes is a root already, or held, and then a seat's target unless the
 -- collector rests; and a target that is white stays one
 pub record Reroots (b : Body) (p : Progress) (roots : Roots) (b' : Body) : Type 0 where
-  pub comes : (i : ℕ) → HasRoot roots i → IsRoot b i ⊎ ((HasTarget roots i ⊎ (p ≡ AtRest)) × (k : Kept) × (kept b p i ≡ Some k))
+  pub comes : (i : ℕ) → HasRoot roots i → IsRoot b i ⊎ ((HasTarget roots i ⊎ (p ≡ AtRest)) × (k : Kept) × (kept b (shown p) i ≡ Some k))
   pub stays : (i : ℕ) → mark b i ≡ Has White → IsTarget b i → HasTarget roots i
   pub is : b' ≡ record b { roots = roots }
 
@@ -59,8 +59,8 @@ pub record Reroots (b : Body) (p : Progress) (roots : Roots) (b' : Body) : Type 
 pub record PutsEdge (b : Body) (p : Progress) (i : ℕ) (edge : Edge) (b' : Body) : Type 0 where
   pub owner : Spot
   pub at : spot b i ≡ Some owner
-  pub held : (k : Kept) × (kept b p i ≡ Some k)
-  pub there : (k : Kept) × (kept b p edge.target ≡ Some k) × (k.serial ≡ edge.serial)
+  pub held : (k : Kept) × (kept b (shown p) i ≡ Some k)
+  pub there : (k : Kept) × (kept b (shown p) edge.target ≡ Some k) × (k.serial ≡ edge.serial)
   pub apart : edge.target ≢ i
   pub target : IsTarget b edge.target ⊎ (p ≡ AtRest)
   pub is : b' ≡ record b { slots = set b.slots i (Some (record owner { edges = edge ∷ owner.edges })) }
@@ -75,7 +75,7 @@ pub record Places (b : Body) (p : Progress) (i serial : ℕ) (kind : Kind) (text
   pub free : spot b i ≡ None
   pub inside : i < length b.slots
   pub new : (j : ℕ) → name b j ≢ Some serial
-  pub is : b' ≡ put b i (Some (record { serial = serial; kind = kind; text = text; edges = []; colour = new_colour p i }))
+  pub is : b' ≡ put b i (Some (record { serial = serial; kind = kind; text = text; edges = []; colour = new_colour (shown p) i }))
 
 -- a text is replaced
 pub record Rewrites (b : Body) (i : ℕ) (text : List ℕ) (b' : Body) : Type 0 where
@@ -83,7 +83,7 @@ pub record Rewrites (b : Body) (i : ℕ) (text : List ℕ) (b' : Body) : Type 0 
   pub at : spot b i ≡ Some owner
   pub is : b' ≡ put b i (Some (record owner { text = text }))
 
--- an edge gives way to others to the same vertex: none if it leaves its list, one if its label changes; the scan
+-- an edge gives way to others to the same vertex (to none if it leaves its list, to one if its label changes); the scan
 -- goes on with the edges from its cursor on
 pub data Trims (i : ℕ) (before : List Edge) (e : Edge) (news after : List Edge) : Progress → Progress → Type 0 where
   elsewhere : (p : Progress) → ((s : Scan) → p ≡ Marking (Some s) → i ≢ s.slot) → Trims i before e news after p p

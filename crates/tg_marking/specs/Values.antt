@@ -1,4 +1,4 @@
--- the value of a store, what is read off it, and the words of the crates below that it is told in
+-- the value of a store, and what is read off it
 use Rattle.std.specs.Prelude.{◌≡◌, ℕ, List, [], Option, Some, None, ◌⊎◌, Bool, true, false, cond, get_or, nat_lt}
 pub use Rattle.tg_rights.specs.declared.kind.Kind.{Kind}
 pub use Rattle.tg_slots.specs.declared.colour.Colour.{Colour}
@@ -21,6 +21,7 @@ pub record Scan : Type 0 where
   pub slot : ℕ
   pub rest : List Edge
 
+-- how far a cycle has come, with the scan
 pub data Progress : Type 0 where
   AtRest : Progress
   Marking : Option Scan → Progress
@@ -32,7 +33,7 @@ pub data Stage : Type 0 where
   Mark : Stage
   Sweep : ℕ → Stage
 
--- the phase of a cycle that has come so far
+-- a progress, without its scan
 abbrev pub shown : Progress → Stage
 shown AtRest = Idle
 shown (Marking s) = Mark
@@ -74,7 +75,7 @@ name_of (Some s) = Some s.serial
 abbrev pub name : Body → ℕ → Option ℕ
 name b i = name_of (spot b i)
 
--- a seat's target; a root
+-- some seat's target; a root
 abbrev pub HasTarget : Roots → ℕ → Type 0
 HasTarget r i = (k : ℕ) × (get_or r.targets k None ≡ Some i)
 
@@ -88,12 +89,9 @@ abbrev pub IsRoot : Body → ℕ → Type 0
 IsRoot b i = HasRoot b.roots i
 
 -- whether a slot of this colour is held, or parked until the sweep comes to it
-abbrev pub keeps_at : Stage → ℕ → Colour → Bool
-keeps_at (Sweep k) i White = nat_lt i k
-keeps_at g i c = true
-
-abbrev pub keeps : Progress → ℕ → Colour → Bool
-keeps p i c = keeps_at (shown p) i c
+abbrev pub keeps : Stage → ℕ → Colour → Bool
+keeps (Sweep k) i White = nat_lt i k
+keeps g i c = true
 
 -- what is held, without its colour
 pub record Kept : Type 0 where
@@ -105,21 +103,12 @@ pub record Kept : Type 0 where
 abbrev pub as_kept : Spot → Kept
 as_kept s = record { serial = s.serial; kind = s.kind; text = s.text; edges = s.edges }
 
-abbrev pub seen_at : Stage → ℕ → Option Spot → Option Kept
-seen_at p i None = None
-seen_at p i (Some s) = cond (keeps_at p i s.colour) (Some (as_kept s)) None
+abbrev pub seen : Stage → ℕ → Option Spot → Option Kept
+seen g i None = None
+seen g i (Some s) = cond (keeps g i s.colour) (Some (as_kept s)) None
 
-abbrev pub seen : Progress → ℕ → Option Spot → Option Kept
-seen p i o = seen_at (shown p) i o
+abbrev pub kept : Body → Stage → ℕ → Option Kept
+kept b g i = seen g i (spot b i)
 
-abbrev pub kept_at : Body → Stage → ℕ → Option Kept
-kept_at b g i = seen_at g i (spot b i)
-
-abbrev pub kept : Body → Progress → ℕ → Option Kept
-kept b p i = kept_at b (shown p) i
-
-abbrev pub ParkedAt : Body → Stage → ℕ → Type 0
-ParkedAt b g i = (s : Spot) × (spot b i ≡ Some s) × (keeps_at g i s.colour ≡ false)
-
-abbrev pub Parked : Body → Progress → ℕ → Type 0
-Parked b p i = ParkedAt b (shown p) i
+abbrev pub Parked : Body → Stage → ℕ → Type 0
+Parked b g i = (s : Spot) × (spot b i ≡ Some s) × (keeps g i s.colour ≡ false)

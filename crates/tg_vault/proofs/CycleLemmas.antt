@@ -19,10 +19,10 @@ use Rattle.tg_collect.specs.declared.note.Phase.{Phase}
 use Rattle.tg_collect.specs.declared.note.Phase.TheVariants.{Idle, Mark, Sweep}
 use Rattle.tg_collect.specs.Stored.{Stored}
 use Rattle.tg_collect.specs.Readings.{held, IsHeldIn, IsRootIn, agents, cycle_bound, pending, phase, slot_count}
-use Rattle.tg_collect.specs.Views.{IsStore, Collected, Follows}
+use Rattle.tg_collect.specs.Views.{IsStore, Collected}
 use Rattle.tg_collect.specs.Runs.{StoreRun, start, acts, goes, ends}
 use Rattle.tg_collect.specs.Runs as runs
-use Rattle.tg_collect.proofs.RunLemmas.{acted_phase}
+use Rattle.tg_collect.proofs.RunLemmas.{acted_phase, idle_ends_none}
 use Rattle.tg_vault.specs.History.{graph_of}
 use Rattle.tg_vault.specs.World.{Run}
 use Rattle.tg_vault.specs.Seen.{seen}
@@ -234,14 +234,6 @@ module _ (v : Contents) (s : IsCoherent v) where
   held_below : (x : ℕ) → IsHeldIn v.store x → x < (graph_now v).next
   held_below x h = (graph_is v s.ties s.store).below_next x (of_graph v s.ties s.store x h)
 
-follows_idle : (p q : Phase) (ended : Bool) → p ≡ Idle → Follows p q ended → ended ≡ false
-follows_idle Idle Idle ended is f = absurd f
-follows_idle Idle Mark true is f = absurd f
-follows_idle Idle Mark false is f = refl
-follows_idle Idle Sweep ended is f = absurd f
-follows_idle Mark q ended is f = absurd (cc is)
-follows_idle Sweep q ended is f = absurd (cc is)
-
 -- a cycle that starts here, and two that end from here on
 pub from_idle : runs.IsComplete → (m : Contents) → IsCoherent m → phase m.store ≡ Idle → (after : List Event) (note : Note) (back : List Answer) (w : Contents) → Course m after (answer.Noted note ∷ back) w →
     2 ≤ ended_in (answer.Noted note ∷ back) → (x : ℕ) → HasSlot w x → Live (held m.store (graph_now m).next) (IsRootIn m.store) x ⊎ ((graph_now m).next ≤ x)
@@ -253,7 +245,7 @@ from_idle law m sound idle (event.Shade seat ∷ es) note back w course two x sl
 from_idle law m sound idle (event.Collect ∷ es) note back w course two x slot =
     let u : Contents = course.0 in
     let g : VaultStep m event.Collect (answer.Noted note) u = course.1 in
-    let open_end : note.ended ≡ false = follows_idle (phase m.store) (phase u.store) note.ended idle g.stored.0.phases in
+    let open_end : note.ended ≡ false = idle_ends_none g.stored.0 idle in
     let next = (graph_now m).next in
     let grows = goes_grow m event.Collect (answer.Noted note) u g in
     let run = course_store next u.store u es back w 0 0 grows start course.2 in

@@ -25,7 +25,8 @@ use Rattle.tg_collect.specs.declared.note.Phase.{Phase}
 use Rattle.tg_collect.specs.declared.note.Phase.TheVariants.{Idle, Mark, Sweep}
 use Rattle.tg_collect.specs.Readings.{phase}
 use Rattle.tg_collect.specs.Runs as runs
-use Rattle.tg_collect.specs.Views.{Follows, IsStore}
+use Rattle.tg_collect.specs.Views.{IsStore}
+use Rattle.tg_collect.proofs.RunLemmas.{ended_idle}
 use Rattle.tg_collect.proofs.ShownLemmas.{same_key}
 use Rattle.tg_collect.proofs.StoreLemmas.{idle_unparked, same_truth}
 use Rattle.tg_vault.specs.declared.entry.Entry.{Entry}
@@ -59,18 +60,9 @@ cycle_keeps v w swept c =
     collects_keep v.limits (moment v) notes (moment w) (course_run v (collects notes) (noted notes) w c.course)
 
 -- after a cycle the collector is idle
-follows_end : (p q : Phase) → Follows p q true → q ≡ Idle
-follows_end p Idle f = refl
-follows_end Idle Mark f = absurd f
-follows_end Mark Mark f = absurd f
-follows_end Sweep Mark f = absurd f
-follows_end Idle Sweep f = absurd f
-follows_end Mark Sweep f = absurd f
-follows_end Sweep Sweep f = absurd f
-
 ends_idle : (notes : List Note) (last : Note) (v w : Contents) → Course v (collects (notes ++ last ∷ [])) (noted (notes ++ last ∷ [])) w → last.ended ≡ true → phase w.store ≡ Idle
 ends_idle [] last v w (u, step, same) ended =
-    ap (λ (k : Contents). phase k.store) same ∙ follows_end (phase v.store) (phase u.store) (subst (λ b. Follows (phase v.store) (phase u.store) b) ended step.stored.0.phases)
+    ap (λ (k : Contents). phase k.store) same ∙ ended_idle step.stored.0 ended
 ends_idle (note ∷ notes) last v w (u, step, rest) ended = ends_idle notes last u w rest ended
 
 cycle_idle : (v w : Contents) (swept : Swept) → IsCycle v swept w → phase w.store ≡ Idle

@@ -33,7 +33,7 @@ pub enum Rebased {
 
 impl Vault {
     /// `Seated` if somebody sits on a seat, whatever memory there is, and nothing changes. Otherwise makes three cycles,
-    /// then what is live the opening graph, and drops the history. Names, the next serial and the numbers of slots and
+    /// makes what is live the opening graph, and drops the history. Names, the next serial and the numbers of slots and
     /// cells stay, and so does the store, which then holds what is live and nothing else; of those who have retired the
     /// vault keeps the ones that are held. `NoMemory` if an allocation failed, after the cycles, with the whole history.
     ///

@@ -6,4 +6,4 @@ use Rattle.tg_collect.proofs.machine.Machine.arrows.Given as goal
 
 -- The edges of the slots so far.
 abbrev pub invariant-loop-slot : goal.invariant-loop-slot
-invariant-loop-slot l = l.found.items ≡ gathered (arrows (stored l.self) l.parked) l.slot
+invariant-loop-slot l = l.found.items ≡ gathered (arrows (stored l.self) l.with_parked) l.slot
