@@ -6,7 +6,7 @@ and one check, which is asked only for the copies, judges many. A copy with no e
 function. An edit is refused if in that check the control is proved, nothing but what is edited is refused, and of the edited copy a goal
 fails, or a written proof no longer fits it. An edit of a constant is made in a copy of the constant, and of each function that names it.
 
-A function that one edit changes, and that no other function of the check names in a call, is edited in its place instead, and needs no
+A function that one edit changes, and to which no other function of the check comes by calls, is edited in its place instead, and needs no
 control: so the toolchain's own rule would try it. A trait's method and a method at chosen type arguments cannot be copied, and are always
 edited in their place, in checks without copies; other edits go with them that so need no copy either.
 
@@ -366,6 +366,7 @@ class Trial:
         self.source.read("src/main.rt" if crate.is_program else "src/lib.rt")
         while any(self.stem.encode() in it for it in self.source.data.values()):
             self.stem += "_"
+        self.calls = {f: self.named(self.source.data[f.file][f.opens : f.end]) for f in self.source.functions}
 
     def path(self, f):
         """Where a report and the written proofs have the function: a method goes by the module that declares its type, and by its type
@@ -386,15 +387,26 @@ class Trial:
         """The name by which a check is asked for the function."""
         return self.symbol(f).partition("::")[2]
 
+    def named(self, row):
+        """The functions that the row may name in a call."""
+        return {it for it in self.source.functions if may_call(row, it)}
+
     def called(self, edits, f):
-        """The functions that the function, as it stands or with one of the edits, may name in a call. (What it comes to in another way, by
-        way of a function or a trait, a report says of it too, and then its edit is tried alone.)"""
-        rows = [self.source.data[f.file][f.opens : f.end], *[row for it in edits for _, _, row in it.spans.get(f, [])]]
-        return {it for it in self.source.functions if any(may_call(row, it) for row in rows)}
+        """The functions that the function, as it stands or with one of the edits, may come to by calls, but for calls behind a hole. (What
+        it comes to in another way, by way of a trait, a report says of it too, and then its edit is tried alone.)"""
+        found, ahead = set(), {*self.calls[f]}.union(*(self.named(row) for it in edits for _, _, row in it.spans.get(f, [])))
+        while ahead:
+            found |= ahead
+            ahead = set().union(*(self.calls[it] for it in ahead if not self.has_hole(it))) - found
+        return found
+
+    def has_hole(self, f):
+        """Whether the function gets a hole for its proof in a check in which it is only called."""
+        return not self.were and can_be_edited(f) and not f.in_trait
 
     def placed(self, edits):
         """Those of the edits that can be made in the functions themselves, and these: each is the only edit of the only function that it
-        changes, which none of the other functions may call."""
+        changes, to which none of the other functions may come by calls."""
         times = Counter(f for it in edits for f in it.spans)
         called = {f: self.called(edits, f) for f in times}
         own = {it: next(iter(it.spans)) for it in edits if len(it.spans) == 1 and not it.constants}
@@ -426,7 +438,7 @@ class Trial:
         """The texts of a check of the edits, of each line of an edited function that function and its number, and the names by which
         a report calls these functions."""
         parts, lines, names = self.parts(edits), {}, {}
-        texts = {} if self.were else self.holes([f for f, some in parts.items() if CONTROL not in some])
+        texts = self.holes([f for f, some in parts.items() if CONTROL not in some])
         for file in {f.file for f in parts}:
             text, found = self.written(file, parts)
             lines.update(found)
@@ -458,7 +470,7 @@ class Trial:
         """A hole in place of the written proof of each function but these, so that a check of those that call it need not prove it."""
         texts = {}
         for f in self.source.functions:
-            if can_be_edited(f) and not f.in_trait and f not in placed:
+            if self.has_hole(f) and f not in placed:
                 path = self.path(f)
                 written = "/".join(["proofs", *path])
                 for name in ("Invariants.antt", "Answers.antt"):
@@ -551,7 +563,7 @@ class Trial:
         for file, data in self.source.data.items():
             spans = sorted((f.first, f.end) for f in self.source.functions if f.file == file)
             types += [text(file, done, start) for (_, done), (start, _) in zip([(0, 0), *spans], [*spans, (len(data), 0)])]
-        laws = [it for it in self.laws() if it not in {"::".join(self.path(f)) for f in own if self.called([], f)}]
+        laws = [it for it in self.laws() if it not in {"::".join(self.path(f)) for f in own if self.calls[f]}]
         return Reach(self.crate, functions, laws, "\n".join(types))
 
     def groups(self, edits):
@@ -594,7 +606,7 @@ class Trial:
         names = lambda f, at: any(it.search(self.source.data[f.file], at, f.end) for it in named)
         every = [f for f in self.source.functions if names(f, f.first)]
         nearest = {f for f in every if f.has_body and names(f, f.opens)}
-        return [f for f in every if not nearest or f in nearest or self.called([], f) & nearest]
+        return [f for f in every if not nearest or f in nearest or self.calls[f] & nearest]
 
     def inside(self, edit):
         """The functions in which the edit changes lines; none if a change there changes more than one proof."""
