@@ -423,6 +423,7 @@ impl Vault {
 
     /// Collector steps up to and including the first that ends a cycle: how many slots they freed, and how many steps
     /// there were. There are at most `S * S + 3 * S + C + 3`, for S slots and C cells. Allocates nothing.
+    #[inline(always)]
     pub fn cycle(&mut self) -> Swept
         ensures cycle { IsCycle self.old result self.new }
         ensures keeps { Keeps self.old self.new }
