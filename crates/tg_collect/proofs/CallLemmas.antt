@@ -1,10 +1,6 @@
 -- What the calls that add rights, take them and replace texts do to a store.
 use Rattle.std.proofs.Common.{◌≡◌, ◌≢◌, ℕ, ◌<◌, ◌+◌, List, [], ◌∷◌, ◌++◌, length, Some, None, Result, Ok, Err, ◌⊎◌, inl, inr, true, false, sym, ◌∙◌, subst, ap, refl, set, arith, ◌≤◌, eq-eqb}
-use Rattle.tg_collect.proofs.Common.{Acted, Adds, HeapFull, IfErr, Occupant, OnErr, OnOk, RootLists, name_of}
-use Rattle.tg_collect.proofs.Common.{Apart, Dropped, Gone, HeapGraph, IsDropped, Protection, Rewrites, RightsRemoved, SetsText, Stayed, TextReplaced, at_within, body, cells, comes, difference-Relabels, drops, first_cell, is_none, is_none-none, label-relabelled, left_rewrites}
-use Rattle.tg_collect.proofs.Common.{none, progress_dropped, progress_of, progress_without, rewrites_keeps, same_Some, vertex_of, without}
-use Rattle.tg_collect.proofs.Common.{Contains, Edge, EdgeStored, Found, HasNone, IsAdded, IsEdgeIn, IsHeap, LedTo, Letters, Machine, Root, SEATS, Whole, as_kept, contains_map, edge, edges, fresh, gains, held, is_some, joined, relabelled}
-use Rattle.tg_collect.proofs.Common.{joins, kept_from, lists_of, pending_of, place, serial_at, slot, stored, with_target}
+use Rattle.tg_collect.proofs.Common.{Acted, Adds, HeapFull, IfErr, Occupant, OnErr, OnOk, RootLists, name_of, Apart, Dropped, Gone, HeapGraph, IsDropped, Protection, Rewrites, RightsRemoved, SetsText, Stayed, TextReplaced, at_within, body, cells, comes, difference-Relabels, drops, first_cell, is_none, is_none-none, label-relabelled, left_rewrites, none, progress_dropped, progress_of, progress_without, rewrites_keeps, same_Some, vertex_of, without, Contains, Edge, EdgeStored, Found, HasNone, IsAdded, IsEdgeIn, IsHeap, LedTo, Letters, Machine, Root, SEATS, Whole, as_kept, contains_map, edge, edges, fresh, gains, held, is_some, joined, relabelled, joins, kept_from, lists_of, pending_of, place, serial_at, slot, stored, with_target}
 use Rattle.tg_heap.specs.declared.heap.HeapFull.TheVariants as full
 use Rattle.std.specs.FinSet as finset
 use Rattle.tg_marking.specs.Values as values
@@ -188,9 +184,12 @@ module _ {m : Machine} {id : ℕ} (w : Whole m) (h : Holds m id) (text : List �
   same : progress_of after ≡ progress_of m
   same = (same_lists m.heap retold.table m.progress).0
 
+  same_left : (stored after).left ≡ (stored m).left
+  same_left = rw same (left_rewrites (body m) (body after) (progress_of m) id m.heap.cell_count text step)
+
   text_put : Replaced m after id (record (owner h) { text = text })
   text_put = replaced w retold m.progress id (record (owner h) { text = text }) step.is (owner_within h) (λ r. sym (ap name_of (owner_is h))) refl (rw same (rewrites_keeps (body m) (body after) (progress_of m) id text step w.kept)) ((same_lists m.heap retold.table m.progress).1 w.cursor)
-      (ap values.shown same) (rw same (left_rewrites (body m) (body after) (progress_of m) id m.heap.cell_count text step))
+      (ap values.shown same) (let l = same_left in omega (arith, l))
 
   text_replaced : TextReplaced (stored m) (stored after) (serial_at (stored m) id) text h.occupant.text
   text_replaced = record {
@@ -200,12 +199,11 @@ module _ {m : Machine} {id : ℕ} (w : Whole m) (h : Holds m id) (text : List �
     graph = λ next. rw (serial_is h) (graph_after w h after (edges m.heap id) text text_put next
         ∙ comes (kept_from (stored m).stage 0 (stored m).slots) id next (record (as_kept (owner h)) { text = text }) (at_within (kept_from (stored m).stage 0 (stored m).slots) id (as_kept (owner h)) (held_at (stored m) id ∙ h.shows))
         (apart_so w h) (inr (as_kept (owner h), held_at (stored m) id ∙ h.shows, refl, refl)));
-    left = text_put.left;
     slot = id;
     place = owner_place h;
     owner = owner h;
     at = owner_is h;
-    is = text_put.is;
+    is = text_put.is ∙ ap (λ l. record (stored m) { slots = set (stored m).slots id (Some (record (owner h) { text = text })); left = l }) same_left;
   }
 
   pub text_set : (n : Machine) (old : List ℕ) → SetsText m id text old n → Whole n × TextReplaced (stored m) (stored n) (serial_at (stored m) id) text old

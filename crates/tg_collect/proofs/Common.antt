@@ -41,7 +41,6 @@ pub use Rattle.tg_graph.proofs.RollLemmas.{any_is, contains_filter, is_any, filt
 pub use Rattle.tg_graph.proofs.ProtectionLemmas.{edge_from, edge_to}
 pub use Rattle.tg_graph.proofs.TriplesLemmas.{same_triples}
 pub use Rattle.tg_graph.specs.Fullness.{edge_count, edges_at, vertex_count}
-pub use Rattle.tg_graph.specs.Laws.{IsEdgeList}
 pub use Rattle.tg_graph.specs.Names.{IsRoll}
 pub use Rattle.tg_graph.specs.Opening.{principal_count, subjects}
 pub use Rattle.tg_graph.specs.Parts.{Listed, Rises}
@@ -68,10 +67,10 @@ pub use Rattle.tg_heap.specs.declared.heap.HeapFull.{HeapFull}
 pub use Rattle.tg_marking.proofs.LeftLemmas.{bounded, counted, left_drops, left_most, left_places, left_puts, left_rewrites, left_shade, same_roots, left_some}
 pub use Rattle.tg_marking.proofs.SessionLemmas.{blank_keeps, drops_keeps, idle_stays, new_keeps, places_keeps, puts_keeps, reroots_keeps, rewrites_keeps, shades_keeps, trims_stage, without_one}
 pub use Rattle.tg_marking.proofs.KeepLemmas.{turns_name, line_collected, line_keeps}
-pub use Rattle.tg_marking.proofs.SpotLemmas.{at_within, closed_same, contains_mapped, held_keeps, keeps_grey, kept_is, kept_name, put_each, shade_each, shade_kept, shade_name, shade_size}
+pub use Rattle.tg_marking.proofs.SpotLemmas.{at_within, closed_same, contains_mapped, held_keeps, keeps_grey, kept_is, kept_name, put_each, seen_is, shade_each, shade_kept, shade_name, shade_size}
 pub use Rattle.tg_marking.specs.Invariant.{Closed, Invariant, IsLive, IsScanned, Phased, along, at_root}
 pub use Rattle.tg_marking.specs.Left.{Celled, free_one, held_cells, held_one, left, parked_cells, total}
-pub use Rattle.tg_marking.specs.Runs.{Changes, LedTo, IsLiveIn, Run, Sane}
+pub use Rattle.tg_marking.specs.Runs.{HadEdge, HadSlot, IsLiveIn, IsLiveOrNew, Run, Sane}
 pub use Rattle.tg_marking.specs.Steps.{DropsEdge, Line, Places, PutsEdge, Reroots, Rewrites, Trims, ahead, blackens, elsewhere, finishes, frees, new_colour, put, scans, shade, shade_all, shades_target, skips, starts, starts_sweep, strips, takes, whitens}
 pub use Rattle.tg_marking.specs.Values.{AtRest, Body, HasRoot, IsRoot, IsTarget, Kept, Spot, Stage, as_kept, keeps, mark, mark_of, name, name_of, out, seen, edges_of}
 pub use Rattle.tg_held.proofs.HeldLemmas.{comes, contains-held, drops, gains, joins, says_edge, says_slot}
@@ -79,8 +78,8 @@ pub use Rattle.tg_held.specs.Held.{Apart, entries, vertex_of}
 pub use Rattle.tg_collect.specs.Machine.{Adds, AreRoots, AreWithin, CursorFits, Counts, IsListed, Links, Puts, Rerooted, RootLists, SetsText, ShadesSeat, Steps, Whole, all_shaded, all_slots, assuming, bare, body, body_of, colour_ahead, has_passed, is_at, join, lists_of, other_slots, progress_dropped, progress_in, progress_of, progress_without, slot_of, slots_of, with_agent, with_principal, with_shaded, with_target, without_principal, zip}
 pub use Rattle.tg_collect.specs.Openings.{HasOpened, Opened, OpeningsCanBeStored, Opens, OpensEdges, OpensFirst, first_root, first_roots, first_serials, KeepsSize, OpensAll, rank}
 pub use Rattle.tg_collect.specs.Readings.{IsEdgeIn, IsHeldIn, IsParkedIn, IsRootAt, IsRootIn, agents, cycle_bound, free_slots, held, kept, kept_from, pending, pending_of, phase, phase_in, place, principals, root_serial, serial_at, serial_of, shown, slot_count, spot, triples, vertices}
-pub use Rattle.tg_collect.specs.Runs.{IsBounded, IsComplete, StoreRun, acts, goes, start}
-pub use Rattle.tg_collect.specs.Sessions.{Acted, Assumed, EdgeStored, Left, PrincipalStored, Retired, RightsRemoved, Shaded, TargetShaded, TextReplaced, VertexStored}
+pub use Rattle.tg_collect.specs.Runs.{CallsAct, IsBounded, IsComplete, StoreRun, acts, goes, start}
+pub use Rattle.tg_collect.specs.Sessions.{Acted, Assumed, Changed, EdgeStored, LedTo, Left, PrincipalStored, Retired, RightsRemoved, Shaded, TargetShaded, TextReplaced, VertexStored}
 pub use Rattle.tg_collect.specs.Stored.{Stored, stored}
 pub use Rattle.tg_collect.specs.Views.{Collected, IsStore, most_marks}
 pub use Rattle.tg_collect.specs.declared.machine.Machine.{Machine}

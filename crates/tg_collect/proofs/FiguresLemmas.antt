@@ -1,8 +1,6 @@
 -- What the slots show, listed slot by slot.
 use Rattle.std.proofs.Common.{◌≡◌, ◌≤◌, ◌≢◌, ◌++◌, ℕ, List, [], ◌∷◌, append_assoc, length, map, Option, Some, None, inl, inr, Bool, true, false, cond, sym, ◌∙◌, subst, ap, refl, eqb-true, eq-eqb, nat_eq}
-use Rattle.tg_collect.proofs.Common.{cells, Contains, contains_filter, contains_map, Distinct, Edge, edges, edges_of, ends_tied, Equal, filter, filter-append, filter_contains, first_cell, first_is, Greater, HeapGraph, in_slot, is_eq, is_lt, IsHeap}
-use Rattle.tg_collect.proofs.Common.{IsPermutation, IsSortedBy, IsStore, join, Less, Letters, Machine, map_append, mapped, name_of, nat_cmp, nat_cmp_total, on_total, option_eq, option_map, option_to_list, Ordering, ordering_then}
-use Rattle.tg_collect.proofs.Common.{remaining, remaining_split, Rises, rises_map, serial_tied, serials, slot, spot, Stands, Stored, stored, then_some, then_total, untrue}
+use Rattle.tg_collect.proofs.Common.{cells, Contains, contains_filter, contains_map, Distinct, Edge, edges, edges_of, ends_tied, Equal, filter, filter-append, filter_contains, first_cell, first_is, Greater, HeapGraph, in_slot, is_eq, is_lt, IsHeap, IsPermutation, IsSortedBy, IsStore, join, Less, Letters, Machine, map_append, mapped, name_of, nat_cmp, nat_cmp_total, on_total, option_eq, option_map, option_to_list, Ordering, ordering_then, remaining, remaining_split, Rises, rises_map, serial_tied, serials, slot, spot, Stands, Stored, stored, then_some, then_total, untrue}
 use Rattle.tg_collect.specs.Parts.{AreFound}
 use Rattle.tg_collect.specs.Readings.{name}
 use Rattle.tg_graph.specs.Opening as graph

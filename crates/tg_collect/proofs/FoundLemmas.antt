@@ -1,8 +1,6 @@
 -- Lists that are gathered number by number, and then sorted.
 use Rattle.std.proofs.Common.{◌≡◌, ◌≢◌, ℕ, zero, suc, ◌<◌, ◌≤◌, List, [], ◌∷◌, ◌++◌, length, Option, Some, None, inl, inr, Bool, true, false, refl, sym, ◌∙◌, subst, ap, arith, get_or, map}
-use Rattle.tg_collect.proofs.Common.{get_or-map, length-map, apart_from_distinct, at_within, cases_eq, Contains, contains_append, contains_left, contains_right, Distinct, eq_by_cmp, eq_by_cmp_equiv, Equal, Greater, is_eq, is_lt, IsDistinct-IsPermutation}
-use Rattle.tg_collect.proofs.Common.{IsPermutation, IsPermutation-sym, IsSortedBy, IsSortedByKey, IsStore, IsTotalOrder, Less, Machine, MatchOrdering, name_of, nat_cmp, nat_cmp_total, on_total, option_to_list, Ordering, ordering_reverse, permuted}
-use Rattle.tg_collect.proofs.Common.{placed, ranks, ranks_by, recursion_from_All, Rises, rises_append, serial_tied, sorted_far, stored, untrue}
+use Rattle.tg_collect.proofs.Common.{get_or-map, length-map, apart_from_distinct, at_within, cases_eq, Contains, contains_append, contains_left, contains_right, Distinct, eq_by_cmp, eq_by_cmp_equiv, Equal, Greater, is_eq, is_lt, IsDistinct-IsPermutation, IsPermutation, IsPermutation-sym, IsSortedBy, IsSortedByKey, IsStore, IsTotalOrder, Less, Machine, MatchOrdering, name_of, nat_cmp, nat_cmp_total, on_total, option_to_list, Ordering, ordering_reverse, permuted, placed, ranks, ranks_by, recursion_from_All, Rises, rises_append, serial_tied, sorted_far, stored, untrue}
 use Rattle.std.specs.List.{IsDistinct}
 use Rattle.tg_collect.proofs.SlotLemmas.{at_index, zip_size}
 use Rattle.tg_collect.specs.Parts.{AreFound}

@@ -1,17 +1,15 @@
 -- Each step of the machine is a line of the table.
-use Rattle.std.proofs.Common.{◌≡◌, zero, suc, ◌+◌, ◌<◌, ◌≤◌, List, [], ◌∷◌, ◌++◌, length, Option, Some, None, Bool, true, false, sym, ◌∙◌, subst, ap, refl, arith, ◌≢◌, ◌⊎◌, inl, inr, ℕ, get_or-set_other}
-use Rattle.tg_collect.proofs.Common.{turns_name, Contains, Grey, Has, Edge, first_cell, HeapGraph, edges, mark_at, IsHeap, remaining, Spot, Body, mark, Machine, RootLists, lists_of, body_of, body, progress_in, progress_of, CursorFits, Whole, SEATS, mark_of, put, IsListed, stored, same_Some, MAX_PRINCIPALS, passed, split_whole, remaining_split, shade_all, Line, starts, scans, blackens, shades_target, whitens, strips, frees, IsScanned, Phased, shade_each, line_keeps, line_collected, bounded, Steps, all_shaded, shown}
-use Rattle.tg_collect.proofs.Common.{phase_in, Collected, most_marks, Counts, AreRoots, HasRoot, Invariant, Root, bare, IsLinkedBy}
+use Rattle.std.proofs.Common.{◌≡◌, ◌+◌, ◌<◌, ◌≤◌, List, [], ◌∷◌, ◌++◌, length, Option, Some, None, Bool, true, false, sym, ◌∙◌, subst, ap, refl, arith, ◌≢◌, ◌⊎◌, inl, inr, ℕ, get_or-set_other, filter, is_some}
+use Rattle.tg_collect.proofs.Common.{turns_name, Contains, Grey, Has, Edge, first_cell, HeapGraph, edges, mark_at, IsHeap, remaining, Spot, Body, mark, Machine, RootLists, lists_of, body_of, body, progress_in, progress_of, CursorFits, Whole, mark_of, put, IsListed, stored, same_Some, passed, split_whole, remaining_split, shade_all, Line, starts, scans, blackens, shades_target, whitens, strips, frees, IsScanned, Phased, shade_each, line_keeps, line_collected, bounded, Steps, all_shaded, shown, all_slots, slots_of, phase_in, Collected, most_marks, Counts, AreRoots, HasRoot, Invariant, Root, bare, IsLinkedBy}
 use Rattle.tg_marking.specs.Values as values
 use Rattle.tg_collect.specs.declared.machine.Progress.TheVariants as course
 use Rattle.tg_collect.specs.declared.machine.Progress as declared
 use Rattle.tg_marking.specs.Collected as marking
 use Rattle.tg_collect.specs.declared.note.Phase.TheVariants as phases
-use Rattle.tg_marking.specs.Values.{name}
+use Rattle.tg_marking.specs.Values.{name, spot, Progress}
 use Rattle.tg_marking.proofs.SpotLemmas.{kept_name}
 use Rattle.tg_collect.specs.Views.{ChangesMarks}
-use Rattle.tg_marking.specs.Values.{spot, Progress}
-use Rattle.tg_collect.proofs.SlotLemmas.{other_count, mark_so, listed_root, celled, free_so, all_same}
+use Rattle.tg_collect.proofs.SlotLemmas.{mark_so, listed_root, celled, free_so, all_same}
 use Rattle.tg_collect.proofs.ShownLemmas.{held_same}
 
 -- The cell under scan is in its slot's list.
@@ -77,25 +75,31 @@ line_frees b b' p p' n e l = grind arith
 one_mark : (b : Body) (k : ℕ) (o : Option Spot) → ChangesMarks (mark b) (mark (put b k o)) 1
 one_mark b k o = record { slots = k ∷ []; count = omega arith; others = λ i n. ap mark_of (get_or-set_other b.slots k i o None (λ e. n (inl e))) }
 
-root_marks : (b : Body) (rs : List (Option ℕ)) (most : ℕ) → length rs ≤ most → ChangesMarks (mark b) (mark (shade_all b rs)) most
-root_marks b [] most l = record { slots = []; count = omega arith; others = λ i n. refl }
-root_marks b (r ∷ rs) zero l = absurd (omega (arith, l))
-root_marks b (None ∷ rs) (suc most) l = let old = root_marks b rs most (omega (arith, l)) in record { slots = old.slots; count = omega arith; others = old.others }
-root_marks b (Some i ∷ rs) (suc most) l = let old = root_marks b rs most (omega (arith, l)) in record {
+root_marks : (b : Body) (rs : List (Option ℕ)) → ChangesMarks (mark b) (mark (shade_all b rs)) (length (filter (λ o. is_some o) rs))
+root_marks b [] = record { slots = []; count = omega arith; others = λ i n. refl }
+root_marks b (None ∷ rs) = root_marks b rs
+root_marks b (Some i ∷ rs) = let old = root_marks b rs in let l = old.count in record {
   slots = i ∷ old.slots;
-  count = omega arith;
+  count = omega (arith, l);
   others = shade_each (λ j o. (Contains (i ∷ old.slots) j → ⊥) → mark_of o ≡ mark b j) (shade_all b rs) i (λ s e w m. absurd (m (inl refl))) (λ j m. old.others j (λ h. m (inr h)));
 }
 
-line_marks : (b b' : Body) (p p' : Progress) (n : ℕ) (e : Bool) → Line b p b' p' n e → length b.roots.others ≤ MAX_PRINCIPALS + SEATS → ChangesMarks (mark b) (mark b') (most_marks (phase_in (values.shown p)))
-line_marks b _ _ _ _ _ starts few = root_marks b b.roots.others (MAX_PRINCIPALS + SEATS) few
-line_marks b _ _ _ _ _ (scans i e r) few = root_marks b (Some e.target ∷ []) 1 (omega arith)
-line_marks b _ _ _ _ _ (shades_target k i l r w least) few = root_marks b (Some i ∷ []) 1 (omega arith)
-line_marks b _ _ _ _ _ (blackens i s is) few = one_mark b i _
-line_marks b _ _ _ _ _ (whitens k s is c) few = one_mark b k _
-line_marks b _ _ _ _ _ (strips k s e r is c m) few = one_mark b k _
-line_marks b _ _ _ _ _ (frees k s is c m) few = one_mark b k _
-line_marks b _ _ _ _ _ l few = root_marks b [] 1 (omega arith)
+some_others : (ps : List Root) (os : List (Option Root)) → length (filter (λ o. is_some o) (all_slots ps ++ slots_of os)) ≡ length ps + length (filter (λ o. is_some o) os)
+some_others [] [] = refl
+some_others [] (None ∷ os) = some_others [] os
+some_others [] (Some r ∷ os) = let rest = some_others [] os in omega (arith, rest)
+some_others (p ∷ ps) os = let rest = some_others ps os in omega (arith, rest)
+
+line_marks : (b b' : Body) (p p' : Progress) (n : ℕ) (e : Bool) (rs : RootLists) → b.roots ≡ bare rs → Line b p b' p' n e → ChangesMarks (mark b) (mark b') (most_marks rs (phase_in (values.shown p)))
+line_marks b _ _ _ _ _ rs is starts =
+    subst (λ (most : ℕ). ChangesMarks (mark b) (mark (shade_all b b.roots.others)) most) (ap (λ (q : values.Roots). length (filter (λ o. is_some o) q.others)) is ∙ some_others rs.principals rs.agents) (root_marks b b.roots.others)
+line_marks b _ _ _ _ _ rs is (scans i e r) = root_marks b (Some e.target ∷ [])
+line_marks b _ _ _ _ _ rs is (shades_target k i l r w least) = root_marks b (Some i ∷ [])
+line_marks b _ _ _ _ _ rs is (blackens i s at) = one_mark b i _
+line_marks b _ _ _ _ _ rs is (whitens k s at c) = one_mark b k _
+line_marks b _ _ _ _ _ rs is (strips k s e r at c m) = one_mark b k _
+line_marks b _ _ _ _ _ rs is (frees k s at c m) = one_mark b k _
+line_marks b _ _ _ _ _ rs is l = record { slots = []; count = omega arith; others = λ i n. refl }
 
 -- A collector step as contracts see it.
 line_left : (m n : Machine) (freed : ℕ) (ended : Bool) → Line (body m) (progress_of m) (body n) (progress_of n) freed ended → n.heap.cell_count ≡ m.heap.cell_count → IsHeap m.heap → Whole m
@@ -113,7 +117,7 @@ collected m n freed ended s ok ok' w = record {
   few = freed_so.1;
   free_slots = let a = free_so m.heap (lists_of m.roots) ok in let b = free_so n.heap (lists_of n.roots) ok' in let f = s.counts.free_slots in omega (arith, a, b, f);
   free_cells = s.counts.free_cells;
-  marks = line_marks (body m) (body n) (progress_of m) (progress_of n) freed ended s.line (let size = other_count m.roots in let few = w.roots.few in let seats = w.roots.agents in omega (arith, size, few, seats));
+  marks = line_marks (body m) (body n) (progress_of m) (progress_of n) freed ended (lists_of m.roots) refl s.line;
   left = line_left m n freed ended s.line s.counts.cells ok w;
 } where
   step : marking.Collected (shown (stored m)) (stored m).stage (shown (stored n)) (stored n).stage ended

@@ -1,8 +1,6 @@
 -- A machine that holds the first principals, before any cycle.
 use Rattle.std.proofs.Common.{◌≡◌, ◌≢◌, ℕ, zero, suc, ◌+◌, ◌<◌, List, [], ◌∷◌, ◌++◌, length, map, replicate, Option, Some, None, ◌⊎◌, inl, inr, Ok, true, sym, ◌∙◌, subst, ap, refl, arith, add-one, get_or, set, length-set, length-append}
-use Rattle.tg_collect.proofs.Common.{cases_eq, MAX_PRINCIPALS, SEATS, Contains, contains_left, contains_right, length-replicate, map_append, Subject, Protection, subjects-within, principal_count, principals_are_few, Table, Free, Has, White, Grey, indices, fresh, nones_length, nones_free, indices_length, IsHeap}
-use Rattle.tg_collect.proofs.Common.{Spot, AtRest, IsScanned, mark, new_colour, blank_keeps, Root, Idle, Machine, RootLists, IsListed, lists_of, with_principal, body, progress_in, progress_of, Whole, Puts, Rerooted, Stored, stored, kept_from, spot, place, root_serial, vertices, triples, IsParkedIn}
-use Rattle.tg_collect.proofs.Common.{first_serials, Opens, OpeningsCanBeStored, first_root, first_roots, HasOpened, OpensFirst, KeepsSize}
+use Rattle.tg_collect.proofs.Common.{cases_eq, MAX_PRINCIPALS, SEATS, Contains, contains_left, contains_right, length-replicate, map_append, Subject, Protection, subjects-within, principal_count, principals_are_few, Table, Free, Has, White, Grey, indices, fresh, nones_length, nones_free, indices_length, IsHeap, Spot, AtRest, IsScanned, mark, new_colour, blank_keeps, Root, Idle, Machine, RootLists, IsListed, lists_of, with_principal, body, progress_in, progress_of, Whole, Puts, Rerooted, Stored, stored, kept_from, spot, place, root_serial, vertices, triples, IsParkedIn, first_serials, Opens, OpeningsCanBeStored, first_root, first_roots, HasOpened, OpensFirst, KeepsSize}
 use Rattle.std.specs.FinMap as finmap
 use Rattle.std.specs.FinSet as finset
 use Rattle.tg_slots.specs.Table as table

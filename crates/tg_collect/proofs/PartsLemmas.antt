@@ -1,7 +1,6 @@
 -- What is held, listed slot by slot.
 use Rattle.std.proofs.Common.{◌≡◌, ◌<◌, ℕ, List, Option, Some, None, true, false, sym, ◌∙◌, subst, ap, refl, MatchOption}
-use Rattle.tg_collect.proofs.Common.{Contains, Edge, edges, edges_of, Free, held, in_slot, is_none, is_some, IsStore, join, Kept, kept, Listed, lists_of, Machine, mark_at, Occupant, option_map, option_to_list, same_Some}
-use Rattle.tg_collect.proofs.Common.{serial_of, slot, spot, Stored, stored, vertex}
+use Rattle.tg_collect.proofs.Common.{Contains, Edge, edges, edges_of, Free, held, in_slot, is_none, is_some, IsStore, join, Kept, kept, Listed, lists_of, Machine, mark_at, Occupant, option_map, option_to_list, same_Some, serial_of, slot, spot, Stored, stored, vertex}
 use Rattle.std.specs.Prelude.{IsSome}
 use Rattle.tg_marking.specs.Values as values
 use Rattle.tg_collect.specs.Readings.{name}

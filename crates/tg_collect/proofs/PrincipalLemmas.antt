@@ -1,7 +1,6 @@
 -- A new subject is a principal from the start.
 use Rattle.std.proofs.Common.{◌≡◌, ℕ, ◌<◌, List, [], ◌∷◌, length, Option, Some, None, inl, sym, ◌∙◌, subst, ap, arith, get_or, get_or-set_same, length-set, set}
-use Rattle.tg_collect.proofs.Common.{MAX_PRINCIPALS, SEATS, Letters, Subject, contains_append, map_append, length-map, same_Some}
-use Rattle.tg_collect.proofs.Common.{Machine, Root, Rerooted, lists_of, Whole, Stored, stored, with_principal, principals, Acted, PrincipalStored, VertexStored}
+use Rattle.tg_collect.proofs.Common.{MAX_PRINCIPALS, SEATS, Letters, Subject, contains_append, map_append, length-map, same_Some, Machine, Root, Rerooted, lists_of, Whole, Stored, stored, with_principal, principals, Acted, PrincipalStored, VertexStored}
 use Rattle.tg_collect.proofs.SlotLemmas.{at_seat, seat_contains}
 use Rattle.tg_collect.proofs.RootLemmas.{principal_added}
 use Rattle.tg_collect.proofs.SeatLemmas.{acted_vertex}

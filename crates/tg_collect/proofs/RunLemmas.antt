@@ -1,17 +1,14 @@
 -- A run of a store is a run of its slots; what was not live is gone, and there are few steps between two ends.
 use Rattle.std.proofs.Common.{◌≡◌, ℕ, suc, ◌+◌, ◌<◌, ◌≤◌, List, Option, Some, ◌⊎◌, inl, inr, Bool, true, false, sym, ◌∙◌, subst, ap, refl, arith, map, None, set}
-use Rattle.tg_collect.proofs.Common.{turns_name, keeps_grey, kept_is, Spot, Body, Kept, seen, Stored, kept, shown, spot, held, IsHeldIn, IsParkedIn, IsStore, is_some, is_none, Protection, name_of, total, Root, serial_of, root_serial, pending_of, TextReplaced, map-set, set-get_or, same_Some, Live, IsPart, IsGraph, vertex, with_text, subjects, Stage, keeps, IsLiveIn, Sane, Run, free_one, phase_in, slot_count, cycle_bound, IsRootIn, phase, principals, pending, agents, new_keeps}
-use Rattle.tg_collect.proofs.Common.{free_slots, Changes, Acted, Shaded, StoreRun, start, acts, goes, IsComplete, IsBounded, Collected, Opened, IsRoll, Member, nat_cmp, vertices}
+use Rattle.tg_collect.proofs.Common.{Contains, Grey, contains_mapped, seen_is, turns_name, keeps_grey, kept_is, Spot, Body, Kept, seen, Stored, kept, shown, spot, held, IsHeldIn, IsParkedIn, IsStore, is_some, is_none, Protection, name_of, total, Root, serial_of, root_serial, pending_of, TextReplaced, map-set, set-get_or, same_Some, Live, IsPart, IsGraph, vertex, with_text, subjects, Stage, keeps, IsLiveIn, Sane, Run, free_one, phase_in, slot_count, cycle_bound, IsRootIn, phase, principals, pending, agents, new_keeps, CallsAct, IsLiveOrNew, IsRootAt, as_kept, HadSlot, at_root, Edge, HadEdge, free_slots, Changed, Acted, Shaded, StoreRun, start, acts, goes, IsComplete, IsBounded, Collected, Opened, IsRoll, Member, nat_cmp, vertices}
 use Rattle.tg_marking.specs.Values as values
 use Rattle.tg_marking.specs.Runs as runs
+use Rattle.tg_collect.specs.Sessions as calls
 use Rattle.tg_marking.proofs.RunLemmas as marked
-use Rattle.tg_marking.proofs.RunLemmas.{changes_grow}
-use Rattle.tg_marking.specs.Runs.{IsLiveOrNew}
 use Rattle.tg_marking.specs.Collected.{Follows}
 use Rattle.tg_collect.specs.declared.note.Phase.TheVariants as phases
 use Rattle.std.specs.FinSet as finset
 use Rattle.tg_graph.specs.Protection.{label}
-use Rattle.tg_marking.specs.Values.{Progress}
 use Rattle.tg_collect.specs.Runs.{ends}
 use Rattle.tg_collect.proofs.SlotLemmas.{root_listed}
 use Rattle.tg_collect.proofs.ShownLemmas.{held_kept, kept_held, named_label, place_kept, Once, vertex_found}
@@ -37,26 +34,52 @@ module _ (v w : Stored) (new target : Option ℕ) (next : ℕ) (s : IsStore v) (
 
   acted : runs.Acted (shown v) v.stage (shown w) next
   acted = record {
+    spots = λ i. spot_acts i (spot v i) (spot w i) refl (a.changes i);
     roots = λ i k r h. (
         let q = root_listed w.roots i r in
         let p = place_kept w q.0.slot q.0.serial (t.named q.0 q.1) in
         let here : kept w q.0.slot ≡ Some k = subst (λ (j : ℕ). kept w j ≡ Some k) (sym q.2) (ap (λ (z : Stage). values.kept (shown w) z i) a.stage ∙ h) in
         let serial : q.0.serial ≡ k.serial = sym p.2 ∙ ap (λ (z : Kept). z.serial) (same_Some p.0 k (sym p.1 ∙ here)) in
         subst Wanted serial (root_before q.0.serial (in_root w q.0 q.1)));
-    slots = λ i. changes_grow (shown v) v.stage _ _ _ _ news wanted i _ _ (a.changes i);
-  }
+    edges = λ i. edge_acts i (spot v i) (spot w i) refl (a.changes i);
+  } where
+    shown_root : (i : ℕ) (x : Spot) → spot v i ≡ Some x → IsRootAt v i → kept v i ≡ Some (as_kept x)
+    shown_root i x at r = let k = s.closed.roots i r in grind arith
+
+    spot_acts : (i : ℕ) (o p : Option Spot) → spot v i ≡ o → Changed v new target i o p → (x : Spot) → p ≡ Some x → HadSlot (shown v) v.stage i x ⊎ Wanted x.serial
+    spot_acts i _ _ at (calls.same o) x is = inl (i, x, at ∙ is, refl, inr refl, λ h. h)
+    spot_acts i _ _ at (calls.shaded y c r) x is =
+        let serial : y.serial ≡ x.serial = ap (λ (z : Spot). z.serial) (same_Some _ _ is) in inr (inl (i, as_kept y, at_root i r, shown_root i y at r, serial))
+    spot_acts i _ _ at (calls.regards y es text led) x is = subst (λ (z : Spot). HadSlot (shown v) v.stage i z ⊎ Wanted z.serial) (same_Some _ _ is) (inl (i, y, at, refl, inr refl, λ h. h))
+    spot_acts i _ _ at (calls.comes y n colour led) x is = subst (λ (z : Spot). HadSlot (shown v) v.stage i z ⊎ Wanted z.serial) (same_Some y x is) (inr (inr (news y.serial n)))
+
+    edge_acts : (i : ℕ) (o p : Option Spot) → spot v i ≡ o → Changed v new target i o p → (k : Kept) (e : Edge) → seen v.stage i p ≡ Some k → Contains k.edges e → HadEdge (shown v) v.stage k.serial e.serial ⊎ Wanted e.serial
+    edge_acts i _ _ at (calls.same o) k e h c = inl (i, k, e, ap (seen v.stage i) at ∙ h, refl, c, refl)
+    edge_acts i _ _ at (calls.shaded y w r) k e h c =
+        let now = seen_is v.stage i (record y { colour = Grey }) k h in
+        inl (i, as_kept y, e, shown_root i y at r, ap (λ (q : Kept). q.serial) now.1, subst (λ (q : Kept). Contains q.edges e) (sym now.1) c, refl)
+    edge_acts i _ _ at (calls.regards y es text led) k e h c =
+        let now = seen_is v.stage i (record y { edges = es; text = text }) k h in
+        elim (led e (subst (λ (q : Kept). Contains q.edges e) (sym now.1) c)) [
+          | inl old ↦ (let x = contains_mapped (λ (z : Edge). z.serial) y.edges e.serial old in inl (i, as_kept y, x.0, grind arith, grind arith, grind arith, grind arith))
+          | inr to ↦ inr (wanted e.serial to)
+        ]
+    edge_acts i _ _ at (calls.comes y n colour led) k e h c = inr (wanted e.serial (led e (subst (λ (q : Kept). Contains q.edges e) (sym (seen_is v.stage i y k h).1) c)))
+
+pub calls_act : CallsAct
+calls_act v w new target next s t a news targets = record { step = acted v w new target next s t a news targets; stage = a.stage; slots = a.slots; cells = a.cells; left = a.left }
 
 -- The last state of a run is a store of the same size; collector steps since an end, and what is left, are at most the
 -- number of a cycle's steps.
-record Known (first v : Stored) (since : ℕ) : Type 0 where
-  store : IsStore v
+pub record Known (first v : Stored) (since : ℕ) : Type 0 where
+  pub store : IsStore v
   slots : slot_count v ≡ slot_count first
   cells : v.cells ≡ first.cells
   left : since + v.left ≤ cycle_bound (slot_count first) first.cells
 
-known : (next : ℕ) (first v : Stored) (ended since : ℕ) → IsStore first → StoreRun next first v ended since → Known first v since
+pub known : (next : ℕ) (first v : Stored) (ended since : ℕ) → IsStore first → StoreRun next first v ended since → Known first v since
 known next first _ _ _ s start = record { store = s; slots = refl; cells = refl; left = let h = s.most_left in omega (arith, h) }
-known next first _ _ _ s (acts v w n k new target r a x y t) =
+known next first _ _ _ s (acts v w n k r a t) =
     let h = known next first v n k s r in record { store = t; slots = a.slots ∙ h.slots; cells = a.cells ∙ h.cells; left = let l = h.left in let less = a.left in omega (arith, l, less) }
 known next first _ _ _ s (goes v w n k count r c t) =
     let h = known next first v n k s r in record { store = t; slots = c.step.size ∙ h.slots; cells = c.cells ∙ h.cells; left = let l = h.left in elim c.left [ inl never ↦ absurd (cc) | inr less ↦ omega (arith, l, less) ] }
@@ -69,9 +92,8 @@ known next first _ _ _ s (ends v w n k count r c t) =
 -- The run is one of its slots.
 run_of : (next : ℕ) (b : Body) (p : Stage) (first v : Stored) (ended since : ℕ) → IsStore first → Run next b p (shown first) first.stage 0 → StoreRun next first v ended since → Run next b p (shown v) v.stage ended
 run_of next b p first _ _ _ s z start = z
-run_of next b p first _ _ _ s z (acts v w n k new target r a x y t) =
-    let u = (known next first v n k s r).store in
-    subst (λ (q : Stage). Run next b p (shown w) q n) (sym a.stage) (runs.acts (shown v) (shown w) v.stage n (run_of next b p first v n k s z r) (acted v w new target next u t a x y) (subst (λ (q : Stage). Sane (shown w) q) a.stage (sane w t)))
+run_of next b p first _ _ _ s z (acts v w n k r a t) =
+    subst (λ (q : Stage). Run next b p (shown w) q n) (sym a.stage) (runs.acts (shown v) (shown w) v.stage n (run_of next b p first v n k s z r) a.step (subst (λ (q : Stage). Sane (shown w) q) a.stage (sane w t)))
 run_of next b p first _ _ _ s z (goes v w n k count r c t) = runs.goes (shown v) (shown w) v.stage w.stage n (run_of next b p first v n k s z r) c.step (sane w t)
 run_of next b p first _ _ _ s z (ends v w n k count r c t) =
     let up : suc n ≡ n + 1 = omega arith in
@@ -131,11 +153,11 @@ module _ (v w : Stored) (seat : ℕ) where
   shaded_was (Some x) shaded = sym shaded.was
 
 -- what waits to be swept after a session step waited before it
-was_parked : (v : Stored) (new target : Option ℕ) (i : ℕ) (o p : Option Spot) → Changes (shown v) v.stage (λ x. new ≡ Some x) (λ x. target ≡ Some x) i o p → (s : Spot) → p ≡ Some s → keeps v.stage i s.colour ≡ false
+was_parked : (v : Stored) (new target : Option ℕ) (i : ℕ) (o p : Option Spot) → Changed v new target i o p → (s : Spot) → p ≡ Some s → keeps v.stage i s.colour ≡ false
     → (t : Spot) × (o ≡ Some t) × (keeps v.stage i t.colour ≡ false) × (t.serial ≡ s.serial)
 was_parked v new target i o p change s at gone = let grey = keeps_grey v.stage i in let fresh = new_keeps v.stage i in grind arith
 
-still_free : (v : Stored) (target : Option ℕ) (i : ℕ) (o p : Option Spot) → Changes (shown v) v.stage (λ x. None ≡ Some x) (λ x. target ≡ Some x) i o p → free_one p ≡ free_one o
+still_free : (v : Stored) (target : Option ℕ) (i : ℕ) (o p : Option Spot) → Changed v None target i o p → free_one p ≡ free_one o
 still_free v target i o p c = grind arith
 
 module _ {v w : Stored} {new target : Option ℕ} (acted : Acted v w new target) where

@@ -1,9 +1,6 @@
 -- What each change of the heap is in one list of slots.
 use Rattle.std.proofs.Common.{◌≡◌, ◌≢◌, zero, suc, List, [], ◌∷◌, length, Option, Some, None, sym, ◌∙◌, ap, refl, arith, get_or, set, ◌+◌, ◌<◌, drop, inl, inr, subst, length-set, map, cond, drop-cons, length-append, sum_by, ℕ}
-use Rattle.tg_collect.proofs.Common.{Occupant, Colour, White, Table, Free, Has, slot, Edge, HeapGraph, edges, mark_at, shaded, Spot, mark, put, shade, RootLists, bare, body_of, length-map, Contains, Body, stored}
-use Rattle.tg_collect.proofs.Common.{HasRoot, at_within, Root, Machine, IsListed, lists_of, slot_of, slots_of, body, Whole, new_colour, Progress, progress_in, sum_by-cons, Distinct, IsHeap}
-use Rattle.tg_collect.proofs.Common.{total, get_or_default, get_or-map, same_Some, contains_left, contains_right, contains_append, contains_map, coloured, if_free, painted, out, IsRoot}
-use Rattle.tg_collect.proofs.Common.{free_one, Celled, join, zip, all_slots, all_shaded, with_shaded, AreWithin, other_slots, has_passed, colour_ahead, Roots, shade_all}
+use Rattle.tg_collect.proofs.Common.{Occupant, Colour, White, Table, Free, Has, slot, Edge, HeapGraph, edges, mark_at, shaded, Spot, mark, put, shade, RootLists, bare, body_of, length-map, Contains, Body, stored, HasRoot, at_within, Root, Machine, IsListed, lists_of, slot_of, slots_of, body, Whole, new_colour, Progress, progress_in, sum_by-cons, Distinct, IsHeap, total, get_or_default, get_or-map, same_Some, contains_left, contains_right, contains_append, contains_map, coloured, if_free, painted, out, IsRoot, free_one, Celled, join, zip, all_slots, all_shaded, with_shaded, AreWithin, other_slots, has_passed, colour_ahead, Roots, shade_all}
 pub use Rattle.tg_marking.proofs.SpotLemmas.{contains_mapped, kept_within}
 use Rattle.tg_graph.proofs.ListedLemmas.{placed}
 use Rattle.tg_marking.specs.Values as values

@@ -1,7 +1,6 @@
 -- A vertex comes into a free slot, alone or with an edge to it.
 use Rattle.std.proofs.Common.{◌≡◌, ◌≢◌, ℕ, ◌<◌, ◌≤◌, List, [], length, Option, Some, None, Ok, inl, inr, true, sym, ◌∙◌, subst, ap, refl, arith, set, get_or-set_other}
-use Rattle.tg_collect.proofs.Common.{Table, IsAdded, kept_name, is_some, unwrap_or, same_Some, SEATS, Letters, Kind, Contains, Occupant, slot, Free, mark_at, IsHeap, edges, HasNone, Spot, as_kept, name, name_of, seen, keeps, new_colour, new_keeps, put, Places, places_keeps, left_places, Invariant, comes, edge}
-use Rattle.tg_collect.proofs.Common.{Machine, lists_of, with_target, body, progress_of, Whole, Puts, Links, Stored, stored, kept, kept_from, spot, held, place, serial_of, serial_at, pending_of, IsHeldIn, IsParkedIn, VertexStored}
+use Rattle.tg_collect.proofs.Common.{Table, IsAdded, kept_name, is_some, unwrap_or, same_Some, SEATS, Letters, Kind, Contains, Occupant, slot, Free, mark_at, IsHeap, edges, HasNone, Spot, as_kept, name, name_of, seen, keeps, new_colour, new_keeps, put, Places, places_keeps, left_places, Invariant, comes, edge, Machine, lists_of, with_target, body, progress_of, Whole, Puts, Links, Stored, stored, kept, kept_from, spot, held, place, serial_of, serial_at, pending_of, IsHeldIn, IsParkedIn, VertexStored}
 use Rattle.std.proofs.lemmas.Bool.{cases_Bool}
 use Rattle.std.specs.FinMap as finmap
 use Rattle.std.specs.FinSet as finset

@@ -3,16 +3,29 @@ use Rattle.std.specs.Prelude.{◌≡◌, ℕ, ◌+◌, ◌<◌, ◌≤◌, Optio
 use Rattle.tg_graph.specs.Paths.{Live}
 use Rattle.tg_collect.specs.declared.note.Phase.TheVariants.{Idle}
 use Rattle.tg_collect.specs.Stored.{Stored}
-use Rattle.tg_collect.specs.Readings.{phase, slot_count, held, cycle_bound, IsHeldIn, IsParkedIn, IsRootIn}
+use Rattle.tg_marking.specs.Runs as marking
+use Rattle.tg_collect.specs.Readings.{phase, shown, slot_count, held, cycle_bound, IsHeldIn, IsParkedIn, IsRootIn}
 use Rattle.tg_collect.specs.Views.{IsStore, Collected}
 use Rattle.tg_collect.specs.Sessions.{Acted}
 
+-- a session step of a run: what comes by it is live or new
+pub record Acts (v w : Stored) (next : ℕ) : Type 0 where
+  pub step : marking.Acted (shown v) v.stage (shown w) next
+  pub stage : w.stage ≡ v.stage
+  pub slots : slot_count w ≡ slot_count v
+  pub cells : w.cells ≡ v.cells
+  pub left : w.left ≤ v.left
+
+-- what each session call does is such a step, if its new serial is not below `next` and its target is live or new
+abbrev pub CallsAct : Type 0
+CallsAct = (v w : Stored) (new target : Option ℕ) (next : ℕ) → IsStore v → IsStore w → Acted v w new target → ((x : ℕ) → new ≡ Some x → next ≤ x)
+    → ((x : ℕ) → target ≡ Some x → Live (held v next) (IsRootIn v) x ⊎ (next ≤ x)) → Acts v w next
+
 -- a run of a store after a state: its last state, the cycles that ended and the collector steps since the last end. New
--- serials are not below `next`, and a target is live or new.
+-- serials are not below `next`.
 pub data StoreRun (next : ℕ) (first : Stored) : Stored → ℕ → ℕ → Type 0 where
   start : StoreRun next first first 0 0
-  acts : (v w : Stored) (ended since : ℕ) (new target : Option ℕ) → StoreRun next first v ended since → Acted v w new target
-      → ((x : ℕ) → new ≡ Some x → next ≤ x) → ((x : ℕ) → target ≡ Some x → Live (held v next) (IsRootIn v) x ⊎ (next ≤ x)) → IsStore w → StoreRun next first w ended since
+  acts : (v w : Stored) (ended since : ℕ) → StoreRun next first v ended since → Acts v w next → IsStore w → StoreRun next first w ended since
   goes : (v w : Stored) (ended since count : ℕ) → StoreRun next first v ended since → Collected v w count false → IsStore w → StoreRun next first w ended (since + 1)
   ends : (v w : Stored) (ended since count : ℕ) → StoreRun next first v ended since → Collected v w count true → IsStore w → StoreRun next first w (ended + 1) 0
 

@@ -1,5 +1,7 @@
 -- what each store has, and what a collector step does
 use Rattle.std.specs.Prelude.{◌≡◌, ◌≢◌, ℕ, ◌+◌, ◌<◌, ◌≤◌, List, length, map, Some, ◌⊎◌, Bool, true, false}
+use Rattle.std.specs.List.{filter}
+use Rattle.std.specs.Option.{is_some}
 use Rattle.std.specs.FinSet as finset
 use Rattle.tg_rights.specs.declared.limits.TheConstants.{MAX_PRINCIPALS, SEATS}
 use Rattle.tg_rights.specs.Letters.{is_none}
@@ -13,14 +15,14 @@ use Rattle.tg_marking.specs.Collected as marking
 use Rattle.tg_collect.specs.declared.note.Phase.{Phase}
 use Rattle.tg_collect.specs.declared.note.Phase.TheVariants.{Idle, Mark, Sweep}
 use Rattle.tg_collect.specs.declared.machine.Root.{Root}
-use Rattle.tg_collect.specs.Machine.{IsListed}
+use Rattle.tg_collect.specs.Machine.{RootLists, IsListed}
 use Rattle.tg_collect.specs.Stored.{Stored}
 use Rattle.tg_collect.specs.Readings.{phase, shown, spot, mark_in, name, kept, place, IsRootAt, slot_count, free_slots, parked_count, held, triples, principals, pending, agents, IsHeldIn, IsParkedIn, IsRootIn, cycle_bound}
 
 -- what each store has
 pub record IsStore (v : Stored) : Type 0 where
-  -- by slots: roots are held, under their serials; edges of what is held lead to what is held, under its serial, and not
-  -- back; a serial is in one slot; no slot has two edges to a serial, or an edge without rights
+  -- by slots: roots are held, under their serials; edges of what is held lead to what is held, under its serial, in
+  -- another slot; a serial is in one slot; no slot has two edges to a serial, or an edge without rights
   pub closed : Closed (kept v) (IsRootAt v)
   pub named : (r : Root) → IsListed v.roots r → place v r.slot ≡ Some r.serial
   pub once : (i j x : ℕ) → name v i ≡ Some x → name v j ≡ Some x → i ≡ j
@@ -47,11 +49,11 @@ pub record IsStore (v : Stored) : Type 0 where
   pub some_left : 1 ≤ v.left
   pub most_left : v.left ≤ cycle_bound (slot_count v) v.cells
 
--- how many marks a step may change, by the phase before it
-abbrev pub most_marks : Phase → ℕ
-most_marks Idle = MAX_PRINCIPALS + SEATS
-most_marks Mark = 1
-most_marks Sweep = 1
+-- how many marks a step may change, by the roots and the phase before it: a start shades principals and agents
+abbrev pub most_marks : RootLists → Phase → ℕ
+most_marks rs Idle = length rs.principals + length (filter (λ o. is_some o) rs.agents)
+most_marks rs Mark = 1
+most_marks rs Sweep = 1
 
 -- outside these slots the marks stay
 pub record ChangesMarks (before after : ℕ → table.Mark) (most : ℕ) : Type 0 where
@@ -71,5 +73,5 @@ pub record Collected (v w : Stored) (freed_slots : ℕ) (ended : Bool) : Type 0 
   pub few : freed_slots ≤ 1
   pub free_slots : free_slots w ≡ free_slots v + freed_slots
   pub free_cells : (v.free_cells ≤ w.free_cells) × (w.free_cells ≤ v.free_cells + 1)
-  pub marks : ChangesMarks (mark_in v) (mark_in w) (most_marks (phase v))
+  pub marks : ChangesMarks (mark_in v) (mark_in w) (most_marks v.roots (phase v))
   pub left : (ended ≡ true) ⊎ (w.left < v.left)

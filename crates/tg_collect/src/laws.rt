@@ -1,9 +1,11 @@
 //! Laws of the store, as functions without a body.
-ghost use Rattle.tg_collect.specs.Runs.{IsComplete, IsBounded};
+ghost use Rattle.tg_collect.specs.Runs.{CallsAct, IsComplete, IsBounded};
 ghost use Rattle.tg_collect.specs.Openings.{OpeningsCanBeStored};
 
-/// A law, at no cost: by what the store promises of its steps, every run is complete and bounded.
+/// A law, at no cost: what a session call does is a step of a run if its new serial is new and its target live or new;
+/// and by what the store promises of its steps, every run is complete and bounded.
 pub fn runs_are_complete_and_bounded()
+    ensures acts { CallsAct }
     ensures complete { IsComplete }
     ensures bounded { IsBounded }
 {}

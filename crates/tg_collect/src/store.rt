@@ -23,8 +23,8 @@ use tg_heap::{HeapFull, Key};
 use tg_rights::{Kind, Rights, Text};
 
 /// Vertices with their labelled edges in slots and cells, the principals, each seat's pending target and agent, and
-/// their collector. Contracts see what is held as a protection graph, and of the collector its phase, the colours, what is
-/// parked and what is left of a cycle.
+/// their collector. Contracts see what is held as a protection graph, what each slot has and in which colour, also
+/// if it is parked, and of the collector its phase, how far the sweep is, and what is left of a cycle.
 ///
 /// A call that names a slot requires that a vertex is held there; one that names a seat, that it is 0 to 63.
 #[derive(Drop)]

@@ -162,7 +162,7 @@ lines b _ _ _ _ _ (blackens i s is) g =
     = λ e. subst (λ (es : List Edge). Contains es e) (sym (ap edges_of is) ∙ g.phase.scanned.all ∙ append-nil g.phase.scanned.passed) in
     let white = put_each (λ j o. mark_of o ≡ Has White → mark b j ≡ Has White) b i black within (λ w. absurd (cc)) (λ j n w. w) in
     keeps_by b (put b i black) (Marking (Some (record { slot = i; rest = [] }))) (Marking None) false tt marks refl (length-set b.slots i _)
-    (put_each (λ j o. Turns (IsCalled b) Mark j (spot b j) o) b i black within (rw is (turns_black s (let m = (g.greys.scanned i refl).0 in let k = ap mark_of is in cc) (λ k e. cc))) (λ j n. stays (spot b j)))
+    (put_each (λ j o. Turns (IsCalled b) Mark j (spot b j) o) b i black within (rw is (turns_black s (let m = (g.greys.scanned i refl).0 in let k = ap mark_of is in cc) refl)) (λ j n. stays (spot b j)))
     (put_each (λ j o. seen Mark j o ≡ kept b Mark j) b i black within (rw is refl) (λ j n. refl))
     (put_greys b i black (λ j. j ≡ i) (λ j. ⊥) within (λ e. cc) (g.greys.scanned i refl).1 (λ j n e. n e) (λ j x. absurd x) g.greys)
     (record {

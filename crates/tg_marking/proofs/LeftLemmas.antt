@@ -9,7 +9,7 @@ use Rattle.tg_marking.specs.Values.{White, Grey, Has, Edge, Contains, Distinct, 
 use Rattle.tg_marking.specs.Steps.{put, shade, shade_all, new_colour, Line, starts, scans, blackens, takes, shades_target, starts_sweep, skips, whitens, strips, frees, finishes, PutsEdge, Places, DropsEdge, Rewrites, Trims, ahead}
 use Rattle.tg_marking.specs.Invariant.{Invariant, Leads}
 use Rattle.tg_marking.specs.Left.{total, weight, slot_left, phase_left, parked_cells, bound, left, Celled, IsBounded, free_one, held_one, parked_one, held_cells, IsCounted, NeverRaises}
-use Rattle.tg_marking.proofs.SpotLemmas.{at_within, contains_mapped, mark_is, kept_within, held_keeps, shade_each, shade_done, shade_size, shade_marks}
+use Rattle.tg_marking.proofs.SpotLemmas.{at_within, contains_mapped, mark_is, put_each, kept_within, held_keeps, shade_each, shade_done, shade_size, shade_marks}
 use Rattle.tg_marking.proofs.KeepLemmas.{line_collected}
 
 -- Two functions, of which one is below the other but perhaps at one number.
@@ -142,8 +142,13 @@ left_places b b' p i serial cells kind text s = rw s.is (omega (
   left_put b p p i cells 0 (Some (record { serial = serial; kind = kind; text = text; edges = []; colour = new_colour (shown p) i })) s.inside (rw s.free (grind arith)) (λ j n. omega arith),
 ))
 
-pub left_rewrites : (b b' : Body) (p : Progress) (i cells : ℕ) (text : List ℕ) → Rewrites b i text b' → left cells b' p ≤ left cells b p
-left_rewrites b b' p i cells text s = rw s.is (left_regards b p i cells s.owner s.owner.edges text s.at (inr (omega arith)))
+pub left_rewrites : (b b' : Body) (p : Progress) (i cells : ℕ) (text : List ℕ) → Rewrites b i text b' → left cells b' p ≡ left cells b p
+left_rewrites b b' p i cells text s = rw (s.is, length-set b.slots i (Some new)) (ap (λ f. phase_left (length b.slots) cells p + total f (length b.slots)) (λ t j. still j t)) where
+  new : Spot
+  new = record s.owner { text = text }
+
+  still : (j : ℕ) → slot_left (length b.slots) p j (spot (put b i (Some new)) j) ≡ slot_left (length b.slots) p j (spot b j)
+  still = put_each (λ j o. slot_left (length b.slots) p j o ≡ slot_left (length b.slots) p j (spot b j)) b i (Some new) (at_within b.slots i s.owner s.at) (rw s.at (grind arith)) (λ j n. refl)
 
 pub left_drops : (b b' : Body) (p p' : Progress) (i : ℕ) (before : List Edge) (e : Edge) (news after : List Edge) (cells : ℕ) → DropsEdge b p i before e news after b' p' → length news ≤ 1 → left cells b' p' ≤ left cells b p
 left_drops b b' p p' i before e news after cells s one = rw s.is (by p p' s.stage) where

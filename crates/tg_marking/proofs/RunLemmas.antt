@@ -1,11 +1,10 @@
 -- What was not live has no slot once two cycles have ended; without sessions three cycles leave what is live.
-use Rattle.std.proofs.Common.{◌≡◌, ◌≢◌, ℕ, zero, suc, ◌-◌, ◌≤◌, Bool, true, false, cond, Option, Some, ◌⊎◌, inl, inr, sym, ◌∙◌, subst, refl, arith, length, ◌+◌, ap}
+use Rattle.std.proofs.Common.{◌≡◌, ◌≢◌, ℕ, zero, suc, ◌-◌, ◌≤◌, Bool, true, false, cond, Option, Some, ◌⊎◌, inl, inr, sym, ◌∙◌, subst, refl, arith, length, ◌+◌}
 use Rattle.std.proofs.lemmas.Bool.Decides.{nat_tests}
-use Rattle.tg_marking.specs.Values.{Colour, White, Grey, Black, Edge, Contains, Roots, HasRoot, Spot, Stage, Idle, Sweep, Body, spot, IsRoot, keeps, Kept, as_kept, kept, seen}
+use Rattle.tg_marking.specs.Values.{Colour, White, Grey, Black, Edge, Contains, Roots, HasRoot, Spot, Stage, Idle, Mark, Sweep, Body, spot, IsRoot, keeps, Kept, as_kept, kept}
 use Rattle.tg_marking.specs.Invariant.{at_root, along, IsLive}
 use Rattle.tg_marking.specs.Collected.{IsCalled, Turns, stays, greys, blackens, whitens, strips, frees, Stays, Follows, begins, marks, parks, ends as ended, Parks, Collected}
-use Rattle.tg_marking.specs.Runs.{Sane, IsLiveIn, IsLiveOrNew, Changes, same, shaded, regards, comes, Acted, RunOf, begin, acts, goes, ends, IsComplete, Settles}
-use Rattle.tg_marking.proofs.SpotLemmas.{contains_mapped, seen_is}
+use Rattle.tg_marking.specs.Runs.{Sane, IsLiveIn, IsLiveOrNew, Acted, RunOf, begin, acts, goes, ends, IsComplete, Settles}
 
 -- Roots are good, and edges of good ones lead to good ones.
 record Fence (good : ℕ → Type 0) (b : Body) (p : Stage) : Type 0 where
@@ -36,42 +35,38 @@ live_keeps good b p g f _ k (along i t e r is o) h =
     let there = g.closed.edges i t e is o in
     let old = f.edges i t e is (live_keeps good b p g f i t r is) o in grind arith
 
--- More serials are new, and more are targets.
-pub changes_grow : (b : Body) (g : Stage) (N N' T T' : ℕ → Type 0) → ((x : ℕ) → N x → N' x) → ((x : ℕ) → T x → T' x) → (i : ℕ) (o o' : Option Spot) → Changes b g N T i o o' → Changes b g N' T' i o o'
-changes_grow b g N N' T T' n t i _ _ (same o) = same o
-changes_grow b g N N' T T' n t i _ _ (shaded s w r) = shaded s w r
-changes_grow b g N N' T T' n t i _ _ (regards s es text led) = regards s es text (λ e c. elim (led e c) [ inl old ↦ inl old | inr to ↦ inr (t e.serial to) ])
-changes_grow b g N N' T T' n t i _ _ (comes s new colour led) = comes s (n s.serial new) colour (λ e c. t e.serial (led e c))
+-- What is due of a spot was due of the one that its serial had.
+due_before : (n : ℕ) (g : Stage) (i j : ℕ) (c d : Colour) → (c ≡ White) ⊎ (c ≡ d) → (keeps g i c ≡ true → keeps g j d ≡ true) → Due n g i c → Due n g j d
+due_before zero g i j c d same held w = absurd w
+due_before (suc zero) Idle i j c d same held w = absurd w
+due_before (suc zero) Mark i j c d same held w = absurd w
+due_before (suc zero) (Sweep k) i j c d same held w = grind arith
+due_before (suc (suc zero)) Idle i j c d same held w = grind arith
+due_before (suc (suc zero)) Mark i j c d same held w = grind arith
+due_before (suc (suc zero)) (Sweep k) i j c d same held w = held w
+due_before (suc (suc (suc n))) g i j c d same held w = tt
 
 -- Session steps.
 module _ (good : ℕ → Type 0) (next : ℕ) (fresh : (x : ℕ) → next ≤ x → good x) (b b' : Body) (p : Stage) (g : Sane b p) (a : Acted b p b' next) (f : Fence good b p) where
   wanted : (x : ℕ) → IsLiveOrNew b p next x → good x
   wanted x w = let new = fresh x in grind (arith, live_keeps good b p g f)
 
-  live : (i : ℕ) (t : Spot) → spot b i ≡ Some t → IsRoot b i → good t.serial
-  live i t is r = let k = g.closed.roots i r in let h = f.roots i k.0 r k.1 in grind arith
-
-  slot_acts : (i : ℕ) (P : Colour → Type 0) → ((s : Spot) → spot b i ≡ Some s → P s.colour → good s.serial) → (s : Spot) → spot b' i ≡ Some s → P s.colour → good s.serial
-  slot_acts i P old s is d = let t = a.slots i in grind (arith, live, fresh)
-
-  edge_acts : (i : ℕ) (o o' : Option Spot) → spot b i ≡ o → Changes b p (λ x. next ≤ x) (IsLiveOrNew b p next) i o o' → (k : Kept) (e : Edge) → seen p i o' ≡ Some k → good k.serial → Contains k.edges e → good e.serial
-  edge_acts i _ _ at (same o) k e h d c = f.edges i k e (ap (seen p i) at ∙ h) d c
-  edge_acts i _ _ at (shaded s w r) k e h d c = f.edges i k e (let root = (g.closed.roots i r).1 in grind arith) d c
-  edge_acts i _ _ at (regards s es text led) k e h d c =
-      let now = seen_is p i (record s { edges = es; text = text }) k h in
-      elim (led e (subst (λ (q : Kept). Contains q.edges e) (sym now.1) c)) [
-        | inl old ↦ (let x = contains_mapped (λ (z : Edge). z.serial) s.edges e.serial old in let here = f.edges i (as_kept s) x.0 in grind arith)
-        | inr to ↦ wanted e.serial to
-      ]
-  edge_acts i _ _ at (comes s n colour led) k e h d c = wanted e.serial (led e (subst (λ (q : Kept). Contains q.edges e) (sym (seen_is p i s k h).1) c))
+  spots_act : (n : ℕ) → HowFar good n b p → HowFar good n b' p
+  spots_act n old i s is d = elim (a.spots i s is) [
+    | inl (j, t, at, same, colour, held) ↦ subst good same (old j t at (due_before n p i j s.colour t.colour colour held d))
+    | inr w ↦ wanted s.serial w
+  ]
 
   far_acts : (n : ℕ) → HowFar good n b p → Far good n b' p
   far_acts n old = (
     record {
       roots = λ i k r h. wanted k.serial (a.roots i k r h);
-      edges = λ i k e. edge_acts i (spot b i) (spot b' i) refl (a.slots i) k e;
+      edges = λ i k e h d c. elim (a.edges i k e h c) [
+        | inl (j, o, x, there, named, has, to) ↦ subst good to (f.edges j o x there (subst good (sym named) d) has)
+        | inr w ↦ wanted e.serial w
+      ];
     },
-    λ i. slot_acts i (Due n p i) (old i),
+    spots_act n old,
   )
 
 -- Collector steps.

@@ -12,7 +12,7 @@ IsCalled b i = IsRoot b i ⊎ ((j : ℕ) × (s : Spot) × (e : Edge) × (spot b 
 pub data Turns (Called : ℕ → Type 0) (g : Stage) (i : ℕ) : Option Spot → Option Spot → Type 0 where
   stays : (o : Option Spot) → Turns Called g i o o
   greys : (s : Spot) → s.colour ≡ White → ((k : ℕ) → g ≢ Sweep k) → Called i → Turns Called g i (Some s) (Some (record s { colour = Grey }))
-  blackens : (s : Spot) → s.colour ≡ Grey → ((k : ℕ) → g ≢ Sweep k) → Turns Called g i (Some s) (Some (record s { colour = Black }))
+  blackens : (s : Spot) → s.colour ≡ Grey → g ≡ Mark → Turns Called g i (Some s) (Some (record s { colour = Black }))
   whitens : (s : Spot) → s.colour ≡ Black → g ≡ Sweep i → Turns Called g i (Some s) (Some (record s { colour = White }))
   strips : (s : Spot) (e : Edge) (r : List Edge) → s.colour ≡ White → g ≡ Sweep i → s.edges ≡ e ∷ r → Turns Called g i (Some s) (Some (record s { edges = r }))
   frees : (s : Spot) → s.colour ≡ White → g ≡ Sweep i → s.edges ≡ [] → Turns Called g i (Some s) None

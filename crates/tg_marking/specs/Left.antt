@@ -72,11 +72,11 @@ pub record IsCounted : Type 0 where
   pub slots : (b : Body) (g : Stage) → total (λ i. free_one (spot b i)) (length b.slots) + total (λ i. held_one (kept b g i)) (length b.slots) + total (λ i. parked_one g i (spot b i)) (length b.slots) ≡ length b.slots
   pub cells : (b : Body) (g : Stage) → total (λ i. held_cells (kept b g i)) (length b.slots) + total (λ i. parked_cells g i (spot b i)) (length b.slots) ≡ total (λ i. length (out b i)) (length b.slots)
 
--- no session step raises what is left
+-- no session step raises what is left; roots and texts are no part of it
 pub record NeverRaises : Type 0 where
   pub roots : (b : Body) (p : Progress) (cells : ℕ) (rs : Roots) → left cells (record b { roots = rs }) p ≡ left cells b p
   pub shades : (b : Body) (p : Progress) (i cells : ℕ) → left cells (shade b i) p ≤ left cells b p
   pub puts_edge : (b b' : Body) (p : Progress) (i cells : ℕ) (new : Edge) → PutsEdge b p i new b' → left cells b' p ≤ left cells b p
   pub places : (b b' : Body) (p : Progress) (i serial cells : ℕ) (kind : Kind) (text : List ℕ) → Places b p i serial kind text b' → left cells b' p ≤ left cells b p
   pub drops_edge : (b b' : Body) (p p' : Progress) (i : ℕ) (before : List Edge) (e : Edge) (news after : List Edge) (cells : ℕ) → DropsEdge b p i before e news after b' p' → length news ≤ 1 → left cells b' p' ≤ left cells b p
-  pub rewrites : (b b' : Body) (p : Progress) (i cells : ℕ) (text : List ℕ) → Rewrites b i text b' → left cells b' p ≤ left cells b p
+  pub rewrites : (b b' : Body) (p : Progress) (i cells : ℕ) (text : List ℕ) → Rewrites b i text b' → left cells b' p ≡ left cells b p

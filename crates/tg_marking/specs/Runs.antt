@@ -1,7 +1,6 @@
 -- runs of session steps and collector steps, by what callers see
-use Rattle.std.specs.Prelude.{◌≡◌, ◌≢◌, ℕ, suc, ◌<◌, ◌≤◌, List, Option, Some, None, ◌⊎◌, true, false, map}
-use Rattle.tg_marking.specs.Values.{White, Grey, Black, Has, Edge, Contains, Spot, Stage, Idle, Body, spot, mark, name, IsRoot, Kept, kept}
-use Rattle.tg_marking.specs.Steps.{new_colour}
+use Rattle.std.specs.Prelude.{◌≡◌, ◌≢◌, ℕ, suc, ◌<◌, ◌≤◌, Some, ◌⊎◌, true, false}
+use Rattle.tg_marking.specs.Values.{White, Black, Has, Edge, Contains, Spot, Stage, Idle, Body, spot, mark, name, IsRoot, keeps, Kept, kept}
 use Rattle.tg_marking.specs.Invariant.{Closed, IsLive}
 use Rattle.tg_marking.specs.Collected.{Collected}
 
@@ -9,28 +8,24 @@ use Rattle.tg_marking.specs.Collected.{Collected}
 abbrev pub IsLiveIn : Body → Stage → ℕ → Type 0
 IsLiveIn b g x = (i : ℕ) × (k : Kept) × IsLive b g i × (kept b g i ≡ Some k) × (k.serial ≡ x)
 
--- one of these edges leads to the same serial
-abbrev pub LedTo : List Edge → Edge → Type 0
-LedTo es e = Contains (map (λ (d : Edge). d.serial) es) e.serial
-
--- what a session step does to one slot, where these serials are new and these are targets: nothing; a white root turns
--- grey; edges go, or come that lead to targets, and the text may be another; or a new vertex comes into a free slot. A
--- vertex keeps its slot.
-pub data Changes (b : Body) (g : Stage) (New Target : ℕ → Type 0) (i : ℕ) : Option Spot → Option Spot → Type 0 where
-  same : (o : Option Spot) → Changes b g New Target i o o
-  shaded : (s : Spot) → s.colour ≡ White → IsRoot b i → Changes b g New Target i (Some s) (Some (record s { colour = Grey }))
-  regards : (s : Spot) (es : List Edge) (text : List ℕ) → ((e : Edge) → Contains es e → LedTo s.edges e ⊎ Target e.serial)
-      → Changes b g New Target i (Some s) (Some (record s { edges = es; text = text }))
-  comes : (s : Spot) → New s.serial → s.colour ≡ new_colour g i → ((e : Edge) → Contains s.edges e → Target e.serial) → Changes b g New Target i None (Some s)
-
 -- a serial is live, or new: not below `next`
 abbrev pub IsLiveOrNew : Body → Stage → ℕ → ℕ → Type 0
 IsLiveOrNew b g next x = IsLiveIn b g x ⊎ (next ≤ x)
 
--- a session step: roots that come, and what edges come to lead to, are live or new
+-- the serial of a spot had a slot, in the same colour unless the spot is white, and was held if the spot is
+abbrev pub HadSlot : Body → Stage → ℕ → Spot → Type 0
+HadSlot b g i s = (j : ℕ) × (t : Spot) × (spot b j ≡ Some t) × (t.serial ≡ s.serial) × ((s.colour ≡ White) ⊎ (s.colour ≡ t.colour)) × (keeps g i s.colour ≡ true → keeps g j t.colour ≡ true)
+
+-- what is held under the serial x had an edge to the serial y
+abbrev pub HadEdge : Body → Stage → ℕ → ℕ → Type 0
+HadEdge b g x y = (j : ℕ) × (k : Kept) × (e : Edge) × (kept b g j ≡ Some k) × (k.serial ≡ x) × Contains k.edges e × (e.serial ≡ y)
+
+-- a session step, by serials: what has a slot had one, or is live or new; roots are live or new; and edges of what is
+-- held were there, or lead to what is live or new
 pub record Acted (b : Body) (g : Stage) (b' : Body) (next : ℕ) : Type 0 where
+  pub spots : (i : ℕ) (s : Spot) → spot b' i ≡ Some s → HadSlot b g i s ⊎ IsLiveOrNew b g next s.serial
   pub roots : (i : ℕ) (k : Kept) → IsRoot b' i → kept b' g i ≡ Some k → IsLiveOrNew b g next k.serial
-  pub slots : (i : ℕ) → Changes b g (λ x. next ≤ x) (IsLiveOrNew b g next) i (spot b i) (spot b' i)
+  pub edges : (i : ℕ) (k : Kept) (e : Edge) → kept b' g i ≡ Some k → Contains k.edges e → HadEdge b g k.serial e.serial ⊎ IsLiveOrNew b g next e.serial
 
 -- what a run asks of each value
 pub record Sane (b : Body) (g : Stage) : Type 0 where

@@ -19,8 +19,8 @@ pub fn sessions_keep()
     ensures { SessionsKeep }
 {}
 
-/// A law: what is not live in an idle store has no slot once two cycles have ended, whatever sessions do; and once three
-/// cycles have ended without any session step, only what is live has one.
+/// A law: what is not live in an idle store has no slot once two cycles have ended, whatever session steps come
+/// between; and once three cycles have ended without any, only what is live has one.
 pub fn runs_are_complete()
     ensures complete { IsComplete }
     ensures settles { Settles }

@@ -16,13 +16,13 @@ use Rattle.tg_vault.specs.declared.event.Answer.{Answer}
 use Rattle.tg_vault.specs.declared.event.Answer.TheVariants as answer
 use Rattle.tg_collect.specs.declared.note.Note.{Note}
 use Rattle.tg_collect.specs.declared.note.Phase.{Phase}
-use Rattle.tg_collect.specs.declared.note.Phase.TheVariants.{Idle, Mark, Sweep}
+use Rattle.tg_collect.specs.declared.note.Phase.TheVariants.{Idle}
 use Rattle.tg_collect.specs.Stored.{Stored}
 use Rattle.tg_collect.specs.Readings.{held, IsHeldIn, IsRootIn, agents, cycle_bound, pending, phase, slot_count}
 use Rattle.tg_collect.specs.Views.{IsStore, Collected}
 use Rattle.tg_collect.specs.Runs.{StoreRun, start, acts, goes, ends}
 use Rattle.tg_collect.specs.Runs as runs
-use Rattle.tg_collect.proofs.RunLemmas.{acted_phase, idle_ends_none}
+use Rattle.tg_collect.proofs.RunLemmas.{acted_phase, calls_act, idle_ends_none, known}
 use Rattle.tg_vault.specs.History.{graph_of}
 use Rattle.tg_vault.specs.World.{Run}
 use Rattle.tg_vault.specs.Seen.{seen}
@@ -110,12 +110,13 @@ goes_grow v e a u g =
     let grows = graph_grows (graph_now v) adds.added in
     omega arith
 
-module _ (next : ℕ) (first : Stored) where
+module _ (next : ℕ) (first : Stored) (opens : IsStore first) where
   acts_run : (v u : Contents) (ended since : ℕ) → next ≤ (graph_now v).next → StoreRun next first v.store ended since → SessionStep v u → IsStore u.store → StoreRun next first u.store ended since
   acts_run v u ended since low run a store =
-      acts v.store u.store ended since a.came a.target run a.acted
+      acts v.store u.store ended since run
+      (calls_act v.store u.store a.came a.target next (known next first v.store ended since opens run).store store a.acted
       (λ x is. let up = a.next x is in omega arith)
-      (λ x is. elim (a.live x is) [ inl live ↦ inl (live_held v.store (graph_now v).next next (graph_now v).names (graph_now v).retired (IsRootIn v.store) x live) | inr above ↦ inr (omega arith) ])
+      (λ x is. elim (a.live x is) [ inl live ↦ inl (live_held v.store (graph_now v).next next (graph_now v).names (graph_now v).retired (IsRootIn v.store) x live) | inr above ↦ inr (omega arith) ]))
       store
 
   -- nothing was collected
@@ -248,7 +249,7 @@ from_idle law m sound idle (event.Collect ∷ es) note back w course two x slot 
     let open_end : note.ended ≡ false = idle_ends_none g.stored.0 idle in
     let next = (graph_now m).next in
     let grows = goes_grow m event.Collect (answer.Noted note) u g in
-    let run = course_store next u.store u es back w 0 0 grows start course.2 in
+    let run = course_store next u.store g.coherent.store u es back w 0 0 grows start course.2 in
     let more = ended_more (answer.Noted note) back in
     let first : ◌≡◌ {A = ℕ} (cond note.ended 1 0) 0 = ap (λ b. cond b 1 0) open_end in
     law m.store u.store w.store next (0 + ended_in back) (since_in 0 back) note.freed sound.store idle
@@ -281,7 +282,7 @@ course_bounded law v es answers w sound course = λ front middle back is many.
     let kept : Keeps v m = course_keeps v (take (length front) es) front m s.before in
     let t = split m (drop (length front) es) middle back w s.from in
     let low : (graph_now m).next ≤ (graph_now m).next = omega arith in
-    let run = course_store (graph_now m).next m.store m (take (length middle) (drop (length front) es)) middle t.mid 0 0 low start t.before in
+    let run = course_store (graph_now m).next m.store here.store m (take (length middle) (drop (length front) es)) middle t.mid 0 0 low start t.before in
     let few = law m.store t.mid.store (graph_now m).next (0 + ended_in middle) (since_in 0 middle) here.store run in
     let bound : cycle_bound (slot_count m.store) m.store.cells ≡ cycle_bound v.limits.slots v.limits.cells =
     λ i. cycle_bound ((here.ties.slots ∙ ap (λ (l : Limits). l.slots) kept.limits) i) ((here.ties.cells ∙ ap (λ (l : Limits). l.cells) kept.limits) i) in

@@ -21,8 +21,7 @@ use Rattle.tg_graph.proofs.RestrictionLemmas.{by_vertices}
 use Rattle.tg_graph.proofs.RollLemmas.{any_is, contains_filter, filter_contains, is_any}
 use Rattle.tg_graph.proofs.VertexLemmas.{IsVertex-from_kind}
 use Rattle.tg_collect.specs.declared.note.Note.{Note}
-use Rattle.tg_collect.specs.declared.note.Phase.{Phase}
-use Rattle.tg_collect.specs.declared.note.Phase.TheVariants.{Idle, Mark, Sweep}
+use Rattle.tg_collect.specs.declared.note.Phase.TheVariants.{Idle}
 use Rattle.tg_collect.specs.Readings.{phase}
 use Rattle.tg_collect.specs.Runs as runs
 use Rattle.tg_collect.specs.Views.{IsStore}

@@ -1,7 +1,6 @@
 use Rattle.std.proofs.Common.{ap, arith, sym, ◌-◌, length}
-use Rattle.tg_collect.proofs.SlotLemmas.{other_count, still_within}
+use Rattle.tg_collect.proofs.SlotLemmas.{other_count, still_within, shaded_more}
 use Rattle.tg_collect.proofs.Common.{Machine, drop_all, with_shaded, other_slots}
-use Rattle.tg_collect.proofs.SlotLemmas.{shaded_more}
 use Rattle.tg_collect.proofs.machine.Machine.shade_others.Goals as goal
 
 pub loop-left-init : goal.loop-left-init
