@@ -136,7 +136,7 @@ fn words(alloc: Global, names: &[&str]) -> Result<Vec<Word>, AllocError> {
     Ok(principals)
 }
 
-pub fn edges(
+fn edges(
     alloc: Global,
     wanted: &[(u64, &str, u64)],
 ) -> Result<Vec<(u64, Rights, u64)>, AllocError> {
@@ -164,14 +164,19 @@ fn config(alloc: Global, script: &Script) -> Result<Config, AllocError>
     })
 }
 
+/// The only fault for which opening a script may fail.
+fn no_memory(rt: &impl Abort, fault: OpenFault) -> AllocError {
+    assert!(rt; fault == OpenFault::OutOfMemory, "refused: {fault:?}");
+    AllocError
+}
+
 /// The graph that a script is opened with, which a store of the script's slots and cells can open.
 pub fn graph(rt: &impl Abort, alloc: Global, script: &Script) -> Result<Graph, AllocError>
     ensures { IfOk result (λ graph. Fitted graph script.now.slots script.now.cells) }
 {
     let config = config(alloc, script)?;
     match Graph::build(alloc, &config) {
-        Err(OpenFault::OutOfMemory) => Err(AllocError),
-        Err(fault) => panic!(rt; "refused: {fault:?}"),
+        Err(fault) => Err(no_memory(rt, fault)),
         Ok(graph) => {
             crate::openings_can_be_stored();
             Ok(graph)
