@@ -21,7 +21,7 @@ use Rattle.tg_talk.proofs.TakingLemmas.{weaker}
 use Rattle.tg_talk.specs.Endings.{EndsOnce}
 use Rattle.tgdoc.specs.Runs.{RefusesOpening}
 use Rattle.tgdoc.specs.Audits.{AuditRead, BytesAudited, End, EndsAt, EndsInSteps, IsRead, Misreads, OpensGraph, SaysGoal, SaysStep, StepsRead, at_configuration, at_goal, end_errors, ended, here, in_steps, judged, later, misread, no_line, none, not_read, refused, step, stopped, too_long, too_many, unjudged, verdict_errors}
-use Rattle.tgdoc.specs.Auditing.{Advances, EndsBytes, EndsEarlyBytes, EndsStepBytes, Judges, NoRefusal, TakesRead, TakesSteps, TellsVerdict, end_after}
+use Rattle.tgdoc.specs.Auditing.{Advances, EndsBytes, EndsEarlyBytes, EndsStepBytes, Judges, NoRefusal, RefusesBy, TakesRead, TakesSteps, TakesWanted, TellsVerdict, end_after}
 use Rattle.tg_talk.specs.Answering.{one_if}
 use Rattle.tgdoc.specs.declared.audit.Ending.{Ending}
 use Rattle.tgdoc.specs.declared.audit.Ending.TheVariants as ending
@@ -45,10 +45,6 @@ unfailed false x e h = refl
 pub passed : {T E : Type 0} (r : Result T E) (e : E) (P : E → Type 0) → IsErrAnd r (λ y. y ≡ e) → P e → IfErr r P
 passed (Ok x) e P is h = tt
 passed (Err y) e P is h = subst P (sym is) h
-
-pub err_maps : {T E : Type 0} (r : Result T E) (P Q : E → Type 0) → IfErr r P → ((e : E) → P e → Q e) → IfErr r Q
-err_maps (Ok x) P Q h f = tt
-err_maps (Err e) P Q h f = f e h
 
 -- ---- the line that ends an audit
 
@@ -92,9 +88,6 @@ misreads read line wire.BadField h = misread wire.BadField h refl
 misreads read line wire.UnknownField h = misread wire.UnknownField h refl
 misreads read line wire.TooLong h = misread wire.TooLong h refl
 misreads read line wire.OutOfMemory h = not_read refl
-
-pub takes_read : (Says : List ℕ → Type 0) (n m : ℕ) (line : List ℕ) (left : Option (List ℕ)) (xs : List ℕ) → m ≡ n + 1 → m ≤ MOST_LINES → length line ≤ LONGEST_LINE → TakesLine line xs left → Says line → TakesRead Says n left xs
-takes_read Says n m line left xs count most short takes says = record { line = line; takes = takes; read = record { within = omega arith; short = short; says = says } }
 
 -- ---- steps
 
@@ -179,10 +172,15 @@ wanted_is_missing o left line text n m true is count same h = absurd (true≢fal
 wanted_is_missing o left line text n m false is count same h =
     weaker o (Advances false line left) (EndsBytes NoRefusal true n (record { lines = m; text = text; fault = None })) h (λ xs over. ends_missing NoRefusal n m xs text (omega arith) over same)
 
-pub wanted_is_refused : (Refuses : List ℕ → List ℕ → Type 0) (n m : ℕ) (line text : List ℕ) (o left : Bytes) → m ≡ n + 1 → m ≤ MOST_LINES → length line ≤ LONGEST_LINE → IfSome o (Advances true line left) → Refuses line text
-    → IfSome o (EndsBytes Refuses true n (record { lines = m; text = text; fault = None }))
-wanted_is_refused Refuses n m line text o left count most short h refuses =
-    weaker o (Advances true line left) (EndsBytes Refuses true n (record { lines = m; text = text; fault = None })) h (λ xs takes. ends_refused Refuses true n m xs line text left count most short takes refuses)
+pub wanted_is_taken : (n m : ℕ) (line : List ℕ) (o left : Bytes) (more : Bool) → more ≡ true → m ≡ n + one_if more → m ≤ MOST_LINES → length line ≤ LONGEST_LINE → IfSome o (Advances more line left) → TakesWanted n m line o left
+wanted_is_taken n m line o left true is count most short takes = record { count = count; most = most; short = short; takes = takes }
+wanted_is_taken n m line o left false never count most short takes = absurd (true≢false (sym never))
+
+pub is_read : (Says : List ℕ → Type 0) {n m : ℕ} {line : List ℕ} {o left : Bytes} → TakesWanted n m line o left → Says line → IfSome o (TakesRead Says n left)
+is_read Says {n} {m} {line} {o} {left} taken says =
+    let count : m ≡ n + 1 = taken.count in
+    let most : m ≤ 1000000 = taken.most in
+    weaker o (Advances true line left) (TakesRead Says n left) taken.takes (λ xs takes. record { line = line; takes = takes; read = record { within = omega (arith, count, most); short = taken.short; says = says } })
 
 -- an ending by the refusal of a line, after this many
 refusal_after : (e : Ending) (n : ℕ) → (end_after e n).fault ≡ None → record { lines = n; text = (end_after e n).text; fault = None } ≡ end_after e n
@@ -192,11 +190,11 @@ refusal_after ending.TooMany n is = absurd (cc)
 refusal_after (ending.Refused f) n is = refl
 refusal_after (ending.Unsound f) n is = refl
 
-pub opening_is_refused : (n m : ℕ) (line : List ℕ) (e : Ending) (o left : Bytes) → m ≡ n + 1 → m ≤ MOST_LINES → length line ≤ LONGEST_LINE → IfSome o (Advances true line left)
-    → ((k : ℕ) → ((end_after e k).fault ≡ None) × RefusesOpening line (end_after e k).text) → IfSome o (EndsBytes RefusesOpening true n (end_after e m))
-opening_is_refused n m line e o left count most short h refuses =
-    subst (λ end. IfSome o (EndsBytes RefusesOpening true n end)) (refusal_after e m (refuses m).0)
-    (wanted_is_refused RefusesOpening n m line (end_after e m).text o left count most short h (refuses m).1)
+pub is_refused : (Refuses : List ℕ → List ℕ → Type 0) (e : Ending) {n m : ℕ} {line : List ℕ} {o left : Bytes} → TakesWanted n m line o left → RefusesBy Refuses line e → IfSome o (EndsBytes Refuses true n (end_after e m))
+is_refused Refuses e {n} {m} {line} {o} {left} taken refuses =
+    subst (λ end. IfSome o (EndsBytes Refuses true n end)) (refusal_after e m (refuses m).0)
+    (weaker o (Advances true line left) (EndsBytes Refuses true n (record { lines = m; text = (end_after e m).text; fault = None })) taken.takes
+    (λ xs takes. ends_refused Refuses true n m xs line (end_after e m).text left taken.count taken.most taken.short takes (refuses m).1))
 
 -- ---- all lines
 

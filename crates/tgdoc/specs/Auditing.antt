@@ -1,5 +1,5 @@
 -- the parts of an audit
-use Rattle.std.specs.Prelude.{◌≡◌, ℕ, ◌+◌, List, [], length, Bool, true, false, Option, Some, None, ◌⊎◌}
+use Rattle.std.specs.Prelude.{◌≡◌, ℕ, ◌+◌, ◌≤◌, List, [], length, Bool, true, false, Option, Some, None, IfSome, ◌⊎◌}
 use Rattle.std.specs.Io.KnownBytes.{prepend_known}
 use Rattle.tg_graph.specs.declared.derivation.Goal.{Goal}
 use Rattle.tg_graph.specs.declared.derivation.Step.{Step}
@@ -49,6 +49,17 @@ EndsStepBytes n e xs = EndsInSteps n (lines_of xs) e
 -- the audit ends without a verdict on the bytes xs
 abbrev pub EndsEarlyBytes : End → List ℕ → Type 0
 EndsEarlyBytes e xs = EndsEarly (lines_of xs) e
+
+-- after n lines one more is taken, no longer than a line may be; with it they are m, and these bytes are left
+pub record TakesWanted (n m : ℕ) (line : List ℕ) (bytes left : Option (List ℕ)) : Type 0 where
+  pub count : m ≡ n + 1
+  pub most : m ≤ 1000000
+  pub short : length line ≤ 16384
+  pub takes : IfSome bytes (Advances true line left)
+
+-- a line is refused with the text of this ending
+abbrev pub RefusesBy : (List ℕ → List ℕ → Type 0) → List ℕ → Ending → Type 0
+RefusesBy Refuses line ending = (n : ℕ) → ((end_after ending n).fault ≡ None) × Refuses line (end_after ending n).text
 
 -- the next line of the bytes xs was taken, and says this
 pub record TakesRead (Says : List ℕ → Type 0) (n : ℕ) (left : Option (List ℕ)) (xs : List ℕ) : Type 0 where

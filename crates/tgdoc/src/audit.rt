@@ -1,20 +1,19 @@
 //! An audit over lines.
 
 ghost use Rattle.std.specs.Prelude.{◌≡◌, ◌≢◌, ◌↔◌, ◌≤◌, ◌+◌, ℕ, List, [], length, false, true, IfOk, IfErr, IfSome, Some, None, Err};
-ghost use Rattle.std.specs.Io.KnownBytes.{Keeps};
 ghost use Rattle.tg_wire.specs.Lines.{goal_of};
 ghost use Rattle.tg_wire.specs.declared.line.TheConstants.{LONGEST_LINE};
 ghost use Rattle.tg_talk.specs.Devices.{Sends, device_of, has_failed, owed, promised};
 ghost use Rattle.tg_talk.specs.declared.fault.TalkFault.TheVariants.{OutOfMemory, Reading, Writing};
 ghost use Rattle.tg_talk.specs.declared.line_buffer.TheConstants.{MOST_LINES};
 ghost use Rattle.tg_talk.specs.Endings.{EndsOnce};
-ghost use Rattle.tgdoc.specs.Ready.{AreReady};
+ghost use Rattle.tgdoc.specs.Ready.{AreReady, Reports};
 ghost use Rattle.tgdoc.specs.Runs.{RefusesOpening};
 ghost use Rattle.tgdoc.specs.Audits.{BytesAudited, Misreads, OpensGraph, SaysGoal, end_errors, verdict_errors};
 ghost use Rattle.tg_talk.specs.Answering.{one_if};
-ghost use Rattle.tgdoc.specs.Auditing.{Advances, EndsBytes, EndsEarlyBytes, EndsStepBytes, Judges, NoRefusal, TakesRead, TakesSteps, TellsVerdict, end_after, unread};
+ghost use Rattle.tgdoc.specs.Auditing.{Advances, EndsBytes, EndsEarlyBytes, EndsStepBytes, Judges, NoRefusal, RefusesBy, TakesSteps, TakesWanted, TellsVerdict, end_after, unread};
 
-use crate::finish::finish;
+use crate::finish::{finish, none_taken};
 use std::alloc::Global;
 use std::io::{BufWriter, Read, Write};
 use tg_audit::check;
@@ -50,22 +49,13 @@ pub fn audit_lines<R: Read, W: Write + Drop>(
     reader: &mut Watched<R>,
     writer: &mut Watched<BufWriter<W>>,
 ) -> Finished
-    requires { AreReady (has_failed reader.old) (has_failed writer.old) (owed writer.old) }
-    ensures paid { has_failed writer.new ≡ false → owed writer.new ≡ [] }
-    ensures reading { (has_failed reader.new ≡ true) ↔ (result.fault ≡ Some Reading) }
-    ensures writing { (has_failed writer.new ≡ true) ↔ (result.fault ≡ Some Writing) }
-    ensures few { result.lines ≤ 1000001 }
-    ensures unread { result.fault ≡ Some OutOfMemory
-        → (result.lines ≡ 0) × Keeps (R.remaining (device_of reader.old)) (R.remaining (device_of reader.new)) }
+    requires { AreReady reader.old writer.old }
+    ensures report { Reports R.remaining result reader.old reader.new writer.new }
     ensures audited { IfSome (R.remaining (device_of reader.old))
         (BytesAudited result (promised W.contents writer.old) (promised W.contents writer.new) (has_failed writer.new)) }
 {
     let Ok(mut input) = InputLines::new(alloc) else {
-        return Finished {
-            lines: 0,
-            errors: 0,
-            fault: Some(TalkFault::OutOfMemory),
-        };
+        return none_taken(TalkFault::OutOfMemory);
     };
     match judge(alloc, &mut input, reader) {
         Ok(verdict) => answer(alloc, writer, input.taken(), verdict),
@@ -134,7 +124,7 @@ fn count(verdict: Verdict) -> u64
     if verdict == Verdict::Shared { 0 } else { 1 }
 }
 
-/// The verdict on the lines of the input.
+/// The verdict on the lines of the input: a configuration, a goal, and steps.
 fn judge<R: Read>(
     alloc: Global,
     input: &mut InputLines,
@@ -147,51 +137,14 @@ fn judge<R: Read>(
     ensures ok { IfOk result (λ verdict. IfSome (unread input.old (R.remaining (device_of reader.old))) (Judges verdict input.new.taken)) }
     ensures err { IfErr result (λ ending. IfSome (unread input.old (R.remaining (device_of reader.old))) (EndsEarlyBytes (end_after ending input.new.taken))) }
 {
-    let graph = take_graph(alloc, input, reader)?;
-    let goal = take_goal(alloc, input, reader)?;
+    take_wanted(input, reader)?;
+    let graph = open_graph(alloc, input.line())?;
+    take_wanted(input, reader)?;
+    let goal = goal_in(alloc, input.line())?;
     let steps = take_steps(alloc, input, reader)?;
     match check(alloc, graph, &steps, goal) {
         Ok(verdict) => Ok(verdict),
         Err(_) => Err(Ending::Refused(WireFault::OutOfMemory)),
-    }
-}
-
-/// Takes the configuration line, and opens its graph.
-fn take_graph<R: Read>(
-    alloc: Global,
-    input: &mut InputLines,
-    reader: &mut Watched<R>,
-) -> Result<Graph, Ending>
-    requires few { input.old.taken ≤ MOST_LINES }
-    requires reads { has_failed reader.old ≡ false }
-    ensures failed { (has_failed reader.new ≡ true) ↔ (result ≡ Err Ending.Failed) }
-    ensures most { input.new.taken ≤ MOST_LINES + 1 }
-    ensures few { IfOk result (λ _. (input.new.taken ≡ input.old.taken + 1) × (input.new.taken ≤ MOST_LINES)) }
-    ensures ok { IfOk result (λ graph. IfSome (unread input.old (R.remaining (device_of reader.old))) (TakesRead (OpensGraph graph) input.old.taken (unread input.new (R.remaining (device_of reader.new))))) }
-    ensures err { IfErr result (λ ending. IfSome (unread input.old (R.remaining (device_of reader.old))) (EndsBytes RefusesOpening true input.old.taken (end_after ending input.new.taken))) }
-{
-    take_wanted(input, reader)?;
-    open_graph(alloc, input.line())
-}
-
-/// Takes the goal line.
-fn take_goal<R: Read>(
-    alloc: Global,
-    input: &mut InputLines,
-    reader: &mut Watched<R>,
-) -> Result<Goal, Ending>
-    requires few { input.old.taken ≤ MOST_LINES }
-    requires reads { has_failed reader.old ≡ false }
-    ensures failed { (has_failed reader.new ≡ true) ↔ (result ≡ Err Ending.Failed) }
-    ensures most { input.new.taken ≤ MOST_LINES + 1 }
-    ensures few { IfOk result (λ _. (input.new.taken ≡ input.old.taken + 1) × (input.new.taken ≤ MOST_LINES)) }
-    ensures ok { IfOk result (λ goal. IfSome (unread input.old (R.remaining (device_of reader.old))) (TakesRead (SaysGoal goal) input.old.taken (unread input.new (R.remaining (device_of reader.new))))) }
-    ensures err { IfErr result (λ ending. IfSome (unread input.old (R.remaining (device_of reader.old))) (EndsBytes (Misreads goal_of) true input.old.taken (end_after ending input.new.taken))) }
-{
-    take_wanted(input, reader)?;
-    match read_goal(alloc, input.line()) {
-        Ok(goal) => Ok(goal),
-        Err(fault) => Err(Ending::Refused(fault)),
     }
 }
 
@@ -228,7 +181,7 @@ fn take_steps<R: Read>(
 /// The graph that a configuration line opens.
 fn open_graph(alloc: Global, bytes: &[u8]) -> Result<Graph, Ending>
     ensures ok { IfOk result (λ graph. OpensGraph graph bytes.now) }
-    ensures err { IfErr result (λ ending. (n : ℕ) → ((end_after ending n).fault ≡ None) × RefusesOpening bytes.now (end_after ending n).text) }
+    ensures err { IfErr result (RefusesBy RefusesOpening bytes.now) }
     ensures failed { result ≢ Err Ending.Failed }
 {
     match read_config(alloc, bytes) {
@@ -240,15 +193,25 @@ fn open_graph(alloc: Global, bytes: &[u8]) -> Result<Graph, Ending>
     }
 }
 
+/// The goal that a line says.
+fn goal_in(alloc: Global, bytes: &[u8]) -> Result<Goal, Ending>
+    ensures ok { IfOk result (λ goal. SaysGoal goal bytes.now) }
+    ensures err { IfErr result (RefusesBy (Misreads goal_of) bytes.now) }
+    ensures failed { result ≢ Err Ending.Failed }
+{
+    match read_goal(alloc, bytes) {
+        Err(fault) => Err(Ending::Refused(fault)),
+        Ok(goal) => Ok(goal),
+    }
+}
+
 /// Takes the next line. No line at all is read as an empty one, which is no JSON.
 fn take_wanted<R: Read>(input: &mut InputLines, reader: &mut Watched<R>) -> Result<(), Ending>
     requires few { input.old.taken ≤ MOST_LINES }
     requires reads { has_failed reader.old ≡ false }
     ensures failed { (has_failed reader.new ≡ true) ↔ (result ≡ Err Ending.Failed) }
     ensures most { input.new.taken ≤ MOST_LINES + 1 }
-    ensures few { IfOk result (λ _. (input.new.taken ≡ input.old.taken + 1) × (input.new.taken ≤ MOST_LINES)) }
-    ensures short { length input.new.line ≤ LONGEST_LINE }
-    ensures ok { IfOk result (λ _. IfSome (unread input.old (R.remaining (device_of reader.old))) (Advances true input.new.line (unread input.new (R.remaining (device_of reader.new))))) }
+    ensures ok { IfOk result (λ _. TakesWanted input.old.taken input.new.taken input.new.line (unread input.old (R.remaining (device_of reader.old))) (unread input.new (R.remaining (device_of reader.new)))) }
     ensures err { IfErr result (λ ending. IfSome (unread input.old (R.remaining (device_of reader.old))) (EndsBytes NoRefusal true input.old.taken (end_after ending input.new.taken))) }
 {
     let more = take(input, reader)?;

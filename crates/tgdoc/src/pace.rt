@@ -1,6 +1,6 @@
 //! The collector's pace. Its own thread makes few steps and rests; whoever makes a vertex while less than half is free
-//! makes steps too: with up to three edges a slot, so many that two cycles end before no slot is left, however slow that
-//! thread is. No contract says so.
+//! makes steps too: with up to three edges a slot, so many that two cycles end before the last slot is taken, however
+//! slow that thread is. No contract says so.
 
 use std::rt::Clock;
 use std::sync::Wait;
@@ -33,6 +33,7 @@ pub(crate) struct Pace {
 }
 
 impl Pace {
+    /// The pace before the first turn, with this much room.
     pub(crate) fn new(room: Room) -> Pace {
         Pace {
             room,
@@ -66,8 +67,8 @@ impl Pace {
     }
 }
 
-/// The steps that a session makes after it made a vertex: none while half of the slots and cells is free; below, the
-/// more, the less is free.
+/// The steps that a session makes after it made a vertex: none while half of the slots and half of the cells are free;
+/// below that, the fewer are free, the more steps, until an eighth is left.
 pub(crate) fn owed(room: Room) -> u64 {
     let slots = owed_of(room.free_slots, room.slots);
     let cells = owed_of(room.free_cells, room.cells);

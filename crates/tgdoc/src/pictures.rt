@@ -1,24 +1,20 @@
 //! The vault drawn in place of answers.
-ghost use Rattle.std.specs.Prelude.{◌≡◌, ◌≢◌, ◌↔◌, ◌≤◌, [], true, false, IfSome, IfOk, Some};
-ghost use Rattle.std.specs.Io.KnownBytes.{prepend_known};
+ghost use Rattle.std.specs.Prelude.{◌≡◌, ◌≢◌, ◌↔◌, ◌≤◌, [], true, false, IfOk, Some};
 ghost use Rattle.tg_draw.specs.Picture.{Draws};
 ghost use Rattle.tg_talk.specs.Answering.{is_wrong, one_if, text_of};
-ghost use Rattle.tg_talk.specs.Devices.{device_of, has_failed, owed, promised};
+ghost use Rattle.tg_talk.specs.Devices.{has_failed, owed, promised};
 ghost use Rattle.tg_talk.specs.declared.fault.TalkFault.TheVariants.{OutOfMemory, Reading, Writing};
-ghost use Rattle.tgdoc.specs.Drawings.{DrawnFor, PicturesTold, Shown, ends_label, is_broken, line_label};
+ghost use Rattle.tgdoc.specs.Drawings.{DrawnFor, Shown, ends_label, is_broken, line_label};
 ghost use Rattle.tgdoc.specs.Drawing.{ArtistSays, DrawnLast, EndsDrawing};
-ghost use Rattle.tgdoc.specs.Running.{InputLeft};
 
 use crate::answer::answer;
 use crate::finish::finish;
 use itoa::Buffer;
 use std::alloc::{AllocError, Global};
-use std::io::{BufWriter, Read, Write};
+use std::io::{BufWriter, Write};
 use tg_draw::draw;
-use tg_talk::{
-    Finished, InputLines, Over, Responder, Said, TalkFault, Text, Watched, answer_lines,
-};
-use tg_vault::{Vault, courses_join};
+use tg_talk::{Finished, Responder, Said, TalkFault, Text, Watched};
+use tg_vault::Vault;
 use tg_wire::{LineRoom, WireFault, error_line};
 
 /// Who answers the lines of a run that is drawn: with a picture of the vault after each, or with nothing.
@@ -127,37 +123,8 @@ fn emptied(line: Vec<u8>) -> Vec<u8>
     bytes
 }
 
-/// Carries out the lines after the configuration, and draws the vault after each of them, or after the last one.
-pub(crate) fn draw_rest<R: Read, W: Write + Drop>(
-    alloc: Global,
-    each: bool,
-    vault: Vault,
-    input: InputLines,
-    reader: &mut Watched<R>,
-    writer: &mut Watched<BufWriter<W>>,
-) -> Finished
-    requires one { input.taken ≡ 1 }
-    requires reads { has_failed reader.old ≡ false }
-    requires writes { has_failed writer.old ≡ false }
-    ensures paid { has_failed writer.new ≡ false → owed writer.new ≡ [] }
-    ensures reading { (has_failed reader.new ≡ true) ↔ (result.fault ≡ Some Reading) }
-    ensures writing { (has_failed writer.new ≡ true) ↔ (result.fault ≡ Some Writing) }
-    ensures memory { result.fault ≢ Some OutOfMemory }
-    ensures few { result.lines ≤ 1000001 }
-    ensures drawn { IfSome (prepend_known input.left (R.remaining (device_of reader.old)))
-        (InputLeft (PicturesTold each) vault result (promised W.contents writer.old) (promised W.contents writer.new) (has_failed writer.new)) }
-{
-    courses_join();
-    let mut artist = Artist { alloc, vault, each };
-    let Over {
-        carried: (),
-        finished,
-    } = answer_lines(alloc, input, &mut artist, (), reader, writer);
-    end_drawing(&artist, finished, writer)
-}
-
 /// Draws the vault after the last line, if it is not drawn after each, and neither the reader nor the writer failed.
-fn end_drawing<W: Write + Drop>(
+pub(crate) fn end_drawing<W: Write + Drop>(
     artist: &Artist,
     ended: Finished,
     writer: &mut Watched<BufWriter<W>>,

@@ -26,7 +26,7 @@ use tg_vault::{Rebased, Vault};
 /// differs and the least index in it; `no memory`, if an allocation or the start of a thread failed; or `out of
 /// memory`, if a rebase lacked it. A connection that cannot be accepted counts as one. If the address cannot be
 /// written, clients are served all the same, nothing more is written, and nothing is settled; nor is anything written
-/// behind another line that failed. `workers` is from 1 to 63, and 0 for `round` is taken as 1. With a `patience` from
+/// after another line that failed. `workers` is from 1 to 63, and 0 for `round` is taken as 1. With a `patience` from
 /// 1 to 86,400, a read or a write of a connection fails once it has waited for so many seconds, which ends the talk; a
 /// connection that cannot be limited in this way ends at once.
 pub fn serve_on<R: Threads + Wait + Clock + Sync, W: Write>(

@@ -1,17 +1,17 @@
 //! A run over lines.
 
-ghost use Rattle.std.specs.Prelude.{◌≡◌, ◌≢◌, ◌↔◌, ◌≤◌, [], true, false, IfSome, IfOk, IfErr, Some};
-ghost use Rattle.std.specs.Io.KnownBytes.{Keeps, prepend_known};
-ghost use Rattle.tg_talk.specs.Devices.{device_of, has_failed, owed, promised};
-ghost use Rattle.tg_talk.specs.declared.fault.TalkFault.TheVariants.{OutOfMemory, Reading, Writing};
+ghost use Rattle.std.specs.Prelude.{◌≡◌, ◌≢◌, IfSome, IfOk, IfErr, Some};
+ghost use Rattle.std.specs.Io.KnownBytes.{prepend_known};
+ghost use Rattle.tg_talk.specs.Devices.{device_of, has_failed, promised};
+ghost use Rattle.tg_talk.specs.declared.fault.TalkFault.TheVariants.{OutOfMemory};
 ghost use Rattle.tgdoc.specs.Drawings.{LinesDrew, Told};
-ghost use Rattle.tgdoc.specs.Ready.{AreReady};
-ghost use Rattle.tgdoc.specs.Runs.{AnswersTold, InputRan, LinesRan, RefusesOpening};
+ghost use Rattle.tgdoc.specs.Ready.{AreReady, Reports};
+ghost use Rattle.tgdoc.specs.Runs.{InputRan, LinesRan, RefusesOpening};
 ghost use Rattle.tgdoc.specs.Running.{InputLeft, Opens};
 
 use crate::answer::Runner;
-use crate::finish::finish;
-use crate::pictures::draw_rest;
+use crate::finish::{finish, none_taken};
+use crate::pictures::{Artist, end_drawing};
 use std::alloc::Global;
 use std::io::{BufWriter, Read, Write};
 use tg_talk::{Finished, InputLines, Next, Over, TalkFault, Watched, answer_lines};
@@ -38,37 +38,27 @@ pub fn run_lines<R: Read, W: Write + Drop>(
     reader: &mut Watched<R>,
     writer: &mut Watched<BufWriter<W>>,
 ) -> Finished
-    requires { AreReady (has_failed reader.old) (has_failed writer.old) (owed writer.old) }
-    ensures paid { has_failed writer.new ≡ false → owed writer.new ≡ [] }
-    ensures reading { (has_failed reader.new ≡ true) ↔ (result.fault ≡ Some Reading) }
-    ensures writing { (has_failed writer.new ≡ true) ↔ (result.fault ≡ Some Writing) }
-    ensures few { result.lines ≤ 1000001 }
-    ensures unread { result.fault ≡ Some OutOfMemory
-        → (result.lines ≡ 0) × Keeps (R.remaining (device_of reader.old)) (R.remaining (device_of reader.new)) }
+    requires { AreReady reader.old writer.old }
+    ensures report { Reports R.remaining result reader.old reader.new writer.new }
     ensures ran { IfSome (R.remaining (device_of reader.old))
         (LinesRan result (promised W.contents writer.old) (promised W.contents writer.new) (has_failed writer.new)) }
 {
     take_lines(alloc, How::Answers, reader, writer)
 }
 
-/// Carries out lines as `run_lines` does, and draws the vault in place of the answers: after each line, with the line and
-/// its answer as the label, a refused one too; or once, after the last line, with how many lines there were, and how many
-/// of their answers are `error` lines. What ends a run otherwise than the end of its input is written as a run writes it,
-/// a last picture behind it. If the reader or the writer fails, nothing more is drawn. If there is no memory for a
-/// picture, `out of memory` is written in its place.
+/// Carries out lines as `run_lines` does, and draws the vault in place of the answers: after each line, with the line
+/// and its answer as the label, a refused one too; or once, after the last line, with how many lines there were, and
+/// how many of their answers are `error` lines. If anything but the end of the input ends the run, its answer is
+/// written as by `run_lines`, and then the last picture. If the reader or the writer fails, nothing more is drawn. If
+/// there is no memory for a picture, `out of memory` is written in its place.
 pub fn draw_lines<R: Read, W: Write + Drop>(
     alloc: Global,
     each: bool,
     reader: &mut Watched<R>,
     writer: &mut Watched<BufWriter<W>>,
 ) -> Finished
-    requires { AreReady (has_failed reader.old) (has_failed writer.old) (owed writer.old) }
-    ensures paid { has_failed writer.new ≡ false → owed writer.new ≡ [] }
-    ensures reading { (has_failed reader.new ≡ true) ↔ (result.fault ≡ Some Reading) }
-    ensures writing { (has_failed writer.new ≡ true) ↔ (result.fault ≡ Some Writing) }
-    ensures few { result.lines ≤ 1000001 }
-    ensures unread { result.fault ≡ Some OutOfMemory
-        → (result.lines ≡ 0) × Keeps (R.remaining (device_of reader.old)) (R.remaining (device_of reader.new)) }
+    requires { AreReady reader.old writer.old }
+    ensures report { Reports R.remaining result reader.old reader.new writer.new }
     ensures drew { IfSome (R.remaining (device_of reader.old))
         (LinesDrew each result (promised W.contents writer.old) (promised W.contents writer.new) (has_failed writer.new)) }
 {
@@ -82,30 +72,17 @@ fn take_lines<R: Read, W: Write + Drop>(
     reader: &mut Watched<R>,
     writer: &mut Watched<BufWriter<W>>,
 ) -> Finished
-    requires { AreReady (has_failed reader.old) (has_failed writer.old) (owed writer.old) }
-    ensures paid { has_failed writer.new ≡ false → owed writer.new ≡ [] }
-    ensures reading { (has_failed reader.new ≡ true) ↔ (result.fault ≡ Some Reading) }
-    ensures writing { (has_failed writer.new ≡ true) ↔ (result.fault ≡ Some Writing) }
-    ensures few { result.lines ≤ 1000001 }
-    ensures unread { result.fault ≡ Some OutOfMemory
-        → (result.lines ≡ 0) × Keeps (R.remaining (device_of reader.old)) (R.remaining (device_of reader.new)) }
+    requires { AreReady reader.old writer.old }
+    ensures report { Reports R.remaining result reader.old reader.new writer.new }
     ensures ran { IfSome (R.remaining (device_of reader.old))
         (InputRan (Told how) result (promised W.contents writer.old) (promised W.contents writer.new) (has_failed writer.new)) }
 {
     courses_have_the_headline();
     let Ok(mut input) = InputLines::new(alloc) else {
-        return Finished {
-            lines: 0,
-            errors: 0,
-            fault: Some(TalkFault::OutOfMemory),
-        };
+        return none_taken(TalkFault::OutOfMemory);
     };
     match input.next(reader) {
-        Next::Failed => Finished {
-            lines: 0,
-            errors: 0,
-            fault: Some(TalkFault::Reading),
-        },
+        Next::Failed => none_taken(TalkFault::Reading),
         Next::End => finish(writer, 0, 1, error_line(WireFault::NotJson), None),
         Next::TooLong => finish(
             writer,
@@ -149,46 +126,29 @@ fn take_rest<R: Read, W: Write + Drop>(
     writer: &mut Watched<BufWriter<W>>,
 ) -> Finished
     requires one { input.taken ≡ 1 }
-    requires reads { has_failed reader.old ≡ false }
-    requires writes { has_failed writer.old ≡ false }
-    ensures paid { has_failed writer.new ≡ false → owed writer.new ≡ [] }
-    ensures reading { (has_failed reader.new ≡ true) ↔ (result.fault ≡ Some Reading) }
-    ensures writing { (has_failed writer.new ≡ true) ↔ (result.fault ≡ Some Writing) }
+    requires ready { AreReady reader.old writer.old }
+    ensures report { Reports R.remaining result reader.old reader.new writer.new }
     ensures memory { result.fault ≢ Some OutOfMemory }
-    ensures few { result.lines ≤ 1000001 }
     ensures told { IfSome (prepend_known input.left (R.remaining (device_of reader.old)))
         (InputLeft (Told how) vault result (promised W.contents writer.old) (promised W.contents writer.new) (has_failed writer.new)) }
 {
-    match how {
-        How::Answers => answer_rest(alloc, vault, input, reader, writer),
-        How::Pictures { each } => draw_rest(alloc, each, vault, input, reader, writer),
-    }
-}
-
-/// Answers the lines after the configuration.
-fn answer_rest<R: Read, W: Write + Drop>(
-    alloc: Global,
-    vault: Vault,
-    input: InputLines,
-    reader: &mut Watched<R>,
-    writer: &mut Watched<BufWriter<W>>,
-) -> Finished
-    requires one { input.taken ≡ 1 }
-    requires reads { has_failed reader.old ≡ false }
-    requires writes { has_failed writer.old ≡ false }
-    ensures paid { has_failed writer.new ≡ false → owed writer.new ≡ [] }
-    ensures reading { (has_failed reader.new ≡ true) ↔ (result.fault ≡ Some Reading) }
-    ensures writing { (has_failed writer.new ≡ true) ↔ (result.fault ≡ Some Writing) }
-    ensures memory { result.fault ≢ Some OutOfMemory }
-    ensures few { result.lines ≤ 1000001 }
-    ensures answered { IfSome (prepend_known input.left (R.remaining (device_of reader.old)))
-        (InputLeft AnswersTold vault result (promised W.contents writer.old) (promised W.contents writer.new) (has_failed writer.new)) }
-{
     courses_join();
-    let mut runner = Runner { alloc, vault };
-    let Over {
-        carried: (),
-        finished,
-    } = answer_lines(alloc, input, &mut runner, (), reader, writer);
-    finished
+    match how {
+        How::Answers => {
+            let mut runner = Runner { alloc, vault };
+            let Over {
+                carried: (),
+                finished,
+            } = answer_lines(alloc, input, &mut runner, (), reader, writer);
+            finished
+        }
+        How::Pictures { each } => {
+            let mut artist = Artist { alloc, vault, each };
+            let Over {
+                carried: (),
+                finished,
+            } = answer_lines(alloc, input, &mut artist, (), reader, writer);
+            end_drawing(&artist, finished, writer)
+        }
+    }
 }

@@ -110,8 +110,8 @@ struct Server<'a, L: Ledger, R> {
     patience: Option<u64>,
 }
 
-/// The workers and the collector, each in a thread of its own. Returns what all connections left; none if an allocation
-/// or the start of a thread failed.
+/// The workers and the collector, each in a thread of its own. Returns the ended sessions of all connections; `None` if
+/// an allocation or the start of a thread failed.
 fn serve_in_threads<L: Ledger + Send + Sync, R: Threads + Wait + Clock + Sync>(
     server: &Server<'_, L, R>,
     workers: u64,
@@ -160,7 +160,8 @@ fn collect_until<L: Ledger, R: Wait + Clock>(rt: &R, shared: &Shared<L>, is_over
     }
 }
 
-/// Serves connections one after the other, until none is left. Returns what they left; none if an allocation failed.
+/// Serves connections one after the other, until none is left. Returns their ended sessions; `None` if an allocation
+/// failed.
 fn work<L: Ledger, R: Wait + Clock>(server: &Server<'_, L, R>, seat: u64) -> Option<Vec<Ended<L>>> {
     let mut all = Vec::new(server.alloc);
     for _ in server.rt.forever() {
@@ -185,7 +186,7 @@ fn take_one<R: Wait>(rt: &R, left: &Mutex<u64>) -> bool {
     true
 }
 
-/// One connection, in a talk on the seat; what it leaves is added to what others left.
+/// One connection, in a talk on the seat; the session that it leaves, if any, is added to the others.
 fn serve_one<L: Ledger, R: Wait + Clock>(
     server: &Server<'_, L, R>,
     seat: u64,

@@ -18,10 +18,11 @@ use tg_wire::{WireFault, error_line};
 const LISTEN: &[u8] = b"{\"error\":\"listen\"}\n";
 
 /// Reads the configuration line, listens on the address, and serves the vault, in which edges are found under a key
-/// that is drawn; if the runtime draws none, under the fixed one, since a key changes no answer. A configuration that
-/// is refused is answered as `run_lines` answers it, and no address is listened on; no line at all is read as an empty
-/// one. Then an address that is not of the loopback, or that cannot be listened on, is answered `listen`. After a
-/// refusal nothing is settled.
+/// that is drawn; if the runtime draws none, under the fixed one, since a key changes no answer. A refused
+/// configuration is answered as by `run_lines`; the answer is `out of memory` if there is no memory for the buffer of
+/// 32,768 bytes; if the line cannot be read, nothing is written. In these cases no address is listened on; no line at
+/// all is read as an empty one. Then an address that is not of the loopback, or that cannot be listened on, is answered
+/// `listen`. After a refusal nothing is settled. The numbers are those of `serve_on`.
 pub fn serve_lines<N: Platform, R: Read, W: Write>(
     rt: &N,
     alloc: Global,

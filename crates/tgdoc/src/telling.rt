@@ -1,7 +1,7 @@
-//! The lines that a server writes of itself. Without its address it writes none, and none behind one that failed.
-ghost use Rattle.std.specs.Prelude.{◌≡◌, ◌↔◌, false, true};
+//! The lines that a server writes of itself. Without its address it writes none, and none after one that failed.
+ghost use Rattle.std.specs.Prelude.{◌≡◌, ◌↔◌, ◌++◌, decimal, false, true};
 ghost use Rattle.tg_talk.specs.Devices.{device_of, has_failed};
-ghost use Rattle.tgdoc.specs.Serving.{Announces, SendsOn, agreed_line, differs_line, end_line, rebased_line};
+ghost use Rattle.tgdoc.specs.Serving.{Announces, SendsOn, agreed_line, end_line, rebased_line};
 
 use crate::serve::{Served, Unsettled};
 use itoa::Buffer;
@@ -23,7 +23,7 @@ pub(crate) fn announce<W: Write>(writer: &mut Watched<W>, listener: &TcpListener
     }
 }
 
-/// Writes how many entries a rebase dropped, and after which round. Allocates nothing.
+/// Writes how many entries a rebase dropped and after which round. Allocates nothing.
 pub(crate) fn tell_rebase<W: Write>(
     writer: &mut Watched<W>,
     is_announced: bool,
@@ -35,12 +35,14 @@ pub(crate) fn tell_rebase<W: Write>(
     if !is_announced {
         return;
     }
-    let mut digits = Buffer::new();
-    send_more(writer, b"{\"dropped\":");
-    send_more(writer, digits.format(dropped).as_bytes());
-    send_more(writer, b",\"round\":");
-    send_more(writer, digits.format(round).as_bytes());
-    send_more(writer, b"}\n");
+    send_numbers(
+        writer,
+        b"{\"dropped\":",
+        dropped,
+        b",\"round\":",
+        round,
+        b"}\n",
+    );
 }
 
 /// Writes that all logs agree.
@@ -67,7 +69,8 @@ pub(crate) fn tell<W: Write>(writer: &mut Watched<W>, is_announced: bool, end: U
     }
     match end {
         Unsettled::Differs { seat, index } => {
-            tell_difference(writer, seat, index);
+            let behind = b",\"settled\":\"differs\"}\n";
+            send_numbers(writer, b"{\"index\":", index, b",\"seat\":", seat, behind);
             Served { settled: false }
         }
         Unsettled::NoMemory => {
@@ -82,16 +85,23 @@ pub(crate) fn tell<W: Write>(writer: &mut Watched<W>, is_announced: bool, end: U
     }
 }
 
-/// Writes at which index of which seat the logs first differ. Allocates nothing.
-fn tell_difference<W: Write>(writer: &mut Watched<W>, seat: u64, index: u64)
-    ensures { SendsOn (W.contents (device_of writer.old)) (has_failed writer.old) (W.contents (device_of writer.new)) (has_failed writer.new) (differs_line seat index) }
+/// Writes two numbers and these bytes before, between and after them, unless the writer has failed. Allocates nothing.
+fn send_numbers<W: Write>(
+    writer: &mut Watched<W>,
+    before: &[u8],
+    first: u64,
+    between: &[u8],
+    second: u64,
+    behind: &[u8],
+)
+    ensures { SendsOn (W.contents (device_of writer.old)) (has_failed writer.old) (W.contents (device_of writer.new)) (has_failed writer.new) (before.now ++ decimal first ++ between.now ++ decimal second ++ behind.now) }
 {
     let mut digits = Buffer::new();
-    send_more(writer, b"{\"index\":");
-    send_more(writer, digits.format(index).as_bytes());
-    send_more(writer, b",\"seat\":");
-    send_more(writer, digits.format(seat).as_bytes());
-    send_more(writer, b",\"settled\":\"differs\"}\n");
+    send_more(writer, before);
+    send_more(writer, digits.format(first).as_bytes());
+    send_more(writer, between);
+    send_more(writer, digits.format(second).as_bytes());
+    send_more(writer, behind);
 }
 
 /// Writes further bytes, unless the writer has failed.

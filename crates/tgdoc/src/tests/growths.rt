@@ -1,8 +1,8 @@
-//! The command line if memory runs out: the error says so, and the words that are read again ask for what they do; and a
-//! picture, which is drawn again. tests/faults/growths.py makes each allocation of a test fail in turn.
+//! The command line if memory runs out: the error says so, and the words that are read again ask for what they do; and
+//! a picture, which is drawn again. tests/faults/growths.py makes each allocation of a test fail in turn.
 
 use super::CONFIG;
-use super::modes::SERVER;
+use super::modes::{SERVER, numbers_in};
 use crate::run::open;
 use crate::{Mode, mode};
 use clap::Error;
@@ -19,25 +19,7 @@ fn asked(alloc: Global) -> Result<Mode, Error> {
 
 /// Whether that is the server, with four workers, one connection and one round.
 fn is_the_server(found: &Result<Mode, Error>) -> bool {
-    match found {
-        Ok(
-            Mode::Serve {
-                listen,
-                workers,
-                connections,
-                round,
-                patience,
-            },
-        ) => {
-            listen.as_str() == "127.0.0.1:0"
-                && *workers == 4
-                && *connections == 1
-                && *round == 1
-                && patience.is_none()
-        }
-        Ok(_) => false,
-        Err(_) => false,
-    }
+    numbers_in(found, "127.0.0.1:0") == Some((4, 1, 1, None))
 }
 
 /// Whether the words are refused for lack of memory.

@@ -1,6 +1,7 @@
 //! Words of the command line, and the modes that they ask for.
 
 use crate::{Mode, mode};
+use clap::Error;
 use std::alloc::Global;
 
 /// Words that ask for a server, without a number of workers.
@@ -14,11 +15,11 @@ pub(crate) const SERVER: &[&str] = &[
 ];
 
 /// Workers, connections, those of a round, and, if they are limited, the seconds for which these may wait.
-type Numbers = (u64, u64, u64, Option<u64>);
+pub(crate) type Numbers = (u64, u64, u64, Option<u64>);
 
-/// The numbers that words ask for; none if they ask for no server on this address.
-fn numbers_of(alloc: Global, words: &[&str], address: &str) -> Option<Numbers> {
-    match mode(alloc, words) {
+/// The numbers that are asked for; none if no server on this address is.
+pub(crate) fn numbers_in(found: &Result<Mode, Error>, address: &str) -> Option<Numbers> {
+    match found {
         Ok(
             Mode::Serve {
                 listen,
@@ -27,18 +28,15 @@ fn numbers_of(alloc: Global, words: &[&str], address: &str) -> Option<Numbers> {
                 round,
                 patience,
             },
-        ) => {
-            if listen.as_str() == address {
-                Some((workers, connections, round, patience))
-            } else {
-                None
-            }
-        }
-        Ok(Mode::Run) => None,
-        Ok(Mode::Audit) => None,
-        Ok(Mode::Draw { .. }) => None,
+        ) if listen.as_str() == address => Some((*workers, *connections, *round, *patience)),
+        Ok(_) => None,
         Err(_) => None,
     }
+}
+
+/// The numbers that words ask for; none if they ask for no server on this address.
+fn numbers_of(alloc: Global, words: &[&str], address: &str) -> Option<Numbers> {
+    numbers_in(&mode(alloc, words), address)
 }
 
 /// The numbers if these words follow `tgdoc serve --listen 127.0.0.1:0`.

@@ -9,7 +9,7 @@ use Rattle.tgdoc.proofs.audit.audit_lines.Goals as goal
 
 pub returns-in_default-clause-audited : goal.returns-in_default-clause-audited
 returns-in_default-clause-audited g c =
-    always _ (BytesAudited _ _ _ _) (λ xs. record {
+    rw c.none_taken.ensures (always _ (BytesAudited _ _ _ _) (λ xs. record {
       whole = record { lines = 0; errors = 0; fault = Some OutOfMemory };
       text = [];
       audited = no_buffer;
@@ -17,7 +17,7 @@ returns-in_default-clause-audited g c =
       errors = refl;
       fault = rw c.requires.writes refl;
       sent = sends_none _ _;
-    })
+    }))
 
 pub returns-in-Ok-judge-clause-audited : goal.returns-in-Ok-judge-clause-audited
 returns-in-Ok-judge-clause-audited g c =

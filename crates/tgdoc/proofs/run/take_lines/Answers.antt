@@ -10,10 +10,10 @@ use Rattle.tgdoc.proofs.OpeningLemmas.{empty_line, ran_no_line, ran_too_long, ra
 use Rattle.tgdoc.proofs.run.take_lines.Goals as goal
 
 pub returns-in_default-clause-ran : goal.returns-in_default-clause-ran
-returns-in_default-clause-ran g c = always _ (InputRan (Told c.args.how) _ _ _ _) (λ xs. record { before = []; last = []; run = no_buffer; sent = sends_nothing _ _ })
+returns-in_default-clause-ran g c = rw c.none_taken.ensures (always _ (InputRan (Told c.args.how) _ _ _ _) (λ xs. record { before = []; last = []; run = no_buffer; sent = sends_nothing _ _ }))
 
 pub returns-in-Failed-clause-ran : goal.returns-in-Failed-clause-ran
-returns-in-Failed-clause-ran g c = always _ (InputRan (Told c.args.how) _ _ _ _) (λ xs. record { before = []; last = []; run = stopped; sent = sends_nothing _ _ })
+returns-in-Failed-clause-ran g c = rw c.none_taken-in-Failed.ensures (always _ (InputRan (Told c.args.how) _ _ _ _) (λ xs. record { before = []; last = []; run = stopped; sent = sends_nothing _ _ }))
 
 pub returns-in-End-clause-ran : goal.returns-in-End-clause-ran
 returns-in-End-clause-ran g c =
