@@ -15,9 +15,9 @@ help: ## list the targets
 demo: ## play the README's example; without a proved program, on an unproved build (half a minute)
 	examples/demo
 
-# The gate proves every crate and its tests from nothing, tries the planted bugs and runs the program as two compilers
-# build it; then the built program is tested from outside.
-test: ## prove everything from nothing, try the planted bugs, test the programs (an hour, four cores)
+# The gate proves every crate and its tests, but for what an earlier run on this machine passed unchanged, tries the
+# planted bugs and runs the program as two compilers build it; then the built program is tested from outside.
+test: ## prove what is new or changed, try the planted bugs, test the programs (at first an hour, four cores)
 	tests/gate
 	tests/run
 

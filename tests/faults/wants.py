@@ -1,6 +1,6 @@
-"""A look at the sources: no body makes a want of memory of its own.
+"""A look at the sources: no body reports without cause that memory ran out.
 
-Want of memory may always be the answer, so no contract refuses a body that makes one up. Here each place at which such a fault is made is found, and has to
+A body may always report that memory ran out, so no contract refuses one that makes it up. Here each place at which such a fault is made is found, and has to
 be exactly where the refusal of a call is handed on: in the arm `Err(_) =>` of a match on the call, in the block of a `let Ok(..) = .. else` or of an `if ..
 .is_err()`, in a `map_err`, or in the arm of another such fault. And it has to be in the list below, by its file and function, by the call or the fault that is
 handed on, and by the fault that is made of it. What `?` hands on is made nowhere. Modules of tests are left out.
@@ -48,7 +48,7 @@ LISTED = {
     ("tg_share/src/session.rt", "carry_out", "self.log.try_reserve", "AskFault::OutOfMemory"): 1,
     ("tg_share/src/session.rt", "carry_out", "command.copy", "AskFault::OutOfMemory"): 1,
     ("tg_share/src/closing.rt", "close", "Vec::with_capacity", "Closed::NoRoom"): 1,
-    # Lines: each lack of memory is one fault, and the parser says of its own errors which are for want of memory.
+    # Lines: each lack of memory is one fault, and the parser says which of its own errors mean that memory ran out.
     ("tg_wire/src/fault.rt", "from", "AllocError", "WireFault::OutOfMemory"): 1,
     ("tg_wire/src/fault.rt", "from", "AllocFailed", "WireFault::OutOfMemory"): 1,
     ("tg_wire/src/object.rt", "json", "e.is_memory", "WireFault::OutOfMemory"): 1,
@@ -170,7 +170,7 @@ def handed_on(code, start, at):
 
 
 def places_in(file, text):
-    """The places of a source at which a want of memory is made: file, function, what is handed on, and what is made."""
+    """The places of a source at which it is reported that memory ran out: file, function, what is handed on, and what is made of it."""
     code = code_of(text)
     functions = list(FUNCTION.finditer(code))
     for function, following in zip(functions, [*functions[1:], None]):
@@ -221,7 +221,7 @@ HANDED_ON = {
     "match serve_in_threads(rt) { Some(ended) => Found::Agreed, None => Found::NoMemory }": "serve_in_threads",
 }
 
-# Functions that make a want of memory up.
+# Functions that report without cause that memory ran out.
 MADE_UP = [
     "if steps.len() > 9 { return Err(AllocError); } Ok(())",
     "if steps.len() > 9 {\nreturn Err(AllocError);\n}\nOk(())",

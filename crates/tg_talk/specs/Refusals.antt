@@ -1,4 +1,4 @@
--- the lines of refusals that no value of a line has
+-- refusals that are no `WireFault`, each as its line
 use Rattle.std.specs.Prelude.{ℕ, List, codes}
 use Rattle.tg_wire.specs.Faults.{line_text, error_data}
 

@@ -34,10 +34,13 @@ pub struct Finished {
 /// The line of an answer, or the refusal whose line it is.
 #[derive(Drop)]
 pub enum Text {
+    /// A line that is no `error` line.
     Line(Vec<u8>),
     /// A line with the key `error`.
     ErrorLine(Vec<u8>),
+    /// The line of this fault.
     Refusal(WireFault),
+    /// The line that answers, in a talk, a line that asks for the shade or for the collector.
     NotForASession,
 }
 
@@ -111,7 +114,9 @@ pub(crate) enum Turn<C> {
 
 /// What the lines came to, and what was carried on from the last one.
 pub struct Over<C> {
+    /// What the responder handed on with the last answer.
     pub carried: C,
+    /// How the lines ended.
     pub finished: Finished,
 }
 
@@ -126,10 +131,10 @@ struct LinesSoFar {
     room: LineRoom,
 }
 
-/// Answers each line of the input after those that were taken, as the responder has it, from what is carried on to the
-/// first. Answers to lines that came together are written together, and nothing is held back when more is read, nor at
-/// the end. It ends after the responder's last answer, at the end of the input, at a line of more than 16,384 bytes, at
-/// the line after the millionth, and when the reader or the writer fails.
+/// Has the responder answer each line that is left in the input; `carried` is what it gets with the first. Answers to
+/// lines that came together are written together, and nothing is held back when more is read, nor at the end. It ends
+/// after the responder's last answer, at the end of the input, at a line of more than 16,384 bytes, at the line after
+/// the millionth, and when the reader or the writer fails.
 pub fn answer_lines<S: Responder, D: Read, W: Write + Drop>(
     alloc: Global,
     input: InputLines,

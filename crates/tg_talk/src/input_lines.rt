@@ -175,7 +175,7 @@ impl InputLines {
     }
 }
 
-// What a line is that comes after this many.
+/// What a line is that comes after this many.
 fn counted(taken: u64, next: Next) -> Next
     ensures within { taken < MOST_LINES → result ≡ next }
     ensures over { taken ≡ MOST_LINES → result ≡ Next.TooMany }

@@ -147,7 +147,7 @@ impl LineBuffer {
         }
     }
 
-    // One read, after the bytes that are there.
+    /// One read, after the bytes that are there.
     fn fill<R: Read>(&mut self, reader: &mut Watched<R>) -> Filled
         requires room { length self.old ≤ LONGEST_LINE }
         requires unfailed { has_failed reader.old ≡ false }
@@ -173,7 +173,7 @@ impl LineBuffer {
     }
 }
 
-// Moves the bytes from `start` to `end` to the front.
+/// Moves the bytes from `start` to `end` to the front.
 fn move_down(bytes: &mut Vec<u8>, start: usize, end: usize)
     requires order { start ≤ end }
     requires within { end ≤ length bytes.old.items }
@@ -183,7 +183,7 @@ fn move_down(bytes: &mut Vec<u8>, start: usize, end: usize)
     bytes.copy_within(start..end, 0);
 }
 
-// One read at `at`, and how many bytes it returned; none if it failed.
+/// One read at `at`, and how many bytes it returned; `None` if it failed.
 fn read_at<R: Read>(reader: &mut Watched<R>, bytes: &mut Vec<u8>, at: usize) -> Option<usize>
     requires room { at < length bytes.old.items }
     requires unfailed { has_failed reader.old ≡ false }

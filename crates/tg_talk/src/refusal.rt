@@ -1,4 +1,4 @@
-//! The lines of refusals that no value of a line has.
+//! Refusals that are no `WireFault`, each as its line.
 
 ghost use Rattle.std.specs.Prelude.{◌≡◌};
 ghost use Rattle.tg_talk.specs.Refusals.{not_for_a_session_line as line_of_no_session, too_many_line as line_of_too_many};

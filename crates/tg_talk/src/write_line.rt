@@ -26,7 +26,7 @@ pub fn send_line<W: Write>(writer: &mut Watched<W>, bytes: &[u8])
     }
 }
 
-// One write. It takes none only if the writer fails.
+/// One write. It takes no byte only if the writer fails.
 fn send_some<W: Write>(writer: &mut Watched<W>, bytes: &[u8]) -> usize
     requires unfailed { has_failed writer.old ≡ false }
     requires some { 0 < length bytes.now }

@@ -25,6 +25,7 @@ pub(crate) fn has(object: &LineObject<'_>, key: Key) -> bool
     }
 }
 
+/// A number.
 #[inline(always)]
 pub(crate) fn number(object: &LineObject<'_>, key: Key) -> Option<u64>
     ensures { result ≡ fields.number_in (key_text key) (data_of object.now) }
@@ -55,6 +56,7 @@ fn optional_in(value: &Value, key: Key, default: u64) -> Option<u64>
     }
 }
 
+/// A text, which is lent.
 #[inline(always)]
 pub(crate) fn string<'o>(object: &'o LineObject<'_>, key: Key) -> Option<&'o str>
     ensures { option_map (λ s. s.now) result ≡ fields.string_in (key_text key) (data_of object.now) }
@@ -75,18 +77,21 @@ pub(crate) fn list<'o>(object: &'o LineObject<'_>, key: Key) -> Option<&'o Vec<V
     }
 }
 
+/// The rights in the field `rights`.
 pub(crate) fn rights(object: &LineObject<'_>) -> Option<Rights>
     ensures { result ≡ fields.rights_in (data_of object.now) }
 {
     string(object, Key::Rights)?.parse().ok()
 }
 
+/// The rights that a value spells, if it does.
 pub(crate) fn rights_value(value: &Value) -> Option<Rights>
     ensures { result ≡ fields.rights_value (view value.now) }
 {
     value.as_str()?.parse().ok()
 }
 
+/// The kind in the field `kind`.
 pub(crate) fn kind(object: &LineObject<'_>) -> Option<Kind>
     ensures { result ≡ fields.kind_in (data_of object.now) }
 {
@@ -105,6 +110,7 @@ pub(crate) fn seat(object: &LineObject<'_>) -> Option<u64>
     optional_number(object, Key::Seat, 0)
 }
 
+/// A copy of any text.
 pub(crate) fn word(alloc: Global, object: &LineObject<'_>, key: Key) -> Result<Word, WireFault>
     ensures { AnswersField result (fields.string_in (key_text key) (data_of object.now)) }
 {

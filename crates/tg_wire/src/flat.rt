@@ -49,8 +49,7 @@ pub(crate) struct Flat<'a> {
     members: &'a [Member<'a>],
 }
 
-/// Reads the members of a line's object into room for them, if it is flat. If nothing is returned, that does not mean
-/// that it is not flat.
+/// Reads the members of a line's object into room for them, if it is flat. `None` does not mean that it is not flat.
 pub(crate) fn read_flat<'a>(bytes: &'a [u8], found: &mut Members<'a>) -> Option<()>
     requires { found.old.items ≡ [] }
     ensures { OnSome result (json_of bytes.now ≡ Some (flat_data found.new.items)) }

@@ -28,6 +28,7 @@ pub(crate) enum Key {
 }
 
 impl Key {
+    /// The key as lines have it, without quotes.
     #[inline(always)]
     pub(crate) fn word(self) -> &'static str
         ensures { result.now ≡ key_text self }
@@ -119,6 +120,7 @@ impl Key {
         bytes[at] == b'"'
     }
 
+    /// Whether it is the other key.
     #[inline(always)]
     pub(crate) fn is(self, other: Key) -> bool
         ensures { result ≡ bytes_eq (key_text self) (key_text other) }

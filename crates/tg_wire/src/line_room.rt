@@ -8,8 +8,8 @@ use std::mem;
 /// Room for most lines.
 const ROOM: usize = 128;
 
-/// Room in which lines are written, one after another: a line allocates only if it is the longest since there was no
-/// room, as at first, and after a line that failed for lack of memory. It is empty between two lines.
+/// Room in which lines are written, one after another: a line allocates only if it is longer than all lines since the
+/// buffer was last allocated, at the start or after a line for which memory ran out. It is empty between two lines.
 #[derive(Drop)]
 pub struct LineRoom {
     alloc: Global,

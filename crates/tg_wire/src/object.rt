@@ -35,6 +35,7 @@ pub(crate) fn object<'a>(alloc: Global, bytes: &[u8]) -> Result<LineObject<'a>, 
     tree(alloc, bytes)
 }
 
+/// The line is not too long.
 pub(crate) fn fits(bytes: &[u8]) -> Result<(), WireFault>
     ensures { result ≡ guard (nat_le (length bytes.now) LONGEST_LINE) TooLong }
 {

@@ -15,14 +15,16 @@ use tg_graph::Verdict;
 use tg_rights::{Cause, Reply, Rule, Which};
 use tg_vault::{Answer, AskFault, SeatFault, Swept};
 
-/// The line of a reply, which ends with a line feed. Keys are in rising order, with no white space.
+/// The line of a reply, which ends with a line feed. Keys are in rising order, with no white space. `AllocError` if an
+/// allocation failed.
 pub fn write_reply(alloc: Global, reply: &Reply) -> Result<Vec<u8>, AllocError>
     ensures { IfOk result (λ line. line.items ≡ reply_line reply.now) }
 {
     write_reply_in(&mut LineRoom::new(alloc), reply)
 }
 
-/// The same in room that is kept; if memory runs out, there is no room until a line comes back.
+/// The same, in a buffer that is kept from line to line. `AllocError` if an allocation failed; the buffer is then lost,
+/// and the next line allocates another.
 #[inline(always)]
 #[tactic(auto, unfolding(crate::specs::Replies::reply_line, crate::proofs::Literals::numbers_on_literals))]
 pub fn write_reply_in(room: &mut LineRoom, reply: &Reply) -> Result<Vec<u8>, AllocError>
@@ -48,14 +50,15 @@ pub fn write_reply_in(room: &mut LineRoom, reply: &Reply) -> Result<Vec<u8>, All
     }
 }
 
-/// The line of an answer, which ends with a line feed. Keys are in rising order, with no white space.
+/// The line of an answer, which ends with a line feed. Keys are in rising order, with no white space. `AllocError` if
+/// an allocation failed.
 pub fn write_answer(alloc: Global, answer: &Answer) -> Result<Vec<u8>, AllocError>
     ensures { IfOk result (λ line. line.items ≡ answer_line answer.now) }
 {
     write_answer_in(&mut LineRoom::new(alloc), answer)
 }
 
-/// The same in room that is kept, as `write_reply_in`.
+/// The same, in a buffer that is kept, and with the error of `write_reply_in`.
 #[inline(always)]
 #[tactic(auto, unfolding(crate::specs::Answers::answer_line, crate::specs::Replies::reply_line, crate::proofs::Literals::numbers_on_literals))]
 pub fn write_answer_in(room: &mut LineRoom, answer: &Answer) -> Result<Vec<u8>, AllocError>
@@ -78,13 +81,14 @@ pub fn write_answer_in(room: &mut LineRoom, answer: &Answer) -> Result<Vec<u8>, 
 }
 
 /// The line of what a cycle did, which ends with a line feed. Keys are in rising order, with no white space.
+/// `AllocError` if an allocation failed.
 pub fn write_swept(alloc: Global, swept: Swept) -> Result<Vec<u8>, AllocError>
     ensures { IfOk result (λ line. line.items ≡ swept_line swept) }
 {
     write_swept_in(&mut LineRoom::new(alloc), swept)
 }
 
-/// The same in room that is kept, as `write_reply_in`.
+/// The same, in a buffer that is kept, and with the error of `write_reply_in`.
 #[tactic(auto, unfolding(crate::specs::Answers::swept_line))]
 pub fn write_swept_in(room: &mut LineRoom, swept: Swept) -> Result<Vec<u8>, AllocError>
     ensures { IfOk result (λ line. line.items ≡ swept_line swept) }
@@ -98,7 +102,8 @@ pub fn write_swept_in(room: &mut LineRoom, swept: Swept) -> Result<Vec<u8>, Allo
     )
 }
 
-/// The line of a verdict, which ends with a line feed. Keys are in rising order, with no white space.
+/// The line of a verdict, which ends with a line feed. Keys are in rising order, with no white space. `AllocError` if
+/// an allocation failed.
 #[tactic(auto, unfolding(crate::specs::Answers::verdict_line))]
 pub fn write_verdict(alloc: Global, verdict: &Verdict) -> Result<Vec<u8>, AllocError>
     ensures { IfOk result (λ line. line.items ≡ verdict_line verdict.now) }
