@@ -12,6 +12,7 @@ from html import unescape
 from pathlib import Path
 
 from film.frames import frames_of, told
+from program.programs import skipped
 
 ROOT = Path(__file__).resolve().parents[2]
 FILM = ROOT / "examples" / "film"
@@ -42,12 +43,6 @@ buttons[4].click(); seen.push("last " + place()); buttons[0].click(); seen.push(
 press(" "); seen.push(buttons[2].textContent); press(" "); seen.push(buttons[2].textContent);
 document.getElementById("seen").textContent = seen.join("; ");
 </script>"""
-
-
-def skipped(what):
-    """A test that cannot be made here passes, and says so."""
-    print("  skipped: there is no %s" % what)
-    return True
 
 
 def page_of(program, story):

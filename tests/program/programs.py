@@ -23,6 +23,12 @@ PICTURE = b'digraph { graph [labelloc=t,labeljust=l,label="lines 2, errors 0\\lp
 PICTURE += b'node [shape=circle,width=1]; 1 [label="1 alice\\nwhite\\nseat 0",class="subject white",style=filled,fillcolor=skyblue,penwidth=1]; }\n'
 
 
+def skipped(what):
+    """A test that cannot be made here passes, and says so."""
+    print("  skipped: there is no %s" % what)
+    return True
+
+
 @contextlib.contextmanager
 def talk(program, *words, room=-1):
     """A program that runs while a test talks to it, over pipes with this many bytes of room. It is killed in the end,
