@@ -32,7 +32,7 @@ soak: all load ## run at length: a million commands of 63 sessions, a million ba
 	crates/tg_load/out/tg_load --sessions 63 --commands 15874 --reuse --figures
 	tests/soak
 
-bench: all load ## measure lines per second, peak memory, threads, piled edges, rounds, and a server beside Redis; tests nothing
+bench: all load ## measure speed, memory, threads, rounds, and a server beside Redis; tests nothing
 	bench/lines.py
 	bench/threads.py
 	bench/piling.py
@@ -52,4 +52,4 @@ clean: ## remove all that was built, and what the checks kept
 
 # (the name of a crate is a goal only so that it can stand behind `check`)
 $(CRATES):
-	@test -n "$(filter check,$(MAKECMDGOALS))" || echo "say: make check $@"
+	@test -n "$(filter check,$(MAKECMDGOALS))" || echo "use: make check $@"

@@ -362,7 +362,7 @@ REFUSED_OPENINGS = [
     (b'{"principals":["alice"],"slots":65537}', 10),
 ]
 
-# Alice may not take from bob; bob and carol help her by a vertex that she creates, as in README.md. Each of the seven commands is a step.
+# Alice may not take from bob; bob and carol help her by a vertex that she creates, as in examples/README.md. Each of the seven commands is a step.
 DERIVED = b'{"edges":[[2,"t",1],[3,"g",2]],"principals":["alice","bob","carol"]}'
 STEPS = [
     b'{"actor":3,"kind":"document","op":"create","rights":"rw"}',
