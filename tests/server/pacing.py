@@ -11,7 +11,8 @@ from pathlib import Path
 from models.reading import line_of
 from server.servers import AGREED, Server, running, served
 
-SLOTS, CLIENTS, ROUNDS, AT_ONCE = 256, 4, 150, 16
+# Of the slots, 1 + 4 * (15 + 16) at most are reachable, a little less than half.
+SLOTS, CLIENTS, KEPT, ROUNDS, AT_ONCE = 256, 4, 15, 150, 16
 CONFIG = line_of({"principals": ["alice"], "slots": SLOTS}) + b"\n"
 CREATE = b'{"kind":"document","op":"create","rights":"rw"}\n'
 # Seconds for which a server with nothing to do is watched, and the part of a processor that it may then take.
@@ -33,17 +34,23 @@ def busy_processor():
         os.sched_setaffinity(0, free)
 
 
+def is_made(row):
+    """Whether the line answers that a document was made."""
+    return row.startswith(b'{"ok":"created"')
+
+
 def makes_and_drops(server, refused):
-    """A client that over and over makes some documents and drops them, of which it sends as many lines at once; notes each that is not
-    made."""
+    """A client that keeps some documents, and over and over makes some more and drops them, of which it sends as many lines at once; notes
+    each that is not made."""
     with server.connection() as one, one.makefile("rb") as answers:
-        one.sendall(b'{"name":"alice","op":"hello"}\n')
+        one.sendall(b'{"name":"alice","op":"hello"}\n' + CREATE * KEPT)
         answers.readline()
+        refused += [row for row in (answers.readline() for _ in range(KEPT)) if not is_made(row)]
         for _ in range(ROUNDS):
             one.sendall(CREATE * AT_ONCE)
             made = [answers.readline() for _ in range(AT_ONCE)]
-            serials = [row.rstrip(b"}\n").rpartition(b":")[2] for row in made if row.startswith(b'{"ok":"created"')]
-            refused += [row for row in made if not row.startswith(b'{"ok":"created"')]
+            serials = [row.rstrip(b"}\n").rpartition(b":")[2] for row in made if is_made(row)]
+            refused += [row for row in made if not is_made(row)]
             one.sendall(b"".join(b'{"op":"remove","over":%s,"rights":"rw"}\n' % it for it in serials))
             refused += [row for row in (answers.readline() for _ in serials) if row != b'{"ok":"done"}\n']
         one.sendall(b'{"op":"bye"}\n')
@@ -51,7 +58,7 @@ def makes_and_drops(server, refused):
 
 
 def keeps_pace(program):
-    """No create is refused as full where at most a quarter of the slots are reachable, however slow the server is."""
+    """No create is refused as full where a little less than half of the slots are reachable, however slow the server is."""
     refused, words = [], ["--listen", "127.0.0.1:0", "--workers", str(CLIENTS), "--connections", str(CLIENTS)]
     with busy_processor(), running(program, *words, config=CONFIG) as process:
         server = Server(process)
@@ -61,7 +68,7 @@ def keeps_pace(program):
         for client in clients:
             client.join()
         ended = server.end()
-    print("  %d documents in %d slots, refused: %d %s" % (CLIENTS * ROUNDS * AT_ONCE, SLOTS, len(refused), refused[:3]))
+    print("  %d documents in %d slots, refused: %d %s" % (CLIENTS * (KEPT + ROUNDS * AT_ONCE), SLOTS, len(refused), refused[:3]))
     return not refused and ended == AGREED
 
 
