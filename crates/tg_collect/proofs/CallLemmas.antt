@@ -1,6 +1,6 @@
 -- What the calls that add rights, take them and replace texts do to a store.
 use Rattle.std.proofs.Common.{◌≡◌, ◌≢◌, ℕ, ◌<◌, ◌+◌, List, [], ◌∷◌, ◌++◌, length, Some, None, Result, Ok, Err, ◌⊎◌, inl, inr, true, false, sym, ◌∙◌, subst, ap, refl, set, arith, ◌≤◌, eq-eqb}
-use Rattle.tg_collect.proofs.Common.{Acted, Adds, HeapFull, IfErr, Occupant, OnErr, OnOk, RootLists, name_of, Apart, Dropped, Gone, HeapGraph, IsDropped, Protection, Rewrites, RightsRemoved, SetsText, Stayed, TextReplaced, at_within, body, cells, comes, difference-Relabels, drops, first_cell, is_none, is_none-none, label-relabelled, left_rewrites, none, progress_dropped, progress_of, progress_without, rewrites_keeps, same_Some, vertex_of, without, Contains, Edge, EdgeStored, Found, HasNone, IsAdded, IsEdgeIn, IsHeap, LedTo, Letters, Machine, Root, SEATS, Whole, as_kept, contains_map, edge, edges, fresh, gains, held, is_some, joined, relabelled, joins, kept_from, lists_of, pending_of, place, serial_at, slot, stored, with_target}
+use Rattle.tg_collect.proofs.Common.{still_lead, Acted, Adds, HeapFull, IfErr, Occupant, OnErr, OnOk, RootLists, name_of, Apart, Dropped, Gone, HeapGraph, IsDropped, Protection, Rewrites, RightsRemoved, SetsText, Stayed, TextReplaced, at_within, body, cells, comes, difference-Relabels, drops, first_cell, is_none, is_none-none, label-relabelled, left_rewrites, none, progress_dropped, progress_of, progress_without, rewrites_keeps, same_Some, vertex_of, without, Contains, Edge, EdgeStored, Found, HasNone, IsAdded, IsEdgeIn, IsHeap, LedTo, Letters, Machine, Root, SEATS, Whole, as_kept, contains_map, edge, edges, fresh, gains, held, is_some, joined, relabelled, joins, kept_from, lists_of, pending_of, place, serial_at, slot, stored, with_target}
 use Rattle.tg_heap.specs.declared.heap.HeapFull.TheVariants as full
 use Rattle.std.specs.FinSet as finset
 use Rattle.tg_marking.specs.Values as values
@@ -12,7 +12,7 @@ use Rattle.tg_collect.proofs.StoreLemmas.{edge_in, edge_label, edge_owned, edge_
 use Rattle.std.proofs.lemmas.Bool.{cases_Bool}
 use Rattle.tg_collect.proofs.SeatLemmas.{same_lists, acted_edge}
 use Rattle.tg_collect.proofs.RootLemmas.{target_set, targeted}
-use Rattle.tg_collect.proofs.EdgeLemmas.{Replaced, alike, edge_put, edge_relabelled, edge_trimmed, graph_after, relabel, relisted, still_lead, replaced, without_same}
+use Rattle.tg_collect.proofs.EdgeLemmas.{Replaced, alike, edge_put, edge_relabelled, edge_trimmed, graph_after, relabel, relisted, replaced, without_same}
 
 -- The place of a held slot, and its occupant.
 pub placed_serial : (m : Machine) (i : ℕ) → is_some (place (stored m) i) ≡ true → place (stored m) i ≡ Some (serial_at (stored m) i)

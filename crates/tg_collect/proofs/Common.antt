@@ -65,12 +65,13 @@ pub use Rattle.tg_heap.specs.declared.heap.Dropped.{Dropped}
 pub use Rattle.tg_heap.specs.declared.heap.Dropped.TheVariants.{Gone, Kept as Stayed}
 pub use Rattle.tg_heap.specs.declared.heap.HeapFull.{HeapFull}
 pub use Rattle.tg_marking.proofs.LeftLemmas.{bounded, counted, left_drops, left_most, left_places, left_puts, left_rewrites, left_shade, same_roots, left_some}
-pub use Rattle.tg_marking.proofs.SessionLemmas.{blank_keeps, drops_keeps, idle_stays, new_keeps, places_keeps, puts_keeps, reroots_keeps, rewrites_keeps, shades_keeps, trims_stage, without_one}
+pub use Rattle.tg_marking.proofs.SessionLemmas.{blank_keeps, drops_keeps, idle_stays, new_keeps, places_keeps, puts_keeps, reroots_keeps, rewrites_keeps, shades_keeps, trims_stage}
+pub use Rattle.tg_marking.proofs.MutatorLemmas.{still_lead}
 pub use Rattle.tg_marking.proofs.KeepLemmas.{turns_name, line_collected, line_keeps}
-pub use Rattle.tg_marking.proofs.SpotLemmas.{at_within, closed_same, contains_mapped, held_keeps, keeps_grey, kept_is, kept_name, put_each, seen_is, shade_each, shade_kept, shade_name, shade_size}
+pub use Rattle.tg_marking.proofs.SpotLemmas.{at_within, contains_mapped, held_keeps, keeps_grey, kept_is, kept_name, put_each, shade_each, shade_kept, shade_name, shade_size}
 pub use Rattle.tg_marking.specs.Invariant.{Closed, Invariant, IsLive, IsScanned, Phased, along, at_root}
 pub use Rattle.tg_marking.specs.Left.{Celled, free_one, held_cells, held_one, left, parked_cells, total}
-pub use Rattle.tg_marking.specs.Runs.{HadEdge, HadSlot, IsLiveIn, IsLiveOrNew, Run, Sane}
+pub use Rattle.tg_marking.specs.Runs.{IsLiveIn, IsLiveOrNew, Run, Sane}
 pub use Rattle.tg_marking.specs.Steps.{DropsEdge, Line, Places, PutsEdge, Reroots, Rewrites, Trims, ahead, blackens, elsewhere, finishes, frees, new_colour, put, scans, shade, shade_all, shades_target, skips, starts, starts_sweep, strips, takes, whitens}
 pub use Rattle.tg_marking.specs.Values.{AtRest, Body, HasRoot, IsRoot, IsTarget, Kept, Spot, Stage, as_kept, keeps, mark, mark_of, name, name_of, out, seen, edges_of}
 pub use Rattle.tg_held.proofs.HeldLemmas.{comes, contains-held, drops, gains, joins, says_edge, says_slot}

@@ -1,6 +1,6 @@
 -- A held slot gets other edges, or another text.
 use Rattle.std.proofs.Common.{◌≡◌, ◌≢◌, ℕ, ◌<◌, List, [], ◌∷◌, ◌++◌, length, append_assoc, Option, Some, None, ◌⊎◌, inl, inr, cond, eq-eqb, sym, ◌∙◌, subst, ap, refl, set, get_or-set_same, get_or-set_other, ◌≤◌, arith, append-nil}
-use Rattle.tg_collect.proofs.Common.{trims_stage, without_one, HasRoot, bare, cases_eq, Contains, Distinct, Edge, first_cell, HeapGraph, edges, remaining, Progress, Marking, progress_in, CursorFits, Letters, contains_map, Found, IsHeap, Spot, Body, as_kept, name, name_of, put, put_each, at_within, Machine, lists_of, body, AtRest, progress_of, Whole, Stored, stored, kept_from, held, LedTo, ne_eqb, cells, passed, split_whole, remaining_split, Trims, elsewhere, ahead, DropsEdge, PutsEdge, IsTarget, Invariant, puts_keeps, drops_keeps, left_puts, left_drops, is_at, progress_without, place, relabelled, body_of, held_keeps, left, serials, shown, Idle, Sweeping}
+use Rattle.tg_collect.proofs.Common.{trims_stage, HasRoot, bare, cases_eq, Contains, Distinct, Edge, first_cell, HeapGraph, edges, remaining, Progress, Marking, progress_in, CursorFits, Letters, Found, IsHeap, Spot, Body, as_kept, name, name_of, put, put_each, at_within, Machine, lists_of, body, AtRest, progress_of, Whole, Stored, stored, kept_from, held, ne_eqb, cells, passed, split_whole, remaining_split, Trims, elsewhere, ahead, DropsEdge, PutsEdge, IsTarget, Invariant, puts_keeps, drops_keeps, left_puts, left_drops, is_at, progress_without, place, relabelled, body_of, held_keeps, left, shown, Idle, Sweeping}
 use Rattle.tg_collect.proofs.SlotLemmas.{put_list}
 use Rattle.tg_collect.proofs.ShownLemmas.{held_set, place_kept}
 use Rattle.tg_collect.proofs.StoreLemmas.{Holds, owner, owner_is, owner_within}
@@ -152,11 +152,6 @@ module _ {m : Machine} {id : ℕ} (ok : IsHeap m.heap) (w : Whole m) (h : Holds 
       record { owner = owner h; at = owner_is h; edges = was; alike = alike; stage = t.0; is = shows es k } in
       replaced w g q id (record (owner h) { edges = es }) (shows es k) (owner_within h) (λ r. sym (ap name_of (owner_is h))) refl (drops_keeps (body m) (body_of g (lists_of m.roots)) (progress_of m) (progress_in g q) id before e news after step w.kept) t.1
       (trims_stage id before e news after (progress_of m) (progress_in g q) t.0) (left_drops (body m) (body_of g (lists_of m.roots)) (progress_of m) (progress_in g q) id before e news after m.heap.cell_count step few)
-
--- These lead to serials that the old edges led to.
-pub still_lead : (before news after : List Edge) (e : Edge) → ((x : Edge) → Contains news x → (x.target ≡ e.target) × (x.serial ≡ e.serial)) → (x : Edge) → Contains (before ++ (news ++ after)) x → LedTo (before ++ e ∷ after) x
-still_lead before news after e alike x c =
-    let d = without_one before news after e x alike c in subst (Contains (serials (before ++ e ∷ after))) d.3 (contains_map (λ (y : Edge). y.serial) (before ++ e ∷ after) d.0 d.1)
 
 -- An edge gets another label.
 abbrev pub relabel : Edge → Letters → List Edge

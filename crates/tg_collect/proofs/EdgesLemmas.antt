@@ -6,7 +6,6 @@ use Rattle.tg_marking.specs.Values as values
 use Rattle.tg_graph.specs.Protection.{label}
 use Rattle.tg_graph.specs.Rules as graph
 use Rattle.tg_collect.proofs.FoundLemmas.{alone, chosen, gathered, gathered_from, gathered_rises, gathered_to, optional, rises_distinct}
-use Rattle.tg_marking.specs.Values.{Progress, Marking, Sweeping}
 use Rattle.tg_collect.proofs.SlotLemmas.{contains_mapped, total_none, out_all, cells_so, celled, kept_within}
 use Rattle.tg_collect.proofs.ShownLemmas.{Once, held_kept, kept_held, same_sum, same_length, keys_contains, place_kept}
 use Rattle.tg_collect.proofs.StoreLemmas.{label_edge, kept_is, closed_so, named_so, once_stored, no_black, swept_so, ends, root_in, apart_so, edge_in, owned_here}

@@ -12,9 +12,6 @@ use Rattle.tg_collect.proofs.SeatLemmas.{bare_seat, listed_seat, set_only, acted
 abbrev pub Known : Machine → RootLists → Root → Type 0
 Known m rs q = IsListed (lists_of m.roots) q ⊎ ((Contains rs.targets (Some q) ⊎ (progress_of m ≡ AtRest)) × (place (stored m) q.slot ≡ Some q.serial))
 
-place_name : (v : Stored) (i x : ℕ) → place v i ≡ Some x → readings.name v i ≡ Some x
-place_name v i x e = grind arith
-
 pub rerooted : (m : Machine) (rs : RootLists) → Whole m → length rs.targets ≡ SEATS → length rs.principals ≤ MAX_PRINCIPALS → length rs.agents ≡ SEATS → ((q : Root) → IsListed rs q → Known m rs q)
     → ((i : ℕ) → IsTarget (body m) i → values.HasTarget (bare rs) i) → (n : Machine) → Rerooted m rs n → Whole n × (stored n ≡ record (stored m) { roots = rs })
 rerooted m rs w seats few agents known stays n (roots, is) = subst (λ (k : Machine). Whole k × (stored k ≡ record (stored m) { roots = rs })) (sym is) (
@@ -25,7 +22,7 @@ rerooted m rs w seats few agents known stays n (roots, is) = subst (λ (k : Mach
       seats = seats;
       few = few;
       agents = agents;
-      named = λ q l. elim (known q l) [ inl old ↦ w.roots.named q old | inr new ↦ place_name (stored m) q.slot q.serial new.1 ];
+      named = λ q l. elim (known q l) [ inl old ↦ w.roots.named q old | inr new ↦ (let place = new.1 in grind arith) ];
     });
   },
   λ i. record {

@@ -1,10 +1,10 @@
 -- A run of a store is a run of its slots; what was not live is gone, and there are few steps between two ends.
 use Rattle.std.proofs.Common.{◌≡◌, ℕ, suc, ◌+◌, ◌<◌, ◌≤◌, List, Option, Some, ◌⊎◌, inl, inr, Bool, true, false, sym, ◌∙◌, subst, ap, refl, arith, map, None, set}
-use Rattle.tg_collect.proofs.Common.{Contains, Grey, contains_mapped, seen_is, turns_name, keeps_grey, kept_is, Spot, Body, Kept, seen, Stored, kept, shown, spot, held, IsHeldIn, IsParkedIn, IsStore, is_some, is_none, Protection, name_of, total, Root, serial_of, root_serial, pending_of, TextReplaced, map-set, set-get_or, same_Some, Live, IsPart, IsGraph, vertex, with_text, subjects, Stage, keeps, IsLiveIn, Sane, Run, free_one, phase_in, slot_count, cycle_bound, IsRootIn, phase, principals, pending, agents, new_keeps, CallsAct, IsLiveOrNew, IsRootAt, as_kept, HadSlot, at_root, Edge, HadEdge, free_slots, Changed, Acted, Shaded, StoreRun, start, acts, goes, IsComplete, IsBounded, Collected, Opened, IsRoll, Member, nat_cmp, vertices}
+use Rattle.tg_collect.proofs.Common.{turns_name, keeps_grey, kept_is, Spot, Body, Kept, seen, Stored, kept, shown, spot, held, IsHeldIn, IsParkedIn, IsStore, is_some, is_none, Protection, name_of, total, Root, serial_of, root_serial, pending_of, TextReplaced, map-set, set-get_or, same_Some, Live, IsPart, IsGraph, vertex, with_text, subjects, Stage, keeps, IsLiveIn, Sane, Run, free_one, phase_in, slot_count, cycle_bound, IsRootIn, phase, principals, pending, agents, new_keeps, CallsAct, IsLiveOrNew, free_slots, Changed, Acted, Shaded, StoreRun, start, acts, goes, IsComplete, IsBounded, Collected, Opened, IsRoll, Member, nat_cmp, vertices}
 use Rattle.tg_marking.specs.Values as values
 use Rattle.tg_marking.specs.Runs as runs
-use Rattle.tg_collect.specs.Sessions as calls
 use Rattle.tg_marking.proofs.RunLemmas as marked
+use Rattle.tg_marking.proofs.MutatorLemmas as mutator
 use Rattle.tg_marking.specs.Collected.{Follows}
 use Rattle.tg_collect.specs.declared.note.Phase.TheVariants as phases
 use Rattle.std.specs.FinSet as finset
@@ -32,42 +32,16 @@ module _ (v w : Stored) (new target : Option ℕ) (next : ℕ) (s : IsStore v) (
   root_before x (inr (inl p)) = elim (a.pending x p) [ inl old ↦ inl (root_live v s x (inr (inl old))) | inr e ↦ wanted x e ]
   root_before x (inr (inr p)) = elim (a.agents x p) [ inl old ↦ inl (root_live v s x (inr (inr old))) | inr e ↦ wanted x e ]
 
-  acted : runs.Acted (shown v) v.stage (shown w) next
-  acted = record {
-    spots = λ i. spot_acts i (spot v i) (spot w i) refl (a.changes i);
-    roots = λ i k r h. (
-        let q = root_listed w.roots i r in
-        let p = place_kept w q.0.slot q.0.serial (t.named q.0 q.1) in
-        let here : kept w q.0.slot ≡ Some k = subst (λ (j : ℕ). kept w j ≡ Some k) (sym q.2) (ap (λ (z : Stage). values.kept (shown w) z i) a.stage ∙ h) in
-        let serial : q.0.serial ≡ k.serial = sym p.2 ∙ ap (λ (z : Kept). z.serial) (same_Some p.0 k (sym p.1 ∙ here)) in
-        subst Wanted serial (root_before q.0.serial (in_root w q.0 q.1)));
-    edges = λ i. edge_acts i (spot v i) (spot w i) refl (a.changes i);
-  } where
-    shown_root : (i : ℕ) (x : Spot) → spot v i ≡ Some x → IsRootAt v i → kept v i ≡ Some (as_kept x)
-    shown_root i x at r = let k = s.closed.roots i r in grind arith
-
-    spot_acts : (i : ℕ) (o p : Option Spot) → spot v i ≡ o → Changed v new target i o p → (x : Spot) → p ≡ Some x → HadSlot (shown v) v.stage i x ⊎ Wanted x.serial
-    spot_acts i _ _ at (calls.same o) x is = inl (i, x, at ∙ is, refl, inr refl, λ h. h)
-    spot_acts i _ _ at (calls.shaded y c r) x is =
-        let serial : y.serial ≡ x.serial = ap (λ (z : Spot). z.serial) (same_Some _ _ is) in inr (inl (i, as_kept y, at_root i r, shown_root i y at r, serial))
-    spot_acts i _ _ at (calls.regards y es text led) x is = subst (λ (z : Spot). HadSlot (shown v) v.stage i z ⊎ Wanted z.serial) (same_Some _ _ is) (inl (i, y, at, refl, inr refl, λ h. h))
-    spot_acts i _ _ at (calls.comes y n colour led) x is = subst (λ (z : Spot). HadSlot (shown v) v.stage i z ⊎ Wanted z.serial) (same_Some y x is) (inr (inr (news y.serial n)))
-
-    edge_acts : (i : ℕ) (o p : Option Spot) → spot v i ≡ o → Changed v new target i o p → (k : Kept) (e : Edge) → seen v.stage i p ≡ Some k → Contains k.edges e → HadEdge (shown v) v.stage k.serial e.serial ⊎ Wanted e.serial
-    edge_acts i _ _ at (calls.same o) k e h c = inl (i, k, e, ap (seen v.stage i) at ∙ h, refl, c, refl)
-    edge_acts i _ _ at (calls.shaded y w r) k e h c =
-        let now = seen_is v.stage i (record y { colour = Grey }) k h in
-        inl (i, as_kept y, e, shown_root i y at r, ap (λ (q : Kept). q.serial) now.1, subst (λ (q : Kept). Contains q.edges e) (sym now.1) c, refl)
-    edge_acts i _ _ at (calls.regards y es text led) k e h c =
-        let now = seen_is v.stage i (record y { edges = es; text = text }) k h in
-        elim (led e (subst (λ (q : Kept). Contains q.edges e) (sym now.1) c)) [
-          | inl old ↦ (let x = contains_mapped (λ (z : Edge). z.serial) y.edges e.serial old in inl (i, as_kept y, x.0, grind arith, grind arith, grind arith, grind arith))
-          | inr to ↦ inr (wanted e.serial to)
-        ]
-    edge_acts i _ _ at (calls.comes y n colour led) k e h c = inr (wanted e.serial (led e (subst (λ (q : Kept). Contains q.edges e) (sym (seen_is v.stage i y k h).1) c)))
+  mutated : runs.Mutated (shown v) v.stage (shown w) next
+  mutated = mutator.mutated (shown v) (shown w) v.stage next (λ x. new ≡ Some x) (λ x. target ≡ Some x) s.closed.roots news wanted a.changes (λ i k r h.
+      let q = root_listed w.roots i r in
+      let p = place_kept w q.0.slot q.0.serial (t.named q.0 q.1) in
+      let here : kept w q.0.slot ≡ Some k = subst (λ (j : ℕ). kept w j ≡ Some k) (sym q.2) (ap (λ (z : Stage). values.kept (shown w) z i) a.stage ∙ h) in
+      let serial : q.0.serial ≡ k.serial = sym p.2 ∙ ap (λ (z : Kept). z.serial) (same_Some p.0 k (sym p.1 ∙ here)) in
+      subst Wanted serial (root_before q.0.serial (in_root w q.0 q.1)))
 
 pub calls_act : CallsAct
-calls_act v w new target next s t a news targets = record { step = acted v w new target next s t a news targets; stage = a.stage; slots = a.slots; cells = a.cells; left = a.left }
+calls_act v w new target next s t a news targets = record { step = mutated v w new target next s t a news targets; stage = a.stage; slots = a.slots; cells = a.cells; left = a.left }
 
 -- The last state of a run is a store of the same size; collector steps since an end, and what is left, are at most the
 -- number of a cycle's steps.
@@ -99,12 +73,9 @@ run_of next b p first _ _ _ s z (ends v w n k count r c t) =
     let up : suc n ≡ n + 1 = omega arith in
     subst (λ (m : ℕ). Run next b p (shown w) w.stage m) up (runs.ends (shown v) (shown w) v.stage w.stage n (run_of next b p first v n k s z r) c.step (sane w t))
 
-resting : (g : Stage) → phase_in g ≡ phases.Idle → g ≡ values.Idle
-resting g e = grind arith
-
 pub complete : IsComplete
 complete v w u next ended since count s idle c t below r two x has =
-    let rest = resting v.stage idle in
+    let rest : v.stage ≡ values.Idle = grind arith in
     let begin : Run next (shown v) v.stage (shown w) w.stage 0 = runs.goes (shown v) (shown w) v.stage w.stage 0 runs.begin c.step (sane w t) in
     let whole : Run next (shown v) values.Idle (shown u) u.stage ended = subst (λ (p : Stage). Run next (shown v) p (shown u) u.stage ended) rest (run_of next (shown v) v.stage w u ended since t begin r) in
     let low : (i : ℕ) (k : Kept) → values.kept (shown v) values.Idle i ≡ Some k → k.serial < next = λ i k e. below k.serial (kept_held v i k (once_so v s.once) (ap (λ (p : Stage). values.kept (shown v) p i) rest ∙ e)) in

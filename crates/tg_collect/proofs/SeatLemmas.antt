@@ -1,11 +1,10 @@
 -- A seat's target comes or goes, and slots are shaded.
 use Rattle.std.proofs.Common.{◌≡◌, ℕ, zero, suc, ◌≤◌, List, [], ◌∷◌, length, Option, Some, None, ◌⊎◌, inl, inr, sym, ◌∙◌, subst, ap, refl, get_or, set, length-set, arith, map, ◌<◌}
-use Rattle.tg_collect.proofs.Common.{Contains, HeapGraph, shaded, Spot, Body, HasRoot, Kept, name, shade, left, Root, Roots, Progress, Machine, RootLists, IsListed, with_target, lists_of, slot_of, bare, body, progress_in, progress_of, CursorFits, Whole, stored, shown, root_serial, Kind, new_colour, Stored, Letters, contains_map, Edge, put_each, at_within, EdgeStored, VertexStored, RightsRemoved, TextReplaced, map-set, keeps, shade_name, shade_kept, held_keeps, shades_keeps, left_shade, shade_each, zip, AreRoots, held, Table, shade_size, ShadesSeat, Shaded, TargetShaded, Changed, Acted, LedTo, agents, pending, principals}
+use Rattle.tg_collect.proofs.Common.{Contains, HeapGraph, shaded, Spot, Body, HasRoot, Kept, name, shade, left, Root, Roots, Progress, Machine, RootLists, IsListed, with_target, lists_of, slot_of, bare, body, progress_in, progress_of, CursorFits, Whole, stored, shown, root_serial, Kind, new_colour, Stored, Letters, contains_map, Edge, put_each, at_within, EdgeStored, VertexStored, RightsRemoved, TextReplaced, map-set, shade_name, shade_kept, held_keeps, shades_keeps, left_shade, shade_each, zip, AreRoots, held, Table, shade_size, ShadesSeat, Shaded, TargetShaded, Changed, Acted, LedTo, agents, pending, principals}
 use Rattle.tg_marking.specs.Values as values
 use Rattle.tg_marking.specs.Steps as steps
-use Rattle.tg_collect.specs.Sessions as calls
+use Rattle.tg_marking.specs.Runs as marking
 use Rattle.tg_collect.specs.Readings as readings
-use Rattle.tg_marking.specs.Values.{spot}
 use Rattle.tg_collect.proofs.SlotLemmas.{shaded_so, seat_slot, seat_contains, listed_root}
 use Rattle.tg_collect.proofs.StoreLemmas.{named_so, seat_shown}
 use Rattle.tg_collect.proofs.ShownLemmas.{held_same, place_kept}
@@ -98,7 +97,7 @@ pub acted_roots : (v w : Stored) (rs : RootLists) (target : Option ℕ) → w �
     → ((x : ℕ) → Contains (map (λ o. root_serial o) rs.targets) (Some x) → Contains (pending v) (Some x) ⊎ (target ≡ Some x))
     → ((x : ℕ) → Contains (map (λ o. root_serial o) rs.agents) (Some x) → Contains (agents v) (Some x) ⊎ (target ≡ Some x)) → Acted v w None target
 acted_roots v w rs target is old seats assumed = subst (λ (z : Stored). Acted v z None target) (sym is)
-    (record { stage = refl; principals = λ x h. inl (old x h); agents = assumed; pending = seats; slots = refl; changes = λ i. calls.same (readings.spot v i); cells = refl; left = omega arith })
+    (record { stage = refl; principals = λ x h. inl (old x h); agents = assumed; pending = seats; slots = refl; changes = λ i. marking.same (readings.spot v i); cells = refl; left = omega arith })
 
 pub acted_same : (v w : Stored) → w ≡ v → Acted v w None None
 acted_same v w is = acted_roots v w v.roots None is (λ x h. h) (λ x h. inl h) (λ x h. inl h)
@@ -121,28 +120,28 @@ module _ (v : Stored) (new target : Option ℕ) where
       → length os ≡ length v.slots → EachChanges os → readings.spot v i ≡ Some s → ((e : Edge) → Contains es e → LedTo s.edges e ⊎ (target ≡ Some e.serial)) → left ≤ v.left
       → Acted v (record v { slots = set os i (Some (record s { edges = es; text = text })); roots = record v.roots { targets = targets }; free_cells = free; left = left }) new target
   acted_regards os i s es text targets free left seats size each at leads lower = acted_by (set os i (Some (record s { edges = es; text = text }))) targets free left seats (length-set os i _ ∙ size)
-      (one_changes os i (Some (record s { edges = es; text = text })) (let b = at_within v.slots i s at in omega (arith, b, size)) (rw at (calls.regards s es text leads)) each) lower
+      (one_changes os i (Some (record s { edges = es; text = text })) (let b = at_within v.slots i s at in omega (arith, b, size)) (rw at (marking.regards s es text leads)) each) lower
 
 pub acted_shaded : (v w : Stored) (seat : ℕ) (answer : Option ℕ) → Shaded v w seat answer → Acted v w None None
 acted_shaded v w seat None s = acted_same v w s.1
 acted_shaded v w seat (Some x) s = rw s.is (acted_by v None None (shade (shown v) s.slot).slots (set v.roots.targets seat None) v.free_cells w.left (serial_set v.roots.targets seat None) (shade_size (shown v) s.slot)
-    (shade_each (λ j o. Changed v None None j (readings.spot v j) o) (shown v) s.slot (λ t e c. rw e (calls.shaded t c s.root)) (λ j. calls.same (readings.spot v j))) s.left)
+    (shade_each (λ j o. Changed v None None j (readings.spot v j) o) (shown v) s.slot (λ t e c. rw e (marking.shaded t c s.root)) (λ j. marking.same (readings.spot v j))) s.left)
 
 pub acted_edge : (v w : Stored) (seat x y : ℕ) (rights : Letters) → EdgeStored v w seat x y rights → Acted v w None (Some y)
 acted_edge v w seat x y rights s = rw s.is (acted_regards v None (Some y) v.slots s.slot s.owner s.edges s.owner.text (set v.roots.targets seat (Some s.target)) w.free_cells w.left
-    (rw (← s.named) (serial_set v.roots.targets seat (Some s.target))) refl (λ i. calls.same (readings.spot v i)) s.at (λ e h. let led = s.leads e h in grind arith) s.left)
+    (rw (← s.named) (serial_set v.roots.targets seat (Some s.target))) refl (λ i. marking.same (readings.spot v i)) s.at (λ e h. let led = s.leads e h in grind arith) s.left)
 
 pub acted_removed : (v w : Stored) (x y : ℕ) (rights : Letters) → RightsRemoved v w x y rights → Acted v w None None
 acted_removed v w x y rights s = rw s.is (acted_regards v None None v.slots s.slot s.owner s.edges s.owner.text v.roots.targets w.free_cells w.left
-    (λ z h. inl h) refl (λ i. calls.same (readings.spot v i)) s.at (λ e h. inl (s.leads e h)) s.left)
+    (λ z h. inl h) refl (λ i. marking.same (readings.spot v i)) s.at (λ e h. inl (s.leads e h)) s.left)
 
 pub acted_text : (v w : Stored) (x : ℕ) (text answer : List ℕ) → TextReplaced v w x text answer → Acted v w None None
 acted_text v w x text answer s = rw s.is (acted_regards v None None v.slots s.slot s.owner s.owner.edges text v.roots.targets v.free_cells v.left
-    (λ z h. inl h) refl (λ i. calls.same (readings.spot v i)) s.at (λ e h. inl (contains_map (λ (d : Edge). d.serial) s.owner.edges e h)) (omega arith))
+    (λ z h. inl h) refl (λ i. marking.same (readings.spot v i)) s.at (λ e h. inl (contains_map (λ (d : Edge). d.serial) s.owner.edges e h)) (omega arith))
 
 pub acted_vertex : (v w : Stored) (seat x serial : ℕ) (kind : Kind) (text : List ℕ) (rights : Letters) → VertexStored v w seat x serial kind text rights → Acted v w (Some serial) (Some serial)
 acted_vertex v w seat x serial kind text rights s =
     let vertex : Spot = record { serial = serial; kind = kind; text = text; edges = []; colour = new_colour v.stage s.new } in
-    let came = one_changes v (Some serial) (Some serial) v.slots s.new (Some vertex) s.within (rw s.free (calls.comes vertex refl refl (λ e never. absurd never))) (λ i. calls.same (readings.spot v i)) in
+    let came = one_changes v (Some serial) (Some serial) v.slots s.new (Some vertex) s.within (rw s.free (marking.comes vertex refl refl (λ e never. absurd never))) (λ i. marking.same (readings.spot v i)) in
     rw s.is (acted_regards v (Some serial) (Some serial) (set v.slots s.new (Some vertex)) s.slot s.owner s.edges s.owner.text (set v.roots.targets seat (Some (record { serial = serial; slot = s.new }))) w.free_cells w.left
     (serial_set v.roots.targets seat (Some (record { serial = serial; slot = s.new }))) (length-set v.slots s.new _) came s.at (λ e h. let led = s.leads e h in grind arith) s.left)

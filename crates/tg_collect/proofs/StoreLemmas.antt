@@ -1,6 +1,6 @@
 -- What each store has.
 use Rattle.std.proofs.Common.{◌≡◌, ◌≢◌, ℕ, ◌<◌, ◌≤◌, List, [], ◌∷◌, map, Option, Some, None, inl, inr, Bool, true, false, sym, ◌∙◌, subst, ap, refl, length, MatchOption, arith, get_or, ◌++◌}
-use Rattle.tg_collect.proofs.Common.{has_none, kept_is, kept_name, rights_where, Contains, contains_map, Has, Grey, Black, Triple, Spot, Body, Kept, as_kept, mark, Root, Machine, IsListed, lists_of, body, Whole, Stored, stored, kept, place, root_serial, triples, serial_of, IsHeldIn, IsParkedIn, spot, is_some, Letters, Right, has, is_none, Distinct, contains_middle, vertex_of, Free, slot, Occupant, Edge, HasNone, Found, edges, mark_at, IsHeap, pending_of, IsEdgeIn, held, name, at_within, some_right, shown, IsStore, unwrap_or, option_map, get_or-map, same_Some, none, includes, read, write, take, grant, same_by, split_at, right_some, IsEdge, Live, leads_on, contains-label, in_slot, Closed, Phased, IsLive, at_root, along, IsLiveIn, IsRootIn, IsRootAt, serial_at, principals}
+use Rattle.tg_collect.proofs.Common.{has_none, kept_name, rights_where, Contains, contains_map, Has, Grey, Black, Triple, Spot, Body, Kept, as_kept, mark, Root, Machine, IsListed, lists_of, body, Whole, Stored, stored, kept, place, root_serial, triples, serial_of, IsHeldIn, IsParkedIn, spot, is_some, Letters, Right, has, is_none, Distinct, contains_middle, vertex_of, Free, slot, Occupant, Edge, HasNone, Found, edges, mark_at, IsHeap, pending_of, IsEdgeIn, held, name, at_within, some_right, shown, IsStore, unwrap_or, option_map, get_or-map, same_Some, none, includes, read, write, take, grant, same_by, split_at, right_some, IsEdge, Live, leads_on, contains-label, in_slot, Closed, Phased, IsLive, at_root, along, IsLiveIn, IsRootIn, IsRootAt, serial_at, principals}
 use Rattle.std.specs.FinSet as finset
 use Rattle.tg_marking.specs.Values as values
 pub use Rattle.tg_marking.proofs.SpotLemmas.{kept_is, kept_name}
@@ -12,7 +12,7 @@ use Rattle.tg_slots.specs.Table as table
 use Rattle.tg_graph.specs.Protection.{label}
 use Rattle.tg_graph.specs.Paths.{Leads}
 use Rattle.tg_marking.specs.Left.{parked_one}
-use Rattle.tg_marking.specs.Values.{Progress, Marking, Sweeping, edges_of}
+use Rattle.tg_marking.specs.Values.{Progress, edges_of}
 use Rattle.tg_collect.specs.declared.note.Phase.TheVariants as phases
 use Rattle.tg_collect.proofs.SlotLemmas.{at_index, listed_root, zip_at, as_spot, root_listed, contains_mapped, total_none, at_slot}
 use Rattle.tg_graph.proofs.ListedLemmas.{placed}

@@ -10,7 +10,7 @@ use Rattle.tg_collect.specs.Sessions.{Acted}
 
 -- a session step of a run: what comes by it is live or new
 pub record Acts (v w : Stored) (next : ℕ) : Type 0 where
-  pub step : marking.Acted (shown v) v.stage (shown w) next
+  pub step : marking.Mutated (shown v) v.stage (shown w) next
   pub stage : w.stage ≡ v.stage
   pub slots : slot_count w ≡ slot_count v
   pub cells : w.cells ≡ v.cells

@@ -1,21 +1,19 @@
 -- what each session call does to a store
-use Rattle.std.specs.Prelude.{◌≡◌, ℕ, ◌+◌, ◌<◌, ◌≤◌, List, [], length, map, Option, Some, None, ◌⊎◌, set}
+use Rattle.std.specs.Prelude.{◌≡◌, ℕ, ◌+◌, ◌<◌, ◌≤◌, List, [], length, Option, Some, None, ◌⊎◌, set}
 use Rattle.std.specs.FinMap as finmap
 use Rattle.std.specs.FinSet as finset
 use Rattle.tg_rights.specs.Letters.{Letters}
 use Rattle.tg_graph.specs.declared.vertex.Vertex.{Vertex}
 use Rattle.tg_graph.specs.Triples.{edge}
-use Rattle.tg_marking.specs.Values.{White, Grey, Contains, Kind, Edge, Spot}
+use Rattle.tg_marking.specs.Values.{Contains, Kind, Edge, Spot}
 use Rattle.tg_marking.specs.Steps.{new_colour, shade}
+use Rattle.tg_marking.specs.Runs as marking
+pub use Rattle.tg_marking.specs.Runs.{LedTo}
 use Rattle.tg_collect.specs.declared.machine.Root.{Root}
 use Rattle.tg_rights.specs.declared.kind.Kind.TheVariants.{Subject}
 use Rattle.tg_collect.specs.Machine.{assuming, with_agent, with_principal, with_target, without_principal}
 use Rattle.tg_collect.specs.Stored.{Stored}
 use Rattle.tg_collect.specs.Readings.{shown, spot, place, held, free_slots, pending_of, IsEdgeIn, IsRootAt, principals, pending, agents}
-
--- one of these edges leads to the same serial
-abbrev pub LedTo : List Edge → Edge → Type 0
-LedTo es e = Contains (map (λ (d : Edge). d.serial) es) e.serial
 
 -- the shade step of a seat that returns its target, which is in some slot
 pub record TargetShaded (v w : Stored) (seat x : ℕ) : Type 0 where
@@ -124,18 +122,11 @@ pub record TextReplaced (v w : Stored) (x : ℕ) (text answer : List ℕ) : Type
   pub at : spot v slot ≡ Some owner
   pub is : w ≡ record v { slots = set v.slots slot (Some (record owner { text = text })) }
 
--- what a session step does to one slot, by the new serial and the target: nothing; a white root turns grey; edges go,
--- or come that lead to the target, and the text may be another; or a vertex comes, in the colour of a new one. A
--- vertex keeps its slot.
-pub data Changed (v : Stored) (new target : Option ℕ) (i : ℕ) : Option Spot → Option Spot → Type 0 where
-  same : (o : Option Spot) → Changed v new target i o o
-  shaded : (s : Spot) → s.colour ≡ White → IsRootAt v i → Changed v new target i (Some s) (Some (record s { colour = Grey }))
-  regards : (s : Spot) (es : List Edge) (text : List ℕ) → ((e : Edge) → Contains es e → LedTo s.edges e ⊎ (target ≡ Some e.serial))
-      → Changed v new target i (Some s) (Some (record s { edges = es; text = text }))
-  comes : (s : Spot) → new ≡ Some s.serial → s.colour ≡ new_colour v.stage i → ((e : Edge) → Contains s.edges e → target ≡ Some e.serial) → Changed v new target i None (Some s)
+-- what a session step does to one slot, by the new serial, if any, and the target that it sets, if any
+abbrev pub Changed : Stored → (new target : Option ℕ) → ℕ → Option Spot → Option Spot → Type 0
+Changed v new target i = marking.Changed v.stage (IsRootAt v) (λ x. new ≡ Some x) (λ x. target ≡ Some x) i
 
--- one session step: the new serial, if any, and the target that it sets, if any; what is new may be a principal, and
--- the target an agent
+-- one session step; what is new may be a principal, and the target an agent
 pub record Acted (v w : Stored) (new target : Option ℕ) : Type 0 where
   pub stage : w.stage ≡ v.stage
   pub principals : (x : ℕ) → Contains (principals w) x → Contains (principals v) x ⊎ (new ≡ Some x)

@@ -4,7 +4,7 @@ use Rattle.std.proofs.lemmas.Bool.Decides.{nat_tests}
 use Rattle.tg_marking.specs.Values.{Colour, White, Grey, Black, Edge, Contains, Roots, HasRoot, Spot, Stage, Idle, Mark, Sweep, Body, spot, IsRoot, keeps, Kept, as_kept, kept}
 use Rattle.tg_marking.specs.Invariant.{at_root, along, IsLive}
 use Rattle.tg_marking.specs.Collected.{IsCalled, Turns, stays, greys, blackens, whitens, strips, frees, Stays, Follows, begins, marks, parks, ends as ended, Parks, Collected}
-use Rattle.tg_marking.specs.Runs.{Sane, IsLiveIn, IsLiveOrNew, Acted, RunOf, begin, acts, goes, ends, IsComplete, Settles}
+use Rattle.tg_marking.specs.Runs.{Sane, IsLiveIn, IsLiveOrNew, Mutated, RunOf, begin, acts, goes, ends, IsComplete, Settles}
 
 -- Roots are good, and edges of good ones lead to good ones.
 record Fence (good : ℕ → Type 0) (b : Body) (p : Stage) : Type 0 where
@@ -47,7 +47,7 @@ due_before (suc (suc zero)) (Sweep k) i j c d same held w = held w
 due_before (suc (suc (suc n))) g i j c d same held w = tt
 
 -- Session steps.
-module _ (good : ℕ → Type 0) (next : ℕ) (fresh : (x : ℕ) → next ≤ x → good x) (b b' : Body) (p : Stage) (g : Sane b p) (a : Acted b p b' next) (f : Fence good b p) where
+module _ (good : ℕ → Type 0) (next : ℕ) (fresh : (x : ℕ) → next ≤ x → good x) (b b' : Body) (p : Stage) (g : Sane b p) (a : Mutated b p b' next) (f : Fence good b p) where
   wanted : (x : ℕ) → IsLiveOrNew b p next x → good x
   wanted x w = let new = fresh x in grind (arith, live_keeps good b p g f)
 
@@ -157,7 +157,7 @@ live_fence b p g = record {
 
 pub complete : IsComplete
 complete b c q next n g below r two i s is =
-    let last = run_keeps (λ c q d. Acted c q d next) (Far good) (λ c d q n a k far. far_acts good next (λ x l. inr l) c d q k a far.0 n far.1)
+    let last = run_keeps (λ c q d. Mutated c q d next) (Far good) (λ c d q n a k far. far_acts good next (λ x l. inr l) c d q k a far.0 n far.1)
     (λ c d q r e n a k k' far. far_goes c d q r e k k' a good far.0 n far.1) b Idle 1 c q n g (fence, λ i s is d. absurd d) r in
     last.1.1 i s is (rw (let e : 1 + n ≡ suc (suc (suc (n - 2))) = omega (arith, two) in e) tt)
   where

@@ -178,21 +178,20 @@ shade_keeps b p i k held g = record {
     λ j h d. let u = shade_marks b i j in let v = f.1 j h in grind (arith, nat_tests),
   )
 
+-- A root after a seat's target was cleared was one before.
+pub cleared_root : (r : Roots) (seat i : ℕ) → HasRoot (with_target r seat None) i → HasRoot r i
+cleared_root r seat i (inl (n, e)) = inl (n, let w = at_within (set r.targets seat None) n i e in grind (arith, get_or-set_same, get_or-set_other, length-set))
+cleared_root r seat i (inr c) = inr c
+
 -- The session shades its target, and clears it.
 pub shades_keeps : (b b' : Body) (p : Progress) (seat i : ℕ) → ShadesTarget b seat i b' → Invariant b p → Invariant b' p
 shades_keeps b b' p seat i s g =
     let k = g.closed.roots i (inl (seat, s.was)) in
     reroots_keeps (shade b i) b' p (with_target b.roots seat None) (record {
-      comes = λ j r. inl (subst (λ (q : Roots). HasRoot q j) (sym (shade_roots b i)) (elim r [ inl (n, e) ↦ inl (n, was_target n j e) | inr c ↦ inr c ]));
-      stays = λ j w t. let u : HasTarget b.roots j = subst (λ (q : Roots). HasTarget q j) (shade_roots b i) t in target_stays b.roots seat None j u (other j u.0 w u.1);
+      comes = λ j r. inl (subst (λ (q : Roots). HasRoot q j) (sym (shade_roots b i)) (cleared_root b.roots seat j r));
+      stays = λ j w t. let u : HasTarget b.roots j = subst (λ (q : Roots). HasTarget q j) (shade_roots b i) t in target_stays b.roots seat None j u (let at = u.1 in let was = s.was in let done = shade_done b i in grind arith);
       is = s.is;
     }) (shade_keeps b p i k.0 k.1 g)
-  where
-    was_target : (n j : ℕ) → get_or (set b.roots.targets seat None) n None ≡ Some j → get_or b.roots.targets n None ≡ Some j
-    was_target n j e = let w = at_within (set b.roots.targets seat None) n j e in grind (arith, get_or-set_same, get_or-set_other, length-set)
-
-    other : (j n : ℕ) → mark (shade b i) j ≡ Has White → get_or b.roots.targets n None ≡ Some j → n ≢ seat
-    other j n w e is = let was = s.was in let done = shade_done b i in grind arith
 
 -- One slot changes.
 put_keeps : (b : Body) (p p' : Progress) (i : ℕ) (o o' : Option Spot) → spot b i ≡ o → i < length b.slots → Moves b p i i o o' → ScanMoves b (put b i o') p p' → Invariant b p → Invariant (put b i o') p'

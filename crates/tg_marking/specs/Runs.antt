@@ -1,7 +1,8 @@
 -- runs of session steps and collector steps, by what callers see
-use Rattle.std.specs.Prelude.{◌≡◌, ◌≢◌, ℕ, suc, ◌<◌, ◌≤◌, Some, ◌⊎◌, true, false}
-use Rattle.tg_marking.specs.Values.{White, Black, Has, Edge, Contains, Spot, Stage, Idle, Body, spot, mark, name, IsRoot, keeps, Kept, kept}
-use Rattle.tg_marking.specs.Invariant.{Closed, IsLive}
+use Rattle.std.specs.Prelude.{◌≡◌, ◌≢◌, ℕ, suc, ◌<◌, ◌≤◌, List, map, Option, Some, None, ◌⊎◌, true, false}
+use Rattle.tg_marking.specs.Values.{White, Grey, Black, Has, Edge, Contains, Kind, Roots, HasRoot, Spot, Progress, AtRest, Stage, shown, Idle, Body, spot, mark, name, IsRoot, keeps, Kept, kept}
+use Rattle.tg_marking.specs.Steps.{new_colour, Reroots, PutsEdge, ShadesTarget, Places, DropsEdge, Rewrites}
+use Rattle.tg_marking.specs.Invariant.{Closed, Invariant, IsLive}
 use Rattle.tg_marking.specs.Collected.{Collected}
 
 -- a serial is held in a live slot
@@ -20,12 +21,36 @@ HadSlot b g i s = (j : ℕ) × (t : Spot) × (spot b j ≡ Some t) × (t.serial 
 abbrev pub HadEdge : Body → Stage → ℕ → ℕ → Type 0
 HadEdge b g x y = (j : ℕ) × (k : Kept) × (e : Edge) × (kept b g j ≡ Some k) × (k.serial ≡ x) × Contains k.edges e × (e.serial ≡ y)
 
--- a session step, by serials: what has a slot had one, or is live or new; roots are live or new; and edges of what is
+-- a session step (the mutator's, as Dijkstra and others say), by serials: what has a slot had one, or is live or new; roots are live or new; and edges of what is
 -- held were there, or lead to what is live or new
-pub record Acted (b : Body) (g : Stage) (b' : Body) (next : ℕ) : Type 0 where
+pub record Mutated (b : Body) (g : Stage) (b' : Body) (next : ℕ) : Type 0 where
   pub spots : (i : ℕ) (s : Spot) → spot b' i ≡ Some s → HadSlot b g i s ⊎ IsLiveOrNew b g next s.serial
   pub roots : (i : ℕ) (k : Kept) → IsRoot b' i → kept b' g i ≡ Some k → IsLiveOrNew b g next k.serial
   pub edges : (i : ℕ) (k : Kept) (e : Edge) → kept b' g i ≡ Some k → Contains k.edges e → HadEdge b g k.serial e.serial ⊎ IsLiveOrNew b g next e.serial
+
+-- one of these edges leads to the same serial
+abbrev pub LedTo : List Edge → Edge → Type 0
+LedTo es e = Contains (map (λ (d : Edge). d.serial) es) e.serial
+
+-- what a session step does to one slot, where serials may come that are New, and edges that lead To some: nothing; a
+-- white root turns grey; edges go or come, and the text may be another; or a vertex comes, in the colour of a new one.
+-- A vertex keeps its slot.
+pub data Changed (g : Stage) (Root New To : ℕ → Type 0) (i : ℕ) : Option Spot → Option Spot → Type 0 where
+  same : (o : Option Spot) → Changed g Root New To i o o
+  shaded : (s : Spot) → s.colour ≡ White → Root i → Changed g Root New To i (Some s) (Some (record s { colour = Grey }))
+  regards : (s : Spot) (es : List Edge) (text : List ℕ) → ((e : Edge) → Contains es e → LedTo s.edges e ⊎ To e.serial) → Changed g Root New To i (Some s) (Some (record s { edges = es; text = text }))
+  comes : (s : Spot) → New s.serial → s.colour ≡ new_colour g i → ((e : Edge) → Contains s.edges e → To e.serial) → Changed g Root New To i None (Some s)
+
+-- each exact session step is one of a run, if the roots that come are live or new, a vertex that comes is new, and an
+-- edge put at rest leads to what is live or new
+pub record StepsMutate : Type 0 where
+  pub reroots : (b b' : Body) (p : Progress) (rs : Roots) (next : ℕ) → Reroots b p rs b' → Invariant b p
+      → ((i : ℕ) (k : Kept) → HasRoot rs i → kept b (shown p) i ≡ Some k → IsRoot b i ⊎ IsLiveOrNew b (shown p) next k.serial) → Mutated b (shown p) b' next
+  pub puts_edge : (b b' : Body) (p : Progress) (i next : ℕ) (new : Edge) → PutsEdge b p i new b' → Invariant b p → (p ≡ AtRest → IsLiveOrNew b (shown p) next new.serial) → Mutated b (shown p) b' next
+  pub shades : (b b' : Body) (p : Progress) (seat i next : ℕ) → ShadesTarget b seat i b' → Invariant b p → Mutated b (shown p) b' next
+  pub places : (b b' : Body) (p : Progress) (i serial next : ℕ) (kind : Kind) (text : List ℕ) → Places b p i serial kind text b' → Invariant b p → next ≤ serial → Mutated b (shown p) b' next
+  pub drops_edge : (b b' : Body) (p p' : Progress) (i : ℕ) (before : List Edge) (e : Edge) (news after : List Edge) (next : ℕ) → DropsEdge b p i before e news after b' p' → Invariant b p → Mutated b (shown p) b' next
+  pub rewrites : (b b' : Body) (p : Progress) (i next : ℕ) (text : List ℕ) → Rewrites b i text b' → Invariant b p → Mutated b (shown p) b' next
 
 -- what a run asks of each value
 pub record Sane (b : Body) (g : Stage) : Type 0 where
@@ -41,7 +66,7 @@ pub data RunOf (Session : Body → Stage → Body → Type 0) (b : Body) (g : St
   ends : (c d : Body) (h k : Stage) (n : ℕ) → RunOf Session b g c h n → Collected c h d k true → Sane d k → RunOf Session b g d k (suc n)
 
 abbrev pub Run : ℕ → Body → Stage → Body → Stage → ℕ → Type 0
-Run next b g c h n = RunOf (λ c h d. Acted c h d next) b g c h n
+Run next b g c h n = RunOf (λ c h d. Mutated c h d next) b g c h n
 
 -- without session steps
 abbrev pub Cycles : Body → Stage → Body → Stage → ℕ → Type 0

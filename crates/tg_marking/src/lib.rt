@@ -6,7 +6,7 @@
 
 ghost use Rattle.tg_marking.specs.Invariant.{SessionsKeep};
 ghost use Rattle.tg_marking.specs.Collected.{LinesKeep};
-ghost use Rattle.tg_marking.specs.Runs.{IsComplete, Settles};
+ghost use Rattle.tg_marking.specs.Runs.{IsComplete, Settles, StepsMutate};
 ghost use Rattle.tg_marking.specs.Left.{IsBounded, NeverRaises, IsCounted};
 
 /// A law: each line of the step table keeps the invariant, and does to each slot what callers see.
@@ -20,10 +20,12 @@ pub fn sessions_keep()
 {}
 
 /// A law: what is not live in an idle store has no slot once two cycles have ended, whatever session steps come
-/// between; and once three cycles have ended without any, only what is live has one.
+/// between; and once three cycles have ended without any, only what is live has one. The exact session steps are among
+/// those that may come.
 pub fn runs_are_complete()
     ensures complete { IsComplete }
     ensures settles { Settles }
+    ensures mutates { StepsMutate }
 {}
 
 /// A law: each collector step lowers the number of steps that a cycle may still take, unless it ends the cycle, and no
