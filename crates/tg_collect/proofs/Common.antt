@@ -80,7 +80,7 @@ pub use Rattle.tg_collect.specs.Machine.{Adds, AreRoots, AreWithin, CursorFits, 
 pub use Rattle.tg_collect.specs.Openings.{HasOpened, Opened, OpeningsCanBeStored, Opens, OpensEdges, OpensFirst, first_root, first_roots, first_serials, KeepsSize, OpensAll, rank}
 pub use Rattle.tg_collect.specs.Readings.{IsEdgeIn, IsHeldIn, IsParkedIn, IsRootAt, IsRootIn, agents, cycle_bound, free_slots, held, kept, kept_from, pending, pending_of, phase, phase_in, place, principals, root_serial, serial_at, serial_of, shown, slot_count, spot, triples, vertices}
 pub use Rattle.tg_collect.specs.Runs.{CallsAct, IsBounded, IsComplete, StoreRun, acts, goes, start}
-pub use Rattle.tg_collect.specs.Sessions.{Acted, Assumed, Changed, EdgeStored, LedTo, Left, PrincipalStored, Retired, RightsRemoved, Shaded, TargetShaded, TextReplaced, VertexStored}
+pub use Rattle.tg_collect.specs.Sessions.{Acted, Assumed, Changed, EdgeStored, LedTo, AgentLeft, PrincipalStored, Retired, RightsRemoved, Shaded, TargetShaded, TextReplaced, VertexStored}
 pub use Rattle.tg_collect.specs.Stored.{Stored, stored}
 pub use Rattle.tg_collect.specs.Views.{Collected, IsStore, most_marks}
 pub use Rattle.tg_collect.specs.declared.machine.Machine.{Machine}

@@ -1,6 +1,6 @@
 -- Roots come and go, and nothing else changes.
 use Rattle.std.proofs.Common.{◌≡◌, ℕ, ◌<◌, ◌≤◌, [], ◌∷◌, length, Some, None, ◌⊎◌, inl, inr, Bool, not, ◌==◌, sym, ◌∙◌, subst, ap, refl, arith, get_or, get_or-set_same, length-set, length-append}
-use Rattle.tg_collect.proofs.Common.{MAX_PRINCIPALS, SEATS, Contains, contains_append, contains_filter, count_by-le-length, length-filter, IsTarget, AreRoots, Invariant, Reroots, reroots_keeps, same_roots, idle_stays, AtRest, Machine, Root, RootLists, Roots, IsListed, Rerooted, lists_of, bare, body, progress_of, slot_of, Whole, stored, assuming, with_agent, with_principal, with_target, without_principal, pending_of, place, Assumed, Left, Retired, Stored, get_or-map, Acted, principals, contains_map, contains_mapped}
+use Rattle.tg_collect.proofs.Common.{MAX_PRINCIPALS, SEATS, Contains, contains_append, contains_filter, count_by-le-length, length-filter, IsTarget, AreRoots, Invariant, Reroots, reroots_keeps, same_roots, idle_stays, AtRest, Machine, Root, RootLists, Roots, IsListed, Rerooted, lists_of, bare, body, progress_of, slot_of, Whole, stored, assuming, with_agent, with_principal, with_target, without_principal, pending_of, place, Assumed, AgentLeft, Retired, Stored, get_or-map, Acted, principals, contains_map, contains_mapped}
 use Rattle.tg_marking.specs.Values as values
 use Rattle.tg_collect.specs.Readings as readings
 use Rattle.tg_collect.proofs.SlotLemmas.{contains_seat, listed_root, seat_contains, seat_slot, roots_by}
@@ -78,7 +78,7 @@ module _ (m : Machine) (seat : ℕ) (t : Root) (w : Whole m) (l : seat < SEATS) 
       (done.0, record { slot = t.slot; place = here; is = done.1 })
 
 -- A seat's agent goes.
-pub agent_left : (m : Machine) (seat : ℕ) → Whole m → (k : Machine) → Rerooted m (with_agent (lists_of m.roots) seat None) k → Whole k × Left (stored m) (stored k) seat
+pub agent_left : (m : Machine) (seat : ℕ) → Whole m → (k : Machine) → Rerooted m (with_agent (lists_of m.roots) seat None) k → Whole k × AgentLeft (stored m) (stored k) seat
 agent_left m seat w k h = rerooted m (with_agent (lists_of m.roots) seat None) w w.roots.seats w.roots.few (length-set m.roots.agents.items seat None ∙ w.roots.agents)
     (λ q listed. let only = set_only m.roots.agents.items seat None (Some q) in grind arith) (λ i t. t) k h
 
@@ -103,7 +103,7 @@ acted_assumed v w seat x a =
     let r : Root = record { serial = x; slot = a.slot } in
     acted_roots v w (assuming v.roots seat r) (Some x) a.is (λ y h. h) (serial_set v.roots.targets seat (Some r)) (serial_set v.roots.agents seat (Some r))
 
-pub acted_left : (v w : Stored) (seat : ℕ) → Left v w seat → Acted v w None None
+pub acted_left : (v w : Stored) (seat : ℕ) → AgentLeft v w seat → Acted v w None None
 acted_left v w seat is = acted_roots v w (with_agent v.roots seat None) None is (λ y h. h) (λ y h. inl h) (serial_set v.roots.agents seat None)
 
 pub acted_retired : (v w : Stored) (x : ℕ) → Retired v w x → Acted v w None None

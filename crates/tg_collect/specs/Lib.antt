@@ -1,5 +1,5 @@
 pub mod Machine
-pub mod Course
+pub mod PackedProgress
 pub mod Stored
 pub mod Readings
 pub mod Views

@@ -93,8 +93,8 @@ pub record Assumed (v w : Stored) (seat x : ℕ) : Type 0 where
   pub is : w ≡ record v { roots = assuming v.roots seat (record { serial = x; slot = slot }) }
 
 -- the seat has no agent any longer; who was is a root only if still a principal, or a target or agent of some seat
-abbrev pub Left : Stored → Stored → ℕ → Type 0
-Left v w seat = w ≡ record v { roots = with_agent v.roots seat None }
+abbrev pub AgentLeft : Stored → Stored → ℕ → Type 0
+AgentLeft v w seat = w ≡ record v { roots = with_agent v.roots seat None }
 
 -- x loses rights over y. An edge left with none gives its cell back.
 pub record RightsRemoved (v w : Stored) (x y : ℕ) (rights : Letters) : Type 0 where

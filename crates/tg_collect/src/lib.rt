@@ -2,7 +2,6 @@
 //! (1978), for up to 64 sessions and any number of edges, over a labelled heap.
 #![tactic(auto)]
 
-mod course;
 mod figures;
 #[cfg(test)]
 mod growth_tests;
@@ -10,6 +9,7 @@ mod laws;
 mod machine;
 mod note;
 mod opening;
+mod packed_progress;
 mod parts;
 mod reader;
 mod roster;

@@ -6,8 +6,8 @@ ghost use Rattle.tg_slots.specs.Table.{Free, Has};
 ghost use Rattle.tg_heap.specs.Graph.{mark_at};
 ghost use Rattle.tg_collect.specs.Machine.{Whole, Steps, phase_of, ShadesFirst, NoneWhite, AreWithin, other_slots, slot_of, with_shaded};
 
-use crate::course::Course;
 use crate::note::{Note, Phase};
+use crate::packed_progress::PackedProgress;
 use crate::roster::Roster;
 use tg_heap::Heap;
 use tg_slots::Colour;
@@ -60,7 +60,7 @@ impl Roots {
 #[derive(Drop)]
 pub(crate) struct Machine {
     pub heap: Heap,
-    pub progress: Course,
+    pub progress: PackedProgress,
     pub roots: Roots,
 }
 
@@ -75,7 +75,7 @@ impl Machine {
         let target = self.heap.target(cursor);
         let next = self.heap.next(cursor);
         self.heap.shade(target);
-        self.progress = Course::of(Progress::Marking(Some(Scan { slot, cursor: next })));
+        self.progress = PackedProgress::of(Progress::Marking(Some(Scan { slot, cursor: next })));
     }
 
     /// Parks all white slots.
@@ -85,7 +85,7 @@ impl Machine {
         requires none_white { NoneWhite self.old }
         ensures line { Steps self.old self.new 0 false }
     {
-        self.progress = Course::of(Progress::Sweeping(0));
+        self.progress = PackedProgress::of(Progress::Sweeping(0));
     }
 
     /// Makes the slot under scan black.
@@ -96,7 +96,7 @@ impl Machine {
     {
         self.heap.soundness();
         self.heap.blacken(slot);
-        self.progress = Course::of(Progress::Marking(None));
+        self.progress = PackedProgress::of(Progress::Marking(None));
     }
 
     /// Takes the first of the grey list under scan; false if there is none.
@@ -110,7 +110,7 @@ impl Machine {
             None => false,
             Some(slot) => {
                 let cursor = self.heap.first(slot);
-                self.progress = Course::of(Progress::Marking(Some(Scan { slot, cursor })));
+                self.progress = PackedProgress::of(Progress::Marking(Some(Scan { slot, cursor })));
                 true
             }
         }
@@ -124,7 +124,7 @@ impl Machine {
         requires size { length self.old.heap.table.slots ≤ MAX_SLOTS }
         ensures line { Steps self.old self.new 0 false }
     {
-        self.progress = Course::of(Progress::Sweeping(at + 1));
+        self.progress = PackedProgress::of(Progress::Sweeping(at + 1));
     }
 
     /// Makes a black slot white.
@@ -136,7 +136,7 @@ impl Machine {
         ensures line { Steps self.old self.new 0 false }
     {
         self.heap.whiten(at);
-        self.progress = Course::of(Progress::Sweeping(at + 1));
+        self.progress = PackedProgress::of(Progress::Sweeping(at + 1));
     }
 
     /// Frees a parked slot's first cell, or the slot if it has none; true if it freed the slot.
@@ -152,7 +152,7 @@ impl Machine {
             return false;
         }
         self.heap.free_slot(at);
-        self.progress = Course::of(Progress::Sweeping(at + 1));
+        self.progress = PackedProgress::of(Progress::Sweeping(at + 1));
         true
     }
 
@@ -162,7 +162,7 @@ impl Machine {
         requires past { length self.old.heap.table.slots ≤ at }
         ensures line { Steps self.old self.new 0 true }
     {
-        self.progress = Course::of(Progress::Idle);
+        self.progress = PackedProgress::of(Progress::Idle);
     }
 
     /// Shades the pending target of the least seat that has a white one; false if there is none.
@@ -204,7 +204,7 @@ impl Machine {
         ensures line { Steps self.old self.new 0 false }
     {
         self.shade_others();
-        self.progress = Course::of(Progress::Marking(None));
+        self.progress = PackedProgress::of(Progress::Marking(None));
     }
 
     /// Shades the principals and the agents, from the last agent on.

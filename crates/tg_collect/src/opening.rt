@@ -5,8 +5,8 @@ ghost use Rattle.tg_collect.specs.Machine.{Whole};
 ghost use Rattle.tg_collect.specs.Stored.{stored};
 ghost use Rattle.tg_collect.specs.Openings.{IsOpening, Opened, OpensFirst, OpensAll, OpensEdges, KeepsSize, rank};
 
-use crate::course::Course;
 use crate::machine::{Machine, Progress, Root, Roots};
+use crate::packed_progress::PackedProgress;
 use crate::roster::Roster;
 use std::alloc::{AllocError, Global};
 use tg_graph::Graph;
@@ -48,7 +48,7 @@ impl Machine {
         ensures slots { IfOk result (λ m. length m.heap.table.slots ≡ slots) }
         ensures cells { IfOk result (λ m. m.heap.cell_count ≡ cells) }
     {
-        let progress = Course::of(Progress::Idle);
+        let progress = PackedProgress::of(Progress::Idle);
         let heap = Heap::with_key(alloc, key, slots, cells)?;
         let roots = Roots {
             targets: empty_seats(alloc)?,

@@ -8,8 +8,8 @@ ghost use Rattle.tg_cells.specs.Lists.{HasNone, Found};
 ghost use Rattle.tg_heap.specs.Graph.{edges, mark_at};
 ghost use Rattle.tg_collect.specs.Machine.{Whole, Adds, Links, Removes, Puts, SetsText, ShadesSeat, Rerooted, assuming, lists_of, with_agent, with_principal, without_principal, progress_without, has_passed, colour_ahead};
 
-use crate::course::Course;
 use crate::machine::{Machine, Progress, Root, Scan};
+use crate::packed_progress::PackedProgress;
 use tg_heap::{Dropped, HeapFull};
 use tg_rights::{Kind, Rights, Text};
 use tg_slots::Colour;
@@ -77,7 +77,7 @@ impl Machine {
         match self.heap.drop_rights(id, serial, rights) {
             Dropped::Kept => {}
             Dropped::Gone { cell, next } => {
-                self.progress = Course::of(self.progress.get().without(id, cell, next));
+                self.progress = PackedProgress::of(self.progress.get().without(id, cell, next));
             }
         }
     }

@@ -11,7 +11,7 @@ ghost use Rattle.tg_graph.specs.Rules.{edges_of};
 ghost use Rattle.tg_heap.specs.Graph.{edges};
 ghost use Rattle.tg_collect.specs.Readings.{IsHeldIn, IsParkedIn, IsEdgeIn, held, vertices, principals, place, serial_at, pending_of, agent_of, free_slots, slot_count, phase};
 ghost use Rattle.tg_collect.specs.Views.{IsStore, Collected};
-ghost use Rattle.tg_collect.specs.Sessions.{Shaded, EdgeStored, VertexStored, PrincipalStored, Retired, Assumed, Left, RightsRemoved, TextReplaced, Acted};
+ghost use Rattle.tg_collect.specs.Sessions.{Shaded, EdgeStored, VertexStored, PrincipalStored, Retired, Assumed, AgentLeft, RightsRemoved, TextReplaced, Acted};
 ghost use Rattle.tg_collect.specs.Openings.{IsOpening, Opened};
 
 use crate::machine::{Machine, Root};
@@ -320,7 +320,7 @@ impl Store {
     /// Takes the seat's agent away, if it has one.
     pub fn leave(&mut self, seat: u64)
         requires { seat < SEATS }
-        ensures left { Left self.old self.new seat }
+        ensures left { AgentLeft self.old self.new seat }
         ensures acted { Acted self.old self.new None None }
     {
         self.machine.leave(seat as usize);

@@ -29,7 +29,7 @@ use Rattle.tg_graph.specs.Fullness.{NewEdge, edges_at}
 use Rattle.tg_graph.specs.Rules.{Allowed, answered, denial, done, edges_of, is_new, text_of, with_text}
 use Rattle.tg_collect.specs.Stored.{Stored}
 use Rattle.tg_collect.specs.Readings.{agents, held, pending, principals, free_slots, place, serial_at}
-use Rattle.tg_collect.specs.Sessions.{Assumed, EdgeStored, Left, Retired, RightsRemoved, TextReplaced, Acted}
+use Rattle.tg_collect.specs.Sessions.{Assumed, EdgeStored, AgentLeft, Retired, RightsRemoved, TextReplaced, Acted}
 use Rattle.tg_collect.proofs.SeatLemmas.{acted_same}
 use Rattle.tg_collect.proofs.RunLemmas.{acted_slots, agents_set, pending_set, text_graph}
 use Rattle.tg_collect.proofs.StoreLemmas.{edge_in, in_edge}
@@ -300,7 +300,7 @@ module _ (s t : Stored) (next : ℕ) (names : List Member) (retired : set.FinSet
       cells = ap (λ z. z.free_cells) assumed.is;
     })
 
-    pub leave_done : (x : ℕ) → Left s t seat → Acted s t None None → ByEffect next names retired x (effect.Acts None) reply.Done
+    pub leave_done : (x : ℕ) → AgentLeft s t seat → Acted s t None None → ByEffect next names retired x (effect.Acts None) reply.Done
     leave_done x left acted = inl (record {
       room = needs_none S (free_slots s) s.free_cells (effect.Acts None) refl (λ u. u);
       replied = refl;

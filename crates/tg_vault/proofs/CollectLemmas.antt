@@ -7,7 +7,7 @@ use Rattle.tg_graph.specs.Protection.{IsVertex, is_active, named}
 use Rattle.tg_graph.specs.Paths.{IsPart}
 use Rattle.tg_collect.specs.Stored.{Stored}
 use Rattle.tg_collect.specs.Readings.{IsParkedIn, free_slots, held, agents, pending, pending_of, principals, slot_count}
-use Rattle.tg_collect.specs.Sessions.{Left, Shaded, Acted}
+use Rattle.tg_collect.specs.Sessions.{AgentLeft, Shaded, Acted}
 use Rattle.tg_collect.specs.Views.{IsStore, Collected}
 use Rattle.tg_collect.proofs.SeatLemmas.{acted_same}
 use Rattle.tg_collect.proofs.RunLemmas.{acted_parked, acted_slots, agents_set, collected_parked, collected_part, shaded_graph, shaded_others, shaded_pending, shaded_was}
@@ -144,7 +144,7 @@ module _ (v : Contents) (j : Ties v) (t : Stored) where
     )
 
 -- somebody has left a seat, and its agent went
-module _ (v : Contents) (next : ℕ) (retired : List ℕ) (tied : IsTied v next retired) (t : Stored) (seat : ℕ) (idle : pending_of v.store seat ≡ None) (left : Left v.store t seat) (acted : Acted v.store t None None) where
+module _ (v : Contents) (next : ℕ) (retired : List ℕ) (tied : IsTied v next retired) (t : Stored) (seat : ℕ) (idle : pending_of v.store seat ≡ None) (left : AgentLeft v.store t seat) (acted : Acted v.store t None None) where
   abbrev emptied : Contents
   emptied = record v { seats = set v.seats seat None }
 

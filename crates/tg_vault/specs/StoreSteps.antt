@@ -7,7 +7,7 @@ use Rattle.tg_vault.specs.declared.event.Answer.{Answer}
 use Rattle.tg_vault.specs.declared.event.Answer.TheVariants as answer
 use Rattle.tg_collect.specs.Readings.{IsRootIn, phase}
 use Rattle.tg_collect.specs.Views.{Collected}
-use Rattle.tg_collect.specs.Sessions.{Acted, Left}
+use Rattle.tg_collect.specs.Sessions.{Acted, AgentLeft}
 use Rattle.tg_vault.specs.Contents.{Contents, graph_now, held_now}
 use Rattle.tg_vault.specs.Exact.{IsExact}
 
@@ -24,7 +24,7 @@ pub record SessionStep (old new : Contents) : Type 0 where
 abbrev pub StoreAnswer : Contents → Event → Answer → Contents → Type 0
 StoreAnswer old (event.Hello seat name) (answer.Hello x) new = new.store ≡ old.store
 StoreAnswer old (event.Hello seat name) (answer.Seat fault) new = new ≡ old
-StoreAnswer old (event.Bye seat) answer.Bye new = Left old.store new.store seat
+StoreAnswer old (event.Bye seat) answer.Bye new = AgentLeft old.store new.store seat
 StoreAnswer old (event.Bye seat) (answer.Seat fault) new = new ≡ old
 StoreAnswer old (event.Ask seat c) (answer.Asked number reply) new = IsExact old new
 StoreAnswer old (event.Ask seat c) (answer.Ask fault) new = new ≡ old

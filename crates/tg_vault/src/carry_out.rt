@@ -11,7 +11,7 @@ ghost use Rattle.tg_graph.specs.Protection.{label};
 ghost use Rattle.tg_graph.specs.Rules.{Allowed, edges_of, text_of};
 ghost use Rattle.tg_graph.specs.Terms.{terms, name_in, text_in};
 ghost use Rattle.tg_collect.specs.Readings.{held, free_slots, IsEdgeIn, IsHeldIn, IsParkedIn, pending_of, place, principals, serial_at};
-ghost use Rattle.tg_collect.specs.Sessions.{Assumed, Left, Retired, RightsRemoved, TextReplaced, Acted};
+ghost use Rattle.tg_collect.specs.Sessions.{Assumed, AgentLeft, Retired, RightsRemoved, TextReplaced, Acted};
 ghost use Rattle.tg_vault.specs.Acting.{IsHere, serial_in};
 ghost use Rattle.tg_vault.specs.CarriedOut.{CarriedOut, HasRoom, Joined, Made, Stores, copies};
 ghost use Rattle.tg_vault.specs.Seen.{seen, serials, set_of};
@@ -165,7 +165,7 @@ fn assume(store: &mut Store, seat: u64, agent: u32) -> Reply
 fn leave(store: &mut Store, seat: u64) -> Reply
     requires { seat < SEATS }
     ensures done { result ≡ reply.Done }
-    ensures left { Left store.old store.new seat }
+    ensures left { AgentLeft store.old store.new seat }
     ensures acted { Acted store.old store.new None None }
 {
     store.leave(seat);

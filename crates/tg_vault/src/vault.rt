@@ -5,7 +5,7 @@ ghost use Rattle.tg_graph.specs.Opening.{first_fault, IsRefusal};
 ghost use Rattle.tg_vault.specs.declared.event.Event.TheVariants as event;
 ghost use Rattle.tg_vault.specs.declared.event.Answer.TheVariants as answer;
 ghost use Rattle.tg_collect.specs.Readings.{pending_of};
-ghost use Rattle.tg_collect.specs.Sessions.{Left, Shaded};
+ghost use Rattle.tg_collect.specs.Sessions.{AgentLeft, Shaded};
 ghost use Rattle.tg_vault.specs.World.{actor_at, at_seat, bye_fault, shade_fault, ask_refusal, Enters, IsAskFault};
 ghost use Rattle.tg_vault.specs.Contents.{Contents, StepOf, IsFresh, RunOf, Keeps, IsVault, moment};
 ghost use Rattle.tg_vault.specs.Fits.{Fits, IsSmall};
@@ -224,7 +224,7 @@ impl Vault {
     pub fn bye(&mut self, seat: u64) -> Result<(), SeatFault>
         ensures step { MatchResult result (λ _. StepOf self.old (event.Bye seat) answer.Bye self.new) (λ fault. StepOf self.old (event.Bye seat) (answer.Seat fault) self.new) }
         ensures keeps { Keeps self.old self.new }
-        ensures store { OnOk result (Left self.old.store self.new.store seat) }
+        ensures store { OnOk result (AgentLeft self.old.store self.new.store seat) }
         ensures acts { SessionStep self.old self.new }
         ensures unchanged { OnErr result (self.new ≡ self.old) }
     {

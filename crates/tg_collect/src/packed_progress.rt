@@ -16,22 +16,22 @@ enum Flat {
 
 /// The collector's progress, in twelve bytes. Contracts see it as a `Progress`.
 #[derive(Drop)]
-pub(crate) struct Course {
+pub(crate) struct PackedProgress {
     flat: Flat,
 }
 
-impl Model for Course {
+impl Model for PackedProgress {
     ghost use Rattle.tg_collect.specs.declared.machine.Progress.{Progress};
-    ghost use Rattle.tg_collect.specs.Course.{course};
+    ghost use Rattle.tg_collect.specs.PackedProgress.{unpacked};
 
     ghost Value = { Progress };
 
-    ghost view = { course };
+    ghost view = { unpacked };
 }
 
-impl Course {
+impl PackedProgress {
     /// What represents a progress.
-    pub fn of(progress: Progress) -> Course
+    pub fn of(progress: Progress) -> PackedProgress
         ensures { result ≡ progress }
     {
         let flat = match progress {
@@ -46,7 +46,7 @@ impl Course {
             },
             Progress::Sweeping(at) => Flat::Sweeping { at },
         };
-        Course { flat }
+        PackedProgress { flat }
     }
 
     /// The progress that it represents.
