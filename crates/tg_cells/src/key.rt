@@ -2,8 +2,9 @@
 ghost use Rattle.std.specs.Prelude.{◌≡◌, ◌<◌, ◌≤◌};
 ghost use Rattle.tg_cells.specs.Index.{bucket_of};
 
-/// The key of an index. Any two numbers will do, and no answer depends on them. Two odd ones whose bits are well mixed
-/// spread edges evenly; if nobody can guess them, nobody can choose edges that all lie in one bucket.
+/// The key of an index. Any two numbers will do, and no answer depends on them. Odd numbers with well-mixed bits are
+/// meant to spread edges evenly, and numbers that nobody can guess, to keep anybody from choosing edges that all lie in
+/// one bucket. No contract says that they do.
 #[derive(Clone, Copy)]
 pub struct Key {
     /// What an edge's owner is multiplied by.

@@ -26,10 +26,14 @@ pub(crate) struct Scan {
     pub cursor: Option<u32>,
 }
 
+/// How far the collector is in its cycle.
 #[derive(Clone, Copy, Drop)]
 pub(crate) enum Progress {
+    /// Between two cycles.
     Idle,
+    /// Marking, with the slot under scan, if one is chosen.
     Marking(Option<Scan>),
+    /// Sweeping, with the next slot.
     Sweeping(u32),
 }
 

@@ -14,7 +14,7 @@ enum Flat {
     Sweeping { at: u32 },
 }
 
-/// The collector's progress, in twelve bytes. Contracts see it as a `Progress`.
+/// The collector's progress, packed. Contracts see it as a `Progress`.
 #[derive(Drop)]
 pub(crate) struct PackedProgress {
     flat: Flat,

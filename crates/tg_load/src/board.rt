@@ -5,8 +5,10 @@ use std::sync::atomic::{AtomicBool, AtomicU64, Ordering};
 use std::thread;
 use std::time::Duration;
 
+/// How often a thread looks, every 10 microseconds, before it gives up.
 const TURNS: u32 = 1_000_000;
 
+/// What the threads of a run have reported so far.
 #[derive(Drop)]
 pub struct Board {
     /// How many sessions were given or refused.
@@ -22,6 +24,7 @@ pub struct Board {
 }
 
 impl Board {
+    /// Nothing is reported yet. The newest vertex is 1, a principal.
     pub fn new() -> Board {
         Board {
             seated: AtomicU64::new(0),

@@ -13,6 +13,7 @@ pub enum Place {
 
 /// What is done at a pause. The lock is free, and any other call may take it.
 pub trait Gate {
+    /// Called between two holds of the lock, at this place. It may wait.
     fn pause<R: Wait + Clock>(&self, rt: &R, place: Place);
 
     /// Called after the pause of a command that made a vertex, which is not yet shaded. Does nothing unless a gate says

@@ -21,7 +21,7 @@ enum Tint {
     Black,
 }
 
-// What else a slot holds. The small fields share a word, with the tag too: this takes 40 bytes.
+// What else a slot holds. The tag and the small fields fit into one word.
 #[derive(Drop)]
 enum Form {
     Free {

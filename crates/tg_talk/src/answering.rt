@@ -19,13 +19,14 @@ use std::io::{BufWriter, Read, Write};
 use tg_vault::Answer;
 use tg_wire::{LineRoom, WireFault, error_line, write_answer_in};
 
-/// How the lines of an input ended: how many were taken, how many of the answers are `error` lines, and why no more
-/// lines were taken, if some were left or the last answer is not written.
+/// How the lines of an input ended: how many were taken, how many of the answers count as errors, and why no more lines
+/// were taken, if some were left or the last answer is not written.
 #[derive(Clone, Copy, Debug, PartialEq, Eq)]
 pub struct Finished {
     /// Input lines taken, a last one that is too long or one too many among them.
     pub lines: u64,
-    /// Answers with the key `error`.
+    /// Answers with the key `error`, even if a drawing does not write them; in an audit, also a verdict other than
+    /// `shared`.
     pub errors: u64,
     /// The fault that ended the lines.
     pub fault: Option<TalkFault>,
@@ -59,10 +60,10 @@ pub trait Responder {
     /// What is handed on from line to line.
     type Carried;
 
-    // what stays so, of those who answered the first line and the next one
+    // what every answer keeps: of the responder at the start, the responder now, and what is carried on
     ghost stays: { Self → Self → Self.Carried → Type 0 };
 
-    // what becomes of a line
+    // what an answer does: the responder and what it carries before, the line, what is said, and the two after
     ghost says: { Self → Self.Carried → List ℕ → Saying → Self → Self.Carried → Type 0 };
 
     // whether a line may go without an answer

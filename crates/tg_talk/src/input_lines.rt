@@ -106,7 +106,8 @@ impl InputLines {
         }
     }
 
-    /// Takes the next line, with a writer that answers the lines: it holds nothing back when more is read.
+    /// Takes the next line. The writer of the answers is named for the contract alone, and is not touched: if more has
+    /// to be read for the line, it must hold nothing back.
     #[inline(always)]
     pub fn next_paid<R: Read, W: Write + Drop>(
         &mut self,

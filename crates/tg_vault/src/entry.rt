@@ -60,8 +60,7 @@ enum Decided {
     },
 }
 
-/// A command that was decided. Contracts see its seat, its actor, the command and the outcome; in memory it takes 72
-/// bytes.
+/// A command that was decided. Contracts see its seat, its actor, the command and the outcome.
 #[derive(Debug, Drop)]
 pub struct Entry {
     actor: u64,

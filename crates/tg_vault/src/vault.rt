@@ -31,9 +31,10 @@ use tg_graph::{Config, Graph, OpenFault, Roll, serial_of};
 use tg_rights::{Command, Reply, SEATS};
 
 /// The whole state of the server: the opening graph, the active principals by their names, who has retired, the seats,
-/// the store with its collector and the pending target and agent of each seat, and the history of commands. Each call is
-/// one atomic step. Contracts see its `Contents`. Only they have the graph of the history; what is stored is the part of
-/// the graph still in use.
+/// the store with its collector and the pending target and agent of each seat, and the history of commands. `hello`,
+/// `bye`, `command`, `shade`, `collect` and `run_one` are one atomic step each; `cycle`, `run` and `rebase` can make
+/// many. Contracts see its `Contents`. Only they have the graph of the history; what is stored is the part of the graph
+/// still in use.
 ///
 /// The history is kept whole until a rebase, and is legal: each entry's outcome is one that the take-grant rules (Lipton
 /// and Snyder 1977; Bishop) permit in the graph that the entries before it leave.
@@ -95,9 +96,9 @@ impl Vault {
         Vault::with_key(alloc, Key::FIXED, config)
     }
 
-    /// The same under a key of the caller's. It changes no answer; under one that nobody can guess, nobody can choose
-    /// edges that are slow to find. Errors are those of `new`, in the same order: the first fault of the configuration,
-    /// and `OutOfMemory` only if there is no other.
+    /// The same under a key of the caller's, which changes no answer. A key that nobody can guess is meant to keep
+    /// anybody from choosing edges that are slow to find. Errors are those of `new`, in the same order: the first fault
+    /// of the configuration, and `OutOfMemory` only if there is no other.
     pub fn with_key(alloc: Global, key: Key, config: Config) -> Result<Vault, OpenFault>
         ensures ok { IfOk result (λ vault. IsFresh config vault) }
         ensures sound { IfOk result (λ _. first_fault config ≡ None) }

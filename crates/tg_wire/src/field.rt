@@ -67,7 +67,7 @@ pub(crate) fn string<'o>(object: &'o LineObject<'_>, key: Key) -> Option<&'o str
     }
 }
 
-/// A flat object has no list.
+/// The list in the field of this key, if there is one. A flat object has none.
 pub(crate) fn list<'o>(object: &'o LineObject<'_>, key: Key) -> Option<&'o Vec<Value>>
     ensures { option_map (λ v. items_view v.now.items) result ≡ option_and_then as_array (get (key_text key) (data_of object.now)) }
 {

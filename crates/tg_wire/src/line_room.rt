@@ -8,8 +8,9 @@ use std::mem;
 /// Room for most lines.
 const ROOM: usize = 128;
 
-/// Room in which lines are written, one after another: a line allocates only if it is longer than all lines since the
-/// buffer was last allocated, at the start or after a line for which memory ran out. It is empty between two lines.
+/// Room in which lines are written, one after another: a line allocates only if it is longer than all lines before it
+/// in the same buffer. A new buffer begins at the start, after a line for which memory ran out, and when a line without
+/// room is taken back. It is empty between two lines.
 #[derive(Drop)]
 pub struct LineRoom {
     alloc: Global,
@@ -35,7 +36,7 @@ impl LineRoom {
         Ok(mem::replace(&mut self.bytes, Vec::new(self.alloc)))
     }
 
-    /// Takes back the room of a line that is no longer wanted. Allocates nothing.
+    /// Takes the room of a line that is no longer wanted, in place of the room here. Allocates nothing.
     pub fn take_back(&mut self, line: Vec<u8>) {
         let mut bytes = line;
         bytes.clear();

@@ -46,7 +46,7 @@ pub(crate) fn fits(bytes: &[u8]) -> Result<(), WireFault>
     }
 }
 
-/// The same for a line that is not too long.
+/// The object of a line that is not too long, as its tree.
 #[inline(never)]
 pub(crate) fn tree<'a>(alloc: Global, bytes: &[u8]) -> Result<LineObject<'a>, WireFault>
     ensures { AnswersBy data_of result (json_object bytes.now) }

@@ -70,7 +70,8 @@ fn only_known(line: Line, op: Op, object: &LineObject<'_>) -> Result<Line, WireF
     Ok(line)
 }
 
-/// The value of a step line, or its first fault: one of the seven commands, with its actor and no seat.
+/// The value of a step line, or its first fault: one of the seven commands that a step of a derivation may be, with its
+/// actor and no seat.
 #[tactic(auto, unfolding(crate::specs::Lines::step_of))]
 pub fn read_step(alloc: Global, bytes: &[u8]) -> Result<Step, WireFault>
     ensures answered { Answers result (step_of bytes.now) }
@@ -96,6 +97,7 @@ fn step_of_object(alloc: Global, object: &LineObject<'_>) -> Result<Step, WireFa
     Ok(Step { actor, command })
 }
 
+/// The op that the object names, or `NoOp`.
 #[inline(always)]
 fn op(object: &LineObject<'_>) -> Result<Op, WireFault>
     ensures { result ≡ or_else NoOp (op_in (data_of object.now)) }
@@ -104,6 +106,7 @@ fn op(object: &LineObject<'_>) -> Result<Op, WireFault>
     Op::named(word).ok_or(WireFault::NoOp)
 }
 
+/// The rule that the step's op names, or `NoOp`.
 fn rule(object: &LineObject<'_>) -> Result<Rule, WireFault>
     ensures { result ≡ or_else NoOp (rule_in (data_of object.now)) }
 {
@@ -111,6 +114,8 @@ fn rule(object: &LineObject<'_>) -> Result<Rule, WireFault>
     step_rule_named(word).ok_or(WireFault::NoOp)
 }
 
+/// The line of an op: `BadField` if a field that it needs is missing or bad, `OutOfMemory` if an allocation failed.
+/// Other fields are not looked at.
 #[inline(always)]
 fn line(alloc: Global, op: Op, object: &LineObject<'_>) -> Result<Line, WireFault>
     ensures { AnswersField result ((op_form op).value (data_of object.now)) }
@@ -132,6 +137,7 @@ fn line(alloc: Global, op: Op, object: &LineObject<'_>) -> Result<Line, WireFaul
     }
 }
 
+/// The command of a rule, with the same faults.
 #[inline(always)]
 fn command(alloc: Global, rule: Rule, object: &LineObject<'_>) -> Result<Command, WireFault>
     ensures { AnswersField result ((command_form rule).value (data_of object.now)) }

@@ -126,6 +126,7 @@ pub fn write_verdict(alloc: Global, verdict: &Verdict) -> Result<Vec<u8>, AllocE
     }
 }
 
+/// The line of this verdict on the step of this number.
 fn step_line(room: &mut LineRoom, step: u64, verdict: &str) -> Result<Vec<u8>, AllocError>
     ensures { IfOk result (λ line. line.items ≡ line_text (object (member (codes "step") (number (unsigned step)) (member (codes "verdict") (string verdict.now) no_members)))) }
 {
@@ -138,6 +139,7 @@ fn step_line(room: &mut LineRoom, step: u64, verdict: &str) -> Result<Vec<u8>, A
     )
 }
 
+/// The line of a denial for this cause.
 fn denied_line(room: &mut LineRoom, rule: Rule, cause: Cause) -> Result<Vec<u8>, AllocError>
     ensures { IfOk result (λ line. line.items ≡ line_text (denied_data rule cause)) }
 {
@@ -195,6 +197,7 @@ fn denied_at(
     )
 }
 
+/// The line of the verdict that the step of this number is denied for this cause.
 fn denied_step_line(
     room: &mut LineRoom,
     step: u64,
@@ -270,6 +273,7 @@ fn denied_step_at(
     )
 }
 
+/// The line of what a collector step did.
 fn noted_line(room: &mut LineRoom, note: Note) -> Result<Vec<u8>, AllocError>
     ensures { IfOk result (λ line. line.items ≡ line_text (noted_data note)) }
 {

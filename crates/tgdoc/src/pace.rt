@@ -75,6 +75,7 @@ pub(crate) fn owed(room: Room) -> u64 {
     slots.max(cells)
 }
 
+/// The steps that are owed when this many of all are free.
 fn owed_of(free: u64, all: u64) -> u64 {
     if free >= all / 2 {
         0

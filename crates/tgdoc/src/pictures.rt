@@ -102,7 +102,8 @@ fn counted(line: Vec<u8>, is_error: bool) -> Text
     }
 }
 
-/// Nothing, which counts as the text does. It keeps the room of the text.
+/// Nothing, which counts as the text does. It keeps the room of a line; a refusal has none, and the next line allocates
+/// its own.
 fn quiet(alloc: Global, text: Text) -> Text
     ensures silent { text_of result ≡ [] }
     ensures error { is_wrong result ≡ is_wrong text }
