@@ -164,8 +164,8 @@ fn config(alloc: Global, script: &Script) -> Result<Config, AllocError>
     })
 }
 
-/// The only fault for which opening a script may fail.
-fn no_memory(rt: &impl Abort, fault: OpenFault) -> AllocError {
+/// The failed allocation that this fault stands for; any other fault stops the test.
+fn only_out_of_memory(rt: &impl Abort, fault: OpenFault) -> AllocError {
     assert!(rt; fault == OpenFault::OutOfMemory, "refused: {fault:?}");
     AllocError
 }
@@ -176,7 +176,7 @@ pub fn graph(rt: &impl Abort, alloc: Global, script: &Script) -> Result<Graph, A
 {
     let config = config(alloc, script)?;
     match Graph::build(alloc, &config) {
-        Err(fault) => Err(no_memory(rt, fault)),
+        Err(fault) => Err(only_out_of_memory(rt, fault)),
         Ok(graph) => {
             crate::openings_can_be_stored();
             Ok(graph)

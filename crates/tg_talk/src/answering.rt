@@ -87,24 +87,17 @@ pub fn text_of_answer(room: &mut LineRoom, answer: &Answer) -> Text
     ensures { TellsAnswer answer.now (text_of result) (is_wrong result) }
 {
     match write_answer_in(room, answer) {
-        Ok(line) if is_error(answer) => Text::ErrorLine(line),
+        Ok(line) if is_error_answer(answer) => Text::ErrorLine(line),
         Ok(line) => Text::Line(line),
         Err(_) => Text::Refusal(WireFault::OutOfMemory),
     }
 }
 
 /// Whether the answer's line is an `error` line.
-fn is_error(answer: &Answer) -> bool
+fn is_error_answer(answer: &Answer) -> bool
     ensures { result ≡ is_error_line answer.now }
 {
     matches!(answer, Answer::Seat(_) | Answer::Ask(_))
-}
-
-/// Whether the text's line is an `error` line.
-pub(crate) fn is_wrong(text: &Text) -> bool
-    ensures { result ≡ is_wrong text.now }
-{
-    !matches!(text, Text::Line(_))
 }
 
 /// The result of a turn: whether the next line is taken.
@@ -276,7 +269,7 @@ impl LinesSoFar {
         ensures fault { EndsOnce None (has_failed writer.new) result }
         ensures sent { Sends (promised W.contents writer.old) (promised W.contents writer.new) (has_failed writer.new) (text_of text) }
     {
-        if is_wrong(&text) {
+        if text.is_error() {
             self.errors += 1;
         }
         match text {

@@ -1,8 +1,8 @@
 //! What a text says.
 ghost use Rattle.std.specs.Prelude.{◌≡◌};
-ghost use Rattle.tg_talk.specs.Answering.{is_wrong as is_wrong_text, text_of};
+ghost use Rattle.tg_talk.specs.Answering.{is_wrong, text_of};
 
-use crate::answering::{Text, is_wrong};
+use crate::answering::Text;
 use crate::refusal::not_for_a_session_line;
 use tg_wire::error_line;
 
@@ -21,8 +21,8 @@ impl Text {
 
     /// Whether the line is an `error` line.
     pub fn is_error(&self) -> bool
-        ensures { result ≡ is_wrong_text self.now }
+        ensures { result ≡ is_wrong self.now }
     {
-        is_wrong(self)
+        !matches!(self, Text::Line(_))
     }
 }

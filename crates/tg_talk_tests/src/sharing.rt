@@ -18,8 +18,8 @@ use tg_share::{Closed, Ended, Gate, PARTS, Place, Session, Shared, Worked};
 use tg_tests::cases::{Ask, Asked, Opening, Want, command, config, is_reply};
 use tg_vault::{AskFault, Vault};
 
-/// The fault for which a configuration without faults may not be opened.
-fn no_memory(rt: &impl Abort, fault: OpenFault) -> AllocError {
+/// The failed allocation that this fault stands for; any other fault stops the test.
+fn only_out_of_memory(rt: &impl Abort, fault: OpenFault) -> AllocError {
     assert!(rt; fault == OpenFault::OutOfMemory);
     AllocError
 }
@@ -29,7 +29,7 @@ pub fn opened(rt: &impl Abort, alloc: Global, opening: &Opening) -> Result<Vault
     ensures { IfOk result (λ vault. vault.history ≡ []) }
 {
     let config = config(alloc, opening)?;
-    Vault::new(alloc, config).map_err(|fault| no_memory(rt, fault))
+    Vault::new(alloc, config).map_err(|fault| only_out_of_memory(rt, fault))
 }
 
 const TURNS: u32 = 1_000_000;

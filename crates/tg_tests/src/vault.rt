@@ -116,8 +116,8 @@ pub fn answers(alloc: Global, vault: &mut Vault, line: Line) -> Result<bool, All
     })
 }
 
-/// The fault for which a configuration without faults may not be opened.
-pub fn no_memory(rt: &impl Abort, fault: OpenFault) -> AllocError {
+/// The failed allocation that this fault stands for; any other fault stops the test.
+pub fn only_out_of_memory(rt: &impl Abort, fault: OpenFault) -> AllocError {
     assert!(rt; fault == OpenFault::OutOfMemory);
     AllocError
 }
@@ -125,7 +125,7 @@ pub fn no_memory(rt: &impl Abort, fault: OpenFault) -> AllocError {
 /// The vault of this configuration.
 pub fn opened(rt: &impl Abort, alloc: Global, opening: &Opening) -> Result<Vault, AllocError> {
     let config = config(alloc, opening)?;
-    Vault::new(alloc, config).map_err(|fault| no_memory(rt, fault))
+    Vault::new(alloc, config).map_err(|fault| only_out_of_memory(rt, fault))
 }
 
 /// The lines have these answers, one after another.
@@ -171,7 +171,9 @@ const ONE_BUCKET: Key = Key {
 /// The case's lines have the answers that it says, under this key too.
 fn plays_under(rt: &impl Abort, alloc: Global, key: Key, case: &Case) -> Result<(), AllocError> {
     let config = config(alloc, &case.opening)?;
-    let mut vault = Vault::with_key(alloc, key, config).map_err(|fault| no_memory(rt, fault))?;
+    let mut vault = Vault::with_key(alloc, key, config).map_err(|fault| only_out_of_memory(
+        rt, fault,
+    ))?;
     lines_are_answered(rt, alloc, &mut vault, case.lines)
 }
 

@@ -14,7 +14,7 @@ ghost use Rattle.tg_wire.specs.declared.fault.WireFault.TheVariants.{BadField, O
 use crate::fault::WireFault;
 use crate::field;
 use crate::key::Key;
-use crate::object::{LineObject, has_required, knows_all, object};
+use crate::object::{LineObject, check_required, knows_all, object};
 use serde_json::Value;
 use std::alloc::Global;
 use tg_graph::{Config, Goal};
@@ -28,7 +28,7 @@ pub fn read_config(alloc: Global, bytes: &[u8]) -> Result<Config, WireFault>
     ensures short { result ≡ Err OutOfMemory → length bytes.now ≤ LONGEST_LINE }
 {
     let object = object(alloc, bytes)?;
-    has_required(&[Key::Principals], &object)?;
+    check_required(&[Key::Principals], &object)?;
     let config = config(alloc, &object)?;
     knows_all(
         &[Key::Edges, Key::Next, Key::Slots, Key::Cells],
@@ -45,7 +45,7 @@ pub fn read_goal(alloc: Global, bytes: &[u8]) -> Result<Goal, WireFault>
     ensures short { result ≡ Err OutOfMemory → length bytes.now ≤ LONGEST_LINE }
 {
     let object = object(alloc, bytes)?;
-    has_required(&[Key::From, Key::To, Key::Rights], &object)?;
+    check_required(&[Key::From, Key::To, Key::Rights], &object)?;
     let goal = goal(&object).ok_or(WireFault::BadField)?;
     knows_all(&[], &[Key::From, Key::To, Key::Rights], &object)?;
     Ok(goal)

@@ -31,12 +31,12 @@ pub(crate) fn object<'a>(alloc: Global, bytes: &[u8]) -> Result<LineObject<'a>, 
     ensures answered { AnswersBy data_of result (object_of bytes.now) }
     ensures short { result ≡ Err OutOfMemory → length bytes.now ≤ LONGEST_LINE }
 {
-    fits(bytes)?;
+    check_length(bytes)?;
     tree(alloc, bytes)
 }
 
-/// The line is not too long.
-pub(crate) fn fits(bytes: &[u8]) -> Result<(), WireFault>
+/// `TooLong` for a line of more than 16,384 bytes.
+pub(crate) fn check_length(bytes: &[u8]) -> Result<(), WireFault>
     ensures { result ≡ guard (nat_le (length bytes.now) LONGEST_LINE) TooLong }
 {
     if bytes.len() <= LONGEST_LINE {
@@ -52,7 +52,7 @@ pub(crate) fn tree<'a>(alloc: Global, bytes: &[u8]) -> Result<LineObject<'a>, Wi
     ensures { AnswersBy data_of result (json_object bytes.now) }
 {
     let value = json(alloc, bytes)?;
-    is_object(&value)?;
+    check_object(&value)?;
     Ok(LineObject::Tree(value))
 }
 
@@ -71,7 +71,8 @@ fn json(alloc: Global, bytes: &[u8]) -> Result<Value, WireFault>
     }
 }
 
-fn is_object(value: &Value) -> Result<(), WireFault>
+/// `NotObject` unless the value is an object.
+fn check_object(value: &Value) -> Result<(), WireFault>
     ensures { result ≡ guard (is_some (as_object (view value.now))) NotObject }
 {
     match value.as_object() {
@@ -80,9 +81,9 @@ fn is_object(value: &Value) -> Result<(), WireFault>
     }
 }
 
-/// The object has each of the keys.
+/// `MissingField` unless the object has each of the keys.
 #[tactic(auto, using(crate::proofs::KeysLemmas::has_all_texts))]
-pub(crate) fn has_required(keys: &[Key], object: &LineObject<'_>) -> Result<(), WireFault>
+pub(crate) fn check_required(keys: &[Key], object: &LineObject<'_>) -> Result<(), WireFault>
     ensures { result ≡ guard (has_all_of (key_texts keys.now) (data_of object.now)) MissingField }
 {
     if has_all(keys, object) {
@@ -98,7 +99,7 @@ fn has_all(keys: &[Key], object: &LineObject<'_>) -> bool
     keys.iter().all(|key| has(object, *key))
 }
 
-/// Each key of the object is one of these.
+/// `UnknownField` unless each key of the object is one of these.
 #[inline(always)]
 pub(crate) fn knows_all(
     others: &[Key],

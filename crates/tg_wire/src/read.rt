@@ -13,8 +13,8 @@ use crate::field;
 use crate::flat::{Flat, Members, read_flat};
 use crate::key::Key;
 use crate::line::Line;
-use crate::object::{LineObject, fits, has_required, knows_all, tree};
-use crate::op::{Op, of_command, step_rule_named};
+use crate::object::{LineObject, check_length, check_required, knows_all, tree};
+use crate::op::{Op, command_form, step_rule_named};
 use std::alloc::Global;
 use tg_graph::Step;
 use tg_rights::{Command, Rule};
@@ -28,7 +28,7 @@ pub fn read_line(alloc: Global, bytes: &[u8]) -> Result<Line, WireFault>
     ensures answered { Answers result (line_of bytes.now) }
     ensures short { result ≡ Err OutOfMemory → length bytes.now ≤ LONGEST_LINE }
 {
-    fits(bytes)?;
+    check_length(bytes)?;
     let mut members = Members::new();
     if read_flat(bytes, &mut members).is_some() {
         return line_of_object(alloc, &LineObject::Flat(Flat::new(members.as_slice())));
@@ -54,7 +54,7 @@ fn line_of_object(alloc: Global, object: &LineObject<'_>) -> Result<Line, WireFa
         Ok(line) => only_known(line, op, object),
         Err(fault) => {
             // A missing field comes before a bad one, and no good line lacks one.
-            has_required(op.keys(), object)?;
+            check_required(op.keys(), object)?;
             Err(fault)
         }
     }
@@ -77,7 +77,7 @@ pub fn read_step(alloc: Global, bytes: &[u8]) -> Result<Step, WireFault>
     ensures answered { Answers result (step_of bytes.now) }
     ensures short { result ≡ Err OutOfMemory → length bytes.now ≤ LONGEST_LINE }
 {
-    fits(bytes)?;
+    check_length(bytes)?;
     let mut members = Members::new();
     if read_flat(bytes, &mut members).is_some() {
         return step_of_object(alloc, &LineObject::Flat(Flat::new(members.as_slice())));
@@ -89,11 +89,11 @@ fn step_of_object(alloc: Global, object: &LineObject<'_>) -> Result<Step, WireFa
     ensures { Answers result (step_in (data_of object.now)) }
 {
     let rule = rule(object)?;
-    has_required(&[Key::Actor], object)?;
-    has_required(of_command(rule).keys, object)?;
+    check_required(&[Key::Actor], object)?;
+    check_required(command_form(rule).keys, object)?;
     let actor = field::number(object, Key::Actor).ok_or(WireFault::BadField)?;
     let command = command(alloc, rule, object)?;
-    knows_all(&[Key::Op, Key::Actor], of_command(rule).keys, object)?;
+    knows_all(&[Key::Op, Key::Actor], command_form(rule).keys, object)?;
     Ok(Step { actor, command })
 }
 

@@ -8,7 +8,7 @@ ghost use Rattle.tg_wire.specs.Answers.{phase_text as text_of_phase, denied_step
 
 use crate::line_room::LineRoom;
 use crate::object_line::{Told, fixed_line, led_line, object_line};
-use crate::op::of_command;
+use crate::op::command_form;
 use std::alloc::{AllocError, Global};
 use tg_collect::{Note, Phase};
 use tg_graph::Verdict;
@@ -150,7 +150,7 @@ fn denied_line(room: &mut LineRoom, rule: Rule, cause: Cause) -> Result<Vec<u8>,
         Cause::Missing { from, to, rights } => object_line(
             room,
             &[
-                ("denied", Told::Word(of_command(rule).word)),
+                ("denied", Told::Word(command_form(rule).word)),
                 ("from", Told::Number(from)),
                 ("missing", Told::Letters(rights)),
                 ("to", Told::Number(to)),
@@ -172,7 +172,7 @@ fn denied_for(room: &mut LineRoom, rule: Rule, cause: &str) -> Result<Vec<u8>, A
         room,
         &[
             ("cause", Told::Word(cause)),
-            ("denied", Told::Word(of_command(rule).word)),
+            ("denied", Told::Word(command_form(rule).word)),
         ],
     )
 }
@@ -191,7 +191,7 @@ fn denied_at(
         room,
         &[
             ("cause", Told::Word(cause)),
-            ("denied", Told::Word(of_command(rule).word)),
+            ("denied", Told::Word(command_form(rule).word)),
             ("vertex", Told::Number(vertex)),
         ],
     )
@@ -213,7 +213,7 @@ fn denied_step_line(
         Cause::Missing { from, to, rights } => object_line(
             room,
             &[
-                ("denied", Told::Word(of_command(rule).word)),
+                ("denied", Told::Word(command_form(rule).word)),
                 ("from", Told::Number(from)),
                 ("missing", Told::Letters(rights)),
                 ("step", Told::Number(step)),
@@ -243,7 +243,7 @@ fn denied_step_for(
         room,
         &[
             ("cause", Told::Word(cause)),
-            ("denied", Told::Word(of_command(rule).word)),
+            ("denied", Told::Word(command_form(rule).word)),
             ("step", Told::Number(step)),
             ("verdict", Told::Word("step denied")),
         ],
@@ -265,7 +265,7 @@ fn denied_step_at(
         room,
         &[
             ("cause", Told::Word(cause)),
-            ("denied", Told::Word(of_command(rule).word)),
+            ("denied", Told::Word(command_form(rule).word)),
             ("step", Told::Number(step)),
             ("verdict", Told::Word("step denied")),
             ("vertex", Told::Number(vertex)),
