@@ -1,6 +1,6 @@
 -- The progress of all seats along the history.
 use Rattle.std.proofs.Common.{◌≡◌, ◌≢◌, ℕ, zero, suc, ◌+◌, ◌<◌, ◌≤◌, List, [], ◌∷◌, length, refl, sym, ap, ◌∙◌, subst, arith, nat_eq, true, false, slice_get, slice_index_or, Option, Some, None}
-use Rattle.std.specs.Prelude.{All}
+use Rattle.std.specs.Prelude.{All, drop, if◌then◌else◌}
 use Rattle.std.proofs.lemmas.Option.{get_or_from_slice_get, none-some, same_Some, slice_get-get_or, slice_get_within}
 use Rattle.std.proofs.lemmas.List.{length-replicate, length-set}
 use Rattle.std.specs.Option.{option_map}
@@ -19,10 +19,20 @@ use Rattle.tg_audit.specs.declared.logs.Exchange.{Exchange}
 use Rattle.tg_audit.specs.declared.logs.SeatLog.{SeatLog}
 use Rattle.tg_audit.specs.declared.following.Progress.{Progress}
 use Rattle.tg_audit.specs.declared.following.Progress.TheVariants as progress
-use Rattle.tg_audit.specs.Following.{Beside, Follows, FollowsAll, IsLeastAbove, followed, picked, picked_from, told}
+use Rattle.tg_audit.specs.Following.{Beside, Follows, FollowsAll, IsLeastAbove, followed, told}
 use Rattle.tg_audit.specs.Replies.{replies_of}
 use Rattle.tg_audit.specs.Settling.{Agrees, DifferAt, IsPlace, exchanges_of, joined}
 use Rattle.tg_audit.proofs.FollowingLemmas.{drop_past, drop_some, joined_from_start}
+
+-- the entries of a seat with the replies at their places
+abbrev pub picked : ℕ → List Entry → List Reply → List Exchange
+picked seat [] rs = []
+picked seat (e ∷ es) [] = []
+picked seat (e ∷ es) (r ∷ rs) = (if nat_eq e.seat seat then told e r ∷ picked seat es rs else picked seat es rs)
+
+-- those from an entry on
+abbrev pub picked_from : ℕ → List Entry → List Reply → ℕ → List Exchange
+picked_from seat es rs number = picked seat (drop number es) (drop number rs)
 
 picked_whole : (seat : ℕ) (G : Protection) (es : List Entry) → picked seat es (replies_of G es) ≡ exchanges_of seat G es
 picked_whole seat G [] = refl

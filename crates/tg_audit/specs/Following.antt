@@ -15,16 +15,6 @@ use Rattle.tg_audit.specs.Settling.{DifferAt, exchanges_of, joined}
 abbrev pub told : Entry → Reply → Exchange
 told e r = record { actor = e.actor; command = e.command; reply = r }
 
--- the entries of a seat with the replies at their places
-abbrev pub picked : ℕ → List Entry → List Reply → List Exchange
-picked seat [] rs = []
-picked seat (e ∷ es) [] = []
-picked seat (e ∷ es) (r ∷ rs) = (if nat_eq e.seat seat then told e r ∷ picked seat es rs else picked seat es rs)
-
--- those from an entry on
-abbrev pub picked_from : ℕ → List Entry → List Reply → ℕ → List Exchange
-picked_from seat es rs number = picked seat (drop number es) (drop number rs)
-
 -- the logs of a seat, without this many exchanges of the first one
 abbrev pub joined_from : ℕ → ℕ → List SeatLog → List Exchange
 joined_from seat at [] = []

@@ -56,11 +56,11 @@ pub use Rattle.tg_slots.specs.declared.colour.Colour.{Colour}
 pub use Rattle.tg_slots.specs.declared.colour.Colour.TheVariants.{Black, Grey, White}
 pub use Rattle.tg_slots.specs.declared.slots.Occupant.{Occupant}
 pub use Rattle.tg_cells.specs.Lists.{Edge, Found, HasNone, IsLinkedBy, Stands, cells, first_cell, serials}
-pub use Rattle.tg_heap.proofs.CursorLemmas.{remaining_split, split_whole}
+pub use Rattle.tg_heap.proofs.CursorLemmas.{passed, remaining_split, split_whole}
 pub use Rattle.tg_heap.specs.Calls.{IsAdded, IsDropped, relabelled}
 pub use Rattle.tg_heap.proofs.JoinLemmas.{first_is}
 pub use Rattle.tg_heap.specs.Graph.{HeapGraph, IsHeap, edges, mark_at, painted, shaded}
-pub use Rattle.tg_heap.specs.Marking.{passed, remaining}
+pub use Rattle.tg_heap.specs.Marking.{remaining}
 pub use Rattle.tg_heap.specs.declared.heap.Dropped.{Dropped}
 pub use Rattle.tg_heap.specs.declared.heap.Dropped.TheVariants.{Gone, Kept as Stayed}
 pub use Rattle.tg_heap.specs.declared.heap.HeapFull.{HeapFull}

@@ -6,7 +6,8 @@ use Rattle.tg_rights.specs.declared.command.Command.{Command}
 use Rattle.tg_rights.specs.declared.command.Command.TheVariants as command
 use Rattle.tg_graph.specs.Terms.{terms, need}
 use Rattle.tg_graph.specs.Rules.{is_for_retired}
-use Rattle.tg_graph.specs.Deciding.{Follows, AskSome, IsNear, IsSound}
+use Rattle.tg_graph.specs.Deciding.{Follows, AskSome}
+use Rattle.tg_graph.proofs.SoundTerms.{IsNear, IsSound}
 
 flip : (x y : ℕ) → (x == y) ≡ false → (y == x) ≡ false
 flip x y e = either _ refl where

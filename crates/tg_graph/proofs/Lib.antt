@@ -17,6 +17,7 @@ pub mod ProtectionLemmas
 pub mod RepliesAgreeLemmas
 pub mod RestrictionLemmas
 pub mod RollLemmas
+pub mod SoundTerms
 pub mod TriplesLemmas
 pub mod VertexLemmas
 -- Lemma files of this crate's own proofs.

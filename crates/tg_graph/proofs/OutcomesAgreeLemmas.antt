@@ -14,7 +14,8 @@ use Rattle.tg_graph.specs.Names.{has_serial, is_crowded, is_taken}
 use Rattle.tg_graph.specs.declared.member.Member.{Member}
 use Rattle.tg_graph.specs.Terms.{Terms, terms}
 use Rattle.tg_graph.specs.Rules.{Check, Judged, checks, first_failure, later_checks, is_met, is_of_kind, lack, misfit, missing, not_of_kind, unless}
-use Rattle.tg_graph.specs.Deciding.{AskSome, Follows, IsSound, LeadTo, WantedNear}
+use Rattle.tg_graph.specs.Deciding.{AskSome, Follows, LeadTo}
+use Rattle.tg_graph.proofs.SoundTerms.{IsSound, WantedNear}
 use Rattle.tg_graph.specs.Paths.{Agree, Leads, Reaches}
 use Rattle.tg_graph.proofs.ExactlyOneOutcomeLemmas.{outcome_by, verdict, Judged-verdict, verdict-Judged}
 use Rattle.tg_graph.proofs.AllowedIsMetLemmas.{unless_passes}

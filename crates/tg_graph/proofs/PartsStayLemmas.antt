@@ -16,11 +16,11 @@ use Rattle.tg_graph.specs.Terms.{Does, terms}
 use Rattle.tg_graph.specs.declared.vertex.Vertex.{Vertex}
 use Rattle.tg_graph.specs.Triples.{Triples, edge}
 use Rattle.tg_graph.specs.Names.{with_member, without_member}
-use Rattle.tg_graph.specs.Protection.{Protection, IsGraph, IsVertex, IsSubject, IsDocument, IsEdge, has_retired, vertex, label}
+use Rattle.tg_graph.specs.Protection.{Protection, IsGraph, IsVertex, IsSubject, IsEdge, has_retired, vertex, label}
 use Rattle.tg_graph.specs.Rules.{Allowed, after, done, with_text}
 use Rattle.tg_graph.specs.Paths.{Agree, IsPart, Leads, Reaches}
 use Rattle.tg_graph.proofs.LabelLemmas.{Relabels, union-Relabels, difference-Relabels}
-use Rattle.tg_graph.proofs.VertexLemmas.{IsVertex-from_kind, IsVertex-insert, with_text-document}
+use Rattle.tg_graph.proofs.VertexLemmas.{IsDocument, IsVertex-from_kind, IsVertex-insert, with_text-document}
 use Rattle.tg_graph.proofs.ProtectionLemmas.{Entitled, entitled}
 use Rattle.tg_graph.proofs.OutcomesAgreeLemmas.{leads_on}
 use Rattle.tg_graph.proofs.CommandsKeepGraphsLemmas.{subject_stays}

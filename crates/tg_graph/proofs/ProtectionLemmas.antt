@@ -7,10 +7,12 @@ use Rattle.tg_rights.specs.Letters.{Letters, Right, read, write, take, grant, ha
 use Rattle.tg_rights.specs.declared.command.Command.{Command}
 use Rattle.tg_graph.specs.declared.rules.Need.{Need}
 use Rattle.tg_graph.specs.Terms as effect
-use Rattle.tg_graph.specs.Protection.{Protection, IsGraph, IsSubject, IsVertex, IsDocument, IsEdge, label}
+use Rattle.tg_graph.specs.Protection.{Protection, IsGraph, IsSubject, IsVertex, IsEdge, label}
 use Rattle.tg_graph.specs.Terms.{Does, Terms, terms}
 use Rattle.tg_graph.specs.Rules.{Allowed, is_met, missing, names_rights}
-use Rattle.tg_graph.specs.Deciding.{AskSome, Covers, Follows, IsNear, IsSound, IsSubjectIfNamed, LeadTo, WantedNear}
+use Rattle.tg_graph.specs.Deciding.{AskSome, Follows, IsSubjectIfNamed, LeadTo}
+use Rattle.tg_graph.proofs.SoundTerms.{Covers, IsNear, IsSound, WantedNear}
+use Rattle.tg_graph.proofs.VertexLemmas.{IsDocument}
 use Rattle.tg_graph.specs.Names.{IsMember, MayBeNamed}
 use Rattle.tg_graph.specs.Laws.{AllMet, IsAsWanted, Meets}
 use Rattle.tg_graph.proofs.AllowedIsMetLemmas.{meets, need_met, none_missing}

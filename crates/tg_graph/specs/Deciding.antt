@@ -1,5 +1,5 @@
 -- how code decides a command: by the terms that it reads off the command, and what it finds on the way
-use Rattle.std.specs.Prelude.{◌≡◌, ℕ, true, false, List, [], ◌∷◌, Option, Some, None, ◌⊎◌, ◌==◌}
+use Rattle.std.specs.Prelude.{◌≡◌, ℕ, true, false, List, [], ◌∷◌, Option, Some, None, ◌⊎◌}
 use Rattle.tg_rights.specs.Letters.{is_none}
 use Rattle.tg_rights.specs.declared.kind.Kind.{Kind}
 use Rattle.tg_rights.specs.declared.kind.Kind.TheVariants as kind
@@ -11,7 +11,7 @@ use Rattle.tg_graph.specs.declared.rules.Asked.{Asked}
 use Rattle.tg_graph.specs.declared.rules.Terms.{Terms as Read}
 use Rattle.tg_graph.specs.declared.rules.Spot.{Spot}
 use Rattle.tg_graph.specs.declared.rules.Found.{Found}
-use Rattle.tg_graph.specs.Terms.{Does, Terms, need}
+use Rattle.tg_graph.specs.Terms.{Does, Terms}
 use Rattle.tg_graph.specs.Rules.{names_rights}
 
 abbrev pub listed : Option Need → Option Need → List Need
@@ -72,38 +72,10 @@ module _ {P : Type 0} where
   abbrev pub IsFound : Found P → ℕ → Type 0
   IsFound f v = (f.actor.serial ≡ v) ⊎ IsSpotOf f.first v ⊎ IsSpotOf f.then v
 
--- a vertex that a command of x may work on: x, or one that the needs lead to
-abbrev pub IsNear : ℕ → List Need → ℕ → Type 0
-IsNear x ns v = (v ≡ x) ⊎ LeadTo ns v
-
--- the needs lead to the vertex that has to be of a kind
-abbrev pub WantedNear : List Need → Option (ℕ × Kind) → Type 0
-WantedNear ns None = Unit {0}
-WantedNear ns (Some w) = LeadTo ns w.0
-
 -- a principal is a subject
 abbrev pub IsSubjectIfNamed : Kind → Option (List ℕ) → Type 0
 IsSubjectIfNamed k None = Unit {0}
 IsSubjectIfNamed k (Some name) = k ≡ kind.Subject
-
--- the terms ask all that the effect takes for granted
-abbrev pub Covers : ℕ → Terms → Does → Type 0
-Covers x t (effect.Joins from α to) = IsNear x t.needs from × LeadTo t.needs to × (t.names ≡ Some α) × (t.apart ≡ true → (from == to) ≡ false)
-Covers x t (effect.Makes k α name) = (t.names ≡ Some α) × (t.name ≡ name) × IsSubjectIfNamed k name
-Covers x t (effect.Drops α over) = (t.names ≡ Some α) × (t.needs ≡ need x α over ∷ [])
-Covers x t (effect.Rewrites over text) = t.wants ≡ Some (over, kind.Document)
-Covers x t (effect.Tells over) = LeadTo t.needs over
-Covers x t (effect.Lists at) = IsNear x t.needs at
-Covers x t effect.Retires = t.principal ≡ true
-Covers x t (effect.Acts None) = Unit {0}
-Covers x t (effect.Acts (Some agent)) = t.wants ≡ Some (agent, kind.Subject)
-
--- the terms of a command of x are consistent
-pub record IsSound (x : ℕ) (t : Terms) : Type 0 where
-  pub follows : Follows x t.needs
-  pub some : names_rights t.names ≡ true → AskSome t.needs
-  pub wants : WantedNear t.needs t.wants
-  pub covers : Covers x t t.does
 
 -- what was read off a command of x is what its terms ask, and is consistent
 pub record Asks (x : ℕ) (a : Asked) (given : Option (List ℕ)) (t : Terms) : Type 0 where

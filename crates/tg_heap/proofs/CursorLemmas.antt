@@ -4,10 +4,16 @@ use Rattle.std.proofs.lemmas.Bool.{ne_eqb}
 use Rattle.tg_rights.specs.Membership.{Contains, Distinct}
 use Rattle.tg_rights.proofs.MembershipLemmas.{contains_middle, contains_map}
 use Rattle.tg_cells.specs.Lists.{Edge, first_cell}
-use Rattle.tg_heap.specs.Marking.{remaining, passed}
+use Rattle.tg_heap.specs.Marking.{remaining}
 
 abbrev pub cells : List Edge → List ℕ
 cells es = map (λ e. e.cell) es
+
+-- the edges before the cursor
+abbrev pub passed : Option ℕ → List Edge → List Edge
+passed None es = es
+passed (Some c) [] = []
+passed (Some c) (e ∷ es) = cond (eqb e.cell c) [] (e ∷ passed (Some c) es)
 
 -- Every split of the list is that of its cursor.
 pub remaining_split : (p r : List Edge) → Distinct (cells (p ++ r)) → remaining (first_cell r) (p ++ r) ≡ r

@@ -4,10 +4,10 @@ use Rattle.std.proofs.lemmas.List.{map-set, get_or-map}
 use Rattle.tg_slots.specs.Linked.{Linked, Shelved, occupants}
 use Rattle.tg_slots.specs.declared.slots.Occupant.{Occupant}
 use Rattle.tg_slots.specs.declared.slots.Slots.TheInside.{Inside}
-use Rattle.tg_slots.specs.Table.{Table, IsSound, if_free, if_grey}
+use Rattle.tg_slots.specs.Table.{Table, IsSound, if_free}
 use Rattle.tg_slots.specs.Chain.{walk, Chain}
 use Rattle.tg_slots.specs.Inside.{links, listed, all, table, IsBehind, IsInside}
-use Rattle.tg_slots.proofs.TableLemmas.{at_most_length, grey_at_most, free_one-le, grey_one-le}
+use Rattle.tg_slots.proofs.TableLemmas.{at_most_length, grey_at_most, free_one-le, grey_one-le, if_grey}
 use Rattle.tg_slots.proofs.ChainLemmas.{walk_chain}
 
 pub length_map : {X Y : Type 0} (f : X → Y) (xs : List X) → length (map f xs) ≡ length xs

@@ -9,10 +9,10 @@ use Rattle.tg_slots.specs.declared.slots.Occupant.{Occupant}
 use Rattle.tg_slots.specs.declared.slots.Slots.TheInside.{Inside}
 use Rattle.tg_slots.specs.declared.colour.Colour.{Colour}
 use Rattle.tg_slots.specs.declared.colour.Colour.TheVariants.{White, Grey, Black}
-use Rattle.tg_slots.specs.Table.{Table, mark, mark_of, Has, Free, IsSound, in_slot, slot, coloured, recoloured, with_text, grey_one, fresh, indices}
+use Rattle.tg_slots.specs.Table.{Table, mark, mark_of, Has, Free, IsSound, in_slot, slot, coloured, recoloured, with_text, fresh, indices}
 use Rattle.tg_slots.specs.Chain.{Chain}
 use Rattle.tg_slots.specs.Inside.{links, unused, filled, all, table, IsBehind, IsInside, IsProvided}
-use Rattle.tg_slots.proofs.TableLemmas.{within_table, sound-push_grey, sound-pop_grey, sound-take_free, sound-give_back, sound-painted, sound-set_text}
+use Rattle.tg_slots.proofs.TableLemmas.{within_table, sound-push_grey, sound-pop_grey, sound-take_free, sound-give_back, sound-painted, sound-set_text, grey_one}
 use Rattle.tg_slots.proofs.FreshLemmas.{indices_length, indices_get_or, fresh_sound, unused_length, unused_slots, unused_links}
 use Rattle.tg_slots.proofs.ChainLemmas.{chain_set, chain_push, chain_first, chain_up}
 use Rattle.tg_slots.proofs.InsideLemmas.{Shows, Rests, shows_table, shows_inside, length_map, links_set, occupants_set, link_read, occupant_read}

@@ -7,7 +7,17 @@ use Rattle.tg_rights.specs.Membership.{Contains, Distinct}
 use Rattle.tg_slots.specs.declared.slots.Occupant.{Occupant}
 use Rattle.tg_slots.specs.declared.colour.Colour.{Colour}
 use Rattle.tg_slots.specs.declared.colour.Colour.TheVariants.{White, Grey, Black}
-use Rattle.tg_slots.specs.Table.{Table, Free, Has, mark, mark_of, slot, coloured, recoloured, with_text, if_free, grey_one, if_grey, IsSound}
+use Rattle.tg_slots.specs.Table.{Mark, Table, Free, Has, mark, mark_of, slot, coloured, recoloured, with_text, if_free, IsSound}
+
+-- one for a grey slot
+abbrev pub grey_one : Mark → ℕ
+grey_one Free = 0
+grey_one (Has White) = 0
+grey_one (Has Grey) = 1
+grey_one (Has Black) = 0
+
+abbrev pub if_grey : Option Occupant → ℕ
+if_grey o = grey_one (mark_of o)
 
 -- An occupied slot is one of the table.
 pub occupied_within : (xs : List (Option Occupant)) (i : ℕ) (c : Colour) → mark_of (get_or xs i None) ≡ Has c → i < length xs

@@ -4,7 +4,7 @@ use Rattle.std.proofs.Common.{get_or, set}
 use Rattle.tg_rights.specs.Membership.{Contains, Distinct}
 use Rattle.tg_slots.specs.declared.slots.Occupant.{Occupant}
 use Rattle.tg_slots.specs.declared.colour.Colour.{Colour}
-use Rattle.tg_slots.specs.declared.colour.Colour.TheVariants.{White, Grey, Black}
+use Rattle.tg_slots.specs.declared.colour.Colour.TheVariants.{Grey}
 
 -- the slots by index, the free indices and the waiting grey ones, each list from its first
 pub record Table : Type 0 where
@@ -46,19 +46,10 @@ in_slot f (Some o) = Some (f o)
 abbrev pub recoloured : Table → ℕ → Colour → List (Option Occupant)
 recoloured t i c = set t.slots i (coloured c (slot t i))
 
--- one for a free slot, and one for a grey one
+-- one for a free slot
 abbrev pub if_free : Option Occupant → ℕ
 if_free None = 1
 if_free (Some o) = 0
-
-abbrev pub grey_one : Mark → ℕ
-grey_one Free = 0
-grey_one (Has White) = 0
-grey_one (Has Grey) = 1
-grey_one (Has Black) = 0
-
-abbrev pub if_grey : Option Occupant → ℕ
-if_grey o = grey_one (mark_of o)
 
 -- the free list has each free index once and no other, the grey list has only grey ones, each once
 pub record IsSound (t : Table) : Type 0 where

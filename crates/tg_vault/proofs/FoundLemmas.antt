@@ -10,7 +10,8 @@ use Rattle.tg_graph.specs.Terms as effect
 use Rattle.tg_graph.specs.Terms.{Does, terms}
 use Rattle.tg_graph.specs.Protection.{Protection, IsEdge, label}
 use Rattle.tg_graph.specs.Rules.{Allowed}
-use Rattle.tg_graph.specs.Deciding.{Covers, WantedNear, IsFound, IsNear, IsSubjectIfNamed, LeadTo}
+use Rattle.tg_graph.specs.Deciding.{IsFound, IsSubjectIfNamed, LeadTo}
+use Rattle.tg_graph.proofs.SoundTerms.{Covers, IsNear, WantedNear}
 use Rattle.tg_graph.specs.Names.{MayBeNamed}
 use Rattle.tg_graph.proofs.DecidingLemmas.{sound}
 use Rattle.tg_graph.proofs.ProtectionLemmas.{Entitled, entitled, includes_some}

@@ -21,11 +21,17 @@ use Rattle.tg_talk.proofs.TakingLemmas.{weaker}
 use Rattle.tg_talk.specs.Endings.{EndsOnce}
 use Rattle.tgdoc.specs.Runs.{RefusesOpening}
 use Rattle.tgdoc.specs.Audits.{AuditRead, BytesAudited, End, EndsAt, EndsInSteps, IsRead, Misreads, OpensGraph, SaysGoal, SaysStep, StepsRead, at_configuration, at_goal, end_errors, ended, here, in_steps, judged, later, misread, no_line, none, not_read, refused, step, stopped, too_long, too_many, unjudged, verdict_errors}
-use Rattle.tgdoc.specs.Auditing.{Advances, EndsBytes, EndsEarlyBytes, EndsStepBytes, Judges, NoRefusal, RefusesBy, TakesRead, TakesSteps, TakesWanted, TellsVerdict, end_after}
+use Rattle.tgdoc.specs.Auditing.{Advances, EndsBytes, EndsEarlyBytes, EndsStepBytes, Judges, NoRefusal, RefusesBy, TakesSteps, TakesWanted, TellsVerdict, end_after}
 use Rattle.tg_talk.specs.Answering.{one_if}
 use Rattle.tgdoc.specs.declared.audit.Ending.{Ending}
 use Rattle.tgdoc.specs.declared.audit.Ending.TheVariants as ending
 use Rattle.tg_talk.specs.declared.answering.Finished.{Finished}
+
+-- the next line of the bytes xs was taken, and says this
+pub record TakesRead (Says : List ℕ → Type 0) (n : ℕ) (left : Option (List ℕ)) (xs : List ℕ) : Type 0 where
+  pub line : List ℕ
+  pub takes : TakesLine line xs left
+  pub read : IsRead n line Says
 
 -- ---- known bytes
 

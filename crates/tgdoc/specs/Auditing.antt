@@ -15,7 +15,7 @@ use Rattle.tg_talk.specs.Taking.{Input, TakesLine}
 use Rattle.tg_talk.specs.declared.fault.TalkFault.TheVariants as talk
 use Rattle.tgdoc.specs.declared.audit.Ending.{Ending}
 use Rattle.tgdoc.specs.declared.audit.Ending.TheVariants as ending
-use Rattle.tgdoc.specs.Audits.{AuditRead, End, EndsAt, EndsEarly, EndsInSteps, IsRead, StepsRead, verdict_errors}
+use Rattle.tgdoc.specs.Audits.{AuditRead, End, EndsAt, EndsEarly, EndsInSteps, StepsRead, verdict_errors}
 
 -- the bytes that are to come: those that were read and not taken, and those that the reader has left
 abbrev pub unread : Input → Option (List ℕ) → Option (List ℕ)
@@ -60,12 +60,6 @@ pub record TakesWanted (n m : ℕ) (line : List ℕ) (bytes left : Option (List 
 -- a line is refused with the text of this ending
 abbrev pub RefusesBy : (List ℕ → List ℕ → Type 0) → List ℕ → Ending → Type 0
 RefusesBy Refuses line ending = (n : ℕ) → ((end_after ending n).fault ≡ None) × Refuses line (end_after ending n).text
-
--- the next line of the bytes xs was taken, and says this
-pub record TakesRead (Says : List ℕ → Type 0) (n : ℕ) (left : Option (List ℕ)) (xs : List ℕ) : Type 0 where
-  pub line : List ℕ
-  pub takes : TakesLine line xs left
-  pub read : IsRead n line Says
 
 -- the lines of the bytes xs are steps
 pub record TakesSteps (steps : List Step) (n m : ℕ) (xs : List ℕ) : Type 0 where

@@ -1,11 +1,9 @@
 -- what a run does for a line
-use Rattle.std.specs.Prelude.{◌≡◌, ℕ, List, [], ◌∷◌, Bool, true, false, Option, None, ◌⊎◌, Ok}
+use Rattle.std.specs.Prelude.{◌≡◌, ℕ, List, Bool, true, false, Option, None, ◌⊎◌, Ok}
 use Rattle.tg_graph.specs.declared.config.Config.{Config}
 use Rattle.tg_graph.specs.Opening.{first_fault}
 use Rattle.tg_vault.specs.Contents.{Contents, Keeps, IsFresh}
 use Rattle.tg_vault.specs.Course.{IsCoherent}
-use Rattle.tg_vault.specs.declared.event.Event.{Event}
-use Rattle.tg_vault.specs.declared.event.Answer.{Answer}
 use Rattle.tg_vault.specs.declared.vault.Swept.{Swept}
 use Rattle.tg_wire.specs.Answers.{swept_line}
 use Rattle.tg_wire.specs.Configs.{opening_of}
@@ -18,10 +16,6 @@ use Rattle.tg_talk.specs.Answering.{Saying, goes_on, closes, unanswered}
 use Rattle.tg_talk.specs.declared.answering.Finished.{Finished}
 use Rattle.tgdoc.specs.Runs.{Steps, Telling, VaultRan, LineAnswer}
 use Rattle.tgdoc.specs.declared.answer.Runner.{Runner}
-
--- what the vault carried out for one event
-abbrev pub steps_of : Event → Answer → Steps
-steps_of event answer = (event, answer) ∷ []
 
 -- the text is the line of what a cycle did, or that of `out of memory`
 abbrev pub TellsSwept : Swept → List ℕ → Bool → Type 0

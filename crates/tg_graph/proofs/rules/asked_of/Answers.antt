@@ -1,5 +1,6 @@
 use Rattle.std.proofs.Common.{ap, subst, sym, ◌∙◌}
-use Rattle.tg_graph.specs.Deciding.{AskSome, Follows, LeadTo, WantedNear}
+use Rattle.tg_graph.specs.Deciding.{AskSome, Follows, LeadTo}
+use Rattle.tg_graph.proofs.SoundTerms.{WantedNear}
 use Rattle.tg_graph.specs.Rules.{names_rights}
 use Rattle.tg_graph.proofs.DecidingLemmas.{sound}
 use Rattle.tg_graph.proofs.rules.asked_of.Goals as goal
