@@ -1,9 +1,10 @@
 //! Calls whose allocations fail: what they leave, and the same calls made again. tests/faults/growths.py makes each
 //! allocation of a test fail in turn.
-use crate::tests::Act::{
+use crate::acts::Act::{
     Create, Cycle, FreeCells, FreeSlots, Join, Mark, Remove, Shade, Sweep, Write,
 };
-use crate::tests::{PLAIN, Script, at, graph, open, play, rights};
+use crate::acts::{PLAIN, Script};
+use crate::tests::{at, graph, open, play, rights};
 use crate::{Colour, Figure, Store};
 use std::alloc::{AllocError, Global};
 use std::process::Abort;

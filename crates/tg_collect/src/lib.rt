@@ -2,6 +2,8 @@
 //! (1978), for up to 64 sessions and any number of edges, over a labelled heap.
 #![tactic(auto)]
 
+#[cfg(test)]
+mod acts;
 mod figures;
 #[cfg(test)]
 mod growth_tests;

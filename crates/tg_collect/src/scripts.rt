@@ -1,9 +1,9 @@
 //! The scripts of calls, with every note of the collector in the steps that were worked out by hand.
-use crate::tests::Act::{
+use crate::acts::Act::{
     Agent, Assume, At, Create, Cycle, Edge, End, Enrol, FreeCells, FreeSlots, Join, Leave, Mark,
     Pending, Principals, Reads, Reclaim, Remove, Retire, Shade, Sweep, Write,
 };
-use crate::tests::{PLAIN, Script};
+use crate::acts::{PLAIN, Script};
 use tg_heap::HeapFull;
 
 pub const SCRIPTS: &[Script] = &[

@@ -9,6 +9,8 @@ mod audit;
 #[cfg(test)]
 mod audit_growths;
 #[cfg(test)]
+mod audit_histories;
+#[cfg(test)]
 mod audit_logs;
 pub mod cases;
 #[cfg(test)]
@@ -35,5 +37,7 @@ mod vault_cases;
 mod vault_growths;
 #[cfg(test)]
 mod vault_rebase;
+#[cfg(test)]
+mod vault_run_growths;
 #[cfg(test)]
 mod vault_scene;
