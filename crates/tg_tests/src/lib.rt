@@ -22,6 +22,8 @@ mod graph_growths;
 #[cfg(test)]
 mod heap;
 #[cfg(test)]
+mod heap_scripts;
+#[cfg(test)]
 mod index;
 #[cfg(test)]
 mod rights;
@@ -39,5 +41,7 @@ mod vault_growths;
 mod vault_rebase;
 #[cfg(test)]
 mod vault_run_growths;
+#[cfg(test)]
+mod vault_runs;
 #[cfg(test)]
 mod vault_scene;

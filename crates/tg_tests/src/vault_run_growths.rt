@@ -1,7 +1,8 @@
 //! Events and runs that lack memory and are made again: tests/faults/growths.py makes each allocation of these tests
 //! fail in turn.
 use crate::cases::{Ask, TWO};
-use crate::vault::{BOB, Case, Step, event, events, opened, played};
+use crate::vault::{BOB, Case, opened, played};
+use crate::vault_runs::{Step, event, events};
 use std::alloc::{AllocError, Global};
 use std::io::Print;
 use std::process::Abort;
