@@ -38,10 +38,16 @@ pub record HasRoom (r : Room) : Type 0 where
   pub reached : IsReached vault
   pub room : IsRoom vault r
 
--- the vault gives the event this answer, and some vault follows
+-- the vault, which events have led to, gives the event this answer, and some vault follows
 pub record IsAnswered (v : Contents) (e : Event) (a : Answer) : Type 0 where
+  pub reached : IsReached v
   pub after : Contents
   pub step : VaultStep v e a after
+
+-- some vault that events have led to gives the event this answer
+pub record HasAnswered (e : Event) (a : Answer) : Type 0 where
+  pub vault : Contents
+  pub answered : IsAnswered vault e a
 
 -- the entry that was added is this actor's
 abbrev pub IsEnteredFor : Contents → Contents → ℕ → Type 0

@@ -7,7 +7,8 @@ ghost use Rattle.tg_vault.specs.declared.event.AskFault.TheVariants as ask_fault
 ghost use Rattle.tg_vault.specs.declared.event.SeatFault.TheVariants as seat_fault;
 ghost use Rattle.tg_vault.specs.declared.event.Event.TheVariants as event;
 ghost use Rattle.tg_vault.specs.declared.event.Answer.TheVariants as answer;
-ghost use Rattle.tg_share.specs.Reached.{HasRoom, IsAnswered, IsEntered};
+ghost use Rattle.tg_vault.specs.Room.{IsRoom};
+ghost use Rattle.tg_share.specs.Reached.{IsAnswered, IsEntered, IsReached};
 
 use crate::locked::Locked;
 use std::hint::spin_loop;
@@ -75,6 +76,7 @@ impl<'a, L: Ledger> Hold<'a, L> {
     /// The event hello. A session that it seats gets a part with nothing counted; if only the last part is left, there
     /// is no event, and the fault is `NoSeat` too.
     pub fn hello(self, seat: u64, name: &str) -> Result<(u64, Share<L>), SeatFault>
+        ensures event { MatchResult result (λ r. IsAnswered self.entry (event.Hello seat name.now) (answer.Hello r.0)) (λ fault. (fault ≡ seat_fault.NoSeat) ⊎ IsAnswered self.entry (event.Hello seat name.now) (answer.Seat fault)) }
         ensures seat { OnOk result (seat < SEATS) }
         ensures share { IfOk result (λ r. (r.1.parts ≡ 1) × (r.1.amount ≡ 0)) }
         ensures faults { IfErr result (λ fault. (fault ≡ seat_fault.NoSeat) ⊎ ((fault ≡ seat_fault.Bound) ⊎ (fault ≡ seat_fault.NoPrincipal))) }
@@ -104,7 +106,8 @@ impl<'a, L: Ledger> Hold<'a, L> {
 
     /// No event: how much room the vault has left.
     pub fn room(self) -> Room
-        ensures { HasRoom result }
+        ensures room { IsRoom self.entry result }
+        ensures reached { IsReached self.entry }
     {
         let Hold { guard } = self;
         guard.vault.room()

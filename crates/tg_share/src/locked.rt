@@ -52,6 +52,7 @@ impl<L: Ledger> Locked<L> {
     pub fn hello(&mut self, seat: u64, name: &str) -> Result<(u64, Share<L>), SeatFault>
         ensures event { self.old.given + 1 < PARTS → MatchResult result (λ r. VaultStep self.old.vault (event.Hello seat name.now) (answer.Hello r.0) self.new.vault) (λ fault. VaultStep self.old.vault (event.Hello seat name.now) (answer.Seat fault) self.new.vault) }
         ensures none { PARTS ≤ self.old.given + 1 → (result ≡ Err seat_fault.NoSeat) × (self.new.vault ≡ self.old.vault) }
+        ensures reached { self.old.given + 1 < PARTS → IsReached self.old.vault }
         ensures share { IfOk result (λ r. (r.1.parts ≡ 1) × (r.1.amount ≡ 0)) }
         ensures given { OnOk result (self.new.given ≡ self.old.given + 1) }
         ensures kept { OnErr result (self.new.given ≡ self.old.given) }
@@ -102,6 +103,7 @@ impl<L: Ledger> Locked<L> {
     /// The event shade.
     pub fn shade(&mut self, seat: u64) -> Result<Option<u64>, SeatFault>
         ensures event { MatchResult result (λ target. VaultStep self.old.vault (event.Shade seat) (answer.Shaded target) self.new.vault) (λ fault. VaultStep self.old.vault (event.Shade seat) (answer.Seat fault) self.new.vault) }
+        ensures reached { IsReached self.old.vault }
         ensures given { self.new.given ≡ self.old.given }
     {
         self.vault.shade(seat)
@@ -110,6 +112,7 @@ impl<L: Ledger> Locked<L> {
     /// The event collect.
     pub fn collect(&mut self) -> Note
         ensures event { VaultStep self.old.vault event.Collect (answer.Noted result) self.new.vault }
+        ensures reached { IsReached self.old.vault }
         ensures given { self.new.given ≡ self.old.given }
     {
         self.vault.collect()
@@ -118,6 +121,7 @@ impl<L: Ledger> Locked<L> {
     /// The event bye.
     pub fn bye(&mut self, seat: u64) -> Result<(), SeatFault>
         ensures event { MatchResult result (λ _. VaultStep self.old.vault (event.Bye seat) answer.Bye self.new.vault) (λ fault. VaultStep self.old.vault (event.Bye seat) (answer.Seat fault) self.new.vault) }
+        ensures reached { IsReached self.old.vault }
         ensures given { self.new.given ≡ self.old.given }
     {
         self.vault.bye(seat)

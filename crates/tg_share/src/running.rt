@@ -59,7 +59,8 @@ impl Running {
     }
 
     pub fn hello(&mut self, seat: u64, name: &str) -> Result<u64, SeatFault>
-        ensures { MatchResult result (λ x. VaultStep self.old (event.Hello seat name.now) (answer.Hello x) self.new) (λ fault. VaultStep self.old (event.Hello seat name.now) (answer.Seat fault) self.new) }
+        ensures event { MatchResult result (λ x. VaultStep self.old (event.Hello seat name.now) (answer.Hello x) self.new) (λ fault. VaultStep self.old (event.Hello seat name.now) (answer.Seat fault) self.new) }
+        ensures reached { IsReached self.old }
     {
         let answer = self.vault.hello(seat, name);
         self.vault.soundness();
@@ -67,7 +68,8 @@ impl Running {
     }
 
     pub fn bye(&mut self, seat: u64) -> Result<(), SeatFault>
-        ensures { MatchResult result (λ _. VaultStep self.old (event.Bye seat) answer.Bye self.new) (λ fault. VaultStep self.old (event.Bye seat) (answer.Seat fault) self.new) }
+        ensures event { MatchResult result (λ _. VaultStep self.old (event.Bye seat) answer.Bye self.new) (λ fault. VaultStep self.old (event.Bye seat) (answer.Seat fault) self.new) }
+        ensures reached { IsReached self.old }
     {
         let answer = self.vault.bye(seat);
         self.vault.soundness();
@@ -90,7 +92,8 @@ impl Running {
     }
 
     pub fn shade(&mut self, seat: u64) -> Result<Option<u64>, SeatFault>
-        ensures { MatchResult result (λ target. VaultStep self.old (event.Shade seat) (answer.Shaded target) self.new) (λ fault. VaultStep self.old (event.Shade seat) (answer.Seat fault) self.new) }
+        ensures event { MatchResult result (λ target. VaultStep self.old (event.Shade seat) (answer.Shaded target) self.new) (λ fault. VaultStep self.old (event.Shade seat) (answer.Seat fault) self.new) }
+        ensures reached { IsReached self.old }
     {
         let answer = self.vault.shade(seat);
         self.vault.soundness();
@@ -98,7 +101,8 @@ impl Running {
     }
 
     pub fn collect(&mut self) -> Note
-        ensures { VaultStep self.old event.Collect (answer.Noted result) self.new }
+        ensures event { VaultStep self.old event.Collect (answer.Noted result) self.new }
+        ensures reached { IsReached self.old }
     {
         let note = self.vault.collect();
         self.vault.soundness();

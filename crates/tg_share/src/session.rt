@@ -2,10 +2,12 @@
 ghost use Rattle.std.specs.Prelude.{◌≡◌, ◌⊎◌, ◌+◌, ◌-◌, ◌<◌, ◌≤◌, [], length, slice_get, Some, Err, IfOk, IfErr, OnOk, OnErr};
 ghost use Rattle.tg_vault.specs.declared.event.AskFault.TheVariants as ask_fault;
 ghost use Rattle.tg_vault.specs.declared.event.SeatFault.TheVariants as seat_fault;
+ghost use Rattle.tg_vault.specs.declared.event.Event.TheVariants as event;
+ghost use Rattle.tg_vault.specs.declared.event.Answer.TheVariants as answer;
 ghost use Rattle.tg_audit.specs.declared.logs.Exchange.{Exchange};
 ghost use Rattle.tg_share.specs.declared.locked.TheConstants.{PARTS};
-ghost use Rattle.tg_share.specs.Reached.{HasRoom};
-ghost use Rattle.tg_share.specs.Sessions.{Grows};
+ghost use Rattle.tg_share.specs.Reached.{HasAnswered, HasRoom};
+ghost use Rattle.tg_share.specs.Sessions.{Grows, IsRefused};
 
 use crate::gate::{Gate, Place};
 use crate::hold::Lock;
@@ -95,7 +97,9 @@ impl<L: Ledger> Shared<L> {
         name: &str,
     ) -> Result<Session<'_, L>, SeatFault>
         ensures ok { IfOk result (λ s. (s.seat ≡ seat) × (s.log ≡ []) × (s.counted ≡ 0)) }
+        ensures seated { IfOk result (λ s. HasAnswered (event.Hello seat name.now) (answer.Hello s.actor)) }
         ensures err { IfErr result (λ fault. (fault ≡ seat_fault.NoSeat) ⊎ ((fault ≡ seat_fault.Bound) ⊎ (fault ≡ seat_fault.NoPrincipal))) }
+        ensures refused { IfErr result (λ fault. (fault ≡ seat_fault.NoSeat) ⊎ HasAnswered (event.Hello seat name.now) (answer.Seat fault)) }
     {
         let (actor, share) = self.locked.hold(rt).hello(seat, name)?;
         Ok(Session {
@@ -153,6 +157,7 @@ impl<'a, L: Ledger> Session<'a, L> {
     ) -> Result<(), AskFault>
         ensures ok { OnOk result ((reply : Reply) × Grows self.old self.new command reply) }
         ensures err { OnErr result (self.new ≡ self.old) }
+        ensures refused { IfErr result (λ fault. IsRefused self.old.seat command fault) }
         ensures no_seat { result ≡ Err ask_fault.NoSeat → ⊥ }
     {
         let Ok(()) = self.log.try_reserve(1) else {

@@ -8,4 +8,4 @@ use Rattle.tg_share.proofs.hold.Hold.bye.Goals as goal
 pub returns : goal.returns
 returns g c =
     answered_by c.bye.result (λ _. answer.Bye) (λ fault. answer.Seat fault) c.args.self _ c.bye.new.self.vault (event.Bye c.args.seat)
-    (ap (λ (l : Locked _). l.vault) c.deref_mut.ensures.value ∙ c.self.view_is) c.bye.ensures.event
+    c.bye.ensures.reached (ap (λ (l : Locked _). l.vault) c.deref_mut.ensures.value ∙ c.self.view_is) c.bye.ensures.event

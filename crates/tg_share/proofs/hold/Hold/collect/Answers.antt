@@ -8,4 +8,4 @@ use Rattle.tg_share.proofs.hold.Hold.collect.Goals as goal
 pub returns : goal.returns
 returns g c =
     answered_on c.args.self _ c.collect.new.self.vault event.Collect (answer.Noted c.collect.result)
-    (ap (λ (l : Locked _). l.vault) c.deref_mut.ensures.value ∙ c.self.view_is) c.collect.ensures.event
+    c.collect.ensures.reached (ap (λ (l : Locked _). l.vault) c.deref_mut.ensures.value ∙ c.self.view_is) c.collect.ensures.event

@@ -8,4 +8,4 @@ use Rattle.tg_share.proofs.hold.Hold.shade.Goals as goal
 pub returns : goal.returns
 returns g c =
     answered_by c.shade.result (λ target. answer.Shaded target) (λ fault. answer.Seat fault) c.args.self _ c.shade.new.self.vault (event.Shade c.args.seat)
-    (ap (λ (l : Locked _). l.vault) c.deref_mut.ensures.value ∙ c.self.view_is) c.shade.ensures.event
+    c.shade.ensures.reached (ap (λ (l : Locked _). l.vault) c.deref_mut.ensures.value ∙ c.self.view_is) c.shade.ensures.event
