@@ -207,9 +207,11 @@ fn is_as_counted<L: Ledger, R: Wait + Clock>(
     let shared = Shared::<L>::new(alloc, blank, vault);
     let (asked, collected) = (Tally::new(), Tally::new());
     let alice = play(rt, alloc, &shared, 0, "alice", tour.lines, &asked);
+    let looks = [shared.room(rt), shared.room(rt)];
     let worked = shared.collector(rt, tour.steps, &collected);
     let last = shared.collector(rt, 1, &collected);
     alice.is_some()
+        && looks[0] == looks[1]
         && (worked, last) == (tour.worked, tour.last)
         && asked.pauses() == tour.asked
         && collected.pauses()
@@ -219,7 +221,8 @@ fn is_as_counted<L: Ledger, R: Wait + Clock>(
             }
 }
 
-/// Only the collector's own calls make steps of it, and they make as many as they should.
+/// Only the collector's own calls make steps of it, no session and no look at the room, and they make as many as they
+/// should.
 #[test]
 fn steps_and_pauses_are_counted(rt: HostRuntime) -> Result<(), AllocError> {
     for tour in TOURS {
