@@ -25,6 +25,13 @@ pub answered_by : {A F : Type 0} (result : Result A F) (told : A → Answer) (re
 answered_by (Ok x) told refused v u w e reached same step = answered_on v u w e (told x) reached same step
 answered_by (Err f) told refused v u w e reached same step = answered_on v u w e (refused f) reached same step
 
+-- the same for a command, whose entry has an actor
+pub answered_ask : (result : Result (ℕ × Reply) AskFault) (v u w : Contents) (seat : ℕ) (command : Command) → IsReached u → u ≡ v
+    → MatchResult result (λ r. VaultStep u (event.Ask seat command) (answer.Asked (length u.history) r.1) w) (λ f. VaultStep u (event.Ask seat command) (answer.Ask f) w) → IfOk result (λ r. IsEnteredFor u w r.0)
+    → MatchResult result (λ r. IsEntered v seat r.0 command r.1) (λ f. IsAnswered v (event.Ask seat command) (answer.Ask f))
+answered_ask (Ok r) v u w seat command reached same step actors = subst (λ x. IsEntered x seat r.0 command r.1) same (record { reached = reached; after = w; step = step; actors = actors })
+answered_ask (Err f) v u w seat command reached same step actors = answered_on v u w (event.Ask seat command) (answer.Ask f) reached same step
+
 -- what the hold of a vault answers to a hello, which is no event if no part is left
 abbrev Greets : {S : Type 0} → Contents → ℕ → List ℕ → Result (ℕ × S) SeatFault → Type 0
 Greets v seat name result = MatchResult result (λ r. IsAnswered v (event.Hello seat name) (answer.Hello r.0)) (λ f. (f ≡ seat_fault.NoSeat) ⊎ IsAnswered v (event.Hello seat name) (answer.Seat f))
@@ -59,13 +66,6 @@ pub ask_refused : {S : Type 0} (r : Result S AskFault) (f : AskFault) (v : Conte
     → IsAnswered v (event.Ask seat asked) (answer.Ask f) → IfErr r (λ fault. IsRefused seat command fault)
 ask_refused r f v seat asked command is same told =
     passed r f (λ fault. IsRefused seat command fault) is (inr (record { vault = v; answered = subst (λ c. IsAnswered v (event.Ask seat c) (answer.Ask f)) same told }))
-
--- the same for a command, whose entry has an actor
-pub answered_ask : (result : Result (ℕ × Reply) AskFault) (v u w : Contents) (seat : ℕ) (command : Command) → IsReached u → u ≡ v
-    → MatchResult result (λ r. VaultStep u (event.Ask seat command) (answer.Asked (length u.history) r.1) w) (λ f. VaultStep u (event.Ask seat command) (answer.Ask f) w) → IfOk result (λ r. IsEnteredFor u w r.0)
-    → MatchResult result (λ r. IsEntered v seat r.0 command r.1) (λ f. IsAnswered v (event.Ask seat command) (answer.Ask f))
-answered_ask (Ok r) v u w seat command reached same step actors = subst (λ x. IsEntered x seat r.0 command r.1) same (record { reached = reached; after = w; step = step; actors = actors })
-answered_ask (Err f) v u w seat command reached same step actors = answered_on v u w (event.Ask seat command) (answer.Ask f) reached same step
 
 ended_at : {X : Type 0} (xs : List X) (x : X) → slice_get (xs ++ x ∷ []) (length xs) ≡ Some x
 ended_at [] x = refl
