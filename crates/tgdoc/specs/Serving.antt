@@ -1,12 +1,16 @@
 -- the configuration line of a server, and the lines of its own
-use Rattle.std.specs.Prelude.{◌≡◌, ◌<◌, ◌≤◌, ◌*◌, ℕ, suc, Bool, List, [], ◌∷◌, ◌++◌, length, Option, Result, Ok, Err, codes, decimal, false}
+use Rattle.std.specs.Prelude.{◌≡◌, ◌<◌, ◌≤◌, ◌*◌, ℕ, suc, Bool, List, [], ◌∷◌, ◌++◌, length, Option, Some, Result, Ok, Err, codes, decimal, false}
 use Rattle.std.specs.Io.KnownBytes.{Appends}
+use Rattle.tg_audit.specs.Settling.{IsPlace, SettledAs}
+use Rattle.tg_audit.specs.declared.logs.SeatLog.{SeatLog}
 use Rattle.tg_audit.specs.declared.logs.Settled.TheVariants as settled
 use Rattle.tg_share.specs.Closing.{IsClosed}
+use Rattle.tg_share.specs.Reached.{HasHeadline}
 use Rattle.tg_share.specs.declared.closing.Closed.{Closed}
 use Rattle.tg_share.specs.declared.closing.Closed.TheVariants as closed
 use Rattle.tg_share.specs.declared.session.Ended.{Ended}
 use Rattle.tg_vault.specs.Contents.{Contents}
+use Rattle.tg_vault.specs.World.{IsLeastInUse}
 use Rattle.tg_wire.specs.Faults.{fault_line}
 use Rattle.tg_wire.specs.declared.fault.WireFault.TheVariants as wire
 use Rattle.tg_talk.specs.Devices.{Sends}
@@ -47,10 +51,11 @@ end_line unsettled.Seated = []
 abbrev pub rebased_line : ℕ → ℕ → List ℕ
 rebased_line dropped round = codes "{\"dropped\":" ++ decimal dropped ++ codes ",\"round\":" ++ decimal round ++ codes "}\n"
 
--- the lines of all rebases, by what each dropped, the latest first; the first round is 1
-abbrev pub rebased_lines : List ℕ → List ℕ
+-- the lines of all rebases, by the vaults that were rebased, the latest first: each dropped that vault's history; the
+-- first round is 1
+abbrev pub rebased_lines : List Contents → List ℕ
 rebased_lines [] = []
-rebased_lines (dropped ∷ earlier) = rebased_lines earlier ++ rebased_line dropped (suc (length earlier))
+rebased_lines (v ∷ earlier) = rebased_lines earlier ++ rebased_line (length v.history) (suc (length earlier))
 
 -- the vault that was closed, or why a round has not settled
 abbrev pub found_of : {L : Type 0} → Closed L → Result Contents Unsettled
@@ -65,6 +70,37 @@ pub data IsFound (L : Type 0) (f : Result Contents Unsettled) : Type 0 where
   by_closing : (ended : List (Ended L)) (c : Closed L) → IsClosed ended c → f ≡ found_of c → IsFound L f
   by_refusal : f ≡ Err unsettled.NoMemory → IsFound L f
 
+-- a round has agreed on this vault: its history is settled with some logs as agreed, and it has the headline
+pub record HasAgreed (v : Contents) : Type 0 where
+  pub logs : List SeatLog
+  pub settled : SettledAs v logs (settled.Agreed v)
+  pub headline : HasHeadline v
+
+-- so has each of these
+abbrev pub HaveAgreed : List Contents → Type 0
+HaveAgreed [] = Unit {0}
+HaveAgreed (v ∷ vs) = HasAgreed v × HaveAgreed vs
+
+-- the logs of a round differ from its vault's history first at this index of this seat, and the vault has the headline
+pub record HasDiffered (seat index : ℕ) : Type 0 where
+  pub vault : Contents
+  pub logs : List SeatLog
+  pub place : IsPlace vault logs (Some (seat, index))
+  pub headline : HasHeadline vault
+
+-- a seat was in use between two rounds
+pub record HasSeated : Type 0 where
+  pub vault : Contents
+  pub seat : ℕ
+  pub used : IsLeastInUse vault.seats seat
+
+-- a server may end so: a want of memory can come at any time
+abbrev pub EndsServer : Unsettled → Type 0
+EndsServer (unsettled.Differs seat index) = HasDiffered seat index
+EndsServer unsettled.NoMemory = Unit {0}
+EndsServer unsettled.OutOfMemory = Unit {0}
+EndsServer unsettled.Seated = HasSeated
+
 -- what a writer has got is still there, and these bytes behind it, or, if it failed, a prefix of them; none if it had
 -- failed before
 pub record SendsOn (old : Option (List ℕ)) (was : Bool) (new : Option (List ℕ)) (failed : Bool) (bytes : List ℕ) : Type 0 where
@@ -75,25 +111,29 @@ pub record AreRounds (connections round full : ℕ) : Type 0 where
   pub enough : connections ≤ suc full * round
   pub needed : 0 < full → full * round < connections
 
--- there were as many rebases as so many connections need, and their lines were sent
+-- there were as many rebases as so many connections need, each of a vault on which its round had agreed, and their
+-- lines were sent
 pub record HasRounds (connections round : ℕ) (old new : Option (List ℕ)) (failed : Bool) : Type 0 where
-  pub dropped : List ℕ
-  pub rounds : AreRounds connections round (length dropped)
-  pub sent : Sends old new failed (rebased_lines dropped)
+  pub rebased : List Contents
+  pub agreed : HaveAgreed rebased
+  pub rounds : AreRounds connections round (length rebased)
+  pub sent : Sends old new failed (rebased_lines rebased)
 
 -- the writer has got the line of an address
 pub record Announces (old new : Option (List ℕ)) : Type 0 where
   pub address : List ℕ
   pub appended : Appends old new (listening_line address)
 
--- the writer has not failed, and has got the line of an address, that of each rebase, one between any two rounds, and
--- the line that all agrees, and nothing else
+-- each round has agreed on its vault, and each of these but the last was rebased; the writer has not failed, and has
+-- got the line of an address, that of each rebase, and the line that all agrees, and nothing else
 pub record IsServed (connections round : ℕ) (old new : Option (List ℕ)) (failed : Bool) : Type 0 where
   pub unfailed : failed ≡ false
   pub address : List ℕ
-  pub dropped : List ℕ
-  pub rounds : 1 ≤ round → AreRounds connections round (length dropped)
-  pub appended : Appends old new (listening_line address ++ (rebased_lines dropped ++ agreed_line))
+  pub last : Contents
+  pub rebased : List Contents
+  pub agreed : HaveAgreed (last ∷ rebased)
+  pub rounds : 1 ≤ round → AreRounds connections round (length rebased)
+  pub appended : Appends old new (listening_line address ++ (rebased_lines rebased ++ agreed_line))
 
 -- these lines begin with a configuration that opens this vault
 pub record OpensInput (v : Contents) (lines : List (List ℕ)) : Type 0 where

@@ -1,8 +1,8 @@
 //! A server that serves its connections in rounds: between two of them what lives becomes the opening graph, and the
 //! history is dropped.
-ghost use Rattle.std.specs.Prelude.{◌≡◌, ◌≤◌, [], IfOk, false, length, true};
+ghost use Rattle.std.specs.Prelude.{◌≡◌, ◌≤◌, [], IfErr, IfOk, false, length, true};
 ghost use Rattle.tg_talk.specs.Devices.{device_of, has_failed};
-ghost use Rattle.tgdoc.specs.Serving.{HasRounds, IsServed, SendsOn, rebased_line};
+ghost use Rattle.tgdoc.specs.Serving.{EndsServer, HasAgreed, HasRounds, IsServed, SendsOn, rebased_line};
 
 use crate::serve::{Served, Service, Unsettled, serve_round};
 use crate::telling::{agree, announce, tell, tell_rebase};
@@ -54,7 +54,10 @@ pub fn serve_on<R: Threads + Wait + Clock + Sync, W: Write>(
     let is_announced = announce(writer, listener);
     let size = at_least_one(round);
     match serve_rounds(&service, writer, is_announced, vault, connections, size) {
-        Ok(()) => agree(writer, is_announced),
+        Ok(last) => {
+            drop(last);
+            agree(writer, is_announced)
+        }
         Err(end) => tell(writer, is_announced, end),
     }
 }
@@ -68,7 +71,7 @@ fn at_least_one(number: u64) -> u64
 }
 
 /// Serves all connections in rounds, and rebases the vault after each but the last. The first round whose logs do not
-/// agree, or rebase that fails, ends it.
+/// agree, or rebase that fails, ends it. Returns the vault of the last round.
 fn serve_rounds<R: Threads + Wait + Clock + Sync, W: Write>(
     service: &Service<'_, R>,
     writer: &mut Watched<W>,
@@ -76,10 +79,12 @@ fn serve_rounds<R: Threads + Wait + Clock + Sync, W: Write>(
     opened: Vault,
     connections: u64,
     round: u64,
-) -> Result<(), Unsettled>
+) -> Result<Vault, Unsettled>
     requires some { 1 ≤ round }
     requires empty { opened.history ≡ [] }
-    ensures { IfOk result (λ _. is_announced ≡ true → HasRounds connections round (W.contents (device_of writer.old)) (W.contents (device_of writer.new)) (has_failed writer.new)) }
+    ensures agreed { IfOk result HasAgreed }
+    ensures ended { IfErr result EndsServer }
+    ensures told { IfOk result (λ _. is_announced ≡ true → HasRounds connections round (W.contents (device_of writer.old)) (W.contents (device_of writer.new)) (has_failed writer.new)) }
 {
     let mut vault = opened;
     let mut left = connections;
@@ -91,8 +96,7 @@ fn serve_rounds<R: Threads + Wait + Clock + Sync, W: Write>(
         left -= round;
         number += 1;
     }
-    let _last = serve_round::<Brand, R>(service, Blank::new(PARTS), vault, left)?;
-    Ok(())
+    serve_round::<Brand, R>(service, Blank::new(PARTS), vault, left)
 }
 
 /// Rebases the vault of a round, and writes how many entries that dropped; returns the vault of the next round.
@@ -103,6 +107,7 @@ fn rebase<W: Write>(
     round: u64,
 ) -> Result<Vault, Unsettled>
     ensures empty { IfOk result (λ fresh. fresh.history ≡ []) }
+    ensures ended { IfErr result EndsServer }
     ensures told { IfOk result (λ _. is_announced ≡ true → SendsOn (W.contents (device_of writer.old)) (has_failed writer.old) (W.contents (device_of writer.new)) (has_failed writer.new) (rebased_line (length settled.history) round)) }
 {
     match settled.rebase() {

@@ -1,7 +1,7 @@
 //! A round of a server: a vault served to several clients at once, over connections.
-ghost use Rattle.std.specs.Prelude.{◌≡◌, []};
+ghost use Rattle.std.specs.Prelude.{◌≡◌, [], IfErr, IfOk};
 ghost use Rattle.tg_share.specs.declared.locked.TheConstants.{PARTS};
-ghost use Rattle.tgdoc.specs.Serving.{IsFound, found_of};
+ghost use Rattle.tgdoc.specs.Serving.{EndsServer, HasAgreed, IsFound, found_of};
 
 use crate::pace::{Pace, Paying, REST};
 use std::alloc::{AllocError, Global};
@@ -62,7 +62,9 @@ pub(crate) fn serve_round<L: Ledger + Send + Sync, R: Threads + Wait + Clock + S
     requires parts { blank.parts ≡ L.parts }
     requires all { blank.parts ≡ PARTS }
     requires empty { vault.history ≡ [] }
-    ensures { IsFound L result }
+    ensures found { IsFound L result }
+    ensures agreed { IfOk result HasAgreed }
+    ensures ended { IfErr result EndsServer }
 {
     let shared = Shared::<L>::new(service.alloc, blank, vault);
     let left = Mutex::new(connections);

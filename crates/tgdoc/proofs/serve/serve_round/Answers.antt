@@ -1,9 +1,16 @@
 use Rattle.std.proofs.Common.{refl}
 use Rattle.tgdoc.specs.Serving.{by_closing, by_refusal}
+use Rattle.tgdoc.proofs.RoundsLemmas.{closing_agrees, closing_ends}
 use Rattle.tgdoc.proofs.serve.serve_round.Goals as goal
 
-pub returns-in-Some : goal.returns-in-Some
-returns-in-Some g c = by_closing c.in-Some.ended.items c.close.result c.close.ensures c.found_in.ensures
+pub returns-in-Some-clause-found : goal.returns-in-Some-clause-found
+returns-in-Some-clause-found g c = by_closing c.in-Some.ended.items c.close.result c.close.ensures c.found_in.ensures
 
-pub returns-in-None : goal.returns-in-None
-returns-in-None g c = by_refusal refl
+pub returns-in-Some-clause-agreed : goal.returns-in-Some-clause-agreed
+returns-in-Some-clause-agreed g c = rw c.found_in.ensures (closing_agrees c.in-Some.ended.items c.close.result c.close.ensures)
+
+pub returns-in-Some-clause-ended : goal.returns-in-Some-clause-ended
+returns-in-Some-clause-ended g c = rw c.found_in.ensures (closing_ends c.in-Some.ended.items c.close.result c.close.ensures)
+
+pub returns-in-None-clause-found : goal.returns-in-None-clause-found
+returns-in-None-clause-found g c = by_refusal refl
