@@ -279,3 +279,5 @@ def tests():
     yield "no-word", refused()
     yield "another-word", refused("steal")
     yield "two-modes", refused("run", "audit")
+    yield "a-word-that-is-not-utf-8", refused(b"run\xff")
+    yield "a-word-that-is-not-utf-8-behind-run", refused("run", b"\xff")
