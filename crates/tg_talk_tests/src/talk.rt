@@ -177,6 +177,68 @@ fn a_talk_over_single_bytes_is_whole(rt: HostRuntime) -> Result<(), AllocError> 
     Ok(())
 }
 
+/// The lines one by one, each with its answer.
+const ROWS: &[(&[u8], &[u8])] = &[
+    (
+        b"{\"op\":\"read\",\"over\":3}\n",
+        b"{\"error\":\"no actor\"}\n",
+    ),
+    (
+        b"{\"name\":\"alice\",\"op\":\"hello\"}\n",
+        b"{\"ok\":\"hello\",\"vertex\":1}\n",
+    ),
+    (
+        b"{\"kind\":\"document\",\"op\":\"create\",\"rights\":\"rw\"}\n",
+        b"{\"ok\":\"created\",\"vertex\":3}\n",
+    ),
+    (
+        b"{\"op\":\"read\",\"over\":3}\n",
+        b"{\"ok\":\"text\",\"text\":\"\"}\n",
+    ),
+    (
+        b"{\"op\":\"shade\"}\n",
+        b"{\"error\":\"not for a session\"}\n",
+    ),
+    (b"{\"op\":\"bye\"}\n", b"{\"ok\":\"bye\"}\n"),
+];
+
+const NOT_JSON: &[u8] = b"{\"error\":\"not json\"}\n";
+
+/// How many lines there are in so many bytes of the rows, if they are answered like this: a last line that is cut is `not
+/// json`, unless it lacks its line feed alone.
+fn lines_answered(count: usize, out: &[u8]) -> Option<u64> {
+    let mut left = count;
+    let mut rest = out;
+    let mut lines: u64 = 0;
+    for (line, answer) in ROWS {
+        if left == 0 {
+            break;
+        }
+        let is_whole = left.saturating_add(1) >= line.len();
+        rest = rest.strip_prefix(if is_whole { *answer } else { NOT_JSON })?;
+        lines = lines.saturating_add(1);
+        left = left.saturating_sub(line.len());
+    }
+    if rest.is_empty() { Some(lines) } else { None }
+}
+
+/// Whether a talk over so many bytes of the lines is answered as it should be, and ends without a fault.
+fn is_cut_well<R: Wait + Clock>(rt: &R, alloc: Global, count: usize) -> Result<bool, AllocError> {
+    let bytes = LINES.get(..count).unwrap_or(LINES);
+    let mut out = Vec::new(alloc);
+    let came = talk_over(rt, alloc, bytes, &mut out)?;
+    let is_answered = lines_answered(count, &out) == Some(came.lines);
+    Ok(is_answered && came.fault.is_none() && came.entries.is_some())
+}
+
+#[test]
+fn a_talk_is_cut_after_each_byte(rt: HostRuntime) -> Result<(), AllocError> {
+    for count in 0..=LINES.len() {
+        assert!(rt; is_cut_well(&rt, rt.alloc(), count)?);
+    }
+    Ok(())
+}
+
 /// The lines up to a text that one of them writes; then those after it, the last of which reads it back.
 const WRITE: &[u8] =
     b"{\"name\":\"alice\",\"op\":\"hello\"}\n{\"kind\":\"document\",\"op\":\"create\",\"rights\":\"rw\"}\n{\"op\":\"write\",\"over\":3,\"text\":\"";
