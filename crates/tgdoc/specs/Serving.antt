@@ -94,7 +94,7 @@ pub record HasSeated : Type 0 where
   pub seat : ℕ
   pub used : IsLeastInUse vault.seats seat
 
--- a server may end so: a want of memory can come at any time
+-- a server may end so; memory may run out at any time
 abbrev pub EndsServer : Unsettled → Type 0
 EndsServer (unsettled.Differs seat index) = HasDiffered seat index
 EndsServer unsettled.NoMemory = Unit {0}
