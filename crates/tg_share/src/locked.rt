@@ -33,6 +33,7 @@ pub struct Locked<L: Ledger> {
 }
 
 impl<L: Ledger> Locked<L> {
+    /// A vault without entries, the book that counts its entries, and all parts of that ledger.
     pub fn new(vault: Vault, entries: Book<L>, rest: Share<L>) -> Locked<L>
         requires empty { vault.history ≡ [] }
         requires total { entries.total ≡ 0 }

@@ -33,6 +33,7 @@ impl Model for Running {
 }
 
 impl Running {
+    /// A vault without entries, to which nothing has happened yet.
     pub fn new(vault: Vault) -> Running
         requires { vault.history ≡ [] }
         ensures { result ≡ vault }
@@ -58,6 +59,7 @@ impl Running {
         self.vault.room()
     }
 
+    /// The event hello, as `Vault::hello`.
     pub fn hello(&mut self, seat: u64, name: &str) -> Result<u64, SeatFault>
         ensures event { MatchResult result (λ x. VaultStep self.old (event.Hello seat name.now) (answer.Hello x) self.new) (λ fault. VaultStep self.old (event.Hello seat name.now) (answer.Seat fault) self.new) }
         ensures reached { IsReached self.old }
@@ -67,6 +69,7 @@ impl Running {
         answer
     }
 
+    /// The event bye, as `Vault::bye`.
     pub fn bye(&mut self, seat: u64) -> Result<(), SeatFault>
         ensures event { MatchResult result (λ _. VaultStep self.old (event.Bye seat) answer.Bye self.new) (λ fault. VaultStep self.old (event.Bye seat) (answer.Seat fault) self.new) }
         ensures reached { IsReached self.old }
@@ -76,7 +79,7 @@ impl Running {
         answer
     }
 
-    /// The command's actor, as its entry has it, and the reply.
+    /// The event ask, as `Vault::command`; returns the command's actor, as its entry has it, and the reply.
     pub fn ask(&mut self, seat: u64, command: Command) -> Result<(u64, Reply), AskFault>
         ensures event { MatchResult result (λ r. VaultStep self.old (event.Ask seat command) (answer.Asked (length self.old.history) r.1) self.new) (λ fault. VaultStep self.old (event.Ask seat command) (answer.Ask fault) self.new) }
         ensures actor { IfOk result (λ r. IsEnteredFor self.old self.new r.0) }
@@ -91,6 +94,7 @@ impl Running {
         Ok((entry.actor(), reply))
     }
 
+    /// The event shade, as `Vault::shade`.
     pub fn shade(&mut self, seat: u64) -> Result<Option<u64>, SeatFault>
         ensures event { MatchResult result (λ target. VaultStep self.old (event.Shade seat) (answer.Shaded target) self.new) (λ fault. VaultStep self.old (event.Shade seat) (answer.Seat fault) self.new) }
         ensures reached { IsReached self.old }
@@ -100,6 +104,7 @@ impl Running {
         answer
     }
 
+    /// The event collect, as `Vault::collect`.
     pub fn collect(&mut self) -> Note
         ensures event { VaultStep self.old event.Collect (answer.Noted result) self.new }
         ensures reached { IsReached self.old }

@@ -87,8 +87,9 @@ impl<L: Ledger> Shared<L> {
     }
 
     /// Seats the principal of this name by the event hello. The session begins with an empty log, for which it keeps
-    /// the allocator; the call allocates nothing. If `PARTS - 1` sessions were given, there is no event, and the fault
-    /// is `NoSeat` too.
+    /// the allocator; the call allocates nothing. Faults, in this order: `NoSeat` if `PARTS - 1` sessions were given,
+    /// ended or not, and then there is no event; `NoSeat` for a seat above 63, `Bound` for one in use, `NoPrincipal` if
+    /// no active principal has the name.
     pub fn session<R: Wait>(
         &self,
         rt: &R,
@@ -187,6 +188,7 @@ impl<'a, L: Ledger> Session<'a, L> {
         Ok(())
     }
 
+    /// The reply of the last exchange of the log, which has one.
     fn last_reply(&self) -> &Reply
         requires { 0 < length self.now.log }
         ensures { (x : Exchange) → slice_get self.now.log (length self.now.log - 1) ≡ Some x → result.now ≡ x.reply }
@@ -231,8 +233,9 @@ impl<'a, L: Ledger> Session<'a, L> {
 
     /// Submits the command by the event ask, pauses, and shades what it left as the seat's target by the event shade.
     /// The reply is that of the last exchange of the log, whose actor is the entry's: the one for whom the seat acts, or
-    /// else its principal. After a fault the log is as before, nothing is entered and the command is dropped; if there
-    /// is no memory for the log or for a copy of the command, there is no event.
+    /// else its principal. After a fault the log is as before, nothing is entered and the command is dropped. Faults, in
+    /// this order: `OutOfMemory`, without an event, if there is no memory for the log or for a copy of the command; then
+    /// those of `Vault::command`, never `NoSeat`.
     pub fn submit<R: Wait + Clock, G: Gate>(
         &mut self,
         rt: &R,

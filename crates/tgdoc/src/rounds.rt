@@ -18,17 +18,19 @@ use tg_share::PARTS;
 use tg_talk::Watched;
 use tg_vault::{Rebased, Vault};
 
-/// Serves this many connections in rounds of `round`: none of the next round is taken before all of this one have
-/// ended. Each worker has a seat of its own, and a collector runs. Then the logs are settled. If they agree and
-/// connections are left, the vault is rebased, and the next round begins with what lives; until then clients wait. It
-/// writes the address before the first connection, and after each rebase how many entries were dropped, and the round,
-/// from 1. The last line is `agreed`; or, in a round that ends the server, `differs`, with the least seat whose log
-/// differs and the least index in it; `no memory`, if an allocation or the start of a thread failed; or `out of
-/// memory`, if a rebase lacked it. A connection that cannot be accepted counts as one. If the address cannot be
-/// written, clients are served all the same, nothing more is written, and nothing is settled; nor is anything written
-/// after another line that failed. `workers` is from 1 to 63, and 0 for `round` is taken as 1. With a `patience` from
-/// 1 to 86,400, a read or a write of a connection fails once it has waited for so many seconds, which ends the talk; a
-/// connection that cannot be limited in this way ends at once.
+/// Serves this many connections in rounds of `round` (0 is taken as 1): none of the next round is taken before all of
+/// this one have ended. Each of the `workers`, 1 to 63, has a seat of its own, and a collector runs. After a round the
+/// logs are settled. If they agree and connections are left, the vault is rebased, and the next round begins with what
+/// lives; until then clients wait. A connection that cannot be accepted counts as one.
+///
+/// It writes the address before the first connection, and after each rebase how many entries were dropped, and the
+/// round, from 1. The last line is `agreed`; or, in a round that ends the server, `differs`, with the least seat whose
+/// log differs and the least index in it; `no memory`, if an allocation or the start of a thread failed; or `out of
+/// memory`, if a rebase lacked it. If the address cannot be written, clients are served all the same, nothing more is
+/// written, and nothing is settled; nor is anything written after another line that failed.
+///
+/// With a `patience` from 1 to 86,400, a read or a write of a connection fails once it has waited for so many seconds,
+/// which ends the talk; a connection that cannot be limited in this way ends at once.
 pub fn serve_on<R: Threads + Wait + Clock + Sync, W: Write>(
     rt: &R,
     alloc: Global,
