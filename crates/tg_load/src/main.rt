@@ -47,7 +47,7 @@ fn run_all<R: Threads + Wait + Clock + Print + Eprint + Sync>(
 }
 
 /// Prints why the words are refused, or the text that they ask for. Status 2 says that they were refused.
-fn tell<R: Print + Eprint>(rt: &R, error: Error) -> ExitCode {
+fn print_error<R: Print + Eprint>(rt: &R, error: Error) -> ExitCode {
     let _ = error.print(rt);
     if error.use_stderr() {
         ExitCode::from(2)
@@ -70,7 +70,7 @@ fn start<R: Threads + Wait + Clock + Print + Eprint + Sync>(
                 ExitCode::FAILURE
             }
         }
-        Err(error) => tell(rt, error),
+        Err(error) => print_error(rt, error),
     }
 }
 

@@ -9,8 +9,8 @@ use Rattle.tg_talk.specs.Endings.{EndsOnce}
 use Rattle.tg_talk.specs.declared.answering.Finished.{Finished}
 use Rattle.tg_talk.specs.declared.fault.TalkFault.{TalkFault}
 use Rattle.tg_talk.specs.declared.fault.TalkFault.TheVariants as talk
-use Rattle.tgdoc.specs.declared.run.How.{How}
-use Rattle.tgdoc.specs.declared.run.How.TheVariants as how
+use Rattle.tgdoc.specs.declared.run.Output.{Output}
+use Rattle.tgdoc.specs.declared.run.Output.TheVariants as how
 use Rattle.tgdoc.specs.Runs.{AnswersTold, InputRan, LineAnswer, Steps, Telling, VaultRan}
 
 -- how far a run has come: the events that the vault carried out, each with its answer, and the vault then
@@ -95,7 +95,7 @@ PicturesTold true = LinesDrawn true
 PicturesTold false = LastDrawn
 
 -- what is told in each way
-abbrev pub Told : How → Telling
+abbrev pub Told : Output → Telling
 Told how.Answers = AnswersTold
 Told (how.Pictures each) = PicturesTold each
 

@@ -17,7 +17,7 @@ const STEPS: u64 = 150;
 /// Its steps in a turn while nothing is left to be freed.
 const IDLE_STEPS: u64 = 50;
 
-/// A cycle takes up to three steps for each slot, and one for each edge. From half to none the steps that are owed are
+/// A cycle takes up to three steps for each slot, and one for each edge. From half to none the steps of sessions are
 /// nineteen for each slot, of which a cycle that is under way and two whole ones take eighteen at three edges a slot.
 const STEPS_A_SLOT: u64 = 8;
 
@@ -69,14 +69,14 @@ impl Pace {
 
 /// The steps that a session makes after it made a vertex: none while half of the slots and half of the cells are free;
 /// below that, the fewer are free, the more steps, until an eighth is left.
-pub(crate) fn owed(room: Room) -> u64 {
-    let slots = owed_of(room.free_slots, room.slots);
-    let cells = owed_of(room.free_cells, room.cells);
+pub(crate) fn assist_steps(room: Room) -> u64 {
+    let slots = assist_steps_for(room.free_slots, room.slots);
+    let cells = assist_steps_for(room.free_cells, room.cells);
     slots.max(cells)
 }
 
-/// The steps that are owed when this many of all are free.
-fn owed_of(free: u64, all: u64) -> u64 {
+/// The steps for this many free of all.
+fn assist_steps_for(free: u64, all: u64) -> u64 {
     if free >= all / 2 {
         0
     } else {
@@ -84,18 +84,18 @@ fn owed_of(free: u64, all: u64) -> u64 {
     }
 }
 
-/// The gate of a server's sessions: whoever makes a vertex also makes the steps that are owed for it, with the lock
+/// The gate of a server's sessions: whoever makes a vertex also assists the collector by these steps, with the lock
 /// free between any two.
 #[derive(Drop)]
-pub(crate) struct Paying<'a, L: Ledger> {
+pub(crate) struct Assisting<'a, L: Ledger> {
     pub(crate) shared: &'a Shared<L>,
 }
 
-impl<'a, L: Ledger> Gate for Paying<'a, L> {
+impl<'a, L: Ledger> Gate for Assisting<'a, L> {
     fn pause<R: Wait + Clock>(&self, _rt: &R, _place: Place) {}
 
     fn after_create<R: Wait + Clock>(&self, rt: &R) {
-        let steps = owed(self.shared.room(rt));
+        let steps = assist_steps(self.shared.room(rt));
         let _ = self.shared.collector(rt, steps, &Open);
     }
 }

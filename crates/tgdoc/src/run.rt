@@ -20,7 +20,7 @@ use tg_wire::{WireFault, error_line, open_fault_line, read_config};
 
 /// What is written for the lines of a run.
 #[derive(Clone, Copy)]
-pub(crate) enum How {
+pub(crate) enum Output {
     /// The answer to each.
     Answers,
     /// Pictures of the vault: after each line, or only after the last one.
@@ -43,7 +43,7 @@ pub fn run_lines<R: Read, W: Write + Drop>(
     ensures ran { IfSome (R.remaining (device_of reader.old))
         (LinesRan result (promised W.contents writer.old) (promised W.contents writer.new) (has_failed writer.new)) }
 {
-    take_lines(alloc, How::Answers, reader, writer)
+    take_lines(alloc, Output::Answers, reader, writer)
 }
 
 /// Carries out lines as `run_lines` does, and draws the vault in place of the answers: after each line, with the line
@@ -62,13 +62,13 @@ pub fn draw_lines<R: Read, W: Write + Drop>(
     ensures drew { IfSome (R.remaining (device_of reader.old))
         (LinesDrew each result (promised W.contents writer.old) (promised W.contents writer.new) (has_failed writer.new)) }
 {
-    take_lines(alloc, How::Pictures { each }, reader, writer)
+    take_lines(alloc, Output::Pictures { each }, reader, writer)
 }
 
 /// Reads a configuration line and then event lines, and writes for them what is asked for.
 fn take_lines<R: Read, W: Write + Drop>(
     alloc: Global,
-    how: How,
+    how: Output,
     reader: &mut Watched<R>,
     writer: &mut Watched<BufWriter<W>>,
 ) -> Finished
@@ -119,7 +119,7 @@ pub(crate) fn open(alloc: Global, key: Key, bytes: &[u8]) -> Result<Vault, &'sta
 /// Carries out the lines after the configuration, and writes for them what is asked for.
 fn take_rest<R: Read, W: Write + Drop>(
     alloc: Global,
-    how: How,
+    how: Output,
     vault: Vault,
     input: InputLines,
     reader: &mut Watched<R>,
@@ -134,7 +134,7 @@ fn take_rest<R: Read, W: Write + Drop>(
 {
     courses_join();
     match how {
-        How::Answers => {
+        Output::Answers => {
             let mut runner = Runner { alloc, vault };
             let Over {
                 carried: (),
@@ -142,7 +142,7 @@ fn take_rest<R: Read, W: Write + Drop>(
             } = answer_lines(alloc, input, &mut runner, (), reader, writer);
             finished
         }
-        How::Pictures { each } => {
+        Output::Pictures { each } => {
             let mut artist = Artist { alloc, vault, each };
             let Over {
                 carried: (),

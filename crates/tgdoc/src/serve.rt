@@ -3,7 +3,7 @@ ghost use Rattle.std.specs.Prelude.{◌≡◌, [], IfErr, IfOk};
 ghost use Rattle.tg_share.specs.declared.locked.TheConstants.{PARTS};
 ghost use Rattle.tgdoc.specs.Serving.{EndsServer, HasAgreed, IsFound, found_of};
 
-use crate::pace::{Pace, Paying, REST};
+use crate::pace::{Assisting, Pace, REST};
 use std::alloc::{AllocError, Global};
 use std::net::{TcpListener, TcpStream};
 use std::rt::Clock;
@@ -210,7 +210,7 @@ fn serve_one<L: Ledger, R: Wait + Clock>(
         &mut writer,
         server.shared,
         seat,
-        &Paying {
+        &Assisting {
             shared: server.shared,
         },
     );

@@ -3,7 +3,7 @@ ghost use Rattle.std.specs.Prelude.{◌≡◌, ◌↔◌, [], IfErr, IfOk, IfSom
 ghost use Rattle.tg_talk.specs.Devices.{Sends, device_of, has_failed};
 ghost use Rattle.tgdoc.specs.Serving.{IsServed, OpensBytes, RefusesBytes};
 
-use crate::draw::drawn_key;
+use crate::key::random_key;
 use crate::platform::Platform;
 use crate::rounds::serve_on;
 use crate::run::open;
@@ -18,7 +18,7 @@ use tg_wire::{WireFault, error_line};
 const LISTEN: &[u8] = b"{\"error\":\"listen\"}\n";
 
 /// Reads the configuration line, listens on the address, and serves the vault, in which edges are found under a key
-/// that is drawn; if the runtime draws none, under the fixed one, since a key changes no answer. A refused
+/// chosen at random; if there are no random numbers, under the fixed one, since a key changes no answer. A refused
 /// configuration is answered as by `run_lines`; the answer is `out of memory` if there is no memory for the buffer of
 /// 32,768 bytes; if the line cannot be read, nothing is written. In these cases no address is listened on; no line at
 /// all is read as an empty one. Then an address that is not of the loopback, or that cannot be listened on, is answered
@@ -38,7 +38,7 @@ pub fn serve_lines<N: Platform, R: Read, W: Write>(
     requires writes { has_failed writer.old ≡ false }
     ensures { result.settled ≡ true → IsServed connections round (W.contents (device_of writer.old)) (W.contents (device_of writer.new)) (has_failed writer.new) }
 {
-    let key = drawn_key(rt).unwrap_or(Key::FIXED);
+    let key = random_key(rt).unwrap_or(Key::FIXED);
     match read_vault(alloc, key, reader) {
         Err(text) => refuse(writer, text),
         Ok(vault) => match listener_on(rt, listen) {

@@ -1,6 +1,6 @@
 //! The collector's pace, as numbers worked out by hand.
 
-use crate::pace::{Pace, owed};
+use crate::pace::{Pace, assist_steps};
 use tg_share::Worked;
 use tg_vault::Room;
 
@@ -14,9 +14,9 @@ fn room(free_slots: u64) -> Room {
     }
 }
 
-/// Free slots, and the steps that are owed for another one that is taken: eight for each of the thousand slots, shared
-/// by those that are free, of which an eighth counts at least.
-const OWED: &[(u64, u64)] = &[
+/// Free slots, and the steps that a session makes when it takes another one: eight for each of the thousand slots,
+/// shared by those that are free, of which an eighth counts at least.
+const ASSISTED: &[(u64, u64)] = &[
     (1_000, 0),
     (500, 0),
     (499, 16),
@@ -27,9 +27,9 @@ const OWED: &[(u64, u64)] = &[
 ];
 
 #[test]
-fn steps_are_owed_below_half(rt: HostRuntime) {
-    for (free, steps) in OWED {
-        assert_eq!(rt; owed(room(*free)), *steps);
+fn sessions_assist_below_half(rt: HostRuntime) {
+    for (free, steps) in ASSISTED {
+        assert_eq!(rt; assist_steps(room(*free)), *steps);
     }
 }
 
@@ -39,7 +39,7 @@ fn cells_are_worth_as_much_as_slots(rt: HostRuntime) {
         free_cells: 1_000,
         ..room(400)
     };
-    assert_eq!(rt; owed(few_cells), 32);
+    assert_eq!(rt; assist_steps(few_cells), 32);
 }
 
 /// A turn that ends a cycle and frees nothing.

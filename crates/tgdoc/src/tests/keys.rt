@@ -1,6 +1,6 @@
 //! Keys from sources that return what is known, or nothing.
 
-use crate::draw::drawn_key;
+use crate::key::random_key;
 use std::io;
 use std::io::ErrorKind;
 use std::random::RandomSource;
@@ -32,7 +32,7 @@ impl RandomSource for Broken {
 
 #[test]
 fn a_key_has_all_sixteen_bytes(rt: HostRuntime) {
-    match drawn_key(&Counting) {
+    match random_key(&Counting) {
         Some(key) => {
             assert!(rt; key.owner == 0x0706_0504_0302_0101);
             assert!(rt; key.serial == 0x0F0E_0D0C_0B0A_0909);
@@ -43,5 +43,5 @@ fn a_key_has_all_sixteen_bytes(rt: HostRuntime) {
 
 #[test]
 fn no_bytes_are_no_key(rt: HostRuntime) {
-    assert!(rt; drawn_key(&Broken).is_none());
+    assert!(rt; random_key(&Broken).is_none());
 }

@@ -1,11 +1,11 @@
-//! The key of a server's vault, drawn at random.
+//! The key of a server's vault, chosen at random.
 ghost use Rattle.std.specs.Prelude.{◌≡◌, ◌%◌, ◌/◌, ◌^◌, bit_or};
 
 use std::random::RandomSource;
 use tg_vault::Key;
 
 /// A key of random numbers; none if the source returns none. The source promises that nobody can guess them.
-pub(crate) fn drawn_key<S: RandomSource>(source: &S) -> Option<Key> {
+pub(crate) fn random_key<S: RandomSource>(source: &S) -> Option<Key> {
     let mut bytes = [0; 16];
     source.fill_bytes(&mut bytes).ok()?;
     Some(key_of(u128::from_le_bytes(bytes)))
