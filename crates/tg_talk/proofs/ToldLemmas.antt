@@ -1,12 +1,12 @@
 -- The answer to a line of a talk.
-use Rattle.std.proofs.Common.{◌≡◌, ◌≢◌, ℕ, List, [], ◌∷◌, Option, None, Some, Ok, Err, inl, inr, refl, sym, ap, ◌∙◌, append-nil, true, false}
+use Rattle.std.proofs.Common.{◌≡◌, ◌≢◌, ◌⊎◌, ℕ, List, [], ◌∷◌, Option, None, Some, Ok, Err, inl, inr, refl, sym, ap, ◌∙◌, append-nil, true, false}
 use Rattle.tg_rights.specs.declared.command.Command.{Command}
 use Rattle.tg_vault.specs.declared.event.Event.TheVariants as event
 use Rattle.tg_vault.specs.declared.event.Answer.TheVariants as answer
 use Rattle.tg_vault.specs.declared.event.SeatFault.TheVariants as seat_fault
 use Rattle.tg_vault.specs.declared.event.AskFault.{AskFault}
 use Rattle.tg_vault.specs.declared.event.AskFault.TheVariants as ask_fault
-use Rattle.tg_share.specs.Sessions.{Sitting}
+use Rattle.tg_share.specs.Sessions.{IsRefused, Sitting}
 use Rattle.tg_wire.specs.Faults.{fault_line}
 use Rattle.tg_wire.specs.Lines.{line_of}
 use Rattle.tg_wire.specs.Reading as reading
@@ -41,12 +41,12 @@ pub stranger_unknown : (line text : List ℕ) (asked : Line) → line_of line �
 stranger_unknown line text asked read other (_, inl (told, _)) = no_actor asked refl read other refl refl told
 stranger_unknown line text asked read other (_, inr (told, _)) = no_memory refl refl told
 
-pub stranger_greeted : (line text name : List ℕ) (asked : Line) (session : Option Sitting) (seat : ℕ) → line_of line ≡ Ok asked → IsHello asked name → Seats session text seat
+pub stranger_greeted : (line text name : List ℕ) (asked : Line) (session : Option Sitting) (seat : ℕ) → line_of line ≡ Ok asked → IsHello asked name → Seats session text seat name
     → LineTold None line (actor_of session) [] text
-stranger_greeted line text name asked None seat read (named, is) (f, (_, inl (told, _))) = not_seated named name f refl (read ∙ ap Ok is) refl refl told
-stranger_greeted line text name asked None seat read (named, is) (f, (_, inr (told, _))) = no_memory refl refl told
-stranger_greeted line text name asked (Some s) seat read (named, is) (place, log, (_, inl (told, _))) = seated named name s.actor refl (read ∙ ap Ok is) refl refl told
-stranger_greeted line text name asked (Some s) seat read (named, is) (place, log, (_, inr (told, _))) = seated_untold named name s.actor refl (read ∙ ap Ok is) refl refl told
+stranger_greeted line text name asked None seat read (named, is) (f, why, (_, inl (told, _))) = not_seated named seat name f refl (read ∙ ap Ok is) why refl refl told
+stranger_greeted line text name asked None seat read (named, is) (f, why, (_, inr (told, _))) = no_memory refl refl told
+stranger_greeted line text name asked (Some s) seat read (named, is) (place, log, answered, (_, inl (told, _))) = seated named seat name s.actor refl (read ∙ ap Ok is) answered refl refl told
+stranger_greeted line text name asked (Some s) seat read (named, is) (place, log, answered, (_, inr (told, _))) = seated_untold named seat name s.actor refl (read ∙ ap Ok is) answered refl refl told
 
 -- ---- a line of a session
 
@@ -66,15 +66,15 @@ told_bound actor line name seat bytes read (_, inr (told, _)) = no_memory refl r
 pub heard_hello : (s : Sitting) (line name : List ℕ) (t : Text) (seat : ℕ) → line_of line ≡ Ok (Act (event.Hello seat name)) → Tells (answer.Seat seat_fault.Bound) (text_of t) → Hears s line (heard.Answer t) s
 heard_hello s line name t seat read tells = heard_quiet s line t (told_bound s.actor line name seat (text_of t) read tells)
 
-told_fault : (actor seat : ℕ) (line : List ℕ) (command : Command) (f : AskFault) (bytes : List ℕ) → f ≢ ask_fault.NoSeat → line_of line ≡ Ok (Act (event.Ask seat command)) → Tells (answer.Ask f) bytes
+told_fault : (actor seat at : ℕ) (line : List ℕ) (command : Command) (f : AskFault) (bytes : List ℕ) → f ≢ ask_fault.NoSeat → IsRefused at command f → line_of line ≡ Ok (Act (event.Ask seat command)) → Tells (answer.Ask f) bytes
     → LineTold (Some actor) line (Some actor) [] bytes
-told_fault actor seat line command f bytes has_seat read (_, inl (told, _)) = not_entered actor seat command f has_seat refl read refl refl told
-told_fault actor seat line command f bytes has_seat read (_, inr (told, _)) = no_memory refl refl told
+told_fault actor seat at line command f bytes has_seat why read (_, inl (told, _)) = not_entered actor seat at command f has_seat why refl read refl refl told
+told_fault actor seat at line command f bytes has_seat why read (_, inr (told, _)) = no_memory refl refl told
 
 pub heard_ask : (s new : Sitting) (line : List ℕ) (d : Heard) (seat : ℕ) (command : Command) → line_of line ≡ Ok (Act (event.Ask seat command)) → Asks s command d new → Hears s line d new
 heard_ask s new line (heard.Answer t) seat command read (inl (actor, reply, grown, told)) =
     rw grown (record { log = record { actor = actor; command = command; reply = reply } ∷ []; grown = refl; says = exchanged s.actor actor seat command reply refl read refl refl told })
-heard_ask s new line (heard.Answer t) seat command read (inr (f, has_seat, same, tells)) = rw same (heard_quiet s line t (told_fault s.actor seat line command f (text_of t) has_seat read tells))
+heard_ask s new line (heard.Answer t) seat command read (inr (f, has_seat, why, same, tells)) = rw same (heard_quiet s line t (told_fault s.actor seat s.seat line command f (text_of t) has_seat why read tells))
 heard_ask s new line (heard.Bye t) seat command read h = absurd h
 heard_ask s new line heard.Nothing seat command read (actor, reply, grown) =
     rw grown (record {

@@ -7,11 +7,13 @@ use Rattle.tg_vault.specs.declared.event.Answer.TheVariants as answer
 use Rattle.tg_vault.specs.declared.event.AskFault.{AskFault}
 use Rattle.tg_vault.specs.declared.event.AskFault.TheVariants as ask_fault
 use Rattle.tg_vault.specs.declared.event.SeatFault.{SeatFault}
+use Rattle.tg_vault.specs.declared.event.SeatFault.TheVariants as seat_fault
 use Rattle.tg_vault.specs.declared.event.Event.TheVariants as event
 use Rattle.tg_wire.specs.declared.line.Line.{Line}
 use Rattle.tg_wire.specs.declared.line.Line.TheVariants.{Act}
 use Rattle.tg_audit.specs.declared.logs.Exchange.{Exchange}
-use Rattle.tg_share.specs.Sessions.{Sitting, with_exchange}
+use Rattle.tg_share.specs.Reached.{HasAnswered}
+use Rattle.tg_share.specs.Sessions.{IsRefused, Sitting, with_exchange}
 use Rattle.tg_share.specs.declared.session.Ended.{Ended}
 use Rattle.tg_wire.specs.Replies.{reply_line}
 use Rattle.tg_talk.specs.Answering.{Saying, TellsAnswer, text_of}
@@ -42,15 +44,15 @@ Leaves (Some s) (Some e) = (e.log.seat ≡ s.seat) × (e.actor ≡ s.actor) × (
 abbrev pub IsHello : Line → List ℕ → Type 0
 IsHello asked name = (seat : ℕ) × (asked ≡ Act (event.Hello seat name))
 
--- a hello was asked for: a session that begins on the seat, or none, and the text that says so
-abbrev pub Seats : Option Sitting → List ℕ → ℕ → Type 0
-Seats None text seat = (f : SeatFault) × Tells (answer.Seat f) text
-Seats (Some s) text seat = (s.seat ≡ seat) × (s.log ≡ []) × Tells (answer.Hello s.actor) text
+-- a hello by this name was asked for: a session that begins on the seat, or none, and the text that says so
+abbrev pub Seats : Option Sitting → List ℕ → ℕ → List ℕ → Type 0
+Seats None text seat name = (f : SeatFault) × ((f ≡ seat_fault.NoSeat) ⊎ HasAnswered (event.Hello seat name) (answer.Seat f)) × Tells (answer.Seat f) text
+Seats (Some s) text seat name = (s.seat ≡ seat) × (s.log ≡ []) × HasAnswered (event.Hello seat name) (answer.Hello s.actor) × Tells (answer.Hello s.actor) text
 
 -- a command was submitted for some actor: the answer, and the session then
 abbrev pub Asks : Sitting → Command → Heard → Sitting → Type 0
 Asks old command (heard.Answer t) new =
-    ((actor : ℕ) × (reply : Reply) × (new ≡ with_exchange old actor command reply) × (text_of t ≡ reply_line reply)) ⊎ ((f : AskFault) × (f ≢ ask_fault.NoSeat) × (new ≡ old) × Tells (answer.Ask f) (text_of t))
+    ((actor : ℕ) × (reply : Reply) × (new ≡ with_exchange old actor command reply) × (text_of t ≡ reply_line reply)) ⊎ ((f : AskFault) × (f ≢ ask_fault.NoSeat) × IsRefused old.seat command f × (new ≡ old) × Tells (answer.Ask f) (text_of t))
 Asks old command (heard.Bye t) new = ⊥
 Asks old command heard.Nothing new = (actor : ℕ) × (reply : Reply) × (new ≡ with_exchange old actor command reply)
 

@@ -9,6 +9,8 @@ use Rattle.tg_vault.specs.declared.event.SeatFault.TheVariants as seat_fault
 use Rattle.tg_vault.specs.declared.event.AskFault.{AskFault}
 use Rattle.tg_vault.specs.declared.event.AskFault.TheVariants as ask_fault
 use Rattle.tg_audit.specs.declared.logs.Exchange.{Exchange}
+use Rattle.tg_share.specs.Reached.{HasAnswered}
+use Rattle.tg_share.specs.Sessions.{IsRefused}
 use Rattle.tg_share.specs.declared.session.Ended.{Ended}
 use Rattle.tg_wire.specs.Lines.{line_of}
 use Rattle.tg_wire.specs.Replies.{reply_line}
@@ -38,24 +40,24 @@ is_for_no_session _ = false
 
 -- A line is answered by a text, and the talk goes on. `sits` is the principal, once a hello has succeeded, `then` the
 -- one after the line; `log` is the exchange that was entered for the line, if one was, and names its own actor: the
--- principal, or one for whom the seat acts. A seat that a line names is not used.
+-- principal, or one for whom the seat acts. A seat that a line names is not used; `at` is the talk's own.
 pub data LineTold (sits : Option ℕ) (line : List ℕ) (then : Option ℕ) (log : List Exchange) (text : List ℕ) : Type 0 where
   refused : (f : WireFault) → line_of line ≡ Err f → then ≡ sits → log ≡ [] → text ≡ fault_line f → LineTold sits line then log text
   -- before a hello has succeeded
-  seated : (seat : ℕ) (name : List ℕ) (actor : ℕ) → sits ≡ None → line_of line ≡ Ok (Act (event.Hello seat name)) → then ≡ Some actor → log ≡ [] → text ≡ answer_line (answer.Hello actor) → LineTold sits line then log text
-  not_seated : (seat : ℕ) (name : List ℕ) (f : SeatFault) → sits ≡ None → line_of line ≡ Ok (Act (event.Hello seat name)) → then ≡ None → log ≡ [] → text ≡ answer_line (answer.Seat f) → LineTold sits line then log text
+  seated : (seat at : ℕ) (name : List ℕ) (actor : ℕ) → sits ≡ None → line_of line ≡ Ok (Act (event.Hello seat name)) → HasAnswered (event.Hello at name) (answer.Hello actor) → then ≡ Some actor → log ≡ [] → text ≡ answer_line (answer.Hello actor) → LineTold sits line then log text
+  not_seated : (seat at : ℕ) (name : List ℕ) (f : SeatFault) → sits ≡ None → line_of line ≡ Ok (Act (event.Hello seat name)) → (f ≡ seat_fault.NoSeat) ⊎ HasAnswered (event.Hello at name) (answer.Seat f) → then ≡ None → log ≡ [] → text ≡ answer_line (answer.Seat f) → LineTold sits line then log text
   no_actor : (asked : Line) → sits ≡ None → line_of line ≡ Ok asked → is_hello asked ≡ false → then ≡ None → log ≡ [] → text ≡ answer_line (answer.Ask ask_fault.NoActor) → LineTold sits line then log text
   -- after it
   bound : (actor seat : ℕ) (name : List ℕ) → sits ≡ Some actor → line_of line ≡ Ok (Act (event.Hello seat name)) → then ≡ sits → log ≡ [] → text ≡ answer_line (answer.Seat seat_fault.Bound) → LineTold sits line then log text
   not_for_a_session : (actor : ℕ) (asked : Line) → sits ≡ Some actor → line_of line ≡ Ok asked → is_for_no_session asked ≡ true → then ≡ sits → log ≡ [] → text ≡ not_for_a_session_line → LineTold sits line then log text
   exchanged : (principal actor seat : ℕ) (command : Command) (reply : Reply) → sits ≡ Some principal → line_of line ≡ Ok (Act (event.Ask seat command)) → then ≡ sits
       → log ≡ record { actor = actor; command = command; reply = reply } ∷ [] → text ≡ reply_line reply → LineTold sits line then log text
-  not_entered : (actor seat : ℕ) (command : Command) (f : AskFault) → f ≢ ask_fault.NoSeat → sits ≡ Some actor → line_of line ≡ Ok (Act (event.Ask seat command)) → then ≡ sits → log ≡ []
+  not_entered : (actor seat at : ℕ) (command : Command) (f : AskFault) → f ≢ ask_fault.NoSeat → IsRefused at command f → sits ≡ Some actor → line_of line ≡ Ok (Act (event.Ask seat command)) → then ≡ sits → log ≡ []
       → text ≡ answer_line (answer.Ask f) → LineTold sits line then log text
   -- no memory to read the line, or for the line of its answer
   no_memory : then ≡ sits → log ≡ [] → text ≡ fault_line wire.OutOfMemory → LineTold sits line then log text
   -- a hello has succeeded, and there was no memory to say so
-  seated_untold : (seat : ℕ) (name : List ℕ) (actor : ℕ) → sits ≡ None → line_of line ≡ Ok (Act (event.Hello seat name)) → then ≡ Some actor → log ≡ [] → text ≡ fault_line wire.OutOfMemory → LineTold sits line then log text
+  seated_untold : (seat at : ℕ) (name : List ℕ) (actor : ℕ) → sits ≡ None → line_of line ≡ Ok (Act (event.Hello seat name)) → HasAnswered (event.Hello at name) (answer.Hello actor) → then ≡ Some actor → log ≡ [] → text ≡ fault_line wire.OutOfMemory → LineTold sits line then log text
 
 -- the line ends the talk: a bye of the one who sits
 pub record ByeTold (sits : Option ℕ) (line : List ℕ) (then : Option ℕ) (log : List Exchange) (text : List ℕ) : Type 0 where

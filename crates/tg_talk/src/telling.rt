@@ -61,7 +61,7 @@ fn greet<'s, L: Ledger, R: Wait>(
     name: &Word,
     room: &mut LineRoom,
 ) -> Greeted<'s, L>
-    ensures { Seats result.session (text_of result.text) seat }
+    ensures { Seats result.session (text_of result.text) seat name.now }
 {
     match shared.session(rt, alloc, seat, name.get()) {
         Ok(session) => {
