@@ -177,9 +177,9 @@ class Client:
         return self.ask(op="enrol", name=name, rights=rights)["vertex"]
 
     def retire(self):
-        """Ends the principal who asks: its name is free for another, and its own commands but `leave` are denied from then
-        on, in every session; a session that acts for a subject goes on. Each goes on until `bye`, and its vertex stays as
-        long as somebody reaches it."""
+        """Ends the principal who asks: its name is free for another, and from then on its own commands but `leave` are
+        denied, in every session; those of a session that acts for a subject are not. All its sessions go on until `bye`,
+        and its vertex stays as long as somebody reaches it."""
         self.ask(op="retire")
 
     def assume(self, agent):

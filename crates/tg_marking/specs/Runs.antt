@@ -21,8 +21,8 @@ HadSlot b g i s = (j : ℕ) × (t : Spot) × (spot b j ≡ Some t) × (t.serial 
 abbrev pub HadEdge : Body → Stage → ℕ → ℕ → Type 0
 HadEdge b g x y = (j : ℕ) × (k : Kept) × (e : Edge) × (kept b g j ≡ Some k) × (k.serial ≡ x) × Contains k.edges e × (e.serial ≡ y)
 
--- a session step (the mutator's, as Dijkstra and others say), by serials: what has a slot had one, or is live or new; roots are live or new; and edges of what is
--- held were there, or lead to what is live or new
+-- a session step (of the mutator, in the words of Dijkstra and others), by serials: what has a slot had one, or is live
+-- or new; roots are live or new; and edges of what is held were there, or lead to what is live or new
 pub record Mutated (b : Body) (g : Stage) (b' : Body) (next : ℕ) : Type 0 where
   pub spots : (i : ℕ) (s : Spot) → spot b' i ≡ Some s → HadSlot b g i s ⊎ IsLiveOrNew b g next s.serial
   pub roots : (i : ℕ) (k : Kept) → IsRoot b' i → kept b' g i ≡ Some k → IsLiveOrNew b g next k.serial
@@ -41,8 +41,8 @@ pub data Changed (g : Stage) (Root New To : ℕ → Type 0) (i : ℕ) : Option S
   regards : (s : Spot) (es : List Edge) (text : List ℕ) → ((e : Edge) → Contains es e → LedTo s.edges e ⊎ To e.serial) → Changed g Root New To i (Some s) (Some (record s { edges = es; text = text }))
   comes : (s : Spot) → New s.serial → s.colour ≡ new_colour g i → ((e : Edge) → Contains s.edges e → To e.serial) → Changed g Root New To i None (Some s)
 
--- each exact session step is one of a run, if the roots that come are live or new, a vertex that comes is new, and an
--- edge put at rest leads to what is live or new
+-- each exact session step from a state with the invariant is one of a run, if the roots that come are live or new, a
+-- vertex that comes is new, and an edge put at rest leads to what is live or new
 pub record StepsMutate : Type 0 where
   pub reroots : (b b' : Body) (p : Progress) (rs : Roots) (next : ℕ) → Reroots b p rs b' → Invariant b p
       → ((i : ℕ) (k : Kept) → HasRoot rs i → kept b (shown p) i ≡ Some k → IsRoot b i ⊎ IsLiveOrNew b (shown p) next k.serial) → Mutated b (shown p) b' next

@@ -20,8 +20,9 @@ pub fn sessions_keep()
 {}
 
 /// A law: what is not live in an idle store has no slot once two cycles have ended, whatever session steps come
-/// between; and once three cycles have ended without any, only what is live has one. The exact session steps are among
-/// those that may come.
+/// between; and once three cycles have ended without any, only what is live has one. The exact session steps, from a
+/// store with the invariant, are among those that may come, if what becomes a root or the end of an edge put at rest is
+/// live or new, and what is placed is new.
 pub fn runs_are_complete()
     ensures complete { IsComplete }
     ensures settles { Settles }

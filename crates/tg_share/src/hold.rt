@@ -45,6 +45,7 @@ impl<'a, L: Ledger> Model for Hold<'a, L> {
 }
 
 impl<L: Ledger> Lock<L> {
+    /// Puts this under a lock.
     pub fn new(locked: Locked<L>) -> Lock<L> {
         Lock {
             mutex: Mutex::new(locked),

@@ -40,7 +40,8 @@ is_for_no_session _ = false
 
 -- A line is answered by a text, and the talk goes on. `sits` is the principal, once a hello has succeeded, `then` the
 -- one after the line; `log` is the exchange that was entered for the line, if one was, and names its own actor: the
--- principal, or one for whom the seat acts. A seat that a line names is not used; `at` is the talk's own.
+-- principal, or one for whom the seat acts. A seat that a line names is not used: a vault was asked for some seat `at`,
+-- of which nothing more is said.
 pub data LineTold (sits : Option ℕ) (line : List ℕ) (then : Option ℕ) (log : List Exchange) (text : List ℕ) : Type 0 where
   refused : (f : WireFault) → line_of line ≡ Err f → then ≡ sits → log ≡ [] → text ≡ fault_line f → LineTold sits line then log text
   -- before a hello has succeeded

@@ -1,4 +1,4 @@
--- what is written for the lines of an input, by whom they are passed to
+-- what is written for the lines of an input, by what is done with them
 use Rattle.std.specs.Prelude.{ℕ, List, Option, Bool}
 use Rattle.tg_talk.specs.declared.answering.Finished.{Finished}
 use Rattle.tgdoc.specs.declared.LineMode.{LineMode}

@@ -70,7 +70,8 @@ pub data IsFound (L : Type 0) (f : Result Contents Unsettled) : Type 0 where
   by_closing : (ended : List (Ended L)) (c : Closed L) → IsClosed ended c → f ≡ found_of c → IsFound L f
   by_refusal : f ≡ Err unsettled.NoMemory → IsFound L f
 
--- a round has agreed on this vault: its history is settled with some logs as agreed, and it has the headline
+-- what is known of a vault on which a round agreed: it has the headline, and some logs are settled with its history as
+-- agreed, which is so of any history
 pub record HasAgreed (v : Contents) : Type 0 where
   pub logs : List SeatLog
   pub settled : SettledAs v logs (settled.Agreed v)
@@ -81,20 +82,21 @@ abbrev pub HaveAgreed : List Contents → Type 0
 HaveAgreed [] = Unit {0}
 HaveAgreed (v ∷ vs) = HasAgreed v × HaveAgreed vs
 
--- the logs of a round differ from its vault's history first at this index of this seat, and the vault has the headline
+-- what is known if logs differ: some vault has the headline, and some logs differ from its history first at this index
+-- of this seat
 pub record HasDiffered (seat index : ℕ) : Type 0 where
   pub vault : Contents
   pub logs : List SeatLog
   pub place : IsPlace vault logs (Some (seat, index))
   pub headline : HasHeadline vault
 
--- a seat was in use between two rounds
+-- what is known if a seat was in use between two rounds: that some vault has one in use, which is always so
 pub record HasSeated : Type 0 where
   pub vault : Contents
   pub seat : ℕ
   pub used : IsLeastInUse vault.seats seat
 
--- a server may end so; memory may run out at any time
+-- what is known of the end of a server: nothing of memory, which may run out at any time
 abbrev pub EndsServer : Unsettled → Type 0
 EndsServer (unsettled.Differs seat index) = HasDiffered seat index
 EndsServer unsettled.NoMemory = Unit {0}
@@ -111,8 +113,8 @@ pub record AreRounds (connections round full : ℕ) : Type 0 where
   pub enough : connections ≤ suc full * round
   pub needed : 0 < full → full * round < connections
 
--- there were as many rebases as so many connections need, each of a vault on which its round had agreed, and their
--- lines were sent
+-- there are as many vaults as so many connections need rebases; each has agreed, and for each the line of a rebase that
+-- drops its history was sent
 pub record HasRounds (connections round : ℕ) (old new : Option (List ℕ)) (failed : Bool) : Type 0 where
   pub rebased : List Contents
   pub agreed : HaveAgreed rebased
@@ -124,8 +126,9 @@ pub record Announces (old new : Option (List ℕ)) : Type 0 where
   pub address : List ℕ
   pub appended : Appends old new (listening_line address)
 
--- each round has agreed on its vault, and each of these but the last was rebased; the writer has not failed, and has
--- got the line of an address, that of each rebase, and the line that all agrees, and nothing else
+-- there are vaults that have agreed, one for each round; the writer has not failed, and has got the line of an address,
+-- one for each of these vaults but the last, by the length of its history, and the line that all agrees, and nothing
+-- else. That they are those of the rounds, and are rebased, is not said.
 pub record IsServed (connections round : ℕ) (old new : Option (List ℕ)) (failed : Bool) : Type 0 where
   pub unfailed : failed ≡ false
   pub address : List ℕ

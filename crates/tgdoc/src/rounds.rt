@@ -26,7 +26,8 @@ use tg_vault::{Rebased, Vault};
 /// It writes the address before the first connection, and after each rebase how many entries were dropped, and the
 /// round, from 1. The last line is `agreed`; or, in a round that ends the server, `differs`, with the least seat whose
 /// log differs and the least index in it; `no memory`, if an allocation or the start of a thread failed; or `out of
-/// memory`, if a rebase lacked it. If the address cannot be written, clients are served all the same, nothing more is
+/// memory`, if a rebase lacked it; or there is none, if a seat was in use between two rounds, as no talk leaves one. If
+/// the address cannot be written, clients are served all the same, nothing more is
 /// written, and nothing is settled; nor is anything written after another line that failed.
 ///
 /// With a `patience` from 1 to 86,400, a read or a write of a connection fails once it has waited for so many seconds,

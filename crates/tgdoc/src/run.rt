@@ -48,9 +48,10 @@ pub fn run_lines<R: Read, W: Write + Drop>(
 
 /// Carries out lines as `run_lines` does, and draws the vault in place of the answers: after each line, with the line
 /// and its answer as the label, a refused one too; or once, after the last line, with how many lines there were, and
-/// how many of their answers are `error` lines. If anything but the end of the input ends the run, its answer is
-/// written as by `run_lines`, and then the last picture. If the reader or the writer fails, nothing more is drawn. If
-/// there is no memory for a picture, `out of memory` is written in its place.
+/// how many of their answers are `error` lines. If a line ends the run, its answer is written as by `run_lines`; then
+/// comes the last picture, unless each line has one. A refused configuration is answered as by `run_lines`, and nothing
+/// is drawn. If the reader or the writer fails, nothing more is drawn. If there is no memory for a picture, `out of
+/// memory` is written in its place.
 pub fn draw_lines<R: Read, W: Write + Drop>(
     alloc: Global,
     each: bool,
