@@ -1,6 +1,7 @@
 //! What happens between two holds of the lock.
 use std::rt::Clock;
 use std::sync::Wait;
+use tg_rights::{Command, Reply};
 
 /// Where a call pauses.
 #[derive(Clone, Copy, PartialEq, Eq, Debug)]
@@ -16,9 +17,9 @@ pub trait Gate {
     /// Called between two holds of the lock, at this place. It may wait.
     fn pause<R: Wait + Clock>(&self, rt: &R, place: Place);
 
-    /// Called after the pause of a command that made a vertex, which is not yet shaded. Does nothing unless a gate says
-    /// otherwise.
-    fn after_create<R: Wait + Clock>(&self, _rt: &R) {}
+    /// Called after the pause of a command that was entered, whose target is not yet shaded, with the reply to it. Does
+    /// nothing unless a gate says otherwise.
+    fn after_entry<R: Wait + Clock>(&self, _rt: &R, _command: &Command, _reply: &Reply) {}
 }
 
 /// A gate that lets everyone pass.

@@ -173,9 +173,7 @@ impl<'a, L: Ledger> Session<'a, L> {
             .hold(rt)
             .ask(self.seat, asked, &mut self.share)?;
         gate.pause(rt, Place::AfterStore);
-        if matches!(reply, Reply::Created(_)) {
-            gate.after_create(rt);
-        }
+        gate.after_entry(rt, &command, &reply);
         let _ = self.shared.locked.hold(rt).shade(self.seat);
         let Ok(()) = self.log.push(Exchange {
             actor,

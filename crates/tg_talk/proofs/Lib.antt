@@ -5,3 +5,4 @@ pub mod SendsLemmas
 pub mod AnsweringLemmas
 pub mod ToldLemmas
 pub mod TalkLemmas
+pub mod OpeningLemmas

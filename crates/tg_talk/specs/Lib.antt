@@ -7,3 +7,4 @@ pub mod Endings
 pub mod Answering
 pub mod Talks
 pub mod Talking
+pub mod Opening

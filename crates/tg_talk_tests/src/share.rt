@@ -7,6 +7,7 @@ mod growths;
 mod holds;
 mod races;
 mod rounds;
+mod shading;
 
 use crate::sharing::{Pauses, Tally, agreed, both, close, one, opened, play};
 use std::alloc::{AllocError, Global};
@@ -122,7 +123,9 @@ const NOTHING: Worked = Worked { freed: 0, ended: 0 };
 
 const NO_PAUSE: Pauses = Pauses {
     after_store: 0,
-    after_create: 0,
+    entries: 0,
+    created: 0,
+    early: 0,
     between_steps: 0,
 };
 
@@ -135,6 +138,11 @@ const THREE: &[Asked] = &[
     (Ask::Remove("r", 3), Want::Done),
     (Ask::Remove("r", 4), Want::Done),
     (Ask::Remove("r", 5), Want::Done),
+];
+
+const GUEST: &[Asked] = &[
+    (Ask::Enrol("carol", "t"), Want::Created(3)),
+    (Ask::Read(3), Want::Lacks(1, 3, "r")),
 ];
 
 /// A cycle shades alice and bob in one step, takes each grey vertex under scan and makes it black in two, as none has
@@ -165,13 +173,43 @@ const TOURS: &[Tour] = &[
         lines: &[CREATED, REMOVED],
         asked: Pauses {
             after_store: 2,
-            after_create: 1,
+            entries: 2,
+            created: 1,
             ..NO_PAUSE
         },
         steps: 11,
         pauses: 10,
         worked: NOTHING,
         last: A_CYCLE,
+    },
+    // An enrol makes a vertex, as a create does, and a denied command is entered too. With one more subject, and an edge
+    // to it, 1 + 3 * 2 + 1 + 1 + 3 + 1 = 13 steps.
+    Tour {
+        opening: ONE_MORE,
+        lines: GUEST,
+        asked: Pauses {
+            after_store: 2,
+            entries: 2,
+            created: 1,
+            ..NO_PAUSE
+        },
+        steps: 12,
+        pauses: 11,
+        worked: NOTHING,
+        last: A_CYCLE,
+    },
+    // 7,000 cycles of ten steps each, and the first step of one more.
+    Tour {
+        opening: ONE_MORE,
+        lines: &[],
+        asked: NO_PAUSE,
+        steps: 70_000,
+        pauses: 69_999,
+        worked: Worked {
+            freed: 0,
+            ended: 7_000,
+        },
+        last: NOTHING,
     },
     // With three such documents 1 + 5 * 2 + 1 + 8 + 1 = 21 steps. The second cycle frees them in 1 + 2 * 2 + 1 + 8 + 1
     // = 15, and the others have 15 too: 330 in 4,950 steps. Then 14 steps are left, and the next ends a cycle.
@@ -180,7 +218,8 @@ const TOURS: &[Tour] = &[
         lines: THREE,
         asked: Pauses {
             after_store: 6,
-            after_create: 3,
+            entries: 6,
+            created: 3,
             ..NO_PAUSE
         },
         steps: 5000,
@@ -193,8 +232,8 @@ const TOURS: &[Tour] = &[
     },
 ];
 
-/// Whether the collector's calls do what they should, alice pauses once for each line, after its store, and is told of
-/// her creates, and the collector pauses as many times as the tour says, between its steps.
+/// Whether the collector's calls do what they should, alice pauses once for each line, after its store, and her gate is
+/// then told of its entry, and the collector pauses as many times as the tour says, between its steps.
 fn is_as_counted<L: Ledger, R: Wait + Clock>(
     rt: &R,
     alloc: Global,

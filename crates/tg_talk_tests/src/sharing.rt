@@ -13,7 +13,7 @@ use std::thread;
 use std::time::Duration;
 use tg_audit::Settled;
 use tg_graph::OpenFault;
-use tg_rights::{Kind, Rights};
+use tg_rights::{Command, Kind, Reply, Rights};
 use tg_share::{Closed, Ended, Gate, PARTS, Place, Session, Shared, Worked};
 use tg_tests::cases::{Ask, Asked, Opening, Want, command, config, is_reply};
 use tg_vault::{AskFault, Vault};
@@ -131,19 +131,25 @@ impl Gate for Counts<'_> {
     }
 }
 
-/// Counts the pauses at each place, and the creates.
+/// Counts the pauses at each place, and the entries that it is told of.
 #[derive(Drop)]
 pub struct Tally {
     after_store: AtomicU64,
-    after_create: AtomicU64,
+    entries: AtomicU64,
+    created: AtomicU64,
+    early: AtomicU64,
     between_steps: AtomicU64,
 }
 
-/// How many pauses there were at each place, and how many creates.
+/// How many pauses there were at each place, and how many entries a gate was told of.
 #[derive(Clone, Copy, PartialEq, Eq, Debug)]
 pub struct Pauses {
     pub after_store: u64,
-    pub after_create: u64,
+    pub entries: u64,
+    /// Entries that made a vertex.
+    pub created: u64,
+    /// Entries that it was told of before their pause.
+    pub early: u64,
     pub between_steps: u64,
 }
 
@@ -151,7 +157,9 @@ impl Tally {
     pub fn new() -> Tally {
         Tally {
             after_store: AtomicU64::new(0),
-            after_create: AtomicU64::new(0),
+            entries: AtomicU64::new(0),
+            created: AtomicU64::new(0),
+            early: AtomicU64::new(0),
             between_steps: AtomicU64::new(0),
         }
     }
@@ -159,7 +167,9 @@ impl Tally {
     pub fn pauses(&self) -> Pauses {
         Pauses {
             after_store: self.after_store.load(Ordering::SeqCst),
-            after_create: self.after_create.load(Ordering::SeqCst),
+            entries: self.entries.load(Ordering::SeqCst),
+            created: self.created.load(Ordering::SeqCst),
+            early: self.early.load(Ordering::SeqCst),
             between_steps: self.between_steps.load(Ordering::SeqCst),
         }
     }
@@ -173,8 +183,14 @@ impl Gate for Tally {
         };
     }
 
-    fn after_create<R: Wait + Clock>(&self, _rt: &R) {
-        self.after_create.fetch_add(1, Ordering::SeqCst);
+    fn after_entry<R: Wait + Clock>(&self, _rt: &R, _command: &Command, reply: &Reply) {
+        let before = self.entries.fetch_add(1, Ordering::SeqCst);
+        if self.after_store.load(Ordering::SeqCst) <= before {
+            self.early.fetch_add(1, Ordering::SeqCst);
+        }
+        if matches!(reply, Reply::Created(_)) {
+            self.created.fetch_add(1, Ordering::SeqCst);
+        }
     }
 }
 

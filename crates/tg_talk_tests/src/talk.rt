@@ -3,8 +3,10 @@ ghost use Rattle.std.specs.Prelude.{◌≡◌, [], IfOk, IfSome, false};
 ghost use Rattle.tg_talk.specs.Devices.{has_failed, owed};
 ghost use Rattle.tg_talk_tests.specs.Fresh.{IsFresh};
 
+mod gates;
 mod growths;
 mod lines;
+mod signals;
 
 use crate::sharing::agreed;
 use lines::FAILURES;

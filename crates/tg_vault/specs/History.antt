@@ -8,8 +8,8 @@ use Rattle.tg_graph.specs.Protection.{Protection, has_retired, is_active}
 use Rattle.tg_graph.specs.Rules.{next_graph}
 use Rattle.tg_vault.specs.declared.entry.Entry.{Entry}
 
--- x is a principal, or was one. In the graph that a history leaves these are the principals with which it opened, and
--- those whom its entries enrolled
+-- x is a principal, or was one. In the graph that a history leaves these are the principals with which it opened, those
+-- who had retired when it opened, if a rebase came before, and those whom its entries enrolled
 abbrev pub WasPrincipal : Protection → ℕ → Type 0
 WasPrincipal G x = (is_active G x ≡ true) ⊎ (has_retired G x ≡ true)
 

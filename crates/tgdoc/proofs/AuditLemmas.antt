@@ -19,7 +19,7 @@ use Rattle.tg_talk.specs.declared.fault.TalkFault.TheVariants as talk
 use Rattle.tg_talk.specs.declared.line_buffer.TheConstants.{MOST_LINES}
 use Rattle.tg_talk.proofs.TakingLemmas.{weaker}
 use Rattle.tg_talk.specs.Endings.{EndsOnce}
-use Rattle.tgdoc.specs.Runs.{RefusesOpening}
+use Rattle.tg_talk.specs.Opening.{RefusesOpening}
 use Rattle.tgdoc.specs.Audits.{AuditRead, BytesAudited, End, EndsAt, EndsInSteps, IsRead, Misreads, OpensGraph, SaysGoal, SaysStep, StepsRead, at_configuration, at_goal, end_errors, ended, here, in_steps, judged, later, misread, no_line, none, not_read, refused, step, stopped, too_long, too_many, unjudged, verdict_errors}
 use Rattle.tgdoc.specs.Auditing.{Advances, EndsBytes, EndsEarlyBytes, EndsStepBytes, Judges, NoRefusal, RefusesBy, TakesSteps, TakesWanted, TellsVerdict, end_after}
 use Rattle.tg_talk.specs.Answering.{one_if}

@@ -20,7 +20,7 @@ use Rattle.tg_talk.specs.Refusals.{too_many_line}
 use Rattle.tg_talk.specs.declared.fault.TalkFault.{TalkFault}
 use Rattle.tg_talk.specs.declared.fault.TalkFault.TheVariants as talk
 use Rattle.tg_talk.specs.Endings.{EndsOnce}
-use Rattle.tgdoc.specs.Runs.{RefusesOpening}
+use Rattle.tg_talk.specs.Opening.{RefusesOpening}
 use Rattle.tg_talk.specs.declared.answering.Finished.{Finished}
 
 -- how an audit ends without a verdict: the lines taken, the text that is answered, and the fault

@@ -1,13 +1,8 @@
 -- what a run does for a line
-use Rattle.std.specs.Prelude.{◌≡◌, ℕ, List, Bool, true, false, Option, None, ◌⊎◌, Ok}
-use Rattle.tg_graph.specs.declared.config.Config.{Config}
-use Rattle.tg_graph.specs.Opening.{first_fault}
-use Rattle.tg_vault.specs.Contents.{Contents, Keeps, IsFresh}
-use Rattle.tg_vault.specs.Course.{IsCoherent}
+use Rattle.std.specs.Prelude.{◌≡◌, ℕ, List, Bool, true, false, Option, ◌⊎◌}
+use Rattle.tg_vault.specs.Contents.{Contents, Keeps}
 use Rattle.tg_vault.specs.declared.vault.Swept.{Swept}
 use Rattle.tg_wire.specs.Answers.{swept_line}
-use Rattle.tg_wire.specs.Configs.{opening_of}
-use Rattle.tg_wire.specs.Lines.{config_of}
 use Rattle.tg_wire.specs.Faults.{fault_line}
 use Rattle.tg_wire.specs.declared.fault.WireFault.TheVariants as wire
 use Rattle.tg_talk.specs.Devices.{SendsLast}
@@ -27,14 +22,6 @@ pub record AnswersLine (v : Contents) (line : List ℕ) (after : Contents) (text
   pub run : VaultRan v steps after
   pub keeps : Keeps v after
   pub answers : LineAnswer line steps text errors
-
--- the configuration line opens this vault: it is one of the configuration, before any event
-pub record Opens (line : List ℕ) (v : Contents) : Type 0 where
-  pub config : Config
-  pub read : config_of line ≡ Ok (opening_of config)
-  pub sound : first_fault config ≡ None
-  pub fresh : IsFresh config v
-  pub coherent : IsCoherent v
 
 -- what becomes of a line of a run
 abbrev pub RunnerSays : Runner → Unit {0} → List ℕ → Saying → Runner → Unit {0} → Type 0

@@ -8,7 +8,7 @@ ghost use Rattle.tg_talk.specs.declared.fault.TalkFault.TheVariants.{OutOfMemory
 ghost use Rattle.tg_talk.specs.declared.line_buffer.TheConstants.{MOST_LINES};
 ghost use Rattle.tg_talk.specs.Endings.{EndsOnce};
 ghost use Rattle.tgdoc.specs.Ready.{AreReady, Reports};
-ghost use Rattle.tgdoc.specs.Runs.{RefusesOpening};
+ghost use Rattle.tg_talk.specs.Opening.{RefusesOpening};
 ghost use Rattle.tgdoc.specs.Audits.{BytesAudited, Misreads, OpensGraph, SaysGoal, end_errors, verdict_errors};
 ghost use Rattle.tg_talk.specs.Answering.{one_if};
 ghost use Rattle.tgdoc.specs.Auditing.{Advances, EndsBytes, EndsEarlyBytes, EndsStepBytes, Judges, NoRefusal, RefusesBy, TakesSteps, TakesWanted, TellsVerdict, end_after, unread};

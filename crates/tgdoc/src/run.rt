@@ -6,17 +6,17 @@ ghost use Rattle.tg_talk.specs.Devices.{device_of, has_failed, promised};
 ghost use Rattle.tg_talk.specs.declared.fault.TalkFault.TheVariants.{OutOfMemory};
 ghost use Rattle.tgdoc.specs.Drawings.{LinesDrew, Told};
 ghost use Rattle.tgdoc.specs.Ready.{AreReady, Reports};
-ghost use Rattle.tgdoc.specs.Runs.{InputRan, LinesRan, RefusesOpening};
-ghost use Rattle.tgdoc.specs.Running.{InputLeft, Opens};
+ghost use Rattle.tgdoc.specs.Runs.{InputRan, LinesRan};
+ghost use Rattle.tgdoc.specs.Running.{InputLeft};
 
 use crate::answer::Runner;
 use crate::finish::{finish, none_taken};
 use crate::pictures::{Artist, end_drawing};
 use std::alloc::Global;
 use std::io::{BufWriter, Read, Write};
-use tg_talk::{Finished, InputLines, Next, Over, TalkFault, Watched, answer_lines};
+use tg_talk::{Finished, InputLines, Next, Over, TalkFault, Watched, answer_lines, open_vault};
 use tg_vault::{Key, Vault, courses_have_the_headline, courses_join};
-use tg_wire::{WireFault, error_line, open_fault_line, read_config};
+use tg_wire::{WireFault, error_line};
 
 /// What is written for the lines of a run.
 #[derive(Clone, Copy)]
@@ -93,26 +93,9 @@ fn take_lines<R: Read, W: Write + Drop>(
             Some(TalkFault::TooLong),
         ),
         Next::TooMany => unreachable!(),
-        Next::Line => match open(alloc, Key::FIXED, input.line()) {
+        Next::Line => match open_vault(alloc, Key::FIXED, input.line()) {
             Err(text) => finish(writer, 1, 1, text, None),
             Ok(vault) => take_rest(alloc, how, vault, input, reader, writer),
-        },
-    }
-}
-
-/// The vault that a configuration line opens, under the key, or the line of its refusal.
-pub(crate) fn open(alloc: Global, key: Key, bytes: &[u8]) -> Result<Vault, &'static [u8]>
-    ensures ok { IfOk result (Opens bytes.now) }
-    ensures err { IfErr result (λ text. RefusesOpening bytes.now text.now) }
-{
-    match read_config(alloc, bytes) {
-        Err(fault) => Err(error_line(fault)),
-        Ok(config) => match Vault::with_key(alloc, key, config) {
-            Err(fault) => Err(open_fault_line(fault)),
-            Ok(vault) => {
-                vault.soundness();
-                Ok(vault)
-            }
         },
     }
 }

@@ -62,7 +62,9 @@ fn play_again<L: Ledger, R: Wait + Clock + Print>(
 /// One of the lines is a create.
 const PAUSES: Pauses = Pauses {
     after_store: 8,
-    after_create: 1,
+    entries: 8,
+    created: 1,
+    early: 0,
     between_steps: 0,
 };
 

@@ -2,14 +2,14 @@
 //! a picture, which is drawn again. tests/faults/growths.py makes each allocation of a test fail in turn.
 
 use super::CONFIG;
-use super::modes::{SERVER, numbers_in};
-use crate::run::open;
+use super::modes::{NONE, SERVER, numbers_in};
 use crate::{Mode, mode};
 use clap::Error;
 use clap::error::ErrorKind;
 use std::alloc::{AllocError, Global};
 use std::io::Print;
 use tg_draw::draw;
+use tg_talk::open_vault;
 use tg_vault::{Key, Vault};
 
 /// What the words of a server ask for.
@@ -19,7 +19,7 @@ fn asked(alloc: Global) -> Result<Mode, Error> {
 
 /// Whether that is the server, with four workers, one connection and one round.
 fn is_the_server(found: &Result<Mode, Error>) -> bool {
-    numbers_in(found, "127.0.0.1:0") == Some((4, 1, 1, None))
+    numbers_in(found, "127.0.0.1:0") == Some((4, 1, 1, NONE))
 }
 
 /// Whether the words are refused for lack of memory.
@@ -58,7 +58,7 @@ fn drawn_again(rt: &impl Print, alloc: Global, vault: &Vault) -> Result<Vec<u8>,
 
 #[test]
 fn growth_refused_in_a_picture(rt: HostRuntime) -> Result<(), AllocError> {
-    let Ok(vault) = open(rt.alloc(), Key::FIXED, CONFIG) else {
+    let Ok(vault) = open_vault(rt.alloc(), Key::FIXED, CONFIG) else {
         return Err(AllocError);
     };
     let picture = drawn_again(&rt, rt.alloc(), &vault)?;

@@ -1,6 +1,7 @@
 //! Words of the command line, and the modes that they ask for.
 
-use crate::{Mode, mode};
+use crate::reading::bytes_in;
+use crate::{Mode, Operating, mode};
 use clap::Error;
 use std::alloc::Global;
 
@@ -14,8 +15,14 @@ pub(crate) const SERVER: &[&str] = &[
     "1",
 ];
 
-/// Workers, connections, those of a round, and, if they are limited, the seconds for which these may wait.
-pub(crate) type Numbers = (u64, u64, u64, Option<u64>);
+/// Workers, connections, those of a round, and the bounds.
+pub(crate) type Numbers = (u64, u64, u64, Operating);
+
+/// No bounds.
+pub(crate) const NONE: Operating = Operating {
+    patience: None,
+    memory: None,
+};
 
 /// The numbers that are asked for; none if no server on this address is.
 pub(crate) fn numbers_in(found: &Result<Mode, Error>, address: &str) -> Option<Numbers> {
@@ -26,9 +33,9 @@ pub(crate) fn numbers_in(found: &Result<Mode, Error>, address: &str) -> Option<N
                 workers,
                 connections,
                 round,
-                patience,
+                operating,
             },
-        ) if listen.as_str() == address => Some((*workers, *connections, *round, *patience)),
+        ) if listen.as_str() == address => Some((*workers, *connections, *round, *operating)),
         Ok(_) => None,
         Err(_) => None,
     }
@@ -79,7 +86,7 @@ fn the_last_vault_is_drawn_or_each(rt: HostRuntime) {
 fn four_workers_serve_where_no_number_is_given(rt: HostRuntime) {
     assert_eq!(rt;
         numbers_of(rt.alloc(), SERVER, "127.0.0.1:0"),
-        Some((4, 1, 1, None))
+        Some((4, 1, 1, NONE))
     );
 }
 
@@ -87,28 +94,59 @@ fn four_workers_serve_where_no_number_is_given(rt: HostRuntime) {
 const NUMBERS: &[([&str; 4], Option<Numbers>)] = &[
     (
         ["--workers", "1", "--connections", "1"],
-        Some((1, 1, 1, None)),
+        Some((1, 1, 1, NONE)),
     ),
     (
         ["--connections", "1000000", "--workers", "63"],
-        Some((63, 1_000_000, 1_000_000, None)),
+        Some((63, 1_000_000, 1_000_000, NONE)),
     ),
     (
         ["--connections", "5", "--round", "1"],
-        Some((4, 5, 1, None)),
+        Some((4, 5, 1, NONE)),
     ),
     (
         ["--round", "1000000", "--connections", "5"],
-        Some((4, 5, 1_000_000, None)),
+        Some((4, 5, 1_000_000, NONE)),
     ),
     (
         ["--patience", "1", "--connections", "1"],
-        Some((4, 1, 1, Some(1))),
+        Some((
+            4,
+            1,
+            1,
+            Operating {
+                patience: Some(1),
+                ..NONE
+            },
+        )),
     ),
     (
         ["--connections", "1", "--patience", "86400"],
-        Some((4, 1, 1, Some(86_400))),
+        Some((
+            4,
+            1,
+            1,
+            Operating {
+                patience: Some(86_400),
+                ..NONE
+            },
+        )),
     ),
+    (
+        ["--connections", "1", "--memory", "64k"],
+        Some((
+            4,
+            1,
+            1,
+            Operating {
+                memory: Some(65_536),
+                ..NONE
+            },
+        )),
+    ),
+    (["--connections", "1", "--memory", "0"], None),
+    (["--connections", "1", "--memory", "1025g"], None),
+    (["--connections", "1", "--memory", "1.5g"], None),
     (["--connections", "1", "--round", "0"], None),
     (["--connections", "1", "--round", "1000001"], None),
     (["--connections", "1", "--patience", "0"], None),
@@ -123,5 +161,30 @@ const NUMBERS: &[([&str; 4], Option<Numbers>)] = &[
 fn a_server_has_its_numbers_in_their_ranges(rt: HostRuntime) {
     for (further, numbers) in NUMBERS {
         assert_eq!(rt; served(rt.alloc(), *further), *numbers);
+    }
+}
+
+/// Numbers of bytes as they are written, and what they are.
+const BYTES: &[(&str, Option<u64>)] = &[
+    ("1", Some(1)),
+    ("4096", Some(4_096)),
+    ("1k", Some(1_024)),
+    ("3m", Some(3_145_728)),
+    ("1024g", Some(1_099_511_627_776)),
+    ("18446744073709551615", Some(18_446_744_073_709_551_615)),
+    ("18446744073709551616", None),
+    ("18446744073709551615k", None),
+    ("", None),
+    ("k", None),
+    ("1kk", None),
+    ("1K", None),
+    ("-1", None),
+    ("1 k", None),
+];
+
+#[test]
+fn bytes_are_counted_in_units(rt: HostRuntime) {
+    for (text, bytes) in BYTES {
+        assert_eq!(rt; bytes_in(*text), *bytes);
     }
 }

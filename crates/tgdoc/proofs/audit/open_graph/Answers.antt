@@ -1,6 +1,6 @@
 use Rattle.std.proofs.Common.{refl}
-use Rattle.tgdoc.specs.Runs.{unsound}
-use Rattle.tgdoc.proofs.LineLemmas.{refuses_fault}
+use Rattle.tg_talk.specs.Opening.{unsound}
+use Rattle.tg_talk.proofs.OpeningLemmas.{refuses_fault}
 use Rattle.tgdoc.proofs.audit.open_graph.Goals as goal
 
 pub returns-in-Err-clause-err : goal.returns-in-Err-clause-err

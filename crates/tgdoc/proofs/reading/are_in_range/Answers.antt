@@ -9,5 +9,5 @@ returns c = λ within. record {
   few_connections = omega arith;
   some_in_a_round = omega arith;
   few_in_a_round = omega arith;
-  waits = c.is_patience.ensures within;
+  bounds = c.are_bounds.ensures within;
 }

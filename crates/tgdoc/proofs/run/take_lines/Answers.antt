@@ -3,10 +3,11 @@ use Rattle.tg_talk.proofs.TakingLemmas.{always, at_start}
 use Rattle.tg_talk.specs.Taking.{Takes}
 use Rattle.tg_talk.specs.declared.input_lines.Next.TheVariants as next
 use Rattle.tgdoc.specs.Drawings.{Told}
-use Rattle.tgdoc.specs.Runs.{InputRan, RefusesOpening, no_buffer, stopped}
-use Rattle.tgdoc.specs.Running.{Opens}
+use Rattle.tg_talk.specs.Opening.{Opens, RefusesOpening}
+use Rattle.tgdoc.specs.Runs.{InputRan, no_buffer, stopped}
 use Rattle.tg_talk.proofs.SendsLemmas.{sends_nothing}
-use Rattle.tgdoc.proofs.OpeningLemmas.{empty_line, ran_no_line, ran_too_long, ran_refused, ran_opened}
+use Rattle.tg_talk.proofs.OpeningLemmas.{empty_line}
+use Rattle.tgdoc.proofs.OpeningLemmas.{ran_no_line, ran_too_long, ran_refused, ran_opened}
 use Rattle.tgdoc.proofs.run.take_lines.Goals as goal
 
 pub returns-in_default-clause-ran : goal.returns-in_default-clause-ran
@@ -31,8 +32,8 @@ returns-in-Err-clause-ran g c =
     ran_refused (Told c.args.how) _ _ _ _ xs _ _ _ takes c.in-Line.ensures.short (subst (λ line. RefusesOpening line c.in-Err.text.now) c.line.ensures c.in-Err.ensures.err)
     (c.finish-in-Err.ensures.lines, c.finish-in-Err.ensures.errors) c.finish-in-Err.ensures.fault c.finish-in-Err.ensures.sent)
 
-pub returns-in-Ok-open-clause-ran : goal.returns-in-Ok-open-clause-ran
-returns-in-Ok-open-clause-ran g c =
+pub returns-in-Ok-open_vault-clause-ran : goal.returns-in-Ok-open_vault-clause-ran
+returns-in-Ok-open_vault-clause-ran g c =
     at_start _ _ (Takes next.Line _ _ _) (InputRan (Told c.args.how) _ _ _ _) c.in-Ok.ensures c.in-Line.ensures.takes (λ xs (within, takes).
-    ran_opened (Told c.args.how) c.courses_have_the_headline.ensures _ _ _ _ xs _ _ c.in-Ok-open.vault takes c.in-Line.ensures.short (subst (λ line. Opens line c.in-Ok-open.vault) c.line.ensures c.in-Ok-open.ensures.ok)
+    ran_opened (Told c.args.how) c.courses_have_the_headline.ensures _ _ _ _ xs _ _ c.in-Ok-open_vault.vault takes c.in-Line.ensures.short (subst (λ line. Opens line c.in-Ok-open_vault.vault) c.line.ensures c.in-Ok-open_vault.ensures.ok)
     c.take_rest.ensures.told)

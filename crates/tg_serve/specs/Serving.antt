@@ -1,0 +1,195 @@
+-- the configuration line of a server, and the lines of its own
+use Rattle.std.specs.Prelude.{◌≡◌, ◌↔◌, ◌<◌, ◌≤◌, ◌*◌, ℕ, suc, Bool, List, [], ◌∷◌, ◌++◌, length, Option, None, Some, Result, Ok, Err, IfErr, IfOk, codes, decimal, false, true}
+use Rattle.std.specs.Io.KnownBytes.{Appends}
+use Rattle.tg_audit.specs.Settling.{IsPlace, SettledAs}
+use Rattle.tg_audit.specs.declared.logs.SeatLog.{SeatLog}
+use Rattle.tg_audit.specs.declared.logs.Settled.TheVariants as settled
+use Rattle.tg_share.specs.Closing.{IsClosed}
+use Rattle.tg_share.specs.Reached.{HasHeadline}
+use Rattle.tg_share.specs.declared.closing.Closed.{Closed}
+use Rattle.tg_share.specs.declared.closing.Closed.TheVariants as closed
+use Rattle.tg_share.specs.declared.session.Ended.{Ended}
+use Rattle.tg_vault.specs.Contents.{Contents}
+use Rattle.tg_vault.specs.Rebase.{IsRebased}
+use Rattle.tg_vault.specs.World.{IsLeastInUse}
+use Rattle.tg_wire.specs.Faults.{fault_line}
+use Rattle.tg_wire.specs.declared.fault.WireFault.TheVariants as wire
+use Rattle.tg_talk.specs.Devices.{Sends}
+use Rattle.tg_talk.specs.InputLines.{lines_of}
+use Rattle.tg_talk.specs.Opening.{Opens, RefusesOpening}
+use Rattle.tg_serve.specs.declared.operating.Operating.{Operating}
+use Rattle.tg_serve.specs.declared.serve.Unsettled.{Unsettled}
+use Rattle.tg_serve.specs.declared.serve.Unsettled.TheVariants as unsettled
+
+-- the line that names the address listened on
+abbrev pub listening_line : List ℕ → List ℕ
+listening_line address = codes "{\"listening\":\"" ++ address ++ codes "\"}\n"
+
+-- the last line, if the logs agree with the history
+abbrev pub agreed_line : List ℕ
+agreed_line = codes "{\"settled\":\"agreed\"}\n"
+
+-- the last line, if a log differs at this index of this seat
+abbrev pub differs_line : ℕ → ℕ → List ℕ
+differs_line seat index = codes "{\"index\":" ++ decimal index ++ codes ",\"seat\":" ++ decimal seat ++ codes ",\"settled\":\"differs\"}\n"
+
+-- the last line, if an allocation or the start of a thread failed in a round
+abbrev pub no_memory_line : List ℕ
+no_memory_line = codes "{\"settled\":\"no memory\"}\n"
+
+-- the last line, if an allocation failed between two rounds
+abbrev pub out_of_memory_line : List ℕ
+out_of_memory_line = codes "{\"error\":\"out of memory\"}\n"
+
+-- the last line, if a server has not settled
+abbrev pub end_line : Unsettled → List ℕ
+end_line (unsettled.Differs seat index) = differs_line seat index
+end_line unsettled.NoMemory = no_memory_line
+end_line unsettled.OutOfMemory = out_of_memory_line
+end_line unsettled.Seated = []
+
+-- the last line
+abbrev pub conclusion_line : Result Contents Unsettled → List ℕ
+conclusion_line (Ok last) = agreed_line
+conclusion_line (Err end) = end_line end
+
+-- the line of a rebase: how many entries it dropped, and after which round
+abbrev pub rebased_line : ℕ → ℕ → List ℕ
+rebased_line dropped round = codes "{\"dropped\":" ++ decimal dropped ++ codes ",\"round\":" ++ decimal round ++ codes "}\n"
+
+-- the lines of all rebases, by the vaults that were rebased, the latest first: each dropped that vault's history; the
+-- first round is 1
+abbrev pub rebased_lines : List Contents → List ℕ
+rebased_lines [] = []
+rebased_lines (v ∷ earlier) = rebased_lines earlier ++ rebased_line (length v.history) (suc (length earlier))
+
+-- the vault that was closed, or why a round has not settled
+abbrev pub found_of : {L : Type 0} → Closed L → Result Contents Unsettled
+found_of (closed.Done (settled.Agreed vault) counted) = Ok vault
+found_of (closed.Done (settled.Differs vault logs seat index) counted) = Err (unsettled.Differs seat index)
+found_of (closed.Done (settled.NoMemory vault logs) counted) = Err unsettled.NoMemory
+found_of (closed.NoRoom shared ended) = Err unsettled.NoMemory
+
+-- what a round found: that of a vault that was closed with the sessions that ended, or that an allocation or the start
+-- of a thread failed before
+pub data IsFound (L : Type 0) (f : Result Contents Unsettled) : Type 0 where
+  by_closing : (ended : List (Ended L)) (c : Closed L) → IsClosed ended c → f ≡ found_of c → IsFound L f
+  by_refusal : f ≡ Err unsettled.NoMemory → IsFound L f
+
+-- what is known of a vault on which a round agreed: it has the headline, and some logs are settled with its history as
+-- agreed, which is so of any history
+pub record HasAgreed (v : Contents) : Type 0 where
+  pub logs : List SeatLog
+  pub settled : SettledAs v logs (settled.Agreed v)
+  pub headline : HasHeadline v
+
+-- so has each of these
+abbrev pub HaveAgreed : List Contents → Type 0
+HaveAgreed [] = Unit {0}
+HaveAgreed (v ∷ vs) = HasAgreed v × HaveAgreed vs
+
+-- a rebase of the vault left another one
+pub record HasRebased (v : Contents) : Type 0 where
+  pub fresh : Contents
+  pub rebased : IsRebased v fresh
+
+-- so did one of each of these
+abbrev pub HaveRebased : List Contents → Type 0
+HaveRebased [] = Unit {0}
+HaveRebased (v ∷ vs) = HasRebased v × HaveRebased vs
+
+-- what is known if logs differ: some vault has the headline, and some logs differ from its history first at this index
+-- of this seat
+pub record HasDiffered (seat index : ℕ) : Type 0 where
+  pub vault : Contents
+  pub logs : List SeatLog
+  pub place : IsPlace vault logs (Some (seat, index))
+  pub headline : HasHeadline vault
+
+-- what is known if a seat was in use between two rounds: that some vault has one in use, which is always so
+pub record HasSeated : Type 0 where
+  pub vault : Contents
+  pub seat : ℕ
+  pub used : IsLeastInUse vault.seats seat
+
+-- what is known of the end of a server: nothing of memory, which may run out at any time
+abbrev pub EndsServer : Unsettled → Type 0
+EndsServer (unsettled.Differs seat index) = HasDiffered seat index
+EndsServer unsettled.NoMemory = Unit {0}
+EndsServer unsettled.OutOfMemory = Unit {0}
+EndsServer unsettled.Seated = HasSeated
+
+-- what a writer has got is still there, and these bytes behind it, or, if it failed, a prefix of them; none if it had
+-- failed before
+pub record SendsOn (old : Option (List ℕ)) (was : Bool) (new : Option (List ℕ)) (failed : Bool) (bytes : List ℕ) : Type 0 where
+  pub behind : (start : Option (List ℕ)) (before : List ℕ) → Sends start old was before → Sends start new failed (before ++ bytes)
+
+-- these full rounds and one more serve all connections, and this one has some if it is not the only one
+pub record AreRounds (connections round full : ℕ) : Type 0 where
+  pub enough : connections ≤ suc full * round
+  pub needed : 0 < full → full * round < connections
+
+-- a server that may wait for ever and use all memory
+abbrev pub unbounded : Operating
+unbounded = record { patience = None; memory = None }
+
+-- there are as many vaults as so many connections need rebases, unless the memory of a round has a bound; each has
+-- agreed and was rebased, and for each the line of a rebase that drops its history was sent
+pub record HasRounds (operating : Operating) (connections round : ℕ) (old new : Option (List ℕ)) (failed : Bool) : Type 0 where
+  pub rebased : List Contents
+  pub agreed : HaveAgreed rebased
+  pub fresh : HaveRebased rebased
+  pub rounds : operating.memory ≡ None → AreRounds connections round (length rebased)
+  pub sent : Sends old new failed (rebased_lines rebased)
+
+-- what is written of how the rounds ended, and whether the server has settled: nothing, if its address was not written
+pub record Concludes (found : Result Contents Unsettled) (is_announced settled : Bool) (old : Option (List ℕ)) (was : Bool) (new : Option (List ℕ)) (failed : Bool) : Type 0 where
+  pub agreed : IfOk found (λ _. (settled ≡ true) ↔ ((is_announced ≡ true) × (failed ≡ false)))
+  pub ended : IfErr found (λ _. settled ≡ false)
+  pub told : is_announced ≡ true → SendsOn old was new failed (conclusion_line found)
+  pub quiet : is_announced ≡ false → new ≡ old
+
+-- the writer has got the line of an address
+pub record Announces (old new : Option (List ℕ)) : Type 0 where
+  pub address : List ℕ
+  pub appended : Appends old new (listening_line address)
+
+-- there are vaults that have agreed, one for each round, and all but the last were rebased; the writer has not failed,
+-- and has got the line of an address, one for each of these vaults but the last, by the length of its history, and the
+-- line that all agrees, and nothing else. That they are those of the rounds is not said. If the memory of a round has no
+-- bound, there are as many as serve all connections.
+pub record IsServed (operating : Operating) (connections round : ℕ) (old new : Option (List ℕ)) (failed : Bool) : Type 0 where
+  pub unfailed : failed ≡ false
+  pub address : List ℕ
+  pub last : Contents
+  pub rebased : List Contents
+  pub agreed : HaveAgreed (last ∷ rebased)
+  pub fresh : HaveRebased rebased
+  pub rounds : operating.memory ≡ None → 1 ≤ round → AreRounds connections round (length rebased)
+  pub appended : Appends old new (listening_line address ++ (rebased_lines rebased ++ agreed_line))
+
+-- these lines begin with a configuration that opens this vault
+pub record OpensInput (v : Contents) (lines : List (List ℕ)) : Type 0 where
+  pub first : List ℕ
+  pub others : List (List ℕ)
+  pub are : lines ≡ first ∷ others
+  pub short : length first ≤ 16384
+  pub opens : Opens first v
+
+-- no configuration is taken from these lines, and this text is written
+pub data RefusesInput (text : List ℕ) : List (List ℕ) → Type 0 where
+  -- no memory for the lines: none is taken
+  no_buffer : {ls : List (List ℕ)} → text ≡ fault_line wire.OutOfMemory → RefusesInput text ls
+  -- the reader failed before a line came
+  stopped : {ls : List (List ℕ)} → text ≡ [] → RefusesInput text ls
+  -- no line at all is read as an empty one
+  no_line : RefusesOpening [] text → RefusesInput text []
+  too_long : {l : List ℕ} {ls : List (List ℕ)} → 16384 < length l → text ≡ fault_line wire.TooLong → RefusesInput text (l ∷ ls)
+  refused : {l : List ℕ} {ls : List (List ℕ)} → length l ≤ 16384 → RefusesOpening l text → RefusesInput text (l ∷ ls)
+
+-- the same for the bytes of an input
+abbrev pub OpensBytes : Contents → List ℕ → Type 0
+OpensBytes v xs = OpensInput v (lines_of xs)
+
+abbrev pub RefusesBytes : List ℕ → List ℕ → Type 0
+RefusesBytes text xs = RefusesInput text (lines_of xs)

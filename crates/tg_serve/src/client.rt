@@ -1,0 +1,208 @@
+//! A client's connection, as its talk reads and writes it. Each read and write of the connection itself ends after a
+//! tick, so that it is noticed when the client has kept the server waiting for too long, or when its round is over.
+ghost use Rattle.std.specs.Prelude.{◌≡◌, ◌≤◌, ◌<◌, ℕ, length, IfOk};
+
+use crate::budget::{Budget, SetAside};
+use crate::door::tick;
+use crate::waiting::{Waited, Waiting, too_long};
+use std::alloc::{AllocError, Global};
+use std::io;
+use std::io::{Read, Write};
+use std::net::OpenStream;
+use std::rt::Clock;
+
+/// The most bytes that are read at once.
+const CHUNK: usize = 32_768;
+
+/// Makes each read and each write of the connection end after a tick.
+pub(crate) fn wait_in_ticks<S: OpenStream>(stream: &S) -> io::Result<()> {
+    stream.set_read_timeout(Some(tick()))?;
+    stream.set_write_timeout(Some(tick()))
+}
+
+/// What a client sends. A read fails once the client has kept the server waiting for too long for a line: from the read
+/// in which its first byte is awaited to that which brings its line feed. The client's lines are at an end as soon as
+/// its round takes no more of them.
+#[derive(Drop)]
+pub(crate) struct ClientReader<'a, D, C> {
+    device: D,
+    clock: &'a C,
+    budget: &'a Budget,
+    waiting: Waiting,
+    /// What was read and not yet handed out, behind what was.
+    read: Vec<u8>,
+    handed_out: usize,
+    /// What is set aside for the lines that were handed out last.
+    set_aside: u64,
+}
+
+impl<'a, D: Read + Drop, C: Clock> ClientReader<'a, D, C> {
+    /// What the client of this connection sends, with a patience of so many seconds. `AllocError` if there is no memory
+    /// for what is read and not yet handed out, 32,768 bytes; none is needed if the memory of a round has no bound.
+    pub(crate) fn new(
+        alloc: Global,
+        device: D,
+        clock: &'a C,
+        budget: &'a Budget,
+        patience: Option<u64>,
+    ) -> Result<ClientReader<'a, D, C>, AllocError> {
+        let room = if budget.is_bounded() { CHUNK } else { 0 };
+        let read = Vec::with_capacity(alloc, room)?;
+        Ok(ClientReader {
+            device,
+            clock,
+            budget,
+            waiting: Waiting::new(patience),
+            read,
+            handed_out: 0,
+            set_aside: 0,
+        })
+    }
+
+    /// Waits for bytes. None come once the client's lines, or those that its round takes, are at an end.
+    fn wait(&mut self, buf: &mut [u8]) -> io::Result<usize>
+        ensures within { IfOk result (λ n. n ≤ length buf.new) }
+        ensures len { length buf.new ≡ length buf.old }
+    {
+        let most = buf.len().min(CHUNK);
+        for _ in 0..u64::MAX {
+            if self.budget.is_spent() {
+                return Ok(0);
+            }
+            if self.waiting.is_over() {
+                return Err(too_long());
+            }
+            let start = self.waiting.start(self.clock)?;
+            let result = self.device.read(&mut buf[..most]);
+            let Waited::Moved(count) = self.waiting.note(self.clock, start, result)? else {
+                continue;
+            };
+            if buf[..count].contains(&b'\n') {
+                self.waiting.end();
+            }
+            return Ok(count);
+        }
+        Ok(0)
+    }
+
+    /// Copies what was read before and not yet handed out.
+    fn copy_rest(&self, buf: &mut [u8]) -> usize
+        ensures within { result ≤ length buf.new }
+        ensures len { length buf.new ≡ length buf.old }
+    {
+        let rest = self.read.get(self.handed_out..).unwrap_or(&[]);
+        let count = rest.len().min(buf.len());
+        buf[..count].copy_from_slice(&rest[..count]);
+        count
+    }
+
+    /// Keeps what comes behind the first of these bytes, which are handed out.
+    fn keep_rest(&mut self, bytes: &[u8], end: usize) -> io::Result<()>
+        requires { end ≤ length bytes.now }
+    {
+        if self.handed_out < self.read.len() {
+            self.handed_out = self.handed_out.saturating_add(end);
+            return Ok(());
+        }
+        self.read.clear();
+        self.handed_out = 0;
+        if end < bytes.len() {
+            self.read.extend_from_slice(&bytes[end..])?;
+        }
+        Ok(())
+    }
+}
+
+impl<D: Read + Drop, C: Clock> Read for ClientReader<'_, D, C> {
+    fn read(&mut self, buf: &mut [u8]) -> io::Result<usize> {
+        self.budget.give_back(self.set_aside);
+        self.set_aside = 0;
+        let count = if self.handed_out < self.read.len() {
+            self.copy_rest(buf)
+        } else {
+            self.wait(buf)?
+        };
+        let bytes = &buf[..count];
+        let found = count_lines(bytes);
+        let SetAside {
+            lines,
+            bytes: set_aside,
+        } = self.budget.set_aside(found);
+        self.set_aside = set_aside;
+        let end = if lines < found {
+            end_of_lines(bytes, lines)
+        } else {
+            count
+        };
+        self.keep_rest(bytes, end)?;
+        Ok(end)
+    }
+}
+
+/// How many line feeds there are.
+fn count_lines(bytes: &[u8]) -> u64 {
+    let mut lines = 0u64;
+    for byte in bytes {
+        if *byte == b'\n' {
+            lines = lines.saturating_add(1);
+        }
+    }
+    lines
+}
+
+/// The place behind so many line feeds, or the end.
+fn end_of_lines(bytes: &[u8], lines: u64) -> usize
+    ensures { result ≤ length bytes.now }
+{
+    let mut left = lines;
+    for (place, byte) in bytes.iter().enumerate() {
+        if left == 0 {
+            return place;
+        }
+        if *byte == b'\n' {
+            left -= 1;
+        }
+    }
+    bytes.len()
+}
+
+/// What a client is answered. A write fails once the client has kept the server waiting for too long until it took its
+/// answers: all those that are written before more of its lines are read.
+#[derive(Drop)]
+pub(crate) struct ClientWriter<'a, D, C> {
+    device: D,
+    clock: &'a C,
+    waiting: Waiting,
+}
+
+impl<'a, D: Write, C: Clock> ClientWriter<'a, D, C> {
+    /// What the client of this connection is answered, with a patience of so many seconds.
+    pub(crate) fn new(device: D, clock: &'a C, patience: Option<u64>) -> ClientWriter<'a, D, C> {
+        ClientWriter {
+            device,
+            clock,
+            waiting: Waiting::new(patience),
+        }
+    }
+}
+
+impl<D: Write, C: Clock> Write for ClientWriter<'_, D, C> {
+    fn write(&mut self, buf: &[u8]) -> io::Result<usize> {
+        for _ in 0..u64::MAX {
+            if self.waiting.is_over() {
+                return Err(too_long());
+            }
+            let start = self.waiting.start(self.clock)?;
+            let result = self.device.write(buf);
+            if let Waited::Moved(count) = self.waiting.note(self.clock, start, result)? {
+                return Ok(count);
+            }
+        }
+        Ok(0)
+    }
+
+    fn flush(&mut self) -> io::Result<()> {
+        self.waiting.end();
+        self.device.flush()
+    }
+}

@@ -1,0 +1,152 @@
+//! The door of a server, at which its workers take clients.
+
+use std::io::ErrorKind;
+use std::net::{TcpListener, TcpStream};
+use std::os::fd::OwnedFd;
+use std::rt::Clock;
+use std::sync::atomic::{AtomicBool, Ordering};
+use std::sync::{Mutex, Wait};
+use std::time::Duration;
+use std::{io, thread};
+
+/// For how many milliseconds a call waits before the server looks whether it is still to wait.
+const TICK: u64 = 250;
+
+/// For how long, in milliseconds, a client that cannot be accepted for want of descriptors or memory is tried again.
+const MOST_RESTS: u64 = 10_000;
+
+/// The longest rest between two tries, in milliseconds.
+const LONGEST_REST: u64 = 500;
+
+/// The listener, and how many connections are left in a round. One worker waits at the door at a time, so each takes a
+/// connection under the lock under which it has looked whether one is left.
+#[derive(Drop)]
+pub(crate) struct Door<'a> {
+    listener: &'a TcpListener,
+    left: Mutex<u64>,
+    is_closed: AtomicBool,
+}
+
+/// A connection that was taken.
+#[derive(Drop)]
+pub(crate) enum Taken {
+    /// A client came.
+    Client(TcpStream),
+    /// The connection counts, but could not be accepted.
+    Nobody,
+}
+
+impl<'a> Door<'a> {
+    /// A door at which this many connections are left.
+    pub(crate) fn new(listener: &'a TcpListener, connections: u64) -> Door<'a> {
+        Door {
+            listener,
+            left: Mutex::new(connections),
+            is_closed: AtomicBool::new(false),
+        }
+    }
+
+    /// Waits for a client, and takes it from the connections left. None once none is left or the door is closed. One that
+    /// cannot be accepted for want of descriptors or memory is tried again for ten seconds, with growing rests, before it
+    /// counts as a connection; one that fails otherwise counts at once.
+    pub(crate) fn take<R: Wait + Clock>(&self, rt: &R) -> Option<Taken> {
+        let mut left = self.left.lock(rt);
+        let mut rests = Rests::new();
+        for _ in rt.forever() {
+            if *left == 0 || self.is_closed() {
+                return None;
+            }
+            match self.listener.accept() {
+                Ok((stream, _)) => {
+                    *left = left.saturating_sub(1);
+                    return Some(Taken::Client(stream));
+                }
+                Err(error) if is_tick(&error) => {}
+                Err(error) if is_want(&error) && rests.rest(rt) => {}
+                Err(_) => {
+                    *left = left.saturating_sub(1);
+                    return Some(Taken::Nobody);
+                }
+            }
+        }
+        None
+    }
+
+    /// Lets nobody in any more.
+    pub(crate) fn close(&self) {
+        self.is_closed.store(true, Ordering::SeqCst);
+    }
+
+    /// Whether nobody is let in any more.
+    fn is_closed(&self) -> bool {
+        self.is_closed.load(Ordering::SeqCst)
+    }
+
+    /// How many connections are left.
+    pub(crate) fn left<R: Wait>(&self, rt: &R) -> u64 {
+        *self.left.lock(rt)
+    }
+}
+
+/// For how long a call waits before the server looks whether it is still to wait.
+pub(crate) fn tick() -> Duration {
+    Duration::from_millis(TICK)
+}
+
+/// Makes each wait of the listener for a client end after a tick, so that a door that is closed is noticed; for ever, if
+/// that cannot be set.
+pub(crate) fn wait_in_ticks(listener: &TcpListener) -> io::Result<()> {
+    let twin = TcpStream::from(OwnedFd::from(listener.try_clone()?));
+    twin.set_read_timeout(Some(tick()))
+}
+
+/// Whether a call ended only because it had waited for a tick.
+pub(crate) fn is_tick(error: &io::Error) -> bool {
+    matches!(error.kind(), ErrorKind::WouldBlock | ErrorKind::TimedOut)
+}
+
+/// The system's numbers for: too many files open in the system, too many in the process, no room for a buffer, no memory.
+const WANTS: [i32; 4] = [23, 24, 105, 12];
+
+/// Whether a call failed for want of descriptors or memory.
+pub(crate) fn is_want(error: &io::Error) -> bool {
+    match error.raw_os_error() {
+        Some(number) => WANTS.contains(&number),
+        None => false,
+    }
+}
+
+/// The rests between tries: a millisecond at first, then twice as long each time, up to half a second.
+#[derive(Clone, Copy, Debug)]
+pub(crate) struct Rests {
+    next: u64,
+    done: u64,
+}
+
+impl Rests {
+    pub(crate) fn new() -> Rests {
+        Rests { next: 1, done: 0 }
+    }
+
+    /// The next rest, in milliseconds; none after ten seconds of them.
+    pub(crate) fn take(&mut self) -> Option<u64> {
+        if self.done >= MOST_RESTS {
+            return None;
+        }
+        let rest = self.next;
+        self.done = self.done.saturating_add(rest);
+        self.next = rest.saturating_mul(2).min(LONGEST_REST);
+        Some(rest)
+    }
+
+    /// Rests; whether there was a rest left.
+    fn rest<R: Clock>(&mut self, rt: &R) -> bool {
+        match self.take() {
+            Some(rest) => {
+                thread::sleep(rt, Duration::from_millis(rest));
+                true
+            }
+            None => false,
+        }
+    }
+}

@@ -1,0 +1,199 @@
+//! A server that serves its connections in rounds: between two of them what lives becomes the opening graph, and the
+//! history is dropped.
+ghost use Rattle.std.specs.Prelude.{◌≡◌, ◌≤◌, ◌<◌, [], IfErr, IfOk, None, false, length, true};
+ghost use Rattle.tg_talk.specs.Devices.{device_of, has_failed};
+ghost use Rattle.tg_vault.specs.Rebase.{IsRebased};
+ghost use Rattle.tg_serve.specs.Serving.{Concludes, EndsServer, HasAgreed, HasRebased, HasRounds, IsServed, SendsOn, rebased_line, unbounded};
+
+use crate::door::{Door, wait_in_ticks};
+use crate::operating::Operating;
+use crate::serve::{Served, Service, Unsettled, serve_round};
+use crate::telling::{agree, announce, tell, tell_rebase};
+use std::alloc::Global;
+use std::io::Write;
+use std::marker::Brand;
+use std::net::TcpListener;
+use std::rt::Clock;
+use std::sync::Wait;
+use std::sync::ledger::Blank;
+use std::thread::Threads;
+use tg_share::PARTS;
+use tg_talk::Watched;
+use tg_vault::{Rebased, Vault};
+
+/// Serves this many connections in rounds of `round`, as `serve_operated` does, without bounds: a client may keep the
+/// server waiting for ever, and a round may take all memory.
+pub fn serve_on<R: Threads + Wait + Clock + Sync, W: Write>(
+    rt: &R,
+    alloc: Global,
+    listener: &TcpListener,
+    writer: &mut Watched<W>,
+    vault: Vault,
+    workers: u64,
+    connections: u64,
+    round: u64,
+) -> Served
+    requires empty { vault.history ≡ [] }
+    requires writes { has_failed writer.old ≡ false }
+    ensures { result.settled ≡ true → IsServed unbounded connections round (W.contents (device_of writer.old)) (W.contents (device_of writer.new)) (has_failed writer.new) }
+{
+    serve_operated(
+        rt,
+        alloc,
+        listener,
+        writer,
+        vault,
+        workers,
+        connections,
+        round,
+        Operating::none(),
+    )
+}
+
+/// Serves this many connections in rounds of `round` (0 is taken as 1): none of the next round is taken before all of
+/// this one have ended. Each of the `workers`, 1 to 63, has a seat of its own, and a collector runs. After a round the
+/// logs are settled. If they agree and connections are left, the vault is rebased, and the next round begins with what
+/// lives; until then clients wait. A connection that cannot be accepted counts as one; if descriptors or memory are
+/// lacking it is tried again for ten seconds first.
+///
+/// It writes the address before the first connection, and after each rebase how many entries were dropped, and the
+/// round, from 1. The last line is `agreed`; or, in a round that ends the server, `differs`, with the least seat whose
+/// log differs and the least index in it; `no memory`, if an allocation or the start of a thread failed; or `out of
+/// memory`, if a rebase lacked it; or there is none, if a seat was in use between two rounds, as no talk leaves one. If
+/// the address cannot be written, clients are served all the same, nothing more is written, and nothing is settled; nor
+/// is anything written after another line that failed.
+///
+/// A client that keeps the server waiting for longer than its patience is left: a read fails if a whole line takes
+/// longer, from the read in which its first byte is awaited to its line feed, and so does a write, if it takes longer
+/// until the client has taken all answers that are written before more of its lines are read.
+///
+/// Once the history and the logs of a round take as much memory as they may, its talks end as at the end of their
+/// clients' lines, it takes no further connection, and it is settled. The next round follows, if the connections are
+/// served in more than one; otherwise the server ends.
+pub fn serve_operated<R: Threads + Wait + Clock + Sync, W: Write>(
+    rt: &R,
+    alloc: Global,
+    listener: &TcpListener,
+    writer: &mut Watched<W>,
+    vault: Vault,
+    workers: u64,
+    connections: u64,
+    round: u64,
+    operating: Operating,
+) -> Served
+    requires empty { vault.history ≡ [] }
+    requires writes { has_failed writer.old ≡ false }
+    ensures { result.settled ≡ true → IsServed operating connections round (W.contents (device_of writer.old)) (W.contents (device_of writer.new)) (has_failed writer.new) }
+{
+    let service = Service {
+        rt,
+        alloc,
+        listener,
+        workers,
+        operating,
+    };
+    // Without this the door is looked at only when a client comes.
+    let _ = wait_in_ticks(listener);
+    let is_announced = announce(writer, listener);
+    let size = at_least_one(round);
+    let found = serve_rounds(&service, writer, is_announced, vault, connections, size);
+    conclude(writer, is_announced, found)
+}
+
+/// The number, or 1 in place of 0.
+fn at_least_one(number: u64) -> u64
+    ensures some { 1 ≤ result }
+    ensures same { 1 ≤ number → result ≡ number }
+{
+    if number == 0 { 1 } else { number }
+}
+
+/// Writes how the rounds ended. The vault of the last one is dropped.
+pub(crate) fn conclude<W: Write>(
+    writer: &mut Watched<W>,
+    is_announced: bool,
+    found: Result<Vault, Unsettled>,
+) -> Served
+    ensures { Concludes found is_announced result.settled (W.contents (device_of writer.old)) (has_failed writer.old) (W.contents (device_of writer.new)) (has_failed writer.new) }
+{
+    match found {
+        Ok(last) => {
+            drop(last);
+            agree(writer, is_announced)
+        }
+        Err(end) => tell(writer, is_announced, end),
+    }
+}
+
+/// Serves all connections in rounds, and rebases the vault after each but the last. The first round whose logs do not
+/// agree, or rebase that fails, ends it; so does the first round of all if it was to serve all connections. Returns the
+/// vault of the last round.
+fn serve_rounds<R: Threads + Wait + Clock + Sync, W: Write>(
+    service: &Service<'_, R>,
+    writer: &mut Watched<W>,
+    is_announced: bool,
+    opened: Vault,
+    connections: u64,
+    round: u64,
+) -> Result<Vault, Unsettled>
+    requires some { 1 ≤ round }
+    requires empty { opened.history ≡ [] }
+    ensures agreed { IfOk result HasAgreed }
+    ensures ended { IfErr result EndsServer }
+    ensures told { IfOk result (λ _. is_announced ≡ true → HasRounds service.now.operating connections round (W.contents (device_of writer.old)) (W.contents (device_of writer.new)) (has_failed writer.new)) }
+{
+    let mut vault = opened;
+    let mut left = connections;
+    let mut number = 1;
+    'rounds: loop {
+        let size = left.min(round);
+        let door = Door::new(service.listener, size);
+        let settled = serve_round::<Brand, R>(service, &door, Blank::new(PARTS), vault)?;
+        left -= taken_of(service, &door, size);
+        if left == 0 || connections <= round {
+            return Ok(settled);
+        }
+        vault = rebase(writer, is_announced, settled, number)?;
+        number += 1;
+    }
+}
+
+/// How many of a round's connections were taken: all, unless the memory of a round has a bound, and one at least.
+fn taken_of<R: Wait>(service: &Service<'_, R>, door: &Door<'_>, size: u64) -> u64
+    ensures few { result ≤ size }
+    ensures some { 0 < size → 0 < result }
+    ensures all { service.now.operating.memory ≡ None → result ≡ size }
+{
+    if service.operating.memory.is_none() {
+        return size;
+    }
+    let left = door.left(service.rt);
+    size.saturating_sub(left).max(1).min(size)
+}
+
+/// Rebases the vault of a round, and writes how many entries that dropped; returns the vault of the next round.
+fn rebase<W: Write>(
+    writer: &mut Watched<W>,
+    is_announced: bool,
+    settled: Vault,
+    round: u64,
+) -> Result<Vault, Unsettled>
+    ensures fresh { IfOk result (IsRebased settled) }
+    ensures ended { IfErr result EndsServer }
+    ensures told { IfOk result (λ _. is_announced ≡ true → SendsOn (W.contents (device_of writer.old)) (has_failed writer.old) (W.contents (device_of writer.new)) (has_failed writer.new) (rebased_line (length settled.history) round)) }
+{
+    match settled.rebase() {
+        Rebased::Fresh { vault, dropped } => {
+            tell_rebase(writer, is_announced, dropped, round);
+            Ok(vault)
+        }
+        Rebased::Seated { vault, .. } => {
+            drop(vault);
+            Err(Unsettled::Seated)
+        }
+        Rebased::NoMemory { vault } => {
+            drop(vault);
+            Err(Unsettled::OutOfMemory)
+        }
+    }
+}

@@ -1,0 +1,229 @@
+//! A round of a server: a vault served to several clients at once, over connections.
+ghost use Rattle.std.specs.Prelude.{◌≡◌, [], IfErr, IfOk};
+ghost use Rattle.tg_share.specs.declared.locked.TheConstants.{PARTS};
+ghost use Rattle.tg_serve.specs.Serving.{EndsServer, HasAgreed, IsFound, found_of};
+
+use crate::budget::Budget;
+use crate::client::{ClientReader, ClientWriter, wait_in_ticks};
+use crate::door::{Door, Taken};
+use crate::operating::Operating;
+use crate::pace::{Assisting, Pace, REST};
+use std::alloc::{AllocError, Global};
+use std::net::{TcpListener, TcpStream};
+use std::rt::Clock;
+use std::sync::Wait;
+use std::sync::atomic::{AtomicBool, Ordering};
+use std::sync::ledger::{Blank, Ledger};
+use std::thread;
+use std::thread::Threads;
+use std::time::Duration;
+use tg_audit::Settled;
+use tg_share::{Closed, Ended, Open, PARTS, Shared};
+use tg_talk::{Watched, buffered, talk};
+use tg_vault::Vault;
+
+/// The result of serving.
+#[derive(Clone, Copy, Debug, PartialEq, Eq)]
+pub struct Served {
+    /// Whether the logs of each round agree with its history, the vault was rebased between any two, and every line of
+    /// the server's own was written.
+    pub settled: bool,
+}
+
+/// Why a server has not settled.
+#[derive(Clone, Copy, Debug, PartialEq, Eq)]
+pub(crate) enum Unsettled {
+    /// The log of this seat differs from the history, first at this index.
+    Differs { seat: u64, index: u64 },
+    /// An allocation or the start of a thread failed in a round.
+    NoMemory,
+    /// An allocation failed between two rounds.
+    OutOfMemory,
+    /// A seat was in use between two rounds.
+    Seated,
+}
+
+/// What each round is served with.
+#[derive(Drop)]
+pub(crate) struct Service<'a, R> {
+    pub(crate) rt: &'a R,
+    pub(crate) alloc: Global,
+    pub(crate) listener: &'a TcpListener,
+    pub(crate) workers: u64,
+    pub(crate) operating: Operating,
+}
+
+/// Serves the connections that are left at the door, each in a talk of a worker on the worker's own seat, while a
+/// collector runs, and settles the logs. All threads have ended then.
+pub(crate) fn serve_round<L: Ledger + Send + Sync, R: Threads + Wait + Clock + Sync>(
+    service: &Service<'_, R>,
+    door: &Door<'_>,
+    blank: Blank,
+    vault: Vault,
+) -> Result<Vault, Unsettled>
+    requires name { blank.name ≡ L.name }
+    requires parts { blank.parts ≡ L.parts }
+    requires all { blank.parts ≡ PARTS }
+    requires empty { vault.history ≡ [] }
+    ensures found { IsFound L result }
+    ensures agreed { IfOk result HasAgreed }
+    ensures ended { IfErr result EndsServer }
+{
+    let shared = Shared::<L>::new(service.alloc, blank, vault);
+    let budget = Budget::new(service.operating.memory, service.workers);
+    let round = Round {
+        rt: service.rt,
+        alloc: service.alloc,
+        door,
+        shared: &shared,
+        budget: &budget,
+        patience: service.operating.patience,
+    };
+    match serve_in_threads(&round, service.workers) {
+        Some(ended) => found_in(shared.close(ended)),
+        None => Err(Unsettled::NoMemory),
+    }
+}
+
+/// The vault that was closed, if the logs agree with its history.
+fn found_in<L: Ledger>(closed: Closed<L>) -> Result<Vault, Unsettled>
+    ensures { result ≡ found_of closed }
+{
+    match closed {
+        Closed::Done {
+            settled,
+            counted: _,
+        } => match settled {
+            Settled::Agreed(vault) => Ok(vault),
+            Settled::Differs { seat, index, .. } => Err(Unsettled::Differs { seat, index }),
+            Settled::NoMemory { .. } => Err(Unsettled::NoMemory),
+        },
+        Closed::NoRoom { .. } => Err(Unsettled::NoMemory),
+    }
+}
+
+/// What the threads of a round share.
+#[derive(Drop)]
+struct Round<'a, L: Ledger, R> {
+    rt: &'a R,
+    alloc: Global,
+    door: &'a Door<'a>,
+    shared: &'a Shared<L>,
+    budget: &'a Budget,
+    /// Seconds for which a client may keep the server waiting; for ever if there is no number.
+    patience: Option<u64>,
+}
+
+/// The workers and the collector, each in a thread of its own. Returns the ended sessions of all connections; `None` if
+/// an allocation or the start of a thread failed.
+fn serve_in_threads<L: Ledger + Send + Sync, R: Threads + Wait + Clock + Sync>(
+    round: &Round<'_, L, R>,
+    workers: u64,
+) -> Option<Vec<Ended<L>>> {
+    let is_over = AtomicBool::new(false);
+    let over = &is_over;
+    thread::scope(thread::scope_env(), round.rt, |scope| {
+        let mut shifts = Vec::new(round.alloc);
+        let mut is_short = scope.spawn(move || collect_until(round, over)).is_err();
+        for seat in 0..workers {
+            if is_short {
+                break;
+            }
+            is_short = match scope.spawn(move || work(round, seat)) {
+                Ok(shift) => shifts.push(shift).is_err(),
+                Err(_) => true,
+            };
+        }
+        if is_short {
+            round.door.close();
+        }
+        let mut all = Vec::new(round.alloc);
+        for shift in shifts {
+            match shift.join(round.rt) {
+                Some(mut ended) => is_short = is_short || all.append(&mut ended).is_err(),
+                None => is_short = true,
+            }
+        }
+        over.store(true, Ordering::SeqCst);
+        if is_short { None } else { Some(all) }
+    })
+}
+
+/// Collects until everything is over, some steps at a time, with rests between.
+fn collect_until<L: Ledger, R: Wait + Clock>(round: &Round<'_, L, R>, is_over: &AtomicBool) {
+    let rt = round.rt;
+    let mut pace = Pace::new(round.shared.room(rt));
+    for _ in rt.forever() {
+        if is_over.load(Ordering::SeqCst) {
+            break;
+        }
+        let room = round.shared.room(rt);
+        round.budget.look(room);
+        let steps = pace.steps(room);
+        pace.learn(round.shared.collector(rt, steps, &Open));
+        thread::sleep(rt, Duration::from_micros(REST));
+    }
+}
+
+/// Serves connections one after the other, until none is left. Returns their ended sessions; `None` if an allocation
+/// failed, and then nobody is let in any more.
+fn work<L: Ledger, R: Wait + Clock>(round: &Round<'_, L, R>, seat: u64) -> Option<Vec<Ended<L>>> {
+    let mut all = Vec::new(round.alloc);
+    for _ in round.rt.forever() {
+        let Some(taken) = round.door.take(round.rt) else {
+            break;
+        };
+        if serve_one(round, seat, taken, &mut all).is_err() {
+            round.door.close();
+            return None;
+        }
+    }
+    Some(all)
+}
+
+/// One connection, in a talk on the seat; the session that it leaves, if any, is added to the others.
+fn serve_one<L: Ledger, R: Wait + Clock>(
+    round: &Round<'_, L, R>,
+    seat: u64,
+    taken: Taken,
+    all: &mut Vec<Ended<L>>,
+) -> Result<(), AllocError> {
+    let Taken::Client(stream) = taken else {
+        return Ok(());
+    };
+    let _ = stream.set_nodelay(true);
+    if wait_in_ticks(&stream).is_err() {
+        return Ok(());
+    }
+    match talk_with(round, seat, &stream)? {
+        Some(ended) => Ok(all.push(ended)?),
+        None => Ok(()),
+    }
+}
+
+/// A talk over the connection.
+fn talk_with<L: Ledger, R: Wait + Clock>(
+    round: &Round<'_, L, R>,
+    seat: u64,
+    stream: &TcpStream,
+) -> Result<Option<Ended<L>>, AllocError> {
+    let (rt, alloc, patience) = (round.rt, round.alloc, round.patience);
+    let reader = ClientReader::new(alloc, stream, rt, round.budget, patience)?;
+    let mut reader = Watched::new(reader);
+    let mut writer = buffered(alloc, ClientWriter::new(stream, rt, patience))?;
+    let gate = Assisting {
+        shared: round.shared,
+        budget: round.budget,
+        door: round.door,
+    };
+    let talked = talk(
+        rt,
+        alloc,
+        &mut reader,
+        &mut writer,
+        round.shared,
+        seat,
+        &gate,
+    );
+    Ok(talked.ended)
+}

@@ -1,0 +1,9 @@
+//! Tests of the server's parts, and of whole servers over the loopback.
+
+mod budget;
+mod clients;
+mod door;
+mod keys;
+mod pace;
+mod serving;
+mod system;

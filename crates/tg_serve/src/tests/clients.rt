@@ -1,0 +1,273 @@
+//! Clients that keep a server waiting, on a clock that goes as a script says.
+
+use crate::budget::Budget;
+use crate::client::{ClientReader, ClientWriter};
+use std::alloc::{AllocError, Global};
+use std::io;
+use std::io::{ErrorKind, Read, Write};
+use std::rt::Clock;
+use std::sync::atomic::{AtomicU64, Ordering};
+use std::time::Duration;
+use tg_rights::{Command, Reply};
+
+/// A clock that is moved on by hand.
+#[derive(Drop)]
+struct Hands {
+    milliseconds: AtomicU64,
+}
+
+impl Hands {
+    fn new() -> Hands {
+        Hands {
+            milliseconds: AtomicU64::new(0),
+        }
+    }
+
+    fn move_on(&self, by: u64) {
+        self.milliseconds.fetch_add(by, Ordering::SeqCst);
+    }
+}
+
+impl Clock for Hands {
+    fn monotonic(&self) -> io::Result<Duration> {
+        Ok(Duration::from_millis(self.milliseconds.load(Ordering::SeqCst)))
+    }
+
+    fn since_1970(&self) -> io::Result<Duration> {
+        self.monotonic()
+    }
+}
+
+/// What a read or a write of a connection does.
+#[derive(Clone, Copy)]
+enum Step {
+    /// After so many milliseconds these bytes come, or as many are taken.
+    Moves(u64, &'static [u8]),
+    /// Ticks pass, one for each call.
+    Ticks(u32),
+    /// A signal interrupts it after so many milliseconds.
+    Interrupted(u64),
+}
+
+/// A connection that does what a script says, and is at its end behind it.
+#[derive(Drop)]
+struct Scripted<'a> {
+    clock: &'a Hands,
+    steps: &'static [Step],
+    next: usize,
+    ticks: u32,
+}
+
+impl<'a> Scripted<'a> {
+    fn new(clock: &'a Hands, steps: &'static [Step]) -> Scripted<'a> {
+        Scripted {
+            clock,
+            steps,
+            next: 0,
+            ticks: 0,
+        }
+    }
+
+    /// The bytes of the next step.
+    fn step(&mut self) -> io::Result<&'static [u8]> {
+        let Some(step) = self.steps.get(self.next) else {
+            return Ok(b"");
+        };
+        match *step {
+            Step::Moves(time, bytes) => {
+                self.next = self.next.saturating_add(1);
+                self.clock.move_on(time);
+                Ok(bytes)
+            }
+            Step::Ticks(count) => {
+                self.ticks = self.ticks.saturating_add(1);
+                if self.ticks >= count {
+                    self.ticks = 0;
+                    self.next = self.next.saturating_add(1);
+                }
+                self.clock.move_on(250);
+                Err(io::Error::from(ErrorKind::WouldBlock))
+            }
+            Step::Interrupted(time) => {
+                self.next = self.next.saturating_add(1);
+                self.clock.move_on(time);
+                Err(io::Error::from(ErrorKind::Interrupted))
+            }
+        }
+    }
+}
+
+impl Read for Scripted<'_> {
+    fn read(&mut self, buf: &mut [u8]) -> io::Result<usize> {
+        let mut bytes = self.step()?;
+        bytes.read(buf)
+    }
+}
+
+impl Write for Scripted<'_> {
+    fn write(&mut self, buf: &[u8]) -> io::Result<usize> {
+        let bytes = self.step()?;
+        Ok(bytes.len().min(buf.len()))
+    }
+
+    fn flush(&mut self) -> io::Result<()> {
+        Ok(())
+    }
+}
+
+/// How many bytes reads return, one after the other, until one returns none or fails; and whether the last one failed.
+fn reads(
+    alloc: Global,
+    steps: &'static [Step],
+    patience: Option<u64>,
+    budget: &Budget,
+) -> Result<(Vec<usize>, bool), AllocError> {
+    let clock = Hands::new();
+    let device = Scripted::new(&clock, steps);
+    let mut reader = ClientReader::new(alloc, device, &clock, budget, patience)?;
+    let mut counts = Vec::new(alloc);
+    let mut buf = [0u8; 16];
+    for _ in 0..100u32 {
+        match reader.read(&mut buf) {
+            Ok(0) => return Ok((counts, false)),
+            Ok(count) => counts.push(count)?,
+            Err(_) => return Ok((counts, true)),
+        }
+    }
+    Ok((counts, false))
+}
+
+/// What a connection does, the bytes of each read under a patience of two seconds, and whether the last read fails.
+const READS: &[(&[Step], &[usize], bool)] = &[
+    (
+        &[Step::Moves(100, b"a\n"), Step::Moves(100, b"b\nc")],
+        &[2, 3],
+        false,
+    ),
+    // A line comes after seven ticks; after an eighth it would be too late.
+    (&[Step::Ticks(7), Step::Moves(100, b"a\n")], &[2], false),
+    (&[Step::Ticks(8), Step::Moves(0, b"a\n")], &[], true),
+    // A line whose bytes come one by one has two seconds in all.
+    (
+        &[
+            Step::Ticks(2),
+            Step::Moves(250, b"a"),
+            Step::Ticks(2),
+            Step::Moves(250, b"b"),
+            Step::Ticks(2),
+            Step::Moves(0, b"\n"),
+        ],
+        &[1, 1],
+        true,
+    ),
+    // The next line has its own two seconds, also if it begins with what came behind the last one.
+    (
+        &[
+            Step::Ticks(5),
+            Step::Moves(0, b"a\nb"),
+            Step::Ticks(5),
+            Step::Moves(0, b"\n"),
+        ],
+        &[3, 1],
+        false,
+    ),
+    // A process that is stopped for a minute goes on, and the client has lost a tick of its time.
+    (
+        &[
+            Step::Interrupted(60_000),
+            Step::Ticks(6),
+            Step::Moves(0, b"a\n"),
+        ],
+        &[2],
+        false,
+    ),
+];
+
+#[test]
+fn a_line_has_its_time(rt: HostRuntime) -> Result<(), AllocError> {
+    for (steps, counts, fails) in READS {
+        let budget = Budget::new(None, 1);
+        let (found, failed) = reads(rt.alloc(), *steps, Some(2), &budget)?;
+        assert!(rt; found.as_slice() == *counts);
+        assert!(rt; failed == *fails);
+    }
+    Ok(())
+}
+
+const LATE: &[Step] = &[
+    Step::Interrupted(1_000_000),
+    Step::Ticks(40),
+    Step::Moves(1_000_000, b"a"),
+    Step::Ticks(40),
+    Step::Moves(1_000_000, b"\n"),
+];
+
+#[test]
+fn a_line_has_all_time_without_patience(rt: HostRuntime) -> Result<(), AllocError> {
+    let budget = Budget::new(None, 1);
+    let (found, failed) = reads(rt.alloc(), LATE, None, &budget)?;
+    assert!(rt; found.as_slice() == [1, 1].as_slice());
+    assert!(rt; !failed);
+    Ok(())
+}
+
+const LINES: &[Step] = &[Step::Moves(0, b"a\nbb\nccc\nd"), Step::Moves(0, b"\n")];
+
+/// As long as little memory is left, lines are handed out one by one, and no byte is lost.
+#[test]
+fn lines_are_handed_out_one_by_one(rt: HostRuntime) -> Result<(), AllocError> {
+    let budget = Budget::new(Some(1_000), 1);
+    let (found, failed) = reads(rt.alloc(), LINES, None, &budget)?;
+    assert!(rt; found.as_slice() == [2, 3, 5, 1].as_slice());
+    assert!(rt; !failed);
+    Ok(())
+}
+
+/// Once no memory is left a client's lines are at an end.
+#[test]
+fn lines_end_once_no_memory_is_left(rt: HostRuntime) -> Result<(), AllocError> {
+    let budget = Budget::new(Some(320), 1);
+    assert!(rt; budget.keep(&Command::leave(), &Reply::Done));
+    let (found, failed) = reads(rt.alloc(), LINES, None, &budget)?;
+    assert!(rt; found.is_empty());
+    assert!(rt; !failed);
+    Ok(())
+}
+
+/// How many bytes are written, of sixteen at a time, until a write fails or all steps are done; flushes in between.
+fn writes(steps: &'static [Step], patience: Option<u64>, flushes: bool) -> (usize, bool) {
+    let clock = Hands::new();
+    let device = Scripted::new(&clock, steps);
+    let mut writer = ClientWriter::new(device, &clock, patience);
+    let mut written = 0usize;
+    for _ in 0..100u32 {
+        match writer.write(b"0123456789abcdef") {
+            Ok(0) => return (written, false),
+            Ok(count) => written = written.saturating_add(count),
+            Err(_) => return (written, true),
+        }
+        if flushes && writer.flush().is_err() {
+            return (written, true);
+        }
+    }
+    (written, false)
+}
+
+/// Each write waits for a second.
+const SLOW: &[Step] = &[
+    Step::Ticks(3),
+    Step::Moves(250, b"0123"),
+    Step::Ticks(3),
+    Step::Moves(250, b"01234567"),
+    Step::Ticks(3),
+    Step::Moves(250, b"0123456789abcdef"),
+];
+
+/// Answers that are taken bit by bit have two seconds in all, and so have those behind a flush.
+#[test]
+fn answers_have_their_time(rt: HostRuntime) {
+    assert!(rt; writes(SLOW, Some(2), false) == (12, true));
+    assert!(rt; writes(SLOW, Some(2), true) == (28, false));
+    assert!(rt; writes(SLOW, Some(4), false) == (28, false));
+    assert!(rt; writes(SLOW, None, false) == (28, false));
+}

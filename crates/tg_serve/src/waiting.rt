@@ -1,0 +1,83 @@
+//! How long a client may keep the server waiting.
+ghost use Rattle.std.specs.Prelude.{◌≡◌, ℕ, IfOk, Ok};
+ghost use Rattle.tg_serve.specs.declared.waiting.Waited.TheVariants as Waited;
+
+use crate::door::{is_tick, tick};
+use std::io;
+use std::io::ErrorKind;
+use std::rt::Clock;
+use std::time::Duration;
+
+/// The time that a client has kept the server waiting, for a line or until it took its answers, and how long it may.
+#[derive(Clone, Copy, Debug)]
+pub(crate) struct Waiting {
+    patience: Option<Duration>,
+    waited: Duration,
+}
+
+/// What a call did that may wait.
+#[derive(Clone, Copy, Debug, PartialEq, Eq)]
+pub(crate) enum Waited {
+    /// It moved this many bytes.
+    Moved(usize),
+    /// It waited for a tick in vain, or was interrupted.
+    InVain,
+}
+
+impl Waiting {
+    /// Nothing was waited for yet. The client may be waited for so many seconds, or for ever if there is no number.
+    pub(crate) fn new(patience: Option<u64>) -> Waiting {
+        Waiting {
+            patience: patience.map(Duration::from_secs),
+            waited: Duration::ZERO,
+        }
+    }
+
+    /// A new wait begins.
+    pub(crate) fn end(&mut self) {
+        self.waited = Duration::ZERO;
+    }
+
+    /// Whether the client has kept the server waiting for as long as it may.
+    pub(crate) fn is_over(&self) -> bool {
+        match self.patience {
+            Some(patience) => self.waited >= patience,
+            None => false,
+        }
+    }
+
+    /// The time on the clock, if waits are limited.
+    pub(crate) fn start<C: Clock>(&self, clock: &C) -> io::Result<Duration> {
+        match self.patience {
+            Some(_) => clock.monotonic(),
+            None => Ok(Duration::ZERO),
+        }
+    }
+
+    /// Counts what a call did that began at this time. It counts for a tick at most, as long as it would have waited if
+    /// the process had not been stopped meanwhile.
+    pub(crate) fn note<C: Clock>(
+        &mut self,
+        clock: &C,
+        start: Duration,
+        came: io::Result<usize>,
+    ) -> io::Result<Waited>
+        ensures moved { IfOk result (λ waited. (n : ℕ) → waited ≡ Waited.Moved n → came ≡ Ok n) }
+    {
+        let now = self.start(clock)?;
+        let waited = now.saturating_sub(start).min(tick());
+        self.waited = self.waited.saturating_add(waited);
+        match came {
+            Ok(count) => Ok(Waited::Moved(count)),
+            Err(error) if is_tick(&error) || error.kind() == ErrorKind::Interrupted => {
+                Ok(Waited::InVain)
+            }
+            Err(error) => Err(error),
+        }
+    }
+}
+
+/// The failure of a call for which a client was waited for too long.
+pub(crate) fn too_long() -> io::Error {
+    io::Error::from(ErrorKind::TimedOut)
+}
