@@ -42,7 +42,7 @@ bench: all load ## measure speed, memory, threads, rounds, and a server beside R
 # The edit loop, over what earlier runs left: `make check tg_cells` proves that crate and its tests, tries its planted
 # bugs and proves the crates that stand on it; `make check` proves every crate, and no more.
 check: ## prove what changed: `make check NAME` a crate, its tests, its planted bugs and the crates above it
-	tests/check $(filter $(CRATES),$(MAKECMDGOALS))
+	tests/check $(filter-out check,$(MAKECMDGOALS))
 
 install: all ## copy the program to PREFIX/bin (PREFIX=/usr/local unless given)
 	install -D -m 755 crates/tgdoc/out/tgdoc $(DESTDIR)$(PREFIX)/bin/tgdoc

@@ -1,8 +1,8 @@
 /* Preloaded into a program, lets some of its calls go wrong, from outside.
 
    FAULT says which: `memory`, `thread`, `entropy`, `read` or `write`. The calls of that kind count from 1, and those from FIRST to LAST go
-   wrong: memory, threads and random numbers are refused, and a read or a write moves MOVES bytes, or fails with EIO where that is negative. For each
-   one byte is written to the descriptor TOLD. No read or write moves more than MOST bytes, where MOST is given. Where WHOSE is given,
+   wrong: memory, threads and random numbers are refused, and a read or a write moves MOVES bytes, or fails where that is negative: with EIO at -1, or
+   with the error -MOVES. For each one byte is written to the descriptor TOLD. No read or write moves more than MOST bytes, where MOST is given. Where WHOSE is given,
    only calls of the program's first thread count (`first`), or only those of its other threads (`others`).
 
    It is for Linux on x86-64, and includes nothing, so that a compiler without the C library's headers will do. */
@@ -104,7 +104,7 @@ static length allowed(char letter, size bytes)
     size limit = most ? (size)most : bytes;
     if (goes_wrong(letter)) {
         if (moves < 0) {
-            *__errno_location() = INPUT_OUTPUT;
+            *__errno_location() = moves == -1 ? INPUT_OUTPUT : (int)-moves;
             return -1;
         }
         limit = moves;

@@ -18,6 +18,8 @@ WORKERS = 2
 BLOCK = 16
 
 FAILS = -1
+# The error of a call that a signal interrupts is 4.
+INTERRUPTED = -4
 WITHOUT_END = 1 << 62
 
 

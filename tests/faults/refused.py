@@ -201,13 +201,17 @@ def compare(what, attempt, fault, wanted, to_the_end=False):
     return -1 if wrong.count else count
 
 
+# What changes nothing: that a call moves one byte, or is interrupted.
+HARMLESS = (1, faults.INTERRUPTED)
+
+
 def reads_gone_wrong(word, given, moves, wanted):
-    """Each read of few bytes fails, or moves one byte, or it and all after it find the end; `wanted` has the output and
-    status from the bytes read."""
+    """Each read of few bytes fails, or moves one byte, or is interrupted, or it and all after it find the end; `wanted` has the output
+    and status from the bytes read."""
 
     def test(program):
         def wanted_at(number):
-            return wanted(given if moves == 1 else given[: FEW * (number - 1)])
+            return wanted(given if moves in HARMLESS else given[: FEW * (number - 1)])
 
         attempt = faults.runs(program, [word], given)
         return compare("reads", attempt, Fault("read", moves=moves, most=FEW), wanted_at, moves == 0) > len(given) // FEW
@@ -225,7 +229,8 @@ def writes_of(given, answers_to_lines):
 
 
 def writes_gone_wrong(word, given, moves, answers_to_lines, to_the_end=False):
-    """Each write fails, or takes none or one of its bytes. One byte changes nothing; else the run ends with status 1, and what is written is a prefix.
+    """Each write fails, is interrupted, or takes none or one of its bytes. One byte and a signal change nothing; else the run ends with status 1, and what
+    is written is a prefix.
 
     As the writer is dropped, it tries once more to write what it holds: if only one write goes wrong, the rest of that piece is there too.
     """
@@ -236,7 +241,7 @@ def writes_gone_wrong(word, given, moves, answers_to_lines, to_the_end=False):
         status = int(answers_to_lines(given) != [scripts.SHARED])
 
         def wanted(number):
-            if moves == 1:
+            if moves in HARMLESS:
                 return joined(answers_to_lines(given)), status
             if to_the_end:
                 return b"".join(row for _, row in rows[: number - 1]), 1
@@ -245,7 +250,7 @@ def writes_gone_wrong(word, given, moves, answers_to_lines, to_the_end=False):
 
         attempt = faults.runs(program, [word], given)
         count = compare("writes", attempt, Fault("write", moves=moves, most=FEW), wanted, to_the_end)
-        return count >= len(rows) if moves == 1 else count == len(rows)
+        return count >= len(rows) if moves in HARMLESS else count == len(rows)
 
     return test
 
@@ -318,7 +323,8 @@ def tests_of_devices():
         yield "reads-of-%s-that-fail" % word, reads_gone_wrong(word, given, faults.FAILS, cut_off[word])
         yield "reads-of-%s-that-find-the-end" % word, reads_gone_wrong(word, given, 0, ends[word])
         yield "reads-of-%s-that-move-one-byte" % word, reads_gone_wrong(word, given, 1, ends[word])
-        for name, moves in [("fail", faults.FAILS), ("take-no-byte", 0), ("take-one-byte", 1)]:
+        yield "reads-of-%s-that-are-interrupted" % word, reads_gone_wrong(word, given, faults.INTERRUPTED, ends[word])
+        for name, moves in [("fail", faults.FAILS), ("take-no-byte", 0), ("take-one-byte", 1), ("are-interrupted", faults.INTERRUPTED)]:
             yield "writes-of-%s-that-%s" % (word, name), writes_gone_wrong(word, given, moves, told[word])
         yield "writes-of-%s-that-fail-from-then-on" % word, writes_gone_wrong(word, given, faults.FAILS, told[word], True)
         yield "answers-of-%s-in-one-write" % word, answers_in_one_write(word, given, told[word](given))

@@ -254,21 +254,29 @@ LAST_GROWTHS = 1 + 1 + (2 + 3) + (1 + 1 + 2 + 2 + 1)
 
 
 def stages(program, tried):
-    """The servers by what failed: the words of the command line, the opening, and the server from there on.
+    """The servers by what failed: the words of the command line and what the system says of its limits, the opening, and the server from there on.
 
     The opening needs what that of a run needs, and before it the buffer of lines, without which a run writes nothing.
     """
     start = ends_of(tried).index("opening refused")
-    stop = start + 1 + openings_refused(program)
+    stop = start + ends_of(tried).count("opening refused")
     return tried[:start], tried[start:stop], tried[stop:]
+
+
+# The texts in which the system tells its limits: how many files may be open, and how much memory is available.
+SYSTEM_TEXTS = 2
 
 
 def own_memory_refused(program, tried):
     """One allocation of the server's own thread fails, which never serves a client."""
-    words, opening, server = stages(program, tried)
+    early, opening, server = stages(program, tried)
+    last = max(place for place, one in enumerate(early) if one.end == "command line refused")
+    words, texts = early[: last + 1], early[last + 1 :]
     unharmed = [one for one in words if one.end != "command line refused"]
     return {
         "one growth for words changes nothing, each other refuses the command line": len(unharmed) <= 1 and all_end(unharmed, "agreed") and all_heard(unharmed),
+        "the growths for what the system says change nothing": len(texts) >= SYSTEM_TEXTS and all_end(texts, "agreed") and all_heard(texts),
+        "the opening takes as many as that of a run, and one for the lines": len(opening) == 1 + openings_refused(program),
         "each growth for the opening refuses it": all_end(opening, "opening refused"),
         "no server settles whose own thread is refused a growth": all_end(server, NOT_SETTLED),
         "three threads and the list of workers take one growth at least, before all is answered": sum(one.told != HEARD for one in server) >= 4,
@@ -277,13 +285,13 @@ def own_memory_refused(program, tried):
 
 
 def workers_memory_refused(_, tried):
-    """One allocation of a worker fails. Each of the two workers makes two that are no part of its talk: the buffer of
-    answers, before it, and the list of what connections left, after it."""
+    """One allocation of a worker fails. Each of the two workers makes three that are no part of its talk: the buffers of
+    lines and of answers, before it, and the list of what connections left, after it."""
     outside = [place for place, one in enumerate(tried) if one.end == NOT_SETTLED]
     inside = [one for one in tried if one.end != NOT_SETTLED]
     return {
-        "no server settles of which a worker is refused its buffer or its list": [tried[place].told == HEARD for place in outside] == [False, True] * 2,
-        "these are the first and the last growth of each": outside == [0, *outside[1:2], *[place + 1 for place in outside[1:2]], len(tried) - 1],
+        "no server settles of which a worker is refused its buffers or its list": [tried[place].told == HEARD for place in outside] == [False, False, True] * 2,
+        "these are the first two and the last growth of each": outside == [0, 1, *outside[2:3], *[place + more for place in outside[2:3] for more in (1, 2)], len(tried) - 1],
         "a growth of a talk is told to its client, and the server settles": all_end(inside, "agreed") and not any(one.told == HEARD for one in inside),
     }
 
@@ -293,7 +301,7 @@ def memory_refused_from_then_on(program, tried):
     words, opening, server = stages(program, tried)
     return {
         "the command line is refused": all_end(words, "command line refused"),
-        "then the opening": all_end(opening, "opening refused"),
+        "then the opening": all_end(opening, "opening refused") and len(opening) >= SYSTEM_TEXTS + 1 + openings_refused(program),
         "and then no server settles": all_end(server, NOT_SETTLED) and len(server) > LAST_GROWTHS,
     }
 
@@ -350,13 +358,15 @@ def threads_refused(_, tried):
 
 
 def reads_wrong(opening):
-    """A read fails, or finds the end: that of the configuration, or one of a talk, which makes one for each line, and
-    the second one for its end."""
+    """A read fails, or finds the end: one of what the system says, that of the configuration, or one of a talk, which makes one for
+    each line, and the second one for its end."""
 
     def claims_of(_, tried):
+        place = ends_of(tried).index(opening)
+        said, behind = tried[:place], tried[place + 1 :]
         return {
-            "the first read is that of the configuration": ends_of(tried[:1]) == [opening],
-            "behind it each server settles": all_end(tried[1:], "agreed") and len(tried[1:]) > len(all_answers()),
+            "what the system says is read first, and changes nothing": len(said) >= SYSTEM_TEXTS and all_end(said, "agreed") and all_heard(said),
+            "behind the configuration each server settles": all_end(behind, "agreed") and len(behind) > len(all_answers()),
             "a line that was not read was not carried out": not any(one.told == "carried out" for one in tried),
         }
 
@@ -364,11 +374,13 @@ def reads_wrong(opening):
 
 
 def writes_wrong(_, tried):
-    """A write fails, or takes no byte. Without its address, which takes some writes, a server serves all the same and
-    writes nothing more. Each answer is one write, and so is the last line."""
+    """A write fails, or takes no byte. What is said on standard error may be lost. Without its address, which takes some writes, a server
+    serves all the same and writes nothing more. Each answer is one write, and so is the last line."""
     address = len(tried) - len(all_answers()) - 1
+    said = ends_of(tried).index("nothing written")
     return {
-        "first come the writes of the address": address > 0 and all_end(tried[:address], "nothing written", "part of the address"),
+        "what is said on standard error changes nothing": all_end(tried[:said], "agreed"),
+        "then come the writes of the address": said < address and all_end(tried[said:address], "nothing written", "part of the address"),
         "whose clients are answered all the same": all_heard(tried[:address]),
         "then those of the answers, and each server settles": all_end(tried[address:-1], "agreed"),
         "the last is that of the last line": ends_of(tried[-1:]) == ["no last line"] and all_heard(tried[-1:]),
@@ -391,10 +403,15 @@ def one_byte(_, tried):
     return {"nothing changes": len(tried) > len(all_answers()) and all_end(tried, "agreed") and all_heard(tried)}
 
 
-# With a hello and a bye a connection makes four allocations, for its two buffers, the name, and the room of answers, and now and then one for the list of what
-# connections left. So this one is late.
+def interrupted(_, tried):
+    """A read or a write that a signal interrupts is made again, but for one of what is said on standard error or of what the system says."""
+    return {"nothing changes": len(tried) > len(all_answers()) and all_end(tried, "agreed") and all_heard(tried)}
+
+
+# With a hello and a bye a connection makes five allocations, for its three buffers, the name, and the room of answers, and now and then one for the list of
+# what connections left. So this one is late.
 GREETING = [scripts.hello(b"alice"), scripts.alone(b"bye")]
-LATE = 4 * 80
+LATE = 5 * 80
 
 
 def memory_refused_late(program):
@@ -430,3 +447,4 @@ def tests():
     yield "writes-of-a-server-in-rounds-that-fail", gone_wrong(Fault("write"), writes_wrong_in_rounds, options=TWO_ROUNDS)
     for kind in ("read", "write"):
         yield kind + "s-of-a-server-that-move-one-byte", gone_wrong(Fault(kind, moves=1), one_byte)
+        yield kind + "s-of-a-server-that-are-interrupted", gone_wrong(Fault(kind, moves=faults.INTERRUPTED), interrupted)

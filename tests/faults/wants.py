@@ -24,9 +24,9 @@ SAY_IT_BY_NONE = {"work", "serve_in_threads", "opened", "run_one", "ran"}
 # A flag that says so, and each line that names it.
 FLAG = "is_short"
 FLAG_LINES = [
-    "let mut is_short = scope",
+    "let mut is_short = scope.spawn(move || collect_until(round, over)).is_err();",
     "if is_short {",
-    "is_short = match scope.spawn(move || work(server, seat)) {",
+    "is_short = match scope.spawn(move || work(round, seat)) {",
     "if is_short {",
     "Some(mut ended) => is_short = is_short || all.append(&mut ended).is_err(),",
     "None => is_short = true,",
@@ -68,13 +68,13 @@ LISTED = {
     ("tgdoc/src/audit.rt", "judge", "check", "WireFault::OutOfMemory"): 1,
     ("tgdoc/src/audit.rt", "take_steps", "steps.push", "WireFault::OutOfMemory"): 1,
     # A server: its buffer of lines; what a worker was refused, and what the server itself was, threads among it; settling; a rebase.
-    ("tgdoc/src/serve_lines.rt", "read_vault", "InputLines::new", "WireFault::OutOfMemory"): 1,
-    ("tgdoc/src/serve.rt", "work", "serve_one", "None"): 1,
-    ("tgdoc/src/serve.rt", "serve_in_threads", FLAG, "None"): 1,
-    ("tgdoc/src/serve.rt", "serve_round", "serve_in_threads", "Unsettled::NoMemory"): 1,
-    ("tgdoc/src/serve.rt", "found_in", "Settled::NoMemory", "Unsettled::NoMemory"): 1,
-    ("tgdoc/src/serve.rt", "found_in", "Closed::NoRoom", "Unsettled::NoMemory"): 1,
-    ("tgdoc/src/rounds.rt", "rebase", "Rebased::NoMemory", "Unsettled::OutOfMemory"): 1,
+    ("tg_serve/src/listening.rt", "read_vault", "InputLines::new", "WireFault::OutOfMemory"): 1,
+    ("tg_serve/src/serve.rt", "work", "serve_one", "None"): 1,
+    ("tg_serve/src/serve.rt", "serve_in_threads", FLAG, "None"): 1,
+    ("tg_serve/src/serve.rt", "serve_round", "serve_in_threads", "Unsettled::NoMemory"): 1,
+    ("tg_serve/src/serve.rt", "found_in", "Settled::NoMemory", "Unsettled::NoMemory"): 1,
+    ("tg_serve/src/serve.rt", "found_in", "Closed::NoRoom", "Unsettled::NoMemory"): 1,
+    ("tg_serve/src/rounds.rt", "rebase", "Rebased::NoMemory", "Unsettled::OutOfMemory"): 1,
     # A text of the tests' tables is never too long, and a name is one.
     ("tg_tests/src/cases.rt", "text", "Text::new", "AllocError"): 1,
     ("tg_tests/src/cases.rt", "name", "Name::new", "AllocError"): 1,

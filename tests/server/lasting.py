@@ -1,9 +1,11 @@
 """A server whose one client makes documents and drops each at once, for a while: for tests/soak.
 
-The server has room for few, so its collector has to free what was dropped over and over, for as long as the server lasts. To be full
-for a moment is no fault; to stay full is one. (With a collector that ends after 10,000 rounds it is full for 83 of the 90 seconds.)
+The server has room for few, so what was dropped has to be freed over and over, for as long as the server lasts, by its collector and by
+those who make documents. To be full for a moment is no fault; to stay full is one. That the collector's own thread goes on is shown by
+`collector-that-frees-alone`, and by `full-but-for-one` here, in which no create succeeds before it has freed something.
 """
 
+import contextlib
 import time
 
 from models.reading import line_of
@@ -19,6 +21,9 @@ CONFIG = line_of({"principals": ["alice"], "slots": SLOTS, "cells": 4 * SLOTS}) 
 PAUSE = 0.001
 MOST_FULL = 5.0
 
+# Seconds for which the collector's own thread alone has to free what was dropped: more than 10,000 of its turns.
+ALONE = 30
+
 
 def makes_and_drops(client, seconds):
     """Makes documents and drops them; returns how many there were, and for how long at most none could be made."""
@@ -32,6 +37,39 @@ def makes_and_drops(client, seconds):
             longest = max(longest, time.monotonic() - last)
         time.sleep(PAUSE)
     return made, longest
+
+
+def makes_one_at_a_time(client, seconds):
+    """In a vault in which all slots but one are kept, drops a document and makes one, over and over; returns how many were made, and for how
+    long at most none could be."""
+    kept = [client.create("document", "rw") for _ in range(SLOTS - 1)]
+    made, longest = 0, 0.0
+    until = time.monotonic() + seconds
+    while time.monotonic() < until:
+        client.remove("rw", kept.pop(0))
+        began, one = time.monotonic(), None
+        while one is None and time.monotonic() < began + MOST_FULL:
+            with contextlib.suppress(Full):
+                one = client.create("document", "rw")
+        longest = max(longest, time.monotonic() - began)
+        if one is None:
+            break
+        kept.append(one)
+        made += 1
+    return made, longest
+
+
+def full_but_for_one(program):
+    """A server whose slots are all kept but for one that is dropped over and over: only the collector's own thread can free it, since no
+    create succeeds before."""
+    with served(program, 1, 1, CONFIG, ALONE + 60) as server:
+        with server.client() as alice:
+            alice.hello("alice")
+            made, longest = makes_one_at_a_time(alice, ALONE)
+            alice.bye()
+        ended = server.end()
+    print("  %d documents for the one slot, none for %.2f s at most" % (made, longest))
+    return made > ALONE and longest < MOST_FULL and ended == AGREED
 
 
 def lasted(seconds):
@@ -53,3 +91,4 @@ def lasted(seconds):
 def tests(seconds=SECONDS):
     """All tests by their names."""
     yield "server-that-makes-and-drops", lasted(seconds)
+    yield "full-but-for-one", full_but_for_one

@@ -41,15 +41,15 @@ def configuration_without_line_feed(program):
     return good and ended == AGREED
 
 
-def listens_on(address):
-    """A server on another address of the loopback serves there; the address that it writes has the same host."""
+def listens_on(address, host=None):
+    """A server on another address of the loopback serves there; the address that it writes has the same host, in its short form."""
 
     def test(program):
         with running(program, "--listen", address, "--connections", "1") as process:
             server = Server(process)
             good = greet(server)
             ended = server.end()
-        return good and server.address[0] == address.rpartition(":")[0].strip("[]") and ended == AGREED
+        return good and server.address[0] == (host or address.rpartition(":")[0].strip("[]")) and ended == AGREED
 
     return test
 
@@ -72,6 +72,19 @@ def started(program, given, *words):
 def no_listener(address, connections="1"):
     """An address that is not listened on: it says so, with status 1."""
     return lambda program: started(program, CONFIG, "--listen", address, "--connections", connections) == (LISTEN, 1)
+
+
+def free_port():
+    """A port at which nobody listens."""
+    with socket.create_server(("127.0.0.1", 0)) as one:
+        return one.getsockname()[1]
+
+
+def addresses_of_this_machine():
+    """The addresses of this machine that others can reach, if it tells."""
+    ran = subprocess.run(["hostname", "-I"], capture_output=True, text=True, check=False)
+    for address in ran.stdout.split() if ran.returncode == 0 else []:
+        yield f"[{address}]" if ":" in address else address
 
 
 def address_in_use(program):
@@ -177,9 +190,10 @@ def tests_of_listening():
     yield "another-address-of-the-loopback", listens_on("127.0.0.2:0")
     if has_loopback_of_ipv6():
         yield "loopback-of-ipv6", listens_on("[::1]:0")
+        yield "loopback-of-ipv6-in-full", listens_on("[0:0:0:0:0:0:0:1]:%d" % free_port(), "::1")
     yield "address-in-use", address_in_use
-    others = ["0.0.0.0:0", "[::]:0", "[::ffff:127.0.0.1]:0", "192.0.2.1:0"]
-    for address in [*others, "nonsense", "127.0.0.1", "localhost:0", "127.0.0.1:65536", ":0", ""]:
+    others = ["0.0.0.0", "[::]", "[::ffff:127.0.0.1]", "192.0.2.1", *addresses_of_this_machine()]
+    for address in [*(f"{other}:{port}" for other in others for port in (0, free_port())), "nonsense", "127.0.0.1", "localhost:0", "127.0.0.1:65536", ":0", ""]:
         yield "no-listener-on-%s" % (address or "nothing"), no_listener(address)
     yield "no-listener-for-a-million-connections", no_listener("nonsense", "1000000")
     yield "no-configuration", no_vault(b"", NOT_JSON)
@@ -214,7 +228,11 @@ def tests_of_words():
     yield "options-in-another-order", accepted(*one, "--patience", "9", "--round", "1", "--workers", "2", *address)
     yield "options-in-one-word-each", accepted("--workers=3", "--patience=9", "--round=1", "--connections=1", "--listen=127.0.0.1:0")
     yield "help-names-serve", helped(["run", "audit", "serve"], "--help")
-    yield "help-on-serve", helped(["--listen", "--workers", "--connections", "--round", "--patience"], "serve", "--help")
+    for number in ("0", "1025g", "1.5g", "-1", "1kk", "x", ""):
+        yield "memory-%s" % (number or "nothing"), refused(*address, *one, "--memory", number)
+    yield "most-memory", accepted(*address, *one, "--memory", "1024g")
+    options = ["--listen", "--workers", "--connections", "--round", "--patience", "--memory"]
+    yield "help-on-serve", helped([*options, "1 to 63", "1 to 1000000", "1 to 86400", "1 to 1024g"], "serve", "--help")
 
 
 def tests():

@@ -72,6 +72,32 @@ def keeps_pace(program):
     return not refused and ended == AGREED
 
 
+# Slots for a collector that alone has to free them, and seconds in which it has to.
+FEW, SOON = 512, 5.0
+
+
+def frees_alone(program):
+    """In a vault all of whose slots are full a create fails, and so does no step of a session: if everything is dropped, the collector's
+    own thread has room for another one soon."""
+    config = line_of({"principals": ["alice"], "slots": FEW}) + b"\n"
+    with served(program, 1, 1, config) as server, server.connection() as one, one.makefile("rb") as answers:
+        one.sendall(b'{"op":"hello","name":"alice"}\n' + CREATE * FEW)
+        rows = [answers.readline() for _ in range(FEW + 1)]
+        made = [row.rstrip(b"}\n").rpartition(b":")[2] for row in rows[1:] if is_made(row)]
+        one.sendall(b"".join(b'{"op":"remove","over":%s,"rights":"rw"}\n' % it for it in made))
+        dropped = [answers.readline() for _ in made]
+        began, row = time.monotonic(), b""
+        while not is_made(row) and time.monotonic() < began + SOON:
+            one.sendall(CREATE)
+            row = answers.readline()
+        passed = time.monotonic() - began
+        one.sendall(b'{"op":"bye"}\n')
+        answers.readline()
+        ended = server.end()
+    print("  one of %d slots is free after %.2f s" % (FEW, passed))
+    return len(made) == FEW - 1 and set(dropped) == {b'{"ok":"done"}\n'} and is_made(row) and ended == AGREED
+
+
 def busy_seconds(process):
     """The processor time that the threads of a process have taken."""
     threads = Path(f"/proc/{process}/task").glob("*/schedstat")
@@ -98,3 +124,4 @@ def tests():
     """All tests by their names."""
     yield "creates-on-a-busy-processor", keeps_pace
     yield "server-with-nothing-to-do", rests
+    yield "collector-that-frees-alone", frees_alone

@@ -43,9 +43,10 @@ class Server:
 
 @contextlib.contextmanager
 def running(program, *words, config=CONFIG, seconds=SECONDS):
-    """A program that serves a configuration. Its input stays open. It is killed in the end, or when its time is
-    over."""
-    with subprocess.Popen([str(program), "serve", *words], stdin=subprocess.PIPE, stdout=subprocess.PIPE) as process:
+    """A program that serves a configuration. Its input stays open, and what it says on standard error is not shown. It is killed in
+    the end, or when its time is over."""
+    pipes = {"stdin": subprocess.PIPE, "stdout": subprocess.PIPE, "stderr": subprocess.DEVNULL}
+    with subprocess.Popen([str(program), "serve", *words], **pipes) as process:
         limit = threading.Timer(seconds, process.kill)
         limit.start()
         try:

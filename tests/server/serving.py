@@ -9,6 +9,7 @@ import contextlib
 import itertools
 import os
 import random
+import re
 import socket
 import struct
 import subprocess
@@ -18,7 +19,7 @@ from concurrent.futures import ThreadPoolExecutor
 from pathlib import Path
 
 from models import owners
-from server import listening, pacing, rounds, waiting
+from server import bounds, listening, pacing, piling, rounds, waiting
 from server.servers import (
     AGREED, CONFIG, NOT_JSON, SECONDS, Server, exchange, greet, is_silent, read_all, read_line, running, served,
 )
@@ -614,14 +615,14 @@ def slots_come_back(program):
 
 
 def example(name, *wanted):
-    """The example of this name ends well, and reports it and what is wanted."""
+    """The example of this name ends well, and reports it and what is wanted; its server says what a round may keep."""
 
     def test(program):
         words = [str(ROOT / "examples" / name)]
         how = {"env": {**os.environ, "TGDOC": str(program)}, "capture_output": True, "text": True}
         ran = subprocess.run(words, timeout=2 * SECONDS, **how)
         told = all(text in ran.stdout for text in [*wanted, "its one history agree."])
-        return told and (ran.returncode, ran.stderr) == (0, "")
+        return told and ran.returncode == 0 and re.fullmatch(r"tgdoc: the history and .* may take \d+ bytes .*\n", ran.stderr) is not None
 
     return test
 
@@ -683,3 +684,5 @@ def tests():
     yield from waiting.tests()
     yield from rounds.tests()
     yield from pacing.tests()
+    yield from bounds.tests()
+    yield from piling.tests()

@@ -1,18 +1,22 @@
 """How long a server waits for its clients: `--patience`. Each test takes the program's path and returns whether it passed.
 
-The server's limit is one second. Whoever waits for more than that is a client that behaves; its answer has to come once the limit
-is over, within the time that the server takes to end one talk after the other, and no sooner.
+The server's limit is one second, if no test says otherwise. Whoever waits for more than that is a client that behaves; its answer has
+to come once the limit is over, within the time that the server takes to end one talk after the other, and no sooner.
 """
 
 import contextlib
+import os
+import signal
 import socket
 import time
 
 from server.servers import AGREED, CONFIG, Server, greet, is_silent, read_all, read_line, running
 
 PATIENCE = 1.0
-# What is held back for a failed writer is tried once more, which may wait as long again; and the machine may be slow.
+# The machine may be slow.
 LATEST = 3 * PATIENCE + 10.0
+# A limit of which it can be told whether it was waited for once or twice.
+LONG_PATIENCE = 6.0
 
 HELLO = b'{"name":"alice","op":"hello"}\n'
 WELCOME = b'{"ok":"hello","vertex":1}\n'
@@ -34,11 +38,11 @@ def patient(program, workers, connections, patience="1"):
         yield Server(process)
 
 
-def is_in_time(began):
+def is_in_time(began, patience=PATIENCE, latest=LATEST):
     """Whether the limit is over, and not much more time."""
     passed = time.monotonic() - began
     print("  answered after %.2f s" % passed)
-    return PATIENCE <= passed < LATEST
+    return patience <= passed < latest
 
 
 def ended_by_server(one):
@@ -66,19 +70,73 @@ def silent_clients(sent, answered, workers=4):
     return test
 
 
+def sends_all(one, lines, times):
+    """Sends the lines over and over, until none is taken any more."""
+    one.settimeout(PATIENCE / 2)
+    with contextlib.suppress(TimeoutError, ConnectionError):
+        for _ in range(times):
+            one.sendall(lines)
+
+
 def never_reads(program):
     """A client sends lines until none is taken any more, and reads no answer: the next one is answered once patience is
-    over, and finds nobody in its seat."""
+    over, which is waited for once, and finds nobody in its seat."""
+    with patient(program, 1, 2, "%d" % LONG_PATIENCE) as server, server.connection() as one:
+        began = time.monotonic()
+        one.sendall(HELLO)
+        sends_all(one, LOOK * 1_000, 900)
+        good = greet(server) and is_in_time(began, LONG_PATIENCE, 2 * LONG_PATIENCE)
+        ended = server.end()
+    return good and ended == AGREED
+
+
+def trickles(program):
+    """A client that sends a byte of a line now and then has one limit for the whole line, and so has one that takes a little of its
+    answers now and then for all of them; the next client is answered then."""
+    good = []
     with patient(program, 1, 2) as server, server.connection() as one:
         began = time.monotonic()
         one.sendall(HELLO)
-        one.settimeout(PATIENCE / 2)
-        with contextlib.suppress(TimeoutError, ConnectionError):
-            for _ in range(900):
-                one.sendall(LOOK * 1_000)
-        good = greet(server) and is_in_time(began)
+        with contextlib.suppress(ConnectionError):
+            for byte in LOOK * 10:
+                one.sendall(bytes([byte]))
+                time.sleep(PATIENCE / 5)
+                if time.monotonic() > began + 5 * PATIENCE:
+                    break
+        good.append(greet(server) and is_in_time(began))
+        good.append(server.end() == AGREED)
+    with patient(program, 1, 2) as server, server.connection() as one:
+        began = time.monotonic()
+        one.sendall(HELLO)
+        sends_all(one, LOOK * 1_000, 900)
+        late = server.connection()
+        late.sendall(HELLO)
+        with contextlib.suppress(ConnectionError):
+            while is_silent(late, PATIENCE / 5) and time.monotonic() < began + 20 * PATIENCE:
+                one.recv(1_000)
+        good.append(is_in_time(began) and read_line(late) == WELCOME)
+        late.close()
+        good.append(server.end() == AGREED)
+    return all(good)
+
+
+def stopped_for_a_while(program):
+    """A server that is stopped and goes on has not lost its clients: neither one that is silent nor one whose line has come meanwhile."""
+    with patient(program, 2, 2, "%d" % LONG_PATIENCE) as server, server.connection() as silent, server.connection() as busy:
+        for one in (silent, busy):
+            one.sendall(HELLO)
+        found = [read_line(one) for one in (silent, busy)]
+        for _ in range(3):
+            os.kill(server.process.pid, signal.SIGSTOP)
+            time.sleep(0.1)
+            busy.sendall(LOOK)
+            os.kill(server.process.pid, signal.SIGCONT)
+            found.append(read_line(busy))
+        for one in (silent, busy):
+            one.sendall(BYE)
+            found.append(read_all(one))
         ended = server.end()
-    return good and ended == AGREED
+    return found == [WELCOME] * 2 + [SEEN] * 3 + [PARTED] * 2 and ended == AGREED
 
 
 def one_after_the_other(program):
@@ -95,17 +153,17 @@ def one_after_the_other(program):
 
 
 def slow_but_not_silent(program):
-    """A client that lets less time pass before each part of a line than the server waits is served for longer than that."""
+    """A client each of whose lines comes within the limit is served for longer than that."""
     with patient(program, 1, 1) as server, server.connection() as one:
         began, found = time.monotonic(), b""
         for piece in (HELLO[:9], HELLO[9:], LOOK[:5], LOOK[5:] + LOOK, BYE):
-            time.sleep(PATIENCE / 2)
+            time.sleep(PATIENCE / 3)
             one.sendall(piece)
             found += read_line(one) if piece.endswith(b"\n") else b""
         found += read_all(one)
         passed = time.monotonic() - began
         ended = server.end()
-    return passed > 2 * PATIENCE and (found, ended) == (WELCOME + SEEN * 2 + PARTED, AGREED)
+    return passed > 1.5 * PATIENCE and (found, ended) == (WELCOME + SEEN * 2 + PARTED, AGREED)
 
 
 def reads_late(program):
@@ -123,9 +181,8 @@ def reads_late(program):
 
 def waits_without_end(program):
     """Without a limit, or under a long one, a silent client keeps its worker."""
-    long = ["--patience", "86400"]
     good = []
-    for words in ([], long):
+    for words in ([], *(["--patience", seconds] for seconds in ("65536", "65537", "86400"))):
         with running(program, "--listen", "127.0.0.1:0", "--workers", "1", "--connections", "2", *words) as process:
             server = Server(process)
             with server.connection() as silent, server.connection() as late:
@@ -144,6 +201,8 @@ def tests():
     yield "silent-clients-in-a-session", silent_clients(HELLO, WELCOME)
     yield "silent-clients-in-a-line-of-a-session", silent_clients(HELLO + LOOK[:10], WELCOME, workers=1)
     yield "client-that-never-reads", never_reads
+    yield "client-that-trickles", trickles
+    yield "server-that-is-stopped-for-a-while", stopped_for_a_while
     yield "silent-clients-one-after-the-other", one_after_the_other
     yield "client-that-is-slow", slow_but_not_silent
     yield "client-that-reads-late", reads_late
