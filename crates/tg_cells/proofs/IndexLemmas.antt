@@ -1,5 +1,5 @@
 -- The index of the edges: what becomes of it when a cell is linked, freed or relabelled, and the search in a bucket.
-use Rattle.std.proofs.Common.{◌≡◌, ◌≢◌, ℕ, ◌+◌, ◌<◌, ◌≤◌, List, [], ◌∷◌, ◌++◌, length, Option, Some, None, inl, inr, sym, ◌∙◌, subst, ap, refl, set, replicate, cond, ltb, Bool, true, false, eqb, eq-eqb, ◌&&◌, arith, length-set, length-append, get_or-set_same, get_or-set_other}
+use Rattle.std.proofs.Common.{◌≡◌, ◌≢◌, ℕ, ◌+◌, ◌*◌, ◌<◌, ◌≤◌, List, [], ◌∷◌, ◌++◌, length, Option, Some, None, inl, inr, sym, ◌∙◌, subst, ap, refl, set, replicate, cond, ltb, Bool, true, false, eqb, eq-eqb, ◌&&◌, arith, length-set, length-append, get_or-set_same, get_or-set_other}
 use Rattle.std.proofs.lemmas.Bool.{cases_eq, ne_eqb, lt-ltb, le-ltb}
 use Rattle.tg_rights.specs.Membership.{Contains, Distinct}
 use Rattle.tg_rights.specs.Letters.{Letters}
@@ -257,6 +257,7 @@ same_place s after keys size = ap (λ (k : Key). bucket_of k (length after.index
 pub indexes-same : (s after : Inside) (lists now : List (List Edge)) → Indexes s lists → after.index ≡ s.index → after.key ≡ s.key → length s.cells.items ≡ length after.cells.items → s.size ≡ after.size → IsIndexed (place_in s) s.index.lists now → Indexes after now
 indexes-same s after lists now x is keys cells_size size edges = record {
   some = subst (λ (i : Rows). 1 ≤ length i.lists) (sym is) x.some;
+  enough = let buckets = ap (λ (i : Rows). length i.lists) is in let enough = x.enough in omega arith;
   used = ap (λ (i : Rows). i.used) is ∙ x.used ∙ cells_size;
   size = ap (λ (i : Rows). i.size) is ∙ x.size ∙ size;
   edges = subst (λ (f : ℕ → ℕ → ℕ). IsIndexed f after.index.lists now) (sym (same_place s after keys (ap (λ (i : Rows). length i.lists) is)))
@@ -270,8 +271,10 @@ pub indexes-link : (s after : Inside) (lists : List (List Edge)) (i b : ℕ) (e 
 indexes-link s after lists i b e x own at within is keys grows size =
     let same : length after.index.lists ≡ length s.index.lists = ap (λ (r : Rows). length r.lists) is ∙ length-set s.index.lists b (e.cell ∷ row s.index.lists b) in
     let some = x.some in
+    let enough = x.enough in
     record {
       some = omega arith;
+      enough = omega arith;
       used = ap (λ (r : Rows). r.used) is ∙ grows;
       size = ap (λ (r : Rows). r.size) is ∙ x.size ∙ size;
       edges = subst (λ (f : ℕ → ℕ → ℕ). IsIndexed f after.index.lists (set lists i (e ∷ owned lists i))) (sym (same_place s after keys same))
@@ -288,8 +291,10 @@ indexes-unlink s after v i n b serial p r e x sound rows st named at within take
     let is = takes split.before split.after split.is in
     let same : length after.index.lists ≡ length s.index.lists = ap (λ (y : Rows). length y.lists) is ∙ length-set s.index.lists b (split.before ++ split.after) in
     let some = x.some in
+    let enough = x.enough in
     record {
       some = omega arith;
+      enough = omega arith;
       used = ap (λ (y : Rows). y.used) is ∙ x.used ∙ cells_size;
       size = ap (λ (y : Rows). y.size) is ∙ x.size ∙ size;
       edges = subst (λ (f : ℕ → ℕ → ℕ). IsIndexed f after.index.lists (set v.lists i (p ++ r))) (sym (same_place s after keys same))
@@ -298,9 +303,10 @@ indexes-unlink s after v i n b serial p r e x sound rows st named at within take
     }
 
 -- If there is nothing in it.
-pub indexes-new : (s : Inside) (owners : ℕ) → s.cells.items ≡ [] → 1 ≤ length s.index.lists → s.index.used ≡ 0 → s.index.size ≡ s.size → ((b : ℕ) → row s.index.lists b ≡ []) → ((i : ℕ) → owned (replicate owners []) i ≡ []) → Indexes s (replicate owners [])
-indexes-new s owners none some used size rows lists = record {
+pub indexes-new : (s : Inside) (owners : ℕ) → s.cells.items ≡ [] → 1 ≤ length s.index.lists → s.size ≤ 4 * length s.index.lists → s.index.used ≡ 0 → s.index.size ≡ s.size → ((b : ℕ) → row s.index.lists b ≡ []) → ((i : ℕ) → owned (replicate owners []) i ≡ []) → Indexes s (replicate owners [])
+indexes-new s owners none some enough used size rows lists = record {
   some = some;
+  enough = enough;
   used = used ∙ sym (ap length none);
   size = size;
   edges = record {

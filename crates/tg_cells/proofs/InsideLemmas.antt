@@ -2,6 +2,7 @@
 use Rattle.std.proofs.Common.{◌≡◌, ℕ, ◌<◌, ◌≤◌, List, [], ◌∷◌, length, Some, None, sym, ◌∙◌, subst, ap, refl, map, get_or, arith, cond, true, false, ltb}
 use Rattle.std.proofs.lemmas.Bool.{lt-ltb, le-ltb}
 use Rattle.std.proofs.lemmas.List.{ext_get_or, get_or-map}
+use Rattle.tg_cells.specs.declared.key.Key.{Key}
 use Rattle.tg_cells.specs.declared.pool.Cell.{Cell}
 use Rattle.tg_cells.specs.declared.cells.Cells.TheInside.{Inside}
 use Rattle.tg_cells.specs.Lists.{Edge, CellLists, owned, first_cell, Stands}
@@ -20,9 +21,10 @@ shows_view s v k =
     let size : s.size ≡ v.size = k.size in
     let all : map (λ (h : ℕ). walk v.size s.cells.items v.size h) s.heads.items ≡ v.lists =
     ext_get_or [] (map (λ (h : ℕ). walk v.size s.cells.items v.size h) s.heads.items) v.lists (heads ∙ k.heads) (λ i w. one i (omega (arith, w, heads))) in
-    ap (λ (n : ℕ). record { lists = map (λ (h : ℕ). walk n s.cells.items n h) s.heads.items; free = s.free_count; size = n }) size
-    ∙ ap (λ (l : List (List Edge)). record { lists = l; free = s.free_count; size = v.size }) all
-    ∙ ap (λ (n : ℕ). record { lists = v.lists; free = n; size = v.size }) k.count where
+    ap (λ (n : ℕ). record { lists = map (λ (h : ℕ). walk n s.cells.items n h) s.heads.items; free = s.free_count; size = n; key = s.key }) size
+    ∙ ap (λ (l : List (List Edge)). record { lists = l; free = s.free_count; size = v.size; key = s.key }) all
+    ∙ ap (λ (n : ℕ). record { lists = v.lists; free = n; size = v.size; key = s.key }) k.count
+    ∙ ap (λ (x : Key). record { lists = v.lists; free = v.free; size = v.size; key = x }) k.key where
       heads : length (map (λ (h : ℕ). walk v.size s.cells.items v.size h) s.heads.items) ≡ length s.heads.items
       heads = length_map (λ (h : ℕ). walk v.size s.cells.items v.size h) s.heads.items
 

@@ -69,6 +69,7 @@ provides s v w owners number is inside every k room = by (provided_by s.cells.it
     chains = subst (λ (l : List Cell). (i : ℕ) → i < length v.lists → Chain v.size l i v.size (get_or s.heads.items i v.size) (owned v.lists i)) (sym e) shown.chains;
     free = subst (λ (l : List Cell). IsFree v.size l (length v.lists) number v.free) (sym e) (subst (λ (h : ℕ). IsFree v.size cs (length v.lists) h v.free) (sym same) shown.free);
     count = shown.count;
+    key = shown.key;
     sound = shown.sound;
   }) seen'.most seen'.most_owners room
 
@@ -108,6 +109,7 @@ provides s v w owners number is inside every k room = by (provided_by s.cells.it
             counted = omega arith;
           };
           count = shown.count;
+          key = shown.key;
           sound = shown.sound;
         }) seen'.most seen'.most_owners room;
         full = λ any. absurd (omega arith);
@@ -243,6 +245,7 @@ links_in s v w g x i next c is inside own none some within mine first after next
       free = subst (λ (m : ℕ). IsFree v.size w.items m next (v.free - 1)) (sym lists)
           (subst (λ (l : List Cell). IsFree v.size l (length v.lists) next (v.free - 1)) (sym ev) free);
       count = ap (λ (m : ℕ). m - 1) count;
+      key = shown.key;
       sound = sound-link v i (edge_of s.free c) shown.sound own fresh none some (omega arith);
     }) seen.most (omega arith) room in
     record {

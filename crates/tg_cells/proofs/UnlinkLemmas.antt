@@ -155,6 +155,7 @@ leaves-joined s v w g x n i owners a b p r e is inside st own k path rest total 
       free = subst (λ (m : ℕ). IsFree v.size w.items m n (v.free + 1)) (total ∙ sym lists)
           (subst (λ (l : List Cell). IsFree v.size l owners n (v.free + 1)) (sym ev) (freed v.size s.cells.items i n a b owners s.free v.free (cells p) (cells r) k other free));
       count = ap (λ (m : ℕ). m + 1) shown.count;
+      key = shown.key;
       sound = sound-unlink v n i p r e shown.sound st;
     }) seen.most (omega arith) room
 

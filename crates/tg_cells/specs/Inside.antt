@@ -1,6 +1,6 @@
 -- the lists that linked cells represent: one chain from each owner's head, one row of free cells among those used so
 -- far, and an index of the edges
-use Rattle.std.specs.Prelude.{◌≡◌, ℕ, ◌+◌, ◌<◌, ◌≤◌, List, length, map}
+use Rattle.std.specs.Prelude.{◌≡◌, ℕ, ◌+◌, ◌*◌, ◌<◌, ◌≤◌, List, length, map}
 use Rattle.std.proofs.Common.{get_or}
 use Rattle.tg_rights.specs.declared.limits.TheConstants.{MAX_CELLS, MAX_SLOTS}
 use Rattle.tg_rights.specs.Membership.{Distinct}
@@ -25,11 +25,12 @@ pub record Shows (s : Inside) (v : CellLists) : Type 0 where
   pub chains : (i : ℕ) → i < length v.lists → Chain v.size s.cells.items i v.size (get_or s.heads.items i v.size) (owned v.lists i)
   pub free : IsFree v.size s.cells.items (length v.lists) s.free v.free
   pub count : s.free_count ≡ v.free
+  pub key : s.key ≡ v.key
   pub sound : IsCells v
 
 -- what the walks from all heads return. No list is longer than the number of cells.
 abbrev pub view_of : Inside → CellLists
-view_of s = record { lists = map (λ h. walk s.size s.cells.items s.size h) s.heads.items; free = s.free_count; size = s.size }
+view_of s = record { lists = map (λ h. walk s.size s.cells.items s.size h) s.heads.items; free = s.free_count; size = s.size; key = s.key }
 
 pub record IsInside (s : Inside) : Type 0 where
   pub shown : Shows s (view_of s)
@@ -41,9 +42,10 @@ pub record IsInside (s : Inside) : Type 0 where
 abbrev pub place_in : Inside → ℕ → ℕ → ℕ
 place_in s = bucket_of s.key (length s.index.lists)
 
--- the index has these lists' edges, and as many used numbers as there are used cells
+-- the index has these lists' edges, as many used numbers as there are used cells, and a bucket for each four cells
 pub record Indexes (s : Inside) (lists : List (List Edge)) : Type 0 where
   pub some : 1 ≤ length s.index.lists
+  pub enough : s.size ≤ 4 * length s.index.lists
   pub used : s.index.used ≡ length s.cells.items
   pub size : s.index.size ≡ s.size
   pub edges : IsIndexed (place_in s) s.index.lists lists

@@ -1,7 +1,9 @@
 //! The cells: arrays of numbers, and a list through them for each owner.
-ghost use Rattle.std.specs.Prelude.{◌≡◌, ℕ, ◌+◌, ◌<◌, ◌≤◌, List, [], ◌∷◌, ◌++◌, length, MatchOption, MatchBool, IfOk, Some, None, cond, ltb, eqb, ◌&&◌, set, false};
+ghost use Rattle.std.specs.Prelude.{◌≡◌, ℕ, ◌+◌, ◌*◌, ◌<◌, ◌≤◌, List, [], ◌∷◌, ◌++◌, length, MatchOption, MatchBool, IfOk, Some, None, max, cond, ltb, eqb, ◌&&◌, set, false};
+ghost use Rattle.std.specs.Int.{IsPowerOfTwo};
 ghost use Rattle.tg_rights.specs.declared.limits.TheConstants.{MAX_CELLS, MAX_SLOTS};
 ghost use Rattle.tg_rights.specs.Letters.{is_none};
+ghost use Rattle.tg_cells.specs.declared.key.TheConstants.Key.{FIXED};
 ghost use Rattle.tg_cells.specs.Lists.{CellLists, Edge, owned, first_cell, Stands, IsLinked, IsLinkedBy, HasNone, IsFresh, Found, IsCells};
 ghost use Rattle.tg_cells.specs.Chain.{IsProvided};
 
@@ -87,11 +89,13 @@ fn set_head(heads: &mut [u32], owner: u32, is_first: bool, next: u32)
     }
 }
 
-// How many buckets there are for that many cells: a power of two, for two cells each if all are in use. With more, rows
-// would hardly be shorter, and the heads would take more of the processor's cache.
+// How many buckets there are for that many cells: a power of two, from one for two cells to one for each. With more,
+// rows would hardly be shorter, and the heads would take more of the processor's cache.
 fn buckets_for(count: u32) -> u32
     requires { count ≤ MAX_CELLS }
-    ensures { 1 ≤ result }
+    ensures power { IsPowerOfTwo result }
+    ensures enough { count ≤ 4 * result }
+    ensures few { result ≤ max 1 count }
 {
     (count / 2).max(1).next_power_of_two()
 }
@@ -104,7 +108,8 @@ impl Cells {
         requires high_owners { owners ≤ MAX_SLOTS }
         requires low { 1 ≤ count }
         requires high { count ≤ MAX_CELLS }
-        ensures { IfOk result (λ c. (length c.lists ≡ owners) × (c.free ≡ count) × (c.size ≡ count) × ((i : ℕ) → owned c.lists i ≡ [])) }
+        ensures empty { IfOk result (λ c. (length c.lists ≡ owners) × (c.free ≡ count) × (c.size ≡ count) × ((i : ℕ) → owned c.lists i ≡ [])) }
+        ensures key { IfOk result (λ c. c.key ≡ FIXED) }
     {
         Cells::with_key(alloc, Key::FIXED, owners, count)
     }
@@ -116,7 +121,8 @@ impl Cells {
         requires high_owners { owners ≤ MAX_SLOTS }
         requires low { 1 ≤ count }
         requires high { count ≤ MAX_CELLS }
-        ensures { IfOk result (λ c. (length c.lists ≡ owners) × (c.free ≡ count) × (c.size ≡ count) × ((i : ℕ) → owned c.lists i ≡ [])) }
+        ensures empty { IfOk result (λ c. (length c.lists ≡ owners) × (c.free ≡ count) × (c.size ≡ count) × ((i : ℕ) → owned c.lists i ≡ [])) }
+        ensures key { IfOk result (λ c. c.key ≡ key) }
     {
         let heads = vec![in alloc; count; owners as usize]?;
         let cells = Pool::new(alloc, count)?;

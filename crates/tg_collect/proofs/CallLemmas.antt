@@ -188,7 +188,7 @@ module _ {m : Machine} {id : ℕ} (w : Whole m) (h : Holds m id) (text : List �
   same_left = rw same (left_rewrites (body m) (body after) (progress_of m) id m.heap.cell_count text step)
 
   text_put : Replaced m after id (record (owner h) { text = text })
-  text_put = replaced w retold m.progress id (record (owner h) { text = text }) step.is (owner_within h) (λ r. sym (ap name_of (owner_is h))) refl (rw same (rewrites_keeps (body m) (body after) (progress_of m) id text step w.kept)) ((same_lists m.heap retold.table m.progress).1 w.cursor)
+  text_put = replaced w retold m.progress id (record (owner h) { text = text }) step.is (owner_within h) (λ r. sym (ap name_of (owner_is h))) refl refl (rw same (rewrites_keeps (body m) (body after) (progress_of m) id text step w.kept)) ((same_lists m.heap retold.table m.progress).1 w.cursor)
       (ap values.shown same) (let l = same_left in omega (arith, l))
 
   text_replaced : TextReplaced (stored m) (stored after) (serial_at (stored m) id) text h.occupant.text

@@ -89,12 +89,12 @@ pub record Replaced (m n : Machine) (i : ℕ) (s : Spot) : Type 0 where
 
 -- From the invariant, the cursor and the measure.
 pub replaced : {m : Machine} (w : Whole m) (g : HeapGraph) (q : Progress) (i : ℕ) (s : Spot) → body_of g (lists_of m.roots) ≡ put (body m) i (Some s) → i < length (body m).slots → (HasRoot (bare (lists_of m.roots)) i → Some s.serial ≡ name (body m) i)
-    → g.cell_count ≡ m.heap.cell_count → Invariant (body_of g (lists_of m.roots)) (progress_in g q) → CursorFits g q → values.shown (progress_in g q) ≡ values.shown (progress_of m)
+    → g.cell_count ≡ m.heap.cell_count → g.key ≡ m.heap.key → Invariant (body_of g (lists_of m.roots)) (progress_in g q) → CursorFits g q → values.shown (progress_in g q) ≡ values.shown (progress_of m)
     → left g.cell_count (body_of g (lists_of m.roots)) (progress_in g q) ≤ (stored m).left → Replaced m (record m { heap = g; progress = q }) i s
-replaced {m = m} w g q i s shows inside named count holds cursor stage less = record {
+replaced {m = m} w g q i s shows inside named count key holds cursor stage less = record {
   whole = record { kept = holds; cursor = cursor; roots = roots_move (lists_of m.roots) (body m) (body_of g (lists_of m.roots)) names w.roots };
   left = less;
-  is = stored_is m g q m.roots (lists_of m.roots) (set (stored m).slots i (Some s)) (ap (λ (b : Body). b.slots) shows) stage count refl;
+  is = stored_is m g q m.roots (lists_of m.roots) (set (stored m).slots i (Some s)) (ap (λ (b : Body). b.slots) shows) stage count key refl;
 } where
   names : (j : ℕ) → HasRoot (bare (lists_of m.roots)) j → name (body_of g (lists_of m.roots)) j ≡ name (body m) j
   names j r = ap (λ (b : Body). name b j) shows ∙ put_each (λ j x. HasRoot (bare (lists_of m.roots)) j → name_of x ≡ name (body m) j) (body m) i (Some s) inside named (λ j n r. refl) j r
@@ -136,7 +136,7 @@ module _ {m : Machine} {id : ℕ} (ok : IsHeap m.heap) (w : Whole m) (h : Holds 
         target = rooted;
         is = shows (e ∷ edges m.heap id) k;
       } in
-      replaced w g m.progress id (record (owner h) { edges = e ∷ edges m.heap id }) (shows (e ∷ edges m.heap id) k) (owner_within h) (λ r. sym (ap name_of (owner_is h))) refl
+      replaced w g m.progress id (record (owner h) { edges = e ∷ edges m.heap id }) (shows (e ∷ edges m.heap id) k) (owner_within h) (λ r. sym (ap name_of (owner_is h))) refl refl
       (rw p.0 (puts_keeps (body m) (body_of g (lists_of m.roots)) (progress_of m) id e step w.kept)) p.1 (ap values.shown p.0) (rw p.0 (left_puts (body m) (body_of g (lists_of m.roots)) (progress_of m) id m.heap.cell_count e step))
 
   -- An edge gives way to others to the same vertex.
@@ -150,7 +150,7 @@ module _ {m : Machine} {id : ℕ} (ok : IsHeap m.heap) (w : Whole m) (h : Holds 
       let t = trims m.heap id k within before e news after m.progress was (ok.cells.cell_once id) (once es k ok') w.cursor in
       let step : DropsEdge (body m) (progress_of m) id before e news after (body_of g (lists_of m.roots)) (progress_in g q) =
       record { owner = owner h; at = owner_is h; edges = was; alike = alike; stage = t.0; is = shows es k } in
-      replaced w g q id (record (owner h) { edges = es }) (shows es k) (owner_within h) (λ r. sym (ap name_of (owner_is h))) refl (drops_keeps (body m) (body_of g (lists_of m.roots)) (progress_of m) (progress_in g q) id before e news after step w.kept) t.1
+      replaced w g q id (record (owner h) { edges = es }) (shows es k) (owner_within h) (λ r. sym (ap name_of (owner_is h))) refl refl (drops_keeps (body m) (body_of g (lists_of m.roots)) (progress_of m) (progress_in g q) id before e news after step w.kept) t.1
       (trims_stage id before e news after (progress_of m) (progress_in g q) t.0) (left_drops (body m) (body_of g (lists_of m.roots)) (progress_of m) (progress_in g q) id before e news after m.heap.cell_count step few)
 
 -- An edge gets another label.

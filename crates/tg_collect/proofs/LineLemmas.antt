@@ -44,7 +44,7 @@ step_of m h p at shows line cursor counts = record { line = rw (at, shows) line;
 
 -- Shading frees nothing.
 pub shaded_counts : (h : HeapGraph) (xs : List (Option ℕ)) → Counts h (record h { table = all_shaded xs h.table }) 0
-shaded_counts h xs = let f = ap length (all_same xs h.table).0 in record { cells = refl; free_slots = omega (arith, f); free_cells = omega arith }
+shaded_counts h xs = let f = ap length (all_same xs h.table).0 in record { cells = refl; key = refl; free_slots = omega (arith, f); free_cells = omega arith }
 
 -- What a collector step leaves, and what contracts see of it.
 -- The slot before the sweep is not grey.
@@ -113,6 +113,7 @@ collected m n freed ended s ok ok' w = record {
   held = λ y. held_same (stored m) (stored n) step.size (step.held y);
   roots = ap lists_of s.roots;
   cells = s.counts.cells;
+  key = s.counts.key;
   freed = freed_so.0;
   few = freed_so.1;
   free_slots = let a = free_so m.heap (lists_of m.roots) ok in let b = free_so n.heap (lists_of n.roots) ok' in let f = s.counts.free_slots in omega (arith, a, b, f);

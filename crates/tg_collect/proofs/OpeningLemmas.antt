@@ -134,7 +134,7 @@ principal_opens m a n count i text ok first few bare put added = (
     };
     triples = ap (λ (v : Stored). triples v) done.1 ∙ ap (λ (g : Protection). g.triples) (c.graph 0) ∙ first.triples;
   }),
-  record { slots = size; cells = ap (λ (x : Machine). x.heap.cell_count) same },
+  record { slots = size; cells = ap (λ (x : Machine). x.heap.cell_count) same; key = ap (λ (x : Machine). x.heap.key) same },
 ) where
   o : HasOpened m count
   o = first.opened

@@ -31,6 +31,7 @@ acted_principal v w seat x serial text rights p = subst (λ (z : Stored). Acted 
   slots = a.slots;
   changes = a.changes;
   cells = a.cells;
+  key = a.key;
   left = a.left;
 }) where
   a : Acted v p.between (Some serial) (Some serial)

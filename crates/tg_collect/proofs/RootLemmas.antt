@@ -32,6 +32,7 @@ rerooted m rs w seats few agents known stays n (roots, is) = subst (λ (k : Mach
     free_cells = m.heap.free_cells;
     cells = m.heap.cell_count;
     left = same_roots (body m) (progress_of m) m.heap.cell_count (bare (lists_of n.roots)) i;
+    key = m.heap.key;
   },
 ) where
   step : Reroots (body m) (progress_of m) (bare rs) (record (body m) { roots = bare rs })

@@ -31,9 +31,9 @@ same_lists h t p = grind arith
 
 -- What contracts see of a machine with another heap, progress and roots.
 pub stored_is : (m : Machine) (g : HeapGraph) (q : Progress) (r : Roots) (rs : RootLists) (slots : List (Option Spot)) → zip g.table.slots g.lists ≡ slots → values.shown (progress_in g q) ≡ values.shown (progress_of m)
-    → g.cell_count ≡ m.heap.cell_count → lists_of r ≡ rs
+    → g.cell_count ≡ m.heap.cell_count → g.key ≡ m.heap.key → lists_of r ≡ rs
     → stored (record { heap = g; progress = q; roots = r }) ≡ record (stored m) { slots = slots; roots = rs; free_cells = g.free_cells; left = (stored (record { heap = g; progress = q; roots = r })).left }
-stored_is m g q r rs slots a b c d = λ n. record { slots = a n; stage = b n; roots = d n; free_cells = g.free_cells; cells = c n; left = (stored (record { heap = g; progress = q; roots = r })).left }
+stored_is m g q r rs slots a b c k d = λ n. record { slots = a n; stage = b n; roots = d n; free_cells = g.free_cells; cells = c n; left = (stored (record { heap = g; progress = q; roots = r })).left; key = k n }
 
 -- A seat shades its target and clears it.
 module _ (m : Machine) (seat serial i : ℕ) (r : Roots) (w : Whole m) (at : get_or m.roots.targets.items seat None ≡ Some (record { serial = serial; slot = i })) (roots : lists_of r ≡ with_target (lists_of m.roots) seat None) where
@@ -67,7 +67,7 @@ module _ (m : Machine) (seat serial i : ℕ) (r : Roots) (w : Whole m) (at : get
   ungreyed b = grind arith
 
   is : stored cleared ≡ record (stored m) { slots = (shade (shown (stored m)) i).slots; roots = with_target (lists_of m.roots) seat None; left = (stored cleared).left }
-  is = stored_is m cleared.heap m.progress r (with_target (lists_of m.roots) seat None) (shade (shown (stored m)) i).slots (ap (λ (b : Body). b.slots) shows ∙ ungreyed (body m)) (ap values.shown same) refl roots
+  is = stored_is m cleared.heap m.progress r (with_target (lists_of m.roots) seat None) (shade (shown (stored m)) i).slots (ap (λ (b : Body). b.slots) shows ∙ ungreyed (body m)) (ap values.shown same) refl refl roots
 
   seat_shaded : TargetShaded (stored m) (stored cleared) seat serial
   seat_shaded = record {
@@ -97,7 +97,7 @@ pub acted_roots : (v w : Stored) (rs : RootLists) (target : Option ℕ) → w �
     → ((x : ℕ) → Contains (map (λ o. root_serial o) rs.targets) (Some x) → Contains (pending v) (Some x) ⊎ (target ≡ Some x))
     → ((x : ℕ) → Contains (map (λ o. root_serial o) rs.agents) (Some x) → Contains (agents v) (Some x) ⊎ (target ≡ Some x)) → Acted v w None target
 acted_roots v w rs target is old seats assumed = subst (λ (z : Stored). Acted v z None target) (sym is)
-    (record { stage = refl; principals = λ x h. inl (old x h); agents = assumed; pending = seats; slots = refl; changes = λ i. marking.same (readings.spot v i); cells = refl; left = omega arith })
+    (record { stage = refl; principals = λ x h. inl (old x h); agents = assumed; pending = seats; slots = refl; changes = λ i. marking.same (readings.spot v i); cells = refl; key = refl; left = omega arith })
 
 pub acted_same : (v w : Stored) → w ≡ v → Acted v w None None
 acted_same v w is = acted_roots v w v.roots None is (λ x h. h) (λ x h. inl h) (λ x h. inl h)
@@ -109,7 +109,7 @@ module _ (v : Stored) (new target : Option ℕ) where
 
   acted_by : (os : List (Option Spot)) (targets : List (Option Root)) (free left : ℕ) → ((x : ℕ) → Contains (map (λ o. root_serial o) targets) (Some x) → Contains (pending v) (Some x) ⊎ (target ≡ Some x)) → length os ≡ length v.slots
       → EachChanges os → left ≤ v.left → Acted v (record v { slots = os; roots = record v.roots { targets = targets }; free_cells = free; left = left }) new target
-  acted_by os targets free left seats size each lower = record { stage = refl; principals = λ x h. inl h; agents = λ x h. inl h; pending = seats; slots = size; changes = each; cells = refl; left = lower }
+  acted_by os targets free left seats size each lower = record { stage = refl; principals = λ x h. inl h; agents = λ x h. inl h; pending = seats; slots = size; changes = each; cells = refl; key = refl; left = lower }
 
   -- One slot more changes.
   one_changes : (os : List (Option Spot)) (i : ℕ) (o : Option Spot) → i < length os → Changed v new target i (readings.spot v i) o → EachChanges os → EachChanges (set os i o)

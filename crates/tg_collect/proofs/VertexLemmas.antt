@@ -66,7 +66,7 @@ module _ (m : Machine) (i serial : ℕ) (kind : Kind) (text rest : List ℕ) (ok
   came_put : Replaced m n i (as_spot occupant [])
   came_put = replaced w n.heap m.progress i (as_spot occupant []) shows inside
       (λ r. absurd (let k = w.kept.closed.roots i r in let none : values.kept (body m) (stored m).stage i ≡ None = ap (seen (stored m).stage i) empty in let held = k.1 in cc))
-      refl (rw same kept_now.0) ((same_lists m.heap n.heap.table m.progress).1 w.cursor) (ap values.shown same) (rw same (left_places (body m) (body n) (progress_of m) i serial m.heap.cell_count kind text step))
+      refl refl (rw same kept_now.0) ((same_lists m.heap n.heap.table m.progress).1 w.cursor) (ap values.shown same) (rw same (left_places (body m) (body n) (progress_of m) i serial m.heap.cell_count kind text step))
 
   is : stored n ≡ record (stored m) { slots = set (stored m).slots i (Some vertex); left = (stored n).left }
   is = came_put.is

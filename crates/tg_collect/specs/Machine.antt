@@ -120,9 +120,10 @@ pub record Whole (m : Machine) : Type 0 where
   pub cursor : CursorFits m.heap m.progress
   pub roots : AreRoots (lists_of m.roots) (body m)
 
--- the cells stay, and this many slots are freed, with a cell at most
+-- the cells and the key stay, and this many slots are freed, with a cell at most
 pub record Counts (h g : HeapGraph) (freed : ℕ) : Type 0 where
   pub cells : g.cell_count ≡ h.cell_count
+  pub key : g.key ≡ h.key
   pub free_slots : length g.table.free ≡ length h.table.free + freed
   pub free_cells : (h.free_cells ≤ g.free_cells) × (g.free_cells ≤ h.free_cells + 1)
 

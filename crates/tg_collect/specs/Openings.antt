@@ -91,10 +91,11 @@ pub record OpensFirst (m : Machine) (count : ℕ) : Type 0 where
   pub opened : HasOpened m count
   pub triples : triples (stored m) ≡ finset.empty
 
--- a machine keeps its size
+-- a machine keeps its size and its key
 pub record KeepsSize (m n : Machine) : Type 0 where
   pub slots : length n.heap.table.slots ≡ length m.heap.table.slots
   pub cells : n.heap.cell_count ≡ m.heap.cell_count
+  pub key : n.heap.key ≡ m.heap.key
 
 -- pairs of serials in the order in which their edges are added
 abbrev pub rank : ℕ → ℕ → ℕ

@@ -135,4 +135,5 @@ pub record Acted (v w : Stored) (new target : Option ℕ) : Type 0 where
   pub slots : length w.slots ≡ length v.slots
   pub changes : (i : ℕ) → Changed v new target i (spot v i) (spot w i)
   pub cells : w.cells ≡ v.cells
+  pub key : w.key ≡ v.key
   pub left : w.left ≤ v.left

@@ -69,6 +69,7 @@ pub record Collected (v w : Stored) (freed_slots : ℕ) (ended : Bool) : Type 0 
   pub held : marking.Stays v.stage w.stage → (next : ℕ) → held w next ≡ held v next
   pub roots : w.roots ≡ v.roots
   pub cells : w.cells ≡ v.cells
+  pub key : w.key ≡ v.key
   pub freed : (phase v ≡ Sweep) ⊎ (freed_slots ≡ 0)
   pub few : freed_slots ≤ 1
   pub free_slots : free_slots w ≡ free_slots v + freed_slots

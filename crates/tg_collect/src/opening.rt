@@ -30,6 +30,7 @@ impl Machine {
         requires opening { IsOpening graph.now slots cells }
         ensures whole { IfOk result Whole }
         ensures opened { IfOk result (λ m. Opened (stored m) graph.now slots cells) }
+        ensures key { IfOk result (λ m. m.heap.key ≡ key) }
     {
         graph.soundness();
         let mut machine = Machine::blank(alloc, key, slots, cells)?;
@@ -47,6 +48,7 @@ impl Machine {
         ensures first { IfOk result (λ m. OpensFirst m 0) }
         ensures slots { IfOk result (λ m. length m.heap.table.slots ≡ slots) }
         ensures cells { IfOk result (λ m. m.heap.cell_count ≡ cells) }
+        ensures key { IfOk result (λ m. m.heap.key ≡ key) }
     {
         let progress = PackedProgress::of(Progress::Idle);
         let heap = Heap::with_key(alloc, key, slots, cells)?;
@@ -99,6 +101,7 @@ impl Machine {
         ensures whole { Whole self.new }
         ensures opened { Opened (stored self.new) graph.now (length self.old.heap.table.slots)
             self.old.heap.cell_count }
+        ensures key { self.new.heap.key ≡ self.old.heap.key }
     {
         let count = self.roots.principals.len() as u32;
         for from in 0..count {

@@ -8,6 +8,7 @@ ghost use Rattle.tg_rights.specs.Letters.{is_none, includes, none};
 ghost use Rattle.tg_rights.specs.Membership.{Contains};
 ghost use Rattle.tg_graph.specs.Protection.{label};
 ghost use Rattle.tg_graph.specs.Rules.{edges_of};
+ghost use Rattle.tg_cells.specs.declared.key.TheConstants.Key.{FIXED};
 ghost use Rattle.tg_heap.specs.Graph.{edges};
 ghost use Rattle.tg_collect.specs.Readings.{IsHeldIn, IsParkedIn, IsEdgeIn, held, vertices, principals, place, serial_at, pending_of, agent_of, free_slots, slot_count, phase};
 ghost use Rattle.tg_collect.specs.Views.{IsStore, Collected};
@@ -57,7 +58,8 @@ impl Store {
         requires low_cells { 1 ≤ cells }
         requires high_cells { cells ≤ MAX_CELLS }
         requires opening { IsOpening graph.now slots cells }
-        ensures { IfOk result (λ store. Opened store graph.now slots cells) }
+        ensures opened { IfOk result (λ store. Opened store graph.now slots cells) }
+        ensures key { IfOk result (λ store. store.key ≡ FIXED) }
     {
         Store::with_key(alloc, Key::FIXED, graph, slots, cells)
     }
@@ -75,7 +77,8 @@ impl Store {
         requires low_cells { 1 ≤ cells }
         requires high_cells { cells ≤ MAX_CELLS }
         requires opening { IsOpening graph.now slots cells }
-        ensures { IfOk result (λ store. Opened store graph.now slots cells) }
+        ensures opened { IfOk result (λ store. Opened store graph.now slots cells) }
+        ensures key { IfOk result (λ store. store.key ≡ key) }
     {
         let machine = Machine::open(alloc, key, graph, slots, cells)?;
         Ok(Store { machine })

@@ -2,16 +2,19 @@
 use Rattle.std.specs.Prelude.{◌≡◌, ℕ, ◌<◌, List, [], ◌∷◌, length}
 use Rattle.tg_slots.specs.Table.{Table, Mark, Free, Has, mark, recoloured, IsSound}
 use Rattle.tg_rights.specs.Membership.{Contains}
+use Rattle.tg_cells.specs.declared.key.Key.{Key}
 use Rattle.tg_cells.specs.Lists.{Edge, CellLists, owned, IsCells}
 use Rattle.tg_slots.specs.declared.colour.Colour.{Colour}
 use Rattle.tg_slots.specs.declared.colour.Colour.TheVariants.{White, Grey, Black}
 
--- the slots, each owner's edges from the first, the number of free cells and that of all cells
+-- the slots, each owner's edges from the first, the number of free cells, that of all cells, and the key by which edges
+-- are found
 pub record HeapGraph : Type 0 where
   pub table : Table
   pub lists : List (List Edge)
   pub free_cells : ℕ
   pub cell_count : ℕ
+  pub key : Key
 
 -- the edges of the vertex in a slot
 abbrev pub edges : HeapGraph → ℕ → List Edge
@@ -22,10 +25,10 @@ mark_at h i = mark h.table i
 
 -- the cells' part of a heap, and a heap from its two parts
 abbrev pub cell_lists : HeapGraph → CellLists
-cell_lists h = record { lists = h.lists; free = h.free_cells; size = h.cell_count }
+cell_lists h = record { lists = h.lists; free = h.free_cells; size = h.cell_count; key = h.key }
 
 abbrev pub heap_of : Table → CellLists → HeapGraph
-heap_of t c = record { table = t; lists = c.lists; free_cells = c.free; cell_count = c.size }
+heap_of t c = record { table = t; lists = c.lists; free_cells = c.free; cell_count = c.size; key = c.key }
 
 -- a table after a slot was shaded: a white slot is grey and waits, others stay
 abbrev pub shaded_by : Mark → Table → ℕ → Table

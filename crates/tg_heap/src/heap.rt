@@ -5,6 +5,7 @@ ghost use Rattle.tg_rights.specs.Letters.{is_none, includes};
 ghost use Rattle.tg_rights.specs.Membership.{Contains};
 ghost use Rattle.tg_slots.specs.Table.{Free, Has, slot, with_text, in_slot, fresh};
 ghost use Rattle.tg_slots.specs.declared.slots.Occupant.{Occupant};
+ghost use Rattle.tg_cells.specs.declared.key.TheConstants.Key.{FIXED};
 ghost use Rattle.tg_cells.specs.Lists.{Edge, first_cell, Stands, IsLinked, HasNone, Found};
 ghost use Rattle.tg_heap.specs.Graph.{HeapGraph, edges, mark_at, shaded, painted, IsHeap};
 ghost use Rattle.tg_heap.specs.Calls.{IsAdded, IsDropped};
@@ -55,7 +56,8 @@ impl Heap {
         requires high_slots { slots ≤ MAX_SLOTS }
         requires low_cells { 1 ≤ cells }
         requires high_cells { cells ≤ MAX_CELLS }
-        ensures { IfOk result (λ h. (h.table ≡ fresh slots) × (h.free_cells ≡ cells) × (h.cell_count ≡ cells) × ((i : ℕ) → edges h i ≡ [])) }
+        ensures empty { IfOk result (λ h. (h.table ≡ fresh slots) × (h.free_cells ≡ cells) × (h.cell_count ≡ cells) × ((i : ℕ) → edges h i ≡ [])) }
+        ensures key { IfOk result (λ h. h.key ≡ FIXED) }
     {
         Heap::with_key(alloc, Key::FIXED, slots, cells)
     }
@@ -66,7 +68,8 @@ impl Heap {
         requires high_slots { slots ≤ MAX_SLOTS }
         requires low_cells { 1 ≤ cells }
         requires high_cells { cells ≤ MAX_CELLS }
-        ensures { IfOk result (λ h. (h.table ≡ fresh slots) × (h.free_cells ≡ cells) × (h.cell_count ≡ cells) × ((i : ℕ) → edges h i ≡ [])) }
+        ensures empty { IfOk result (λ h. (h.table ≡ fresh slots) × (h.free_cells ≡ cells) × (h.cell_count ≡ cells) × ((i : ℕ) → edges h i ≡ [])) }
+        ensures key { IfOk result (λ h. h.key ≡ key) }
     {
         let table = Slots::new(alloc, slots)?;
         let cells = Cells::with_key(alloc, key, slots, cells)?;

@@ -8,15 +8,15 @@ use Rattle.tg_cells.proofs.cells.Cells.with_key.Goals as goal
 pub invariant_of-result : goal.invariant_of-result
 invariant_of-result c =
     let some = c.in_ok-index.ensures.0 in
-    let least = c.buckets_for.ensures in
-    (stays (record { cells = c.in_ok-cells.cells; heads = c.in_ok-heads.heads; free = c.args.count; free_count = c.args.count; size = c.args.count; index = c.in_ok-index.index; key = c.args.key }) (empty c.args.owners c.args.count)
+    let enough = c.buckets_for.ensures.enough in
+    (stays (record { cells = c.in_ok-cells.cells; heads = c.in_ok-heads.heads; free = c.args.count; free_count = c.args.count; size = c.args.count; index = c.in_ok-index.index; key = c.args.key }) (empty c.args.owners c.args.count c.args.key)
     (leaves-new (record { cells = c.in_ok-cells.cells; heads = c.in_ok-heads.heads; free = c.args.count; free_count = c.args.count; size = c.args.count; index = c.in_ok-index.index; key = c.args.key }) c.args.owners
     (c.in_ok-heads.ensures.items_if_clones_equal (λ y e. e)) c.in_ok-cells.ensures.none refl refl c.requires.high_owners c.requires.high c.in_ok-cells.ensures.room)
     (indexes-new (record { cells = c.in_ok-cells.cells; heads = c.in_ok-heads.heads; free = c.args.count; free_count = c.args.count; size = c.args.count; index = c.in_ok-index.index; key = c.args.key }) c.args.owners c.in_ok-cells.ensures.none
-    (omega arith) c.in_ok-index.ensures.1 c.in_ok-index.ensures.2 c.in_ok-index.ensures.3 (λ i. empty_at c.args.owners i))).kept
+    (omega arith) (omega arith) c.in_ok-index.ensures.1 c.in_ok-index.ensures.2 c.in_ok-index.ensures.3 (λ i. empty_at c.args.owners i))).kept
 
-pub returns : goal.returns
-returns c =
+pub returns-clause-empty : goal.returns-clause-empty
+returns-clause-empty c =
     let shows = (leaves-new (record { cells = c.in_ok-cells.cells; heads = c.in_ok-heads.heads; free = c.args.count; free_count = c.args.count; size = c.args.count; index = c.in_ok-index.index; key = c.args.key }) c.args.owners
     (c.in_ok-heads.ensures.items_if_clones_equal (λ y e. e)) c.in_ok-cells.ensures.none refl refl c.requires.high_owners c.requires.high c.in_ok-cells.ensures.room).shows in (
       ap (λ (v : CellLists). length v.lists) shows ∙ length-replicate {A = List Edge} c.args.owners [],

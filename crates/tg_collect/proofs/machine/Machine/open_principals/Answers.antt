@@ -18,7 +18,7 @@ pub loop-alloc-preserved : goal.loop-alloc-preserved
 loop-alloc-preserved c = record {
   first = c.open_principal.ensures.0;
   few = λ count e. let low = kind_low c.args.graph.now count (c.loop-alloc.count + 1) e (sym (ap is_some c.kind.ensures) ∙ sym c.is_some.ensures ∙ c.loop-alloc-test.true) in omega (arith, low);
-  size = record { slots = c.open_principal.ensures.1.slots ∙ c.loop-alloc.invariant.size.slots; cells = c.open_principal.ensures.1.cells ∙ c.loop-alloc.invariant.size.cells };
+  size = record { slots = c.open_principal.ensures.1.slots ∙ c.loop-alloc.invariant.size.slots; cells = c.open_principal.ensures.1.cells ∙ c.loop-alloc.invariant.size.cells; key = c.open_principal.ensures.1.key ∙ c.loop-alloc.invariant.size.key };
 }
 
 pub returns-clause-all : goal.returns-clause-all

@@ -17,4 +17,4 @@ returns-in-Some-clause-line c =
     let same : edges g i ≡ edges m.heap i = ap (λ (h : HeapGraph). edges h i) c.in-Some.ensures.1 in
     let left : remaining c.first-cursor.result (edges g i) ≡ edges m.heap i = rw (c.first-cursor.ensures, same) (cursor_left m.heap i [] (edges m.heap i) c.soundness.ensures.sound refl) in
     rw c.of-self.ensures (step_of m g _ c.requires.at (ap (λ (h : HeapGraph). body_of h (lists_of m.roots)) c.in-Some.ensures.1) (rw (left, sym (out_all m.heap (lists_of m.roots) c.soundness.ensures.sound i)) (takes i g.table.grey c.in-Some.ensures.0))
-    (c.first-cursor.ensures ∙ ap first_cell (same ∙ sym left)) (subst (λ (h : HeapGraph). Counts m.heap h 0) (sym c.in-Some.ensures.1) (omega arith)))
+    (c.first-cursor.ensures ∙ ap first_cell (same ∙ sym left)) (subst (λ (h : HeapGraph). Counts m.heap h 0) (sym c.in-Some.ensures.1) (grind arith)))
