@@ -1,6 +1,7 @@
 -- the value of a store
 use Rattle.std.specs.Prelude.{ℕ, List, Option}
-use Rattle.tg_cells.specs.declared.key.Key.{Key}
+pub use Rattle.tg_cells.specs.declared.key.Key.{Key}
+pub use Rattle.tg_cells.specs.declared.key.TheConstants.Key.{FIXED}
 use Rattle.tg_marking.specs.Values.{Spot, Stage, shown}
 use Rattle.tg_marking.specs.Left.{left}
 use Rattle.tg_collect.specs.declared.machine.Machine.{Machine}

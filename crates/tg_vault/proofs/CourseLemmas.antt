@@ -9,7 +9,7 @@ use Rattle.tg_vault.specs.Contents.{Contents, RunOf, Keeps, moment}
 use Rattle.tg_vault.specs.Course.{Course, VaultStep}
 
 pub keeps_on : (old mid new : Contents) → Keeps old mid → Keeps mid new → Keeps old new
-keeps_on old mid new first next = record { opening = next.opening ∙ first.opening; limits = next.limits ∙ first.limits }
+keeps_on old mid new first next = record { opening = next.opening ∙ first.opening; limits = next.limits ∙ first.limits; key = next.key ∙ first.key }
 
 pub course_more : (v : Contents) (es : List Event) (answers : List Answer) (w : Contents) (e : Event) (a : Answer) (u : Contents) → Course v es answers w → VaultStep w e a u → Course v (es ++ e ∷ []) (answers ++ a ∷ []) u
 course_more v [] [] w e a u same goes = (u, (let P : Contents → Type 0 = λ k. VaultStep k e a u in subst P same goes), refl)
@@ -45,7 +45,7 @@ course_run v [] (a ∷ answers) w course = absurd course
 course_run v (e ∷ es) [] w course = absurd course
 
 pub course_keeps : (v : Contents) (es : List Event) (answers : List Answer) (w : Contents) → Course v es answers w → Keeps v w
-course_keeps v [] [] w same = record { opening = ap (λ (k : Contents). k.opening) same; limits = ap (λ (k : Contents). k.limits) same }
+course_keeps v [] [] w same = record { opening = ap (λ (k : Contents). k.opening) same; limits = ap (λ (k : Contents). k.limits) same; key = ap (λ (k : Contents). k.store.key) same }
 course_keeps v (e ∷ es) (a ∷ answers) w course = keeps_on v course.0 w course.1.keeps (course_keeps course.0 es answers w course.2)
 course_keeps v [] (a ∷ answers) w course = absurd course
 course_keeps v (e ∷ es) [] w course = absurd course

@@ -126,6 +126,9 @@ module _ (v w : Contents) (c : ThreeCycles v w) where
   same_limits : w.limits ≡ v.limits
   same_limits = (course_keeps c.second _ _ w c.ends.course).limits ∙ (course_keeps c.first _ _ c.second c.goes_on.course).limits ∙ (course_keeps v _ _ c.first c.begins.course).limits
 
+  kept_key : w.store.key ≡ v.store.key
+  kept_key = (course_keeps c.second _ _ w c.ends.course).key ∙ (course_keeps c.first _ _ c.second c.goes_on.course).key ∙ (course_keeps v _ _ c.first c.begins.course).key
+
   pub is_idle : phase w.store ≡ Idle
   is_idle = cycle_idle c.second w c.three c.ends
 
@@ -227,6 +230,7 @@ rebased law agree permit stay reply v w c sound there = record {
   cycled = w;
   cycles = c;
   store = refl;
+  key = kept_key v w c;
   held = refl;
   unparked = λ x h. idle_unparked w.store (is_idle v w c) x h;
   phase = is_idle v w c;

@@ -68,10 +68,11 @@ moment v = record {
   history = v.history;
 }
 
--- what no event changes
+-- what no event changes; the key by which edges are found is the store's
 pub record Keeps (old new : Contents) : Type 0 where
   pub opening : new.opening ≡ old.opening
   pub limits : new.limits ≡ old.limits
+  pub key : new.store.key ≡ old.store.key
 
 -- the vault gives the event this answer
 abbrev pub StepOf : Contents → Event → Answer → Contents → Type 0

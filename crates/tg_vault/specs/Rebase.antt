@@ -50,8 +50,8 @@ pub record IsLegalFrom (limits : Limits) (G : Protection) (opening H : Protectio
 
 -- the new opening graph is the graph of the history restricted to what is live in it. It agrees with that graph for each
 -- principal, and each history that is legal from it is legal from that graph, with the same replies, and leads to a
--- restriction of what it leads to there (so rebases may follow one another). The store is as three cycles leave it, and
--- all that it holds is the opening graph
+-- restriction of what it leads to there (so rebases may follow one another). The store is as three cycles leave it, under
+-- the same key, and all that it holds is the opening graph
 pub record IsRebased (v w : Contents) : Type 0 where
   pub opening : IsRestriction (graph_now v) w.opening (Live (graph_now v) (IsRoot (moment v).world))
   pub graph : IsGraph w.opening
@@ -64,6 +64,7 @@ pub record IsRebased (v w : Contents) : Type 0 where
   pub cycled : Contents
   pub cycles : ThreeCycles v cycled
   pub store : w.store ≡ cycled.store
+  pub key : w.store.key ≡ v.store.key
   pub held : held_now w ≡ w.opening
   pub unparked : (x : ℕ) → IsParkedIn w.store x → ⊥
   pub phase : phase w.store ≡ Idle

@@ -5,6 +5,7 @@ ghost use Rattle.tg_graph.specs.Opening.{first_fault, IsRefusal};
 ghost use Rattle.tg_vault.specs.declared.event.Event.TheVariants as event;
 ghost use Rattle.tg_vault.specs.declared.event.Answer.TheVariants as answer;
 ghost use Rattle.tg_collect.specs.Readings.{pending_of};
+ghost use Rattle.tg_collect.specs.Stored.{FIXED};
 ghost use Rattle.tg_collect.specs.Sessions.{AgentLeft, Shaded};
 ghost use Rattle.tg_vault.specs.World.{actor_at, at_seat, bye_fault, shade_fault, ask_refusal, Enters, IsAskFault};
 ghost use Rattle.tg_vault.specs.Contents.{Contents, StepOf, IsFresh, RunOf, Keeps, IsVault, moment};
@@ -90,17 +91,19 @@ impl Vault {
     /// if it does no harm that whoever sends commands can slow the vault down; otherwise, see `with_key`.
     pub fn new(alloc: Global, config: Config) -> Result<Vault, OpenFault>
         ensures ok { IfOk result (λ vault. IsFresh config vault) }
+        ensures key { IfOk result (λ vault. vault.store.key ≡ FIXED) }
         ensures sound { IfOk result (λ _. first_fault config ≡ None) }
         ensures err { IfErr result (λ fault. IsRefusal config fault) }
     {
         Vault::with_key(alloc, Key::FIXED, config)
     }
 
-    /// The same under a key of the caller's, which changes no answer. A key that nobody can guess is meant to keep
-    /// anybody from choosing edges that are slow to find. Errors are those of `new`, in the same order: the first fault
+    /// The same under a key of the caller's, which the vault keeps, also in a rebase, and which changes no answer. A key
+    /// that nobody can guess is meant to keep anybody from choosing edges that are slow to find. Errors are those of `new`, in the same order: the first fault
     /// of the configuration, and `OutOfMemory` only if there is no other.
     pub fn with_key(alloc: Global, key: Key, config: Config) -> Result<Vault, OpenFault>
         ensures ok { IfOk result (λ vault. IsFresh config vault) }
+        ensures key { IfOk result (λ vault. vault.store.key ≡ key) }
         ensures sound { IfOk result (λ _. first_fault config ≡ None) }
         ensures err { IfErr result (λ fault. IsRefusal config fault) }
     {

@@ -3,7 +3,7 @@ use Rattle.std.specs.FinSet as set
 use Rattle.tg_collect.specs.Readings.{IsHeldIn, IsParkedIn, agents}
 use Rattle.tg_vault.specs.Acting.{serial_in}
 use Rattle.tg_vault.specs.World.{Enters, acting, actor_at, at_seat}
-use Rattle.tg_vault.specs.Contents.{Contents, contents, moment}
+use Rattle.tg_vault.specs.Contents.{Contents, Keeps, contents, moment}
 use Rattle.tg_vault.specs.StoreSteps.{SessionStep}
 use Rattle.tg_vault.specs.Exact.{IsExact}
 use Rattle.tg_vault.specs.Agreement.{SameForAgreeing}
@@ -59,6 +59,11 @@ returns-clause-ok c =
     subst (λ (w : Contents). (actor : ℕ) × (actor_at (moment w).world c.args.seat ≡ Some actor)
     × Enters w.limits (moment w) c.args.seat actor c.args.command c.in_ok-reply.reply (moment (record (contents c.self.inside) { store = c.answer.new.store; names = c.answer.new.names; history = c.push.new.self.items }))) c.self.view_is
     (serial_in c.acting_at-actor.result, acts c, pushed_enters (contents c.self.inside) _ _ _ _ _ _ _ _ _ _ _ _ (pushed c))
+
+pub returns-clause-keeps : goal.returns-clause-keeps
+returns-clause-keeps c =
+    subst (λ (w : Contents). Keeps w (record (contents c.self.inside) { store = c.answer.new.store; names = c.answer.new.names; history = c.push.new.self.items })) c.self.view_is
+    (record { opening = refl; limits = refl; key = c.in_ok-reply.ensures.carried.acted.key })
 
 pub returns-clause-agrees : goal.returns-clause-agrees
 returns-clause-agrees c =

@@ -36,8 +36,8 @@ as_given P w names seats history called same none holds = subst P (λ i. record 
 
 pub invariant_of-result : goal.invariant_of-result
 invariant_of-result c = as_given (λ w. IsTied w c.args.config.next c.new.result.keys) _ _ _ _ (sym (c.in-Ok-copy.ensures ∙ c.principals.ensures)) (sym c.in-Ok-empty_seats.ensures) (sym c.new-2.ensures.items)
-    (fresh_joined c.args.config c.in_ok-opening.opening c.in-Ok.store c.in_ok-opening.ensures.ok c.in_ok-opening.ensures.sound c.in_ok-opening.ensures.graph c.soundness.ensures.sound c.in-Ok.ensures c.new.result.keys c.new.ensures.empty)
+    (fresh_joined c.args.config c.in_ok-opening.opening c.in-Ok.store c.in_ok-opening.ensures.ok c.in_ok-opening.ensures.sound c.in_ok-opening.ensures.graph c.soundness.ensures.sound c.in-Ok.ensures.opened c.new.result.keys c.new.ensures.empty)
 
 pub returns-clause-ok : goal.returns-clause-ok
 returns-clause-ok c = as_given (λ w. IsFresh c.args.config w) _ _ _ _ (sym (c.in-Ok-copy.ensures ∙ c.principals.ensures)) (sym c.in-Ok-empty_seats.ensures) (sym c.new-2.ensures.items)
-    (fresh_is c.args.config c.in_ok-opening.opening c.in-Ok.store c.in_ok-opening.ensures.ok c.in_ok-opening.ensures.sound c.in_ok-opening.ensures.graph c.soundness.ensures.sound c.in-Ok.ensures)
+    (fresh_is c.args.config c.in_ok-opening.opening c.in-Ok.store c.in_ok-opening.ensures.ok c.in_ok-opening.ensures.sound c.in_ok-opening.ensures.graph c.soundness.ensures.sound c.in-Ok.ensures.opened)
