@@ -6,7 +6,6 @@ use Rattle.tg_marking.specs.Runs as runs
 use Rattle.tg_marking.proofs.RunLemmas as marked
 use Rattle.tg_marking.proofs.MutatorLemmas as mutator
 use Rattle.tg_marking.specs.Collected.{Follows}
-use Rattle.tg_collect.specs.declared.note.Phase.TheVariants as phases
 use Rattle.std.specs.FinSet as finset
 use Rattle.tg_graph.specs.Protection.{label}
 use Rattle.tg_collect.specs.Runs.{ends}

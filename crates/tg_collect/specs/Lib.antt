@@ -7,4 +7,5 @@ pub mod Parts
 pub mod Figures
 pub mod Sessions
 pub mod Runs
+pub mod InGraph
 pub mod Openings

@@ -1,0 +1,358 @@
+-- What the steps of a store do, in the words of the graph of what is held.
+use Rattle.std.proofs.Common.{◌≡◌, ◌≢◌, ℕ, zero, suc, ◌<◌, ◌≤◌, Option, Some, None, ◌⊎◌, inl, inr, Bool, true, false, sym, ◌∙◌, subst, ap, refl, arith, map}
+use Rattle.std.proofs.lemmas.Bool.{cases_eq}
+use Rattle.std.specs.Prelude.{◌↔◌}
+use Rattle.std.specs.FinMap as finmap
+use Rattle.tg_graph.specs.Paths.{IsPart}
+use Rattle.tg_graph.specs.Triples.{Triple}
+use Rattle.tg_rights.specs.Membership.{Contains}
+use Rattle.tg_slots.specs.Table.{Mark, Has}
+use Rattle.tg_marking.specs.Values as values
+use Rattle.tg_marking.specs.Values.{White, Grey, Black, Edge, Spot, Stage, Body, Kept, as_kept, keeps, name_of, mark_of, seen}
+use Rattle.tg_marking.specs.Collected.{IsCalled, Turns, Follows, Stays, Parks}
+use Rattle.tg_marking.specs.Left.{total, free_one}
+use Rattle.tg_marking.proofs.SpotLemmas.{held_keeps, new_is, shade_done}
+use Rattle.tg_marking.specs.Steps.{new_colour, shade}
+use Rattle.tg_collect.specs.declared.note.Phase.{Phase}
+use Rattle.tg_collect.specs.declared.note.Phase.TheVariants as phases
+use Rattle.tg_collect.proofs.Common.{Root, RootLists, root_serial, Acted, Changed, Collected, IsStore, IsEdgeIn, IsHeldIn, IsParkedIn, IsRootIn, IsRootAt, Stored, at_within, held, kept, kept_name, keeps_grey, phase, phase_in, shade_name, shown, slot_count, spot, turns_name}
+use Rattle.tg_collect.specs.Readings.{IsBlackIn, IsGreyIn, mark_in, name}
+use Rattle.tg_collect.specs.InGraph.{ActedInGraph, ActsInGraph, CollectedInGraph, CollectsInGraph, FreesNone, FreesOne, IsCalledIn, MayFollow, ShadesInGraph, StartsSweep, StaysOrIsParked, StoresAreInGraph}
+use Rattle.tg_collect.proofs.SlotLemmas.{root_listed}
+use Rattle.tg_collect.proofs.ShownLemmas.{Once, edge_shown, held_kept, kept_held, place_kept}
+use Rattle.tg_collect.proofs.StoreLemmas.{edge_in, in_root, live_slots, once_so}
+use Rattle.tg_collect.proofs.RunLemmas.{acted_parked, acted_phase, collected_parked, collected_part}
+
+-- The phases, and the step into the sweep.
+follows_so : (size : ℕ) (g h : Stage) (ended : Bool) → Follows size g h ended → MayFollow (phase_in g) (phase_in h) × ((ended ≡ true) ↔ ((phase_in g ≡ phases.Sweep) × (phase_in h ≡ phases.Idle)))
+follows_so size g h ended f = grind arith
+
+stays_unless : (size : ℕ) (g h : Stage) (ended : Bool) → Follows size g h ended → ((phase_in g ≡ phases.Mark) × (phase_in h ≡ phases.Sweep) → ⊥) → Stays g h
+stays_unless size g h ended f not = grind arith
+
+starts_at : (size : ℕ) (g h : Stage) (ended : Bool) → Follows size g h ended → phase_in g ≡ phases.Mark → phase_in h ≡ phases.Sweep → (g ≡ values.Mark) × (h ≡ values.Sweep 0)
+starts_at size g h ended f at to = grind arith
+
+starts_or : (p q : Phase) → ((p ≡ phases.Mark) × (q ≡ phases.Sweep)) ⊎ ((p ≡ phases.Mark) × (q ≡ phases.Sweep) → ⊥)
+starts_or p q = grind arith
+
+sweeps_at : (g : Stage) → phase_in g ≡ phases.Sweep → (k : ℕ) × (g ≡ values.Sweep k)
+sweeps_at g e = grind arith
+
+black_or : (m : Mark) → (m ≡ Has Black) ⊎ (m ≢ Has Black)
+black_or m = grind arith
+
+parks_in_sweep : (g : Stage) (i : ℕ) (z : Spot) → keeps g i z.colour ≡ false → phase_in g ≡ phases.Sweep
+parks_in_sweep g i z dark = grind arith
+
+-- What a collector step does to one slot.
+module _ (b : Body) (g : Stage) (i : ℕ) (o p : Option Spot) (t : Turns (IsCalled b) g i o p) where
+  turned_grey : mark_of p ≡ Has Grey → (mark_of o ≡ Has Grey) ⊎ IsCalled b i
+  turned_grey e = grind arith
+
+  turned_black : mark_of p ≡ Has Black → (mark_of o ≡ Has Black) ⊎ (mark_of o ≡ Has Grey)
+  turned_black e = grind arith
+
+  still_black : phase_in g ≢ phases.Sweep → mark_of o ≡ Has Black → (mark_of p ≡ Has Black) × (name_of p ≡ name_of o)
+  still_black not e = grind arith
+
+  still_grey : phase_in g ≡ phases.Sweep → mark_of o ≡ Has Grey → (mark_of p ≡ Has Grey) × (name_of p ≡ name_of o)
+  still_grey at e = grind arith
+
+  was_grey : phase_in g ≡ phases.Sweep → mark_of p ≡ Has Grey → mark_of o ≡ Has Grey
+  was_grey at e = grind arith
+
+  turned_parked : (z : Spot) → o ≡ Some z → keeps g i z.colour ≡ false → ((y : Spot) × (p ≡ Some y) × (y.serial ≡ z.serial)) ⊎ ((p ≡ None) × (g ≡ values.Sweep i))
+  turned_parked z at dark = grind arith
+
+  frees_here : ((z : Spot) × (o ≡ Some z) × (z.colour ≡ White) × (p ≡ None) × (g ≡ values.Sweep i)) ⊎ (free_one p ≡ free_one o)
+  frees_here = grind arith
+
+  frees_more : free_one o ≤ free_one p
+  frees_more = grind arith
+
+-- A sum that is larger at one number is larger.
+less_at : (f h : ℕ → ℕ) (n j : ℕ) → ((i : ℕ) → f i ≤ h i) → j < n → f j < h j → total f n < total h n
+less_at f h zero j each b more = absurd (omega (arith, b))
+less_at f h (suc n) j each b more = let rest = less_at f h n j each in let last = each n in let all = at_most n in elim (cases_eq j n) [
+  | inl is ↦ (let here : f n < h n = subst (λ (m : ℕ). f m < h m) is more in omega (arith, here, all))
+  | inr other ↦ (let before = rest (omega (arith, b, other)) more in omega (arith, before, last))
+] where
+  at_most : (m : ℕ) → total f m ≤ total h m
+  at_most zero = omega arith
+  at_most (suc m) = let e = at_most m in let l = each m in omega (arith, e, l)
+
+not_seen : (g : Stage) (i : ℕ) (z : Spot) → seen g i (Some z) ≡ None → keeps g i z.colour ≡ false
+not_seen g i z e = grind arith
+
+not_kept : (g : Stage) (i : ℕ) (z : Spot) → keeps g i z.colour ≡ false → seen g i (Some z) ≡ None
+not_kept g i z e = grind arith
+
+new_ungrey : (g : Stage) (i : ℕ) → new_colour g i ≢ Grey
+new_ungrey g i e = let u = new_is g i in grind arith
+
+white_ahead : (k : ℕ) → keeps (values.Sweep k) k White ≡ false
+white_ahead k = grind arith
+
+-- A root's slot, and a grey vertex with an edge, by their serials.
+module _ (v : Stored) (s : IsStore v) where
+  once_v : Once v
+  once_v = once_so v s.once
+
+  root_named : (i x : ℕ) → IsRootAt v i → name v i ≡ Some x → IsRootIn v x
+  root_named i x r named =
+      let q = root_listed v.roots i r in
+      let k = place_kept v q.0.slot q.0.serial (s.named q.0 q.1) in
+      let there : name v q.0.slot ≡ Some k.0.serial = kept_name v.stage q.0.slot (spot v q.0.slot) k.0 k.1 in
+      let here : name v q.0.slot ≡ Some x = ap (name v) q.2 ∙ named in
+      subst (IsRootIn v) (let both = sym there ∙ here in let serial = k.2 in grind arith) (in_root v q.0 q.1)
+
+  called_in : (i x : ℕ) → IsCalled (shown v) i → name v i ≡ Some x → IsCalledIn v x
+  called_in i x (inl r) named = inl (root_named i x r named)
+  called_in i x (inr (j, z, e, at, grey, mine, to)) named =
+      let here : kept v j ≡ Some (as_kept z) = ap (seen v.stage j) at ∙ (let lit : keeps v.stage j z.colour ≡ true = ap (keeps v.stage j) grey ∙ keeps_grey v.stage j in grind arith) in
+      let there = s.closed.edges j (as_kept z) e here mine in
+      let leads : name v e.target ≡ Some there.0.serial = kept_name v.stage e.target (spot v e.target) there.0 there.1 in
+      let same : e.serial ≡ x = (let both = sym leads ∙ ap (name v) to ∙ named in let is = there.2 in grind arith) in
+      inr (
+        z.serial,
+        (j, ap mark_of at ∙ ap (λ c. Has c) grey, ap name_of at),
+        subst (IsEdgeIn v z.serial) same (edge_shown v j (as_kept z) e here mine (s.labelled j e (subst (λ o. Contains (values.edges_of o) e) (sym at) mine))),
+      )
+
+-- What each store has.
+pub stores_are_in_graph : StoresAreInGraph
+stores_are_in_graph v next s = record {
+  parked = λ not x (i, (z, at, dark), named). not (parks_in_sweep v.stage i z dark);
+  black = λ idle x (i, black, named). s.idle (let e = idle in rests v.stage e) i black;
+  leads = λ x y (r, h). let t : Triple = record { from = x; right = r; to = y } in (s.from_held t h, s.to_held t h, s.distinct t h);
+  apart = s.apart;
+  roots = s.roots_held;
+  slots = s.slots next;
+  few_edges = s.few_edges next;
+  all_cells = λ none. s.all_cells none next;
+} where
+  rests : (g : Stage) → phase_in g ≡ phases.Idle → g ≡ values.Idle
+  rests g e = grind arith
+
+-- A collector step.
+module _ {v w : Stored} {freed : ℕ} {ended : Bool} (s : IsStore v) (t : IsStore w) (c : Collected v w freed ended) (next : ℕ) where
+  stay : (StartsSweep v w → ⊥) → Stays v.stage w.stage
+  stay not = stays_unless (slot_count v) v.stage w.stage ended c.step.phases not
+
+  -- Where the sweep starts.
+  module _ (b : StartsSweep v w) where
+    at : (v.stage ≡ values.Mark) × (w.stage ≡ values.Sweep 0)
+    at = starts_at (slot_count v) v.stage w.stage ended c.step.phases b.0 b.1
+
+    parks : Parks (shown v) (shown w) v.stage w.stage
+    parks = c.step.parks at.0 at.1
+
+    parks_one : (x : ℕ) → IsHeldIn v x → StaysOrIsParked v w next x
+    parks_one x h = by (held_kept v x h) where
+      by : (i : ℕ) × (k : Kept) × (kept v i ≡ Some k) × (k.serial ≡ x) → StaysOrIsParked v w next x
+      by (i, k, is, serial) = elim (black_or (mark_in v i)) [
+        | inl e ↦ inl ((i, e, named), subst (IsHeldIn w) serial (kept_held w i k (once_v w t) (parks.black i e ∙ is)))
+        | inr not ↦ inr (
+          λ q. not (subst (λ (j : ℕ). mark_in v j ≡ Has Black) (s.once q.0 i x q.2 named) q.1),
+          λ l. (let r = live_slots v s next x l in not (subst (λ (j : ℕ). mark_in v j ≡ Has Black) (once_v v s r.0 i r.1 k r.3 is (r.4 ∙ sym serial)) (parks.unreached r.0 r.2))),
+          (i, parks.all i k is not, ap name_of (parks.same i) ∙ named),
+        )
+      ] where
+        named : name v i ≡ Some x
+        named = kept_name v.stage i (spot v i) k is ∙ ap (λ (y : ℕ). Some y) serial
+
+    part : IsPart (held v next) (held w next)
+    part = collected_part c next (held v next).names (held v next).retired (held v next) (record {
+      vertices = λ x h. refl;
+      labels = λ x y h. refl;
+      closed = λ x y h e. let there = edge_in v next x y e in s.to_held (record { from = x; right = there.0; to = y }) there.1;
+      names = refl;
+      retired = refl;
+    }) s t
+
+  parked_before : (x : ℕ) → IsParkedIn w x → IsParkedIn v x ⊎ (StartsSweep v w × IsHeldIn v x)
+  parked_before x h = elim (collected_parked c s x h) [
+    | inl old ↦ inl old
+    | inr there ↦ elim (starts_or (phase v) (phase w)) [
+      | inl b ↦ inr (b, there)
+      | inr not ↦ absurd (t.apart x (ap (λ g. finmap.contains_key g.vertices x) (c.held (stay not) 0) ∙ there) h)
+    ]
+  ]
+
+  -- A parked slot that is not freed stays parked.
+  module _ (i x : ℕ) (z : Spot) (here : spot v i ≡ Some z) (dark : keeps v.stage i z.colour ≡ false) (named : name v i ≡ Some x) where
+    not_start : StartsSweep v w → ⊥
+    not_start b = let sweep = parks_in_sweep v.stage i z dark in let mark = b.0 in grind arith
+
+    parked_still : IsParkedIn w x ⊎ ((spot w i ≡ None) × (v.stage ≡ values.Sweep i))
+    parked_still = elim (turned_parked (shown v) v.stage i (spot v i) (spot w i) (c.step.turns i) z here dark) [
+      | inl (y, there, serial) ↦ (
+          let none : seen w.stage i (Some y) ≡ None = sym (ap (seen w.stage i) there) ∙ c.step.held (stay not_start) i ∙ ap (seen v.stage i) here ∙ not_kept v.stage i z dark in
+          inl (i, (y, there, not_seen w.stage i y none), ap name_of there ∙ ap (λ (n : ℕ). Some n) serial ∙ sym (ap name_of here) ∙ named)
+          )
+      | inr gone ↦ inr gone
+    ]
+
+    -- One that is freed counts.
+    freed_counts : spot w i ≡ None → 1 ≤ freed
+    freed_counts gone =
+        let less = less_at (λ j. free_one (spot v j)) (λ j. free_one (spot w j)) (slot_count v) i (λ j. frees_more (shown v) v.stage j (spot v j) (spot w j) (c.step.turns j)) (at_within v.slots i z here)
+        (let a : free_one (spot v i) ≡ 0 = ap free_one here in let b : free_one (spot w i) ≡ 1 = ap free_one gone in omega (arith, a, b)) in
+        let size = c.step.size in
+        let count = c.free_slots in
+        let same : total (λ j. free_one (spot w j)) (slot_count w) ≡ total (λ j. free_one (spot w j)) (slot_count v) = ap (total (λ j. free_one (spot w j))) size in
+        omega (arith, less, count, same)
+
+  frees_none : freed ≡ 0 → FreesNone v w
+  frees_none zero' x (i, (z, here, dark), named) = elim (parked_still i x z here dark named) [
+    | inl there ↦ there
+    | inr gone ↦ absurd (let one = freed_counts i x z here dark named gone.0 in omega (arith, one, zero'))
+  ]
+
+  frees_one : freed ≡ 1 → FreesOne v w
+  frees_one one = by (sweeps_at v.stage sweep) where
+    sweep : phase v ≡ phases.Sweep
+    sweep = elim c.freed [ inl e ↦ e | inr none ↦ absurd (omega (arith, one, none)) ]
+
+    by : (k : ℕ) × (v.stage ≡ values.Sweep k) → FreesOne v w
+    by (k, at) = of (frees_here (shown v) v.stage k (spot v k) (spot w k) (c.step.turns k)) where
+      others : (j : ℕ) → free_one (spot w k) ≡ free_one (spot v k) → free_one (spot w j) ≡ free_one (spot v j)
+      others j here = elim (frees_here (shown v) v.stage j (spot v j) (spot w j) (c.step.turns j)) [
+        | inl (z, was, white, gone, there) ↦ (let same : j ≡ k = (let both = sym there ∙ at in grind arith) in subst (λ (n : ℕ). free_one (spot w n) ≡ free_one (spot v n)) (sym same) here)
+        | inr e ↦ e
+      ]
+
+      of : ((z : Spot) × (spot v k ≡ Some z) × (z.colour ≡ White) × (spot w k ≡ None) × (v.stage ≡ values.Sweep k)) ⊎ (free_one (spot w k) ≡ free_one (spot v k)) → FreesOne v w
+      of (inr e) =
+          let same : total (λ j. free_one (spot w j)) (slot_count v) ≡ total (λ j. free_one (spot v j)) (slot_count v) = λ n. total (λ j. others j e n) (slot_count v) in
+          let size : total (λ j. free_one (spot w j)) (slot_count w) ≡ total (λ j. free_one (spot w j)) (slot_count v) = ap (total (λ j. free_one (spot w j))) c.step.size in
+          let count = c.free_slots in
+          absurd (omega (arith, same, size, count, one))
+      of (inl (z, was, white, gone, there)) = (sweep, z.serial, (parked, λ still. slotless still), λ y h. rest y h) where
+        dark : keeps v.stage k z.colour ≡ false
+        dark = ap (λ (g : Stage). keeps g k z.colour) at ∙ ap (keeps (values.Sweep k) k) white ∙ white_ahead k
+
+        parked : IsParkedIn v z.serial
+        parked = (k, (z, was, dark), ap name_of was)
+
+        slotless : IsHeldIn w z.serial ⊎ IsParkedIn w z.serial → ⊥
+        slotless (inl h) = s.apart z.serial (ap (λ g. finmap.contains_key g.vertices z.serial) (sym (c.held (stay (not_start k z.serial z was dark (ap name_of was))) 0)) ∙ h) parked
+        slotless (inr (j, q, named)) =
+            let before = turns_name (shown v) v.stage j z.serial (spot v j) (spot w j) (c.step.turns j) named in
+            let same : j ≡ k = s.once j k z.serial before (ap name_of was) in
+            let empty : name w j ≡ None = ap (λ (n : ℕ). name w n) same ∙ ap name_of gone in
+            let both = sym empty ∙ named in grind arith
+
+        rest : (y : ℕ) → IsParkedIn v y → IsParkedIn w y ⊎ (y ≡ z.serial)
+        rest y (j, (q, here, low), named) = elim (parked_still j y q here low named) [
+          | inl stays ↦ inl stays
+          | inr (left, elsewhere) ↦ inr (
+              let same : j ≡ k = (let both = sym elsewhere ∙ at in grind arith) in
+              let both : Some y ≡ Some z.serial = sym named ∙ ap (name v) same ∙ ap name_of was in
+              grind arith
+              )
+        ]
+
+  grey_before : (x : ℕ) → IsGreyIn w x → IsGreyIn v x ⊎ IsCalledIn v x
+  grey_before x (i, grey, named) =
+      let before = turns_name (shown v) v.stage i x (spot v i) (spot w i) (c.step.turns i) named in
+      elim (turned_grey (shown v) v.stage i (spot v i) (spot w i) (c.step.turns i) grey) [
+        | inl old ↦ inl (i, old, before)
+        | inr called ↦ inr (called_in v s i x called before)
+      ]
+
+  black_before : (x : ℕ) → IsBlackIn w x → IsBlackIn v x ⊎ IsGreyIn v x
+  black_before x (i, black, named) =
+      let before = turns_name (shown v) v.stage i x (spot v i) (spot w i) (c.step.turns i) named in
+      elim (turned_black (shown v) v.stage i (spot v i) (spot w i) (c.step.turns i) black) [ inl old ↦ inl (i, old, before) | inr grey ↦ inr (i, grey, before) ]
+
+  black_after : phase v ≢ phases.Sweep → (x : ℕ) → IsBlackIn v x → IsBlackIn w x
+  black_after not x (i, black, named) = let r = still_black (shown v) v.stage i (spot v i) (spot w i) (c.step.turns i) not black in (i, r.0, r.1 ∙ named)
+
+  grey_after : phase v ≡ phases.Sweep → (x : ℕ) → IsGreyIn v x ↔ IsGreyIn w x
+  grey_after sweep x = (
+    λ h. (let r = still_grey (shown v) v.stage h.0 (spot v h.0) (spot w h.0) (c.step.turns h.0) sweep h.1 in (h.0, r.0, r.1 ∙ h.2)),
+    λ h. (h.0, was_grey (shown v) v.stage h.0 (spot v h.0) (spot w h.0) (c.step.turns h.0) sweep h.1, turns_name (shown v) v.stage h.0 x (spot v h.0) (spot w h.0) (c.step.turns h.0) h.2),
+  )
+
+  collected_in_graph : CollectedInGraph v w next freed ended
+  collected_in_graph =
+      let phases = follows_so (slot_count v) v.stage w.stage ended c.step.phases in
+      record {
+        phases = phases.0;
+        ends = phases.1;
+        roots = (ap (λ (r : RootLists). map (λ (q : Root). q.serial) r.principals) c.roots, ap (λ (r : RootLists). map (λ o. root_serial o) r.targets) c.roots, ap (λ (r : RootLists). map (λ o. root_serial o) r.agents) c.roots);
+        held = λ not. c.held (stay not) next;
+        no_grey = λ b x h. (parks b).no_grey h.0 h.1;
+        part = part;
+        parks = parks_one;
+        parked = parked_before;
+        freed = (let few = c.few in elim (cases_eq freed 0) [ inl none ↦ inl (none, frees_none none) | inr some ↦ (let one : freed ≡ 1 = omega (arith, few, some) in inr (one, frees_one one)) ]);
+        grey = grey_before;
+        black = black_before;
+        still_black = black_after;
+        still_grey = grey_after;
+        free_slots = c.free_slots;
+        free_cells = c.free_cells;
+        marks = c.marks;
+        left = c.left;
+      }
+
+pub collects_in_graph : CollectsInGraph
+collects_in_graph v w next freed ended s t c = collected_in_graph s t c next
+
+-- What a session step does to one slot.
+module _ (v : Stored) (new target : Option ℕ) (i : ℕ) (o p : Option Spot) (change : Changed v new target i o p) where
+  acted_grey : mark_of p ≡ Has Grey → ((mark_of o ≡ Has Grey) ⊎ IsRootAt v i) × ((name_of o ≡ name_of p))
+  acted_grey e = let fresh = new_ungrey v.stage i in grind arith
+
+  acted_black : (x : ℕ) → mark_of p ≡ Has Black → name_of p ≡ Some x → ((mark_of o ≡ Has Black) × (name_of o ≡ Some x)) ⊎ (new ≡ Some x)
+  acted_black x e named = grind arith
+
+  acts_grey : mark_of o ≡ Has Grey → (mark_of p ≡ Has Grey) × (name_of p ≡ name_of o)
+  acts_grey e = grind arith
+
+  acts_black : mark_of o ≡ Has Black → (mark_of p ≡ Has Black) × (name_of p ≡ name_of o)
+  acts_black e = grind arith
+
+  acts_parked : (IsRootAt v i → ⊥) → (z : Spot) → o ≡ Some z → (y : Spot) × (p ≡ Some y) × (y.colour ≡ z.colour) × (y.serial ≡ z.serial)
+  acts_parked not z at = grind arith
+
+-- A session step.
+module _ {v w : Stored} {new target : Option ℕ} (s : IsStore v) (a : Acted v w new target) where
+  parked_after : (x : ℕ) → IsParkedIn v x → IsParkedIn w x
+  parked_after x (i, (z, here, dark), named) =
+      let r = acts_parked v new target i (spot v i) (spot w i) (a.changes i) no_root z here in
+      (i, (r.0, r.1, ap (λ (g : Stage). keeps g i r.0.colour) a.stage ∙ ap (keeps v.stage i) r.2 ∙ dark), ap name_of r.1 ∙ ap (λ (n : ℕ). Some n) r.3 ∙ sym (ap name_of here) ∙ named)
+    where
+      no_root : IsRootAt v i → ⊥
+      no_root r = let k = s.closed.roots i r in let lit = held_keeps (shown v) v.stage i k.0 k.1 z here in let both = sym lit ∙ dark in grind arith
+
+  acted_in_graph : ActedInGraph v w new
+  acted_in_graph = record {
+    phase = acted_phase a;
+    parked = λ x. (acted_parked a x, parked_after x);
+    grey = λ x h. (let r = acted_grey v new target h.0 (spot v h.0) (spot w h.0) (a.changes h.0) h.1 in elim r.0 [ inl old ↦ inl (h.0, old, r.1 ∙ h.2) | inr root ↦ inr (root_named v s h.0 x root (r.1 ∙ h.2)) ]);
+    still_grey = λ x h. (let r = acts_grey v new target h.0 (spot v h.0) (spot w h.0) (a.changes h.0) h.1 in (h.0, r.0, r.1 ∙ h.2));
+    black = λ x h. elim (acted_black v new target h.0 (spot v h.0) (spot w h.0) (a.changes h.0) x h.1 h.2) [ inl old ↦ inl (h.0, old.0, old.1) | inr fresh ↦ inr fresh ];
+    still_black = λ x h. (let r = acts_black v new target h.0 (spot v h.0) (spot w h.0) (a.changes h.0) h.1 in (h.0, r.0, r.1 ∙ h.2));
+    left = a.left;
+  }
+
+pub acts_in_graph : ActsInGraph
+acts_in_graph v w new target s t a = acted_in_graph s a
+
+-- A shade.
+lit_or : (o : Option Spot) (x : ℕ) → name_of o ≡ Some x → mark_of o ≢ Has White → (mark_of o ≡ Has Grey) ⊎ (mark_of o ≡ Has Black)
+lit_or o x named lit = grind arith
+
+pub shades_in_graph : ShadesInGraph
+shades_in_graph v w seat x s shaded =
+    let i = shaded.slot in
+    let k = place_kept v i x shaded.place in
+    let named : name v i ≡ Some x = kept_name v.stage i (spot v i) k.0 k.1 ∙ ap (λ (n : ℕ). Some n) k.2 in
+    let same : spot w i ≡ values.spot (shade (shown v) i) i = ap (λ (z : Stored). spot z i) shaded.is in
+    let after : name w i ≡ Some x = ap name_of same ∙ shade_name (shown v) i i ∙ named in
+    let lit : mark_in w i ≢ Has White = λ white. shade_done (shown v) i (sym (ap mark_of same) ∙ white) in
+    elim (lit_or (spot w i) x after lit) [ inl grey ↦ inl (i, grey, after) | inr black ↦ inr (i, black, after) ]
