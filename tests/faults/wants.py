@@ -5,6 +5,9 @@ be exactly where the refusal of a call is handed on: in the arm `Err(_) =>` of a
 .is_err()`, in a `map_err`, or in the arm of another such fault. And it has to be in the list below, by its file and function, by the call or the fault that is
 handed on, and by the fault that is made of it. What `?` hands on is made nowhere. Modules of tests are left out.
 
+Nor does a contract say how much room a body asks for, of which there may be too little or none. So each size that a list is made with, or that room is taken
+for, is in another list, and a call that asks for what nobody has is seen there.
+
 The sources are read as text, laid out as `rt fmt` does it.
 """
 
@@ -83,6 +86,31 @@ LISTED = {
     ("tg_load/src/run.rt", "close_of", "Closed::NoRoom", "Verdict::NoRoom"): 1,
     ("tg_load/src/run.rt", "run_next", "ran", "Found::NoMemory"): 1,
 }
+
+# Each size that a list or a buffer is made with, or that room is taken for, by file, function, call, and the arguments without the allocator.
+SIZES = {
+    ("tg_cells/src/cells.rt", "with_key", "vec!", "owners as usize"): 1,
+    ("tg_collect/src/opening.rt", "empty_seats", "Vec::with_capacity", "SEATS as usize"): 1,
+    ("tg_collect/src/roster.rt", "new", "Vec::with_capacity", "MAX_PRINCIPALS as usize"): 1,
+    ("tg_graph/src/roll.rt", "new", "Vec::with_capacity", "MAX_PRINCIPALS as usize"): 1,
+    ("tg_index/src/buckets.rt", "new", "vec!", "buckets as usize"): 1,
+    ("tg_index/src/buckets.rt", "new", "Vec::with_capacity", "size as usize"): 1,
+    ("tg_load/src/crowd.rt", "new", "Vec::with_capacity", "sessions.saturating_add(1)"): 1,
+    ("tg_load/src/crowd.rt", "act_at_once", "threads.try_reserve", "1"): 1,
+    ("tg_rights/src/columns.rt", "new", "Vec::with_capacity", "count"): 2,
+    ("tg_serve/src/client.rt", "new", "Vec::with_capacity", "room"): 1,
+    ("tg_share/src/closing.rt", "close", "Vec::with_capacity", "ended.len()"): 1,
+    ("tg_share/src/session.rt", "carry_out", "self.log.try_reserve", "1"): 1,
+    ("tg_talk/src/line_buffer.rt", "new", "vec!", "CAPACITY"): 1,
+    ("tg_talk/src/write_line.rt", "buffered", "BufWriter::with_capacity", "HELD_BACK, device"): 1,
+    ("tg_vault/src/seats.rt", "empty_seats", "Vec::with_capacity", "SEATS as usize"): 1,
+    ("tg_vault/src/vault.rt", "enter", "self.history.try_reserve", "1"): 1,
+    ("tg_vault/src/vault.rt", "go", "Vec::with_capacity", "events.len()"): 1,
+    ("tg_wire/src/line_room.rt", "lend", "self.bytes.try_reserve", "ROOM"): 1,
+}
+
+# A call that takes a size, and a list of so many equal elements.
+SIZED = re.compile(r"((?:\w+::|[\w.]+\.)(?:with_capacity|with_capacity_in|reserve|try_reserve|reserve_exact|try_reserve_exact|resize))\(|(vec!)\[in [^;]*;[^;\]]*;")
 
 FUNCTION = re.compile(r"\bfn (\w+)")
 CONVERSION = re.compile(r"fn from\(_\w*: (Alloc\w+)")
@@ -209,6 +237,48 @@ def every_want_is_handed_on(crates):
     return found == LISTED and all(place[2] for place in found) and flag == FLAG_LINES
 
 
+def arguments(code, start):
+    """The text from a place up to the bracket that closes what it is in, on one line."""
+    depth = 0
+    for place in range(start, len(code)):
+        if code[place] in ")]}" and depth == 0:
+            return re.sub(r"\s+", " ", code[start:place].strip().rstrip(","))
+        depth += (code[place] in "([{") - (code[place] in ")]}")
+    return ""
+
+
+def sizes_in(file, text):
+    """The sizes of a source: file, function, call, and what it is given but for the allocator."""
+    code = code_of(text)
+    functions = list(FUNCTION.finditer(code))
+    for function, following in zip(functions, [*functions[1:], None]):
+        for found in SIZED.finditer(code, function.start(), following.start() if following else len(code)):
+            given = arguments(code, found.end())
+            if "with_capacity" in found[0]:
+                given = given.partition(", ")[2]
+            yield file, function[1], found[1] or found[2], given
+
+
+def every_size_is_listed(crates):
+    """Each size is listed, and each one that is listed is there."""
+    found = Counter(size for file, text in sources(crates) for size in sizes_in(file, text))
+    for size in sorted(found.keys() | SIZES.keys()):
+        if found[size] != SIZES.get(size, 0):
+            print("  %d times, listed %d times: %s" % (found[size], SIZES.get(size, 0), size))
+    print("  %d sizes" % sum(found.values()))
+    return found == SIZES
+
+
+# Functions with a size, which is seen as it is.
+SEEN_SIZES = {
+    "let none: Vec<u8> = Vec::with_capacity(alloc, usize::MAX)?; Ok(none)": [("Vec::with_capacity", "usize::MAX")],
+    "let right = Vec::with_capacity(\nself.alloc,\ncount.saturating_mul(2),\n)?;": [("Vec::with_capacity", "count.saturating_mul(2)")],
+    "list.items.try_reserve(u64::MAX as usize)?;": [("list.items.try_reserve", "u64::MAX as usize")],
+    "let all = vec![in rt.alloc(); None; count * 2]?;": [("vec!", "count * 2")],
+    "let two = vec![in alloc; first, second]?;": [],
+}
+
+
 # Functions that hand on what they were refused, with the call or the fault.
 HANDED_ON = {
     "let Ok(room) = Vec::with_capacity(alloc, 9) else { return Err(AllocError); }; Ok(room)": "Vec::with_capacity",
@@ -255,6 +325,7 @@ def looks_can_fail(_):
     wrong = [body for body, refusal in HANDED_ON.items() if [handed for handed, made in seen(body) if made != "None"] != [refusal]]
     wrong += [body for body in MADE_UP if [handed for handed, _ in seen(body)] != [None]]
     wrong += [body for body in NONE_MADE if seen(body)]
+    wrong += [body for body, sizes in SEEN_SIZES.items() if [size[2:] for size in sizes_in("x.rt", "fn work() {\n%s\n}\n" % body)] != sizes]
     for body in wrong:
         print("  not seen as it is: %s: %s" % (body, seen(body)))
     return not wrong
@@ -263,4 +334,5 @@ def looks_can_fail(_):
 def tests():
     """All tests by their names; they take the folder of the crates."""
     yield "every-want-of-memory-is-handed-on", every_want_is_handed_on
+    yield "every-size-is-listed", every_size_is_listed
     yield "wants-that-are-made-up-are-seen", looks_can_fail

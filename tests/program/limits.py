@@ -1,7 +1,7 @@
 """Every limit at once: a run, a server with its settling, and an audit, each with the greatest configuration, lines of
 16,384 bytes, texts of 4,096 bytes, an owner of an edge for each slot, and 63 sessions, 64 seats or 100,000 steps. And
 runs in which a name is that of 100,000 principals, in which every slot is that of one who retired, and in which every
-seat acts for a subject of its own. No answer may be `out of memory`.
+seat acts for a subject of its own. And a server that begins a round with a vault that is full. No answer may be `out of memory`.
 
 Each answer is built here by the rules of docs/PROTOCOL.md, the steps of the cycle by docs/COLLECTOR.md. Each test takes
 the program's path and answers whether it passed.
@@ -20,6 +20,7 @@ from faults.scripts import (
 from models.graph import SEATS
 from models.reading import LONGEST_LINE, LONGEST_TEXT
 from program.lines import joined
+from server.rounds import in_rounds, told
 from server.servers import AGREED, SECONDS, read_all, read_line, served
 
 SLOTS, CELLS = 65_536, 1_048_576
@@ -124,6 +125,19 @@ def talks_at_every_limit(program):
     return good and ended == AGREED
 
 
+def a_full_vault_is_rebased(program):
+    """What fills every slot lives, so the next round begins with all of it: an edge to each document, and the text of one."""
+    rows = [(hello(NAMES[0].encode()), welcome(1)), (longest(look(1)), OWNED), (read(FIRST, 0), text(list(TEXTS.values())[-1])), (alone(b"bye"), BYE)]
+    with in_rounds(program, 1, 2, 1, OPENING + b"\n") as server:
+        with server.connection() as first:
+            good = greeted(first, 0) and talked(first, 0)
+        with server.connection() as second:
+            second.sendall(joined(*[line for line, _ in rows]))
+            good = is_as_wanted(read_all(second), joined(*[answer for _, answer in rows])) and good
+        ended = server.end()
+    return good and ended == told(len(asked(0)))
+
+
 def step(actor, line):
     """The step that a line of a run is, of this actor."""
     fields = {name: value for name, value in json.loads(line).items() if name != "seat"}
@@ -223,4 +237,5 @@ def tests():
     yield "each-seat-acts-for-a-subject", answered(lines_of_64_agents)
     yield "run-at-every-limit", run_at_every_limit
     yield "talks-at-every-limit", talks_at_every_limit
+    yield "a-full-vault-is-rebased", a_full_vault_is_rebased
     yield "audit-at-every-limit", audit_at_every_limit

@@ -9,6 +9,8 @@ mod figures;
 mod growth_tests;
 mod laws;
 mod machine;
+#[cfg(test)]
+mod many_tests;
 mod note;
 mod opening;
 mod packed_progress;

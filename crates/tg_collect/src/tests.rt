@@ -157,7 +157,7 @@ fn may_store(rt: &impl Abort, store: &Store, seat: u64, serial: u64, rights: Rig
 }
 
 /// A document of a principal.
-fn create(
+pub fn create(
     rt: &impl Abort,
     alloc: Global,
     store: &mut Store,
@@ -241,7 +241,7 @@ fn agent(rt: &impl Abort, store: &Store, seat: u64) -> Option<(u64, u32)> {
     store.agent(seat)
 }
 
-fn shade(rt: &impl Abort, store: &mut Store, seat: u64) -> Option<u64> {
+pub fn shade(rt: &impl Abort, store: &mut Store, seat: u64) -> Option<u64> {
     assert!(rt; seat < 64);
     store.shade(seat)
 }

@@ -369,4 +369,22 @@ pub const CASES: &[Case] = &[
             Line::Ask(1, Ask::Look(3), Want::Edges(&[])),
         ],
     },
+    // alice retires and leaves the first slot to carol, who is a root there as any principal is
+    Case {
+        opening: Opening { slots: 3, ..TWO },
+        lines: &[
+            ALICE,
+            BOB,
+            Line::Ask(0, Ask::Retire, Want::Done),
+            Line::Bye(0, Ok(())),
+            Line::Cycle(1, 8),
+            Line::Ask(1, Ask::Enrol("carol", "t"), Want::Created(3)),
+            Line::Shaded(1, 3),
+            Line::Ask(1, Ask::Remove("t", 3), Want::Done),
+            Line::Cycle(0, 10),
+            Line::Cycle(0, 10),
+            Line::Hello(0, "carol", Ok(3)),
+            Line::Ask(0, Ask::Look(3), Want::Edges(&[])),
+        ],
+    },
 ];
