@@ -17,11 +17,11 @@ use Rattle.tg_collect.specs.declared.note.Phase.{Phase}
 use Rattle.tg_collect.specs.declared.note.Phase.TheVariants as phases
 use Rattle.tg_collect.proofs.Common.{Root, RootLists, root_serial, Acted, Changed, Collected, IsStore, IsEdgeIn, IsHeldIn, IsParkedIn, IsRootIn, IsRootAt, Stored, at_within, held, kept, kept_name, keeps_grey, phase, phase_in, shade_name, shown, slot_count, spot, turns_name}
 use Rattle.tg_collect.specs.Readings.{IsBlackIn, IsGreyIn, mark_in, name}
-use Rattle.tg_collect.specs.InGraph.{ActedInGraph, ActsInGraph, CollectedInGraph, CollectsInGraph, FreesNone, FreesOne, IsCalledIn, MayFollow, ShadesInGraph, StartsSweep, StaysOrIsParked, StoresAreInGraph}
+use Rattle.tg_collect.specs.InGraph.{ActedInGraph, ActsInGraph, CollectedInGraph, CollectsInGraph, FreesNone, FreesOne, IsCalledIn, MayFollow, OpensInGraph, ShadesInGraph, StartsSweep, StaysOrIsParked, StoresAreInGraph}
 use Rattle.tg_collect.proofs.SlotLemmas.{root_listed}
 use Rattle.tg_collect.proofs.ShownLemmas.{Once, edge_shown, held_kept, kept_held, place_kept}
-use Rattle.tg_collect.proofs.StoreLemmas.{edge_in, in_root, live_slots, once_so}
-use Rattle.tg_collect.proofs.RunLemmas.{acted_parked, acted_phase, collected_parked, collected_part}
+use Rattle.tg_collect.proofs.StoreLemmas.{edge_in, idle_unparked, in_root, live_slots, once_so}
+use Rattle.tg_collect.proofs.RunLemmas.{acted_parked, acted_phase, collected_parked, collected_part, opened_graph, opened_phase}
 
 -- The phases, and the step into the sweep.
 follows_so : (size : ℕ) (g h : Stage) (ended : Bool) → Follows size g h ended → MayFollow (phase_in g) (phase_in h) × ((ended ≡ true) ↔ ((phase_in g ≡ phases.Sweep) × (phase_in h ≡ phases.Idle)))
@@ -134,6 +134,16 @@ stores_are_in_graph v next s = record {
 } where
   rests : (g : Stage) → phase_in g ≡ phases.Idle → g ≡ values.Idle
   rests g e = grind arith
+
+-- A store that was opened.
+pub opens_in_graph : OpensInGraph
+opens_in_graph v G all_slots all_cells o = record {
+  phase = opened_phase o;
+  held = opened_graph o;
+  parked = λ x h. idle_unparked v (opened_phase o) x h;
+  grey = λ x h. elim (o.opens.marks h.0) [ inl free ↦ (let grey = h.1 in let both = sym free ∙ grey in grind arith) | inr white ↦ (let grey = h.1 in let both = sym white ∙ grey in grind arith) ];
+  black = λ x h. elim (o.opens.marks h.0) [ inl free ↦ (let black = h.1 in let both = sym free ∙ black in grind arith) | inr white ↦ (let black = h.1 in let both = sym white ∙ black in grind arith) ];
+}
 
 -- A collector step.
 module _ {v w : Stored} {freed : ℕ} {ended : Bool} (s : IsStore v) (t : IsStore w) (c : Collected v w freed ended) (next : ℕ) where

@@ -2,8 +2,10 @@
 use Rattle.std.specs.Prelude.{◌≡◌, ◌≢◌, ℕ, ◌+◌, ◌<◌, ◌≤◌, ◌⊎◌, ◌↔◌, Bool, true, Option, Some}
 use Rattle.tg_graph.specs.Fullness.{vertex_count, edge_count}
 use Rattle.tg_graph.specs.Paths.{IsPart, Live}
+use Rattle.tg_graph.specs.Protection.{Protection}
 use Rattle.tg_collect.specs.declared.note.Phase.{Phase}
 use Rattle.tg_collect.specs.declared.note.Phase.TheVariants.{Idle, Mark, Sweep}
+use Rattle.tg_collect.specs.Openings.{Opened}
 use Rattle.tg_collect.specs.Readings.{phase, held, mark_in, principals, pending, agents, slot_count, free_slots, parked_count, IsHeldIn, IsParkedIn, IsGreyIn, IsBlackIn, IsEdgeIn, IsRootIn}
 use Rattle.tg_collect.specs.Sessions.{Acted, Shaded}
 use Rattle.tg_collect.specs.Stored.{Stored}
@@ -87,10 +89,21 @@ pub record ActedInGraph (v w : Stored) (new : Option ℕ) : Type 0 where
   pub still_black : (x : ℕ) → IsBlackIn v x → IsBlackIn w x
   pub left : w.left ≤ v.left
 
--- the laws: of each store, of its collector steps, of its session steps, and of a shade, which leaves its target grey or
--- black
+-- a store that a graph has opened, before its first cycle: it holds the graph, and nothing is parked, grey or black
+pub record OpenedInGraph (v : Stored) (G : Protection) : Type 0 where
+  pub phase : phase v ≡ Idle
+  pub held : record (held v G.next) { names = G.names; retired = G.retired } ≡ G
+  pub parked : (x : ℕ) → IsParkedIn v x → ⊥
+  pub grey : (x : ℕ) → IsGreyIn v x → ⊥
+  pub black : (x : ℕ) → IsBlackIn v x → ⊥
+
+-- the laws: of each store, of its opening, of its collector steps, of its session steps, and of a shade, which leaves its
+-- target grey or black
 abbrev pub StoresAreInGraph : Type 0
 StoresAreInGraph = (v : Stored) (next : ℕ) → IsStore v → StoreInGraph v next
+
+abbrev pub OpensInGraph : Type 0
+OpensInGraph = (v : Stored) (G : Protection) (all_slots all_cells : ℕ) → Opened v G all_slots all_cells → OpenedInGraph v G
 
 abbrev pub CollectsInGraph : Type 0
 CollectsInGraph = (v w : Stored) (next freed_slots : ℕ) (ended : Bool) → IsStore v → IsStore w → Collected v w freed_slots ended → CollectedInGraph v w next freed_slots ended

@@ -1,6 +1,6 @@
 //! Laws of the store, as functions without a body.
 ghost use Rattle.tg_collect.specs.Runs.{CallsAct, IsComplete, IsBounded};
-ghost use Rattle.tg_collect.specs.InGraph.{StoresAreInGraph, CollectsInGraph, ActsInGraph, ShadesInGraph};
+ghost use Rattle.tg_collect.specs.InGraph.{StoresAreInGraph, OpensInGraph, CollectsInGraph, ActsInGraph, ShadesInGraph};
 ghost use Rattle.tg_collect.specs.Openings.{OpeningsCanBeStored};
 
 /// A law, at no cost: what a session call does is a step of a run if its new serial is new and its target live or new;
@@ -11,13 +11,14 @@ pub fn runs_are_complete_and_bounded()
     ensures bounded { IsBounded }
 {}
 
-/// A law, at no cost: what a store has, and what its collector steps and its session steps do, in the words of the graph
-/// of what is held and of serials. Only the step from marking to the sweep takes something from what is held: it parks
-/// all that is not black, which nothing reaches from a root. A step of the sweep frees at most one vertex, and only one
-/// that was parked; no session step changes what is parked. A collector step turns grey only a root or the target of an
-/// edge of a grey vertex, and black only what was grey.
+/// A law, at no cost: what a store has, also once it was opened, and what its collector steps and its session steps do,
+/// in the words of the graph of what is held and of serials. Only the step from marking to the sweep takes something
+/// from what is held: it parks all that is not black, which no path from a root reaches. A step of the sweep frees at
+/// most one vertex, and only one that was parked; no session step changes what is parked. A collector step turns grey
+/// only a root or the target of an edge of a grey vertex, and black only what was grey.
 pub fn steps_in_the_graph()
     ensures stores { StoresAreInGraph }
+    ensures opens { OpensInGraph }
     ensures collects { CollectsInGraph }
     ensures acts { ActsInGraph }
     ensures shades { ShadesInGraph }
