@@ -423,6 +423,16 @@ def memory_refused_late(program):
     return 60 < greeted < 101 and end_of(found) == NOT_SETTLED
 
 
+def memory_refused_once_late(program):
+    """One allocation of a worker fails late, in each try another one. If it is one that a worker needs before it serves a client, no further connection
+    is taken, by no worker; if it is one of a talk, that talk alone ends, and everything agrees."""
+    tried = [serve(program, [GREETING] * 101, Fault("memory", LATE + place, LATE + place, whose="others")) for place in range(5)]
+    greeted = [sum(answer == scripts.welcome(1) for answer in found.answers) for found in tried]
+    ends = [end_of(found) for found in tried]
+    print("  of 101 clients were greeted: %s" % ", ".join("%d (%s)" % row for row in zip(greeted, ends, strict=True)))
+    return NOT_SETTLED in ends and all(60 < count < 95 if end == NOT_SETTLED else 100 <= count for count, end in zip(greeted, ends, strict=True))
+
+
 def thread_refused_of_many(program):
     """A server of 101 connections cannot start a thread: it does not settle."""
     found = serve(program, [GREETING] * 101, Fault("thread", 1, 1))
@@ -438,6 +448,7 @@ def tests():
     yield "memory-of-workers-in-rounds-refused-once", gone_wrong(Fault("memory", whose="others"), workers_memory_refused_in_rounds, options=TWO_ROUNDS)
     yield "memory-of-a-server-in-rounds-refused-from-then-on", gone_wrong(Fault("memory"), memory_refused_from_then_on_in_rounds, to_the_end=True, options=TWO_ROUNDS)
     yield "memory-of-a-server-of-101-connections-refused-late", memory_refused_late
+    yield "memory-of-a-worker-of-101-connections-refused-late", memory_refused_once_late
     yield "threads-of-a-server-refused-once", gone_wrong(Fault("thread"), threads_refused, options=("--workers", str(WORKERS)))
     yield "thread-of-a-server-of-101-connections-refused", thread_refused_of_many
     yield "reads-of-a-server-that-fail", gone_wrong(Fault("read"), reads_wrong("nothing written"))

@@ -72,18 +72,19 @@ def keeps_pace(program):
     return not refused and ended == AGREED
 
 
-# Slots for a collector that alone has to free them, and seconds in which it has to.
-FEW, SOON = 512, 5.0
+# Slots for a collector that alone has to free them, seconds for which it has had nothing to do before, and seconds in which it has to.
+FEW, IDLE, SOON = 512, 25, 5.0
 
 
 def frees_alone(program):
-    """In a vault all of whose slots are full a create fails, and so does no step of a session: if everything is dropped, the collector's
-    own thread has room for another one soon."""
+    """In a vault all of whose slots are full a create fails, and so does no step of a session: if everything is dropped, however long the collector
+    found nothing to free before, its own thread has room for another one soon."""
     config = line_of({"principals": ["alice"], "slots": FEW}) + b"\n"
     with served(program, 1, 1, config) as server, server.connection() as one, one.makefile("rb") as answers:
         one.sendall(b'{"op":"hello","name":"alice"}\n' + CREATE * FEW)
         rows = [answers.readline() for _ in range(FEW + 1)]
         made = [row.rstrip(b"}\n").rpartition(b":")[2] for row in rows[1:] if is_made(row)]
+        time.sleep(IDLE)
         one.sendall(b"".join(b'{"op":"remove","over":%s,"rights":"rw"}\n' % it for it in made))
         dropped = [answers.readline() for _ in made]
         began, row = time.monotonic(), b""
