@@ -71,6 +71,7 @@ WAITS = re.compile(rf"fn (\S+): no proof: ({UNPROVED}(?:; {UNPROVED})*)$")
 UNTRIED = re.compile(r"note: `search` has not tried the goals of `([^`]+)`, which wait for a callee's proof")
 # What a report says of a function that is proved, given the contracts of those whose proof is a hole.
 PROVED = r"(?:proved|no holes$|depends on a hole in )"
+PROVES = re.compile(rf"fn (\S+): {PROVED}")
 
 
 def load(file):
@@ -252,6 +253,8 @@ class Report:
         self.faults, self.proved, self.unread, self.stray = {}, set(), set(), []
         said, notes = ran.stdout.rstrip("\n").split("\n"), []
         waits = waiting(said, symbols)
+        # (a function whose goals wait is looked at in its own line, and may be proved all the same by what an earlier check kept)
+        seen = symbols | waits | {it[1] for it in map(PROVES.match, said) if it}
         for line in said:
             error, name = ERROR.match(line), line[len("fn ") :].partition(": ")[0] if line.startswith("fn ") else ""
             if error:
@@ -272,7 +275,7 @@ class Report:
                 self.faults.setdefault(copy, []).extend([] if is_open else own)
             elif error or name not in waits and re.match(rf"(fn|impl) \S+: (?!assumed|{PROVED})", line):
                 self.stray.append(line)
-            elif "has not tried the goals of" in line and not {*UNTRIED.findall(line)} & symbols:
+            elif "has not tried the goals of" in line and not {*UNTRIED.findall(line)} & seen:
                 self.stray.append(line)
             notes = [] if line.startswith("fn ") else notes
         ended = ran.returncode in (0, 1) and said[-1].startswith("only=") and not rtlib.STALE.search(ran.stdout)
