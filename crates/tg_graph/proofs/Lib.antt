@@ -20,6 +20,7 @@ pub mod RollLemmas
 pub mod SoundTerms
 pub mod TriplesLemmas
 pub mod VertexLemmas
+pub mod ViewsLemmas
 -- Lemma files of this crate's own proofs.
 mod AllowedIsMetLemmas
 mod AnswersAgreeLemmas
@@ -28,4 +29,3 @@ mod ComeAndGoLemmas
 mod EdgesOfLemmas
 mod SameEdgesLemmas
 mod SearchingLemmas
-mod ViewsLemmas

@@ -21,7 +21,8 @@ use Rattle.tg_graph.specs.Names.{Rise}
 use Rattle.tg_graph.specs.Opening.{Edge}
 use Rattle.tg_graph.specs.Parts.{Before, Rises, members_of}
 use Rattle.tg_graph.proofs.RollLemmas.{untrue}
-use Rattle.tg_graph.proofs.ViewsLemmas.{pair_cmp, pair_tied}
+use Rattle.tg_graph.specs.Views.{pair_cmp}
+use Rattle.tg_graph.proofs.ViewsLemmas.{pair_tied}
 
 pub mapped : {X Y : Type 0} (f : X → Y) (xs : List X) (y : Y) → Contains (map f xs) y → (x : X) × Contains xs x × (y ≡ f x)
 mapped f [] y h = absurd h

@@ -27,13 +27,13 @@ use Rattle.tg_graph.specs.Opening.{Edge}
 use Rattle.tg_graph.specs.Parts.{AreParts, Before, HasVertex, Listed, Lists, PartsAreOneGraph, Rises, label_entry, member_of, members_of, vertex_entry, vertex_of}
 use Rattle.tg_graph.specs.Protection.{IsEdge, IsGraph, IsVertex, Protection, has_retired, label, vertex}
 use Rattle.tg_graph.specs.Triples.{Triple}
-use Rattle.tg_graph.specs.Views.{protection_of}
+use Rattle.tg_graph.specs.Views.{protection_of, label_at, pair_cmp}
 use Rattle.tg_graph.proofs.LabelLemmas.{Labels, contains-label}
 use Rattle.tg_graph.proofs.ListedLemmas.{edge_later, edges_apart, ends_tied, entries_longer, found_listed, listed_found, mapped, members_length, members_rise, permuted, rise_rises, same_in_order, serial_later, serial_tied, serials_apart, serials_distinct, still_distinct}
 use Rattle.tg_graph.proofs.RollLemmas.{any_is, is-same_name, is_any, same_name-is, untrue}
 use Rattle.tg_graph.proofs.TriplesLemmas.{same_triples}
 use Rattle.tg_graph.proofs.VertexLemmas.{Entries}
-use Rattle.tg_graph.proofs.ViewsLemmas.{label-shown, label_at, pair_cmp, vertex-shown}
+use Rattle.tg_graph.proofs.ViewsLemmas.{label-shown, vertex-shown}
 
 -- ---- one more entry of a map
 

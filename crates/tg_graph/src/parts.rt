@@ -1,9 +1,10 @@
-//! Graphs from lists.
+//! Graphs from lists, and the labels that a graph lends.
 ghost use Rattle.std.specs.Prelude.{◌≡◌, ◌<◌, ℕ, map, IfOk};
 ghost use Rattle.std.specs.List.{list_any};
 ghost use Rattle.std.specs.Ordering.{eq_by_cmp, nat_cmp};
 ghost use Rattle.tg_graph.specs.Parts.{AreParts, Before, Lists, Rises, label_entry, vertex_entry};
 ghost use Rattle.tg_graph.specs.Protection.{IsGraph};
+ghost use Rattle.tg_graph.specs.Views.{AreLabels};
 
 use crate::graph::Graph;
 use crate::roll::Roll;
@@ -28,6 +29,14 @@ pub struct Parts {
 }
 
 impl Graph {
+    /// Lends the labels by the ends of their edges: first the vertex that has the rights, then the one over which it has
+    /// them. Each edge is there once, by rising ends; a pair with an empty label is no edge.
+    pub fn labels(&self) -> &BTreeMap<(u64, u64), Rights>
+        ensures { AreLabels self.now result.now.entries }
+    {
+        &self.labels
+    }
+
     /// The graph that has exactly what these lists have. Vertices and those who have retired are listed by rising serial
     /// and edges by rising pairs of ends; the ends of an edge are two different vertices, and its label is not empty;
     /// there are at most 64 principals, subjects of different names and serials, and none of them has retired; who has

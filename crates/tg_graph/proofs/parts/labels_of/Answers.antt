@@ -5,7 +5,7 @@ use Rattle.tg_rights.specs.Letters.{Letters}
 use Rattle.tg_graph.specs.Opening.{Edge}
 use Rattle.tg_graph.specs.Parts.{Before, Rises, label_entry}
 use Rattle.tg_graph.proofs.PartsLemmas.{labels_longer}
-use Rattle.tg_graph.proofs.ViewsLemmas.{pair_cmp}
+use Rattle.tg_graph.specs.Views.{pair_cmp}
 use Rattle.tg_graph.proofs.parts.labels_of.Goals as goal
 
 pub loop-edge-preserved : goal.loop-edge-preserved
