@@ -1,0 +1,6 @@
+pub mod LabelsLemmas
+pub mod GrowthLemmas
+pub mod WithheldLemmas
+pub mod MarkingLemmas
+pub mod GrowingLemmas
+pub mod SharingLemmas

@@ -1,0 +1,82 @@
+-- Why an answer is right.
+use Rattle.std.proofs.Common.{◌≡◌, ℕ, ◌∷◌, [], List, true, false, refl, sym, subst, ◌∙◌, inl, inr}
+use Rattle.tg_rights.specs.Letters.{Letters, Right, read, write, take, grant, has, includes, is_none}
+use Rattle.tg_rights.proofs.LettersLemmas.{are_set_operations, right_some}
+use Rattle.tg_graph.specs.declared.derivation.Goal.{Goal}
+use Rattle.tg_graph.specs.declared.derivation.Step.{Step}
+use Rattle.tg_graph.specs.Derivations.{CanShare, Derives, IsShared}
+use Rattle.tg_graph.specs.Laws.{CommandsKeepGraphs}
+use Rattle.tg_graph.specs.Protection.{Protection, IsGraph, IsVertex, label}
+use Rattle.tg_sharing.specs.Fetching.{AreFound, IsFound, IsLacking, alone}
+use Rattle.tg_sharing.specs.Laws.{WithheldForEver}
+use Rattle.tg_sharing.specs.Marking.{is_bridged, is_spanned}
+use Rattle.tg_sharing.specs.Paths.{Holds}
+use Rattle.tg_sharing.specs.Spans.{AreClosed, Has}
+use Rattle.tg_sharing.specs.declared.marks.Marks.{Marks}
+use Rattle.tg_sharing.specs.declared.sharing.Found.{Found}
+use Rattle.tg_sharing.specs.declared.sharing.Found.TheVariants as found
+use Rattle.tg_sharing.proofs.GrowingLemmas.{held_apart, holds_all, holds_right}
+
+alone_has : (r : Right) → has (alone r) r ≡ true
+alone_has read = refl
+alone_has write = refl
+alone_has take = refl
+alone_has grant = refl
+
+-- a right alone has no other
+only : (r s : Right) → has (alone r) s ≡ true → r ≡ s
+only read read e = refl
+only read write e = absurd (cc e)
+only read take e = absurd (cc e)
+only read grant e = absurd (cc e)
+only write read e = absurd (cc e)
+only write write e = refl
+only write take e = absurd (cc e)
+only write grant e = absurd (cc e)
+only take read e = absurd (cc e)
+only take write e = absurd (cc e)
+only take take e = refl
+only take grant e = absurd (cc e)
+only grant read e = absurd (cc e)
+only grant write e = absurd (cc e)
+only grant take e = absurd (cc e)
+only grant grant e = refl
+
+alone_held : (G : Protection) (x : ℕ) (r : Right) (y : ℕ) → Has G x r y → Holds G x (alone r) y
+alone_held G x r y h = holds_all G x (alone r) y (λ s e. subst (λ (q : Right). Has G x q y) (only r s e) h)
+
+includes_alone : (l : Letters) (r : Right) → has l r ≡ true → includes l (alone r) ≡ true
+includes_alone l r h = (are_set_operations.inclusion l (alone r)).1 (λ s e. subst (λ (q : Right). has l q ≡ true) (only r s e) h)
+
+-- a goal of no rights is met
+pub nothing_shared : (G : Protection) (goal : Goal) → is_none goal.rights ≡ true → IsShared G goal
+nothing_shared G goal none = (are_set_operations.inclusion (label G goal.from goal.to) goal.rights).1 (λ r h. absurd (cc (none, right_some goal.rights r h)))
+
+-- steps lead from a graph to a graph
+graph_kept : CommandsKeepGraphs → (steps : List Step) (G H : Protection) → IsGraph G → Derives G steps H → IsGraph H
+graph_kept keep [] G H g is = subst IsGraph (sym is) g
+graph_kept keep (s ∷ ss) G H g (K, first, rest) =
+    graph_kept keep ss K H (subst IsGraph (sym first.result) (keep G s.actor s.command g first.subject first.allowed).0) rest
+
+-- no vertex comes to have rights over itself
+pub never_itself : CommandsKeepGraphs → (G : Protection) (goal : Goal) → IsGraph G → goal.from ≡ goal.to → is_none goal.rights ≡ false → CanShare G goal → ⊥
+never_itself keep G goal g same some can =
+    held_apart can.reached (graph_kept keep can.steps G can.reached g can.derived) goal.from goal.rights goal.to some can.shared same
+
+-- what all lack is never shared
+pub never_shared : WithheldForEver → (G : Protection) (goal : Goal) (m : Marks) (r : Right) → IsGraph G → IsVertex G goal.from → IsVertex G goal.to → m.from ≡ goal.from →
+    AreClosed G goal.from (is_spanned m) (is_bridged m) → IsLacking G m (alone r) goal → CanShare G goal → ⊥
+never_shared law G goal m r g from to own closed lacking =
+    law G goal (is_spanned m) (is_bridged m) r g (g.below_next goal.from from) (g.below_next goal.to to) closed
+    ((are_set_operations.inclusion goal.rights (alone r)).0 lacking.0 r (alone_has r))
+    (λ u either h. lacking.1 u (alone_held G u r goal.to h, elim either [ inl is ↦ inl (is ∙ sym own) | inr p ↦ inr p ]))
+
+-- right by right, the goal is met
+pub all_shared : (G H : Protection) (m : Marks) (goal : Goal) → AreFound G H m goal found.Here → IsShared H goal
+all_shared G H m goal here = (are_set_operations.inclusion (label H goal.from goal.to) goal.rights).1
+    (λ r h. holds_right H goal.from (alone r) goal.to (here r (includes_alone goal.rights r h)) r (alone_has r))
+
+-- one right was found here
+pub one_found : (G W : Protection) (m : Marks) (α β : Letters) (goal : Goal) (f : Found) → IsFound G W m α goal f → f ≡ found.Here → α ≡ β → includes goal.rights β ≡ true → Holds W goal.from β goal.to
+one_found G W m α β goal f h is same =
+    subst (λ (l : Letters). includes goal.rights l ≡ true → Holds W goal.from l goal.to) same (subst (λ (q : Found). IsFound G W m α goal q) is h)

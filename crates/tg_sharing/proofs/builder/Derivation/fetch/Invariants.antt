@@ -1,0 +1,19 @@
+use Rattle.std.proofs.Common.{◌≡◌, Some}
+use Rattle.tg_sharing.specs.Growing.{Continues, Draws, both}
+use Rattle.tg_sharing.specs.Marking.{bridge_of}
+use Rattle.tg_sharing.specs.Paths.{Holds}
+use Rattle.tg_sharing.specs.Spans.{IsActor}
+use Rattle.tg_sharing.proofs.builder.Derivation.fetch.Given as goal
+
+-- the holder can take from where the walk is
+abbrev pub invariant-loop-bridge : goal.invariant-loop-bridge
+invariant-loop-bridge l = record {
+  continues : Continues l.fn.self l.self;
+  bridge : bridge_of l.marks l.at ≡ Some l.bridge;
+  holder : IsActor l.graph l.holder;
+  draws : Draws l.self.graph l.holder l.at;
+  held : Holds l.self.graph l.holder both l.envoy;
+}
+
+abbrev pub decreases-loop-bridge : goal.decreases-loop-bridge
+decreases-loop-bridge l = l.bridge.rank

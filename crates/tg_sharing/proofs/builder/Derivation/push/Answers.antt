@@ -1,0 +1,44 @@
+use Rattle.std.proofs.Common.{◌≡◌, ◌<◌, inr, refl, arith}
+use Rattle.std.proofs.lemmas.Option.{MatchOption-at_some}
+use Rattle.tg_rights.specs.declared.kind.Kind.TheVariants as kind
+use Rattle.tg_graph.specs.Rules.{last_serial}
+use Rattle.tg_sharing.specs.Growing.{Makes, both}
+use Rattle.tg_sharing.proofs.GrowingLemmas.{Keeps-trans, both_take, held_low, keeps_draws, keeps_gives, keeps_holds}
+use Rattle.tg_sharing.proofs.builder.Derivation.push.Goals as goal
+
+pub give_grant-requires-clause-gives : goal.give_grant-requires-clause-gives
+give_grant-requires-clause-gives c = keeps_gives c.args.self.now.graph c.make.new.self.graph c.in_ok-case.ensures.continues.keeps c.args.taker c.args.by c.requires.gives
+
+pub gain_grant-requires-clause-draws : goal.gain_grant-requires-clause-draws
+gain_grant-requires-clause-draws c =
+    keeps_draws c.args.self.now.graph c.give_grant.new.self.graph
+    (Keeps-trans c.args.self.now.graph c.make.new.self.graph c.give_grant.new.self.graph c.in_ok-case.ensures.continues.keeps c.in_ok-give_grant.ensures.continues.keeps)
+    c.args.giver c.args.by c.requires.draws
+
+pub give_both-requires-clause-held : goal.give_both-requires-clause-held
+give_both-requires-clause-held c =
+    let G = c.args.self.now.graph in
+    let G1 = c.make.new.self.graph in
+    let G2 = c.give_grant.new.self.graph in
+    let G3 = c.gain_grant.new.self.graph in
+    keeps_holds G G3 (Keeps-trans G G2 G3 (Keeps-trans G G1 G2 c.in_ok-case.ensures.continues.keeps c.in_ok-give_grant.ensures.continues.keeps) c.in_ok-gain_grant.ensures.continues.keeps)
+    c.args.giver both c.args.envoy c.requires.held
+
+pub give_both-requires-clause-apart : goal.give_both-requires-clause-apart
+give_both-requires-clause-apart c =
+    let G = c.args.self.now.graph in
+    let made = MatchOption-at_some (last_serial < c.make.new.self.graph.next) (Makes c.args.self.now c.make.new.self c.args.taker kind.Document) c.in-Some.case c.in-Some.is c.in_ok-case.ensures.made in
+    let fresh : c.in-Some.case ≡ G.next = made.fresh in
+    let low : c.args.envoy < G.next = held_low G c.soundness.ensures c.args.giver both c.args.envoy refl c.requires.held in
+    λ is. absurd (omega (arith, fresh, low, is))
+
+pub gain_both-requires-clause-draws : goal.gain_both-requires-clause-draws
+gain_both-requires-clause-draws c =
+    let G1 = c.make.new.self.graph in
+    let G2 = c.give_grant.new.self.graph in
+    let G3 = c.gain_grant.new.self.graph in
+    let G4 = c.give_both.new.self.graph in
+    let made = MatchOption-at_some (last_serial < c.make.new.self.graph.next) (Makes c.args.self.now c.make.new.self c.args.taker kind.Document) c.in-Some.case c.in-Some.is c.in_ok-case.ensures.made in
+    inr (both_take G4 c.args.taker c.in-Some.case
+    (keeps_holds G1 G4 (Keeps-trans G1 G3 G4 (Keeps-trans G1 G2 G3 c.in_ok-give_grant.ensures.continues.keeps c.in_ok-gain_grant.ensures.continues.keeps) c.in_ok-give_both.ensures.continues.keeps)
+    c.args.taker both c.in-Some.case made.held))

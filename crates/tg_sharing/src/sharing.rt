@@ -1,0 +1,176 @@
+//! Whether rights can be shared, and by which steps.
+ghost use Rattle.std.specs.Prelude.{IsTrue, ◌↔◌, ◌≡◌, ◌≢◌, ℕ, true, false, IfOk, OnOk, MatchOption};
+ghost use Rattle.tg_rights.specs.Letters.{Right, is_none};
+ghost use Rattle.tg_graph.specs.Protection.{IsVertex};
+ghost use Rattle.tg_sharing.specs.Answers.{IsAnswer};
+ghost use Rattle.tg_sharing.specs.Fetching.{AreFound, IsFound, IsHolder, IsLacking, alone};
+ghost use Rattle.tg_sharing.specs.Growing.{Continues, Keeps};
+ghost use Rattle.tg_sharing.specs.Marking.{AreMarks};
+
+use crate::builder::Derivation;
+use crate::marks::Marks;
+use crate::withheld_for_ever;
+use std::alloc::{AllocError, Global};
+use tg_graph::{Goal, Graph, Step, commands_keep_graphs};
+use tg_rights::Rights;
+
+/// Whether a goal's rights can be shared.
+#[derive(Debug, Drop)]
+pub enum Answer {
+    /// Never, whatever the subjects do.
+    Never,
+    /// By these steps.
+    By(Vec<Step>),
+    /// By these steps and more, but after these no serial is left.
+    NoSerial(Vec<Step>),
+}
+
+/// Whether the vertex has the right, and is the goal's own vertex or spanned.
+fn is_holder(graph: &Graph, marks: &Marks, vertex: u64, right: Rights, to: u64) -> bool
+    ensures { IsTrue result ↔ IsHolder graph.now marks.now right to vertex }
+{
+    graph.rights(vertex, to).contains(right) && (vertex == marks.from || marks.is_spanned(vertex))
+}
+
+/// One that has the right.
+fn holder_of(graph: &Graph, marks: &Marks, right: Rights, to: u64) -> Option<u64>
+    requires some { is_none right ≡ false }
+    ensures { MatchOption result ((u : ℕ) → IsHolder graph.now marks.now right to u → ⊥) (IsHolder graph.now marks.now right to) }
+{
+    let labels = graph.labels();
+    for (ends, _) in labels {
+        if ends.1 == to && is_holder(graph, marks, ends.0, right, to) {
+            return Some(ends.0);
+        }
+    }
+    None
+}
+
+/// Whether the goal has this right, and all who could pass it on lack it.
+fn is_withheld(graph: &Graph, marks: &Marks, right: Rights, goal: &Goal) -> bool
+    requires some { is_none right ≡ false }
+    ensures { IsTrue result → IsLacking graph.now marks.now right goal.now }
+{
+    goal.rights.contains(right) && holder_of(graph, marks, right, goal.to).is_none()
+}
+
+/// Whether one of the goal's rights is withheld.
+fn is_never(graph: &Graph, marks: &Marks, goal: &Goal) -> bool
+    ensures { IsTrue result → (r : Right) × IsLacking graph.now marks.now (alone r) goal.now }
+{
+    is_withheld(graph, marks, Rights::read(), goal)
+        || is_withheld(graph, marks, Rights::write(), goal)
+        || is_withheld(graph, marks, Rights::take(), goal)
+        || is_withheld(graph, marks, Rights::grant(), goal)
+}
+
+/// What came of one right of a goal.
+enum Found {
+    /// All who could pass it on lack it.
+    Nobody,
+    /// No serial is left.
+    NoSerial,
+    /// The goal's own vertex has it, if it is one of the goal's.
+    Here,
+}
+
+impl Derivation {
+    /// The goal's own vertex comes to have this right, if it is one of the goal's.
+    fn share(
+        &mut self,
+        alloc: Global,
+        graph: &Graph,
+        marks: &Marks,
+        right: Rights,
+        goal: &Goal,
+    ) -> Result<Found, AllocError>
+        requires keeps { Keeps graph.now self.old.graph }
+        requires marks { AreMarks graph.now marks.now }
+        requires own { marks.now.from ≡ goal.now.from }
+        requires some { is_none right ≡ false }
+        requires apart { goal.now.from ≢ goal.now.to }
+        ensures continues { OnOk result (Continues self.old self.new) }
+        ensures found { IfOk result (IsFound graph.now self.new.graph marks.now right goal.now) }
+    {
+        if !goal.rights.contains(right) {
+            return Ok(Found::Here);
+        }
+        let Some(source) = holder_of(graph, marks, right, goal.to) else {
+            return Ok(Found::Nobody);
+        };
+        if !marks.is_spanned(source) {
+            return Ok(Found::Here);
+        }
+        let Some(_) = self.derive(alloc, graph, marks, source, right, goal)? else {
+            return Ok(Found::NoSerial);
+        };
+        Ok(Found::Here)
+    }
+
+    /// The same of all rights.
+    fn share_all(
+        &mut self,
+        alloc: Global,
+        graph: &Graph,
+        marks: &Marks,
+        goal: &Goal,
+    ) -> Result<Found, AllocError>
+        requires keeps { Keeps graph.now self.old.graph }
+        requires marks { AreMarks graph.now marks.now }
+        requires own { marks.now.from ≡ goal.now.from }
+        requires apart { goal.now.from ≢ goal.now.to }
+        ensures continues { OnOk result (Continues self.old self.new) }
+        ensures found { IfOk result (AreFound graph.now self.new.graph marks.now goal.now) }
+    {
+        match self.share(alloc, graph, marks, Rights::read(), goal)? {
+            Found::Nobody => return Ok(Found::Nobody),
+            Found::NoSerial => return Ok(Found::NoSerial),
+            Found::Here => {}
+        }
+        match self.share(alloc, graph, marks, Rights::write(), goal)? {
+            Found::Nobody => return Ok(Found::Nobody),
+            Found::NoSerial => return Ok(Found::NoSerial),
+            Found::Here => {}
+        }
+        match self.share(alloc, graph, marks, Rights::take(), goal)? {
+            Found::Nobody => return Ok(Found::Nobody),
+            Found::NoSerial => return Ok(Found::NoSerial),
+            Found::Here => {}
+        }
+        match self.share(alloc, graph, marks, Rights::grant(), goal)? {
+            Found::Nobody => return Ok(Found::Nobody),
+            Found::NoSerial => return Ok(Found::NoSerial),
+            Found::Here => {}
+        }
+        Ok(Found::Here)
+    }
+}
+
+/// Whether the goal's rights can ever be shared, whatever the subjects do: `Never`, or `By` steps which the rules allow
+/// one after another and after which the goal is met; or `NoSerial`, where the rules alone would allow that but it takes
+/// more new vertices than there are serials, with the steps up to then.
+pub fn can_share(alloc: Global, graph: &Graph, goal: Goal) -> Result<Answer, AllocError>
+    requires from { IsVertex graph.now goal.from }
+    requires to { IsVertex graph.now goal.to }
+    ensures { IfOk result (IsAnswer graph.now goal) }
+{
+    graph.soundness();
+    commands_keep_graphs();
+    withheld_for_ever();
+    if goal.rights.is_empty() {
+        return Ok(Answer::By(Vec::new(alloc)));
+    }
+    if goal.from == goal.to {
+        return Ok(Answer::Never);
+    }
+    let marks = Marks::explore(alloc, graph, goal.from)?;
+    if is_never(graph, &marks, &goal) {
+        return Ok(Answer::Never);
+    }
+    let mut derivation = Derivation::new(alloc, graph.copy()?);
+    match derivation.share_all(alloc, graph, &marks, &goal)? {
+        Found::Nobody => Ok(Answer::Never),
+        Found::NoSerial => Ok(Answer::NoSerial(derivation.steps)),
+        Found::Here => Ok(Answer::By(derivation.steps)),
+    }
+}
