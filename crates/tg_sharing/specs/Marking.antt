@@ -3,12 +3,14 @@ use Rattle.std.specs.Prelude.{◌≡◌, ◌<◌, ◌≤◌, ◌+◌, ℕ, Bool,
 use Rattle.std.specs.Option.{is_some}
 use Rattle.std.specs.Ordering.{nat_cmp}
 use Rattle.std.specs.BTreeMap as tree
-use Rattle.tg_rights.specs.Letters.{take, grant}
+use Rattle.tg_rights.specs.Letters.{Letters, has, take, grant}
 use Rattle.tg_graph.specs.Protection.{Protection, IsEdge}
 use Rattle.tg_sharing.specs.Spans.{Has, IsActor}
 use Rattle.tg_sharing.specs.Paths.{TakePath, path_end}
 use Rattle.tg_sharing.specs.declared.marks.Span.{Span}
+use Rattle.tg_sharing.specs.declared.follow.Known.{Known}
 use Rattle.tg_sharing.specs.declared.marks.Bridge.{Bridge}
+use Rattle.tg_sharing.specs.declared.marks.Marked.{Marked}
 use Rattle.tg_sharing.specs.declared.marks.Marks.{Marks}
 use Rattle.tg_sharing.specs.declared.marks.SpanWay.{SpanWay}
 use Rattle.tg_sharing.specs.declared.marks.SpanWay.TheVariants as span
@@ -26,6 +28,10 @@ is_spanned m v = is_some (span_of m v)
 
 abbrev pub is_bridged : Marks → ℕ → Bool
 is_bridged m v = is_some (bridge_of m v)
+
+-- which marks the vertex has
+abbrev pub marked : Marks → ℕ → Marked
+marked m v = record { spanned = is_spanned m v; bridged = is_bridged m v }
 
 abbrev pub size : Marks → ℕ
 size m = tree.btree_map_len m.spanned + tree.btree_map_len m.bridged
@@ -107,6 +113,18 @@ pub record AreGrantClosed (m : Marks) (x y : ℕ) : Type 0 where
 pub record ArePairClosed (G : Protection) (m : Marks) (x y : ℕ) : Type 0 where
   pub take : Has G x take y → AreTakeClosed m x y
   pub grant : Has G x grant y → AreGrantClosed m x y
+
+-- these are the marks of this vertex
+abbrev pub IsKnown : Marks → Known → Type 0
+IsKnown m known = known.marked ≡ marked m known.vertex
+
+-- an edge of this label leads to no mark, between vertices with these, the second of which is the goal's own if `own` says so
+pub record IsFollowed (label : Letters) (x y : Marked) (own : Bool) : Type 0 where
+  pub taken : has label take ≡ true → x.spanned ≡ true → y.spanned ≡ true
+  pub reaching : has label take ≡ true → y.bridged ≡ true → x.bridged ≡ true
+  pub granting : has label grant ≡ true → x.spanned ≡ true → y.bridged ≡ true
+  pub granted : has label grant ≡ true → y.spanned ≡ true → x.bridged ≡ true
+  pub initial : has label grant ≡ true → own ≡ true → x.bridged ≡ true
 
 -- the marks are closed along each edge
 abbrev pub AreEdgesClosed : Protection → Marks → Type 0

@@ -1,14 +1,38 @@
 //! Marks that follow from others along edges.
-ghost use Rattle.std.specs.Prelude.{◌≡◌, ◌<◌, ◌^◌, true, false, IsTrue, OnOk, IfOk};
+ghost use Rattle.std.specs.Prelude.{◌≡◌, ◌<◌, ◌^◌, ◌||◌, true, false, IsTrue, OnOk, IfOk};
 ghost use Rattle.tg_graph.specs.Protection.{label as rights_over};
-ghost use Rattle.tg_rights.specs.Letters.{take, grant};
+ghost use Rattle.tg_rights.specs.Letters.{has, take, grant};
 ghost use Rattle.tg_sharing.specs.Spans.{AreClosed, Has};
-ghost use Rattle.tg_sharing.specs.Marking.{AreEdgesClosed, AreGrantClosed, AreMarks, ArePairClosed, AreTakeClosed, Goes, is_bridged, is_spanned, size};
+ghost use Rattle.tg_sharing.specs.Marking.{AreEdgesClosed, AreGrantClosed, AreMarks, ArePairClosed, AreTakeClosed, Goes, IsFollowed, IsKnown, is_bridged, is_spanned, marked, size};
 
-use crate::marks::{BridgeWay, Marks, SpanWay};
+use crate::marks::{BridgeWay, Marked, Marks, SpanWay};
+use crate::search::edges_from;
 use std::alloc::{AllocError, Global};
 use tg_graph::Graph;
 use tg_rights::Rights;
+
+/// A vertex, and which marks it has.
+#[derive(Clone, Copy)]
+struct Known {
+    vertex: u64,
+    marked: Marked,
+}
+
+/// Whether marks can follow along an edge of this label.
+pub(crate) fn is_passed(label: Rights) -> bool
+    ensures { result ≡ (has label take || has label grant) }
+{
+    label.contains(Rights::take()) || label.contains(Rights::grant())
+}
+
+/// Whether an edge of this label leads to no mark, between vertices with these marks. The second may be the goal's own.
+pub(crate) fn is_followed(label: Rights, x: Marked, y: Marked, is_own: bool) -> bool
+    ensures { IsTrue result → IsFollowed label x y is_own }
+{
+    let is_taken = (!x.spanned || y.spanned) && (!y.bridged || x.bridged);
+    let is_granted = (!x.spanned || y.bridged) && (x.bridged || !y.spanned && !is_own);
+    (!label.contains(Rights::take()) || is_taken) && (!label.contains(Rights::grant()) || is_granted)
+}
 
 impl Marks {
     /// A terminal span goes on along a take.
@@ -117,7 +141,7 @@ impl Marks {
     }
 
     /// Sets the marks to which an edge leads, if there is one.
-    pub(crate) fn follow(
+    fn follow(
         &mut self,
         graph: &Graph,
         x: u64,
@@ -134,6 +158,57 @@ impl Marks {
         Ok(())
     }
 
+    /// Sets the marks to which the edges lead that a search finds.
+    fn spread(&mut self, alloc: Global, graph: &Graph) -> Result<(), AllocError>
+        requires { AreMarks graph.now self.old }
+        ensures { OnOk result (Goes graph.now self.old self.new) }
+    {
+        for edge in edges_from(alloc, graph, self.from)? {
+            let label = graph.rights(edge.0, edge.1);
+            self.follow(graph, edge.0, edge.1, label)?;
+        }
+        Ok(())
+    }
+
+    /// Which marks the vertex has, where those of one vertex are known.
+    fn recall(&self, vertex: u64, known: Known) -> Marked
+        requires { IsKnown self.now known }
+        ensures { result ≡ marked self.now vertex }
+    {
+        if vertex == known.vertex {
+            known.marked
+        } else {
+            self.marked(vertex)
+        }
+    }
+
+    /// Sets the marks to which an edge leads, if it leads to any. The marks of one vertex are known, before and after.
+    fn follow_on(
+        &mut self,
+        graph: &Graph,
+        x: u64,
+        y: u64,
+        label: Rights,
+        known: Known,
+    ) -> Result<Known, AllocError>
+        requires label { label ≡ rights_over graph.now x y }
+        requires marks { AreMarks graph.now self.old }
+        requires known { IsKnown self.old known }
+        ensures goes { OnOk result (Goes graph.now self.old self.new) }
+        ensures closed { OnOk result (size self.old ≡ size self.new → ArePairClosed graph.now self.old x y) }
+        ensures known { IfOk result (λ known. IsKnown self.new known) }
+    {
+        if !is_passed(label) {
+            return Ok(known);
+        }
+        let before = self.recall(x, known);
+        if is_followed(label, before, self.marked(y), y == self.from) {
+            return Ok(Known { vertex: x, marked: before });
+        }
+        self.follow(graph, x, y, label)?;
+        Ok(Known { vertex: x, marked: self.marked(x) })
+    }
+
     /// Sets the marks to which each edge leads.
     fn follow_each(&mut self, graph: &Graph) -> Result<(), AllocError>
         requires { AreMarks graph.now self.old }
@@ -141,8 +216,9 @@ impl Marks {
         ensures closed { OnOk result (size self.old ≡ size self.new → AreEdgesClosed graph.now self.old) }
     {
         let labels = graph.labels();
+        let mut known = Known { vertex: self.from, marked: self.marked(self.from) };
         for (ends, label) in labels {
-            self.follow(graph, ends.0, ends.1, *label)?;
+            known = self.follow_on(graph, ends.0, ends.1, *label, known)?;
         }
         Ok(())
     }

@@ -7,8 +7,8 @@ mod builder;
 mod fetch;
 mod follow;
 mod marks;
+mod search;
 mod sharing;
-mod spread;
 
 pub use sharing::{Answer, can_share};
 use tg_graph::{allowed_is_met, commands_keep_graphs};

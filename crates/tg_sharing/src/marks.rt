@@ -1,7 +1,7 @@
 //! Marks: which vertices are spanned and which are bridged, and why.
 ghost use Rattle.std.specs.Prelude.{◌≡◌, ◌<◌, ◌+◌, true, false, None, Some, IsTrue, ◌↔◌, OnOk, IfOk};
 ghost use Rattle.tg_sharing.specs.Spans.{IsActor};
-ghost use Rattle.tg_sharing.specs.Marking.{AreMarks, Goes, IsBridge, IsNone, IsPathTo, IsSpan, AddsBridge, AddsSpan, size, is_bridged, is_spanned, span_of, bridge_of};
+ghost use Rattle.tg_sharing.specs.Marking.{AreMarks, Goes, IsBridge, IsNone, IsPathTo, IsSpan, AddsBridge, AddsSpan, size, is_bridged, is_spanned, span_of, bridge_of, marked};
 
 use std::alloc::{AllocError, Global};
 use std::collections::{BTreeMap, VecDeque};
@@ -48,6 +48,13 @@ pub(crate) struct Bridge {
     pub(crate) way: BridgeWay,
     /// How many marks were set before.
     pub(crate) rank: usize,
+}
+
+/// Which marks a vertex has.
+#[derive(Clone, Copy, PartialEq, Eq, Debug)]
+pub(crate) struct Marked {
+    pub(crate) spanned: bool,
+    pub(crate) bridged: bool,
 }
 
 /// The marks that were set so far, for one vertex to which rights are to come.
@@ -199,6 +206,16 @@ impl Marks {
                     span = self.span_at(from);
                 }
             }
+        }
+    }
+
+    /// Which marks the vertex has.
+    pub(crate) fn marked(&self, vertex: u64) -> Marked
+        ensures { result ≡ marked self.now vertex }
+    {
+        Marked {
+            spanned: self.spanned.contains_key(&vertex),
+            bridged: self.bridged.contains_key(&vertex),
         }
     }
 

@@ -15,6 +15,7 @@ loop-ends-init c =
     record {
       goes = Goes-refl G m;
       marks = c.requires;
+      known = c.marked.ensures;
       labels = λ e h. entry_label G es c.labels-labels.ensures all.6 e (subst (λ (l : Labels). Contains l e) all.0 h);
       closed = λ _ x y some. inl (subst (λ (l : Labels). Contains (keys_of l) (x, y)) (sym all.0) (edge_listed G es c.labels-labels.ensures x y some));
     }
@@ -24,18 +25,19 @@ loop-ends-preserved c =
     let G = c.args.graph.now in
     let m = c.args.self.now in
     let n = c.loop-ends.self in
-    let o = c.follow.new.self in
+    let o = c.follow_on.new.self in
     let rest = c.next.new.self in
     let before = c.loop-ends.invariant.goes in
-    let step = c.in_ok-follow.ensures.goes in
+    let step = c.in_ok-known.ensures.goes in
     record {
       goes = Goes-trans G m n o before step;
       marks = step.marks c.loop-ends.invariant.marks;
+      known = c.in_ok-known.ensures.known;
       labels = λ e h. c.loop-ends.invariant.labels e (subst (λ (l : Labels). Contains l e) (sym c.in-Some.ensures.steps) (inr h));
       closed = λ same x y some.
           let first : size m ≡ size n = omega (arith, same, before.extends.grows, step.extends.grows) in
           let second : size n ≡ size o = omega (arith, same, before.extends.grows, step.extends.grows) in
-          let here = pair_before m n before.extends first G _ _ (c.in_ok-follow.ensures.closed second) in
+          let here = pair_before m n before.extends first G _ _ (c.in_ok-known.ensures.closed second) in
           elim (c.loop-ends.invariant.closed first x y some) [
             | inl left ↦ elim (subst (λ (l : Labels). Contains (keys_of l) (x, y)) c.in-Some.ensures.steps left) [
               | inl is ↦ inr (subst (λ (p : ℕ × ℕ). ArePairClosed G m p.0 p.1) (sym is) here)
