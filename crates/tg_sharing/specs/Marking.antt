@@ -1,8 +1,7 @@
 -- marks: each is set for a reason, which is an earlier mark or the goal's own vertex
-use Rattle.std.specs.Prelude.{◌≡◌, ◌<◌, ◌≤◌, ◌+◌, ℕ, Bool, true, cond, ◌==◌, Option, Some, None, List}
+use Rattle.std.specs.Prelude.{◌≡◌, ◌<◌, ◌≤◌, ◌+◌, ℕ, Bool, true, cond, ◌==◌, Option, Some, None, List, nat_eq}
 use Rattle.std.specs.Option.{is_some}
-use Rattle.std.specs.Ordering.{nat_cmp}
-use Rattle.std.specs.BTreeMap as tree
+use Rattle.std.specs.HashMap as hash
 use Rattle.tg_rights.specs.Letters.{Letters, has, take, grant}
 use Rattle.tg_graph.specs.Protection.{Protection, IsEdge}
 use Rattle.tg_sharing.specs.Spans.{Has, IsActor}
@@ -18,10 +17,10 @@ use Rattle.tg_sharing.specs.declared.marks.BridgeWay.{BridgeWay}
 use Rattle.tg_sharing.specs.declared.marks.BridgeWay.TheVariants as bridge
 
 abbrev pub span_of : Marks → ℕ → Option Span
-span_of m v = tree.get nat_cmp m.spanned v
+span_of m v = hash.get nat_eq m.spanned v
 
 abbrev pub bridge_of : Marks → ℕ → Option Bridge
-bridge_of m v = tree.get nat_cmp m.bridged v
+bridge_of m v = hash.get nat_eq m.bridged v
 
 abbrev pub is_spanned : Marks → ℕ → Bool
 is_spanned m v = is_some (span_of m v)
@@ -34,7 +33,7 @@ abbrev pub marked : Marks → ℕ → Marked
 marked m v = record { spanned = is_spanned m v; bridged = is_bridged m v }
 
 abbrev pub size : Marks → ℕ
-size m = tree.btree_map_len m.spanned + tree.btree_map_len m.bridged
+size m = hash.hash_map_len m.spanned + hash.hash_map_len m.bridged
 
 -- the vertex is spanned by a mark that was set before
 abbrev pub WasSpanned : Marks → ℕ → ℕ → Type 0

@@ -31,7 +31,8 @@ pub(crate) fn is_followed(label: Rights, x: Marked, y: Marked, is_own: bool) -> 
 {
     let is_taken = (!x.spanned || y.spanned) && (!y.bridged || x.bridged);
     let is_granted = (!x.spanned || y.bridged) && (x.bridged || !y.spanned && !is_own);
-    (!label.contains(Rights::take()) || is_taken) && (!label.contains(Rights::grant()) || is_granted)
+    (!label.contains(Rights::take()) || is_taken)
+        && (!label.contains(Rights::grant()) || is_granted)
 }
 
 impl Marks {
@@ -141,13 +142,7 @@ impl Marks {
     }
 
     /// Sets the marks to which an edge leads, if there is one.
-    fn follow(
-        &mut self,
-        graph: &Graph,
-        x: u64,
-        y: u64,
-        label: Rights,
-    ) -> Result<(), AllocError>
+    fn follow(&mut self, graph: &Graph, x: u64, y: u64, label: Rights) -> Result<(), AllocError>
         requires label { label ≡ rights_over graph.now x y }
         requires marks { AreMarks graph.now self.old }
         ensures goes { OnOk result (Goes graph.now self.old self.new) }
@@ -203,10 +198,16 @@ impl Marks {
         }
         let before = self.recall(x, known);
         if is_followed(label, before, self.marked(y), y == self.from) {
-            return Ok(Known { vertex: x, marked: before });
+            return Ok(Known {
+                vertex: x,
+                marked: before,
+            });
         }
         self.follow(graph, x, y, label)?;
-        Ok(Known { vertex: x, marked: self.marked(x) })
+        Ok(Known {
+            vertex: x,
+            marked: self.marked(x),
+        })
     }
 
     /// Sets the marks to which each edge leads.
@@ -216,7 +217,10 @@ impl Marks {
         ensures closed { OnOk result (size self.old ≡ size self.new → AreEdgesClosed graph.now self.old) }
     {
         let labels = graph.labels();
-        let mut known = Known { vertex: self.from, marked: self.marked(self.from) };
+        let mut known = Known {
+            vertex: self.from,
+            marked: self.marked(self.from),
+        };
         for (ends, label) in labels {
             known = self.follow_on(graph, ends.0, ends.1, *label, known)?;
         }

@@ -4,7 +4,7 @@ ghost use Rattle.tg_sharing.specs.Spans.{IsActor};
 ghost use Rattle.tg_sharing.specs.Marking.{AreMarks, Goes, IsBridge, IsNone, IsPathTo, IsSpan, AddsBridge, AddsSpan, size, is_bridged, is_spanned, span_of, bridge_of, marked};
 
 use std::alloc::{AllocError, Global};
-use std::collections::{BTreeMap, VecDeque};
+use std::collections::{HashMap, VecDeque};
 use tg_graph::Graph;
 use tg_rights::Kind;
 
@@ -61,8 +61,8 @@ pub(crate) struct Marked {
 #[derive(Drop)]
 pub(crate) struct Marks {
     pub(crate) from: u64,
-    pub(crate) spanned: BTreeMap<u64, Span>,
-    pub(crate) bridged: BTreeMap<u64, Bridge>,
+    pub(crate) spanned: HashMap<u64, Span>,
+    pub(crate) bridged: HashMap<u64, Bridge>,
 }
 
 /// Whether the vertex is a subject that has not retired.
@@ -79,8 +79,8 @@ impl Marks {
     {
         Marks {
             from,
-            spanned: BTreeMap::new(alloc),
-            bridged: BTreeMap::new(alloc),
+            spanned: HashMap::new(alloc),
+            bridged: HashMap::new(alloc),
         }
     }
 

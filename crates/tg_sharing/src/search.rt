@@ -64,11 +64,7 @@ fn join(near: &mut Vec<Vec<End>>, at: usize, end: End) -> Result<(), AllocError>
 }
 
 /// The edges at each of these vertices.
-fn near_of(
-    alloc: Global,
-    graph: &Graph,
-    serials: &[u64],
-) -> Result<Vec<Vec<End>>, AllocError> {
+fn near_of(alloc: Global, graph: &Graph, serials: &[u64]) -> Result<Vec<Vec<End>>, AllocError> {
     let mut near = Vec::with_capacity(alloc, serials.len())?;
     for _ in serials {
         near.push(Vec::new(alloc))?;
@@ -78,8 +74,24 @@ fn near_of(
         if is_passed(label) {
             let x = place_of(serials, ends.0);
             let y = place_of(serials, ends.1);
-            join(&mut near, x, End { place: y, label, outward: true })?;
-            join(&mut near, y, End { place: x, label, outward: false })?;
+            join(
+                &mut near,
+                x,
+                End {
+                    place: y,
+                    label,
+                    outward: true,
+                },
+            )?;
+            join(
+                &mut near,
+                y,
+                End {
+                    place: x,
+                    label,
+                    outward: false,
+                },
+            )?;
         }
     }
     Ok(near)
@@ -89,7 +101,10 @@ impl Search {
     /// A search that has marked nothing.
     fn new(alloc: Global, graph: &Graph, from: u64) -> Result<Search, AllocError> {
         let serials = serials_of(alloc, graph, from)?;
-        let none = Marked { spanned: false, bridged: false };
+        let none = Marked {
+            spanned: false,
+            bridged: false,
+        };
         let mut marks = Vec::with_capacity(alloc, serials.len())?;
         for _ in &serials {
             marks.push(none)?;
@@ -108,7 +123,10 @@ impl Search {
     fn start(&mut self, graph: &Graph) -> Result<(), AllocError> {
         let from = self.from;
         if is_actor(graph, self.serial_at(from)) {
-            let both = Marked { spanned: true, bridged: true };
+            let both = Marked {
+                spanned: true,
+                bridged: true,
+            };
             self.mark(graph, from, both)
         } else {
             Ok(self.left.push_back(from)?)
@@ -119,7 +137,10 @@ impl Search {
     fn marks_at(&self, place: usize) -> Marked {
         match self.marks.get(place) {
             Some(marks) => *marks,
-            None => Marked { spanned: true, bridged: true },
+            None => Marked {
+                spanned: true,
+                bridged: true,
+            },
         }
     }
 
