@@ -9,6 +9,8 @@ mod follow;
 mod marks;
 mod search;
 mod sharing;
+#[cfg(test)]
+mod tests;
 
 pub use sharing::{Answer, can_share};
 use tg_graph::{allowed_is_met, commands_keep_graphs};

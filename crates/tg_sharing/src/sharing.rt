@@ -21,8 +21,9 @@ pub enum Answer {
     Never,
     /// By these steps.
     By(Vec<Step>),
-    /// By these steps and more, but after these no serial is left.
-    NoSerial(Vec<Step>),
+    /// Not known: the rules alone allow a derivation, but the one that was found makes more vertices than there are
+    /// serials. No serial is left after these first steps of it.
+    Unknown(Vec<Step>),
 }
 
 /// Whether the vertex has the right, and is the goal's own vertex or spanned.
@@ -146,9 +147,9 @@ impl Derivation {
     }
 }
 
-/// Whether the goal's rights can ever be shared, whatever the subjects do: `Never`, or `By` steps which the rules allow
-/// one after another and after which the goal is met; or `NoSerial`, where the rules alone would allow that but it takes
-/// more new vertices than there are serials, with the steps up to then.
+/// Whether the goal's rights can ever be shared, whatever the subjects do (Bishop's can.share, for a set of rights):
+/// `Never`, or `By` steps that the rules allow one after another and that meet the goal. `Unknown` only where serials run
+/// out, of which there are nearly 2^64. `AllocError` if there is no memory for the answer.
 pub fn can_share(alloc: Global, graph: &Graph, goal: Goal) -> Result<Answer, AllocError>
     requires from { IsVertex graph.now goal.from }
     requires to { IsVertex graph.now goal.to }
@@ -170,7 +171,7 @@ pub fn can_share(alloc: Global, graph: &Graph, goal: Goal) -> Result<Answer, All
     let mut derivation = Derivation::new(alloc, graph.copy()?);
     match derivation.share_all(alloc, graph, &marks, &goal)? {
         Found::Nobody => Ok(Answer::Never),
-        Found::NoSerial => Ok(Answer::NoSerial(derivation.steps)),
+        Found::NoSerial => Ok(Answer::Unknown(derivation.steps)),
         Found::Here => Ok(Answer::By(derivation.steps)),
     }
 }
