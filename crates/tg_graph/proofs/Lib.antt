@@ -16,6 +16,7 @@ pub mod PartsStayLemmas
 pub mod ProtectionLemmas
 pub mod RepliesAgreeLemmas
 pub mod RestrictionLemmas
+pub mod RewritingLemmas
 pub mod RollLemmas
 pub mod SoundTerms
 pub mod TriplesLemmas

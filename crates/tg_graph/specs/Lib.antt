@@ -9,6 +9,7 @@ pub mod Paths
 pub mod Agreement
 pub mod Searching
 pub mod Derivations
+pub mod Rewriting
 pub mod Parts
 pub mod Laws
 pub mod Views

@@ -3,6 +3,7 @@
 
 ghost use Rattle.tg_graph.specs.Laws.{AgentsAreAssumedAndLeft, AllowedIsMet, AnswersAgree, DenialsAreFirst, CommandsKeepGraphs, EdgesAreCounted, EdgesAreListed, ExactlyOneOutcome, OpeningsAreAsListed, OpeningsAreSound, OpeningsFit, OutcomesAgree, PartsAgree, PartsStay, PrincipalsComeAndGo, RepliesAgree, RestrictionsAgree, RestrictionsPermit, RestrictionsReply, RestrictionsStay, TwiceIsTwoPlaces};
 ghost use Rattle.tg_graph.specs.Parts.{PartsAreOneGraph};
+ghost use Rattle.tg_graph.specs.Rewriting.{DerivationsCarryOver};
 
 mod config;
 mod derivation;
@@ -138,4 +139,11 @@ pub fn parts_are_one_graph()
 /// What a configuration has twice occurs at two places of its list.
 pub fn twice_is_two_places()
     ensures { TwiceIsTwoPlaces }
+{}
+
+/// Steps by any rule, from a graph, are followed by those of take, grant, create and remove among them (an enrol is a
+/// create of a subject) from each graph that has the same kinds, edges and next serial and in which nobody has retired;
+/// and what they lead to has the same kinds and edges again.
+pub fn derivations_carry_over()
+    ensures { DerivationsCarryOver }
 {}
