@@ -1,3 +1,4 @@
+pub mod CarryingLemmas
 pub mod LabelsLemmas
 pub mod GrowthLemmas
 pub mod WithheldLemmas

@@ -19,6 +19,13 @@ pub(crate) struct Derivation {
     pub(crate) steps: Vec<Step>,
 }
 
+/// What goes from hand to hand: rights over a vertex.
+#[derive(Clone, Copy)]
+pub(crate) struct Load {
+    pub(crate) rights: Rights,
+    pub(crate) over: u64,
+}
+
 /// Take and grant.
 pub(crate) fn both() -> Rights
     ensures { result ≡ both }
@@ -181,17 +188,6 @@ impl Derivation {
         self.gain(actor, Rights::grant(), over, from)
     }
 
-    /// As `gain`, of take and grant.
-    pub(crate) fn gain_both(&mut self, actor: u64, over: u64, from: u64) -> Result<(), AllocError>
-        requires actor { IsActor self.old.graph actor }
-        requires draws { Draws self.old.graph actor from }
-        requires held { Holds self.old.graph from both over }
-        ensures continues { OnOk result (Continues self.old self.new) }
-        ensures gained { OnOk result (actor ≢ over → Holds self.new.graph actor both over) }
-    {
-        self.gain(actor, both(), over, from)
-    }
-
     /// As `give`, of take.
     pub(crate) fn give_take(&mut self, actor: u64, over: u64, to: u64) -> Result<(), AllocError>
         requires actor { IsActor self.old.graph actor }
@@ -216,36 +212,25 @@ impl Derivation {
         self.give(actor, Rights::grant(), over, to)
     }
 
-    /// As `give`, of take and grant.
-    pub(crate) fn give_both(&mut self, actor: u64, over: u64, to: u64) -> Result<(), AllocError>
-        requires actor { IsActor self.old.graph actor }
-        requires gives { Gives self.old.graph actor to }
-        requires held { Holds self.old.graph actor both over }
-        requires apart { to ≢ over }
-        ensures continues { OnOk result (Continues self.old self.new) }
-        ensures given { OnOk result (Holds self.new.graph to both over) }
-    {
-        self.give(actor, both(), over, to)
-    }
-
-    /// Passes take and grant over the envoy on, by a vertex from which the giver can take and to which the taker can
-    /// give: the taker makes a document, over which the giver comes to have grant. `None` if no serial is left.
+    /// Passes a load on, by a vertex from which the giver can take and to which the taker can give: the taker makes a
+    /// document, over which the giver comes to have grant. `None` if no serial is left.
     pub(crate) fn push(
         &mut self,
         giver: u64,
         taker: u64,
         by: u64,
-        envoy: u64,
+        load: &Load,
     ) -> Result<Option<u64>, AllocError>
         requires giver { IsActor self.old.graph giver }
         requires taker { IsActor self.old.graph taker }
         requires draws { Draws self.old.graph giver by }
         requires gives { Gives self.old.graph taker by }
-        requires held { Holds self.old.graph giver both envoy }
-        requires apart { taker ≢ envoy }
+        requires held { Holds self.old.graph giver load.now.rights load.now.over }
+        requires some { is_none load.now.rights ≡ false }
+        requires apart { taker ≢ load.now.over }
         requires low { by < self.old.graph.next }
         ensures continues { OnOk result (Continues self.old self.new) }
-        ensures passed { IfOk result (λ o. MatchOption o (last_serial < self.new.graph.next) (λ _. Holds self.new.graph taker both envoy)) }
+        ensures passed { IfOk result (λ o. MatchOption o (last_serial < self.new.graph.next) (λ _. Holds self.new.graph taker load.now.rights load.now.over)) }
     {
         if giver == taker {
             return Ok(Some(giver));
@@ -256,31 +241,32 @@ impl Derivation {
         };
         self.give_grant(taker, case, by)?;
         self.gain_grant(giver, case, by)?;
-        self.give_both(giver, envoy, case)?;
-        self.gain_both(taker, envoy, case)?;
+        self.give(giver, load.rights, load.over, case)?;
+        self.gain(taker, load.rights, load.over, case)?;
         Ok(Some(case))
     }
 
-    /// Passes take and grant over the envoy on, by a vertex to which the giver can give and from which the taker can take.
+    /// Passes a load on, by a vertex to which the giver can give and from which the taker can take.
     pub(crate) fn pull(
         &mut self,
         giver: u64,
         taker: u64,
         by: u64,
-        envoy: u64,
+        load: &Load,
     ) -> Result<(), AllocError>
         requires giver { IsActor self.old.graph giver }
         requires taker { IsActor self.old.graph taker }
         requires gives { Gives self.old.graph giver by }
         requires draws { Draws self.old.graph taker by }
-        requires held { Holds self.old.graph giver both envoy }
-        requires apart { taker ≢ envoy }
-        requires other { by ≢ envoy }
+        requires held { Holds self.old.graph giver load.now.rights load.now.over }
+        requires some { is_none load.now.rights ≡ false }
+        requires apart { taker ≢ load.now.over }
+        requires other { by ≢ load.now.over }
         ensures continues { OnOk result (Continues self.old self.new) }
-        ensures passed { OnOk result (Holds self.new.graph taker both envoy) }
+        ensures passed { OnOk result (Holds self.new.graph taker load.now.rights load.now.over) }
     {
-        self.give_both(giver, envoy, by)?;
-        self.gain_both(taker, envoy, by)?;
+        self.give(giver, load.rights, load.over, by)?;
+        self.gain(taker, load.rights, load.over, by)?;
         Ok(())
     }
 }

@@ -1,157 +1,46 @@
 //! How the goal's own vertex comes to have rights that a spanned vertex has.
 ghost use Rattle.std.specs.Prelude.{◌≡◌, ◌≢◌, ◌<◌, ◌≤◌, true, false, IfOk, OnOk, MatchOption};
-ghost use Rattle.tg_rights.specs.Letters.{is_none, take, grant};
+ghost use Rattle.tg_rights.specs.Letters.{is_none, grant};
 ghost use Rattle.tg_graph.specs.Rules.{last_serial};
-ghost use Rattle.tg_sharing.specs.Fetching.{IsDrawn, IsEnvoy, IsPassed};
+ghost use Rattle.tg_sharing.specs.Fetching.{IsBrought, IsEnvoy, IsUnmarked};
 ghost use Rattle.tg_sharing.specs.Growing.{Continues, Draws, Keeps, both};
 ghost use Rattle.tg_sharing.specs.Marking.{AreMarks, is_bridged, is_spanned};
 ghost use Rattle.tg_sharing.specs.Paths.{Holds};
 ghost use Rattle.tg_sharing.specs.Spans.{Has, IsActor};
 
-use crate::builder::Derivation;
-use crate::marks::{BridgeWay, Marks};
+use crate::builder::{Derivation, Load, both};
+use crate::carry::End;
+use crate::marks::Marks;
 use std::alloc::{AllocError, Global};
 use tg_graph::{Goal, Graph};
 use tg_rights::{Kind, Rights};
 
 impl Derivation {
-    /// An actor that comes to be able to take from a spanned vertex.
-    fn draw_to(
+    /// The goal's own vertex comes to have the load, from where it was brought.
+    fn hand_over(
         &mut self,
-        alloc: Global,
         graph: &Graph,
         marks: &Marks,
-        vertex: u64,
-    ) -> Result<u64, AllocError>
-        requires keeps { Keeps graph.now self.old.graph }
-        requires marks { AreMarks graph.now marks.now }
-        requires spanned { is_spanned marks.now vertex ≡ true }
-        ensures continues { OnOk result (Continues self.old self.new) }
-        ensures drawn { IfOk result (IsDrawn graph.now self.new.graph marks.now vertex) }
-    {
-        let (root, path) = marks.path_to(alloc, graph, vertex)?;
-        self.draw(graph, root, path)?;
-        Ok(root)
-    }
-
-    /// The envoy goes over a bridge whose grant leads from the span of the next actor.
-    fn cross_granting(
-        &mut self,
-        alloc: Global,
-        graph: &Graph,
-        marks: &Marks,
-        holder: u64,
-        at: u64,
-        end: u64,
-        envoy: u64,
+        end: End,
+        load: &Load,
     ) -> Result<Option<u64>, AllocError>
         requires keeps { Keeps graph.now self.old.graph }
-        requires marks { AreMarks graph.now marks.now }
-        requires holder { IsActor graph.now holder }
-        requires draws { Draws self.old.graph holder at }
-        requires held { Holds self.old.graph holder both envoy }
-        requires fresh { graph.now.next ≤ envoy }
-        requires edge { Has graph.now end grant at }
-        requires spanned { is_spanned marks.now end ≡ true }
+        requires brought { IsBrought graph.now self.old.graph marks.now load.now end }
+        requires some { is_none load.now.rights ≡ false }
+        requires apart { marks.now.from ≢ load.now.over }
         ensures continues { OnOk result (Continues self.old self.new) }
-        ensures passed { IfOk result (λ o. MatchOption o (last_serial < self.new.graph.next) (IsPassed graph.now self.new.graph marks.now end envoy)) }
+        ensures met { IfOk result (λ o. MatchOption o (last_serial < self.new.graph.next) (λ _. Holds self.new.graph marks.now.from load.now.rights load.now.over)) }
     {
         graph.soundness();
-        let next = self.draw_to(alloc, graph, marks, end)?;
-        self.gain_grant(next, at, end)?;
-        let Some(_) = self.push(holder, next, at, envoy)? else {
-            return Ok(None);
-        };
-        Ok(Some(next))
-    }
-
-    /// The envoy goes over a bridge whose grant leads to the span of the next actor.
-    fn cross_granted(
-        &mut self,
-        alloc: Global,
-        graph: &Graph,
-        marks: &Marks,
-        holder: u64,
-        at: u64,
-        end: u64,
-        envoy: u64,
-    ) -> Result<u64, AllocError>
-        requires keeps { Keeps graph.now self.old.graph }
-        requires marks { AreMarks graph.now marks.now }
-        requires holder { IsActor graph.now holder }
-        requires draws { Draws self.old.graph holder at }
-        requires held { Holds self.old.graph holder both envoy }
-        requires fresh { graph.now.next ≤ envoy }
-        requires edge { Has graph.now at grant end }
-        requires spanned { is_spanned marks.now end ≡ true }
-        ensures continues { OnOk result (Continues self.old self.new) }
-        ensures passed { IfOk result (IsPassed graph.now self.new.graph marks.now end envoy) }
-    {
-        graph.soundness();
-        self.gain_grant(holder, end, at)?;
-        let next = self.draw_to(alloc, graph, marks, end)?;
-        self.pull(holder, next, end, envoy)?;
-        Ok(next)
-    }
-
-    /// The envoy goes over a bridge of takes alone, which both lead to an actor.
-    fn cross_taking(
-        &mut self,
-        alloc: Global,
-        graph: &Graph,
-        marks: &Marks,
-        holder: u64,
-        at: u64,
-        envoy: u64,
-    ) -> Result<Option<u64>, AllocError>
-        requires keeps { Keeps graph.now self.old.graph }
-        requires marks { AreMarks graph.now marks.now }
-        requires holder { IsActor graph.now holder }
-        requires draws { Draws self.old.graph holder at }
-        requires held { Holds self.old.graph holder both envoy }
-        requires fresh { graph.now.next ≤ envoy }
-        requires actor { IsActor graph.now at }
-        requires spanned { is_spanned marks.now at ≡ true }
-        ensures continues { OnOk result (Continues self.old self.new) }
-        ensures passed { IfOk result (λ o. MatchOption o (last_serial < self.new.graph.next) (IsPassed graph.now self.new.graph marks.now at envoy)) }
-    {
-        graph.soundness();
-        let Some(_) = self.push(holder, at, at, envoy)? else {
-            return Ok(None);
-        };
-        let next = self.draw_to(alloc, graph, marks, at)?;
-        self.pull(at, next, at, envoy)?;
-        Ok(Some(next))
-    }
-
-    /// The envoy comes to the goal's own vertex, an actor, which takes the rights from it.
-    fn finish_own(
-        &mut self,
-        graph: &Graph,
-        holder: u64,
-        at: u64,
-        envoy: u64,
-        rights: Rights,
-        to: u64,
-    ) -> Result<Option<u64>, AllocError>
-        requires keeps { Keeps graph.now self.old.graph }
-        requires holder { IsActor graph.now holder }
-        requires draws { Draws self.old.graph holder at }
-        requires held { Holds self.old.graph holder both envoy }
-        requires fresh { graph.now.next ≤ envoy }
-        requires actor { IsActor graph.now at }
-        requires envoy { IsEnvoy self.old.graph rights to envoy }
-        requires some { is_none rights ≡ false }
-        requires apart { at ≢ to }
-        ensures continues { OnOk result (Continues self.old self.new) }
-        ensures met { IfOk result (λ o. MatchOption o (last_serial < self.new.graph.next) (λ _. Holds self.new.graph at rights to)) }
-    {
-        graph.soundness();
-        let Some(_) = self.push(holder, at, at, envoy)? else {
-            return Ok(None);
-        };
-        self.gain(at, rights, to, envoy)?;
-        Ok(Some(at))
+        if end.is_own {
+            return self.push(end.holder, end.at, end.at, load);
+        }
+        if end.holder == marks.from {
+            return Ok(Some(end.holder));
+        }
+        self.gain_grant(end.holder, marks.from, end.at)?;
+        self.give(end.holder, load.rights, load.over, marks.from)?;
+        Ok(Some(end.holder))
     }
 
     /// The envoy comes to an actor that can grant to the goal's own vertex, and so can the envoy then.
@@ -187,23 +76,19 @@ impl Derivation {
         Ok(())
     }
 
-    /// The envoy goes from hand to hand, by the marks, until the goal's own vertex has the rights.
-    fn fetch(
+    /// The goal's own vertex comes to have the rights of an envoy that was brought.
+    fn take_over(
         &mut self,
-        alloc: Global,
         graph: &Graph,
         marks: &Marks,
-        first: u64,
+        end: End,
         envoy: u64,
         rights: Rights,
         goal: &Goal,
     ) -> Result<Option<u64>, AllocError>
         requires keeps { Keeps graph.now self.old.graph }
-        requires marks { AreMarks graph.now marks.now }
         requires own { marks.now.from ≡ goal.now.from }
-        requires first { IsActor graph.now first }
-        requires bridged { is_bridged marks.now first ≡ true }
-        requires held { Holds self.old.graph first both envoy }
+        requires brought { IsBrought graph.now self.old.graph marks.now (record { rights = both; over = envoy }) end }
         requires fresh { graph.now.next ≤ envoy }
         requires envoy { IsEnvoy self.old.graph rights goal.now.to envoy }
         requires some { is_none rights ≡ false }
@@ -211,56 +96,17 @@ impl Derivation {
         ensures continues { OnOk result (Continues self.old self.new) }
         ensures met { IfOk result (λ o. MatchOption o (last_serial < self.new.graph.next) (λ _. Holds self.new.graph goal.now.from rights goal.now.to)) }
     {
-        let mut holder = first;
-        let mut at = first;
-        let mut bridge = marks.bridge_at(first);
-        loop {
-            match bridge.way {
-                BridgeWay::Own => {
-                    let done = self.finish_own(graph, holder, at, envoy, rights, goal.to)?;
-                    return Ok(done);
-                }
-                BridgeWay::Initial => {
-                    self.finish_initial(graph, holder, at, envoy, rights, goal)?;
-                    return Ok(Some(envoy));
-                }
-                BridgeWay::Granting(end) => {
-                    let Some(next) = self.cross_granting(
-                        alloc, graph, marks, holder, at, end, envoy,
-                    )?
-                    else {
-                        return Ok(None);
-                    };
-                    holder = next;
-                    at = next;
-                    bridge = marks.bridge_at(next);
-                    continue;
-                }
-                BridgeWay::Granted(end) => {
-                    let next = self.cross_granted(alloc, graph, marks, holder, at, end, envoy)?;
-                    holder = next;
-                    at = next;
-                    bridge = marks.bridge_at(next);
-                    continue;
-                }
-                BridgeWay::Reaching(next) => {
-                    self.gain_take(holder, next, at)?;
-                    at = next;
-                    bridge = marks.bridge_at(next);
-                    continue;
-                }
-                BridgeWay::Spanned => {
-                    let Some(next) = self.cross_taking(alloc, graph, marks, holder, at, envoy)?
-                    else {
-                        return Ok(None);
-                    };
-                    holder = next;
-                    at = next;
-                    bridge = marks.bridge_at(next);
-                    continue;
-                }
-            }
+        graph.soundness();
+        if end.is_own {
+            let load = Load { rights: both(), over: envoy };
+            let Some(_) = self.push(end.holder, end.at, end.at, &load)? else {
+                return Ok(None);
+            };
+            self.gain(end.at, rights, goal.to, envoy)?;
+            return Ok(Some(end.at));
         }
+        self.finish_initial(graph, end.holder, end.at, envoy, rights, goal)?;
+        Ok(Some(envoy))
     }
 
     /// The envoy, which its maker has just made, comes to have the rights, which a vertex has from which its maker can
@@ -293,6 +139,75 @@ impl Derivation {
         Ok(())
     }
 
+    /// The goal's own vertex comes to have the rights, which an actor can take from a vertex: by an envoy, which the actor
+    /// makes, and which is no vertex on the way.
+    fn send(
+        &mut self,
+        alloc: Global,
+        graph: &Graph,
+        marks: &Marks,
+        first: u64,
+        source: u64,
+        rights: Rights,
+        goal: &Goal,
+    ) -> Result<Option<u64>, AllocError>
+        requires keeps { Keeps graph.now self.old.graph }
+        requires marks { AreMarks graph.now marks.now }
+        requires own { marks.now.from ≡ goal.now.from }
+        requires first { IsActor graph.now first }
+        requires bridged { is_bridged marks.now first ≡ true }
+        requires draws { Draws self.old.graph first source }
+        requires held { Holds graph.now source rights goal.now.to }
+        requires some { is_none rights ≡ false }
+        requires apart { goal.now.from ≢ goal.now.to }
+        ensures continues { OnOk result (Continues self.old self.new) }
+        ensures met { IfOk result (λ o. MatchOption o (last_serial < self.new.graph.next) (λ _. Holds self.new.graph goal.now.from rights goal.now.to)) }
+    {
+        graph.soundness();
+        let Some(envoy) = self.make(first, Kind::Subject)? else {
+            return Ok(None);
+        };
+        self.arm(first, source, envoy, rights, goal.to)?;
+        let load = Load { rights: both(), over: envoy };
+        let Some(end) = self.carry(alloc, graph, marks, first, &load)? else {
+            return Ok(None);
+        };
+        self.take_over(graph, marks, end, envoy, rights, goal)
+    }
+
+    /// The same where no vertex on the way is the one over which the rights are: the rights themselves are passed on.
+    fn pass(
+        &mut self,
+        alloc: Global,
+        graph: &Graph,
+        marks: &Marks,
+        first: u64,
+        source: u64,
+        rights: Rights,
+        goal: &Goal,
+    ) -> Result<Option<u64>, AllocError>
+        requires keeps { Keeps graph.now self.old.graph }
+        requires marks { AreMarks graph.now marks.now }
+        requires own { marks.now.from ≡ goal.now.from }
+        requires first { IsActor graph.now first }
+        requires bridged { is_bridged marks.now first ≡ true }
+        requires draws { Draws self.old.graph first source }
+        requires held { Holds graph.now source rights goal.now.to }
+        requires some { is_none rights ≡ false }
+        requires unmarked { IsUnmarked graph.now marks.now goal.now.to }
+        requires apart { goal.now.from ≢ goal.now.to }
+        ensures continues { OnOk result (Continues self.old self.new) }
+        ensures met { IfOk result (λ o. MatchOption o (last_serial < self.new.graph.next) (λ _. Holds self.new.graph goal.now.from rights goal.now.to)) }
+    {
+        graph.soundness();
+        self.gain(first, rights, goal.to, source)?;
+        let load = Load { rights, over: goal.to };
+        let Some(end) = self.carry(alloc, graph, marks, first, &load)? else {
+            return Ok(None);
+        };
+        self.hand_over(graph, marks, end, &load)
+    }
+
     /// The goal's own vertex comes to have the rights, which a spanned vertex has.
     pub(crate) fn derive(
         &mut self,
@@ -313,17 +228,14 @@ impl Derivation {
         ensures continues { OnOk result (Continues self.old self.new) }
         ensures met { IfOk result (λ o. MatchOption o (last_serial < self.new.graph.next) (λ _. Holds self.new.graph goal.now.from rights goal.now.to)) }
     {
-        graph.soundness();
         let root = self.draw_to(alloc, graph, marks, source)?;
         if root == goal.from {
             self.gain(root, rights, goal.to, source)?;
             return Ok(Some(root));
         }
-        let Some(envoy) = self.make(root, Kind::Subject)? else {
-            return Ok(None);
-        };
-        self.arm(root, source, envoy, rights, goal.to)?;
-        let done = self.fetch(alloc, graph, marks, root, envoy, rights, goal)?;
-        Ok(done)
+        if marks.is_unmarked(goal.to) {
+            return self.pass(alloc, graph, marks, root, source, rights, goal);
+        }
+        self.send(alloc, graph, marks, root, source, rights, goal)
     }
 }

@@ -4,6 +4,7 @@
 ghost use Rattle.tg_sharing.specs.Laws.{WithheldForEver};
 
 mod builder;
+mod carry;
 mod fetch;
 mod follow;
 mod marks;

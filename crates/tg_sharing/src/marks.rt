@@ -219,6 +219,14 @@ impl Marks {
         }
     }
 
+    /// Whether the vertex has no mark.
+    pub(crate) fn is_unmarked(&self, vertex: u64) -> bool
+        ensures { IsTrue result → (is_spanned self.now vertex ≡ false) × (is_bridged self.now vertex ≡ false) }
+    {
+        let marked = self.marked(vertex);
+        !marked.spanned && !marked.bridged
+    }
+
     /// Whether the vertex is spanned.
     pub(crate) fn is_spanned(&self, vertex: u64) -> bool
         ensures { result ≡ is_spanned self.now vertex }

@@ -1,4 +1,4 @@
-use Rattle.std.proofs.Common.{◌≡◌, ◌<◌, inr, refl, arith}
+use Rattle.std.proofs.Common.{◌≡◌, ◌<◌, inr, arith}
 use Rattle.std.proofs.lemmas.Option.{MatchOption-at_some}
 use Rattle.tg_rights.specs.declared.kind.Kind.TheVariants as kind
 use Rattle.tg_graph.specs.Rules.{last_serial}
@@ -15,30 +15,30 @@ gain_grant-requires-clause-draws c =
     (Keeps-trans c.args.self.now.graph c.make.new.self.graph c.give_grant.new.self.graph c.in_ok-case.ensures.continues.keeps c.in_ok-give_grant.ensures.continues.keeps)
     c.args.giver c.args.by c.requires.draws
 
-pub give_both-requires-clause-held : goal.give_both-requires-clause-held
-give_both-requires-clause-held c =
+pub give-requires-clause-held : goal.give-requires-clause-held
+give-requires-clause-held c =
     let G = c.args.self.now.graph in
     let G1 = c.make.new.self.graph in
     let G2 = c.give_grant.new.self.graph in
     let G3 = c.gain_grant.new.self.graph in
     keeps_holds G G3 (Keeps-trans G G2 G3 (Keeps-trans G G1 G2 c.in_ok-case.ensures.continues.keeps c.in_ok-give_grant.ensures.continues.keeps) c.in_ok-gain_grant.ensures.continues.keeps)
-    c.args.giver both c.args.envoy c.requires.held
+    c.args.giver c.args.load.now.rights c.args.load.now.over c.requires.held
 
-pub give_both-requires-clause-apart : goal.give_both-requires-clause-apart
-give_both-requires-clause-apart c =
+pub give-requires-clause-apart : goal.give-requires-clause-apart
+give-requires-clause-apart c =
     let G = c.args.self.now.graph in
     let made = MatchOption-at_some (last_serial < c.make.new.self.graph.next) (Makes c.args.self.now c.make.new.self c.args.taker kind.Document) c.in-Some.case c.in-Some.is c.in_ok-case.ensures.made in
     let fresh : c.in-Some.case ≡ G.next = made.fresh in
-    let low : c.args.envoy < G.next = held_low G c.soundness.ensures c.args.giver both c.args.envoy refl c.requires.held in
+    let low : c.args.load.now.over < G.next = held_low G c.soundness.ensures c.args.giver c.args.load.now.rights c.args.load.now.over c.requires.some c.requires.held in
     λ is. absurd (omega (arith, fresh, low, is))
 
-pub gain_both-requires-clause-draws : goal.gain_both-requires-clause-draws
-gain_both-requires-clause-draws c =
+pub gain-requires-clause-draws : goal.gain-requires-clause-draws
+gain-requires-clause-draws c =
     let G1 = c.make.new.self.graph in
     let G2 = c.give_grant.new.self.graph in
     let G3 = c.gain_grant.new.self.graph in
-    let G4 = c.give_both.new.self.graph in
+    let G4 = c.give.new.self.graph in
     let made = MatchOption-at_some (last_serial < c.make.new.self.graph.next) (Makes c.args.self.now c.make.new.self c.args.taker kind.Document) c.in-Some.case c.in-Some.is c.in_ok-case.ensures.made in
     inr (both_take G4 c.args.taker c.in-Some.case
-    (keeps_holds G1 G4 (Keeps-trans G1 G3 G4 (Keeps-trans G1 G2 G3 c.in_ok-give_grant.ensures.continues.keeps c.in_ok-gain_grant.ensures.continues.keeps) c.in_ok-give_both.ensures.continues.keeps)
+    (keeps_holds G1 G4 (Keeps-trans G1 G3 G4 (Keeps-trans G1 G2 G3 c.in_ok-give_grant.ensures.continues.keeps c.in_ok-gain_grant.ensures.continues.keeps) c.in_ok-give.ensures.continues.keeps)
     c.args.taker both c.in-Some.case made.held))

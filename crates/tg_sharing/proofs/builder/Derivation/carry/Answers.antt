@@ -7,20 +7,7 @@ use Rattle.tg_sharing.specs.Paths.{Holds}
 use Rattle.tg_sharing.specs.declared.marks.BridgeWay.{BridgeWay}
 use Rattle.tg_sharing.specs.declared.marks.BridgeWay.TheVariants as bridge
 use Rattle.tg_sharing.proofs.GrowingLemmas.{Continues-trans, Keeps-trans, draws_gained, keeps_envoy, keeps_holds, take_later}
-use Rattle.tg_sharing.proofs.builder.Derivation.fetch.Goals as goal
-
-pub finish_own-requires-clause-envoy : goal.finish_own-requires-clause-envoy
-finish_own-requires-clause-envoy c = keeps_envoy c.args.self.now.graph c.loop-bridge.self.graph c.loop-bridge.invariant.continues.keeps c.args.rights c.args.goal.now.to c.args.envoy c.requires.envoy
-
-pub returns-in-Own-clause-met : goal.returns-in-Own-clause-met
-returns-in-Own-clause-met c =
-    let W = c.finish_own.new.self.graph in
-    let own : IsBridge c.args.graph.now c.args.marks.now c.loop-bridge.at c.loop-bridge.bridge.rank bridge.Own =
-    subst (λ (w : BridgeWay). IsBridge c.args.graph.now c.args.marks.now c.loop-bridge.at c.loop-bridge.bridge.rank w) c.in-Own.is (c.requires.marks.bridges c.loop-bridge.at c.loop-bridge.bridge c.loop-bridge.invariant.bridge).0 in
-    subst (λ (v : ℕ). MatchOption c.in_ok-done-in-Own.done (last_serial < W.next) (λ _. Holds W v c.args.rights c.args.goal.now.to)) (own.0 ∙ c.requires.own) c.in_ok-done-in-Own.ensures.met
-
-pub finish_initial-requires-clause-envoy : goal.finish_initial-requires-clause-envoy
-finish_initial-requires-clause-envoy c = keeps_envoy c.args.self.now.graph c.loop-bridge.self.graph c.loop-bridge.invariant.continues.keeps c.args.rights c.args.goal.now.to c.args.envoy c.requires.envoy
+use Rattle.tg_sharing.proofs.builder.Derivation.carry.Goals as goal
 
 pub gain_take-requires-clause-held : goal.gain_take-requires-clause-held
 gain_take-requires-clause-held c =
@@ -39,5 +26,5 @@ loop-bridge-preserved-in-Reaching c =
       bridge = c.bridge_at-bridge-in-Reaching.ensures;
       holder = c.loop-bridge.invariant.holder;
       draws = draws_gained W.graph c.loop-bridge.holder c.in-Reaching.next step.gained;
-      held = keeps_holds V.graph W.graph step.continues.keeps c.loop-bridge.holder both c.args.envoy c.loop-bridge.invariant.held;
+      held = keeps_holds V.graph W.graph step.continues.keeps c.loop-bridge.holder c.args.load.now.rights c.args.load.now.over c.loop-bridge.invariant.held;
     }

@@ -1,9 +1,9 @@
 use Rattle.std.proofs.Common.{◌≡◌, Some}
-use Rattle.tg_sharing.specs.Growing.{Continues, Draws, both}
+use Rattle.tg_sharing.specs.Growing.{Continues, Draws}
 use Rattle.tg_sharing.specs.Marking.{bridge_of}
 use Rattle.tg_sharing.specs.Paths.{Holds}
 use Rattle.tg_sharing.specs.Spans.{IsActor}
-use Rattle.tg_sharing.proofs.builder.Derivation.fetch.Given as goal
+use Rattle.tg_sharing.proofs.builder.Derivation.carry.Given as goal
 
 -- the holder can take from where the walk is
 abbrev pub invariant-loop-bridge : goal.invariant-loop-bridge
@@ -12,7 +12,7 @@ invariant-loop-bridge l = record {
   bridge : bridge_of l.marks l.at ≡ Some l.bridge;
   holder : IsActor l.graph l.holder;
   draws : Draws l.self.graph l.holder l.at;
-  held : Holds l.self.graph l.holder both l.envoy;
+  held : Holds l.self.graph l.holder l.load.rights l.load.over;
 }
 
 abbrev pub decreases-loop-bridge : goal.decreases-loop-bridge

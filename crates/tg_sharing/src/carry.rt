@@ -1,0 +1,201 @@
+//! How a load goes from actor to actor, over the bridges that the marks tell of.
+ghost use Rattle.std.specs.Prelude.{◌≡◌, ◌<◌, true, false, IfOk, OnOk, MatchOption};
+ghost use Rattle.tg_rights.specs.Letters.{is_none, take, grant};
+ghost use Rattle.tg_graph.specs.Rules.{last_serial};
+ghost use Rattle.tg_sharing.specs.Fetching.{IsBrought, IsDrawn, IsPassed, IsUnmarked};
+ghost use Rattle.tg_sharing.specs.Growing.{Continues, Draws, Keeps};
+ghost use Rattle.tg_sharing.specs.Marking.{AreMarks, is_bridged, is_spanned};
+ghost use Rattle.tg_sharing.specs.Paths.{Holds};
+ghost use Rattle.tg_sharing.specs.Spans.{Has, IsActor};
+
+use crate::builder::{Derivation, Load};
+use crate::marks::{BridgeWay, Marks};
+use std::alloc::{AllocError, Global};
+use tg_graph::Graph;
+
+/// Where a load was brought: who has it, and from where it can take. That vertex is the goal's own, which takes the load,
+/// or it may grant to the goal's own.
+#[derive(Clone, Copy)]
+pub(crate) struct End {
+    pub(crate) holder: u64,
+    pub(crate) at: u64,
+    pub(crate) is_own: bool,
+}
+
+impl Derivation {
+    /// An actor that comes to be able to take from a spanned vertex.
+    pub(crate) fn draw_to(
+        &mut self,
+        alloc: Global,
+        graph: &Graph,
+        marks: &Marks,
+        vertex: u64,
+    ) -> Result<u64, AllocError>
+        requires keeps { Keeps graph.now self.old.graph }
+        requires marks { AreMarks graph.now marks.now }
+        requires spanned { is_spanned marks.now vertex ≡ true }
+        ensures continues { OnOk result (Continues self.old self.new) }
+        ensures drawn { IfOk result (IsDrawn graph.now self.new.graph marks.now vertex) }
+    {
+        let (root, path) = marks.path_to(alloc, graph, vertex)?;
+        self.draw(graph, root, path)?;
+        Ok(root)
+    }
+
+    /// The load goes over a bridge whose grant leads from the span of the next actor.
+    fn cross_granting(
+        &mut self,
+        alloc: Global,
+        graph: &Graph,
+        marks: &Marks,
+        holder: u64,
+        at: u64,
+        end: u64,
+        load: &Load,
+    ) -> Result<Option<u64>, AllocError>
+        requires keeps { Keeps graph.now self.old.graph }
+        requires marks { AreMarks graph.now marks.now }
+        requires holder { IsActor graph.now holder }
+        requires draws { Draws self.old.graph holder at }
+        requires held { Holds self.old.graph holder load.now.rights load.now.over }
+        requires some { is_none load.now.rights ≡ false }
+        requires apart { IsUnmarked graph.now marks.now load.now.over }
+        requires edge { Has graph.now end grant at }
+        requires spanned { is_spanned marks.now end ≡ true }
+        ensures continues { OnOk result (Continues self.old self.new) }
+        ensures passed { IfOk result (λ o. MatchOption o (last_serial < self.new.graph.next) (IsPassed graph.now self.new.graph marks.now end load.now)) }
+    {
+        graph.soundness();
+        let next = self.draw_to(alloc, graph, marks, end)?;
+        self.gain_grant(next, at, end)?;
+        let Some(_) = self.push(holder, next, at, load)? else {
+            return Ok(None);
+        };
+        Ok(Some(next))
+    }
+
+    /// The load goes over a bridge whose grant leads to the span of the next actor.
+    fn cross_granted(
+        &mut self,
+        alloc: Global,
+        graph: &Graph,
+        marks: &Marks,
+        holder: u64,
+        at: u64,
+        end: u64,
+        load: &Load,
+    ) -> Result<u64, AllocError>
+        requires keeps { Keeps graph.now self.old.graph }
+        requires marks { AreMarks graph.now marks.now }
+        requires holder { IsActor graph.now holder }
+        requires draws { Draws self.old.graph holder at }
+        requires held { Holds self.old.graph holder load.now.rights load.now.over }
+        requires some { is_none load.now.rights ≡ false }
+        requires apart { IsUnmarked graph.now marks.now load.now.over }
+        requires edge { Has graph.now at grant end }
+        requires spanned { is_spanned marks.now end ≡ true }
+        ensures continues { OnOk result (Continues self.old self.new) }
+        ensures passed { IfOk result (IsPassed graph.now self.new.graph marks.now end load.now) }
+    {
+        graph.soundness();
+        self.gain_grant(holder, end, at)?;
+        let next = self.draw_to(alloc, graph, marks, end)?;
+        self.pull(holder, next, end, load)?;
+        Ok(next)
+    }
+
+    /// The load goes over a bridge of takes alone, which both lead to an actor.
+    fn cross_taking(
+        &mut self,
+        alloc: Global,
+        graph: &Graph,
+        marks: &Marks,
+        holder: u64,
+        at: u64,
+        load: &Load,
+    ) -> Result<Option<u64>, AllocError>
+        requires keeps { Keeps graph.now self.old.graph }
+        requires marks { AreMarks graph.now marks.now }
+        requires holder { IsActor graph.now holder }
+        requires draws { Draws self.old.graph holder at }
+        requires held { Holds self.old.graph holder load.now.rights load.now.over }
+        requires some { is_none load.now.rights ≡ false }
+        requires apart { IsUnmarked graph.now marks.now load.now.over }
+        requires actor { IsActor graph.now at }
+        requires spanned { is_spanned marks.now at ≡ true }
+        ensures continues { OnOk result (Continues self.old self.new) }
+        ensures passed { IfOk result (λ o. MatchOption o (last_serial < self.new.graph.next) (IsPassed graph.now self.new.graph marks.now at load.now)) }
+    {
+        graph.soundness();
+        let Some(_) = self.push(holder, at, at, load)? else {
+            return Ok(None);
+        };
+        let next = self.draw_to(alloc, graph, marks, at)?;
+        self.pull(at, next, at, load)?;
+        Ok(Some(next))
+    }
+
+    /// The load goes from hand to hand, until somebody can give it to the goal's own vertex or that can take it.
+    pub(crate) fn carry(
+        &mut self,
+        alloc: Global,
+        graph: &Graph,
+        marks: &Marks,
+        first: u64,
+        load: &Load,
+    ) -> Result<Option<End>, AllocError>
+        requires keeps { Keeps graph.now self.old.graph }
+        requires marks { AreMarks graph.now marks.now }
+        requires first { IsActor graph.now first }
+        requires bridged { is_bridged marks.now first ≡ true }
+        requires held { Holds self.old.graph first load.now.rights load.now.over }
+        requires some { is_none load.now.rights ≡ false }
+        requires apart { IsUnmarked graph.now marks.now load.now.over }
+        ensures continues { OnOk result (Continues self.old self.new) }
+        ensures brought { IfOk result (λ o. MatchOption o (last_serial < self.new.graph.next) (IsBrought graph.now self.new.graph marks.now load.now)) }
+    {
+        let mut holder = first;
+        let mut at = first;
+        let mut bridge = marks.bridge_at(first);
+        loop {
+            match bridge.way {
+                BridgeWay::Own => return Ok(Some(End { holder, at, is_own: true })),
+                BridgeWay::Initial => return Ok(Some(End { holder, at, is_own: false })),
+                BridgeWay::Granting(end) => {
+                    let Some(next) =
+                        self.cross_granting(alloc, graph, marks, holder, at, end, load)?
+                    else {
+                        return Ok(None);
+                    };
+                    holder = next;
+                    at = next;
+                    bridge = marks.bridge_at(next);
+                    continue;
+                }
+                BridgeWay::Granted(end) => {
+                    let next = self.cross_granted(alloc, graph, marks, holder, at, end, load)?;
+                    holder = next;
+                    at = next;
+                    bridge = marks.bridge_at(next);
+                    continue;
+                }
+                BridgeWay::Reaching(next) => {
+                    self.gain_take(holder, next, at)?;
+                    at = next;
+                    bridge = marks.bridge_at(next);
+                    continue;
+                }
+                BridgeWay::Spanned => {
+                    let Some(next) = self.cross_taking(alloc, graph, marks, holder, at, load)?
+                    else {
+                        return Ok(None);
+                    };
+                    holder = next;
+                    at = next;
+                    bridge = marks.bridge_at(next);
+                    continue;
+                }
+            }
+        }
+    }
+}
