@@ -1,5 +1,5 @@
 -- What a load that goes from hand to hand keeps apart from.
-use Rattle.std.proofs.Common.{◌≡◌, ◌≢◌, ℕ, ◌<◌, ◌≤◌, true, false, refl, ap, sym, subst, inl, inr, Some, None, arith}
+use Rattle.std.proofs.Common.{◌≡◌, ◌≢◌, ℕ, ◌≤◌, true, false, refl, ap, inl, inr, Some, None, arith}
 use Rattle.std.specs.Prelude.{Option}
 use Rattle.std.specs.Option.{is_some}
 use Rattle.tg_graph.specs.Protection.{Protection, IsGraph}

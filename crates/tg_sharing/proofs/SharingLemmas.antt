@@ -80,3 +80,10 @@ all_shared G H m goal here = (are_set_operations.inclusion (label H goal.from go
 pub one_found : (G W : Protection) (m : Marks) (α β : Letters) (goal : Goal) (f : Found) → IsFound G W m α goal f → f ≡ found.Here → α ≡ β → includes goal.rights β ≡ true → Holds W goal.from β goal.to
 one_found G W m α β goal f h is same =
     subst (λ (l : Letters). includes goal.rights l ≡ true → Holds W goal.from l goal.to) same (subst (λ (q : Found). IsFound G W m α goal q) is h)
+
+-- and if all were found at once, each is there
+pub all_found : (G W : Protection) (m : Marks) (goal : Goal) (f : Found) → IsFound G W m goal.rights goal f → f ≡ found.Here → AreFound G W m goal found.Here
+all_found G W m goal f h is r e =
+    let whole : includes goal.rights goal.rights ≡ true = (are_set_operations.inclusion goal.rights goal.rights).1 (λ s k. k) in
+    let held : Holds W goal.from goal.rights goal.to = subst (λ (q : Found). IsFound G W m goal.rights goal q) is h whole in
+    holds_all W goal.from (alone r) goal.to (λ s k. holds_right W goal.from goal.rights goal.to held s ((are_set_operations.inclusion goal.rights (alone r)).0 e s k))

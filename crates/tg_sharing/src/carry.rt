@@ -159,11 +159,20 @@ impl Derivation {
         let mut bridge = marks.bridge_at(first);
         loop {
             match bridge.way {
-                BridgeWay::Own => return Ok(Some(End { holder, at, is_own: true })),
-                BridgeWay::Initial => return Ok(Some(End { holder, at, is_own: false })),
+                BridgeWay::Own => return Ok(Some(End {
+                    holder,
+                    at,
+                    is_own: true,
+                })),
+                BridgeWay::Initial => return Ok(Some(End {
+                    holder,
+                    at,
+                    is_own: false,
+                })),
                 BridgeWay::Granting(end) => {
-                    let Some(next) =
-                        self.cross_granting(alloc, graph, marks, holder, at, end, load)?
+                    let Some(next) = self.cross_granting(
+                        alloc, graph, marks, holder, at, end, load,
+                    )?
                     else {
                         return Ok(None);
                     };

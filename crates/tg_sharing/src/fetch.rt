@@ -98,7 +98,10 @@ impl Derivation {
     {
         graph.soundness();
         if end.is_own {
-            let load = Load { rights: both(), over: envoy };
+            let load = Load {
+                rights: both(),
+                over: envoy,
+            };
             let Some(_) = self.push(end.holder, end.at, end.at, &load)? else {
                 return Ok(None);
             };
@@ -168,7 +171,10 @@ impl Derivation {
             return Ok(None);
         };
         self.arm(first, source, envoy, rights, goal.to)?;
-        let load = Load { rights: both(), over: envoy };
+        let load = Load {
+            rights: both(),
+            over: envoy,
+        };
         let Some(end) = self.carry(alloc, graph, marks, first, &load)? else {
             return Ok(None);
         };
@@ -201,7 +207,10 @@ impl Derivation {
     {
         graph.soundness();
         self.gain(first, rights, goal.to, source)?;
-        let load = Load { rights, over: goal.to };
+        let load = Load {
+            rights,
+            over: goal.to,
+        };
         let Some(end) = self.carry(alloc, graph, marks, first, &load)? else {
             return Ok(None);
         };

@@ -108,8 +108,8 @@ impl Derivation {
         Ok(Found::Here)
     }
 
-    /// The same of all rights.
-    fn share_all(
+    /// The same of each of the goal's rights, one after another.
+    fn share_each(
         &mut self,
         alloc: Global,
         graph: &Graph,
@@ -144,6 +144,29 @@ impl Derivation {
             Found::Here => {}
         }
         Ok(Found::Here)
+    }
+
+    /// The same of all the goal's rights: at once, if somebody has them all.
+    fn share_all(
+        &mut self,
+        alloc: Global,
+        graph: &Graph,
+        marks: &Marks,
+        goal: &Goal,
+    ) -> Result<Found, AllocError>
+        requires keeps { Keeps graph.now self.old.graph }
+        requires marks { AreMarks graph.now marks.now }
+        requires own { marks.now.from ≡ goal.now.from }
+        requires some { is_none goal.now.rights ≡ false }
+        requires apart { goal.now.from ≢ goal.now.to }
+        ensures continues { OnOk result (Continues self.old self.new) }
+        ensures found { IfOk result (AreFound graph.now self.new.graph marks.now goal.now) }
+    {
+        match self.share(alloc, graph, marks, goal.rights, goal)? {
+            Found::Nobody => self.share_each(alloc, graph, marks, goal),
+            Found::NoSerial => Ok(Found::NoSerial),
+            Found::Here => Ok(Found::Here),
+        }
     }
 }
 

@@ -21,9 +21,8 @@ enum Deed {
 #[derive(Clone, Copy, PartialEq, Eq, Debug)]
 enum Want {
     Never,
-    /// By steps, or by none.
-    Steps,
-    Nothing,
+    /// By so many steps.
+    By(u64),
     Unknown,
 }
 
@@ -47,7 +46,7 @@ const SHARED: Case = Case {
     from: 2,
     rights: "r",
     to: 4,
-    want: Want::Steps,
+    want: Want::By(1),
 };
 
 /// Alice may read and bob may write the document (4).
@@ -110,10 +109,12 @@ const CASES: &[Case] = &[
         rights: "rw",
         ..SHARED
     },
+    // A box for each of two rights, which alice and bob have.
     Case {
         from: 3,
         rights: "rw",
         deeds: SPLIT,
+        want: Want::By(9),
         ..SHARED
     },
     // Nobody has take over the document.
@@ -122,28 +123,34 @@ const CASES: &[Case] = &[
         want: Want::Never,
         ..SHARED
     },
-    // A take is a bridge in either direction.
-    Case { from: 3, ..SHARED },
+    // A take is a bridge in either direction, and so is a grant.
+    Case {
+        from: 3,
+        want: Want::By(5),
+        ..SHARED
+    },
     Case {
         edges: &[(1, "g", 2), (3, "t", 2)],
         from: 3,
+        want: Want::By(2),
         ..SHARED
     },
     Case {
         edges: &[(2, "g", 1), (2, "t", 3)],
         from: 3,
+        want: Want::By(8),
         ..SHARED
     },
-    // No rights are there always, and those that are there.
+    // No rights are always there, and those that are there.
     Case {
         rights: "",
-        want: Want::Nothing,
+        want: Want::By(0),
         ..SHARED
     },
     Case {
         from: 1,
         rights: "rw",
-        want: Want::Nothing,
+        want: Want::By(0),
         ..SHARED
     },
     // No vertex comes to have rights over itself.
@@ -162,7 +169,7 @@ const CASES: &[Case] = &[
     Case {
         from: 4,
         rights: "",
-        want: Want::Nothing,
+        want: Want::By(0),
         ..SHARED
     },
     // Nobody has grant over the document, which is passive.
@@ -188,18 +195,21 @@ const CASES: &[Case] = &[
     Case {
         deeds: BRIDGE,
         from: 6,
+        want: Want::By(2),
         ..SHARED
     },
-    // Over an actor on the way, and over the one whose rights they are.
+    // Rights over actors on the way go by an envoy.
     Case {
         from: 3,
         rights: "g",
         to: 2,
+        want: Want::By(8),
         ..SHARED
     },
     Case {
         edges: &[(1, "g", 2), (1, "r", 3), (3, "t", 1)],
         to: 3,
+        want: Want::By(4),
         ..SHARED
     },
     // Who has retired does nothing, and others may still give to it.
@@ -221,6 +231,7 @@ const CASES: &[Case] = &[
     // A grant between two spans is a bridge; two takes or two grants that meet are none.
     Case {
         deeds: BRIDGE,
+        want: Want::By(3),
         ..SHARED
     },
     Case {
@@ -250,7 +261,18 @@ const CASES: &[Case] = &[
         want: Want::Never,
         ..SHARED
     },
+    // No serial is left for a box, one is, and none is needed.
     LAST,
+    Case {
+        next: LAST_SERIAL,
+        want: Want::By(4),
+        ..LAST
+    },
+    Case {
+        edges: &[(1, "g", 2), (1, "r", 3)],
+        want: Want::By(1),
+        ..LAST
+    },
 ];
 
 /// The principals of a case, with their edges.
@@ -309,13 +331,7 @@ fn graph(alloc: Global, case: &Case) -> Result<Graph, AllocError> {
 fn kind_of(answer: &Answer) -> Want {
     match answer {
         Answer::Never => Want::Never,
-        Answer::By(steps) => {
-            if steps.is_empty() {
-                Want::Nothing
-            } else {
-                Want::Steps
-            }
-        }
+        Answer::By(steps) => Want::By(steps.len() as u64),
         Answer::Unknown(_) => Want::Unknown,
     }
 }

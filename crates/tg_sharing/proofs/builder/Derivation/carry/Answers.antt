@@ -1,12 +1,8 @@
-use Rattle.std.proofs.Common.{◌<◌, ℕ, subst, ◌∙◌}
-use Rattle.std.specs.Prelude.{MatchOption}
-use Rattle.tg_graph.specs.Rules.{last_serial}
-use Rattle.tg_sharing.specs.Growing.{both}
+use Rattle.std.proofs.Common.{subst}
 use Rattle.tg_sharing.specs.Marking.{IsBridge}
-use Rattle.tg_sharing.specs.Paths.{Holds}
 use Rattle.tg_sharing.specs.declared.marks.BridgeWay.{BridgeWay}
 use Rattle.tg_sharing.specs.declared.marks.BridgeWay.TheVariants as bridge
-use Rattle.tg_sharing.proofs.GrowingLemmas.{Continues-trans, Keeps-trans, draws_gained, keeps_envoy, keeps_holds, take_later}
+use Rattle.tg_sharing.proofs.GrowingLemmas.{Continues-trans, Keeps-trans, draws_gained, keeps_holds, take_later}
 use Rattle.tg_sharing.proofs.builder.Derivation.carry.Goals as goal
 
 pub gain_take-requires-clause-held : goal.gain_take-requires-clause-held

@@ -1,4 +1,4 @@
-use Rattle.std.proofs.Common.{◌≡◌, Bool, subst}
+use Rattle.std.proofs.Common.{Bool, subst}
 use Rattle.tg_rights.specs.Letters.{grant}
 use Rattle.tg_sharing.specs.Fetching.{IsAtEnd}
 use Rattle.tg_sharing.specs.Spans.{Has}
