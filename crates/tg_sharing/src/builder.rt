@@ -236,14 +236,14 @@ impl Derivation {
             return Ok(Some(giver));
         }
         self.graph.soundness();
-        let Some(case) = self.make(taker, Kind::Document)? else {
+        let Some(document) = self.make(taker, Kind::Document)? else {
             return Ok(None);
         };
-        self.give_grant(taker, case, by)?;
-        self.gain_grant(giver, case, by)?;
-        self.give(giver, load.rights, load.over, case)?;
-        self.gain(taker, load.rights, load.over, case)?;
-        Ok(Some(case))
+        self.give_grant(taker, document, by)?;
+        self.gain_grant(giver, document, by)?;
+        self.give(giver, load.rights, load.over, document)?;
+        self.gain(taker, load.rights, load.over, document)?;
+        Ok(Some(document))
     }
 
     /// Passes a load on, by a vertex to which the giver can give and from which the taker can take.

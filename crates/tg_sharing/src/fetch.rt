@@ -1,4 +1,5 @@
-//! How the goal's own vertex comes to have rights that a spanned vertex has.
+//! How the goal's own vertex comes to have rights that a spanned vertex has. They go from hand to hand themselves, or, where
+//! a vertex on the way may be the one over which they are, an envoy goes: a new subject that has them.
 ghost use Rattle.std.specs.Prelude.{◌≡◌, ◌≢◌, ◌<◌, ◌≤◌, true, false, IfOk, OnOk, MatchOption};
 ghost use Rattle.tg_rights.specs.Letters.{is_none, grant};
 ghost use Rattle.tg_graph.specs.Rules.{last_serial};

@@ -1,4 +1,14 @@
-//! Whether rights can ever be shared in a take-grant protection graph, whatever its subjects do.
+//! Whether rights can ever be shared in a take-grant protection graph, whatever its subjects do (Lipton and Snyder 1977;
+//! Bishop's can.share).
+//!
+//! Two sets of vertices answer it for one vertex that is to have rights. An accomplice is an actor, a subject that has not
+//! retired, who can pass rights on to that vertex. *Spanned* are the vertices to which a terminal span, takes one after
+//! another, leads from an accomplice. *Bridged* are those from which takes lead to an accomplice, or to where the grant of
+//! a bridge or of the initial span follows. Rights can be shared exactly if spanned vertices, or the vertex itself, have
+//! them.
+//!
+//! `marks` sets these marks, each for a reason; `search` finds quickly in which order, and `follow` shows that there are no
+//! more; `builder`, `carry` and `fetch` derive steps from the reasons, and `sharing` answers.
 #![tactic(auto)]
 
 ghost use Rattle.tg_sharing.specs.Laws.{WithheldForEver};
@@ -18,7 +28,7 @@ use tg_graph::{allowed_is_met, commands_keep_graphs};
 
 // Laws: each function is a theorem, its contract, and costs nothing when it is called.
 
-/// What is withheld from all that is spanned is never shared.
+/// A right that all spanned vertices lack is never shared.
 pub fn withheld_for_ever()
     ensures { WithheldForEver }
 {

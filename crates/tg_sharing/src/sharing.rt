@@ -21,8 +21,8 @@ pub enum Answer {
     Never,
     /// By these steps.
     By(Vec<Step>),
-    /// Not known: the rules alone allow a derivation, but the one that was found makes more vertices than there are
-    /// serials. No serial is left after these first steps of it.
+    /// Not known: no serial is left after these steps, the first of a derivation that makes more vertices. Others may do
+    /// with fewer.
     Unknown(Vec<Step>),
 }
 

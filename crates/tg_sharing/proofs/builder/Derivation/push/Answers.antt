@@ -7,12 +7,12 @@ use Rattle.tg_sharing.proofs.GrowingLemmas.{Keeps-trans, both_take, held_low, ke
 use Rattle.tg_sharing.proofs.builder.Derivation.push.Goals as goal
 
 pub give_grant-requires-clause-gives : goal.give_grant-requires-clause-gives
-give_grant-requires-clause-gives c = keeps_gives c.args.self.now.graph c.make.new.self.graph c.in_ok-case.ensures.continues.keeps c.args.taker c.args.by c.requires.gives
+give_grant-requires-clause-gives c = keeps_gives c.args.self.now.graph c.make.new.self.graph c.in_ok-document.ensures.continues.keeps c.args.taker c.args.by c.requires.gives
 
 pub gain_grant-requires-clause-draws : goal.gain_grant-requires-clause-draws
 gain_grant-requires-clause-draws c =
     keeps_draws c.args.self.now.graph c.give_grant.new.self.graph
-    (Keeps-trans c.args.self.now.graph c.make.new.self.graph c.give_grant.new.self.graph c.in_ok-case.ensures.continues.keeps c.in_ok-give_grant.ensures.continues.keeps)
+    (Keeps-trans c.args.self.now.graph c.make.new.self.graph c.give_grant.new.self.graph c.in_ok-document.ensures.continues.keeps c.in_ok-give_grant.ensures.continues.keeps)
     c.args.giver c.args.by c.requires.draws
 
 pub give-requires-clause-held : goal.give-requires-clause-held
@@ -21,14 +21,14 @@ give-requires-clause-held c =
     let G1 = c.make.new.self.graph in
     let G2 = c.give_grant.new.self.graph in
     let G3 = c.gain_grant.new.self.graph in
-    keeps_holds G G3 (Keeps-trans G G2 G3 (Keeps-trans G G1 G2 c.in_ok-case.ensures.continues.keeps c.in_ok-give_grant.ensures.continues.keeps) c.in_ok-gain_grant.ensures.continues.keeps)
+    keeps_holds G G3 (Keeps-trans G G2 G3 (Keeps-trans G G1 G2 c.in_ok-document.ensures.continues.keeps c.in_ok-give_grant.ensures.continues.keeps) c.in_ok-gain_grant.ensures.continues.keeps)
     c.args.giver c.args.load.now.rights c.args.load.now.over c.requires.held
 
 pub give-requires-clause-apart : goal.give-requires-clause-apart
 give-requires-clause-apart c =
     let G = c.args.self.now.graph in
-    let made = MatchOption-at_some (last_serial < c.make.new.self.graph.next) (Makes c.args.self.now c.make.new.self c.args.taker kind.Document) c.in-Some.case c.in-Some.is c.in_ok-case.ensures.made in
-    let fresh : c.in-Some.case ≡ G.next = made.fresh in
+    let made = MatchOption-at_some (last_serial < c.make.new.self.graph.next) (Makes c.args.self.now c.make.new.self c.args.taker kind.Document) c.in-Some.document c.in-Some.is c.in_ok-document.ensures.made in
+    let fresh : c.in-Some.document ≡ G.next = made.fresh in
     let low : c.args.load.now.over < G.next = held_low G c.soundness.ensures c.args.giver c.args.load.now.rights c.args.load.now.over c.requires.some c.requires.held in
     λ is. absurd (omega (arith, fresh, low, is))
 
@@ -38,7 +38,7 @@ gain-requires-clause-draws c =
     let G2 = c.give_grant.new.self.graph in
     let G3 = c.gain_grant.new.self.graph in
     let G4 = c.give.new.self.graph in
-    let made = MatchOption-at_some (last_serial < c.make.new.self.graph.next) (Makes c.args.self.now c.make.new.self c.args.taker kind.Document) c.in-Some.case c.in-Some.is c.in_ok-case.ensures.made in
-    inr (both_take G4 c.args.taker c.in-Some.case
+    let made = MatchOption-at_some (last_serial < c.make.new.self.graph.next) (Makes c.args.self.now c.make.new.self c.args.taker kind.Document) c.in-Some.document c.in-Some.is c.in_ok-document.ensures.made in
+    inr (both_take G4 c.args.taker c.in-Some.document
     (keeps_holds G1 G4 (Keeps-trans G1 G3 G4 (Keeps-trans G1 G2 G3 c.in_ok-give_grant.ensures.continues.keeps c.in_ok-gain_grant.ensures.continues.keeps) c.in_ok-give.ensures.continues.keeps)
-    c.args.taker both c.in-Some.case made.held))
+    c.args.taker both c.in-Some.document made.held))
