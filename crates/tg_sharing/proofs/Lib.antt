@@ -3,5 +3,6 @@ pub mod LabelsLemmas
 pub mod GrowthLemmas
 pub mod WithheldLemmas
 pub mod MarkingLemmas
+pub mod ProspectLemmas
 pub mod GrowingLemmas
 pub mod SharingLemmas

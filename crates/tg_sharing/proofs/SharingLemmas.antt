@@ -17,7 +17,7 @@ use Rattle.tg_sharing.specs.declared.sharing.Found.{Found}
 use Rattle.tg_sharing.specs.declared.sharing.Found.TheVariants as found
 use Rattle.tg_sharing.proofs.GrowingLemmas.{held_apart, holds_all, holds_right}
 
-alone_has : (r : Right) → has (alone r) r ≡ true
+pub alone_has : (r : Right) → has (alone r) r ≡ true
 alone_has read = refl
 alone_has write = refl
 alone_has take = refl

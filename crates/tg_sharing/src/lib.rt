@@ -18,11 +18,13 @@ mod carry;
 mod fetch;
 mod follow;
 mod marks;
+mod prospect;
 mod search;
 mod sharing;
 #[cfg(test)]
 mod tests;
 
+pub use prospect::{Prospect, what_could};
 pub use sharing::{Answer, can_share};
 use tg_graph::{allowed_is_met, commands_keep_graphs};
 

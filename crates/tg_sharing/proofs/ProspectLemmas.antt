@@ -1,0 +1,75 @@
+-- Why nothing is missing from what a vertex could come to have.
+use Rattle.std.proofs.Common.{◌≡◌, ◌≢◌, ℕ, ◌∷◌, [], ◌++◌, List, Bool, true, false, refl, sym, ap, subst, ◌∙◌, ◌⊎◌, inl, inr, Some, None}
+use Rattle.std.specs.Prelude.{Option}
+use Rattle.std.specs.Map.{keys_of}
+use Rattle.std.specs.Option.{is_some, option_map}
+use Rattle.tg_rights.specs.Letters.{Letters, Right, is_none}
+use Rattle.tg_rights.specs.Membership.{Contains}
+use Rattle.tg_rights.proofs.LettersLemmas.{right_some}
+use Rattle.tg_rights.proofs.MembershipLemmas.{contains_append, contains_left, contains_right}
+use Rattle.tg_graph.specs.declared.vertex.Vertex.{Vertex}
+use Rattle.tg_graph.specs.Derivations.{CanShare}
+use Rattle.tg_graph.specs.Protection.{IsEdge, IsGraph, IsVertex, Protection, kind_of, label, vertex}
+use Rattle.tg_sharing.specs.Fetching.{alone}
+use Rattle.tg_sharing.specs.Growing.{Keeps}
+use Rattle.tg_sharing.specs.Laws.{WithheldForEver}
+use Rattle.tg_sharing.specs.Marking.{is_bridged, is_spanned}
+use Rattle.tg_sharing.specs.Prospects.{IsGathered}
+use Rattle.tg_sharing.specs.Spans.{AreClosed, Has}
+use Rattle.tg_sharing.specs.declared.marks.Marks.{Marks}
+use Rattle.tg_sharing.proofs.LabelsLemmas.{Labels}
+use Rattle.tg_sharing.proofs.SharingLemmas.{alone_has}
+
+-- a vertex with a kind is one
+pub kind_vertex : (G : Protection) (v : ℕ) → is_some (kind_of G v) ≡ true → IsVertex G v
+kind_vertex G v h = by (vertex G v) h where
+  by : (o : Option Vertex) → is_some (option_map (λ e. e.kind) o) ≡ true → is_some o ≡ true
+  by None e = absurd (cc e)
+  by (Some e) h = refl
+
+-- what is listed are edges of H over vertices of G
+abbrev pub AreEdgesOf : Protection → Protection → ℕ → List (ℕ × Letters) → Type 0
+AreEdgesOf G H from found = (y : ℕ) (α : Letters) → Contains found (y, α) → IsVertex G y × IsEdge H from y × (α ≡ label H from y)
+
+-- each edge is still to come, or listed
+abbrev pub AreToCome : Protection → Protection → ℕ → Labels → List (ℕ × Letters) → Type 0
+AreToCome G H from left found = (y : ℕ) → IsVertex G y → IsEdge H from y → Contains (keys_of left) (from, y) ⊎ Contains found (y, label H from y)
+
+-- one more edge is listed
+module _ (G H : Protection) (from x y : ℕ) (l : Letters) (found : List (ℕ × Letters)) (own : x ≡ from) (is : l ≡ label H x y) where
+  here : l ≡ label H from y
+  here = is ∙ ap (λ v. label H v y) own
+
+  pub edges_more : IsVertex G y → is_none l ≡ false → AreEdgesOf G H from found → AreEdgesOf G H from (found ++ (y, l) ∷ [])
+  edges_more there some edges z α h = elim (contains_append found ((y, l) ∷ []) (z, α) h) [
+    | inl before ↦ edges z α before
+    | inr last ↦ elim last [
+      | inl same ↦
+          let to : z ≡ y = ap (λ (p : ℕ × Letters). p.0) same in
+          let label_is : α ≡ l = ap (λ (p : ℕ × Letters). p.1) same in
+          (subst (IsVertex G) (sym to) there, ap is_none (ap (label H from) to ∙ sym here) ∙ some, label_is ∙ here ∙ ap (label H from) (sym to))
+      | inr never ↦ absurd never
+    ]
+  ]
+
+  pub come_more : (rest : Labels) → AreToCome G H from (((x, y), l) ∷ rest) found → AreToCome G H from rest (found ++ (y, l) ∷ [])
+  come_more rest come z v edge = elim (come z v edge) [
+    | inl left ↦ elim left [
+      | inl same ↦
+          let to : z ≡ y = ap (λ (p : ℕ × ℕ). p.1) same in
+          inr (contains_right found ((y, l) ∷ []) (z, label H from z) (inl (λ i. (to i, (ap (label H from) to ∙ sym here) i))))
+      | inr later ↦ inl later
+    ]
+    | inr listed ↦ inr (contains_left found ((y, l) ∷ []) (z, label H from z) listed)
+  ]
+
+-- what the vertex lacks in the end, it never has
+pub never_gathered : WithheldForEver → (G W : Protection) (m : Marks) (from : ℕ) → IsGraph G → IsVertex G from → m.from ≡ from → AreClosed G from (is_spanned m) (is_bridged m) → Keeps G W →
+    ((u y : ℕ) → IsEdge G u y → IsGathered G W m u y) →
+    (y : ℕ) (r : Right) → IsVertex G y → y ≢ from → (Has W from r y → ⊥) → CanShare G (record { from = from; to = y; rights = alone r }) → ⊥
+never_gathered law G W m from g there own closed keeps gathered y r v apart lacks =
+    law G (record { from = from; to = y; rights = alone r }) (is_spanned m) (is_bridged m) r g (g.below_next from there) (g.below_next y v) closed (alone_has r)
+    (λ u either h. elim either [
+      | inl is ↦ lacks (keeps.rights from r y (subst (λ (x : ℕ). Has G x r y) is h))
+      | inr spanned ↦ lacks (subst (λ (x : ℕ). Has W x r y) own (gathered u y (right_some (label G u y) r h) (λ is. apart (is ∙ own)) spanned r h))
+    ])

@@ -1,0 +1,32 @@
+-- all that a vertex could ever come to have
+use Rattle.std.specs.Prelude.{◌≡◌, ◌≢◌, ◌<◌, ◌⊎◌, ◌↔◌, ℕ, true, List, length}
+use Rattle.tg_rights.specs.Letters.{Letters, Right}
+use Rattle.tg_rights.specs.Membership.{Contains}
+use Rattle.tg_graph.specs.Derivations.{CanShare, Derives}
+use Rattle.tg_graph.specs.declared.derivation.Step.{Step}
+use Rattle.tg_graph.specs.Rules.{last_serial}
+use Rattle.tg_graph.specs.Protection.{Protection, IsEdge, IsVertex, label}
+use Rattle.tg_sharing.specs.Fetching.{alone}
+use Rattle.tg_sharing.specs.Marking.{is_spanned}
+use Rattle.tg_sharing.specs.Spans.{Has}
+use Rattle.tg_sharing.specs.declared.marks.Marks.{Marks}
+use Rattle.tg_sharing.specs.declared.prospect.Prospect.{Prospect}
+
+-- what a spanned vertex u has over y, the goal's own vertex has in W
+abbrev pub IsGathered : Protection → Protection → Marks → ℕ → ℕ → Type 0
+IsGathered G W m u y = y ≢ m.from → is_spanned m u ≡ true → (r : Right) → Has G u r y → Has W m.from r y
+
+-- the list has the vertices of G over which `from` has rights in H, each with its label
+abbrev pub AreLabelsOf : Protection → Protection → ℕ → List (ℕ × Letters) → Type 0
+AreLabelsOf G H from labels = (y : ℕ) (α : Letters) → Contains labels (y, α) ↔ (IsVertex G y × IsEdge H from y × (α ≡ label H from y))
+
+-- the steps lead to a graph in which `from` has what the list says, and no steps give it a right that it lacks there
+pub record IsProspect (G : Protection) (from : ℕ) (p : Prospect) : Type 0 where
+  pub reached : Protection
+  pub derived : Derives G p.steps.items reached
+  pub labels : AreLabelsOf G reached from p.labels.items
+  pub whole : (y : ℕ) (r : Right) → IsVertex G y → y ≢ from → (Has reached from r y → ⊥) → CanShare G (record { from = from; to = y; rights = alone r }) → ⊥
+
+-- more steps than so many can be carried out, or steps after which no serial is left
+abbrev pub IsTooMuch : Protection → ℕ → Type 0
+IsTooMuch G most = (steps : List Step) × (H : Protection) × Derives G steps H × ((last_serial < H.next) ⊎ (most < length steps))
