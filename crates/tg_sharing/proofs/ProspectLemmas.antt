@@ -14,9 +14,10 @@ use Rattle.tg_sharing.specs.Fetching.{alone}
 use Rattle.tg_sharing.specs.Growing.{Keeps}
 use Rattle.tg_sharing.specs.Laws.{WithheldForEver}
 use Rattle.tg_sharing.specs.Marking.{is_bridged, is_spanned}
-use Rattle.tg_sharing.specs.Prospects.{IsGathered}
+use Rattle.tg_sharing.specs.Prospects.{AreCould, IsCould, IsGathered}
 use Rattle.tg_sharing.specs.Spans.{AreClosed, Has}
 use Rattle.tg_sharing.specs.declared.marks.Marks.{Marks}
+use Rattle.tg_sharing.specs.declared.prospect.Could.{Could}
 use Rattle.tg_sharing.proofs.LabelsLemmas.{Labels}
 use Rattle.tg_sharing.proofs.SharingLemmas.{alone_has}
 
@@ -73,3 +74,48 @@ never_gathered law G W m from g there own closed keeps gathered y r v apart lack
       | inl is ↦ lacks (keeps.rights from r y (subst (λ (x : ℕ). Has G x r y) is h))
       | inr spanned ↦ lacks (subst (λ (x : ℕ). Has W x r y) own (gathered u y (right_some (label G u y) r h) (λ is. apart (is ∙ own)) spanned r h))
     ])
+
+-- one more vertex is asked for
+module _ (G : Protection) (α : Letters) (to : ℕ) (asked : List ℕ) (found : List (ℕ × Could)) (are : AreCould G α to asked found) (v : ℕ) where
+  pub could_more : IsVertex G v → (c : Could) → IsCould G (record { from = v; to = to; rights = α }) c → AreCould G α to (asked ++ v ∷ []) (found ++ (v, c) ∷ [])
+  could_more there c is = record {
+    sound = λ w d h. elim (contains_append found ((v, c) ∷ []) (w, d) h) [
+      | inl before ↦ let old = are.sound w d before in (contains_left asked (v ∷ []) w old.0, old.1, old.2)
+      | inr last ↦ elim last [
+        | inl same ↦
+            let one : w ≡ v = ap (λ (p : ℕ × Could). p.0) same in
+            let two : d ≡ c = ap (λ (p : ℕ × Could). p.1) same in (
+              contains_right asked (v ∷ []) w (inl one),
+              subst (IsVertex G) (sym one) there,
+              subst (λ (e : Could). IsCould G (record { from = w; to = to; rights = α }) e) (sym two) (subst (λ (u : ℕ). IsCould G (record { from = u; to = to; rights = α }) c) (sym one) is),
+            )
+        | inr never ↦ absurd never
+      ]
+    ];
+    whole = λ w h vertex. elim (contains_append asked (v ∷ []) w h) [
+      | inl before ↦ let old = are.whole w before vertex in (old.0, contains_left found ((v, c) ∷ []) (w, old.0) old.1)
+      | inr last ↦ elim last [
+        | inl one ↦ (c, contains_right found ((v, c) ∷ []) (w, c) (inl (λ i. (one i, c))))
+        | inr never ↦ absurd never
+      ]
+    ];
+  }
+
+  pub could_skip : (IsVertex G v → ⊥) → AreCould G α to (asked ++ v ∷ []) found
+  could_skip none = record {
+    sound = λ w d h. let old = are.sound w d h in (contains_left asked (v ∷ []) w old.0, old.1, old.2);
+    whole = λ w h vertex. elim (contains_append asked (v ∷ []) w h) [
+      | inl before ↦ are.whole w before vertex
+      | inr last ↦ elim last [
+        | inl one ↦ absurd (none (subst (IsVertex G) one vertex))
+        | inr never ↦ absurd never
+      ]
+    ];
+  }
+
+-- and a vertex has a kind
+pub vertex_kind : (G : Protection) (v : ℕ) → is_some (kind_of G v) ≡ false → IsVertex G v → ⊥
+vertex_kind G v none there = by (vertex G v) none there where
+  by : (o : Option Vertex) → is_some (option_map (λ e. e.kind) o) ≡ false → is_some o ≡ true → ⊥
+  by None e h = absurd (cc h)
+  by (Some w) e h = absurd (cc e)

@@ -3,6 +3,7 @@ use Rattle.std.specs.Prelude.{◌≡◌, ◌≢◌, ◌<◌, ◌⊎◌, ◌↔�
 use Rattle.tg_rights.specs.Letters.{Letters, Right}
 use Rattle.tg_rights.specs.Membership.{Contains}
 use Rattle.tg_graph.specs.Derivations.{CanShare, Derives}
+use Rattle.tg_graph.specs.declared.derivation.Goal.{Goal}
 use Rattle.tg_graph.specs.declared.derivation.Step.{Step}
 use Rattle.tg_graph.specs.Rules.{last_serial}
 use Rattle.tg_graph.specs.Protection.{Protection, IsEdge, IsVertex, label}
@@ -10,6 +11,8 @@ use Rattle.tg_sharing.specs.Fetching.{alone}
 use Rattle.tg_sharing.specs.Marking.{is_spanned}
 use Rattle.tg_sharing.specs.Spans.{Has}
 use Rattle.tg_sharing.specs.declared.marks.Marks.{Marks}
+use Rattle.tg_sharing.specs.declared.prospect.Could.{Could}
+use Rattle.tg_sharing.specs.declared.prospect.Could.TheVariants as could
 use Rattle.tg_sharing.specs.declared.prospect.Prospect.{Prospect}
 
 -- what a spanned vertex u has over y, the goal's own vertex has in W
@@ -30,3 +33,14 @@ pub record IsProspect (G : Protection) (from : ℕ) (p : Prospect) : Type 0 wher
 -- more steps than so many can be carried out, or steps after which no serial is left
 abbrev pub IsTooMuch : Protection → ℕ → Type 0
 IsTooMuch G most = (steps : List Step) × (H : Protection) × Derives G steps H × ((last_serial < H.next) ⊎ (most < length steps))
+
+-- no steps lead to the goal; some do; or it is not known, and no serial is left after some
+abbrev pub IsCould : Protection → Goal → Could → Type 0
+IsCould G goal could.Never = CanShare G goal → ⊥
+IsCould G goal could.Ever = CanShare G goal
+IsCould G goal could.Unknown = (steps : List Step) × (H : Protection) × Derives G steps H × (last_serial < H.next)
+
+-- each vertex that was asked for is listed, and nothing else, with whether it could ever come to have the rights
+pub record AreCould (G : Protection) (α : Letters) (to : ℕ) (asked : List ℕ) (found : List (ℕ × Could)) : Type 0 where
+  pub sound : (v : ℕ) (c : Could) → Contains found (v, c) → Contains asked v × IsVertex G v × IsCould G (record { from = v; to = to; rights = α }) c
+  pub whole : (v : ℕ) → Contains asked v → IsVertex G v → (c : Could) × Contains found (v, c)

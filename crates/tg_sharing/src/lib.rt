@@ -15,6 +15,8 @@ ghost use Rattle.tg_sharing.specs.Laws.{WithheldForEver};
 
 mod builder;
 mod carry;
+#[cfg(test)]
+mod cases;
 mod fetch;
 mod follow;
 mod marks;
@@ -24,7 +26,7 @@ mod sharing;
 #[cfg(test)]
 mod tests;
 
-pub use prospect::{Prospect, what_could};
+pub use prospect::{Could, Prospect, what_could, who_could};
 pub use sharing::{Answer, can_share};
 use tg_graph::{allowed_is_met, commands_keep_graphs};
 

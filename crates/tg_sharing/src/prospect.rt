@@ -1,13 +1,14 @@
-//! All that a vertex could ever come to have.
+//! All that a vertex could ever come to have, and which vertices could ever come to have some rights.
 ghost use Rattle.std.specs.Prelude.{◌≡◌, ◌<◌, ◌⊎◌, ℕ, false, IfOk, OnOk, IsTrue, MatchOption, vec_len};
 ghost use Rattle.tg_graph.specs.Protection.{IsEdge, IsVertex, label as rights_over};
 ghost use Rattle.tg_graph.specs.Rules.{last_serial};
 ghost use Rattle.tg_sharing.specs.Growing.{Continues, Keeps};
 ghost use Rattle.tg_sharing.specs.Marking.{AreMarks};
-ghost use Rattle.tg_sharing.specs.Prospects.{AreLabelsOf, IsGathered, IsProspect, IsTooMuch};
+ghost use Rattle.tg_sharing.specs.Prospects.{AreCould, AreLabelsOf, IsCould, IsGathered, IsProspect, IsTooMuch};
 
 use crate::builder::Derivation;
 use crate::marks::Marks;
+use crate::sharing::{Answer, can_share};
 use crate::withheld_for_ever;
 use std::alloc::{AllocError, Global};
 use tg_graph::{Goal, Graph, Step};
@@ -129,4 +130,55 @@ pub fn what_could(
         steps: derivation.steps,
         labels,
     }))
+}
+
+/// Whether rights can ever be shared, as `Answer` says it with steps.
+#[derive(Clone, Copy, PartialEq, Eq, Debug)]
+pub enum Could {
+    /// Whatever the subjects do, never.
+    Never,
+    /// Some steps lead there.
+    Ever,
+    /// Not known, since serials run out.
+    Unknown,
+}
+
+/// Whether the goal's rights can ever be shared.
+fn whether(alloc: Global, graph: &Graph, goal: Goal) -> Result<Could, AllocError>
+    requires from { IsVertex graph.now goal.from }
+    requires to { IsVertex graph.now goal.to }
+    ensures { IfOk result (IsCould graph.now goal) }
+{
+    match can_share(alloc, graph, goal)? {
+        Answer::Never => Ok(Could::Never),
+        Answer::By(_) => Ok(Could::Ever),
+        Answer::Unknown(_) => Ok(Could::Unknown),
+    }
+}
+
+/// Which of the vertices asked for could ever come to have the rights over `to`. Serials that are no vertex's are left
+/// out. Each vertex takes as long as `can_share`. `AllocError` if there is no memory for the answer.
+pub fn who_could(
+    alloc: Global,
+    graph: &Graph,
+    rights: Rights,
+    to: u64,
+    asked: &[u64],
+) -> Result<Vec<(u64, Could)>, AllocError>
+    requires { IsVertex graph.now to }
+    ensures { IfOk result (λ found. AreCould graph.now rights to asked.now found.items) }
+{
+    let mut found = Vec::new(alloc);
+    for vertex in asked {
+        if graph.kind(*vertex).is_some() {
+            let goal = Goal {
+                from: *vertex,
+                to,
+                rights,
+            };
+            let answer = whether(alloc, graph, goal)?;
+            found.push((*vertex, answer))?;
+        }
+    }
+    Ok(found)
 }

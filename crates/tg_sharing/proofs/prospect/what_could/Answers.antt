@@ -12,9 +12,12 @@ returns-then-not-branch c =
     let d = c.new-derivation.result in
     let e = c.gather_all.new.self in
     let same : d.graph ≡ G = c.new-derivation.ensures.graph ∙ c.in_ok-copy.ensures.equal in
-    let begun : Derives G d.steps.items d.graph = subst (λ (l : List Step). Derives G l d.graph) (sym c.new-derivation.ensures.steps) same in
-    (e.steps.items, e.graph, c.in_ok-gather_all.ensures.continues.derived G begun,
-    elim (c.in_ok-gather_all.ensures.ended c.if-not-branch.true) [ inl full ↦ inl full | inr many ↦ inr (let is = e.steps.ok.0 in omega (arith, many, is)) ])
+    let begun : Derives G d.steps.items d.graph = subst (λ (l : List Step). Derives G l d.graph) (sym c.new-derivation.ensures.steps) same in (
+      e.steps.items,
+      e.graph,
+      c.in_ok-gather_all.ensures.continues.derived G begun,
+      elim (c.in_ok-gather_all.ensures.ended c.if-not-branch.true) [ inl full ↦ inl full | inr many ↦ inr (let is = e.steps.ok.0 in omega (arith, many, is)) ],
+    )
 
 pub returns : goal.returns
 returns c =
