@@ -1,4 +1,4 @@
-use Rattle.std.proofs.Common.{◌≡◌, [], List, sym, subst, ◌∙◌, inl, inr, arith}
+use Rattle.std.proofs.Common.{◌≡◌, List, sym, subst, ◌∙◌, inl, inr, arith}
 use Rattle.tg_graph.specs.declared.derivation.Step.{Step}
 use Rattle.tg_graph.specs.Derivations.{Derives}
 use Rattle.tg_graph.specs.Protection.{Protection}
