@@ -1,9 +1,10 @@
 //! What no clause says: that answers come, and that the definitions give those of cases that were worked by hand.
 use crate::cases::{CASES, Case, SHARED, SPLIT, Want, graph, rights};
-use crate::{Answer, Could, can_share, what_could, who_could};
+use crate::{Answer, Could, Prospect, can_share, what_could, who_could};
 use std::alloc::{AllocError, Global};
 use std::process::Abort;
 use tg_graph::{Goal, Graph};
+use tg_rights::Rights;
 
 /// What the answer is.
 fn kind_of(answer: &Answer) -> Want {
@@ -45,13 +46,23 @@ fn answers_worked_by_hand(rt: HostRuntime) {
 }
 
 /// Whether the graph lends exactly these edges, in this order.
-fn lends(alloc: Global, case: &Case, wanted: &[(u64, &str, u64)]) -> Result<bool, AllocError> {
-    let graph = graph(alloc, case)?;
-    let mut found = Vec::new(alloc);
+fn lends(graph: &Graph, wanted: &[(u64, &str, u64)]) -> bool {
+    let mut left = wanted.iter();
     for (ends, label) in graph.labels() {
-        found.push((ends.0, label.letters(), ends.1))?;
+        let Some(edge) = left.next() else {
+            return false;
+        };
+        if ends.0 != edge.0 || label.letters() != edge.1 || ends.1 != edge.2 {
+            return false;
+        }
     }
-    Ok(found.as_slice() == wanted)
+    left.next().is_none()
+}
+
+/// Whether the graph of a case does.
+fn case_lends(alloc: Global, case: &Case, wanted: &[(u64, &str, u64)]) -> Result<bool, AllocError> {
+    let graph = graph(alloc, case)?;
+    Ok(lends(&graph, wanted))
 }
 
 #[test]
@@ -61,28 +72,55 @@ fn labels_are_lent_by_rising_ends(rt: HostRuntime) {
         deeds: SPLIT,
         ..SHARED
     };
-    let are_lent = lends(rt.alloc(), &case, wanted).expect(&rt, "memory");
+    let are_lent = case_lends(rt.alloc(), &case, wanted).expect(&rt, "memory");
     assert!(rt; are_lent);
 }
 
-/// Over whom the case's `from` could ever come to have rights, and which, by no more steps than these.
-fn prospect_of(
+/// Whether the label is the one that is wanted.
+fn is_label(vertex: u64, label: Rights, wanted: u64, letters: &str) -> bool {
+    vertex == wanted && label.letters() == letters
+}
+
+/// Whether these are the labels that are wanted.
+fn are_labels(found: &[(u64, Rights)], wanted: &[(u64, &str)]) -> bool {
+    found.len() == wanted.len()
+        && found
+            .iter()
+            .zip(wanted.iter())
+            .all(|(label, want)| is_label(label.0, label.1, want.0, want.1))
+}
+
+/// Whether the prospect is of exactly these rights.
+fn is_prospect(prospect: &Option<Prospect>, wanted: &[(u64, &str)]) -> bool {
+    match prospect {
+        Some(prospect) => are_labels(prospect.labels.as_slice(), wanted),
+        None => false,
+    }
+}
+
+/// All that the vertex could ever come to have, if it is there.
+fn prospect_in(
     alloc: Global,
-    case: &Case,
+    graph: &Graph,
+    from: u64,
     most: usize,
-) -> Result<Option<Vec<(u64, &'static str)>>, AllocError> {
-    let graph = graph(alloc, case)?;
-    if graph.kind(case.from).is_none() {
+) -> Result<Option<Prospect>, AllocError> {
+    if graph.kind(from).is_none() {
         return Ok(None);
     }
-    let Some(prospect) = what_could(alloc, &graph, case.from, most)? else {
-        return Ok(None);
-    };
-    let mut found = Vec::new(alloc);
-    for label in &prospect.labels {
-        found.push((label.0, label.1.letters()))?;
-    }
-    Ok(Some(found))
+    what_could(alloc, graph, from, most)
+}
+
+/// All that a vertex of the shared case could.
+fn prospect_of(alloc: Global, from: u64, most: usize) -> Result<Option<Prospect>, AllocError> {
+    let graph = graph(alloc, &SHARED)?;
+    prospect_in(alloc, &graph, from, most)
+}
+
+/// Whether a vertex of the shared case could ever come to have exactly these rights.
+fn has_prospect(alloc: Global, wanted: &(u64, &[(u64, &str)])) -> Result<bool, AllocError> {
+    let found = prospect_of(alloc, wanted.0, 100)?;
+    Ok(is_prospect(&found, wanted.1))
 }
 
 /// Each vertex of the shared case with all that it could have.
@@ -95,35 +133,46 @@ const PROSPECTS: &[(u64, &[(u64, &str)])] = &[
 
 #[test]
 fn prospects_worked_by_hand(rt: HostRuntime) {
-    for prospect in PROSPECTS {
-        let case = Case {
-            from: prospect.0,
-            ..SHARED
-        };
-        let found = prospect_of(rt.alloc(), &case, 100).expect(&rt, "memory");
-        let found = found.expect(&rt, "few steps");
-        assert!(rt; found.as_slice() == prospect.1, "from {}", prospect.0);
+    for wanted in PROSPECTS {
+        let has_it = has_prospect(rt.alloc(), wanted).expect(&rt, "memory");
+        assert!(rt; has_it, "from {}", wanted.0);
     }
-    let found = prospect_of(rt.alloc(), &SHARED, 0).expect(&rt, "memory");
-    assert!(rt; found.is_none());
 }
 
-/// Which of some vertices could ever come to have the case's rights.
-fn those_who_could(
+/// Whether no prospect is told of the vertex by no more steps than these.
+fn is_too_much(alloc: Global, from: u64, most: usize) -> Result<bool, AllocError> {
+    let found = prospect_of(alloc, from, most)?;
+    Ok(found.is_none())
+}
+
+#[test]
+fn prospects_are_given_up(rt: HostRuntime) {
+    let is_given_up = is_too_much(rt.alloc(), 2, 0).expect(&rt, "memory");
+    assert!(rt; is_given_up);
+}
+
+/// Which of some vertices could ever come to have the case's rights, if its `to` is there.
+fn those_in(
     alloc: Global,
+    graph: &Graph,
     case: &Case,
     asked: &[u64],
 ) -> Result<Vec<(u64, Could)>, AllocError> {
-    let graph = graph(alloc, case)?;
     if graph.kind(case.to).is_none() {
         return Ok(Vec::new(alloc));
     }
-    who_could(alloc, &graph, rights(case.rights), case.to, asked)
+    who_could(alloc, graph, rights(case.rights), case.to, asked)
+}
+
+/// Which of some vertices of the shared case could.
+fn those_who_could(alloc: Global, asked: &[u64]) -> Result<Vec<(u64, Could)>, AllocError> {
+    let graph = graph(alloc, &SHARED)?;
+    those_in(alloc, &graph, &SHARED, asked)
 }
 
 #[test]
 fn those_who_could_worked_by_hand(rt: HostRuntime) {
     let wanted = &[(1, Could::Ever), (2, Could::Ever), (4, Could::Never)];
-    let found = those_who_could(rt.alloc(), &SHARED, &[1, 2, 4, 5]).expect(&rt, "memory");
+    let found = those_who_could(rt.alloc(), &[1, 2, 4, 5]).expect(&rt, "memory");
     assert!(rt; found.as_slice() == wanted.as_slice());
 }
