@@ -1,7 +1,8 @@
 -- Steps of all kinds, carried over to a graph with the same rights by the four rules alone.
 use Rattle.std.proofs.Common.{◌≡◌, ℕ, ◌+◌, ◌≤◌, ◌==◌, List, [], ◌∷◌, Bool, true, false, cond, refl, sym, ap, subst, ◌∙◌, Some, None}
 use Rattle.std.specs.Prelude.{IsTrue, Option}
-use Rattle.std.specs.Option.{option_map, option_map_or}
+use Rattle.std.specs.List.{cons_option}
+use Rattle.std.specs.Option.{option_map}
 use Rattle.std.specs.Cmp.{nat_cmp_total, unsigned_tied}
 use Rattle.std.specs.FinMap as map
 use Rattle.std.specs.FinSet as set
@@ -140,10 +141,10 @@ Onward H K steps = (reached : Protection) × Derives H steps reached × HasRight
 
 pub carried : (H G K : Protection) (x : ℕ) (c : Command) (rest : List Step) → HasRightsOf H G → CarriesOut G (record { actor = x; command = c }) (after G x c) →
     ((L : Protection) → HasRightsOf L (after G x c) → Onward L K rest) →
-    Onward H K (option_map_or (λ t. t ∷ rest) (rewriting_step (record { actor = x; command = c })) rest)
+    Onward H K (cons_option (rewriting_step (record { actor = x; command = c })) rest)
 carried H G K x c rest h k onward = by (rewriting c) (rights_left H G x c h) (allows H G x c h k.allowed) where
   by : (o : Option Command) → Left H G x c o → Allows H x c o →
-      Onward H K (option_map_or (λ t. t ∷ rest) (option_map (λ d. record { actor = x; command = d }) o) rest)
+      Onward H K (cons_option (option_map (λ d. record { actor = x; command = d }) o) rest)
   by None left may = onward H left
   by (Some d) left may =
       let there = onward (after H x d) left in

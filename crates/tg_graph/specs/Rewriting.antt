@@ -1,6 +1,6 @@
 -- the four rules of the take-grant model alone do all that changes who has rights over whom
-use Rattle.std.specs.Prelude.{◌≡◌, ℕ, false, List, [], ◌∷◌, Option, Some, None}
-use Rattle.std.specs.Option.{option_map, option_map_or}
+use Rattle.std.specs.Prelude.{◌≡◌, ℕ, false, filter_map, List, Option, Some, None}
+use Rattle.std.specs.Option.{option_map}
 use Rattle.tg_rights.specs.declared.kind.Kind.TheVariants as kind
 use Rattle.tg_rights.specs.declared.command.Command.{Command}
 use Rattle.tg_rights.specs.declared.command.Command.TheVariants as command
@@ -29,8 +29,7 @@ rewriting_step s = option_map (λ c. record { actor = s.actor; command = c }) (r
 
 -- the steps of a list that change edges, by the four rules
 abbrev pub rewriting_steps : List Step → List Step
-rewriting_steps [] = []
-rewriting_steps (s ∷ ss) = option_map_or (λ t. t ∷ rewriting_steps ss) (rewriting_step s) (rewriting_steps ss)
+rewriting_steps steps = filter_map rewriting_step steps
 
 -- H has the kinds, the edges and the next serial of G, and in H nobody has retired
 pub record HasRightsOf (H G : Protection) : Type 0 where

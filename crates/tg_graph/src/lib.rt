@@ -16,7 +16,7 @@ mod search;
 mod vertex;
 
 pub use config::{Config, OpenFault};
-pub use derivation::{Goal, Step, Verdict};
+pub use derivation::{Goal, Step, Verdict, rewriting_step};
 pub use graph::{Graph, LAST_SERIAL};
 pub use member::{Member, serial_of};
 pub use parts::Parts;
