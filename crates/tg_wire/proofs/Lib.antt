@@ -13,3 +13,4 @@ pub mod LineTextLemmas
 pub mod RepliesLemmas
 pub mod WorkedLinesLemmas
 pub mod LawsLemmas
+mod StepLinesLemmas

@@ -11,3 +11,5 @@ pub mod Replies
 pub mod Runs
 pub mod Told
 pub mod Answers
+pub mod StepLines
+pub mod Unshared

@@ -15,16 +15,23 @@ mod op;
 mod read;
 mod refusal;
 mod scan;
+mod unshared;
 mod write;
+mod write_step;
 
 pub use config::{read_config, read_goal};
 pub use fault::WireFault;
-pub use laws::{configs_say, goals_say, lines_say, one_reply_a_line, steps_say, worked_lines};
+pub use laws::{
+    configs_say, goals_read_back, goals_say, lines_say, one_reply_a_line, steps_read_back,
+    steps_say, worked_lines,
+};
 pub use line::{LONGEST_LINE, Line};
 pub use line_room::LineRoom;
 pub use read::{read_line, read_step};
 pub use refusal::{error_line, open_fault_line};
+pub use unshared::{Unshared, write_unshared_in};
 pub use write::{
     write_answer, write_answer_in, write_reply, write_reply_in, write_swept, write_swept_in,
     write_verdict,
 };
+pub use write_step::{goal_reads_back, step_reads_back, write_goal_in, write_step_in};

@@ -1,0 +1,12 @@
+use Rattle.std.proofs.Common.{◌≡◌, IfOk, sym, subst}
+use Rattle.tg_wire.specs.Unshared.{unshared_line}
+use Rattle.tg_wire.specs.declared.unshared.Unshared.{Unshared}
+use Rattle.tg_wire.proofs.unshared.write_unshared_in.Goals as goal
+
+pub returns-in-NoSerial : goal.returns-in-NoSerial
+unfolding unshared_line
+returns-in-NoSerial c = subst (λ (u : Unshared). IfOk c.worded_line-in-NoSerial.result (λ line. line.items ≡ unshared_line u)) (sym c.in-NoSerial.is) c.worded_line-in-NoSerial.ensures
+
+pub returns-in-NoPrincipal : goal.returns-in-NoPrincipal
+unfolding unshared_line
+returns-in-NoPrincipal c = subst (λ (u : Unshared). IfOk c.worded_line-in-NoPrincipal.result (λ line. line.items ≡ unshared_line u)) (sym c.in-NoPrincipal.is) c.worded_line-in-NoPrincipal.ensures

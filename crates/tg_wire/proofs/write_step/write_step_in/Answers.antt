@@ -1,0 +1,11 @@
+use Rattle.std.proofs.Common.{◌≡◌, IfOk, sym, subst}
+use Rattle.serde_json.specs.Data.{object}
+use Rattle.tg_rights.specs.declared.command.Command.{Command}
+use Rattle.tg_wire.specs.Faults.{line_text}
+use Rattle.tg_wire.specs.StepLines.{step_line, step_members}
+use Rattle.tg_wire.proofs.write_step.write_step_in.Goals as goal
+
+pub returns-in-Take : goal.returns-in-Take
+unfolding step_line
+returns-in-Take c =
+    subst (λ (k : Command). IfOk c.object_line.result (λ line. line.items ≡ line_text (object (step_members c.args.step.now.actor k)))) (sym c.in-Take.is) c.object_line.ensures
