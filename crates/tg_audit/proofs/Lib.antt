@@ -7,3 +7,4 @@ mod VerdictLemmas
 mod OnePlaceLemmas
 mod OneVerdictLemmas
 mod ReplayLemmas
+mod DerivedLemmas

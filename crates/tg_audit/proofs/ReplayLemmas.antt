@@ -115,7 +115,7 @@ left_asks v G n e left at = asks_subject (take n v.history) G e.seat e.actor lef
 pub left_permitted : (v : Contents) (G : Protection) (n : ℕ) (e : Entry) → IsLeft v G n → slice_get v.history n ≡ Some e → (limits : Limits) × Permitted limits G e.actor e.command e.outcome
 left_permitted v G n e left at = (v.limits, (left_step v G n e left at).1.1)
 
-left_more : (v : Contents) (G H : Protection) (n : ℕ) (e : Entry) → IsLeft v G n → slice_get v.history n ≡ Some e → H ≡ next_graph G e.actor e.command e.outcome → IsLeft v H (n + 1)
+pub left_more : (v : Contents) (G H : Protection) (n : ℕ) (e : Entry) → IsLeft v G n → slice_get v.history n ≡ Some e → H ≡ next_graph G e.actor e.command e.outcome → IsLeft v H (n + 1)
 left_more v G H n e left at graph =
     let next : n + 1 ≡ suc n = omega arith in
     let run = left_step v G n e left at in

@@ -4,3 +4,4 @@ pub mod Replies
 pub mod Settling
 pub mod Following
 pub mod Laws
+pub mod Derived

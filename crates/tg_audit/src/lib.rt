@@ -1,15 +1,18 @@
 //! The auditor: derivations over the plain graph, and whether callers received what the history says.
 #![tactic(auto)]
 
+ghost use Rattle.tg_audit.specs.Derived.{HistoriesDerive};
 ghost use Rattle.tg_audit.specs.Laws.{AgreedCounts, ExactlyOnePlace, ExactlyOneVerdict};
 
 mod derivations;
 mod following;
+mod histories;
 mod logs;
 mod replaying;
 mod settling;
 
 pub use derivations::check;
+pub use histories::{derivation, graph_of_history};
 pub use logs::{Exchange, SeatLog, Settled};
 pub use replaying::replay;
 pub use settling::settle;
@@ -30,4 +33,10 @@ pub fn exactly_one_place()
 /// If the logs agree with the history for each seat, they have as many exchanges as it has entries.
 pub fn agreed_counts()
     ensures { AgreedCounts }
+{}
+
+/// The steps of a legal history lead from each graph with the kinds, edges and next serial of its opening, in which
+/// nobody has retired, to one with those of the graph that the history leaves.
+pub fn histories_derive()
+    ensures { HistoriesDerive }
 {}
