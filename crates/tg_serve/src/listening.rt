@@ -107,6 +107,7 @@ fn read_vault<R: Read>(
 ) -> Result<Vault, &'static [u8]>
     requires reads { has_failed reader.old ≡ false }
     ensures empty { IfOk result (λ vault. vault.history ≡ []) }
+    ensures key { IfOk result (λ vault. vault.store.key ≡ key) }
     ensures opened { IfOk result (λ vault. IfSome (R.remaining (device_of reader.old)) (OpensBytes vault)) }
     ensures silent { IfErr result (λ text. (text.now ≡ []) ↔ (has_failed reader.new ≡ true)) }
     ensures refused { IfErr result (λ text. IfSome (R.remaining (device_of reader.old)) (RefusesBytes text.now)) }

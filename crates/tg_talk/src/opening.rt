@@ -10,6 +10,7 @@ use tg_wire::{error_line, open_fault_line, read_config};
 /// of the line's own fault, of the first fault of the configuration, or `out of memory`.
 pub fn open_vault(alloc: Global, key: Key, line: &[u8]) -> Result<Vault, &'static [u8]>
     ensures ok { IfOk result (Opens line.now) }
+    ensures key { IfOk result (λ vault. vault.store.key ≡ key) }
     ensures err { IfErr result (λ text. RefusesOpening line.now text.now) }
 {
     match read_config(alloc, line) {
