@@ -13,8 +13,8 @@ use Rattle.tg_talk.proofs.AnsweringLemmas.{Follows, followed}
 use Rattle.tg_talk.proofs.SendsLemmas.{last_whole, sends_behind}
 use Rattle.tgdoc.specs.Runs.{Steps, VaultRan}
 use Rattle.tgdoc.specs.Running.{InputLeft}
-use Rattle.tgdoc.specs.Drawing.{ArtistSays, EndsDrawing, stops, draws}
-use Rattle.tgdoc.specs.Drawings.{DrawSays, DrawnAtEnd, LinesDrawn, PicturesTold, Reached, Shown, at_end, cut_off, is_broken}
+use Rattle.tgdoc.specs.Drawing.{ArtistSays, EndsWith, rests, writes}
+use Rattle.tgdoc.specs.Drawings.{DrawSays, EachOrLast, Ending, LinesDrawn, Reached, Shown, WrittenAtEnd, at_end, cut_off, is_broken}
 use Rattle.tgdoc.specs.declared.pictures.Artist.{Artist}
 use Rattle.tgdoc.proofs.RestLemmas.{runs_more}
 
@@ -56,44 +56,55 @@ lines_led join artist now u v n finished old new failed xs one rest =
     finished.fault finished.lines finished.errors rest.before rest.last (record { run = refl; vault = refl; same = refl }) (rw one at rest.told) in
     record { steps = reached.steps; after = reached.vault; run = led.run; vault = led.vault; told = told }
 
-module _ (start : Contents) (steps : Steps) (after : Contents) (ls : List (List ℕ)) where
-  told_stops : (each : Bool) (finished : Finished) (before last : List ℕ) → LinesDrawn each start steps after ls finished before last → (each ≡ true) ⊎ (is_broken finished.fault ≡ true)
-      → PicturesTold each start steps after ls finished before last
-  told_stops true finished before last told why = told
-  told_stops false finished before last told (inl never) = absurd (true≢false (sym never))
-  told_stops false finished before last told (inr broken) = cut_off told broken
+module _ (stops : Option TalkFault → Bool) (Writes : Ending) where
+  module _ (start : Contents) (steps : Steps) (after : Contents) (ls : List (List ℕ)) where
+    told_rests : (each : Bool) (finished : Finished) (before last : List ℕ) → LinesDrawn each start steps after ls finished before last → (each ≡ true) ⊎ (stops finished.fault ≡ true)
+        → EachOrLast stops Writes each start steps after ls finished before last
+    told_rests true finished before last told why = told
+    told_rests false finished before last told (inl never) = absurd (true≢false (sym never))
+    told_rests false finished before last told (inr stopped) = cut_off told stopped
 
-  told_last : (each : Bool) (ended finished : Finished) (failed : Bool) (first refusal text : List ℕ) → each ≡ false → LinesDrawn each start steps after ls ended first refusal → is_broken ended.fault ≡ false
-      → DrawnAtEnd after ended finished failed text → PicturesTold each start steps after ls finished (first ++ refusal) text
-  told_last true ended finished failed first refusal text never told fine drawn = absurd (true≢false never)
-  told_last false ended finished failed first refusal text only told fine drawn = at_end ended failed first refusal told fine drawn refl
+    told_last : (each : Bool) (ended finished : Finished) (failed : Bool) (first refusal text : List ℕ) → each ≡ false → LinesDrawn each start steps after ls ended first refusal → stops ended.fault ≡ false
+        → WrittenAtEnd (Writes after ended) ended finished failed text → EachOrLast stops Writes each start steps after ls finished (first ++ refusal) text
+    told_last true ended finished failed first refusal text never told fine written = absurd (true≢false never)
+    told_last false ended finished failed first refusal text only told fine written = at_end ended failed first refusal told fine written refl
 
-pub pictures_left : CoursesJoin → (artist now : Artist) (u v : Unit {0}) (n : ℕ) (ended finished : Finished) (old between new : Option (List ℕ)) (was failed : Bool) (xs : List ℕ) → n ≡ 1 → now.each ≡ artist.each
-    → EndsDrawing now ended finished between was new failed → RestAnswered {S = Artist × Unit {0}} (both ArtistSays) (artist, u) n (now, v) ended old between was xs → InputLeft (PicturesTold artist.each) artist.vault finished old new failed xs
-pictures_left join artist now u v n ended finished old between new was failed xs one same (stops why is kept still) rest =
-    let led = lines_led join artist now u v n ended old between was xs one rest in
-    let each : (artist.each ≡ true) ⊎ (is_broken ended.fault ≡ true) = subst (λ (b : Bool). (b ≡ true) ⊎ (is_broken ended.fault ≡ true)) same why in
-    rw (is, kept, still) (record {
-      steps = led.steps;
-      after = led.after;
-      run = led.run;
-      before = rest.before;
-      last = rest.last;
-      told = told_stops artist.vault led.steps led.after (lines_of xs) artist.each ended rest.before rest.last led.told each;
-      sent = rest.sent;
-    })
-pictures_left join artist now u v n ended finished old between new was failed xs one same (draws only fine whole last) rest =
-    let led = lines_led join artist now u v n ended old between was xs one rest in
-    let drawn : DrawnAtEnd led.after ended finished failed last.text = subst (λ (w : Contents). DrawnAtEnd w ended finished failed last.text) (sym led.vault) last.drawn in
-    record {
-      steps = led.steps;
-      after = led.after;
-      run = led.run;
-      before = rest.before ++ rest.last;
-      last = last.text;
-      told = told_last artist.vault led.steps led.after (lines_of xs) artist.each ended finished failed rest.before rest.last last.text (sym same ∙ only) led.told fine drawn;
-      sent = sends_behind old between new failed (rest.before ++ rest.last) last.text (last_whole old between was rest.before rest.last whole rest.sent) last.sent;
-    }
+  pub last_left : CoursesJoin → (artist now : Artist) (u v : Unit {0}) (n : ℕ) (ended finished : Finished) (old between new : Option (List ℕ)) (was failed : Bool) (xs : List ℕ) → n ≡ 1 → now.each ≡ artist.each
+      → EndsWith now.each stops (Writes now.vault) ended finished between was new failed → RestAnswered {S = Artist × Unit {0}} (both ArtistSays) (artist, u) n (now, v) ended old between was xs
+      → InputLeft (EachOrLast stops Writes artist.each) artist.vault finished old new failed xs
+  last_left join artist now u v n ended finished old between new was failed xs one same (rests why is kept still) rest =
+      let led = lines_led join artist now u v n ended old between was xs one rest in
+      let each : (artist.each ≡ true) ⊎ (stops ended.fault ≡ true) = subst (λ (b : Bool). (b ≡ true) ⊎ (stops ended.fault ≡ true)) same why in
+      rw (is, kept, still) (record {
+        steps = led.steps;
+        after = led.after;
+        run = led.run;
+        before = rest.before;
+        last = rest.last;
+        told = told_rests artist.vault led.steps led.after (lines_of xs) artist.each ended rest.before rest.last led.told each;
+        sent = rest.sent;
+      })
+  last_left join artist now u v n ended finished old between new was failed xs one same (writes only fine whole last) rest =
+      let led = lines_led join artist now u v n ended old between was xs one rest in
+      let written : WrittenAtEnd (Writes led.after ended) ended finished failed last.text = subst (λ (w : Contents). WrittenAtEnd (Writes w ended) ended finished failed last.text) (sym led.vault) last.written in
+      record {
+        steps = led.steps;
+        after = led.after;
+        run = led.run;
+        before = rest.before ++ rest.last;
+        last = last.text;
+        told = told_last artist.vault led.steps led.after (lines_of xs) artist.each ended finished failed rest.before rest.last last.text (sym same ∙ only) led.told fine written;
+        sent = sends_behind old between new failed (rest.before ++ rest.last) last.text (last_whole old between was rest.before rest.last whole rest.sent) last.sent;
+      }
+
+  -- the same of one who never writes anything for a line
+  pub answer_left : CoursesJoin → (artist now : Artist) (u v : Unit {0}) (n : ℕ) (ended finished : Finished) (old between new : Option (List ℕ)) (was failed : Bool) (xs : List ℕ) → n ≡ 1 → now.each ≡ artist.each → artist.each ≡ false
+      → EndsWith false stops (Writes now.vault) ended finished between was new failed → RestAnswered {S = Artist × Unit {0}} (both ArtistSays) (artist, u) n (now, v) ended old between was xs
+      → InputLeft (EachOrLast stops Writes false) artist.vault finished old new failed xs
+  answer_left join artist now u v n ended finished old between new was failed xs one same quiet ends rest =
+      let end = subst (λ (b : Bool). EndsWith b stops (Writes now.vault) ended finished between was new failed) (sym (same ∙ quiet)) ends in
+      subst (λ (b : Bool). InputLeft (EachOrLast stops Writes b) artist.vault finished old new failed xs) quiet
+      (last_left join artist now u v n ended finished old between new was failed xs one same end rest)
 
 -- the fault of an ending that draws the last vault is the one before, or that the writer failed
 pub fine_other : (f : Option TalkFault) → is_broken f ≡ false → f ≢ Some talk.Writing

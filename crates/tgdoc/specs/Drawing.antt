@@ -1,10 +1,10 @@
 -- what is done to draw the vault for a line, and at the end
 use Rattle.std.specs.Prelude.{◌≡◌, ℕ, List, Bool, true, false, Option, ◌⊎◌}
-use Rattle.tg_vault.specs.Contents.{Contents}
 use Rattle.tg_talk.specs.Answering.{Saying, goes_on, closes, unanswered}
 use Rattle.tg_talk.specs.Devices.{Sends}
 use Rattle.tg_talk.specs.declared.answering.Finished.{Finished}
-use Rattle.tgdoc.specs.Drawings.{DrawnAtEnd, Shown, is_broken}
+use Rattle.tg_talk.specs.declared.fault.TalkFault.{TalkFault}
+use Rattle.tgdoc.specs.Drawings.{PictureAtEnd, Shown, WrittenAtEnd, is_broken}
 use Rattle.tgdoc.specs.Running.{AnswersLine}
 use Rattle.tgdoc.specs.declared.pictures.Artist.{Artist}
 
@@ -22,13 +22,18 @@ ArtistSays old u line (goes_on text errors) new v = ArtistDraws old line text er
 ArtistSays old u line (closes text errors) new v = ⊥
 ArtistSays old u line unanswered new v = ⊥
 
--- the vault is drawn after the last line, once the lines have ended in this way
-pub record DrawnLast (v : Contents) (ended finished : Finished) (old new : Option (List ℕ)) (failed : Bool) : Type 0 where
+-- a text is written after the last line, once the lines have ended in this way
+pub record WrittenLast (Writes : List ℕ → Bool → Type 0) (ended finished : Finished) (old new : Option (List ℕ)) (failed : Bool) : Type 0 where
   pub text : List ℕ
-  pub drawn : DrawnAtEnd v ended finished failed text
+  pub written : WrittenAtEnd Writes ended finished failed text
   pub sent : Sends old new failed text
 
--- once the lines have ended in this way, nothing more is drawn, or the last vault
-pub data EndsDrawing (artist : Artist) (ended finished : Finished) (old : Option (List ℕ)) (was : Bool) (new : Option (List ℕ)) (failed : Bool) : Type 0 where
-  stops : (artist.each ≡ true) ⊎ (is_broken ended.fault ≡ true) → finished ≡ ended → new ≡ old → failed ≡ was → EndsDrawing artist ended finished old was new failed
-  draws : artist.each ≡ false → is_broken ended.fault ≡ false → was ≡ false → DrawnLast artist.vault ended finished old new failed → EndsDrawing artist ended finished old was new failed
+-- once the lines have ended in this way, nothing more is written, since each has its picture or the way stops it; or the
+-- last text
+pub data EndsWith (each : Bool) (stops : Option TalkFault → Bool) (Writes : Finished → List ℕ → Bool → Type 0) (ended finished : Finished) (old : Option (List ℕ)) (was : Bool) (new : Option (List ℕ)) (failed : Bool) : Type 0 where
+  rests : (each ≡ true) ⊎ (stops ended.fault ≡ true) → finished ≡ ended → new ≡ old → failed ≡ was → EndsWith each stops Writes ended finished old was new failed
+  writes : each ≡ false → stops ended.fault ≡ false → was ≡ false → WrittenLast (Writes ended) ended finished old new failed → EndsWith each stops Writes ended finished old was new failed
+
+-- the last picture, if there is one
+abbrev pub EndsDrawing : Artist → (ended finished : Finished) → (old : Option (List ℕ)) → (was : Bool) → (new : Option (List ℕ)) → (failed : Bool) → Type 0
+EndsDrawing artist ended finished old was new failed = EndsWith artist.each is_broken (PictureAtEnd artist.vault) ended finished old was new failed

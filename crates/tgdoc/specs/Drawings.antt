@@ -9,9 +9,7 @@ use Rattle.tg_talk.specs.Endings.{EndsOnce}
 use Rattle.tg_talk.specs.declared.answering.Finished.{Finished}
 use Rattle.tg_talk.specs.declared.fault.TalkFault.{TalkFault}
 use Rattle.tg_talk.specs.declared.fault.TalkFault.TheVariants as talk
-use Rattle.tgdoc.specs.declared.run.Output.{Output}
-use Rattle.tgdoc.specs.declared.run.Output.TheVariants as how
-use Rattle.tgdoc.specs.Runs.{AnswersTold, InputRan, LineAnswer, Steps, Telling, VaultRan}
+use Rattle.tgdoc.specs.Runs.{InputRan, LineAnswer, Steps, Telling, VaultRan}
 
 -- how far a run has come: the events that the vault carried out, each with its answer, and the vault then
 pub record Reached : Type 0 where
@@ -75,29 +73,37 @@ is_broken (Some talk.TooLong) = false
 is_broken (Some talk.TooMany) = false
 is_broken (Some talk.OutOfMemory) = false
 
--- the vault after the last line is drawn, behind what was written before
-pub record DrawnAtEnd (v : Contents) (ended finished : Finished) (failed : Bool) (text : List ℕ) : Type 0 where
-  pub lacks : Bool
-  pub pictured : Pictured v (ends_label ended.lines ended.errors) text lacks
+-- what is written after the lines, if they ended in this way: of the vault then, a text and whether it counts as an
+-- `error` line
+abbrev pub Ending : Type 1
+Ending = Contents → Finished → List ℕ → Bool → Type 0
+
+-- a text is written after the lines, behind what was written before
+pub record WrittenAtEnd (Writes : List ℕ → Bool → Type 0) (ended finished : Finished) (failed : Bool) (text : List ℕ) : Type 0 where
+  pub is_error : Bool
+  pub written : Writes text is_error
   pub lines : finished.lines ≡ ended.lines
-  pub errors : finished.errors ≡ ended.errors + one_if lacks
+  pub errors : finished.errors ≡ ended.errors + one_if is_error
   pub fault : EndsOnce ended.fault failed finished.fault
 
--- only the last vault is drawn; nothing is, if the reader or the writer failed before
-pub data LastDrawn (start : Contents) (steps : Steps) (after : Contents) (ls : List (List ℕ)) (finished : Finished) (before last : List ℕ) : Type 0 where
-  at_end : (ended : Finished) (failed : Bool) (first refusal : List ℕ) → LinesDrawn false start steps after ls ended first refusal → is_broken ended.fault ≡ false
-      → DrawnAtEnd after ended finished failed last → before ≡ first ++ refusal → LastDrawn start steps after ls finished before last
-  cut_off : LinesDrawn false start steps after ls finished before last → is_broken finished.fault ≡ true → LastDrawn start steps after ls finished before last
+-- nothing is written for a line; a text is after the last one, unless the lines ended in a way that stops it
+pub data LastWritten (stops : Option TalkFault → Bool) (Writes : Ending) (start : Contents) (steps : Steps) (after : Contents) (ls : List (List ℕ)) (finished : Finished) (before last : List ℕ) : Type 0 where
+  at_end : (ended : Finished) (failed : Bool) (first refusal : List ℕ) → LinesDrawn false start steps after ls ended first refusal → stops ended.fault ≡ false
+      → WrittenAtEnd (Writes after ended) ended finished failed last → before ≡ first ++ refusal → LastWritten stops Writes start steps after ls finished before last
+  cut_off : LinesDrawn false start steps after ls finished before last → stops finished.fault ≡ true → LastWritten stops Writes start steps after ls finished before last
+
+-- something is written for each line, or a text after the last one
+abbrev pub EachOrLast : (Option TalkFault → Bool) → Ending → Bool → Telling
+EachOrLast stops Writes true = LinesDrawn true
+EachOrLast stops Writes false = LastWritten stops Writes
+
+-- the picture of the last vault
+abbrev pub PictureAtEnd : Ending
+PictureAtEnd v ended text lacks = Pictured v (ends_label ended.lines ended.errors) text lacks
 
 -- each vault is drawn, or the last one
 abbrev pub PicturesTold : Bool → Telling
-PicturesTold true = LinesDrawn true
-PicturesTold false = LastDrawn
-
--- what is told in each way
-abbrev pub Told : Output → Telling
-Told how.Answers = AnswersTold
-Told (how.Pictures each) = PicturesTold each
+PicturesTold each = EachOrLast is_broken PictureAtEnd each
 
 -- what a whole run that is drawn does if the reader has the bytes input
 abbrev pub LinesDrew : Bool → Finished → (old new : Option (List ℕ)) (failed : Bool) → List ℕ → Type 0

@@ -6,8 +6,10 @@ use Rattle.tgdoc.specs.declared.LineMode.TheVariants as line_mode
 use Rattle.tgdoc.specs.Audits.{BytesAudited}
 use Rattle.tgdoc.specs.Drawings.{LinesDrew}
 use Rattle.tgdoc.specs.Runs.{LinesRan}
+use Rattle.tgdoc.specs.Sharing.{LinesShared}
 
 abbrev pub Processed : LineMode → Finished → (old new : Option (List ℕ)) (failed : Bool) → List ℕ → Type 0
 Processed line_mode.Run finished old new failed input = LinesRan finished old new failed input
 Processed line_mode.Audit finished old new failed input = BytesAudited finished old new failed input
 Processed (line_mode.Draw each) finished old new failed input = LinesDrew each finished old new failed input
+Processed (line_mode.Share question) finished old new failed input = LinesShared question.now finished old new failed input

@@ -4,8 +4,8 @@ ghost use Rattle.tg_draw.specs.Picture.{Draws};
 ghost use Rattle.tg_talk.specs.Answering.{is_wrong, one_if, text_of};
 ghost use Rattle.tg_talk.specs.Devices.{has_failed, owed, promised};
 ghost use Rattle.tg_talk.specs.declared.fault.TalkFault.TheVariants.{OutOfMemory, Reading, Writing};
-ghost use Rattle.tgdoc.specs.Drawings.{DrawnFor, Shown, ends_label, is_broken, line_label};
-ghost use Rattle.tgdoc.specs.Drawing.{ArtistSays, DrawnLast, EndsDrawing};
+ghost use Rattle.tgdoc.specs.Drawings.{DrawnFor, PictureAtEnd, Shown, ends_label, is_broken, line_label};
+ghost use Rattle.tgdoc.specs.Drawing.{ArtistSays, EndsDrawing, WrittenLast};
 
 use crate::answer::answer;
 use crate::finish::finish;
@@ -28,7 +28,7 @@ pub(crate) struct Artist {
 impl Responder for Artist {
     type Carried = ();
 
-    ghost stays = { λ start now carried. now.each ≡ start.each };
+    ghost stays = { λ start now carried. (now.each ≡ start.each) × (now.vault.opening ≡ start.vault.opening) };
 
     ghost says = { ArtistSays };
 
@@ -178,7 +178,7 @@ fn draw_last<W: Write + Drop>(
     ensures paid { has_failed writer.new ≡ false → owed writer.new ≡ [] }
     ensures writing { (has_failed writer.new ≡ true) ↔ (result.fault ≡ Some Writing) }
     ensures lines { result.lines ≡ ended.lines }
-    ensures drawn { DrawnLast vault.now ended result (promised W.contents writer.old) (promised W.contents writer.new) (has_failed writer.new) }
+    ensures written { WrittenLast (PictureAtEnd vault.now ended) ended result (promised W.contents writer.old) (promised W.contents writer.new) (has_failed writer.new) }
 {
     match draw_end(alloc, vault, ended.lines, ended.errors) {
         Err(_) => {

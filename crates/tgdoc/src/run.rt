@@ -4,7 +4,10 @@ ghost use Rattle.std.specs.Prelude.{◌≡◌, ◌≢◌, IfSome, IfOk, IfErr, S
 ghost use Rattle.std.specs.Io.KnownBytes.{prepend_known};
 ghost use Rattle.tg_talk.specs.Devices.{device_of, has_failed, promised};
 ghost use Rattle.tg_talk.specs.declared.fault.TalkFault.TheVariants.{OutOfMemory};
-ghost use Rattle.tgdoc.specs.Drawings.{LinesDrew, Told};
+ghost use Rattle.tg_talk.specs.Opening.{Opens};
+ghost use Rattle.tgdoc.specs.Drawings.{LinesDrew};
+ghost use Rattle.tgdoc.specs.Outputs.{Told};
+ghost use Rattle.tgdoc.specs.Sharing.{LinesShared};
 ghost use Rattle.tgdoc.specs.Ready.{AreReady, Reports};
 ghost use Rattle.tgdoc.specs.Runs.{InputRan, LinesRan};
 ghost use Rattle.tgdoc.specs.Running.{InputLeft};
@@ -12,7 +15,9 @@ ghost use Rattle.tgdoc.specs.Running.{InputLeft};
 use crate::answer::Runner;
 use crate::finish::{finish, none_taken};
 use crate::pictures::{Artist, end_drawing};
-use std::alloc::Global;
+use crate::question::Question;
+use crate::sharing::end_sharing;
+use std::alloc::{AllocError, Global};
 use std::io::{BufWriter, Read, Write};
 use tg_talk::{Finished, InputLines, Next, Over, TalkFault, Watched, answer_lines, open_vault};
 use tg_vault::{Key, Vault, courses_have_the_headline, courses_join};
@@ -20,11 +25,13 @@ use tg_wire::{WireFault, error_line};
 
 /// What is written for the lines of a run.
 #[derive(Clone, Copy)]
-pub(crate) enum Output {
+pub(crate) enum Output<'q> {
     /// The answer to each.
     Answers,
     /// Pictures of the vault: after each line, or only after the last one.
     Pictures { each: bool },
+    /// The answer to a question about the graph, after the last one.
+    Sharing { question: &'q Question },
 }
 
 /// Reads a configuration line and then event lines, and answers each. Answers to lines that came together are written
@@ -66,17 +73,39 @@ pub fn draw_lines<R: Read, W: Write + Drop>(
     take_lines(alloc, Output::Pictures { each }, reader, writer)
 }
 
+/// Carries out lines as `run_lines` does, without their answers, and then answers whether rights can ever be shared in
+/// the graph to which they led, whatever its subjects do: in the plain graph of all commands that were carried out, of
+/// which no vertex is collected. For a yes it writes a derivation for `audit_lines`: the configuration line, the goal, the
+/// commands that changed edges, and steps that lead to the goal; or these steps alone, if the question asks for that. A
+/// no is `{"verdict":"never"}`. `{"verdict":"no serial"}` says that it took more new vertices than serials are left. If a
+/// word of the question names no vertex, the answer is `{"error":"no vertex","vertex":N}` or `{"error":"no principal"}`. A
+/// refused configuration, and a line that ends the run, are answered as by `run_lines`, and the question is not; nor is
+/// it if the reader or the writer fails. If there is no memory for the answer, `out of memory` is written in its place.
+pub fn share_lines<R: Read, W: Write + Drop>(
+    alloc: Global,
+    question: &Question,
+    reader: &mut Watched<R>,
+    writer: &mut Watched<BufWriter<W>>,
+) -> Finished
+    requires { AreReady reader.old writer.old }
+    ensures report { Reports R.remaining result reader.old reader.new writer.new }
+    ensures shared { IfSome (R.remaining (device_of reader.old))
+        (LinesShared question.now result (promised W.contents writer.old) (promised W.contents writer.new) (has_failed writer.new)) }
+{
+    take_lines(alloc, Output::Sharing { question }, reader, writer)
+}
+
 /// Reads a configuration line and then event lines, and writes for them what is asked for.
 fn take_lines<R: Read, W: Write + Drop>(
     alloc: Global,
-    how: Output,
+    how: Output<'_>,
     reader: &mut Watched<R>,
     writer: &mut Watched<BufWriter<W>>,
 ) -> Finished
     requires { AreReady reader.old writer.old }
     ensures report { Reports R.remaining result reader.old reader.new writer.new }
     ensures ran { IfSome (R.remaining (device_of reader.old))
-        (InputRan (Told how) result (promised W.contents writer.old) (promised W.contents writer.new) (has_failed writer.new)) }
+        (InputRan (Told how.entry) result (promised W.contents writer.old) (promised W.contents writer.new) (has_failed writer.new)) }
 {
     courses_have_the_headline();
     let Ok(mut input) = InputLines::new(alloc) else {
@@ -103,18 +132,19 @@ fn take_lines<R: Read, W: Write + Drop>(
 /// Carries out the lines after the configuration, and writes for them what is asked for.
 fn take_rest<R: Read, W: Write + Drop>(
     alloc: Global,
-    how: Output,
+    how: Output<'_>,
     vault: Vault,
     input: InputLines,
     reader: &mut Watched<R>,
     writer: &mut Watched<BufWriter<W>>,
 ) -> Finished
     requires one { input.taken ≡ 1 }
+    requires opens { Opens input.line vault }
     requires ready { AreReady reader.old writer.old }
     ensures report { Reports R.remaining result reader.old reader.new writer.new }
     ensures memory { result.fault ≢ Some OutOfMemory }
     ensures told { IfSome (prepend_known input.left (R.remaining (device_of reader.old)))
-        (InputLeft (Told how) vault result (promised W.contents writer.old) (promised W.contents writer.new) (has_failed writer.new)) }
+        (InputLeft (Told how.entry) vault result (promised W.contents writer.old) (promised W.contents writer.new) (has_failed writer.new)) }
 {
     courses_join();
     match how {
@@ -134,5 +164,26 @@ fn take_rest<R: Read, W: Write + Drop>(
             } = answer_lines(alloc, input, &mut artist, (), reader, writer);
             end_drawing(&artist, finished, writer)
         }
+        Output::Sharing { question } => {
+            let first = copied(alloc, input.line());
+            let mut artist = Artist {
+                alloc,
+                vault,
+                each: false,
+            };
+            let Over {
+                carried: (),
+                finished,
+            } = answer_lines(alloc, input, &mut artist, (), reader, writer);
+            end_sharing(alloc, &artist.vault, &first, question, finished, writer)
+        }
     }
+}
+
+fn copied(alloc: Global, line: &[u8]) -> Result<Vec<u8>, AllocError>
+    ensures { IfOk result (λ bytes. bytes.items ≡ line.now) }
+{
+    let mut bytes = Vec::new(alloc);
+    bytes.extend_from_slice(line)?;
+    Ok(bytes)
 }

@@ -1,9 +1,10 @@
 //! Words of the command line, and the modes that they ask for.
 
 use crate::reading::bytes_in;
-use crate::{Mode, Operating, mode};
+use crate::{Mode, Operating, Question, VertexName, mode};
 use clap::Error;
 use std::alloc::Global;
+use tg_rights::Rights;
 
 /// Words that ask for a server, without a number of workers.
 pub(crate) const SERVER: &[&str] = &[
@@ -80,6 +81,38 @@ fn the_last_vault_is_drawn_or_each(rt: HostRuntime) {
     assert!(rt; draws(rt.alloc(), &["tgdoc", "draw", "--each"]) == Some(true));
     assert!(rt; draws(rt.alloc(), &["tgdoc", "draw", "--all"]).is_none());
     assert!(rt; draws(rt.alloc(), &["tgdoc", "run", "--each"]).is_none());
+}
+
+/// Whether bob is asked about, and vertex 3, and both reading and writing.
+fn is_bobs(question: &Question) -> bool {
+    let from = match &question.from {
+        VertexName::Principal(name) => name.get() == "bob",
+        VertexName::Serial(_) => false,
+    };
+    let to = match &question.to {
+        VertexName::Serial(serial) => *serial == 3,
+        VertexName::Principal(_) => false,
+    };
+    from && to && question.rights == Rights::read().union(Rights::write())
+}
+
+/// Whether these words ask that question: for the steps alone, or for all.
+fn asks(alloc: Global, words: &[&str]) -> Option<bool> {
+    match &mode(alloc, words) {
+        Ok(Mode::Share { question }) if is_bobs(question) => Some(question.steps),
+        Ok(_) => None,
+        Err(_) => None,
+    }
+}
+
+#[test]
+fn a_question_has_its_words(rt: HostRuntime) {
+    let words = &[
+        "tgdoc", "share", "--to", "3", "--from", "bob", "--rights", "wr", "--steps",
+    ];
+    assert!(rt; asks(rt.alloc(), words) == Some(true));
+    assert!(rt; asks(rt.alloc(), &words[..8]) == Some(false));
+    assert!(rt; asks(rt.alloc(), &words[..6]).is_none());
 }
 
 #[test]

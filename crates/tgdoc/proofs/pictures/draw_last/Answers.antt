@@ -3,22 +3,22 @@ use Rattle.tg_draw.specs.Picture.{Draws}
 use Rattle.tgdoc.specs.Drawings.{drawn, ends_label, not_drawn}
 use Rattle.tgdoc.proofs.pictures.draw_last.Goals as goal
 
-pub returns-in-Err-clause-drawn : goal.returns-in-Err-clause-drawn
-returns-in-Err-clause-drawn g c = record {
+pub returns-in-Err-clause-written : goal.returns-in-Err-clause-written
+returns-in-Err-clause-written g c = record {
   text = c.error_line-text.result.now;
-  drawn = record { lacks = true; pictured = not_drawn c.error_line-text.ensures; lines = c.finish.ensures.lines; errors = c.finish.ensures.errors; fault = c.finish.ensures.fault };
+  written = record { is_error = true; written = not_drawn c.error_line-text.ensures; lines = c.finish.ensures.lines; errors = c.finish.ensures.errors; fault = c.finish.ensures.fault };
   sent = c.finish.ensures.sent;
 }
 
-pub returns-in-Ok-clause-drawn : goal.returns-in-Ok-clause-drawn
-returns-in-Ok-clause-drawn g c =
+pub returns-in-Ok-clause-written : goal.returns-in-Ok-clause-written
+returns-in-Ok-clause-written g c =
     let text = c.as_slice-text.result.now in
     let same : c.finish-in-Ok.result.errors ≡ c.args.ended.errors + 0 = omega (arith, c.finish-in-Ok.ensures.errors) in
     record {
       text = text;
-      drawn = record {
-        lacks = false;
-        pictured = drawn (subst (Draws c.args.vault.now (ends_label c.args.ended.lines c.args.ended.errors)) (sym c.as_slice-text.ensures.value) c.in-Ok.ensures);
+      written = record {
+        is_error = false;
+        written = drawn (subst (Draws c.args.vault.now (ends_label c.args.ended.lines c.args.ended.errors)) (sym c.as_slice-text.ensures.value) c.in-Ok.ensures);
         lines = c.finish-in-Ok.ensures.lines;
         errors = same;
         fault = c.finish-in-Ok.ensures.fault;

@@ -2,7 +2,7 @@ use Rattle.std.proofs.Common.{[], None, subst}
 use Rattle.tg_talk.proofs.TakingLemmas.{always, at_start}
 use Rattle.tg_talk.specs.Taking.{Takes}
 use Rattle.tg_talk.specs.declared.input_lines.Next.TheVariants as next
-use Rattle.tgdoc.specs.Drawings.{Told}
+use Rattle.tgdoc.specs.Outputs.{Told}
 use Rattle.tg_talk.specs.Opening.{Opens, RefusesOpening}
 use Rattle.tgdoc.specs.Runs.{InputRan, no_buffer, stopped}
 use Rattle.tg_talk.proofs.SendsLemmas.{sends_nothing}
@@ -37,3 +37,6 @@ returns-in-Ok-open_vault-clause-ran g c =
     at_start _ _ (Takes next.Line _ _ _) (InputRan (Told c.args.how) _ _ _ _) c.in-Ok.ensures c.in-Line.ensures.takes (λ xs (within, takes).
     ran_opened (Told c.args.how) c.courses_have_the_headline.ensures _ _ _ _ xs _ _ c.in-Ok-open_vault.vault takes c.in-Line.ensures.short (subst (λ line. Opens line c.in-Ok-open_vault.vault) c.line.ensures c.in-Ok-open_vault.ensures.ok)
     c.take_rest.ensures.told)
+
+pub take_rest-requires-clause-opens : goal.take_rest-requires-clause-opens
+take_rest-requires-clause-opens g c = subst (λ line. Opens line c.in-Ok-open_vault.vault) c.line.ensures c.in-Ok-open_vault.ensures.ok

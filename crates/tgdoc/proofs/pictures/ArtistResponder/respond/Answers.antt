@@ -1,4 +1,4 @@
-use Rattle.std.proofs.Common.{refl}
+use Rattle.std.proofs.Common.{◌∙◌, refl}
 use Rattle.tg_talk.specs.Answering.{is_wrong, one_if, text_of}
 use Rattle.tgdoc.proofs.pictures.ArtistResponder.respond.Goals as goal
 
@@ -10,3 +10,6 @@ returns-clause-says c = record {
   answers = c.answer-answered.ensures;
   shown = c.shown.ensures;
 }
+
+pub returns-clause-stays : goal.returns-clause-stays
+returns-clause-stays c = λ start so_far. (so_far.0, c.answer-answered.ensures.keeps.opening ∙ so_far.1)
