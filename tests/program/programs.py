@@ -264,7 +264,7 @@ def tests():
         yield "version-of-" + word, refused(word, "--version")
         yield "a-word-too-many-behind-" + word, refused(word, "now")
         yield "an-option-that-%s-does-not-have" % word, refused(word, "--fast")
-    yield "help", help_with_a_file(WELCOME, ["run", "audit", "draw", "serve"], "--help")
+    yield "help", help_with_a_file(WELCOME, ["run", "audit", "draw", "share", "serve"], "--help")
     yield "help-on-run", help_on_run
     yield "help-on-audit", help_with_a_file(SHARED, ["audit"], "audit", "--help")
     yield "help-on-draw", help_on_draw
