@@ -37,6 +37,7 @@ bench: all load ## measure speed, memory, threads, rounds, and a server beside R
 	bench/threads.py
 	bench/piling.py
 	bench/rounds.py
+	bench/sharing.py
 	bench/redis.py
 
 # The edit loop, over what earlier runs left: `make check tg_cells` proves that crate and its tests, tries its planted
