@@ -12,7 +12,7 @@ import subprocess
 from fuzz.differential import event_of, opening, row_of, seeds, some
 from models.collector import Course
 from models.graph import NONE_LEFT, verdict
-from models.reading import line_of, read_config, read_event, read_goal, read_step
+from models.reading import LETTERS, line_of, read_config, read_event, read_goal, read_step
 from models.sharing import actors, closure, most_steps
 from program.programs import SECONDS
 
@@ -74,8 +74,9 @@ def problem(program, source, rows, course, reached):
     """What is wrong with the answer to a random question; nothing if all is right. And what was answered."""
     graph, given = course.graph, b"\n".join(rows) + b"\n"
     (start, from_serial), (end, to_serial) = vertex(source, graph), vertex(source, graph)
-    goal = {"from": from_serial, "rights": some(source, source.choice(["r", "w", "t", "g", "rw", "tg", "rwtg"])), "to": to_serial}
-    words = ["--from", start, "--to", end, "--rights", goal["rights"]]
+    asked = some(source, source.choice(["r", "w", "t", "g", "rw", "tg", "rwtg"]))
+    goal = {"from": from_serial, "rights": "".join(letter for letter in LETTERS if letter in asked), "to": to_serial}
+    words = ["--from", start, "--to", end, "--rights", asked]
     text, status = shared(program, given, *words)
     can = from_serial != to_serial and set(goal["rights"]) <= reached[from_serial].get(to_serial, set())
     if status != int(course.errors > 0):

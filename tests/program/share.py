@@ -3,6 +3,7 @@
 Each test takes the program's path and returns whether it passed.
 """
 
+import os
 import resource
 import subprocess
 from collections import Counter
@@ -11,6 +12,7 @@ from faults import faults
 from faults.faults import Fault
 from fuzz.sharing import audited, shared
 from models.reading import line_of
+from program.programs import ROOT
 
 NEVER, NO_SERIAL = b'{"verdict":"never"}\n', b'{"verdict":"no serial"}\n'
 NO_PRINCIPAL, NO_MEMORY = b'{"error":"no principal"}\n', b'{"error":"out of memory"}\n'
@@ -91,7 +93,7 @@ def no_questions():
 def helped(program):
     """The help says what the options are."""
     ran = subprocess.run([str(program), "share", "--help"], capture_output=True, timeout=60)
-    return ran.returncode == 0 and all(word in ran.stdout for word in (b"--from", b"--to", b"--rights", b"--steps", b"letters", b"tgdoc share"))
+    return ran.returncode == 0 and all(word in ran.stdout for word in (b"--from", b"--to", b"--rights", b"--steps", b"Letters", b"tgdoc share"))
 
 
 def few_serials(program):
@@ -118,6 +120,15 @@ def memory_refused(program):
             print("  at allocation %d: %s" % (number, found))
     print("  allocations refused: %s" % ", ".join("%d %s" % (number, name) for name, number in sorted(counts.items())))
     return "WRONG" not in counts and counts["out of memory"] > 10
+
+
+def leak_found(program):
+    """The example of a company: a leak, and `never` once it is closed."""
+    ran = subprocess.run([ROOT / "examples" / "leak"], env={**os.environ, "TGDOC": str(program)}, capture_output=True, timeout=60)
+    rows = ran.stdout.splitlines()
+    if ran.returncode != 0:
+        print("  %s" % ran.stderr.decode("utf-8", "backslashreplace"))
+    return ran.returncode == 0 and b"    bob grants r over 5 to dave" in rows and any(row.endswith(b"dave can never read it: never.") for row in rows)
 
 
 # As many vertices as there can be slots.
@@ -150,3 +161,4 @@ def tests():
     yield "no-serial-left-for-a-question", few_serials
     yield "memory-refused-to-a-question", memory_refused
     yield "a-question-about-all-slots", all_slots
+    yield "example-of-a-leak", leak_found
