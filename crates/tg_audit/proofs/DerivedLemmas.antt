@@ -3,11 +3,9 @@ use Rattle.std.proofs.Common.{◌≡◌, ◌⊎◌, ℕ, suc, ◌+◌, arith, Li
 use Rattle.std.specs.Prelude.{Option}
 use Rattle.std.specs.List.{cons_option}
 use Rattle.tg_rights.specs.declared.command.Command.{Command}
-use Rattle.tg_rights.specs.declared.command.Command.TheVariants as command
 use Rattle.tg_rights.specs.declared.outcome.Outcome.{Outcome}
 use Rattle.tg_rights.specs.declared.outcome.Outcome.TheVariants as outcome
 use Rattle.tg_graph.specs.declared.derivation.Step.{Step}
-use Rattle.tg_graph.specs.Derivations.{Derives}
 use Rattle.tg_graph.specs.Fullness.{Limits, Permitted}
 use Rattle.tg_graph.specs.Protection.{IsGraph, IsSubject, Protection, has_retired}
 use Rattle.tg_graph.specs.Rewriting.{HasRightsOf, rewriting_step}

@@ -1,6 +1,5 @@
 -- a history as a derivation: what its entries did to the edges, by the four rules of the take-grant model
 use Rattle.std.specs.Prelude.{filter_map, List, Option, None}
-use Rattle.tg_rights.specs.declared.command.Command.{Command}
 use Rattle.tg_rights.specs.declared.outcome.Outcome.{Outcome}
 use Rattle.tg_rights.specs.declared.outcome.Outcome.TheVariants as outcome
 use Rattle.tg_graph.specs.declared.derivation.Step.{Step}
