@@ -131,6 +131,7 @@ stores_are_in_graph v next s = record {
   slots = s.slots next;
   few_edges = s.few_edges next;
   all_cells = λ none. s.all_cells none next;
+  left = (s.some_left, s.most_left);
 } where
   rests : (g : Stage) → phase_in g ≡ phases.Idle → g ≡ values.Idle
   rests g e = grind arith

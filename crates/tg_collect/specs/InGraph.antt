@@ -6,7 +6,7 @@ use Rattle.tg_graph.specs.Protection.{Protection}
 use Rattle.tg_collect.specs.declared.note.Phase.{Phase}
 use Rattle.tg_collect.specs.declared.note.Phase.TheVariants.{Idle, Mark, Sweep}
 use Rattle.tg_collect.specs.Openings.{Opened}
-use Rattle.tg_collect.specs.Readings.{phase, held, mark_in, principals, pending, agents, slot_count, free_slots, parked_count, IsHeldIn, IsParkedIn, IsGreyIn, IsBlackIn, IsEdgeIn, IsRootIn}
+use Rattle.tg_collect.specs.Readings.{phase, held, mark_in, principals, pending, agents, slot_count, free_slots, parked_count, cycle_bound, IsHeldIn, IsParkedIn, IsGreyIn, IsBlackIn, IsEdgeIn, IsRootIn}
 use Rattle.tg_collect.specs.Sessions.{Acted, Shaded}
 use Rattle.tg_collect.specs.Stored.{Stored}
 use Rattle.tg_collect.specs.Views.{IsStore, Collected, ChangesMarks, most_marks}
@@ -40,8 +40,8 @@ FreesOne v w = (phase v ≡ Sweep) × (x : ℕ) × IsFreed v w x × ((y : ℕ) �
 abbrev pub IsCalledIn : Stored → ℕ → Type 0
 IsCalledIn v x = IsRootIn v x ⊎ ((y : ℕ) × IsGreyIn v y × IsEdgeIn v y x)
 
--- what a store has in each phase: nothing is parked but in the sweep, and nothing is black between cycles; and the sums of
--- slots and of cells
+-- what a store has in each phase: nothing is parked but in the sweep, and nothing is black between cycles; the sums of
+-- slots and of cells; and how many steps of a cycle may be left
 pub record StoreInGraph (v : Stored) (next : ℕ) : Type 0 where
   pub parked : phase v ≢ Sweep → (x : ℕ) → IsParkedIn v x → ⊥
   pub black : phase v ≡ Idle → (x : ℕ) → IsBlackIn v x → ⊥
@@ -51,6 +51,7 @@ pub record StoreInGraph (v : Stored) (next : ℕ) : Type 0 where
   pub slots : free_slots v + vertex_count (held v next) + parked_count v ≡ slot_count v
   pub few_edges : v.free_cells + edge_count (held v next) ≤ v.cells
   pub all_cells : ((x : ℕ) → IsParkedIn v x → ⊥) → v.free_cells + edge_count (held v next) ≡ v.cells
+  pub left : (1 ≤ v.left) × (v.left ≤ cycle_bound (slot_count v) v.cells)
 
 -- a collector step, which freed so many slots, and perhaps ended a cycle
 pub record CollectedInGraph (v w : Stored) (next freed_slots : ℕ) (ended : Bool) : Type 0 where
