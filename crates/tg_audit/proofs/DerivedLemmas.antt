@@ -27,7 +27,7 @@ module _ (limits : Limits) (G H K : Protection) (x : ℕ) (h : HasRightsOf H G) 
       carried H G K x c rest h (record { subject = subject; allowed = permitted.0; room = permitted.1; result = refl }) onward
   entry_onward c outcome.Allowed (inr gone) permitted onward =
       let C : Command → Type 0 = λ d. ((L : Protection) → HasRightsOf L (next_graph G x d outcome.Allowed) → Onward L K rest) →
-          Onward H K (cons_option (rewriting_step (record { actor = x; command = d })) rest) in
+      Onward H K (cons_option (rewriting_step (record { actor = x; command = d })) rest) in
       subst C (sym (retired_leaves G x c gone permitted.0)) (λ on. on H h) onward
   entry_onward c (outcome.Denied rule why) asks permitted onward = onward H h
   entry_onward c (outcome.Full which) asks permitted onward = onward H h
@@ -38,7 +38,7 @@ run_onward limits earlier G H K [] lawful run h = (H, refl, subst (HasRightsOf H
 run_onward limits earlier G H K (e ∷ es) lawful run h =
     let next = turn_keeps limits earlier G e run.0 lawful run.1 in
     entry_onward limits G H K e.actor h (derivation_of es) e.command e.outcome (asks_subject earlier G e.seat e.actor lawful run.1.0) run.1.1
-        (λ L left. run_onward limits (earlier ++ e ∷ []) run.0 L K es next run.2 (subst (HasRightsOf L) (sym run.1.2) left))
+    (λ L left. run_onward limits (earlier ++ e ∷ []) run.0 L K es next run.2 (subst (HasRightsOf L) (sym run.1.2) left))
 
 pub history_derives : (v : Contents) (H : Protection) → IsGraph v.opening → Legal v.limits v.opening v.history (graph_now v) → HasRightsOf H v.opening → Onward H (graph_now v) (derivation_of v.history)
 history_derives v H graph legal h =

@@ -12,10 +12,10 @@ loop-number-preserved c =
     let new = c.match-entry_step.steps.items in
     elim c.match-entry_step.branch [
       | in-Some-entry_step+in_ok-push w ↦ record {
-          derived = derived_add v n e old new (Some w.in-Some-entry_step.step) c.in-Some.ensures.some c.loop-number.invariant.derived (sym c.entry_step.ensures ∙ w.in-Some-entry_step.is)
-              (ap (λ s. s.items) w.steps-is ∙ w.in_ok-push.ensures.items);
-        }
+        derived = derived_add v n e old new (Some w.in-Some-entry_step.step) c.in-Some.ensures.some c.loop-number.invariant.derived (sym c.entry_step.ensures ∙ w.in-Some-entry_step.is)
+            (ap (λ s. s.items) w.steps-is ∙ w.in_ok-push.ensures.items);
+      }
       | in_default-entry_step w ↦ record {
-          derived = derived_add v n e old new None c.in-Some.ensures.some c.loop-number.invariant.derived (sym c.entry_step.ensures ∙ w.in_default-entry_step.is) (ap (λ s. s.items) w.steps-is);
-        }
+        derived = derived_add v n e old new None c.in-Some.ensures.some c.loop-number.invariant.derived (sym c.entry_step.ensures ∙ w.in_default-entry_step.is) (ap (λ s. s.items) w.steps-is);
+      }
     ]
