@@ -33,12 +33,10 @@ fn exchanges_are_counted(rt: HostRuntime) -> Result<(), AllocError> {
 #[test]
 fn an_enrol_counts_its_name_twice(rt: HostRuntime) -> Result<(), AllocError> {
     let content = String::from_str(rt.alloc(), "carol")?;
-    if let Ok(name) = Name::new(content) {
-        let enrol = Command::enrol(name, Rights::take());
-        assert_eq!(rt; exchange_bytes(&enrol, &Reply::Created(3)), 330);
-        return Ok(());
-    }
-    Err(AllocError)
+    let name = Name::new(content).ok().expect(&rt, "no name");
+    let enrol = Command::enrol(name, Rights::take());
+    assert_eq!(rt; exchange_bytes(&enrol, &Reply::Created(3)), 330);
+    Ok(())
 }
 
 /// Lines at hand, what is left, workers, what a line may take; and the lines that may be taken.
