@@ -6,3 +6,4 @@ pub mod MarkingLemmas
 pub mod ProspectLemmas
 pub mod GrowingLemmas
 pub mod SharingLemmas
+pub mod LookupLemmas

@@ -1,5 +1,5 @@
 -- How marks grow.
-use Rattle.std.proofs.Common.{◌≡◌, ℕ, ◌<◌, ◌≤◌, ◌+◌, Bool, true, false, cond, refl, sym, ap, subst, ◌∙◌, ◌==◌, Some, None, arith}
+use Rattle.std.proofs.Common.{◌≡◌, ℕ, ◌<◌, ◌≤◌, ◌+◌, Bool, true, false, cond, refl, sym, ap, subst, ◌∙◌, ◌==◌, ◌⊎◌, inl, inr, Some, None, arith}
 use Rattle.std.specs.Prelude.{Option}
 use Rattle.std.specs.Option.{is_some}
 use Rattle.std.proofs.lemmas.Bool.{eqb-true, eq-eqb}
@@ -16,46 +16,61 @@ use Rattle.tg_sharing.specs.declared.marks.Span.{Span}
 use Rattle.tg_sharing.specs.declared.marks.SpanWay.{SpanWay}
 use Rattle.tg_sharing.specs.declared.marks.SpanWay.TheVariants as span
 
--- an option that stays where it was, or is filled by w
-stays : {X : Type 0} (here there : Bool) (w : X) (o : Option X) (x : X) (p : Option X) → p ≡ cond here o (cond there (Some w) o) → (there ≡ true → here ≡ is_some o) → o ≡ Some x → p ≡ Some x
-stays true there w o x p is same e = is ∙ e
-stays false false w o x p is same e = is ∙ e
-stays false true w o x p is same e = absurd (cc (same refl, e))
+-- p is what o was, but w if this is added `there` and was not `here`
+module _ {X : Type 0} (w : X) (o p : Option X) where
+  stays : (here there : Bool) (x : X) → p ≡ cond here o (cond there (Some w) o) → (there ≡ true → here ≡ is_some o) → o ≡ Some x → p ≡ Some x
+  stays true there x is same e = is ∙ e
+  stays false false x is same e = is ∙ e
+  stays false true x is same e = absurd (cc (same refl, e))
+
+  came : (here there : Bool) (x : X) → p ≡ cond here o (cond there (Some w) o) → p ≡ Some x → (o ≡ Some x) ⊎ ((here ≡ false) × (there ≡ true) × (w ≡ x))
+  came true there x is e = inl (sym is ∙ e)
+  came false false x is e = inl (sym is ∙ e)
+  came false true x is e = let same : Some w ≡ Some x = sym is ∙ e in inr (refl, refl, cc same)
+
+  added : (here there : Bool) → p ≡ cond here o (cond there (Some w) o) → there ≡ true → here ≡ is_some o → is_some p ≡ true
+  added true there is at same = ap is_some is ∙ sym same
+  added false true is at same = ap is_some is
+  added false false is at same = absurd (cc at)
+
+  elsewhere : (here there : Bool) → p ≡ cond here o (cond there (Some w) o) → there ≡ false → p ≡ o
+  elsewhere true there is apart = is
+  elsewhere false false is apart = is
+  elsewhere false true is apart = absurd (cc apart)
+
+  unchanged : (here there : Bool) (before after : ℕ) → p ≡ cond here o (cond there (Some w) o) → after ≡ before + cond here 0 1 → before ≡ after → p ≡ o
+  unchanged true there before after is more same = is
+  unchanged false there before after is more same = absurd (omega (arith, more, same))
+
+more : (here : Bool) (before after : ℕ) → after ≡ before + cond here 0 1 → before ≤ after
+more true before after e = omega (arith, e)
+more false before after e = omega (arith, e)
+
+-- what is there
+filled : {X : Type 0} (o : Option X) → is_some o ≡ true → (x : X) × (o ≡ Some x)
+filled (Some x) h = (x, refl)
+filled None h = absurd (cc h)
 
 module _ (m n : Marks) where
   pub span-Extends : (v : ℕ) (w : SpanWay) → AddsSpan m n v w → Extends m n
   span-Extends v w adds = record {
     from = adds.from;
-    spans = λ q s e. stays (is_spanned m v) (q == v) _ (span_of m q) s (span_of n q) (adds.spans q) (λ is. ap (is_spanned m) (sym (eqb-true q v is))) e;
+    spans = λ q s e. stays _ (span_of m q) (span_of n q) (is_spanned m v) (q == v) s (adds.spans q) (λ is. ap (is_spanned m) (sym (eqb-true q v is))) e;
     bridges = λ q b e. adds.bridges q ∙ e;
-    grows = by (is_spanned m v) (adds.grows);
-    same_spans = λ e q. same (is_spanned m v) (span_of n q) (span_of m q) (cond (q == v) (Some (record { way = w; rank = size m })) (span_of m q)) e adds.grows (adds.spans q);
+    grows = more (is_spanned m v) (size m) (size n) adds.grows;
+    same_spans = λ e q. unchanged _ (span_of m q) (span_of n q) (is_spanned m v) (q == v) (size m) (size n) (adds.spans q) adds.grows e;
     same_bridges = λ e q. adds.bridges q;
-  } where
-    by : (b : Bool) → size n ≡ size m + cond b 0 1 → size m ≤ size n
-    by true e = omega (arith, e)
-    by false e = omega (arith, e)
-
-    same : {X : Type 0} (b : Bool) (p o l : Option X) → size m ≡ size n → size n ≡ size m + cond b 0 1 → p ≡ cond b o l → p ≡ o
-    same true p o l e f is = is
-    same false p o l e f is = absurd (omega (arith, e, f))
+  }
 
   pub bridge-Extends : (v : ℕ) (w : BridgeWay) → AddsBridge m n v w → Extends m n
   bridge-Extends v w adds = record {
     from = adds.from;
     spans = λ q s e. adds.spans q ∙ e;
-    bridges = λ q b e. stays (is_bridged m v) (q == v) _ (bridge_of m q) b (bridge_of n q) (adds.bridges q) (λ is. ap (is_bridged m) (sym (eqb-true q v is))) e;
-    grows = by (is_bridged m v) (adds.grows);
+    bridges = λ q b e. stays _ (bridge_of m q) (bridge_of n q) (is_bridged m v) (q == v) b (adds.bridges q) (λ is. ap (is_bridged m) (sym (eqb-true q v is))) e;
+    grows = more (is_bridged m v) (size m) (size n) adds.grows;
     same_spans = λ e q. adds.spans q;
-    same_bridges = λ e q. same (is_bridged m v) (bridge_of n q) (bridge_of m q) (cond (q == v) (Some (record { way = w; rank = size m })) (bridge_of m q)) e adds.grows (adds.bridges q);
-  } where
-    by : (b : Bool) → size n ≡ size m + cond b 0 1 → size m ≤ size n
-    by true e = omega (arith, e)
-    by false e = omega (arith, e)
-
-    same : {X : Type 0} (b : Bool) (p o l : Option X) → size m ≡ size n → size n ≡ size m + cond b 0 1 → p ≡ cond b o l → p ≡ o
-    same true p o l e f is = is
-    same false p o l e f is = absurd (omega (arith, e, f))
+    same_bridges = λ e q. unchanged _ (bridge_of m q) (bridge_of n q) (is_bridged m v) (q == v) (size m) (size n) (adds.bridges q) adds.grows e;
+  }
 
 pub Extends-refl : (m : Marks) → Extends m m
 Extends-refl m = record { from = refl; spans = λ v s e. e; bridges = λ v b e. e; grows = omega arith; same_spans = λ e v. refl; same_bridges = λ e v. refl }
@@ -78,29 +93,17 @@ Goes-trans G m n o a b = record { extends = Extends-trans m n o a.extends b.exte
 
 -- what was spanned or bridged stays so
 pub still_spanned : (m n : Marks) → Extends m n → (v : ℕ) → is_spanned m v ≡ true → is_spanned n v ≡ true
-still_spanned m n e v h = by (span_of m v) refl where
-  by : (o : Option Span) → span_of m v ≡ o → is_spanned n v ≡ true
-  by (Some s) is = ap is_some (e.spans v s is)
-  by None is = absurd (cc (h, ap is_some is))
+still_spanned m n e v h = let s = filled (span_of m v) h in ap is_some (e.spans v s.0 s.1)
 
 pub still_bridged : (m n : Marks) → Extends m n → (v : ℕ) → is_bridged m v ≡ true → is_bridged n v ≡ true
-still_bridged m n e v h = by (bridge_of m v) refl where
-  by : (o : Option Bridge) → bridge_of m v ≡ o → is_bridged n v ≡ true
-  by (Some s) is = ap is_some (e.bridges v s is)
-  by None is = absurd (cc (h, ap is_some is))
+still_bridged m n e v h = let b = filled (bridge_of m v) h in ap is_some (e.bridges v b.0 b.1)
 
 -- the mark of what is spanned or bridged
 pub spanned_mark : (G : Protection) (m : Marks) → AreMarks G m → (v : ℕ) → is_spanned m v ≡ true → WasSpanned m v (size m)
-spanned_mark G m marks v h = by (span_of m v) refl where
-  by : (o : Option Span) → span_of m v ≡ o → WasSpanned m v (size m)
-  by (Some s) is = (s, is, (marks.spans v s is).1)
-  by None is = absurd (cc (h, ap is_some is))
+spanned_mark G m marks v h = let s = filled (span_of m v) h in (s.0, s.1, (marks.spans v s.0 s.1).1)
 
 pub bridged_mark : (G : Protection) (m : Marks) → AreMarks G m → (v : ℕ) → is_bridged m v ≡ true → WasBridged m v (size m)
-bridged_mark G m marks v h = by (bridge_of m v) refl where
-  by : (o : Option Bridge) → bridge_of m v ≡ o → WasBridged m v (size m)
-  by (Some b) is = (b, is, (marks.bridges v b is).1)
-  by None is = absurd (cc (h, ap is_some is))
+bridged_mark G m marks v h = let b = filled (bridge_of m v) h in (b.0, b.1, (marks.bridges v b.0 b.1).1)
 
 module _ (G : Protection) (m n : Marks) (e : Extends m n) where
   later_span : (v rank : ℕ) → WasSpanned m v rank → WasSpanned n v rank
@@ -124,7 +127,10 @@ module _ (G : Protection) (m n : Marks) (e : Extends m n) where
 -- marks stay marks when one is set for a reason
 pub span-AreMarks : (G : Protection) (m n : Marks) (v : ℕ) (w : SpanWay) → AddsSpan m n v w → IsSpan G m v (size m) w → AreMarks G m → AreMarks G n
 span-AreMarks G m n v w adds reason marks = record {
-  spans = λ q s e. by q s e (is_spanned m v) (q == v) refl refl;
+  spans = λ q s e. elim (came new (span_of m q) (span_of n q) (is_spanned m v) (q == v) s (adds.spans q) e) [
+    | inl old ↦ (still_span G m n ext q s.rank s.way (marks.spans q s old).0, omega (arith, (marks.spans q s old).1, ext.grows))
+    | inr made ↦ subst (Is q) made.2 (subst (λ (p : ℕ). Is p new) (sym (eqb-true q v made.1)) (here, omega (arith, one made.0)))
+  ];
   bridges = λ q b e. let old = marks.bridges q b (sym (adds.bridges q) ∙ e) in (still_bridge G m n ext q b.rank b.way old.0, omega (arith, old.1, ext.grows));
 } where
   ext : Extends m n
@@ -133,23 +139,22 @@ span-AreMarks G m n v w adds reason marks = record {
   new : Span
   new = record { way = w; rank = size m }
 
-  kept : (q : ℕ) (s : Span) → span_of m q ≡ Some s → IsSpan G n q s.rank s.way × (s.rank < size n)
-  kept q s e = let old = marks.spans q s e in (still_span G m n ext q s.rank s.way old.0, omega (arith, old.1, ext.grows))
+  Is : ℕ → Span → Type 0
+  Is q s = IsSpan G n q s.rank s.way × (s.rank < size n)
 
-  by : (q : ℕ) (s : Span) → span_of n q ≡ Some s → (here there : Bool) → is_spanned m v ≡ here → (q == v) ≡ there → IsSpan G n q s.rank s.way × (s.rank < size n)
-  by q s e true there is at = kept q s (sym (adds.spans q ∙ ap (λ b. cond b (span_of m q) (cond (q == v) (Some new) (span_of m q))) is) ∙ e)
-  by q s e false false is at = kept q s (sym (adds.spans q ∙ (λ i. cond (is i) (span_of m q) (cond (at i) (Some new) (span_of m q)))) ∙ e)
-  by q s e false true is at =
-      let same : Some new ≡ Some s = sym (adds.spans q ∙ (λ i. cond (is i) (span_of m q) (cond (at i) (Some new) (span_of m q)))) ∙ e in
-      let made : new ≡ s = cc same in
-      let more : size n ≡ size m + 1 = adds.grows ∙ ap (λ b. size m + cond b 0 1) is in
-      let here : IsSpan G n v (size m) w = still_span G m n ext v (size m) w reason in
-      subst (λ (s : Span). IsSpan G n q s.rank s.way × (s.rank < size n)) made (subst (λ (p : ℕ). IsSpan G n p (size m) w) (sym (eqb-true q v at)) here, omega (arith, more))
+  here : IsSpan G n v (size m) w
+  here = still_span G m n ext v (size m) w reason
+
+  one : is_spanned m v ≡ false → size n ≡ size m + 1
+  one is = adds.grows ∙ ap (λ b. size m + cond b 0 1) is
 
 pub bridge-AreMarks : (G : Protection) (m n : Marks) (v : ℕ) (w : BridgeWay) → AddsBridge m n v w → IsBridge G m v (size m) w → AreMarks G m → AreMarks G n
 bridge-AreMarks G m n v w adds reason marks = record {
-  bridges = λ q s e. by q s e (is_bridged m v) (q == v) refl refl;
-  spans = λ q b e. let old = marks.spans q b (sym (adds.spans q) ∙ e) in (still_span G m n ext q b.rank b.way old.0, omega (arith, old.1, ext.grows));
+  bridges = λ q b e. elim (came new (bridge_of m q) (bridge_of n q) (is_bridged m v) (q == v) b (adds.bridges q) e) [
+    | inl old ↦ (still_bridge G m n ext q b.rank b.way (marks.bridges q b old).0, omega (arith, (marks.bridges q b old).1, ext.grows))
+    | inr made ↦ subst (Is q) made.2 (subst (λ (p : ℕ). Is p new) (sym (eqb-true q v made.1)) (here, omega (arith, one made.0)))
+  ];
+  spans = λ q s e. let old = marks.spans q s (sym (adds.spans q) ∙ e) in (still_span G m n ext q s.rank s.way old.0, omega (arith, old.1, ext.grows));
 } where
   ext : Extends m n
   ext = bridge-Extends m n v w adds
@@ -157,43 +162,27 @@ bridge-AreMarks G m n v w adds reason marks = record {
   new : Bridge
   new = record { way = w; rank = size m }
 
-  kept : (q : ℕ) (s : Bridge) → bridge_of m q ≡ Some s → IsBridge G n q s.rank s.way × (s.rank < size n)
-  kept q s e = let old = marks.bridges q s e in (still_bridge G m n ext q s.rank s.way old.0, omega (arith, old.1, ext.grows))
+  Is : ℕ → Bridge → Type 0
+  Is q b = IsBridge G n q b.rank b.way × (b.rank < size n)
 
-  by : (q : ℕ) (s : Bridge) → bridge_of n q ≡ Some s → (here there : Bool) → is_bridged m v ≡ here → (q == v) ≡ there → IsBridge G n q s.rank s.way × (s.rank < size n)
-  by q s e true there is at = kept q s (sym (adds.bridges q ∙ ap (λ b. cond b (bridge_of m q) (cond (q == v) (Some new) (bridge_of m q))) is) ∙ e)
-  by q s e false false is at = kept q s (sym (adds.bridges q ∙ (λ i. cond (is i) (bridge_of m q) (cond (at i) (Some new) (bridge_of m q)))) ∙ e)
-  by q s e false true is at =
-      let same : Some new ≡ Some s = sym (adds.bridges q ∙ (λ i. cond (is i) (bridge_of m q) (cond (at i) (Some new) (bridge_of m q)))) ∙ e in
-      let made : new ≡ s = cc same in
-      let more : size n ≡ size m + 1 = adds.grows ∙ ap (λ b. size m + cond b 0 1) is in
-      let here : IsBridge G n v (size m) w = still_bridge G m n ext v (size m) w reason in
-      subst (λ (s : Bridge). IsBridge G n q s.rank s.way × (s.rank < size n)) made (subst (λ (p : ℕ). IsBridge G n p (size m) w) (sym (eqb-true q v at)) here, omega (arith, more))
+  here : IsBridge G n v (size m) w
+  here = still_bridge G m n ext v (size m) w reason
+
+  one : is_bridged m v ≡ false → size n ≡ size m + 1
+  one is = adds.grows ∙ ap (λ b. size m + cond b 0 1) is
 
 -- what was added is there, and nothing else
 pub span_added : (m n : Marks) (v : ℕ) (w : SpanWay) → AddsSpan m n v w → is_spanned n v ≡ true
-span_added m n v w adds = by (is_spanned m v) refl where
-  by : (b : Bool) → is_spanned m v ≡ b → is_spanned n v ≡ true
-  by true is = still_spanned m n (span-Extends m n v w adds) v is
-  by false is = ap is_some (adds.spans v ∙ (λ i. cond (is i) (span_of m v) (cond (eq-eqb v v refl i) (Some (record { way = w; rank = size m })) (span_of m v))))
+span_added m n v w adds = added _ (span_of m v) (span_of n v) (is_spanned m v) (v == v) (adds.spans v) (eq-eqb v v refl) refl
 
 pub bridge_added : (m n : Marks) (v : ℕ) (w : BridgeWay) → AddsBridge m n v w → is_bridged n v ≡ true
-bridge_added m n v w adds = by (is_bridged m v) refl where
-  by : (b : Bool) → is_bridged m v ≡ b → is_bridged n v ≡ true
-  by true is = still_bridged m n (bridge-Extends m n v w adds) v is
-  by false is = ap is_some (adds.bridges v ∙ (λ i. cond (is i) (bridge_of m v) (cond (eq-eqb v v refl i) (Some (record { way = w; rank = size m })) (bridge_of m v))))
+bridge_added m n v w adds = added _ (bridge_of m v) (bridge_of n v) (is_bridged m v) (v == v) (adds.bridges v) (eq-eqb v v refl) refl
 
 pub span_elsewhere : (m n : Marks) (v : ℕ) (w : SpanWay) → AddsSpan m n v w → (q : ℕ) → (q == v) ≡ false → is_spanned n q ≡ is_spanned m q
-span_elsewhere m n v w adds q apart = ap is_some (adds.spans q ∙ ap (λ b. cond (is_spanned m v) (span_of m q) (cond b (Some (record { way = w; rank = size m })) (span_of m q))) apart ∙ same (is_spanned m v)) where
-  same : (b : Bool) → cond b (span_of m q) (span_of m q) ≡ span_of m q
-  same true = refl
-  same false = refl
+span_elsewhere m n v w adds q apart = ap is_some (elsewhere _ (span_of m q) (span_of n q) (is_spanned m v) (q == v) (adds.spans q) apart)
 
 pub bridge_elsewhere : (m n : Marks) (v : ℕ) (w : BridgeWay) → AddsBridge m n v w → (q : ℕ) → (q == v) ≡ false → is_bridged n q ≡ is_bridged m q
-bridge_elsewhere m n v w adds q apart = ap is_some (adds.bridges q ∙ ap (λ b. cond (is_bridged m v) (bridge_of m q) (cond b (Some (record { way = w; rank = size m })) (bridge_of m q))) apart ∙ same (is_bridged m v)) where
-  same : (b : Bool) → cond b (bridge_of m q) (bridge_of m q) ≡ bridge_of m q
-  same true = refl
-  same false = refl
+bridge_elsewhere m n v w adds q apart = ap is_some (elsewhere _ (bridge_of m q) (bridge_of n q) (is_bridged m v) (q == v) (adds.bridges q) apart)
 
 -- one mark is set, of a vertex that may not act
 pub span-Goes : (G : Protection) (m n : Marks) (v : ℕ) (w : SpanWay) → AddsSpan m n v w → IsSpan G m v (size m) w → (IsActor G v → ⊥) → Goes G m n
@@ -247,6 +236,21 @@ bridge-both G m n o v w adds reason act also = record {
   by q actor false at h =
       span_elsewhere n o v span.Itself also q at ∙ ap is_some (adds.spans q) ∙ h q actor ∙ sym (bridge_elsewhere m n v w adds q at) ∙ sym (ap is_some (also.bridges q))
 
+-- whichever marks mark the same are closed along the same edges
+alike_closed : (m n : Marks) → n.from ≡ m.from → ((v : ℕ) → is_spanned n v ≡ is_spanned m v) → ((v : ℕ) → is_bridged n v ≡ is_bridged m v) →
+    (G : Protection) (x y : ℕ) → ArePairClosed G n x y → ArePairClosed G m x y
+alike_closed m n own spans bridges G x y h = record {
+  take = λ t. record {
+    taken = λ p. sym (spans y) ∙ (h.take t).taken (spans x ∙ p);
+    reaching = λ p. sym (bridges x) ∙ (h.take t).reaching (bridges y ∙ p);
+  };
+  grant = λ g. record {
+    granting = λ p. sym (bridges y) ∙ (h.grant g).granting (spans x ∙ p);
+    granted = λ p. sym (bridges x) ∙ (h.grant g).granted (spans y ∙ p);
+    initial = λ is. sym (bridges x) ∙ (h.grant g).initial (is ∙ sym own);
+  };
+}
+
 -- if there are no more marks, what is marked then was before
 module _ (m n : Marks) (e : Extends m n) (same : size m ≡ size n) where
   pub spanned_before : (v : ℕ) → is_spanned n v ≡ is_spanned m v
@@ -255,35 +259,12 @@ module _ (m n : Marks) (e : Extends m n) (same : size m ≡ size n) where
   pub bridged_before : (v : ℕ) → is_bridged n v ≡ is_bridged m v
   bridged_before v = ap is_some (e.same_bridges same v)
 
-  pub take_before : (x y : ℕ) → AreTakeClosed n x y → AreTakeClosed m x y
-  take_before x y h = record {
-    taken = λ p. sym (spanned_before y) ∙ h.taken (spanned_before x ∙ p);
-    reaching = λ p. sym (bridged_before x) ∙ h.reaching (bridged_before y ∙ p);
-  }
-
-  pub grant_before : (x y : ℕ) → AreGrantClosed n x y → AreGrantClosed m x y
-  grant_before x y h = record {
-    granting = λ p. sym (bridged_before y) ∙ h.granting (spanned_before x ∙ p);
-    granted = λ p. sym (bridged_before x) ∙ h.granted (spanned_before y ∙ p);
-    initial = λ is. sym (bridged_before x) ∙ h.initial (is ∙ sym e.from);
-  }
-
   pub pair_before : (G : Protection) (x y : ℕ) → ArePairClosed G n x y → ArePairClosed G m x y
-  pair_before G x y h = record { take = λ t. take_before x y (h.take t); grant = λ g. grant_before x y (h.grant g) }
+  pair_before = alike_closed m n e.from spanned_before bridged_before
 
 -- and the other way round
 pub pair_after : (m n : Marks) → Extends m n → size m ≡ size n → (G : Protection) (x y : ℕ) → ArePairClosed G m x y → ArePairClosed G n x y
-pair_after m n e same G x y h = record {
-  take = λ t. record {
-    taken = λ p. spanned_before m n e same y ∙ (h.take t).taken (sym (spanned_before m n e same x) ∙ p);
-    reaching = λ p. bridged_before m n e same x ∙ (h.take t).reaching (sym (bridged_before m n e same y) ∙ p);
-  };
-  grant = λ g. record {
-    granting = λ p. bridged_before m n e same y ∙ (h.grant g).granting (sym (spanned_before m n e same x) ∙ p);
-    granted = λ p. bridged_before m n e same x ∙ (h.grant g).granted (sym (spanned_before m n e same y) ∙ p);
-    initial = λ is. bridged_before m n e same x ∙ (h.grant g).initial (is ∙ e.from);
-  };
-}
+pair_after m n e same = alike_closed n m (sym e.from) (λ v. sym (spanned_before m n e same v)) (λ v. sym (bridged_before m n e same v))
 
 module _ (m n o : Marks) (a : Extends m n) (b : Extends n o) (none : size m ≡ size o) where
   none_first : size m ≡ size n

@@ -45,7 +45,7 @@ only grant grant e = refl
 alone_held : (G : Protection) (x : ℕ) (r : Right) (y : ℕ) → Has G x r y → Holds G x (alone r) y
 alone_held G x r y h = holds_all G x (alone r) y (λ s e. subst (λ (q : Right). Has G x q y) (only r s e) h)
 
-includes_alone : (l : Letters) (r : Right) → has l r ≡ true → includes l (alone r) ≡ true
+pub includes_alone : (l : Letters) (r : Right) → has l r ≡ true → includes l (alone r) ≡ true
 includes_alone l r h = (are_set_operations.inclusion l (alone r)).1 (λ s e. subst (λ (q : Right). has l q ≡ true) (only r s e) h)
 
 -- a goal of no rights is met

@@ -2,8 +2,8 @@
 ghost use Rattle.std.specs.Prelude.{◌≡◌, ◌<◌, true, false, IfOk, OnOk, MatchOption};
 ghost use Rattle.tg_rights.specs.Letters.{is_none, take, grant};
 ghost use Rattle.tg_graph.specs.Rules.{last_serial};
-ghost use Rattle.tg_sharing.specs.Fetching.{IsBrought, IsDrawn, IsPassed, IsUnmarked};
-ghost use Rattle.tg_sharing.specs.Growing.{Continues, Draws, Keeps};
+ghost use Rattle.tg_sharing.specs.Fetching.{IsBrought, IsDrawn, IsOnTheWay, IsPassed, IsUnmarked};
+ghost use Rattle.tg_sharing.specs.Growing.{Continues, Keeps};
 ghost use Rattle.tg_sharing.specs.Marking.{AreMarks, is_bridged, is_spanned};
 ghost use Rattle.tg_sharing.specs.Paths.{Holds};
 ghost use Rattle.tg_sharing.specs.Spans.{Has, IsActor};
@@ -20,6 +20,15 @@ pub(crate) struct End {
     pub(crate) holder: u64,
     pub(crate) at: u64,
     pub(crate) is_own: bool,
+}
+
+impl End {
+    /// Who has the load, from where it can take, and whether that is the goal's own vertex.
+    fn new(holder: u64, at: u64, is_own: bool) -> End
+        ensures { result ≡ record { holder = holder; at = at; is_own = is_own } }
+    {
+        End { holder, at, is_own }
+    }
 }
 
 impl Derivation {
@@ -53,13 +62,7 @@ impl Derivation {
         end: u64,
         load: &Load,
     ) -> Result<Option<u64>, AllocError>
-        requires keeps { Keeps graph.now self.old.graph }
-        requires marks { AreMarks graph.now marks.now }
-        requires holder { IsActor graph.now holder }
-        requires draws { Draws self.old.graph holder at }
-        requires held { Holds self.old.graph holder load.now.rights load.now.over }
-        requires some { is_none load.now.rights ≡ false }
-        requires apart { IsUnmarked graph.now marks.now load.now.over }
+        requires way { IsOnTheWay graph.now self.old.graph marks.now load.now holder at }
         requires edge { Has graph.now end grant at }
         requires spanned { is_spanned marks.now end ≡ true }
         ensures continues { OnOk result (Continues self.old self.new) }
@@ -85,13 +88,7 @@ impl Derivation {
         end: u64,
         load: &Load,
     ) -> Result<u64, AllocError>
-        requires keeps { Keeps graph.now self.old.graph }
-        requires marks { AreMarks graph.now marks.now }
-        requires holder { IsActor graph.now holder }
-        requires draws { Draws self.old.graph holder at }
-        requires held { Holds self.old.graph holder load.now.rights load.now.over }
-        requires some { is_none load.now.rights ≡ false }
-        requires apart { IsUnmarked graph.now marks.now load.now.over }
+        requires way { IsOnTheWay graph.now self.old.graph marks.now load.now holder at }
         requires edge { Has graph.now at grant end }
         requires spanned { is_spanned marks.now end ≡ true }
         ensures continues { OnOk result (Continues self.old self.new) }
@@ -114,13 +111,7 @@ impl Derivation {
         at: u64,
         load: &Load,
     ) -> Result<Option<u64>, AllocError>
-        requires keeps { Keeps graph.now self.old.graph }
-        requires marks { AreMarks graph.now marks.now }
-        requires holder { IsActor graph.now holder }
-        requires draws { Draws self.old.graph holder at }
-        requires held { Holds self.old.graph holder load.now.rights load.now.over }
-        requires some { is_none load.now.rights ≡ false }
-        requires apart { IsUnmarked graph.now marks.now load.now.over }
+        requires way { IsOnTheWay graph.now self.old.graph marks.now load.now holder at }
         requires actor { IsActor graph.now at }
         requires spanned { is_spanned marks.now at ≡ true }
         ensures continues { OnOk result (Continues self.old self.new) }
@@ -159,16 +150,8 @@ impl Derivation {
         let mut bridge = marks.bridge_at(first);
         loop {
             match bridge.way {
-                BridgeWay::Own => return Ok(Some(End {
-                    holder,
-                    at,
-                    is_own: true,
-                })),
-                BridgeWay::Initial => return Ok(Some(End {
-                    holder,
-                    at,
-                    is_own: false,
-                })),
+                BridgeWay::Own => return Ok(Some(End::new(holder, at, true))),
+                BridgeWay::Initial => return Ok(Some(End::new(holder, at, false))),
                 BridgeWay::Granting(end) => {
                     let Some(next) = self.cross_granting(
                         alloc, graph, marks, holder, at, end, load,
@@ -176,22 +159,17 @@ impl Derivation {
                     else {
                         return Ok(None);
                     };
-                    holder = next;
-                    at = next;
-                    bridge = marks.bridge_at(next);
+                    (holder, at, bridge) = (next, next, marks.bridge_at(next));
                     continue;
                 }
                 BridgeWay::Granted(end) => {
                     let next = self.cross_granted(alloc, graph, marks, holder, at, end, load)?;
-                    holder = next;
-                    at = next;
-                    bridge = marks.bridge_at(next);
+                    (holder, at, bridge) = (next, next, marks.bridge_at(next));
                     continue;
                 }
                 BridgeWay::Reaching(next) => {
                     self.gain_take(holder, next, at)?;
-                    at = next;
-                    bridge = marks.bridge_at(next);
+                    (at, bridge) = (next, marks.bridge_at(next));
                     continue;
                 }
                 BridgeWay::Spanned => {
@@ -199,9 +177,7 @@ impl Derivation {
                     else {
                         return Ok(None);
                     };
-                    holder = next;
-                    at = next;
-                    bridge = marks.bridge_at(next);
+                    (holder, at, bridge) = (next, next, marks.bridge_at(next));
                     continue;
                 }
             }

@@ -90,6 +90,13 @@ const BEHIND_TAKE: &[(u64, Deed)] = &[
     (1, Deed::Remove("r", 4)),
 ];
 
+/// Alice may grant to bob and read carol, who could be on the way, since she has take over alice.
+const NEEDLESS: Case = Case {
+    edges: &[(1, "g", 2), (1, "r", 3), (3, "t", 1)],
+    to: 3,
+    ..SHARED
+};
+
 /// Alice has take over bob, and may read carol; no serial is left for a document.
 const LAST: Case = Case {
     edges: &[(1, "t", 2), (1, "r", 3)],
@@ -196,7 +203,19 @@ pub(crate) const CASES: &[Case] = &[
         want: Want::By(2),
         ..SHARED
     },
-    // Rights over actors on the way go by an envoy.
+    // A document of both does where otherwise a box would be made.
+    Case {
+        edges: &[(1, "tg", 2)],
+        deeds: &[
+            (1, Deed::Document("rw")),
+            (1, Deed::Document("tg")),
+            (1, Deed::Grant("t", 5, 2)),
+            (1, Deed::Remove("g", 2)),
+        ],
+        want: Want::By(2),
+        ..SHARED
+    },
+    // Rights over actors on the way go by an envoy, unless none is needed.
     Case {
         from: 3,
         rights: "g",
@@ -204,12 +223,7 @@ pub(crate) const CASES: &[Case] = &[
         want: Want::By(8),
         ..SHARED
     },
-    Case {
-        edges: &[(1, "g", 2), (1, "r", 3), (3, "t", 1)],
-        to: 3,
-        want: Want::By(4),
-        ..SHARED
-    },
+    NEEDLESS,
     // Who has retired does nothing, and others may still give to it.
     Case {
         deeds: &[(1, Deed::Document("rw")), (1, Deed::Retire)],
@@ -259,7 +273,7 @@ pub(crate) const CASES: &[Case] = &[
         want: Want::Never,
         ..SHARED
     },
-    // No serial is left for a box, one is, and none is needed.
+    // No serial is left for a box, one is, and none is needed, for a box or an envoy.
     LAST,
     Case {
         next: LAST_SERIAL,
@@ -270,6 +284,11 @@ pub(crate) const CASES: &[Case] = &[
         edges: &[(1, "g", 2), (1, "r", 3)],
         want: Want::By(1),
         ..LAST
+    },
+    Case {
+        next: LAST_SERIAL + 1,
+        deeds: &[],
+        ..NEEDLESS
     },
 ];
 

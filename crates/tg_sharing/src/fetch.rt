@@ -3,7 +3,7 @@
 ghost use Rattle.std.specs.Prelude.{◌≡◌, ◌≢◌, ◌<◌, ◌≤◌, true, false, IfOk, OnOk, MatchOption};
 ghost use Rattle.tg_rights.specs.Letters.{is_none, grant};
 ghost use Rattle.tg_graph.specs.Rules.{last_serial};
-ghost use Rattle.tg_sharing.specs.Fetching.{IsBrought, IsEnvoy, IsUnmarked};
+ghost use Rattle.tg_sharing.specs.Fetching.{IsBrought, IsEnvoy, IsSource, IsUnmarked};
 ghost use Rattle.tg_sharing.specs.Growing.{Continues, Draws, Keeps, both};
 ghost use Rattle.tg_sharing.specs.Marking.{AreMarks, is_bridged, is_spanned};
 ghost use Rattle.tg_sharing.specs.Paths.{Holds};
@@ -155,15 +155,10 @@ impl Derivation {
         rights: Rights,
         goal: &Goal,
     ) -> Result<Option<u64>, AllocError>
-        requires keeps { Keeps graph.now self.old.graph }
-        requires marks { AreMarks graph.now marks.now }
-        requires own { marks.now.from ≡ goal.now.from }
+        requires source { IsSource graph.now self.old.graph marks.now goal.now rights source }
         requires first { IsActor graph.now first }
         requires bridged { is_bridged marks.now first ≡ true }
         requires draws { Draws self.old.graph first source }
-        requires held { Holds graph.now source rights goal.now.to }
-        requires some { is_none rights ≡ false }
-        requires apart { goal.now.from ≢ goal.now.to }
         ensures continues { OnOk result (Continues self.old self.new) }
         ensures met { IfOk result (λ o. MatchOption o (last_serial < self.new.graph.next) (λ _. Holds self.new.graph goal.now.from rights goal.now.to)) }
     {
@@ -193,16 +188,11 @@ impl Derivation {
         rights: Rights,
         goal: &Goal,
     ) -> Result<Option<u64>, AllocError>
-        requires keeps { Keeps graph.now self.old.graph }
-        requires marks { AreMarks graph.now marks.now }
-        requires own { marks.now.from ≡ goal.now.from }
+        requires source { IsSource graph.now self.old.graph marks.now goal.now rights source }
         requires first { IsActor graph.now first }
         requires bridged { is_bridged marks.now first ≡ true }
         requires draws { Draws self.old.graph first source }
-        requires held { Holds graph.now source rights goal.now.to }
-        requires some { is_none rights ≡ false }
         requires unmarked { IsUnmarked graph.now marks.now goal.now.to }
-        requires apart { goal.now.from ≢ goal.now.to }
         ensures continues { OnOk result (Continues self.old self.new) }
         ensures met { IfOk result (λ o. MatchOption o (last_serial < self.new.graph.next) (λ _. Holds self.new.graph goal.now.from rights goal.now.to)) }
     {
@@ -228,13 +218,8 @@ impl Derivation {
         rights: Rights,
         goal: &Goal,
     ) -> Result<Option<u64>, AllocError>
-        requires keeps { Keeps graph.now self.old.graph }
-        requires marks { AreMarks graph.now marks.now }
-        requires own { marks.now.from ≡ goal.now.from }
+        requires source { IsSource graph.now self.old.graph marks.now goal.now rights source }
         requires spanned { is_spanned marks.now source ≡ true }
-        requires held { Holds graph.now source rights goal.now.to }
-        requires some { is_none rights ≡ false }
-        requires apart { goal.now.from ≢ goal.now.to }
         ensures continues { OnOk result (Continues self.old self.new) }
         ensures met { IfOk result (λ o. MatchOption o (last_serial < self.new.graph.next) (λ _. Holds self.new.graph goal.now.from rights goal.now.to)) }
     {

@@ -8,7 +8,8 @@
 //! them.
 //!
 //! `marks` sets these marks, each for a reason; `search` finds quickly in which order, and `follow` shows that there are no
-//! more; `builder`, `carry` and `fetch` derive steps from the reasons, and `sharing` answers.
+//! more; `builder`, `carry` and `fetch` derive steps from the reasons, `gains` and `plain` look for some that make no
+//! vertices, and `sharing` answers, `prospect` and `lookup` of many vertices at once.
 #![tactic(auto)]
 
 ghost use Rattle.tg_sharing.specs.Laws.{WithheldForEver};
@@ -19,13 +20,17 @@ mod carry;
 mod cases;
 mod fetch;
 mod follow;
+mod gains;
+mod lookup;
 mod marks;
+mod plain;
 mod prospect;
 mod search;
 mod sharing;
 #[cfg(test)]
 mod tests;
 
+pub use lookup::{Listing, every_holder, every_target};
 pub use prospect::{Could, Prospect, what_could, who_could};
 pub use sharing::{Answer, can_share};
 use tg_graph::{allowed_is_met, commands_keep_graphs};

@@ -8,7 +8,7 @@ ghost use Rattle.tg_sharing.specs.Prospects.{AreCould, AreLabelsOf, IsCould, IsG
 
 use crate::builder::Derivation;
 use crate::marks::Marks;
-use crate::sharing::{Answer, can_share};
+use crate::sharing::{Answer, answered};
 use crate::withheld_for_ever;
 use std::alloc::{AllocError, Global};
 use tg_graph::{Goal, Graph, Step};
@@ -149,7 +149,7 @@ fn whether(alloc: Global, graph: &Graph, goal: Goal) -> Result<Could, AllocError
     requires to { IsVertex graph.now goal.to }
     ensures { IfOk result (IsCould graph.now goal) }
 {
-    match can_share(alloc, graph, goal)? {
+    match answered(alloc, graph, goal, false)? {
         Answer::Never => Ok(Could::Never),
         Answer::By(_) => Ok(Could::Ever),
         Answer::Unknown(_) => Ok(Could::Unknown),

@@ -5,14 +5,16 @@ ghost use Rattle.tg_graph.specs.Protection.{IsVertex};
 ghost use Rattle.tg_sharing.specs.Answers.{IsAnswer};
 ghost use Rattle.tg_sharing.specs.Fetching.{AreFound, IsFound, IsHolder, IsLacking, alone};
 ghost use Rattle.tg_sharing.specs.Growing.{Continues, Keeps};
-ghost use Rattle.tg_sharing.specs.Marking.{AreMarks};
+ghost use Rattle.tg_sharing.specs.Marking.{AreMarks, is_bridged, is_spanned};
+ghost use Rattle.tg_sharing.specs.Spans.{AreClosed};
 
 use crate::builder::Derivation;
 use crate::marks::Marks;
+use crate::plain::plain_steps;
 use crate::withheld_for_ever;
 use std::alloc::{AllocError, Global};
 use tg_graph::{Goal, Graph, Step, commands_keep_graphs};
-use tg_rights::Rights;
+use tg_rights::{Command, Rights};
 
 /// Whether a goal's rights can be shared.
 #[derive(Debug, Drop)]
@@ -22,7 +24,7 @@ pub enum Answer {
     /// By these steps.
     By(Vec<Step>),
     /// Not known: no serial is left after these steps, the first of a derivation that makes more vertices. Others may do
-    /// with fewer.
+    /// with fewer; in a graph of up to 128 vertices none does without (see `can_share`).
     Unknown(Vec<Step>),
 }
 
@@ -170,10 +172,66 @@ impl Derivation {
     }
 }
 
-/// Whether the goal's rights can ever be shared, whatever the subjects do (Bishop's can.share, for a set of rights):
-/// `Never`, or `By` steps that the rules allow one after another and that meet the goal. `Unknown` only where serials run
-/// out, of which there are nearly 2^64. `AllocError` if there is no memory for the answer.
-pub fn can_share(alloc: Global, graph: &Graph, goal: Goal) -> Result<Answer, AllocError>
+/// The answer by the marks, if they do not say that it is never. Its steps may make vertices where others do without.
+fn derived(alloc: Global, graph: &Graph, marks: &Marks, goal: &Goal) -> Result<Answer, AllocError>
+    requires from { IsVertex graph.now goal.now.from }
+    requires to { IsVertex graph.now goal.now.to }
+    requires some { is_none goal.now.rights ≡ false }
+    requires apart { goal.now.from ≢ goal.now.to }
+    requires own { marks.now.from ≡ goal.now.from }
+    requires marks { AreMarks graph.now marks.now }
+    requires closed { AreClosed graph.now goal.now.from (is_spanned marks.now) (is_bridged marks.now) }
+    ensures { IfOk result (IsAnswer graph.now goal.now) }
+{
+    graph.soundness();
+    withheld_for_ever();
+    let mut derivation = Derivation::new(alloc, graph.copy()?);
+    match derivation.share_all(alloc, graph, marks, goal)? {
+        Found::Nobody => Ok(Answer::Never),
+        Found::NoSerial => Ok(Answer::Unknown(derivation.steps)),
+        Found::Here => Ok(Answer::By(derivation.steps)),
+    }
+}
+
+/// Whether the step makes a vertex.
+fn makes_vertex(step: &Step) -> bool {
+    matches!(step.command, Command::Create { kind: _, rights: _ })
+}
+
+/// Whether a plain derivation may be found where this is the answer: it makes vertices, which counts if `for_steps` says
+/// so, or is not known.
+fn is_open(answer: &Answer, for_steps: bool) -> bool {
+    match answer {
+        Answer::Never => false,
+        Answer::By(steps) => for_steps && steps.iter().any(makes_vertex),
+        Answer::Unknown(_) => true,
+    }
+}
+
+/// A plain derivation in place of the answer, if one is found.
+fn plainly(
+    alloc: Global,
+    graph: &Graph,
+    marks: &Marks,
+    goal: &Goal,
+    answer: Answer,
+) -> Result<Answer, AllocError>
+    requires { IsAnswer graph.now goal.now answer }
+    ensures { IfOk result (IsAnswer graph.now goal.now) }
+{
+    match plain_steps(alloc, graph, marks, goal)? {
+        Some(steps) => Ok(Answer::By(steps)),
+        None => Ok(answer),
+    }
+}
+
+/// As `can_share`; if only the answer counts, steps that make vertices will do where others do without.
+pub(crate) fn answered(
+    alloc: Global,
+    graph: &Graph,
+    goal: Goal,
+    for_steps: bool,
+) -> Result<Answer, AllocError>
     requires from { IsVertex graph.now goal.from }
     requires to { IsVertex graph.now goal.to }
     ensures { IfOk result (IsAnswer graph.now goal) }
@@ -191,10 +249,23 @@ pub fn can_share(alloc: Global, graph: &Graph, goal: Goal) -> Result<Answer, All
     if is_never(graph, &marks, &goal) {
         return Ok(Answer::Never);
     }
-    let mut derivation = Derivation::new(alloc, graph.copy()?);
-    match derivation.share_all(alloc, graph, &marks, &goal)? {
-        Found::Nobody => Ok(Answer::Never),
-        Found::NoSerial => Ok(Answer::Unknown(derivation.steps)),
-        Found::Here => Ok(Answer::By(derivation.steps)),
+    let answer = derived(alloc, graph, &marks, &goal)?;
+    if is_open(&answer, for_steps) {
+        return plainly(alloc, graph, &marks, &goal, answer);
     }
+    Ok(answer)
+}
+
+/// Whether the goal's rights can ever be shared, whatever the subjects do (Bishop's can.share, for a set of rights):
+/// `Never`, or `By` steps that the rules allow one after another and that meet the goal. `Unknown` only where serials run
+/// out, of which there are nearly 2^64. `AllocError` if there is no memory for the answer.
+///
+/// No step makes a vertex where some derivation does without, if at most 128 vertices are spanned, as in each graph of up
+/// to 128; tests say so, and no clause. If more are spanned, a derivation that does without is looked for among 128 of them.
+pub fn can_share(alloc: Global, graph: &Graph, goal: Goal) -> Result<Answer, AllocError>
+    requires from { IsVertex graph.now goal.from }
+    requires to { IsVertex graph.now goal.to }
+    ensures { IfOk result (IsAnswer graph.now goal) }
+{
+    answered(alloc, graph, goal, true)
 }

@@ -5,10 +5,10 @@ use Rattle.tg_sharing.proofs.prospect.whether.Goals as goal
 
 pub returns-in-By : goal.returns-in-By
 returns-in-By c =
-    let is = subst (λ (a : Answer). IsAnswer c.args.graph.now c.args.goal a) c.in-By.is c.in_ok-can_share.ensures in
+    let is = subst (λ (a : Answer). IsAnswer c.args.graph.now c.args.goal a) c.in-By.is c.in_ok-answered.ensures in
     record { steps = c.in-By.field-0.items; reached = is.0; derived = is.1; shared = is.2 }
 
 pub returns : goal.returns
 returns c =
-    let is = subst (λ (a : Answer). IsAnswer c.args.graph.now c.args.goal a) c.in-Unknown.is c.in_ok-can_share.ensures in
+    let is = subst (λ (a : Answer). IsAnswer c.args.graph.now c.args.goal a) c.in-Unknown.is c.in_ok-answered.ensures in
     (c.in-Unknown.field-0.items, is.0, is.1, is.2)

@@ -19,7 +19,7 @@ loop-bridge-preserved-in-Reaching c =
     let step = c.in_ok-gain_take-in-Reaching.ensures in
     record {
       continues = Continues-trans c.args.self.now V W c.loop-bridge.invariant.continues step.continues;
-      bridge = c.bridge_at-bridge-in-Reaching.ensures;
+      bridge = c.bridge_at-in-Reaching.ensures;
       holder = c.loop-bridge.invariant.holder;
       draws = draws_gained W.graph c.loop-bridge.holder c.in-Reaching.next step.gained;
       held = keeps_holds V.graph W.graph step.continues.keeps c.loop-bridge.holder c.args.load.now.rights c.args.load.now.over c.loop-bridge.invariant.held;

@@ -15,7 +15,7 @@ pub arm-requires-clause-ready : goal.arm-requires-clause-ready
 arm-requires-clause-ready c =
     let G = c.args.graph.now in
     let W = c.make.new.self.graph in
-    keeps_holds G W (Keeps-trans G c.args.self.now.graph W c.requires.keeps c.in_ok-envoy.ensures.continues.keeps) c.args.source c.args.rights c.args.goal.now.to c.requires.held
+    keeps_holds G W (Keeps-trans G c.args.self.now.graph W c.requires.source.keeps c.in_ok-envoy.ensures.continues.keeps) c.args.source c.args.rights c.args.goal.now.to c.requires.source.held
 
 pub arm-requires-clause-source : goal.arm-requires-clause-source
 arm-requires-clause-source c = λ is.
@@ -23,8 +23,8 @@ arm-requires-clause-source c = λ is.
     let V = c.args.self.now.graph in
     let made = MatchOption-at_some (last_serial < c.make.new.self.graph.next) (Makes c.args.self.now c.make.new.self c.args.first kind.Subject) c.in-Some.envoy c.in-Some.is c.in_ok-envoy.ensures.made in
     let fresh : c.in-Some.envoy ≡ V.next = made.fresh in
-    let low : c.args.source < G.next = holder_low G c.soundness.ensures c.args.source c.args.rights c.args.goal.now.to c.requires.some c.requires.held in
-    let kept : G.next ≤ V.next = c.requires.keeps.next in
+    let low : c.args.source < G.next = holder_low G c.soundness.ensures c.args.source c.args.rights c.args.goal.now.to c.requires.source.some c.requires.source.held in
+    let kept : G.next ≤ V.next = c.requires.source.keeps.next in
     absurd (omega (arith, fresh, low, kept, is))
 
 pub arm-requires-clause-to : goal.arm-requires-clause-to
@@ -33,8 +33,8 @@ arm-requires-clause-to c = λ is.
     let V = c.args.self.now.graph in
     let made = MatchOption-at_some (last_serial < c.make.new.self.graph.next) (Makes c.args.self.now c.make.new.self c.args.first kind.Subject) c.in-Some.envoy c.in-Some.is c.in_ok-envoy.ensures.made in
     let fresh : c.in-Some.envoy ≡ V.next = made.fresh in
-    let low : c.args.goal.now.to < G.next = held_low G c.soundness.ensures c.args.source c.args.rights c.args.goal.now.to c.requires.some c.requires.held in
-    let kept : G.next ≤ V.next = c.requires.keeps.next in
+    let low : c.args.goal.now.to < G.next = held_low G c.soundness.ensures c.args.source c.args.rights c.args.goal.now.to c.requires.source.some c.requires.source.held in
+    let kept : G.next ≤ V.next = c.requires.source.keeps.next in
     absurd (omega (arith, fresh, low, kept, is))
 
 pub carry-requires-clause-held : goal.carry-requires-clause-held
