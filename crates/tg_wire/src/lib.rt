@@ -2,6 +2,7 @@
 #![tactic(auto)]
 
 mod config;
+mod explain;
 mod fault;
 mod field;
 mod flat;
@@ -20,6 +21,7 @@ mod write;
 mod write_step;
 
 pub use config::{read_config, read_goal};
+pub use explain::{LineKind, key_at_fault};
 pub use fault::WireFault;
 pub use laws::{
     configs_say, goals_read_back, goals_say, lines_say, one_reply_a_line, steps_read_back,
@@ -29,7 +31,7 @@ pub use line::{LONGEST_LINE, Line};
 pub use line_room::LineRoom;
 pub use read::{read_line, read_step};
 pub use refusal::{error_line, open_fault_line};
-pub use unshared::{Unshared, write_unshared_in};
+pub use unshared::{Unshared, write_could_in, write_unshared_in};
 pub use write::{
     write_answer, write_answer_in, write_reply, write_reply_in, write_swept, write_swept_in,
     write_verdict,

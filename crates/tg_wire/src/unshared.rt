@@ -1,13 +1,14 @@
-//! The answers to whether rights can ever be shared that bring no steps.
+//! The answers to whether rights can ever be shared that bring no steps, and to which vertices they can be.
 
 ghost use Rattle.std.specs.Prelude.{◌≡◌, IfOk};
 ghost use Rattle.serde_json.specs.Data.{object, member, no_members, string};
 ghost use Rattle.tg_wire.specs.Faults.{line_text};
-ghost use Rattle.tg_wire.specs.Unshared.{unshared_line};
+ghost use Rattle.tg_wire.specs.Unshared.{could_line, unshared_line};
 
 use crate::line_room::LineRoom;
 use crate::object_line::{Told, object_line};
 use std::alloc::AllocError;
+use tg_rights::Rights;
 
 /// An answer to whether rights can ever be shared that brings no steps.
 #[derive(Clone, Copy, PartialEq, Eq, Debug)]
@@ -20,6 +21,10 @@ pub enum Unshared {
     NoVertex { vertex: u64 },
     /// There is no principal of the name.
     NoPrincipal,
+    /// No right is asked for where vertices are to be listed.
+    NoRights,
+    /// It takes more than it may.
+    TooMuch,
 }
 
 /// The line of the answer, which ends with a line feed. Keys are in rising order, with no white space. In a buffer that is
@@ -40,7 +45,18 @@ pub fn write_unshared_in(room: &mut LineRoom, unshared: Unshared) -> Result<Vec<
             ],
         ),
         Unshared::NoPrincipal => worded_line(room, "error", "no principal"),
+        Unshared::NoRights => worded_line(room, "error", "no rights"),
+        Unshared::TooMuch => worded_line(room, "error", "too much"),
     }
+}
+
+/// The line of the vertices of which rights can ever be shared, each with those of the rights that are there now. In a
+/// buffer that is kept, and with the error of `write_unshared_in`.
+#[tactic(auto, unfolding(crate::specs::Unshared::could_line))]
+pub fn write_could_in(room: &mut LineRoom, could: &[(u64, Rights)]) -> Result<Vec<u8>, AllocError>
+    ensures { IfOk result (λ line. line.items ≡ could_line could.now) }
+{
+    object_line(room, &[("could", Told::Edges(could))])
 }
 
 /// The line of an object with this word under this key.
