@@ -129,17 +129,23 @@ pub record AreRounds (connections round full : ℕ) : Type 0 where
   pub enough : connections ≤ suc full * round
   pub needed : 0 < full → full * round < connections
 
--- a server that may wait for ever and use all memory
+-- a server that may wait for ever and use all memory, to which nobody attends
 abbrev pub unbounded : Operating
-unbounded = record { patience = None; memory = None }
+unbounded = record { patience = None; memory = None; is_endless = false; is_attended = false; notifies = false; keeps_history = false }
 
--- there are as many vaults as so many connections need rebases, unless the memory of a round has a bound; each has
--- agreed and was rebased, and for each the line of a rebase that drops its history was sent
+-- the connections alone say how many rounds there are: no memory is reached that would end one, and nobody attends
+pub record IsCounted (operating : Operating) : Type 0 where
+  pub memory : operating.memory ≡ None
+  pub ends : operating.is_endless ≡ false
+  pub alone : operating.is_attended ≡ false
+
+-- there are as many vaults as so many connections need rebases, if these alone count; each has agreed and was rebased,
+-- and for each the line of a rebase that drops its history was sent
 pub record HasRounds (operating : Operating) (connections round : ℕ) (old new : Option (List ℕ)) (failed : Bool) : Type 0 where
   pub rebased : List Contents
   pub agreed : HaveAgreed rebased
   pub fresh : HaveRebased rebased
-  pub rounds : operating.memory ≡ None → AreRounds connections round (length rebased)
+  pub rounds : IsCounted operating → AreRounds connections round (length rebased)
   pub sent : Sends old new failed (rebased_lines rebased)
 
 -- what is written of how the rounds ended, and whether the server has settled: nothing, if its address was not written
@@ -165,7 +171,7 @@ pub record IsServed (operating : Operating) (connections round : ℕ) (old new :
   pub rebased : List Contents
   pub agreed : HaveAgreed (last ∷ rebased)
   pub fresh : HaveRebased rebased
-  pub rounds : operating.memory ≡ None → 1 ≤ round → AreRounds connections round (length rebased)
+  pub rounds : IsCounted operating → 1 ≤ round → AreRounds connections round (length rebased)
   pub appended : Appends old new (listening_line address ++ (rebased_lines rebased ++ agreed_line))
 
 -- these lines begin with a configuration that opens this vault

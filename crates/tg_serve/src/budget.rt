@@ -125,6 +125,11 @@ impl Budget {
             >= bound
     }
 
+    /// How much is kept so far, if there is a bound.
+    pub(crate) fn bytes(&self) -> u64 {
+        self.kept.load(Ordering::SeqCst)
+    }
+
     /// Whether the bound is reached.
     pub(crate) fn is_spent(&self) -> bool {
         match self.bound {

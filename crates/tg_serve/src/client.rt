@@ -3,13 +3,23 @@
 ghost use Rattle.std.specs.Prelude.{◌≡◌, ◌≤◌, ◌<◌, ℕ, length, IfOk};
 
 use crate::budget::{Budget, SetAside};
+use crate::desk::{Course, Desk};
 use crate::door::tick;
+use crate::tally::Tally;
 use crate::waiting::{Waited, Waiting, too_long};
 use std::alloc::{AllocError, Global};
 use std::io;
 use std::io::{Read, Write};
 use std::net::OpenStream;
 use std::rt::Clock;
+use std::sync::atomic::Ordering;
+
+/// The worker at which a client is served, and the desk to which it tells of it.
+#[derive(Clone, Copy, Drop)]
+pub(crate) struct Seat<'a> {
+    pub(crate) desk: &'a Desk,
+    pub(crate) worker: u64,
+}
 
 /// The most bytes that are read at once.
 const CHUNK: usize = 32_768;
@@ -22,12 +32,13 @@ pub(crate) fn wait_in_ticks<S: OpenStream>(stream: &S) -> io::Result<()> {
 
 /// What a client sends. A read fails once the client has kept the server waiting for too long for a line: from the read
 /// in which its first byte is awaited to that which brings its line feed. The client's lines are at an end as soon as
-/// its round takes no more of them.
+/// its round takes no more of them; and once its round waits for no more, as soon as those that have come are taken.
 #[derive(Drop)]
 pub(crate) struct ClientReader<'a, D, C> {
     device: D,
     clock: &'a C,
     budget: &'a Budget,
+    seat: Seat<'a>,
     waiting: Waiting,
     /// What was read and not yet handed out, behind what was.
     read: Vec<u8>,
@@ -44,6 +55,7 @@ impl<'a, D: Read + Drop, C: Clock> ClientReader<'a, D, C> {
         device: D,
         clock: &'a C,
         budget: &'a Budget,
+        seat: Seat<'a>,
         patience: Option<u64>,
     ) -> Result<ClientReader<'a, D, C>, AllocError> {
         let room = if budget.is_bounded() { CHUNK } else { 0 };
@@ -52,6 +64,7 @@ impl<'a, D: Read + Drop, C: Clock> ClientReader<'a, D, C> {
             device,
             clock,
             budget,
+            seat,
             waiting: Waiting::new(patience),
             read,
             handed_out: 0,
@@ -66,7 +79,8 @@ impl<'a, D: Read + Drop, C: Clock> ClientReader<'a, D, C> {
     {
         let most = buf.len().min(CHUNK);
         for _ in 0..u64::MAX {
-            if self.budget.is_spent() {
+            let course = self.seat.desk.course();
+            if self.budget.is_spent() || course == Course::Over {
                 return Ok(0);
             }
             if self.waiting.is_over() {
@@ -75,6 +89,9 @@ impl<'a, D: Read + Drop, C: Clock> ClientReader<'a, D, C> {
             let start = self.waiting.start(self.clock)?;
             let result = self.device.read(&mut buf[..most]);
             let Waited::Moved(count) = self.waiting.note(self.clock, start, result)? else {
+                if course == Course::Ending {
+                    return Ok(0);
+                }
                 continue;
             };
             if buf[..count].contains(&b'\n') {
@@ -134,6 +151,9 @@ impl<D: Read + Drop, C: Clock> Read for ClientReader<'_, D, C> {
         } else {
             count
         };
+        if self.seat.desk.is_attended() && lines > 0 {
+            self.seat.desk.hear(self.clock, self.seat.worker, lines);
+        }
         self.keep_rest(bytes, end)?;
         Ok(end)
     }
@@ -172,16 +192,41 @@ fn end_of_lines(bytes: &[u8], lines: u64) -> usize
 pub(crate) struct ClientWriter<'a, D, C> {
     device: D,
     clock: &'a C,
+    seat: Seat<'a>,
+    tally: Tally,
     waiting: Waiting,
 }
 
 impl<'a, D: Write, C: Clock> ClientWriter<'a, D, C> {
     /// What the client of this connection is answered, with a patience of so many seconds.
-    pub(crate) fn new(device: D, clock: &'a C, patience: Option<u64>) -> ClientWriter<'a, D, C> {
+    pub(crate) fn new(
+        device: D,
+        clock: &'a C,
+        seat: Seat<'a>,
+        patience: Option<u64>,
+    ) -> ClientWriter<'a, D, C> {
         ClientWriter {
             device,
             clock,
+            seat,
+            tally: Tally::new(),
             waiting: Waiting::new(patience),
+        }
+    }
+
+    /// Tells the desk what these answers are.
+    fn tell(&mut self, bytes: &[u8]) {
+        let desk = self.seat.desk;
+        let tallied = self.tally.note(bytes);
+        desk.counts
+            .refused
+            .fetch_add(tallied.refused, Ordering::SeqCst);
+        desk.counts
+            .denied
+            .fetch_add(tallied.denied, Ordering::SeqCst);
+        desk.counts.full.fetch_add(tallied.full, Ordering::SeqCst);
+        if let Some(principal) = tallied.greeted {
+            desk.greet(self.seat.worker, principal);
         }
     }
 }
@@ -195,6 +240,9 @@ impl<D: Write, C: Clock> Write for ClientWriter<'_, D, C> {
             let start = self.waiting.start(self.clock)?;
             let result = self.device.write(buf);
             if let Waited::Moved(count) = self.waiting.note(self.clock, start, result)? {
+                if self.seat.desk.is_attended() {
+                    self.tell(buf.get(..count).unwrap_or(buf));
+                }
                 return Ok(count);
             }
         }

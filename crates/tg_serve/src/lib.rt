@@ -1,8 +1,10 @@
 //! A server: a vault served to clients over connections, in rounds, while a collector runs.
 #![tactic(auto)]
 
+mod attending;
 mod budget;
 mod client;
+mod desk;
 mod door;
 mod key;
 mod listening;
@@ -11,15 +13,22 @@ mod pace;
 mod platform;
 mod rounds;
 mod serve;
+mod socket;
+mod status;
 mod system;
+mod tally;
 mod telling;
 #[cfg(test)]
 mod tests;
 mod waiting;
 
+pub use attending::attend;
+pub use desk::{Departure, Desk, Notice};
 pub use listening::{serve_lines, serve_lines_operated};
 pub use operating::Operating;
 pub use platform::Platform;
 pub use rounds::{serve_on, serve_operated};
 pub use serve::Served;
+pub use socket::control_socket;
+pub use status::Serving;
 pub use system::{available_memory, most_open_files};

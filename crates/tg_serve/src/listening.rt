@@ -5,6 +5,7 @@ ghost use Rattle.std.specs.Net.Socket.{socket_ip};
 ghost use Rattle.tg_talk.specs.Devices.{Sends, device_of, has_failed};
 ghost use Rattle.tg_serve.specs.Serving.{IsServed, OpensBytes, RefusesBytes, unbounded};
 
+use crate::desk::Desk;
 use crate::key::key_or_fixed;
 use crate::operating::Operating;
 use crate::platform::Platform;
@@ -34,6 +35,7 @@ pub fn serve_lines<N: Platform, R: Read, W: Write>(
     requires writes { has_failed writer.old ≡ false }
     ensures { result.settled ≡ true → IsServed unbounded connections round (W.contents (device_of writer.old)) (W.contents (device_of writer.new)) (has_failed writer.new) }
 {
+    let desk = Desk::unattended(alloc);
     serve_lines_operated(
         rt,
         alloc,
@@ -44,6 +46,7 @@ pub fn serve_lines<N: Platform, R: Read, W: Write>(
         connections,
         round,
         Operating::none(),
+        &desk,
     )
 }
 
@@ -63,6 +66,7 @@ pub fn serve_lines_operated<N: Platform, R: Read, W: Write>(
     connections: u64,
     round: u64,
     operating: Operating,
+    desk: &Desk,
 ) -> Served
     requires reads { has_failed reader.old ≡ false }
     requires writes { has_failed writer.old ≡ false }
@@ -83,6 +87,7 @@ pub fn serve_lines_operated<N: Platform, R: Read, W: Write>(
                 connections,
                 round,
                 operating,
+                desk,
             ),
         },
     }

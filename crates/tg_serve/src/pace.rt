@@ -3,6 +3,7 @@
 //! slow that thread is. No contract says so.
 
 use crate::budget::Budget;
+use crate::desk::Desk;
 use crate::door::Door;
 use std::rt::Clock;
 use std::sync::Wait;
@@ -94,6 +95,7 @@ pub(crate) struct Assisting<'a, L: Ledger> {
     pub(crate) shared: &'a Shared<L>,
     pub(crate) budget: &'a Budget,
     pub(crate) door: &'a Door<'a>,
+    pub(crate) desk: &'a Desk,
 }
 
 impl<'a, L: Ledger> Gate for Assisting<'a, L> {
@@ -103,10 +105,11 @@ impl<'a, L: Ledger> Gate for Assisting<'a, L> {
         if self.budget.keep(command, reply) {
             self.door.close();
         }
+        self.desk.count_entry();
         if !matches!(reply, Reply::Created(_)) {
             return;
         }
         let steps = assist_steps(self.shared.room(rt));
-        let _ = self.shared.collector(rt, steps, &Open);
+        self.desk.note_work(self.shared.collector(rt, steps, &Open));
     }
 }

@@ -1,10 +1,11 @@
 //! A server that serves its connections in rounds: between two of them what lives becomes the opening graph, and the
 //! history is dropped.
-ghost use Rattle.std.specs.Prelude.{◌≡◌, ◌≤◌, ◌<◌, [], IfErr, IfOk, None, false, length, true};
+ghost use Rattle.std.specs.Prelude.{◌≡◌, ◌≤◌, ◌-◌, ◌↔◌, ◌⊎◌, [], IfErr, IfOk, false, length, min, true};
 ghost use Rattle.tg_talk.specs.Devices.{device_of, has_failed};
 ghost use Rattle.tg_vault.specs.Rebase.{IsRebased};
-ghost use Rattle.tg_serve.specs.Serving.{Concludes, EndsServer, HasAgreed, HasRebased, HasRounds, IsServed, SendsOn, rebased_line, unbounded};
+ghost use Rattle.tg_serve.specs.Serving.{Concludes, EndsServer, HasAgreed, HasRebased, HasRounds, IsCounted, IsServed, SendsOn, rebased_line, unbounded};
 
+use crate::desk::Desk;
 use crate::door::{Door, wait_in_ticks};
 use crate::operating::Operating;
 use crate::serve::{Served, Service, Unsettled, serve_round};
@@ -37,6 +38,7 @@ pub fn serve_on<R: Threads + Wait + Clock + Sync, W: Write>(
     requires writes { has_failed writer.old ≡ false }
     ensures { result.settled ≡ true → IsServed unbounded connections round (W.contents (device_of writer.old)) (W.contents (device_of writer.new)) (has_failed writer.new) }
 {
+    let desk = Desk::unattended(alloc);
     serve_operated(
         rt,
         alloc,
@@ -47,6 +49,7 @@ pub fn serve_on<R: Threads + Wait + Clock + Sync, W: Write>(
         connections,
         round,
         Operating::none(),
+        &desk,
     )
 }
 
@@ -69,7 +72,11 @@ pub fn serve_on<R: Threads + Wait + Clock + Sync, W: Write>(
 ///
 /// Once the history and the logs of a round take as much memory as they may, its talks end as at the end of their
 /// clients' lines, it takes no further connection, and it is settled. The next round follows, if the connections are
-/// served in more than one; otherwise the server ends.
+/// served in more than one, or without an end; otherwise the server ends.
+///
+/// If the server is attended, it ends with this round once it is asked to stop at the desk, and goes on with the next
+/// one if a round is to end: nobody is let in any more, and after the time that was named with the request each talk
+/// ends once it has answered the lines that have come, a second later before any further line.
 pub fn serve_operated<R: Threads + Wait + Clock + Sync, W: Write>(
     rt: &R,
     alloc: Global,
@@ -80,6 +87,7 @@ pub fn serve_operated<R: Threads + Wait + Clock + Sync, W: Write>(
     connections: u64,
     round: u64,
     operating: Operating,
+    desk: &Desk,
 ) -> Served
     requires empty { vault.history ≡ [] }
     requires writes { has_failed writer.old ≡ false }
@@ -91,6 +99,7 @@ pub fn serve_operated<R: Threads + Wait + Clock + Sync, W: Write>(
         listener,
         workers,
         operating,
+        desk,
     };
     // Without this the door is looked at only when a client comes.
     let _ = wait_in_ticks(listener);
@@ -126,8 +135,7 @@ pub(crate) fn conclude<W: Write>(
 }
 
 /// Serves all connections in rounds, and rebases the vault after each but the last. The first round whose logs do not
-/// agree, or rebase that fails, ends it; so does the first round of all if it was to serve all connections. Returns the
-/// vault of the last round.
+/// agree, or rebase that fails, ends it. Returns the vault of the last round.
 fn serve_rounds<R: Threads + Wait + Clock + Sync, W: Write>(
     service: &Service<'_, R>,
     writer: &mut Watched<W>,
@@ -144,31 +152,68 @@ fn serve_rounds<R: Threads + Wait + Clock + Sync, W: Write>(
 {
     let mut vault = opened;
     let mut left = connections;
-    let mut number = 1;
-    'rounds: loop {
-        let size = left.min(round);
+    let mut number = 1u64;
+    'rounds: for _ in service.rt.forever() {
+        let size = size_of(service, left, round);
         let door = Door::new(service.listener, size);
+        service.desk.begin_round(number);
         let settled = serve_round::<Brand, R>(service, &door, Blank::new(PARTS), vault)?;
-        left -= taken_of(service, &door, size);
-        if left == 0 || connections <= round {
+        service.desk.conclude_round();
+        service
+            .desk
+            .settle(service.rt, service.alloc, service.operating, &settled);
+        left = left_after(service, &door, left, size);
+        if is_last(service, left, connections, round) {
             return Ok(settled);
         }
+        let Some(next) = number.checked_add(1) else {
+            return Ok(settled);
+        };
         vault = rebase(writer, is_announced, settled, number)?;
-        number += 1;
+        number = next;
     }
+    unreachable!()
 }
 
-/// How many of a round's connections were taken: all, unless the memory of a round has a bound, and one at least.
-fn taken_of<R: Wait>(service: &Service<'_, R>, door: &Door<'_>, size: u64) -> u64
-    ensures few { result ≤ size }
-    ensures some { 0 < size → 0 < result }
-    ensures all { service.now.operating.memory ≡ None → result ≡ size }
+/// How many connections a round may take.
+fn size_of<R>(service: &Service<'_, R>, left: u64, round: u64) -> u64
+    ensures counted { IsCounted service.now.operating → result ≡ min left round }
 {
-    if service.operating.memory.is_none() {
-        return size;
+    if service.operating.is_endless {
+        return round;
     }
-    let left = door.left(service.rt);
-    size.saturating_sub(left).max(1).min(size)
+    left.min(round)
+}
+
+/// How many connections are left after a round that could take so many of them: all of those were taken, unless
+/// something else ended it.
+fn left_after<R: Wait>(service: &Service<'_, R>, door: &Door<'_>, left: u64, size: u64) -> u64
+    ensures counted { IsCounted service.now.operating → result ≡ left - size }
+{
+    let operating = service.operating;
+    if operating.is_endless {
+        return left;
+    }
+    if operating.memory.is_none() && !operating.is_attended {
+        return left.saturating_sub(size);
+    }
+    let unused = door.left(service.rt);
+    left.saturating_sub(size.saturating_sub(unused))
+}
+
+/// Whether the server ends with the round after which so many connections are left.
+fn is_last<R>(service: &Service<'_, R>, left: u64, connections: u64, round: u64) -> bool
+    ensures counted { IsCounted service.now.operating → ((result ≡ true) ↔ ((left ≡ 0) ⊎ (connections ≤ round))) }
+{
+    let operating = service.operating;
+    if operating.is_attended && service.desk.is_stopping() {
+        return true;
+    }
+    if operating.is_endless {
+        return false;
+    }
+    let goes_on = operating.is_attended && service.desk.was_ended();
+    left == 0 || (connections <= round && !goes_on)
 }
 
 /// Rebases the vault of a round, and writes how many entries that dropped; returns the vault of the next round.

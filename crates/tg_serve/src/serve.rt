@@ -4,7 +4,8 @@ ghost use Rattle.tg_share.specs.declared.locked.TheConstants.{PARTS};
 ghost use Rattle.tg_serve.specs.Serving.{EndsServer, HasAgreed, IsFound, found_of};
 
 use crate::budget::Budget;
-use crate::client::{ClientReader, ClientWriter, wait_in_ticks};
+use crate::client::{ClientReader, ClientWriter, Seat, wait_in_ticks};
+use crate::desk::{Course, Desk, Notice};
 use crate::door::{Door, Taken};
 use crate::operating::Operating;
 use crate::pace::{Assisting, Pace, REST};
@@ -18,9 +19,9 @@ use std::thread;
 use std::thread::Threads;
 use std::time::Duration;
 use tg_audit::Settled;
-use tg_share::{Closed, Ended, Open, PARTS, Shared};
-use tg_talk::{Watched, buffered, talk};
-use tg_vault::Vault;
+use tg_share::{Closed, Ended, Open, PARTS, Shared, Worked};
+use tg_talk::{TalkFault, Watched, buffered, talk};
+use tg_vault::{Room, Vault};
 
 /// The result of serving.
 #[derive(Clone, Copy, Debug, PartialEq, Eq)]
@@ -51,6 +52,7 @@ pub(crate) struct Service<'a, R> {
     pub(crate) listener: &'a TcpListener,
     pub(crate) workers: u64,
     pub(crate) operating: Operating,
+    pub(crate) desk: &'a Desk,
 }
 
 /// Serves the connections that are left at the door, each in a talk of a worker on the worker's own seat, while a
@@ -77,7 +79,8 @@ pub(crate) fn serve_round<L: Ledger + Send + Sync, R: Threads + Wait + Clock + S
         door,
         shared: &shared,
         budget: &budget,
-        patience: service.operating.patience,
+        desk: service.desk,
+        operating: service.operating,
     };
     match serve_in_threads(&round, service.workers) {
         Some(ended) => found_in(shared.close(ended)),
@@ -110,8 +113,8 @@ struct Round<'a, L: Ledger, R> {
     door: &'a Door<'a>,
     shared: &'a Shared<L>,
     budget: &'a Budget,
-    /// Seconds for which a client may keep the server waiting; for ever if there is no number.
-    patience: Option<u64>,
+    desk: &'a Desk,
+    operating: Operating,
 }
 
 /// The workers and the collector, each in a thread of its own. Returns the ended sessions of all connections; `None` if
@@ -160,8 +163,23 @@ fn collect_until<L: Ledger, R: Wait + Clock>(round: &Round<'_, L, R>, is_over: &
         let room = round.shared.room(rt);
         round.budget.look(room);
         let steps = pace.steps(room);
-        pace.learn(round.shared.collector(rt, steps, &Open));
+        let worked = round.shared.collector(rt, steps, &Open);
+        pace.learn(worked);
+        attend_to(round, room, worked);
         thread::sleep(rt, Duration::from_micros(REST));
+    }
+}
+
+/// Tells the desk what is to be known of the vault, and does what was asked there.
+fn attend_to<L: Ledger, R: Wait + Clock>(round: &Round<'_, L, R>, room: Room, worked: Worked) {
+    let desk = round.desk;
+    desk.look(room, round.budget.bytes());
+    desk.note_work(worked);
+    if round.operating.is_attended {
+        desk.advance(round.rt);
+        if desk.course() != Course::Open {
+            round.door.close();
+        }
     }
 }
 
@@ -188,11 +206,14 @@ fn serve_one<L: Ledger, R: Wait + Clock>(
     taken: Taken,
     all: &mut Vec<Ended<L>>,
 ) -> Result<(), AllocError> {
+    let _ = round.desk.welcome(round.rt, seat);
     let Taken::Client(stream) = taken else {
+        let _ = round.desk.part(round.rt, seat, 0, None);
         return Ok(());
     };
     let _ = stream.set_nodelay(true);
     if wait_in_ticks(&stream).is_err() {
+        let _ = round.desk.part(round.rt, seat, 0, None);
         return Ok(());
     }
     match talk_with(round, seat, &stream)? {
@@ -207,14 +228,19 @@ fn talk_with<L: Ledger, R: Wait + Clock>(
     seat: u64,
     stream: &TcpStream,
 ) -> Result<Option<Ended<L>>, AllocError> {
-    let (rt, alloc, patience) = (round.rt, round.alloc, round.patience);
-    let reader = ClientReader::new(alloc, stream, rt, round.budget, patience)?;
+    let (rt, alloc, patience) = (round.rt, round.alloc, round.operating.patience);
+    let place = Seat {
+        desk: round.desk,
+        worker: seat,
+    };
+    let reader = ClientReader::new(alloc, stream, rt, round.budget, place, patience)?;
     let mut reader = Watched::new(reader);
-    let mut writer = buffered(alloc, ClientWriter::new(stream, rt, patience))?;
+    let mut writer = buffered(alloc, ClientWriter::new(stream, rt, place, patience))?;
     let gate = Assisting {
         shared: round.shared,
         budget: round.budget,
         door: round.door,
+        desk: round.desk,
     };
     let talked = talk(
         rt,
@@ -225,5 +251,20 @@ fn talk_with<L: Ledger, R: Wait + Clock>(
         seat,
         &gate,
     );
+    see_off(round, seat, talked.lines, talked.fault);
     Ok(talked.ended)
+}
+
+/// Tells the desk how a talk ended.
+fn see_off<L: Ledger, R: Wait + Clock>(
+    round: &Round<'_, L, R>,
+    seat: u64,
+    lines: u64,
+    fault: Option<TalkFault>,
+) {
+    if let Some(departure) = round.desk.part(round.rt, seat, lines, fault)
+        && round.operating.notifies
+    {
+        round.desk.notify(round.rt, Notice::Left(departure));
+    }
 }

@@ -2,6 +2,7 @@
 
 mod budget;
 mod clients;
+mod desk;
 mod door;
 mod keys;
 mod pace;

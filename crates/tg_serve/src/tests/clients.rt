@@ -1,7 +1,8 @@
 //! Clients that keep a server waiting, on a clock that goes as a script says.
 
 use crate::budget::Budget;
-use crate::client::{ClientReader, ClientWriter};
+use crate::client::{ClientReader, ClientWriter, Seat};
+use crate::desk::Desk;
 use std::alloc::{AllocError, Global};
 use std::io;
 use std::io::{ErrorKind, Read, Write};
@@ -122,9 +123,21 @@ fn reads(
     patience: Option<u64>,
     budget: &Budget,
 ) -> Result<(Vec<usize>, bool), AllocError> {
+    reads_at(alloc, steps, patience, budget, &Desk::unattended(alloc))
+}
+
+/// The same at the first worker's place of a desk.
+fn reads_at(
+    alloc: Global,
+    steps: &'static [Step],
+    patience: Option<u64>,
+    budget: &Budget,
+    desk: &Desk,
+) -> Result<(Vec<usize>, bool), AllocError> {
     let clock = Hands::new();
     let device = Scripted::new(&clock, steps);
-    let mut reader = ClientReader::new(alloc, device, &clock, budget, patience)?;
+    let seat = Seat { desk, worker: 0 };
+    let mut reader = ClientReader::new(alloc, device, &clock, budget, seat, patience)?;
     let mut counts = Vec::new(alloc);
     let mut buf = [0u8; 16];
     for _ in 0..100u32 {
@@ -234,11 +247,49 @@ fn lines_end_once_no_memory_is_left(rt: HostRuntime) -> Result<(), AllocError> {
     Ok(())
 }
 
+/// Two lines come, a tick passes, and another line comes.
+const TICKED: &[Step] = &[
+    Step::Moves(0, b"a\nb\n"),
+    Step::Ticks(1),
+    Step::Moves(0, b"c\n"),
+];
+
+/// Once clients are not waited for, those lines are taken that have come; a second later none is.
+#[test]
+fn lines_end_with_those_that_have_come(rt: HostRuntime) -> Result<(), AllocError> {
+    let clock = Hands::new();
+    let desk = Desk::new(rt.alloc(), 1)?;
+    let budget = Budget::new(None, 1);
+    desk.end_round(&clock, 5);
+    desk.advance(&clock);
+    let (open, _) = reads_at(rt.alloc(), TICKED, None, &budget, &desk)?;
+    assert!(rt; open.as_slice() == [4, 2].as_slice());
+    clock.move_on(5_000);
+    desk.advance(&clock);
+    let (ending, failed) = reads_at(rt.alloc(), TICKED, None, &budget, &desk)?;
+    assert!(rt; ending.as_slice() == [4].as_slice() && !failed);
+    clock.move_on(1_000);
+    desk.advance(&clock);
+    let (over, failed) = reads_at(rt.alloc(), TICKED, None, &budget, &desk)?;
+    assert!(rt; over.is_empty() && !failed);
+    Ok(())
+}
+
 /// How many bytes are written, of sixteen at a time, until a write fails or all steps are done; flushes in between.
-fn writes(steps: &'static [Step], patience: Option<u64>, flushes: bool) -> (usize, bool) {
+fn writes(
+    alloc: Global,
+    steps: &'static [Step],
+    patience: Option<u64>,
+    flushes: bool,
+) -> (usize, bool) {
     let clock = Hands::new();
     let device = Scripted::new(&clock, steps);
-    let mut writer = ClientWriter::new(device, &clock, patience);
+    let desk = Desk::unattended(alloc);
+    let seat = Seat {
+        desk: &desk,
+        worker: 0,
+    };
+    let mut writer = ClientWriter::new(device, &clock, seat, patience);
     let mut written = 0usize;
     for _ in 0..100u32 {
         match writer.write(b"0123456789abcdef") {
@@ -266,8 +317,8 @@ const SLOW: &[Step] = &[
 /// Answers that are taken bit by bit have two seconds in all, and so have those behind a flush.
 #[test]
 fn answers_have_their_time(rt: HostRuntime) {
-    assert!(rt; writes(SLOW, Some(2), false) == (12, true));
-    assert!(rt; writes(SLOW, Some(2), true) == (28, false));
-    assert!(rt; writes(SLOW, Some(4), false) == (28, false));
-    assert!(rt; writes(SLOW, None, false) == (28, false));
+    assert!(rt; writes(rt.alloc(), SLOW, Some(2), false) == (12, true));
+    assert!(rt; writes(rt.alloc(), SLOW, Some(2), true) == (28, false));
+    assert!(rt; writes(rt.alloc(), SLOW, Some(4), false) == (28, false));
+    assert!(rt; writes(rt.alloc(), SLOW, None, false) == (28, false));
 }

@@ -4,6 +4,7 @@ ghost use Rattle.std.specs.Prelude.{◌≡◌, [], IfSome};
 ghost use Rattle.tg_share.specs.declared.locked.TheConstants.{PARTS};
 
 use crate::budget::Budget;
+use crate::desk::Desk;
 use crate::door::Door;
 use crate::pace::{Assisting, Pace, assist_steps};
 use std::alloc::Global;
@@ -142,10 +143,12 @@ fn made_and_dropped<L: Ledger, R: Wait + Clock>(
     let shared = Shared::<L>::new(alloc, blank, vault);
     let budget = Budget::new(None, 1);
     let door = Door::new(listener, 1);
+    let desk = Desk::unattended(alloc);
     let gate = Assisting {
         shared: &shared,
         budget: &budget,
         door: &door,
+        desk: &desk,
     };
     let mut session = shared.session(rt, alloc, 0, "alice").ok()?;
     for _ in 0..100u32 {

@@ -1,0 +1,477 @@
+//! The desk of a server: what it tells of itself while it runs, and what it is asked to do.
+
+use crate::operating::Operating;
+use std::alloc::{AllocError, Global};
+use std::rt::Clock;
+use std::sync::atomic::{AtomicBool, AtomicU64, Ordering};
+use std::sync::{Mutex, Wait};
+use tg_audit::derivation;
+use tg_graph::Step;
+use tg_share::Worked;
+use tg_talk::TalkFault;
+use tg_vault::{Room, Vault};
+
+/// For how many milliseconds the talks of a round go on with lines that have come, once their clients are not waited for.
+const LAST_LINES: u64 = 1_000;
+
+/// How many notices are kept until they are taken; further ones are lost.
+const MOST_NOTICES: usize = 10_000;
+
+/// How far a round is from its end.
+#[derive(Clone, Copy, Debug, PartialEq, Eq)]
+pub(crate) enum Course {
+    /// Clients are served.
+    Open,
+    /// Nobody is let in any more; who is served goes on.
+    Closing,
+    /// Clients are not waited for: a talk ends once it has answered the lines that have come.
+    Ending,
+    /// No further line is taken.
+    Over,
+}
+
+/// Who is served by a worker.
+#[derive(Drop)]
+pub(crate) struct Place {
+    /// The number of the connection, from 1; 0 if nobody is served.
+    connection: AtomicU64,
+    /// When it came, and when its last line did, in milliseconds.
+    came: AtomicU64,
+    heard: AtomicU64,
+    /// The serial of the principal that was greeted; 0 before.
+    principal: AtomicU64,
+    lines: AtomicU64,
+}
+
+/// What a server counts.
+#[derive(Drop)]
+pub(crate) struct Counts {
+    pub(crate) round: AtomicU64,
+    /// Connections of all rounds, and of rounds before this one.
+    pub(crate) connections: AtomicU64,
+    pub(crate) before: AtomicU64,
+    /// Entries of this round.
+    pub(crate) entries: AtomicU64,
+    /// Answers that are errors, denials, and those that storage is full.
+    pub(crate) refused: AtomicU64,
+    pub(crate) denied: AtomicU64,
+    pub(crate) full: AtomicU64,
+    pub(crate) slots: AtomicU64,
+    pub(crate) free_slots: AtomicU64,
+    pub(crate) cells: AtomicU64,
+    pub(crate) free_cells: AtomicU64,
+    /// Cycles of the collector that ended, and slots that it freed.
+    pub(crate) cycles: AtomicU64,
+    pub(crate) freed: AtomicU64,
+    /// Bytes that the history and the logs take, as they are counted for `--memory`.
+    pub(crate) bytes: AtomicU64,
+}
+
+/// What happened on a server.
+#[derive(Clone, Copy, Debug, PartialEq, Eq)]
+pub enum Notice {
+    /// A connection has ended.
+    Left(Departure),
+    /// A round has been settled: its number, its connections and its entries.
+    Settled {
+        round: u64,
+        connections: u64,
+        entries: u64,
+    },
+}
+
+/// How a connection ended.
+#[derive(Clone, Copy, Debug, PartialEq, Eq)]
+pub struct Departure {
+    /// Its number, from 1.
+    pub connection: u64,
+    /// The worker that served it, which is its seat.
+    pub worker: u64,
+    /// The serial of its principal, if one was greeted.
+    pub principal: Option<u64>,
+    /// How many lines were taken.
+    pub lines: u64,
+    /// Why it ended before its client's lines did or before a bye, if it did.
+    pub fault: Option<TalkFault>,
+    /// How long it lasted.
+    pub seconds: u64,
+}
+
+/// What those who attend to a server have from it, and what they ask of it. Nobody at the desk makes the server wait but
+/// for a few instructions.
+#[derive(Drop)]
+pub struct Desk {
+    pub(crate) counts: Counts,
+    places: Vec<Place>,
+    /// The number of the course of this round, and when clients are no longer waited for, in milliseconds.
+    course: AtomicU64,
+    due: AtomicU64,
+    /// Whether the server is to end with this round.
+    is_stopping: AtomicBool,
+    /// Whether a round ended because that was asked for.
+    was_ended: AtomicBool,
+    /// Whether the server has ended.
+    has_ended: AtomicBool,
+    notices: Mutex<Vec<Notice>>,
+    /// Notices that were lost.
+    lost: AtomicU64,
+    histories: Mutex<Vec<Vec<Step>>>,
+    /// Whether a history was lost for want of memory.
+    lacks_history: AtomicBool,
+}
+
+/// Zero, to begin with.
+fn none_yet() -> AtomicU64 {
+    AtomicU64::new(0)
+}
+
+impl Counts {
+    fn new() -> Counts {
+        Counts {
+            round: none_yet(),
+            connections: none_yet(),
+            before: none_yet(),
+            entries: none_yet(),
+            refused: none_yet(),
+            denied: none_yet(),
+            full: none_yet(),
+            slots: none_yet(),
+            free_slots: none_yet(),
+            cells: none_yet(),
+            free_cells: none_yet(),
+            cycles: none_yet(),
+            freed: none_yet(),
+            bytes: none_yet(),
+        }
+    }
+}
+
+impl Place {
+    fn new() -> Place {
+        Place {
+            connection: none_yet(),
+            came: none_yet(),
+            heard: none_yet(),
+            principal: none_yet(),
+            lines: none_yet(),
+        }
+    }
+}
+
+/// The milliseconds on the clock; 0 if it cannot be read.
+pub(crate) fn milliseconds<C: Clock>(clock: &C) -> u64 {
+    match clock.monotonic() {
+        Ok(now) => now
+            .as_secs()
+            .saturating_mul(1_000)
+            .saturating_add(u64::from(now.subsec_millis())),
+        Err(_) => 0,
+    }
+}
+
+impl Desk {
+    /// A desk that nobody attends: no worker has a place at it. It allocates nothing.
+    pub fn unattended(alloc: Global) -> Desk {
+        Desk {
+            counts: Counts::new(),
+            places: Vec::new(alloc),
+            course: none_yet(),
+            due: AtomicU64::new(u64::MAX),
+            is_stopping: AtomicBool::new(false),
+            was_ended: AtomicBool::new(false),
+            has_ended: AtomicBool::new(false),
+            notices: Mutex::new(Vec::new(alloc)),
+            lost: none_yet(),
+            histories: Mutex::new(Vec::new(alloc)),
+            lacks_history: AtomicBool::new(false),
+        }
+    }
+
+    /// A desk with a place for each worker. `AllocError` if there is no memory for them.
+    pub fn new(alloc: Global, workers: u64) -> Result<Desk, AllocError> {
+        let mut desk = Desk::unattended(alloc);
+        for _ in 0..workers {
+            desk.places.push(Place::new())?;
+        }
+        Ok(desk)
+    }
+
+    /// Asks that nobody is let in any more, that after so many seconds clients are no longer waited for, and that the
+    /// server ends with this round. If that was asked before, the earlier time counts.
+    pub fn stop<C: Clock>(&self, clock: &C, within: u64) {
+        self.is_stopping.store(true, Ordering::SeqCst);
+        self.end_round(clock, within);
+    }
+
+    /// The same of this round alone; the next one follows.
+    pub fn end_round<C: Clock>(&self, clock: &C, within: u64) {
+        let due = milliseconds(clock).saturating_add(within.saturating_mul(1_000));
+        if due < self.due.load(Ordering::SeqCst) {
+            self.due.store(due, Ordering::SeqCst);
+        }
+        self.go_on_to(Course::Closing);
+    }
+
+    /// Whether the server has ended; nothing more comes from it then.
+    pub fn has_ended(&self) -> bool {
+        self.has_ended.load(Ordering::SeqCst)
+    }
+
+    /// The server has ended.
+    pub fn end(&self) {
+        self.has_ended.store(true, Ordering::SeqCst);
+    }
+
+    /// Takes the notices so far, and how many were lost.
+    pub fn take_notices<R: Wait>(&self, rt: &R, alloc: Global) -> (Vec<Notice>, u64) {
+        let mut notices = self.notices.lock(rt);
+        let taken = std::mem::replace(&mut *notices, Vec::new(alloc));
+        (taken, self.lost.swap(0, Ordering::SeqCst))
+    }
+
+    /// Takes the histories of the rounds that were settled, the steps of each that changed edges.
+    pub fn take_histories<R: Wait>(&self, rt: &R, alloc: Global) -> Vec<Vec<Step>> {
+        let mut histories = self.histories.lock(rt);
+        std::mem::replace(&mut *histories, Vec::new(alloc))
+    }
+
+    /// Whether the history of a round was lost for want of memory.
+    pub fn lacks_history(&self) -> bool {
+        self.lacks_history.load(Ordering::SeqCst)
+    }
+
+    /// How far this round is from its end.
+    pub(crate) fn course(&self) -> Course {
+        match self.course.load(Ordering::SeqCst) {
+            0 => Course::Open,
+            1 => Course::Closing,
+            2 => Course::Ending,
+            _ => Course::Over,
+        }
+    }
+
+    /// Goes on to this course, unless it is further on.
+    fn go_on_to(&self, course: Course) {
+        let number = number_of(course);
+        if self.course.load(Ordering::SeqCst) < number {
+            self.course.store(number, Ordering::SeqCst);
+        }
+    }
+
+    /// Looks at the clock, if this round is to end.
+    pub(crate) fn advance<C: Clock>(&self, clock: &C) {
+        if self.course() == Course::Open {
+            return;
+        }
+        let now = milliseconds(clock);
+        let due = self.due.load(Ordering::SeqCst);
+        if now >= due.saturating_add(LAST_LINES) {
+            self.go_on_to(Course::Over);
+        } else if now >= due {
+            self.go_on_to(Course::Ending);
+        }
+    }
+
+    /// The next round begins, which is to end only if the server is.
+    pub(crate) fn begin_round(&self, round: u64) {
+        self.counts.round.store(round, Ordering::SeqCst);
+        self.counts.entries.store(0, Ordering::SeqCst);
+        self.counts.bytes.store(0, Ordering::SeqCst);
+        self.counts.before.store(
+            self.counts.connections.load(Ordering::SeqCst),
+            Ordering::SeqCst,
+        );
+        self.was_ended.store(false, Ordering::SeqCst);
+        if !self.is_stopping() {
+            self.course.store(0, Ordering::SeqCst);
+            self.due.store(u64::MAX, Ordering::SeqCst);
+        }
+    }
+
+    /// A round has ended: notes whether that was asked for.
+    pub(crate) fn conclude_round(&self) {
+        if self.course() != Course::Open {
+            self.was_ended.store(true, Ordering::SeqCst);
+        }
+    }
+
+    /// Whether the server is to end with this round.
+    pub(crate) fn is_stopping(&self) -> bool {
+        self.is_stopping.load(Ordering::SeqCst)
+    }
+
+    /// Whether the last round ended because that was asked for.
+    pub(crate) fn was_ended(&self) -> bool {
+        self.was_ended.load(Ordering::SeqCst)
+    }
+
+    /// A client came to a worker; returns the number of the connection.
+    pub(crate) fn welcome<C: Clock>(&self, clock: &C, worker: u64) -> u64 {
+        let connection = self
+            .counts
+            .connections
+            .fetch_add(1, Ordering::SeqCst)
+            .saturating_add(1);
+        if let Some(place) = self.place(worker) {
+            let now = milliseconds(clock);
+            place.came.store(now, Ordering::SeqCst);
+            place.heard.store(now, Ordering::SeqCst);
+            place.principal.store(0, Ordering::SeqCst);
+            place.lines.store(0, Ordering::SeqCst);
+            place.connection.store(connection, Ordering::SeqCst);
+        }
+        connection
+    }
+
+    /// The client has left, or nobody came after all; the notice of it, if there is a place.
+    pub(crate) fn part<C: Clock>(
+        &self,
+        clock: &C,
+        worker: u64,
+        lines: u64,
+        fault: Option<TalkFault>,
+    ) -> Option<Departure> {
+        let place = self.place(worker)?;
+        let connection = place.connection.swap(0, Ordering::SeqCst);
+        let came = place.came.load(Ordering::SeqCst);
+        Some(Departure {
+            connection,
+            worker,
+            principal: serial_in(&place.principal),
+            lines,
+            fault,
+            seconds: milliseconds(clock).saturating_sub(came) / 1_000,
+        })
+    }
+
+    /// So many lines came to a worker.
+    pub(crate) fn hear<C: Clock>(&self, clock: &C, worker: u64, lines: u64) {
+        if let Some(place) = self.place(worker) {
+            place.lines.fetch_add(lines, Ordering::SeqCst);
+            place.heard.store(milliseconds(clock), Ordering::SeqCst);
+        }
+    }
+
+    /// The client of a worker was greeted as this principal.
+    pub(crate) fn greet(&self, worker: u64, principal: u64) {
+        if let Some(place) = self.place(worker) {
+            place.principal.store(principal, Ordering::SeqCst);
+        }
+    }
+
+    fn place(&self, worker: u64) -> Option<&Place> {
+        self.places.get(worker as usize)
+    }
+
+    /// Whether workers have places here.
+    pub(crate) fn is_attended(&self) -> bool {
+        !self.places.is_empty()
+    }
+
+    /// Counts an entry of this round.
+    pub(crate) fn count_entry(&self) {
+        self.counts.entries.fetch_add(1, Ordering::SeqCst);
+    }
+
+    /// Notes how much room there is, and how many bytes the history and the logs take.
+    pub(crate) fn look(&self, room: Room, bytes: u64) {
+        self.counts.bytes.store(bytes, Ordering::SeqCst);
+        self.counts.slots.store(room.slots, Ordering::SeqCst);
+        self.counts
+            .free_slots
+            .store(room.free_slots, Ordering::SeqCst);
+        self.counts.cells.store(room.cells, Ordering::SeqCst);
+        self.counts
+            .free_cells
+            .store(room.free_cells, Ordering::SeqCst);
+    }
+
+    /// Notes what the collector did.
+    pub(crate) fn note_work(&self, worked: Worked) {
+        self.counts.cycles.fetch_add(worked.ended, Ordering::SeqCst);
+        self.counts.freed.fetch_add(worked.freed, Ordering::SeqCst);
+    }
+
+    /// Keeps a notice until it is taken.
+    pub(crate) fn notify<R: Wait>(&self, rt: &R, notice: Notice) {
+        let mut notices = self.notices.lock(rt);
+        if notices.len() >= MOST_NOTICES || notices.push(notice).is_err() {
+            self.lost.fetch_add(1, Ordering::SeqCst);
+        }
+    }
+
+    /// A round was settled: what is to be known of it is kept until it is taken.
+    pub(crate) fn settle<R: Wait>(
+        &self,
+        rt: &R,
+        alloc: Global,
+        operating: Operating,
+        vault: &Vault,
+    ) {
+        if operating.notifies {
+            let taken = self.counts.connections.load(Ordering::SeqCst);
+            let before = self.counts.before.load(Ordering::SeqCst);
+            self.notify(
+                rt,
+                Notice::Settled {
+                    round: self.counts.round.load(Ordering::SeqCst),
+                    connections: taken.saturating_sub(before),
+                    entries: self.counts.entries.load(Ordering::SeqCst),
+                },
+            );
+        }
+        if operating.keeps_history && self.keep_history(rt, alloc, vault).is_err() {
+            self.lacks_history.store(true, Ordering::SeqCst);
+        }
+    }
+
+    /// Keeps the steps of a round's history until they are taken.
+    fn keep_history<R: Wait>(
+        &self,
+        rt: &R,
+        alloc: Global,
+        vault: &Vault,
+    ) -> Result<(), AllocError> {
+        let steps = derivation(alloc, vault)?;
+        let mut histories = self.histories.lock(rt);
+        Ok(histories.push(steps)?)
+    }
+
+    /// Who is served by each worker, if anybody is.
+    pub(crate) fn clients(&self) -> &[Place] {
+        self.places.as_slice()
+    }
+}
+
+/// The number of a course, by which they rise.
+fn number_of(course: Course) -> u64 {
+    match course {
+        Course::Open => 0,
+        Course::Closing => 1,
+        Course::Ending => 2,
+        Course::Over => 3,
+    }
+}
+
+/// The serial, if there is one.
+fn serial_in(serial: &AtomicU64) -> Option<u64> {
+    match serial.load(Ordering::SeqCst) {
+        0 => None,
+        serial => Some(serial),
+    }
+}
+
+impl Place {
+    /// Who is served, if anybody is: the connection's number, its principal, its lines, and when the last one came.
+    pub(crate) fn client(&self) -> Option<(u64, Option<u64>, u64, u64)> {
+        match self.connection.load(Ordering::SeqCst) {
+            0 => None,
+            connection => Some((
+                connection,
+                serial_in(&self.principal),
+                self.lines.load(Ordering::SeqCst),
+                self.heard.load(Ordering::SeqCst),
+            )),
+        }
+    }
+}

@@ -1,0 +1,73 @@
+//! The file of the control socket, which only the server's own user may use.
+
+use std::alloc::Global;
+use std::fs::{DirBuilder, Files, Permissions};
+use std::io::ErrorKind;
+use std::net::Net;
+use std::os::unix::fs::{DirBuilderExt, FileTypeExt, PermissionsExt};
+use std::os::unix::net::{UnixListener, UnixStream};
+use std::{fs, io};
+
+/// How many names are tried for the folder in which the socket is made.
+const NAMES: u64 = 100;
+
+/// A listener on a socket at the path that is not waited for (`set_nonblocking`). A socket there that nobody listens on
+/// is replaced; anything else is refused. The socket is made in a folder of its own that only this user may enter, is
+/// given to this user alone there, and only then has its name: so at no time can another user connect to it.
+pub fn control_socket<R: Files + Net>(
+    rt: &R,
+    alloc: Global,
+    path: &str,
+) -> io::Result<UnixListener> {
+    clear(rt, path)?;
+    for number in 0..NAMES {
+        let folder = format!(in alloc; "{path}.{number}")?;
+        match DirBuilder::new().mode(0o700).create(rt, folder.as_str()) {
+            Ok(()) => return socket_in(rt, alloc, folder.as_str(), path),
+            Err(error) if error.kind() == ErrorKind::AlreadyExists => {}
+            Err(error) => return Err(error),
+        }
+    }
+    Err(io::Error::from(ErrorKind::AlreadyExists))
+}
+
+/// Takes away a socket that nobody listens on. An error if anything else is there.
+fn clear<R: Files + Net>(rt: &R, path: &str) -> io::Result<()> {
+    match fs::symlink_metadata(rt, path) {
+        Err(error) if error.kind() == ErrorKind::NotFound => Ok(()),
+        Err(error) => Err(error),
+        Ok(found) if !found.file_type().is_socket() => {
+            Err(io::Error::from(ErrorKind::AlreadyExists))
+        }
+        Ok(_) => match UnixStream::connect(rt, path) {
+            Ok(_) => Err(io::Error::from(ErrorKind::AddrInUse)),
+            Err(error) if error.kind() == ErrorKind::ConnectionRefused => {
+                fs::remove_file(rt, path)
+            }
+            Err(error) => Err(error),
+        },
+    }
+}
+
+/// Makes the socket in the folder, gives it its name, and takes the folder away.
+fn socket_in<R: Files + Net>(
+    rt: &R,
+    alloc: Global,
+    folder: &str,
+    path: &str,
+) -> io::Result<UnixListener> {
+    let first = format!(in alloc; "{folder}/s")?;
+    let made = named_socket(rt, first.as_str(), path);
+    let _ = fs::remove_file(rt, first.as_str());
+    let _ = fs::remove_dir(rt, folder);
+    made
+}
+
+/// Makes the socket under its first name, for this user alone, and gives it its own.
+fn named_socket<R: Files + Net>(rt: &R, first: &str, path: &str) -> io::Result<UnixListener> {
+    let listener = UnixListener::bind(rt, first)?;
+    listener.set_nonblocking(true)?;
+    fs::set_permissions(rt, first, Permissions::from_mode(0o600))?;
+    fs::hard_link(rt, first, path)?;
+    Ok(listener)
+}

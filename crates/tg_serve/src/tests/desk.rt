@@ -1,0 +1,91 @@
+//! What is told at the desk of a server, and what is asked there.
+
+use crate::attending::{Request, request_in};
+use crate::tally::{Tallied, Tally};
+
+/// Answers, and what they tell.
+const ANSWERS: &[(&[u8], (u64, u64, u64), Option<u64>)] = &[
+    (b"{\"error\":\"no actor\"}\n", (1, 0, 0), None),
+    (
+        b"{\"ok\":\"hello\",\"vertex\":18446744073709551615}\n{\"denied\":\"read\",\"from\":1,\"missing\":\"r\",\"to\":2}\n",
+        (0, 1, 0),
+        Some(u64::MAX),
+    ),
+    (
+        b"{\"cause\":\"empty\",\"denied\":\"create\"}\n{\"full\":\"slots\"}\n",
+        (0, 1, 1),
+        None,
+    ),
+    (
+        b"{\"ok\":\"text\",\"text\":\"{\\\"error\\\"\"}\n",
+        (0, 0, 0),
+        None,
+    ),
+    (b"{\"error\":\"busy\"}", (0, 0, 0), None),
+];
+
+fn counts(tallied: Tallied) -> (u64, u64, u64) {
+    (tallied.refused, tallied.denied, tallied.full)
+}
+
+#[test]
+fn answers_are_counted_by_their_beginnings(rt: HostRuntime) {
+    for (answers, wanted, greeted) in ANSWERS {
+        let tallied = Tally::new().note(answers);
+        assert!(rt; counts(tallied) == *wanted);
+        assert!(rt; tallied.greeted == *greeted);
+    }
+}
+
+/// An answer that is written in two parts counts once.
+#[test]
+fn an_answer_may_come_in_parts(rt: HostRuntime) {
+    let mut tally = Tally::new();
+    assert!(rt; counts(tally.note(b"{\"err")) == (0, 0, 0));
+    assert!(rt; counts(tally.note(b"or\":\"busy\"}\n")) == (1, 0, 0));
+}
+
+/// Lines at the control socket, and what they ask.
+const REQUESTS: &[(&[u8], Request)] = &[
+    (b"{\"op\":\"status\"}", Request::Status),
+    (b"{\"op\":\"stop\"}", Request::Stop { within: 10 }),
+    (
+        b"{\"within\":0,\"op\":\"stop\"}",
+        Request::Stop { within: 0 },
+    ),
+    (
+        b"{\"op\":\"end round\",\"within\":86400}",
+        Request::EndRound { within: 86_400 },
+    ),
+];
+
+#[test]
+fn requests_are_read(rt: HostRuntime) {
+    for (line, wanted) in REQUESTS {
+        assert!(rt; request_in(rt.alloc(), line) == Ok(*wanted));
+    }
+}
+
+/// Lines that ask nothing, and the words of their refusals.
+const REFUSED: &[(&[u8], &str)] = &[
+    (b"status", "{\"error\":\"not json\"}\n"),
+    (b"[]", "{\"error\":\"not an object\"}\n"),
+    (b"{}", "{\"error\":\"bad field\"}\n"),
+    (b"{\"op\":1}", "{\"error\":\"bad field\"}\n"),
+    (b"{\"op\":\"shutdown\"}", "{\"error\":\"unknown op\"}\n"),
+    (
+        b"{\"op\":\"stop\",\"within\":86401}",
+        "{\"error\":\"bad field\"}\n",
+    ),
+    (
+        b"{\"op\":\"stop\",\"after\":1}",
+        "{\"error\":\"unknown field\"}\n",
+    ),
+];
+
+#[test]
+fn what_asks_nothing_is_refused(rt: HostRuntime) {
+    for (line, wanted) in REFUSED {
+        assert!(rt; request_in(rt.alloc(), line) == Err(*wanted));
+    }
+}
