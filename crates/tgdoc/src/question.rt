@@ -1,4 +1,4 @@
-//! What is asked of the graph to which a run leads: whether rights can ever be shared.
+//! What is asked of the graph to which a run leads: whether, or among which vertices, rights can ever be shared.
 use tg_rights::{Name, Rights};
 
 /// A vertex, as a word of the command line names it.
@@ -10,9 +10,18 @@ pub enum VertexName {
     Principal(Name),
 }
 
+/// What is asked.
+#[derive(Debug, Drop)]
+pub enum Question {
+    /// Whether one vertex can ever come to have rights over another.
+    Pair(Pair),
+    /// Which vertices can, or over which one can.
+    Lookup(Lookup),
+}
+
 /// Whether a vertex can ever come to have these rights over another, whatever the subjects do.
 #[derive(Debug, Drop)]
-pub struct Question {
+pub struct Pair {
     /// The vertex that is to have the rights.
     pub from: VertexName,
     /// The vertex over which it is to have them.
@@ -21,4 +30,27 @@ pub struct Question {
     pub rights: Rights,
     /// Whether a yes is told by the steps that lead to it alone, without the run's lines before them.
     pub steps: bool,
+}
+
+/// Which of the two vertices of a right is named.
+#[derive(Clone, Copy, PartialEq, Eq, Debug)]
+pub enum End {
+    /// The one that is to have the rights: over which could it ever have them?
+    From,
+    /// The one over which they are: who could ever have them?
+    To,
+}
+
+/// All vertices that can ever come to have these rights over one, or over which one can, whatever the subjects do.
+#[derive(Debug, Drop)]
+pub struct Lookup {
+    /// Which end is named.
+    pub end: End,
+    /// The vertex there.
+    pub vertex: VertexName,
+    /// The rights.
+    pub rights: Rights,
+    /// How much may be tried: how many vertices may be asked for who could, or of how many steps the derivation may be of
+    /// all that one could have.
+    pub most: usize,
 }

@@ -1,40 +1,31 @@
 //! Whether rights can ever be shared in the graph to which a run led.
-ghost use Rattle.std.specs.Prelude.{◌≡◌, ◌≢◌, ◌↔◌, ◌≤◌, ◌++◌, ◌∷◌, [], Ok, OnOk, IfOk, IfErr, Some, Result, is_some, true, false};
+ghost use Rattle.std.specs.Prelude.{◌≡◌, ◌≢◌, ◌↔◌, ◌≤◌, ◌++◌, ◌∷◌, [], Ok, OnOk, IfOk, Some, true, false};
 ghost use Rattle.tg_graph.specs.Rewriting.{rewriting, rewriting_steps};
 ghost use Rattle.tg_talk.specs.Devices.{has_failed, owed, promised};
 ghost use Rattle.tg_talk.specs.declared.fault.TalkFault.TheVariants.{OutOfMemory, Reading, Writing};
 ghost use Rattle.tg_vault.specs.Contents.{graph_now};
 ghost use Rattle.tg_wire.specs.Lines.{goal_of, step_of};
 ghost use Rattle.tg_wire.specs.StepLines.{goal_line, goal_text, step_line, step_text};
-ghost use Rattle.tg_wire.specs.Unshared.{is_error, unshared_line};
 ghost use Rattle.tgdoc.specs.Asked.{AreRewritten, EndsSharing, Found};
 ghost use Rattle.tgdoc.specs.Audits.{OpensGraph};
 ghost use Rattle.tgdoc.specs.Drawing.{WrittenLast};
-ghost use Rattle.tgdoc.specs.Sharing.{Answered, AnsweredAtEnd, AreRead, Names, NamesNone, Shows, ShowsSharing, ShowsSteps, steps_text};
+ghost use Rattle.tgdoc.specs.Sharing.{Answered, AnsweredAtEnd, AnsweredPair, AreRead, Shows, ShowsSharing, ShowsSteps, steps_text};
 
 use crate::finish::finish;
-use crate::question::{Question, VertexName};
+use crate::lookup::answer_lookup;
+use crate::question::{Pair, Question};
+use crate::unshared::{Told, unshared_told, vertex_in};
 use std::alloc::{AllocError, Global};
 use std::io::{BufWriter, Write};
 use tg_audit::{derivation, graph_of_history, histories_derive};
-use tg_graph::{
-    Goal, Graph, Step, derivations_carry_over, openings_are_as_listed, principals_come_and_go,
-    rewriting_step,
-};
+use tg_graph::{Goal, Step, derivations_carry_over, openings_are_as_listed, rewriting_step};
 use tg_sharing::{Answer, can_share};
 use tg_talk::{Finished, Watched};
 use tg_vault::Vault;
 use tg_wire::{
     LineRoom, Unshared, WireFault, error_line, goal_reads_back, step_reads_back, write_goal_in,
-    write_step_in, write_unshared_in,
+    write_step_in,
 };
-
-/// The text of an answer, and whether it counts as an `error` line.
-#[derive(Drop)]
-struct Told {
-    text: Vec<u8>,
-    is_error: bool,
-}
 
 /// Answers the question after the last line, if neither a line ended the run before nor the reader or the writer failed.
 /// `first` is the line that opened the vault.
@@ -105,81 +96,46 @@ fn answer(
     requires opens { IfOk first.now (λ line. OpensGraph vault.now.opening line.items) }
     ensures { IfOk result (λ told. Answered vault.now question.now told.text.items told.is_error) }
 {
+    match question {
+        Question::Pair(pair) => answer_pair(alloc, vault, first, pair),
+        Question::Lookup(lookup) => answer_lookup(alloc, vault, lookup),
+    }
+}
+
+/// Whether one vertex can ever come to have rights over another, in the graph to which the vault's history led.
+fn answer_pair(
+    alloc: Global,
+    vault: &Vault,
+    first: &Result<Vec<u8>, AllocError>,
+    pair: &Pair,
+) -> Result<Told, AllocError>
+    requires opens { IfOk first.now (λ line. OpensGraph vault.now.opening line.items) }
+    ensures { IfOk result (λ told. AnsweredPair vault.now pair.now told.text.items told.is_error) }
+{
     let graph = graph_of_history(alloc, vault)?;
-    let from = match vertex_in(&graph, &question.from) {
+    let from = match vertex_in(&graph, &pair.from) {
         Ok(from) => from,
         Err(unshared) => return unshared_told(alloc, unshared),
     };
-    let to = match vertex_in(&graph, &question.to) {
+    let to = match vertex_in(&graph, &pair.to) {
         Ok(to) => to,
         Err(unshared) => return unshared_told(alloc, unshared),
     };
     let goal = Goal {
         from,
         to,
-        rights: question.rights,
+        rights: pair.rights,
     };
     match can_share(alloc, &graph, goal)? {
         Answer::Never => unshared_told(alloc, Unshared::Never),
         Answer::Unknown(_) => unshared_told(alloc, Unshared::NoSerial),
         Answer::By(steps) => {
-            let text = shown(alloc, vault, first, question.steps, &goal, &steps)?;
+            let text = shown(alloc, vault, first, pair.steps, &goal, &steps)?;
             Ok(Told {
                 text,
                 is_error: false,
             })
         }
-    }
-}
-
-/// The serial of the vertex that the word names, or the answer that there is none.
-fn vertex_in(graph: &Graph, name: &VertexName) -> Result<u64, Unshared>
-    ensures ok { IfOk result (Names graph.now name.now) }
-    ensures err { IfErr result (λ unshared. NamesNone graph.now name.now (unshared_line unshared)) }
-    ensures error { IfErr result (λ unshared. is_error unshared ≡ true) }
-{
-    principals_come_and_go();
-    graph.soundness();
-    match name {
-        VertexName::Serial(serial) => match graph.kind(*serial) {
-            Some(_) => Ok(*serial),
-            None => Err(Unshared::NoVertex { vertex: *serial }),
-        },
-        VertexName::Principal(name) => match graph.named(name.get()) {
-            Some(serial) => Ok(serial),
-            None => Err(Unshared::NoPrincipal),
-        },
-    }
-}
-
-/// An answer that brings no steps.
-fn unshared_told(alloc: Global, unshared: Unshared) -> Result<Told, AllocError>
-    ensures { IfOk result (λ told. (told.text.items ≡ unshared_line unshared) × (told.is_error ≡ is_error unshared)) }
-{
-    let text = unshared_text(alloc, unshared)?;
-    Ok(Told {
-        text,
-        is_error: is_error(unshared),
-    })
-}
-
-fn unshared_text(alloc: Global, unshared: Unshared) -> Result<Vec<u8>, AllocError>
-    ensures { IfOk result (λ text. text.items ≡ unshared_line unshared) }
-{
-    let mut room = LineRoom::new(alloc);
-    let line = write_unshared_in(&mut room, unshared)?;
-    Ok(line)
-}
-
-/// Whether the answer counts as an `error` line.
-fn is_error(unshared: Unshared) -> bool
-    ensures { result ≡ is_error unshared }
-{
-    match unshared {
-        Unshared::Never => false,
-        Unshared::NoSerial => false,
-        Unshared::NoVertex { .. } => true,
-        Unshared::NoPrincipal => true,
     }
 }
 

@@ -1,7 +1,7 @@
 //! Words of the command line, and the modes that they ask for.
 
 use crate::reading::bytes_in;
-use crate::{Mode, Operating, Question, VertexName, mode};
+use crate::{End, Mode, Operating, Pair, Question, Request, VertexName, mode};
 use clap::Error;
 use std::alloc::Global;
 use tg_rights::Rights;
@@ -23,6 +23,10 @@ pub(crate) type Numbers = (u64, u64, u64, Operating);
 pub(crate) const NONE: Operating = Operating {
     patience: None,
     memory: None,
+    is_endless: false,
+    is_attended: false,
+    notifies: false,
+    keeps_history: false,
 };
 
 /// The numbers that are asked for; none if no server on this address is.
@@ -34,9 +38,11 @@ pub(crate) fn numbers_in(found: &Result<Mode, Error>, address: &str) -> Option<N
                 workers,
                 connections,
                 round,
-                operating,
+                operation,
             },
-        ) if listen.as_str() == address => Some((*workers, *connections, *round, *operating)),
+        ) if listen.as_str() == address => {
+            Some((*workers, *connections, *round, operation.operating))
+        }
         Ok(_) => None,
         Err(_) => None,
     }
@@ -83,23 +89,36 @@ fn the_last_vault_is_drawn_or_each(rt: HostRuntime) {
     assert!(rt; draws(rt.alloc(), &["tgdoc", "run", "--each"]).is_none());
 }
 
-/// Whether bob is asked about, and vertex 3, and both reading and writing.
-fn is_bobs(question: &Question) -> bool {
-    let from = match &question.from {
+/// Whether the word names bob.
+fn is_bob(name: &VertexName) -> bool {
+    match name {
         VertexName::Principal(name) => name.get() == "bob",
         VertexName::Serial(_) => false,
-    };
-    let to = match &question.to {
-        VertexName::Serial(serial) => *serial == 3,
+    }
+}
+
+/// Whether the word names vertex 3.
+fn is_third(name: &VertexName) -> bool {
+    match name {
         VertexName::Principal(_) => false,
-    };
-    from && to && question.rights == Rights::read().union(Rights::write())
+        VertexName::Serial(serial) => *serial == 3,
+    }
+}
+
+/// Whether bob is asked about, and vertex 3, and both reading and writing.
+fn is_bobs(pair: &Pair) -> bool {
+    let are_named = is_bob(&pair.from) && is_third(&pair.to);
+    are_named && pair.rights == Rights::read().union(Rights::write())
 }
 
 /// Whether these words ask that question: for the steps alone, or for all.
 fn asks(alloc: Global, words: &[&str]) -> Option<bool> {
     match &mode(alloc, words) {
-        Ok(Mode::Share { question }) if is_bobs(question) => Some(question.steps),
+        Ok(
+            Mode::Share {
+                question: Question::Pair(pair),
+            },
+        ) if is_bobs(pair) => Some(pair.steps),
         Ok(_) => None,
         Err(_) => None,
     }
@@ -113,6 +132,35 @@ fn a_question_has_its_words(rt: HostRuntime) {
     assert!(rt; asks(rt.alloc(), words) == Some(true));
     assert!(rt; asks(rt.alloc(), &words[..8]) == Some(false));
     assert!(rt; asks(rt.alloc(), &words[..6]).is_none());
+}
+
+/// Which end a lookup of reading has that these words ask for, whether bob is named there, and how much may be tried.
+fn looks_up(alloc: Global, words: &[&str]) -> Option<(End, bool, usize)> {
+    match &mode(alloc, words) {
+        Ok(
+            Mode::Share {
+                question: Question::Lookup(lookup),
+            },
+        ) if lookup.rights == Rights::read() => {
+            Some((lookup.end, is_bob(&lookup.vertex), lookup.most))
+        }
+        Ok(_) => None,
+        Err(_) => None,
+    }
+}
+
+#[test]
+fn a_lookup_has_its_words(rt: HostRuntime) {
+    let who = &[
+        "tgdoc", "share", "--rights", "r", "--to", "3", "--most", "7",
+    ];
+    assert!(rt; looks_up(rt.alloc(), who) == Some((End::To, false, 7)));
+    assert!(rt; looks_up(rt.alloc(), &who[..6]) == Some((End::To, false, 10_000)));
+    let what = &[
+        "tgdoc", "share", "--rights", "r", "--from", "bob", "--steps",
+    ];
+    assert!(rt; looks_up(rt.alloc(), &what[..6]) == Some((End::From, true, 1_000_000)));
+    assert!(rt; looks_up(rt.alloc(), what).is_none());
 }
 
 #[test]
@@ -177,6 +225,32 @@ const NUMBERS: &[([&str; 4], Option<Numbers>)] = &[
             },
         )),
     ),
+    (
+        ["--control", "/run/tgdoc", "--round", "7"],
+        Some((
+            4,
+            1_000_000,
+            7,
+            Operating {
+                is_endless: true,
+                is_attended: true,
+                ..NONE
+            },
+        )),
+    ),
+    (
+        ["--connections", "5", "--history", "steps"],
+        Some((
+            4,
+            5,
+            5,
+            Operating {
+                keeps_history: true,
+                ..NONE
+            },
+        )),
+    ),
+    (["--round", "7", "--history", "steps"], None),
     (["--connections", "1", "--memory", "0"], None),
     (["--connections", "1", "--memory", "1025g"], None),
     (["--connections", "1", "--memory", "1.5g"], None),
@@ -219,5 +293,45 @@ const BYTES: &[(&str, Option<u64>)] = &[
 fn bytes_are_counted_in_units(rt: HostRuntime) {
     for (text, bytes) in BYTES {
         assert_eq!(rt; bytes_in(*text), *bytes);
+    }
+}
+
+/// What these words ask of a server at a socket that is called so.
+fn asked(alloc: Global, words: &[&str], socket: &str) -> Option<Request> {
+    match &mode(alloc, words) {
+        Ok(Mode::Control { path, request }) if path.as_str() == socket => Some(*request),
+        Ok(_) => None,
+        Err(_) => None,
+    }
+}
+
+/// What follows `tgdoc control s`, and what it asks.
+const ASKED: &[(&[&str], Option<Request>)] = &[
+    (
+        &["tgdoc", "control", "s", "status"],
+        Some(Request::Status { watch: None }),
+    ),
+    (
+        &["tgdoc", "control", "s", "status", "--watch", "2"],
+        Some(Request::Status { watch: Some(2) }),
+    ),
+    (
+        &["tgdoc", "control", "s", "stop"],
+        Some(Request::Stop { within: 10 }),
+    ),
+    (
+        &["tgdoc", "control", "--within", "0", "s", "end-round"],
+        Some(Request::EndRound { within: 0 }),
+    ),
+    (&["tgdoc", "control", "s", "stop", "--watch", "2"], None),
+    (&["tgdoc", "control", "s", "status", "--within", "2"], None),
+    (&["tgdoc", "control", "s", "shutdown"], None),
+    (&["tgdoc", "control", "s"], None),
+];
+
+#[test]
+fn a_server_is_asked_at_its_socket(rt: HostRuntime) {
+    for (words, request) in ASKED {
+        assert!(rt; asked(rt.alloc(), words, "s") == *request);
     }
 }

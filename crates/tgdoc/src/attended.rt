@@ -1,0 +1,149 @@
+//! A server and those who attend to it, each in a thread of its own: at the control socket, over the log, and over the
+//! history.
+
+use std::alloc::{AllocError, Global};
+use std::fs::{Files, OpenOptions};
+use std::io::{BufWriter, Eprint, Write};
+use std::os::unix::net::UnixListener;
+use std::rt::Clock;
+use std::sync::Wait;
+use std::time::Duration;
+use std::{fs, io, thread};
+use tg_graph::Step;
+use tg_serve::{Departure, Desk, Notice, Serving, attend};
+use tg_talk::TalkFault;
+use tg_wire::{LineRoom, write_step_in};
+
+/// How long nothing is looked for after nothing was there, in milliseconds.
+const REST: u64 = 100;
+
+/// Attends to the control socket until the server has ended, and takes its file away then.
+pub(crate) fn attend_control<N: Wait + Clock + Files>(
+    rt: &N,
+    alloc: Global,
+    listener: &UnixListener,
+    path: &str,
+    desk: &Desk,
+    serving: Serving,
+) {
+    attend(rt, alloc, listener, desk, serving);
+    let _ = fs::remove_file(rt, path);
+}
+
+/// Writes the server's notices on standard error, a line of JSON for each, until it has ended.
+pub(crate) fn keep_log<N: Wait + Clock + Eprint>(rt: &N, alloc: Global, desk: &Desk) {
+    for _ in rt.forever() {
+        let is_last = desk.has_ended();
+        let (notices, lost) = desk.take_notices(rt, alloc);
+        for notice in notices {
+            tell(rt, notice);
+        }
+        if lost > 0 {
+            let _ = eprintln!(rt; "{{\"lost\":{lost}}}");
+        }
+        if is_last {
+            break;
+        }
+        thread::sleep(rt, Duration::from_millis(REST));
+    }
+}
+
+fn tell<N: Eprint>(rt: &N, notice: Notice) {
+    match notice {
+        Notice::Left(departure) => tell_departure(rt, departure),
+        Notice::Settled {
+            round,
+            connections,
+            entries,
+        } => {
+            let _ = eprintln!(rt;
+                "{{\"round\":{round},\"connections\":{connections},\"entries\":{entries}}}"
+            );
+        }
+    }
+}
+
+fn tell_departure<N: Eprint>(rt: &N, departure: Departure) {
+    let Departure {
+        connection,
+        worker,
+        principal,
+        lines,
+        fault,
+        seconds,
+    } = departure;
+    let ended = word_of(fault);
+    match principal {
+        Some(serial) => {
+            let _ = eprintln!(rt;
+                "{{\"connection\":{connection},\"worker\":{worker},\"principal\":{serial},\"lines\":{lines},\"ended\":\"{ended}\",\"seconds\":{seconds}}}"
+            );
+        }
+        None => {
+            let _ = eprintln!(rt;
+                "{{\"connection\":{connection},\"worker\":{worker},\"principal\":null,\"lines\":{lines},\"ended\":\"{ended}\",\"seconds\":{seconds}}}"
+            );
+        }
+    }
+}
+
+/// What ended a talk.
+fn word_of(fault: Option<TalkFault>) -> &'static str {
+    match fault {
+        None => "lines",
+        Some(TalkFault::Reading) => "reading",
+        Some(TalkFault::Writing) => "writing",
+        Some(TalkFault::TooLong) => "line too long",
+        Some(TalkFault::TooMany) => "too many lines",
+        Some(TalkFault::OutOfMemory) => "out of memory",
+    }
+}
+
+/// Appends the histories of the server's rounds to the file until it has ended; whether all was written. What cannot be
+/// is said once on standard error, and nothing more is written then.
+pub(crate) fn keep_history<N: Wait + Clock + Files + Eprint>(
+    rt: &N,
+    alloc: Global,
+    desk: &Desk,
+    path: &str,
+) -> bool {
+    let mut is_whole = append_or_say(rt, alloc, path, &[]);
+    for _ in rt.forever() {
+        let is_last = desk.has_ended();
+        for steps in desk.take_histories(rt, alloc) {
+            is_whole = is_whole && append_or_say(rt, alloc, path, &steps);
+        }
+        if is_last {
+            break;
+        }
+        thread::sleep(rt, Duration::from_millis(REST));
+    }
+    if desk.lacks_history() {
+        let _ = eprintln!(rt; "tgdoc: {path}: no memory for the history of a round");
+        return false;
+    }
+    is_whole
+}
+
+/// Appends the lines of the steps to the file; whether that was done. If not, standard error says why.
+fn append_or_say<N: Files + Eprint>(rt: &N, alloc: Global, path: &str, steps: &[Step]) -> bool {
+    match append(rt, alloc, path, steps) {
+        Ok(()) => true,
+        Err(error) => {
+            let _ = eprintln!(rt; "tgdoc: {path}: {error}");
+            false
+        }
+    }
+}
+
+fn append<N: Files>(rt: &N, alloc: Global, path: &str, steps: &[Step]) -> io::Result<()> {
+    let file = OpenOptions::new().append(true).create(true).open(rt, path)?;
+    let mut writer = BufWriter::new(alloc, file)?;
+    let mut room = LineRoom::new(alloc);
+    for step in steps {
+        let line = write_step_in(&mut room, step)?;
+        writer.write_all(&line)?;
+        room.take_back(line);
+    }
+    writer.flush()
+}

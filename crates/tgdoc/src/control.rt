@@ -1,0 +1,198 @@
+//! Asks a server at its control socket, and shows what it answers.
+
+use crate::operation::Request;
+use serde_json::Value;
+use std::alloc::{AllocError, Global};
+use std::fmt::Write as Put;
+use std::io::{Eprint, ErrorKind, Print, Read, Write};
+use std::net::Net;
+use std::os::unix::net::UnixStream;
+use std::rt::Clock;
+use std::sync::Wait;
+use std::time::Duration;
+use std::{io, thread};
+
+/// For how many seconds an answer is waited for.
+const PATIENCE: u64 = 10;
+
+/// The longest answer.
+const LONGEST: usize = 65_536;
+
+/// How many marks the bar of what is free has.
+const MARKS: u64 = 40;
+
+/// Asks the server, and prints its answer, or a table of it again and again; whether it did what was asked.
+pub(crate) fn ask<N: Wait + Clock + Net + Print + Eprint>(
+    rt: &N,
+    alloc: Global,
+    path: &str,
+    request: Request,
+) -> bool {
+    match request {
+        Request::Status {
+            watch: Some(seconds),
+        } => watch(rt, alloc, path, seconds),
+        Request::Status { watch: None } => ask_once(rt, alloc, path, "{\"op\":\"status\"}\n"),
+        Request::Stop { within } => ask_within(rt, alloc, path, "stop", within),
+        Request::EndRound { within } => ask_within(rt, alloc, path, "end round", within),
+    }
+}
+
+fn ask_within<N: Net + Print + Eprint>(
+    rt: &N,
+    alloc: Global,
+    path: &str,
+    op: &str,
+    within: u64,
+) -> bool {
+    let Ok(line) = format!(in alloc; "{{\"op\":\"{op}\",\"within\":{within}}}\n") else {
+        return false;
+    };
+    ask_once(rt, alloc, path, line.as_str())
+}
+
+/// Asks once, and prints the answer; whether it is no error.
+fn ask_once<N: Net + Print + Eprint>(rt: &N, alloc: Global, path: &str, line: &str) -> bool {
+    match answer_of(rt, alloc, path, line) {
+        Ok(answer) => {
+            let was_told = rt.write_all(&answer).is_ok();
+            was_told && !answer.starts_with(b"{\"error\"")
+        }
+        Err(error) => {
+            let _ = eprintln!(rt; "tgdoc: {path}: {error}");
+            false
+        }
+    }
+}
+
+/// The line that the server answers.
+fn answer_of<N: Net>(rt: &N, alloc: Global, path: &str, line: &str) -> io::Result<Vec<u8>> {
+    let stream = UnixStream::connect(rt, path)?;
+    let patience = Some(Duration::from_secs(PATIENCE));
+    stream.set_read_timeout(patience)?;
+    stream.set_write_timeout(patience)?;
+    let mut device = &stream;
+    device.write_all(line.as_bytes())?;
+    let mut answer = Vec::new(alloc);
+    for _ in 0..LONGEST {
+        let mut bytes = [0u8; 4_096];
+        let count = device.read(&mut bytes)?;
+        let more = bytes.get(..count).unwrap_or(&[]);
+        answer.extend_from_slice(more)?;
+        if more.contains(&b'\n') {
+            return Ok(answer);
+        }
+        if count == 0 || answer.len() > LONGEST {
+            break;
+        }
+    }
+    Err(io::Error::from(ErrorKind::UnexpectedEof))
+}
+
+/// Draws a table of the status again and again, until it cannot be asked for any more.
+fn watch<N: Wait + Clock + Net + Print + Eprint>(
+    rt: &N,
+    alloc: Global,
+    path: &str,
+    seconds: u64,
+) -> bool {
+    for _ in rt.forever() {
+        let answer = match answer_of(rt, alloc, path, "{\"op\":\"status\"}\n") {
+            Ok(answer) => answer,
+            Err(error) => {
+                let _ = eprintln!(rt; "tgdoc: {path}: {error}");
+                return false;
+            }
+        };
+        let Ok(Ok(table)) = Value::from_slice(alloc, &answer).map(|status| table_of(alloc, &status))
+        else {
+            return false;
+        };
+        if rt.write_all(table.as_bytes()).is_err() {
+            return false;
+        }
+        thread::sleep(rt, Duration::from_secs(seconds));
+    }
+    unreachable!()
+}
+
+/// The number at this place of the status; 0 if there is none.
+fn number_at(status: &Value, outer: &str, inner: &str) -> u64 {
+    let Some(found) = status.get(outer) else {
+        return 0;
+    };
+    match found.get(inner) {
+        Some(value) => value.as_u64().unwrap_or(0),
+        None => 0,
+    }
+}
+
+fn number(status: &Value, key: &str) -> u64 {
+    match status.get(key) {
+        Some(value) => value.as_u64().unwrap_or(0),
+        None => 0,
+    }
+}
+
+/// The status as a table, on a screen that is cleared before.
+pub(crate) fn table_of(alloc: Global, status: &Value) -> Result<String, AllocError> {
+    let mut table = String::from_str(alloc, "\x1b[H\x1b[2J")?;
+    let up = number(status, "uptime");
+    let taken = number_at(status, "connections", "taken");
+    write!(
+        table,
+        "up {up} s   round {}   connections {taken}\n",
+        number(status, "round")
+    )?;
+    write_bar(&mut table, status, "slots")?;
+    write_bar(&mut table, status, "cells")?;
+    write!(
+        table,
+        "entries {}   bytes {}   refused {}   denied {}   full {}\n",
+        number(status, "entries"),
+        number(status, "bytes"),
+        number_at(status, "answers", "refused"),
+        number_at(status, "answers", "denied"),
+        number_at(status, "answers", "full")
+    )?;
+    write!(
+        table,
+        "collector: {} cycles, {} freed\n\nworker  principal      lines  idle\n",
+        number_at(status, "collector", "cycles"),
+        number_at(status, "collector", "freed")
+    )?;
+    let Some(clients) = status.get("clients") else {
+        return Ok(table);
+    };
+    let Some(clients) = clients.as_array() else {
+        return Ok(table);
+    };
+    for client in clients {
+        write!(
+            table,
+            "{:>6}  {:>9}  {:>9}  {:>4}\n",
+            number(client, "worker"),
+            number(client, "principal"),
+            number(client, "lines"),
+            number(client, "idle")
+        )?;
+    }
+    Ok(table)
+}
+
+/// A bar of what is free of one kind of storage.
+fn write_bar(table: &mut String, status: &Value, key: &str) -> Result<(), AllocError> {
+    let all = number_at(status, key, "all");
+    let free = number_at(status, key, "free");
+    let marks = free
+        .saturating_mul(MARKS)
+        .checked_div(all)
+        .unwrap_or(0)
+        .min(MARKS);
+    write!(table, "{key} [")?;
+    for mark in 0..MARKS {
+        table.push(if mark < marks { '#' } else { '.' })?;
+    }
+    write!(table, "] {free} free of {all}\n")?;
+    Ok(())
+}
