@@ -4,7 +4,7 @@ use Rattle.std.specs.Prelude.{IsTrue, Ok, Option}
 use Rattle.std.specs.List.{cons_option}
 use Rattle.std.specs.Option.{is_some, option_map}
 use Rattle.std.proofs.lemmas.Grind.{flat_map-append}
-use Rattle.tg_rights.specs.Letters.{includes}
+use Rattle.tg_rights.specs.Letters.{Letters, includes, is_none}
 use Rattle.tg_rights.specs.declared.kind.Kind.TheVariants as kind
 use Rattle.tg_rights.specs.declared.command.Command.{Command}
 use Rattle.tg_rights.specs.declared.command.Command.TheVariants as command
@@ -26,16 +26,25 @@ use Rattle.tg_vault.specs.History.{Legal}
 use Rattle.tg_audit.specs.Derived.{HistoriesDerive, derivation_of, step_of}
 use Rattle.tg_wire.specs.Lines.{config_of, goal_of}
 use Rattle.tg_wire.specs.StepLines.{goal_line, goal_text, step_line}
-use Rattle.tg_wire.specs.Unshared.{is_error, unshared_line}
+use Rattle.tg_sharing.specs.Lookups.{AreListed, RunsOut}
+use Rattle.tg_wire.specs.Faults.{fault_line}
+use Rattle.tg_wire.specs.declared.fault.WireFault.TheVariants as wire
+use Rattle.tg_wire.specs.Unshared.{could_line, is_error, unshared_line}
 use Rattle.tg_wire.specs.declared.unshared.Unshared.{Unshared}
-use Rattle.tg_wire.specs.declared.unshared.Unshared.TheVariants.{Never, NoSerial}
+use Rattle.tg_wire.specs.declared.unshared.Unshared.TheVariants.{Never, NoRights, NoSerial, TooMuch}
 use Rattle.tg_talk.specs.Opening.{Opens}
 use Rattle.tg_talk.specs.declared.fault.TalkFault.{TalkFault}
 use Rattle.tgdoc.specs.Asked.{AreRewritten, Found}
 use Rattle.tgdoc.specs.Audits.{OpensGraph}
 use Rattle.tgdoc.specs.Drawings.{is_broken}
-use Rattle.tgdoc.specs.Sharing.{Answered, AreRead, IsGoalOf, Names, NamesNone, Shows, ShowsSharing, ShowsSteps, never, no_from, no_serial, no_to, shared, steps_text}
+use Rattle.tgdoc.specs.Lookups as lookups
+use Rattle.tgdoc.specs.Lookups.{LookedUp, TakesMore, are_listed, goal_with, no_rights, nobody, not_listed, too_much}
+use Rattle.tgdoc.specs.Named.{Names, NamesNone}
+use Rattle.tgdoc.specs.Sharing.{Answered, AnsweredPair, AreRead, IsGoalOf, Shows, ShowsSharing, ShowsSteps, never, no_from, no_serial, no_to, not_answered, shared, steps_text}
+use Rattle.tgdoc.specs.declared.question.Lookup.{Lookup}
+use Rattle.tgdoc.specs.declared.question.Pair.{Pair}
 use Rattle.tgdoc.specs.declared.question.Question.{Question}
+use Rattle.tgdoc.specs.declared.question.Question.TheVariants as question
 
 -- what is by one of the four rules stays as it is
 abbrev IsFixed : Option Command → Type 0
@@ -146,19 +155,19 @@ not_broken (Some fault) h = absurd (cc h)
 
 -- ---- the answer to a question
 
-told_as : (v : Contents) (q : Question) (text line : List ℕ) (b c : Bool) → text ≡ line → b ≡ c → Answered v q line c → Answered v q text b
-told_as v q text line b c is same answered = subst (λ (p : List ℕ × Bool). Answered v q p.0 p.1) (λ i. (sym is i, sym same i)) answered
+told_as : (v : Contents) (q : Pair) (text line : List ℕ) (b c : Bool) → text ≡ line → b ≡ c → AnsweredPair v q line c → AnsweredPair v q text b
+told_as v q text line b c is same answered = subst (λ (p : List ℕ × Bool). AnsweredPair v q p.0 p.1) (λ i. (sym is i, sym same i)) answered
 
 -- what is told by an answer without steps
 abbrev Tells : Unshared → List ℕ → Bool → Type 0
 Tells u text b = (text ≡ unshared_line u) × (b ≡ is_error u)
 
-module _ (v : Contents) (q : Question) (G : Protection) (same : G ≡ graph_now v) (text : List ℕ) (b : Bool) where
-  pub no_from_told : (u : Unshared) → NamesNone G q.from (unshared_line u) → is_error u ≡ true → Tells u text b → Answered v q text b
+module _ (v : Contents) (q : Pair) (G : Protection) (same : G ≡ graph_now v) (text : List ℕ) (b : Bool) where
+  pub no_from_told : (u : Unshared) → NamesNone G q.from (unshared_line u) → is_error u ≡ true → Tells u text b → AnsweredPair v q text b
   no_from_told u none error told =
       told_as v q text (unshared_line u) b true told.0 (told.1 ∙ error) (no_from (subst (λ F. NamesNone F q.from (unshared_line u)) same none))
 
-  pub no_to_told : (x : ℕ) (u : Unshared) → Names G q.from x → NamesNone G q.to (unshared_line u) → is_error u ≡ true → Tells u text b → Answered v q text b
+  pub no_to_told : (x : ℕ) (u : Unshared) → Names G q.from x → NamesNone G q.to (unshared_line u) → is_error u ≡ true → Tells u text b → AnsweredPair v q text b
   no_to_told x u from none error told =
       told_as v q text (unshared_line u) b true told.0 (told.1 ∙ error)
       (no_to x (subst (λ F. Names F q.from x) same from) (subst (λ F. NamesNone F q.to (unshared_line u)) same none))
@@ -170,16 +179,16 @@ module _ (v : Contents) (q : Question) (G : Protection) (same : G ≡ graph_now 
     its_goal-is : IsGoalOf (graph_now v) q its_goal
     its_goal-is = record { from = subst (λ F. Names F q.from x) same from; to = subst (λ F. Names F q.to y) same to; rights = refl }
 
-    pub never_told : (CanShare G its_goal → ⊥) → Tells Never text b → Answered v q text b
+    pub never_told : (CanShare G its_goal → ⊥) → Tells Never text b → AnsweredPair v q text b
     never_told impossible told =
         told_as v q text (unshared_line Never) b false told.0 told.1 (never its_goal its_goal-is (subst (λ F. CanShare F its_goal → ⊥) same impossible) refl)
 
-    pub no_serial_told : (steps : List Step) → (reached : Protection) × Derives G steps reached × (last_serial < reached.next) → Tells NoSerial text b → Answered v q text b
+    pub no_serial_told : (steps : List Step) → (reached : Protection) × Derives G steps reached × (last_serial < reached.next) → Tells NoSerial text b → AnsweredPair v q text b
     no_serial_told steps none told =
         told_as v q text (unshared_line NoSerial) b false told.0 told.1
         (no_serial its_goal steps none.0 its_goal-is (subst (λ F. Derives F steps none.0) same none.1) none.2 refl)
 
-    pub shared_told : Shows q.steps v its_goal text → Answered v q text false
+    pub shared_told : Shows q.steps v its_goal text → AnsweredPair v q text false
     shared_told shows = shared its_goal its_goal-is shows
 
   pub found_there : (goal : Goal) (steps items : List Step) → items ≡ steps → Found G goal steps → Found (graph_now v) goal items
@@ -193,3 +202,36 @@ opens_graph v line first G opens kept same = record {
   sound = opens.sound;
   opens = kept ∙ opens.fresh.opening;
 }
+
+-- no memory for the answer to a question of either kind
+pub no_memory : (v : Contents) (q : Question) (text : List ℕ) → text ≡ fault_line wire.OutOfMemory → Answered v q text true
+no_memory v (question.Pair pair) text is = not_answered is
+no_memory v (question.Lookup lookup) text is = not_listed is
+
+pub pair_answered : (v : Contents) (q : Question) (pair : Pair) (text : List ℕ) (b : Bool) → q ≡ question.Pair pair → AnsweredPair v pair text b → Answered v q text b
+pair_answered v q pair text b is answered = subst (λ (r : Question). Answered v r text b) (sym is) answered
+
+pub lookup_answered : (v : Contents) (q : Question) (lookup : Lookup) (text : List ℕ) (b : Bool) → q ≡ question.Lookup lookup → LookedUp (graph_now v) lookup text b → Answered v q text b
+lookup_answered v q lookup text b is answered = subst (λ (r : Question). Answered v r text b) (sym is) answered
+
+-- ---- the answer to a lookup
+
+module _ (H G : Protection) (same : H ≡ G) (q : Lookup) (text line : List ℕ) (b c : Bool) (is : text ≡ line) (counts : b ≡ c) where
+  looked_up : LookedUp H q line c → LookedUp G q text b
+  looked_up answered = subst (λ (p : Protection × List ℕ × Bool). LookedUp p.0 q p.1 p.2) (λ i. (same i, sym is i, sym counts i)) answered
+
+module _ (H G : Protection) (same : H ≡ G) (q : Lookup) (text : List ℕ) (b : Bool) where
+  pub nobody_told : (u : Unshared) → NamesNone H q.vertex (unshared_line u) → is_error u ≡ true → Tells u text b → LookedUp G q text b
+  nobody_told u none error told = looked_up H G same q text (unshared_line u) b true told.0 (told.1 ∙ error) (nobody none)
+
+  pub no_rights_told : is_none q.rights ≡ true → Tells NoRights text b → LookedUp G q text b
+  no_rights_told none told = looked_up H G same q text (unshared_line NoRights) b true told.0 told.1 (no_rights none refl)
+
+  pub too_much_told : TakesMore q.end H q.most → Tells TooMuch text b → LookedUp G q text b
+  too_much_told more told = looked_up H G same q text (unshared_line TooMuch) b true told.0 told.1 (too_much more refl)
+
+  pub runs_out_told : RunsOut H → Tells NoSerial text b → LookedUp G q text b
+  runs_out_told out told = looked_up H G same q text (unshared_line NoSerial) b false told.0 told.1 (lookups.no_serial out refl)
+
+  pub could_told : (x : ℕ) (could : List (ℕ × Letters)) → Names H q.vertex x → AreListed H (goal_with q.end q.rights x) could → (text ≡ could_line could) × (b ≡ false) → LookedUp G q text b
+  could_told x could named are told = looked_up H G same q text (could_line could) b false told.0 told.1 (are_listed x could named are refl)

@@ -1,7 +1,7 @@
 -- what `tgdoc share` writes after the lines of its input: whether rights can ever be shared in the graph to which they led
 use Rattle.std.specs.Prelude.{◌≡◌, ◌<◌, ℕ, List, [], ◌∷◌, ◌++◌, Bool, true, false, Option, None, Some, Ok, is_some, flat_map}
 use Rattle.tg_graph.specs.Derivations.{CanShare, Derives, IsShared}
-use Rattle.tg_graph.specs.Protection.{IsVertex, Protection, named}
+use Rattle.tg_graph.specs.Protection.{Protection}
 use Rattle.tg_graph.specs.Rewriting.{HasRightsOf}
 use Rattle.tg_graph.specs.Rules.{last_serial}
 use Rattle.tg_graph.specs.declared.derivation.Goal.{Goal}
@@ -12,30 +12,22 @@ use Rattle.tg_wire.specs.Lines.{goal_of, step_of}
 use Rattle.tg_wire.specs.StepLines.{goal_line, goal_text, step_line, step_text}
 use Rattle.tg_wire.specs.Unshared.{unshared_line}
 use Rattle.tg_wire.specs.declared.fault.WireFault.TheVariants as wire
-use Rattle.tg_wire.specs.declared.unshared.Unshared.TheVariants.{Never, NoPrincipal, NoSerial, NoVertex}
+use Rattle.tg_wire.specs.declared.unshared.Unshared.TheVariants.{Never, NoSerial}
 use Rattle.tg_talk.specs.declared.answering.Finished.{Finished}
 use Rattle.tgdoc.specs.Audits.{OpensGraph}
 use Rattle.tgdoc.specs.Drawings.{EachOrLast, Ending}
+use Rattle.tgdoc.specs.Lookups.{LookedUp}
+use Rattle.tgdoc.specs.Named.{Names, NamesNone}
 use Rattle.tgdoc.specs.Runs.{InputRan, Telling}
+use Rattle.tgdoc.specs.declared.question.Pair.{Pair}
 use Rattle.tgdoc.specs.declared.question.Question.{Question}
-use Rattle.tgdoc.specs.declared.question.VertexName.{VertexName}
-use Rattle.tgdoc.specs.declared.question.VertexName.TheVariants.{Principal, Serial}
-
--- the vertex that a word names: by its serial, or by the name of the principal that it is
-abbrev pub Names : Protection → VertexName → ℕ → Type 0
-Names G (Serial n) x = (x ≡ n) × IsVertex G x
-Names G (Principal name) x = (named G name ≡ Some x) × IsVertex G x
+use Rattle.tgdoc.specs.declared.question.Question.TheVariants as question
 
 -- the goal of a question
-pub record IsGoalOf (G : Protection) (q : Question) (goal : Goal) : Type 0 where
+pub record IsGoalOf (G : Protection) (q : Pair) (goal : Goal) : Type 0 where
   pub from : Names G q.from goal.from
   pub to : Names G q.to goal.to
   pub rights : goal.rights ≡ q.rights
-
--- a word names no vertex, and this is the line that says so
-pub data NamesNone (G : Protection) : VertexName → List ℕ → Type 0 where
-  no_vertex : {n : ℕ} {text : List ℕ} → (IsVertex G n → ⊥) → text ≡ unshared_line (NoVertex n) → NamesNone G (Serial n) text
-  no_principal : {name text : List ℕ} → named G name ≡ None → text ≡ unshared_line NoPrincipal → NamesNone G (Principal name) text
 
 -- each of the steps is read back from its line
 abbrev pub AreRead : List Step → Type 0
@@ -71,17 +63,23 @@ abbrev pub Shows : Bool → Contents → Goal → List ℕ → Type 0
 Shows true v goal text = ShowsSteps (graph_now v) goal text
 Shows false v goal text = ShowsSharing v.opening goal text
 
--- the answer to a question about the graph to which a vault's history led, and whether it counts as an `error` line
-pub data Answered (v : Contents) (q : Question) (text : List ℕ) : Bool → Type 0 where
-  no_from : NamesNone (graph_now v) q.from text → Answered v q text true
-  no_to : (x : ℕ) → Names (graph_now v) q.from x → NamesNone (graph_now v) q.to text → Answered v q text true
+-- the answer to whether one vertex can come to have rights over another in the graph to which a vault's history led, and
+-- whether it counts as an `error` line
+pub data AnsweredPair (v : Contents) (q : Pair) (text : List ℕ) : Bool → Type 0 where
+  no_from : NamesNone (graph_now v) q.from text → AnsweredPair v q text true
+  no_to : (x : ℕ) → Names (graph_now v) q.from x → NamesNone (graph_now v) q.to text → AnsweredPair v q text true
   -- no steps of any subjects lead to the goal
-  never : (goal : Goal) → IsGoalOf (graph_now v) q goal → (CanShare (graph_now v) goal → ⊥) → text ≡ unshared_line Never → Answered v q text false
+  never : (goal : Goal) → IsGoalOf (graph_now v) q goal → (CanShare (graph_now v) goal → ⊥) → text ≡ unshared_line Never → AnsweredPair v q text false
   -- there are steps after which no serial is left
-  no_serial : (goal : Goal) (steps : List Step) (reached : Protection) → IsGoalOf (graph_now v) q goal → Derives (graph_now v) steps reached → last_serial < reached.next → text ≡ unshared_line NoSerial → Answered v q text false
-  shared : (goal : Goal) → IsGoalOf (graph_now v) q goal → Shows q.steps v goal text → Answered v q text false
+  no_serial : (goal : Goal) (steps : List Step) (reached : Protection) → IsGoalOf (graph_now v) q goal → Derives (graph_now v) steps reached → last_serial < reached.next → text ≡ unshared_line NoSerial → AnsweredPair v q text false
+  shared : (goal : Goal) → IsGoalOf (graph_now v) q goal → Shows q.steps v goal text → AnsweredPair v q text false
   -- no memory for the answer
-  not_answered : text ≡ fault_line wire.OutOfMemory → Answered v q text true
+  not_answered : text ≡ fault_line wire.OutOfMemory → AnsweredPair v q text true
+
+-- the answer to a question of either kind
+abbrev pub Answered : Contents → Question → List ℕ → Bool → Type 0
+Answered v (question.Pair pair) text is_error = AnsweredPair v pair text is_error
+Answered v (question.Lookup lookup) text is_error = LookedUp (graph_now v) lookup text is_error
 
 abbrev pub AnsweredAtEnd : Question → Ending
 AnsweredAtEnd q v ended text is_error = Answered v q text is_error
