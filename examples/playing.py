@@ -4,15 +4,14 @@ examples/builds.py says which build of `tgdoc` is run.
 """
 
 import json
-import socket
 import subprocess
 import threading
 import time
 
-from builds import FOLDER, IS_PROVED, answers_in, words
+from builds import answers_in, words
 from tgdoc_client import Client, Denied, Full, address_of
 
-SECONDS = 30 if IS_PROVED else 180
+SECONDS = 60
 
 
 def told(*words):
@@ -35,15 +34,8 @@ def denial_of(command, *arguments):
 
 
 def connected(address):
-    """A client, as soon as the server listens: an unproved build has to be made first."""
-    limit = time.monotonic() + SECONDS
-    while True:
-        try:
-            return Client(*address)
-        except ConnectionRefusedError:
-            if time.monotonic() > limit:
-                raise
-            time.sleep(0.1)
+    """A client of the server."""
+    return Client(*address, seconds=SECONDS)
 
 
 def with_room(command, *arguments):
@@ -61,25 +53,16 @@ def with_room(command, *arguments):
             time.sleep(0.001)
 
 
-def free_address():
-    """An address that nobody listens on."""
-    with socket.create_server(("127.0.0.1", 0)) as one:
-        return one.getsockname()
-
-
 def play(config, workers, connections, story):
     """Starts a server over a configuration, tells the story to its address, and returns the server's status."""
-    # A proved program prints its address at once. `rt try` prints the output at the end, so the port is chosen here.
-    address = ("127.0.0.1", 0) if IS_PROVED else free_address()
-    options = ["--listen", "%s:%d" % address, "--workers", str(workers), "--connections", str(connections)]
-    how = {"cwd": FOLDER, "stdin": subprocess.PIPE, "stdout": subprocess.PIPE}
-    with subprocess.Popen(words("serve", *options), **how) as server:
+    options = ["--listen", "127.0.0.1:0", "--workers", str(workers), "--connections", str(connections)]
+    with subprocess.Popen(words("serve", *options), stdin=subprocess.PIPE, stdout=subprocess.PIPE) as server:
         limit = threading.Timer(2 * SECONDS, server.terminate)
         limit.start()
         try:
             server.stdin.write(json.dumps(config).encode() + b"\n")
             server.stdin.close()
-            address = address_of(server.stdout.readline()) if IS_PROVED else address
+            address = address_of(server.stdout.readline())
             told("The server listens on %s, port %d." % address)
             story(address)
             settled = json.loads(answers_in(server.stdout.read().decode())[-1])["settled"]
