@@ -1,0 +1,58 @@
+"""What vertices are called: principals by their names, others by names that were given in the shell, or by their serials."""
+
+import re
+
+from shell.commands import COMMANDS, Confused
+
+WORD = re.compile("[A-Za-z_][A-Za-z0-9_-]*")
+
+
+class Names:
+    """The principals' serials by name, as far as they are known, and the names given here."""
+
+    def __init__(self, principals):
+        self.principals = {name: serial for serial, name in enumerate(principals, 1)}
+        self.given = {}
+        self.retired = {}
+
+    def enrolled(self, name, serial):
+        self.principals[name] = serial
+
+    def has_retired(self, serial):
+        """The principal's name is free from now on."""
+        for name in [name for name, owner in self.principals.items() if owner == serial]:
+            self.retired[serial] = name
+            del self.principals[name]
+
+    def give(self, word, serial):
+        """Gives a vertex a name, in place of one that it has."""
+        if not WORD.fullmatch(word) or word in COMMANDS:
+            raise Confused("%s: a name has letters and digits, begins with a letter, and is no command" % word)
+        if word in self.principals:
+            raise Confused("%s is a principal's name" % word)
+        self.given = {name: owner for name, owner in self.given.items() if owner != serial}
+        self.given[word] = serial
+
+    def serial_of(self, word):
+        if word.isdigit():
+            return int(word)
+        found = self.principals.get(word, self.given.get(word))
+        if found is None:
+            raise Confused("%s: no vertex has this name here; vertices have numbers, and `name NUMBER WORD` names one" % word)
+        return found
+
+    def of(self, serial):
+        """What a vertex is called."""
+        for known in (self.principals, self.given):
+            for name, owner in known.items():
+                if owner == serial:
+                    return name
+        return "%d (%s, retired)" % (serial, self.retired[serial]) if serial in self.retired else str(serial)
+
+    def both(self, serial):
+        """What a vertex is called, with its serial."""
+        name = self.of(serial)
+        return name if name[:1].isdigit() else "%s (%d)" % (name, serial)
+
+    def all(self):
+        return [*self.principals, *self.given]
