@@ -2,7 +2,7 @@
 
 from html import escape
 
-from film.svg import STYLE, svg_of
+from film.svg import MARGIN, STYLE, svg_of
 
 PAGE_STYLE = """
 :root { color-scheme: light dark; --ink: #16191d; --paper: #ffffff; --soft: #eef1f4; --rule: #c9d0d7; --key: #0b57d0; }
@@ -18,7 +18,10 @@ button:focus-visible, input:focus-visible, section:focus-visible { outline: 3px 
 input { flex: 1 1 10rem; accent-color: var(--key); }
 output { min-width: 4.5rem; text-align: right; font-variant-numeric: tabular-nums; }
 section { display: grid; grid-template-columns: minmax(0, 1.6fr) minmax(15rem, 1fr); gap: 1.2rem; align-items: start; border-top: 1px solid var(--rule); padding: 1rem 0; }
-section svg { max-width: 100%; height: auto; justify-self: center; }
+.paper { overflow: auto; }
+.paper svg { display: block; margin: 0 auto; width: calc(var(--wide) * var(--zoom, 1)); height: auto; }
+body:not(.zoomed) .paper svg { max-width: 100%; min-width: calc(var(--wide) * .7); }
+.caption { font-weight: 600; margin: 0 0 .5rem; }
 dl { margin: 0; }
 dt { font-size: .8rem; opacity: .75; margin-top: .7rem; }
 dt:first-child { margin-top: 0; }
@@ -34,7 +37,8 @@ body:not(.script) nav { display: none; }
 SCRIPT = """
 (() => {
   const frames = [...document.querySelectorAll("section")];
-  const [first, back, play, on, last] = document.querySelectorAll("nav button");
+  let zoom = 1;
+  const [first, back, play, on, last, out, into] = document.querySelectorAll("nav button");
   const bar = document.querySelector("nav input"), count = document.querySelector("nav output");
   let now = 0, timer = null;
   function show(number) {
@@ -66,9 +70,16 @@ SCRIPT = """
   on.onclick = () => step(now + 1);
   last.onclick = () => step(frames.length - 1);
   bar.oninput = () => step(bar.value - 1);
+  function scale(factor) {
+    zoom = Math.min(Math.max(zoom * factor, .5), 4);
+    document.documentElement.style.setProperty("--zoom", zoom);
+    document.body.classList.toggle("zoomed", zoom !== 1);
+  }
+  out.onclick = () => scale(1 / 1.25);
+  into.onclick = () => scale(1.25);
   document.addEventListener("keydown", (event) => {
     if (event.ctrlKey || event.altKey || event.metaKey) return;
-    const keys = { ArrowLeft: () => step(now - 1), ArrowRight: () => step(now + 1), Home: () => step(0), End: () => step(frames.length - 1) };
+    const keys = { ArrowLeft: () => step(now - 1), ArrowRight: () => step(now + 1), Home: () => step(0), End: () => step(frames.length - 1), "+": () => scale(1.25), "-": () => scale(1 / 1.25) };
     const key = event.key === " " && event.target.tagName !== "BUTTON" ? toggle : event.target === bar ? null : keys[event.key];
     if (key) { key(); event.preventDefault(); }
   });
@@ -84,13 +95,17 @@ NAV = """<nav aria-label="Frames">
 <button type="button">Play</button>
 <button type="button" aria-label="Next frame">&gt;</button>
 <button type="button" aria-label="Last frame">&gt;|</button>
+<button type="button" aria-label="Smaller">&minus;</button>
+<button type="button" aria-label="Larger">+</button>
 <input type="range" min="1" max="%d" value="1" aria-label="Frame">
 <output aria-live="off"></output>
 </nav>"""
 
-ABOUT = """<p>Keys: <kbd>&larr;</kbd> <kbd>&rarr;</kbd> step, <kbd>space</kbd> plays, <kbd>Home</kbd> <kbd>End</kbd>.</p>
-<ul class="key"><li>filled: a subject</li><li>open: a document</li><li>rim white, grey or black: the collector&rsquo;s colour</li>
-<li>dashed: condemned, waits to be swept</li><li>dotted: the missing right</li></ul>"""
+ABOUT = """<p>Keys: <kbd>&larr;</kbd> <kbd>&rarr;</kbd> step, <kbd>space</kbd> plays, <kbd>Home</kbd> <kbd>End</kbd>, <kbd>+</kbd> <kbd>-</kbd> size.</p>
+<ul class="key"><li>filled: a subject</li><li>open: a document</li><li>an arrow&rsquo;s letters, over its target: r to read it, w to write it, t to take
+rights that it has, g to grant it rights</li><li>dotted: the missing right</li>%s</ul>"""
+OF_THE_COLLECTOR = """<li>rim white, grey or black: the collector&rsquo;s colour</li><li>dashed: condemned, waits to be swept</li>
+<li>target: the vertex that a session has just made or passed on</li>"""
 
 
 def fact(name, text):
@@ -102,7 +117,7 @@ def code(text):
     return "<code>%s</code>" % escape(text).replace(",", ",<wbr>")
 
 
-def section(frame, places, count):
+def section(frame, places, count, is_plain):
     """A frame beside its line and its answer."""
     shot = frame.picture
     names = {vertex.serial: vertex.name for vertex in shot.vertices.values()}
@@ -112,16 +127,19 @@ def section(frame, places, count):
         fact("Line", code(frame.line)),
         fact("Answer", code(frame.answer)),
         fact("What changes", "; ".join(frame.changes) or ("nothing that is drawn" if frame.number > 1 else "the first frame")),
-        fact("Collector", state),
+        *([] if is_plain else [fact("Collector", state)]),
         fact("Who sits where", seats or "nobody"),
     ]
     head = '<section tabindex="-1" aria-label="Frame %d of %d">' % (frame.number, count)
-    return "%s%s<dl aria-live=\"polite\">%s</dl></section>" % (head, svg_of(frame, places), "".join(told))
+    caption = '<p class="caption">%s</p>' % escape(frame.caption) if frame.caption else ""
+    paper = '<div class="paper" style="--wide: %dpx">%s</div>' % (places.width + 2 * MARGIN, svg_of(frame, places, is_plain))
+    return "%s%s<div>%s<dl aria-live=\"polite\">%s</dl></div></section>" % (head, paper, caption, "".join(told))
 
 
-def page_of(title, frames, places):
+def page_of(title, frames, places, is_plain=False):
     """The whole page."""
     head = '<!DOCTYPE html>\n<html lang="en"><head><meta charset="utf-8"><meta name="viewport" content="width=device-width, initial-scale=1">'
     head += '<link rel="icon" href="data:,"><title>%s</title><style>%s%s</style></head>' % (escape(title), PAGE_STYLE, STYLE)
-    body = ["<h1>%s</h1>" % escape(title), ABOUT, NAV % len(frames), *[section(frame, places, len(frames)) for frame in frames]]
+    about = ABOUT % ("" if is_plain else OF_THE_COLLECTOR)
+    body = ["<h1>%s</h1>" % escape(title), about, NAV % len(frames), *[section(frame, places, len(frames), is_plain) for frame in frames]]
     return "%s<body>\n%s\n<script>%s</script></body></html>\n" % (head, "\n".join(body), SCRIPT)

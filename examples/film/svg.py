@@ -2,7 +2,7 @@
 
 from html import escape
 
-from film.frames import told
+from film.frames import mark_told, told
 from film.layout import RADIUS
 
 MARGIN = 12
@@ -26,9 +26,10 @@ STYLE = """
 .film .condemned .rim { stroke: none; }
 .film .condemned .inner { stroke: none; }
 .film .condemned .word { font-size: 12px; }
+.film.plain .rim, .film.plain .inner { stroke: none; }
 .film .name { font-weight: 600; font-size: 14px; }
 .film .mark { font-size: 11.5px; }
-.film .mark.target, .film .mark.agent { font-weight: 700; fill: var(--key); }
+.film .mark.target, .film .mark.agent { font-weight: 700; font-size: 10.5px; fill: var(--key); }
 .film .edge path { fill: none; stroke: var(--line); stroke-width: 1.6; }
 .film .edge polygon { fill: var(--line); }
 .film .edge text { font-size: 15px; font-weight: 600; paint-order: stroke; stroke: var(--paper); stroke-width: 4; }
@@ -44,15 +45,24 @@ def text_svg(name, text, x, y):
     return '<text class="%s"%s x="%.1f" y="%.1f">%s</text>' % (name, smaller, x, y, escape(text))
 
 
-def vertex_svg(vertex, place):
+def mark_rows(mark):
+    """A mark in one row, or in two if it has a seat's number behind it."""
+    word = mark.partition(" ")[0]
+    rows = [mark] if word == "seat" else [word, mark_told(mark).removeprefix(word + " ")]
+    return [("mark " + word, row) for row in rows]
+
+
+def vertex_svg(vertex, place, is_plain):
     """A vertex: what it is fills the circle, its colour is the rim."""
     x, y = place
     classes = " ".join([vertex.kind, vertex.colour, *([] if vertex.is_held else ["condemned"])])
     head = " ".join(filter(None, [str(vertex.serial), vertex.name]))
     word = vertex.colour if vertex.is_held else "condemned"
-    rows = [("name", head), ("word", word), *[("mark " + mark.partition(" ")[0], mark) for mark in vertex.marks]]
-    first = y - 7.5 * (len(rows) - 1) + 4.5
-    texts = "".join(text_svg(name, text, x, first + 15 * place) for place, (name, text) in enumerate(rows))
+    rows = [("name", head), *([] if is_plain else [("word", word)])]
+    rows += [row for mark in vertex.marks for row in mark_rows(mark)]
+    step = 15 if len(rows) < 4 else 13.5
+    first = y - step / 2 * (len(rows) - 1) + 4.5
+    texts = "".join(text_svg(name, text, x, first + step * place) for place, (name, text) in enumerate(rows))
     rings = '<circle class="body" cx="{0}" cy="{1}" r="{2}"/><circle class="rim" cx="{0}" cy="{1}" r="{3}"/>'
     rings += '<circle class="edge-of-rim" cx="{0}" cy="{1}" r="{2}"/><circle class="edge-of-rim inner" cx="{0}" cy="{1}" r="{4}"/>'
     return '<g class="vertex %s">%s%s</g>' % (classes, rings.format(x, y, RADIUS, RADIUS - 3.6, RADIUS - 7.2), texts)
@@ -75,20 +85,21 @@ def edge_svg(label, curve, more=""):
     return '<g class="edge%s">%s<text x="%.1f" y="%.1f">%s</text></g>' % (more, path, x, y + 5, escape(label))
 
 
-def svg_of(frame, places, style=""):
-    """A frame, with what it shows in words."""
+def svg_of(frame, places, is_plain=False, style=""):
+    """A frame, with what it shows in words; a plain one without the collector's colours."""
     shot = frame.picture
     edges = [edge_svg(rights, places.edges[ends]) for ends, rights in shot.edges.items()]
     if frame.missing:
         start, rights, end = frame.missing
         edges.append(edge_svg("no " + rights, places.missing[start, end], " missing"))
-    vertices = [vertex_svg(vertex, places.vertices[serial]) for serial, vertex in shot.vertices.items()]
+    vertices = [vertex_svg(vertex, places.vertices[serial], is_plain) for serial, vertex in shot.vertices.items()]
     width, height = places.width + 2 * MARGIN, places.height + 2 * MARGIN
     box = "%d %d %d %d" % (-MARGIN, -MARGIN, round(width), round(height))
-    head = '<svg class="film" xmlns="http://www.w3.org/2000/svg" role="img" viewBox="%s" width="%d" height="%d">' % (box, round(width), round(height))
+    head = '<svg class="film%s" xmlns="http://www.w3.org/2000/svg" role="img" viewBox="%s" width="%d" height="%d">'
+    head %= (" plain" if is_plain else "", box, round(width), round(height))
     return "%s%s<title>Frame %d</title><desc>%s</desc>%s%s</svg>" % (head, style, frame.number, escape(told(frame)), "".join(edges), "".join(vertices))
 
 
-def alone(frame, places):
+def alone(frame, places, is_plain=False):
     """A frame as a file of its own, which is on paper of its own, whatever page it stands on."""
-    return svg_of(frame, places, "<style>%s.film { background: var(--paper); }</style>" % STYLE) + "\n"
+    return svg_of(frame, places, is_plain, "<style>%s.film { background: var(--paper); }</style>" % STYLE) + "\n"

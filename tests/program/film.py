@@ -41,16 +41,23 @@ const buttons = [...document.querySelectorAll("nav button")];
 buttons[3].click(); seen.push("on " + place()); buttons[1].click(); seen.push("back " + place());
 buttons[4].click(); seen.push("last " + place()); buttons[0].click(); seen.push("first " + place());
 press(" "); seen.push(buttons[2].textContent); press(" "); seen.push(buttons[2].textContent);
+const wide = () => now().querySelector("svg").getBoundingClientRect().width, before = wide();
+buttons[6].click(); press("+"); seen.push("larger " + (wide() > 1.4 * before)); buttons[5].click(); press("-"); seen.push("as before " + (wide() === before));
 document.getElementById("seen").textContent = seen.join("; ");
 </script>"""
 
 
-def page_of(program, story):
+def page_of(program, story, *words):
     """The pictures of a story, and the page that is made of them."""
     lines = (FILM / (story + ".jsonl")).read_bytes()
     drawn = subprocess.run([str(program), "draw", "--each"], input=lines, capture_output=True, timeout=SECONDS, check=True).stdout
-    made = subprocess.run([str(FILM / "film")], input=drawn, capture_output=True, timeout=SECONDS, check=True).stdout
+    made = subprocess.run([str(FILM / "film"), *words], input=drawn, capture_output=True, timeout=SECONDS, check=True).stdout
     return drawn.decode().removesuffix("\n").split("\n"), made.decode()
+
+
+def captions_of(page):
+    """The captions of a page's frames."""
+    return [unescape(words) for words in re.findall('<p class="caption">(.*?)</p>', page)]
 
 
 def described(text):
@@ -64,13 +71,15 @@ def kept(story):
     def test(program):
         if not shutil.which("dot"):
             return skipped("Graphviz")
-        lines, made = page_of(program, story)
+        captions = FILM / (story + ".captions")
+        lines, made = page_of(program, story, "--captions", str(captions))
         frames = frames_of(lines)
         wanted, (count, denied) = [told(frame) for frame in frames], STORIES[story]
         page = (KEPT / (story + ".html")).read_text()
         single = described((KEPT / (story + ".svg")).read_text())
         good = described(made) == wanted == described(page) and len(single) == 1 and single[0] in wanted
         good = good and len(frames) == count and {frame.number for frame in frames if frame.missing} == denied
+        good = good and captions_of(made) == captions_of(page) == captions.read_text().splitlines()
         return good and FACTS.findall(made) == FACTS.findall(page)
 
     return test
@@ -90,12 +99,25 @@ def in_a_browser(story):
             words = [browser, "--headless", "--no-sandbox", "--disable-gpu", "--enable-logging=stderr", "--user-data-dir=" + folder + "/data"]
             ran = subprocess.run([*words, "--dump-dom", page.as_uri()], capture_output=True, timeout=SECONDS)
         found = re.search('<pre id="seen">(.*?)</pre>', ran.stdout.decode())
-        wanted = "right {0}; left {1}; end {0}; home 1; on 2; back 1; last {0}; first 1; Pause; Play".format(count, count - 1)
+        wanted = "right {0}; left {1}; end {0}; home 1; on 2; back 1; last {0}; first 1; Pause; Play; larger true; as before true".format(count, count - 1)
         said = [row for row in ran.stderr.decode(errors="replace").splitlines() if ":CONSOLE" in row]
         print("  %s%s" % (unescape(found[1]) if found else "no report", "".join("\n  " + row for row in said)))
         return bool(found) and unescape(found[1]) == wanted and not said
 
     return test
+
+
+def cut(program):
+    """Without the collector no colours, targets and steps of it are shown, and what is condemned is gone; over one vertex, only what leads to it."""
+    if not shutil.which("dot"):
+        return skipped("Graphviz")
+    _, plain = page_of(program, "collector", "--plain")
+    _, over = page_of(program, "sharing", "--over", "4", "--plain")
+    words, frames = " ".join(described(plain)), described(over)
+    # of 28 events 3 are shades, 1 is a cycle and 15 are steps
+    good = len(described(plain)) == 9 and not re.search("grey|black|target|condemned", words) and "4: document" not in described(plain)[-1]
+    # document 4 is made by event 10, before a shade, two cycles and six others; bob and document 3 lead nowhere near it
+    return good and len(frames) == 7 and all("1 has rw over 4." in row and "2 bob" not in row and "3:" not in row for row in frames)
 
 
 def without_graphviz(_):
@@ -110,4 +132,5 @@ def tests():
     for story in STORIES:
         yield "film-of-" + story, kept(story)
         yield "film-of-%s-in-a-browser" % story, in_a_browser(story)
+    yield "film-of-a-part", cut
     yield "no-film-without-graphviz", without_graphviz
