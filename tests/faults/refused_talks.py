@@ -271,11 +271,12 @@ def own_memory_refused(program, tried):
     """One allocation of the server's own thread fails, which never serves a client."""
     early, opening, server = stages(program, tried)
     last = max(place for place, one in enumerate(early) if one.end == "command line refused")
-    words, texts = early[: last + 1], early[last + 1 :]
+    words, texts, desk = early[: last + 1], early[last + 1 : -1], early[-1]
     unharmed = [one for one in words if one.end != "command line refused"]
     return {
         "one growth for words changes nothing, each other refuses the command line": len(unharmed) <= 1 and all_end(unharmed, "agreed") and all_heard(unharmed),
         "the growths for what the system says change nothing": len(texts) >= SYSTEM_TEXTS and all_end(texts, "agreed") and all_heard(texts),
+        "the growth for the desk ends it before anything is written": desk.end == "nothing written",
         "the opening takes as many as that of a run, and one for the lines": len(opening) == 1 + openings_refused(program),
         "each growth for the opening refuses it": all_end(opening, "opening refused"),
         "no server settles whose own thread is refused a growth": all_end(server, NOT_SETTLED),
@@ -299,9 +300,11 @@ def workers_memory_refused(_, tried):
 def memory_refused_from_then_on(program, tried):
     """An allocation and all after it fail. Settling needs memory, so nothing is agreed."""
     words, opening, server = stages(program, tried)
+    last = sum(one.end == "command line refused" for one in words)
     return {
-        "the command line is refused": all_end(words, "command line refused"),
-        "then the opening": all_end(opening, "opening refused") and len(opening) >= SYSTEM_TEXTS + 1 + openings_refused(program),
+        "the command line is refused": all_end(words[:last], "command line refused"),
+        "then nothing is written, for want of a desk": all_end(words[last:], "nothing written") and len(words) - last > SYSTEM_TEXTS,
+        "then the opening is refused": all_end(opening, "opening refused") and len(opening) >= 1 + openings_refused(program),
         "and then no server settles": all_end(server, NOT_SETTLED) and len(server) > LAST_GROWTHS,
     }
 

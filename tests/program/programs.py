@@ -3,6 +3,7 @@
 import contextlib
 import itertools
 import os
+import re
 import select
 import shlex
 import subprocess
@@ -221,8 +222,8 @@ def demo_of(program, *words):
 
 
 def readme_example(program):
-    """README.md shows what `make demo` prints: its indented lines from the one that opens a graph on."""
-    rows = (ROOT / "README.md").read_text().splitlines()
+    """examples/README.md shows what `make demo` prints: its indented lines from the first that opens a graph on."""
+    rows = (ROOT / "examples" / "README.md").read_text().splitlines()
     first = next(place for place, row in enumerate(rows) if row.startswith('    {"principals"'))
     shown = itertools.takewhile(lambda row: row.startswith("    "), rows[first:])
     return demo_of(program) == "".join(row[4:] + "\n" for row in shown)
@@ -242,6 +243,27 @@ def versioned(*words):
         return (ran.stdout, ran.stderr, ran.returncode) == (b"tgdoc 0.1.0\n", b"", 0)
 
     return test
+
+
+def library_page(_):
+    """docs/LIBRARY.md shows the program of crates/tg_example, and what it prints."""
+    page, crate = (ROOT / "docs" / "LIBRARY.md").read_text(), ROOT / "crates" / "tg_example"
+    printed = "".join("    %s\n" % row for row in (crate / "stdout").read_text().splitlines())
+    return "```rust\n%s```\n" % (crate / "src" / "main.rt").read_text() in page and printed in page
+
+
+def man_page(program):
+    """The man page tells every option that the help texts tell, and no other, for each command."""
+    page = (ROOT / "docs" / "tgdoc.1").read_text().replace("\\-", "-")
+    parts = re.split(r"\.TP\n\.B (?=[a-z])", page.partition(".SH COMMANDS")[2].partition(".SH LINES")[0])[1:]
+    for part in parts:
+        word = part.partition("\n")[0]
+        shown = subprocess.run([str(program), word, "--help"], capture_output=True, timeout=SECONDS).stdout.decode()
+        told, wanted = [set(re.findall(r"--[a-z]+", text)) - {"--help"} for text in (part, shown.partition("Example:")[0])]
+        if told != wanted:
+            print("  of %s the page tells %s, and the help %s" % (word, sorted(told), sorted(wanted)))
+            return False
+    return [part.partition("\n")[0] for part in parts] == ["run", "draw", "share", "audit", "serve", "control"]
 
 
 def tests():
@@ -268,13 +290,15 @@ def tests():
     yield "help-on-run", help_on_run
     yield "help-on-audit", help_with_a_file(SHARED, ["audit"], "audit", "--help")
     yield "help-on-draw", help_on_draw
+    yield "man-page", man_page
+    yield "library-page", library_page
     yield "version", versioned("--version")
     yield "version-before-other-words", versioned("--version", "run", "now")
     yield "example-derivation", example("derivation.jsonl", SHARED, 0)
     # Without the step by which bob takes g, he may not grant to vertex 5.
     short = b'{"denied":"grant","from":2,"missing":"g","step":3,"to":5,"verdict":"step denied"}\n'
     yield "example-derivation-short", example("derivation-short.jsonl", short, 1)
-    yield "example-of-the-readme", readme_example
+    yield "demo-of-the-readme", readme_example
     yield "demo-of-an-audit", demo_of_an_audit
     yield "no-word", refused()
     yield "another-word", refused("steal")

@@ -19,7 +19,7 @@ from concurrent.futures import ThreadPoolExecutor
 from pathlib import Path
 
 from models import owners
-from server import bounds, listening, pacing, piling, rounds, waiting
+from server import attended, bounds, listening, pacing, piling, rounds, waiting
 from server.servers import (
     AGREED, CONFIG, NOT_JSON, SECONDS, Server, exchange, greet, is_silent, read_all, read_line, running, served,
 )
@@ -685,4 +685,5 @@ def tests():
     yield from rounds.tests()
     yield from pacing.tests()
     yield from bounds.tests()
+    yield from attended.tests()
     yield from piling.tests()
