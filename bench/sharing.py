@@ -6,6 +6,8 @@ usage: bench/sharing.py [VERTICES..]
 By default 8,192 and 65,536 vertices. Alice makes them, half of them subjects, with all rights over each, and grants each of them rights over some of
 the others, as many as a run of a million lines has room for, at most seven. Nobody has a right over alice, so that it can never be shared, which is
 known once the whole graph was searched; all that she has can be shared with everybody. Prints seconds of processor time, the least of three.
+
+Then as many subjects as are searched for a derivation without new vertices, where there is none, so that all that they could come to have is found.
 """
 
 import os
@@ -17,7 +19,7 @@ from pathlib import Path
 
 ROOT = Path(__file__).resolve().parent.parent
 PROGRAM = os.environ.get("TGDOC", ROOT / "crates" / "tgdoc" / "out" / "tgdoc")
-MOST_LINES, GRANTS, TRIES = 1_000_000, 7, 3
+MOST_LINES, GRANTS, TRIES, CROWD = 1_000_000, 7, 3, 128
 SHADE = '{"op":"shade"}'
 
 
@@ -33,6 +35,18 @@ def lines(vertices):
         start, end = source.sample(range(2, vertices + 1), 2)
         yield '{"op":"grant","rights":"%s","over":%d,"to":%d}' % (source.choice("rwtg"), end, start)
         yield SHADE
+
+
+def crowd(subjects):
+    """A run in which alice, who has take over bob, makes subjects that she can give everything, and a document. Bob can come to read it only by a
+    vertex that he makes."""
+    yield '{"principals":["alice","bob"],"edges":[[1,"t",2]]}'
+    yield '{"op":"hello","name":"alice"}'
+    for _ in range(subjects - 2):
+        yield '{"op":"create","kind":"subject","rights":"tg"}'
+        yield SHADE
+    yield '{"op":"create","kind":"document","rights":"r"}'
+    yield SHADE
 
 
 def measured(given, *words):
@@ -59,6 +73,11 @@ def main():
         audit, verdict = measured(text, "audit")
         assert verdict == b'{"verdict":"shared"}\n', verdict
         print("%d vertices, %d edges: run %.2f, never %.2f, a derivation %.2f, its audit %.2f" % (vertices, edges, run, never, yes, audit), flush=True)
+    given = ("\n".join(crowd(CROWD)) + "\n").encode()
+    run, _ = measured(given, "run")
+    yes, text = measured(given, "share", "--from", "bob", "--to", str(CROWD + 1), "--rights", "r", "--steps")
+    assert b'"create"' in text, text
+    print("%d subjects: run %.3f, a derivation that needs a new vertex %.3f" % (CROWD, run, yes))
 
 
 if __name__ == "__main__":

@@ -1,8 +1,8 @@
 """Whether rights can ever be shared, by brute force, in a small graph.
 
-Whoever may act makes a subject and a document with all rights over them, and so do the subjects that are made, as deep as is asked for; then
-every take and every grant that the rules allow is made, with all the rights that it can bring, until nothing changes. A remove is of no use: it
-allows nothing that was not allowed before.
+Whoever may act makes a subject and a document with all rights over them, and so do the subjects that are made, as deep as is asked for (with a
+depth of 0 nobody makes anything); then every take and every grant that the rules allow is made, with all the rights that it can bring, until
+nothing changes. A remove is of no use: it allows nothing that was not allowed before.
 """
 
 from models.reading import LETTERS

@@ -21,6 +21,9 @@ SHARED = b'{"verdict":"shared"}\n'
 CHAIN = b'{"edges": [[1, "t", 2], [2, "r", 3]],  "principals":["alice","bob","carol"]}\n'
 GOAL = b'{"from":%d,"rights":"%s","to":%d}\n'
 TAKE = b'{"actor":1,"from":2,"op":"take","over":3,"rights":"r"}\n'
+TOO_MUCH = b'{"error":"too much"}\n'
+# Alice may write what carol is, and take from bob, who may read it: bob makes a document that she takes, and through which she passes that on.
+TWO = b'{"edges":[[1,"w",3],[1,"t",2],[2,"r",3]],"principals":["alice","bob","carol"]}\n'
 LONG, TOO_LONG = b" " * 16_385 + b"\n", b'{"error":"line too long"}\n'
 HELLO = b'{"op":"hello","name":"alice"}\n'
 SHADE = b'{"op":"shade"}\n'
@@ -74,12 +77,33 @@ def answers():
     yield "no-input-and-no-answer", alone(b"", words("alice", "3", "r"), b'{"error":"not json"}\n', 1)
 
 
+def lookups():
+    """Lookups with their answers: who could, or over what, each with the rights that are there now."""
+    yield "who-could-read", alone(CHAIN, ["--to", "3", "--rights", "r"], b'{"could":[[1,""],[2,"r"]]}\n')
+    yield "over-what-could-she", alone(CHAIN, ["--from", "alice", "--rights", "r"], b'{"could":[[3,""]]}\n')
+    yield "nobody-could", alone(CHAIN, ["--to", "alice", "--rights", "r"], b'{"could":[]}\n')
+    yield "over-nothing-could-he", alone(CHAIN, ["--from", "carol", "--rights", "t"], b'{"could":[]}\n')
+    yield "over-what-of-two-rights", alone(TWO, ["--from", "1", "--rights", "rw"], b'{"could":[[3,"w"]]}\n')
+    yield "who-could-of-two-rights", alone(TWO, ["--rights", "wr", "--to", "3"], b'{"could":[[1,"w"],[2,"r"]]}\n')
+    yield "who-could-though-one-retired", alone(RETIRES, ["--to", "3", "--rights", "r"], b'{"could":[[2,"r"]]}\n')
+    yield "lookup-of-no-vertex", alone(CHAIN, ["--to", "9", "--rights", "r"], b'{"error":"no vertex","vertex":9}\n', 1)
+    yield "lookup-of-no-principal", alone(CHAIN, ["--from", "dave", "--rights", "r"], NO_PRINCIPAL, 1)
+    yield "lookup-of-no-rights", alone(CHAIN, ["--to", "3", "--rights", ""], b'{"error":"no rights"}\n', 1)
+    yield "lookup-of-as-many-as-there-are", alone(CHAIN, ["--to", "3", "--rights", "r", "--most", "3"], b'{"could":[[1,""],[2,"r"]]}\n')
+    yield "lookup-of-one-too-many", alone(CHAIN, ["--to", "3", "--rights", "r", "--most", "2"], TOO_MUCH, 1)
+    yield "lookup-of-as-many-steps-as-it-takes", alone(CHAIN, ["--from", "1", "--rights", "r", "--most", "1"], b'{"could":[[3,""]]}\n')
+    yield "lookup-behind-a-refused-line", alone(CHAIN + b"x\n", ["--to", "3", "--rights", "r"], b'{"could":[[1,""],[2,"r"]]}\n', 1)
+
+
 def no_questions():
     """Words that ask nothing: nothing is read or written, and the status is 2."""
     for name, question in {
         "without-rights": ["--from", "1", "--to", "2"],
-        "without-from": ["--to", "2", "--rights", "r"],
-        "without-to": ["--from", "1", "--rights", "r"],
+        "without-either-end": ["--rights", "r"],
+        "of-steps-without-from": ["--to", "2", "--rights", "r", "--steps"],
+        "of-steps-without-to": ["--from", "1", "--rights", "r", "--steps"],
+        "of-the-most-with-both-ends": words("1", "2", "r", "--most", "5"),
+        "of-nothing-at-most": ["--to", "2", "--rights", "r", "--most", "0"],
         "of-a-name-in-capitals": words("Alice", "2", "r"),
         "of-a-long-name": words("a" * 33, "2", "r"),
         "of-a-serial-of-65-bits": words(str(2**64), "2", "r"),
@@ -156,6 +180,7 @@ def all_slots(program):
 def tests():
     """All tests by their names."""
     yield from answers()
+    yield from lookups()
     yield from no_questions()
     yield "help-on-share", helped
     yield "no-serial-left-for-a-question", few_serials
