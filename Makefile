@@ -1,8 +1,8 @@
-# `make help` lists the targets; `make demo` plays the README's example, and `make test` proves and tests all.
+# `make help` lists the targets; `make play` opens a shell on a server, and `make test` proves and tests all.
 CRATES := $(shell sed 's/:.*//' crates.txt)
 PREFIX ?= /usr/local
 
-.PHONY: all help load demo test soak bench check install clean $(CRATES)
+.PHONY: all help play playground demo load test soak bench check install clean $(CRATES)
 
 all: ## prove the program and the crates below it (half an hour), and leave it at bin/tgdoc
 	cd crates/tgdoc && rt run -- run < ../../examples/first-run.jsonl > /dev/null
@@ -10,10 +10,17 @@ all: ## prove the program and the crates below it (half an hour), and leave it a
 	@ls -lL bin/tgdoc
 
 help: ## list the targets
-	@awk -F ':.*## ' '/^[a-z]+:.*## / { printf "make %-8s %s\n", $$1, $$2 }' Makefile
+	@awk -F ':.*## ' '/^[a-z]+:.*## / { printf "make %-10s %s\n", $$1, $$2 }' Makefile
 
-demo: ## play the README's example; without a proved program, on an unproved build (half a minute)
-	examples/demo
+# These three run the proved program or, if there is none, an unproved build: it is made once and kept in bin/unproved.
+play: ## open a shell on a server of its own
+	@examples/shell/shell
+
+playground: ## open a page at a loopback address that shows the graph after each line
+	@examples/playground/playground
+
+demo: ## play lines, each with its answer (FILE=examples/share-and-free.jsonl unless given)
+	@examples/demo $(FILE)
 
 # The gate proves every crate and its tests, but for what an earlier run on this machine passed unchanged, tries the
 # planted bugs and runs the program as two compilers build it; then the built program is tested from outside.
@@ -45,8 +52,9 @@ bench: all load ## measure speed, memory, threads, rounds, and a server beside R
 check: ## prove what changed: `make check NAME` a crate, its tests, its planted bugs and the crates above it
 	tests/check $(filter-out check,$(MAKECMDGOALS))
 
-install: all ## copy the program to PREFIX/bin (PREFIX=/usr/local unless given)
+install: all ## copy the program and its man page to PREFIX (/usr/local unless given)
 	install -D -m 755 crates/tgdoc/out/tgdoc $(DESTDIR)$(PREFIX)/bin/tgdoc
+	install -D -m 644 docs/tgdoc.1 $(DESTDIR)$(PREFIX)/share/man/man1/tgdoc.1
 
 clean: ## remove all that was built, and what the checks kept
 	rm -rf bin bench/out crates/*/out
