@@ -28,6 +28,10 @@ mod index;
 #[cfg(test)]
 mod rights;
 #[cfg(test)]
+mod sharing;
+#[cfg(test)]
+mod sharing_cases;
+#[cfg(test)]
 mod slots;
 #[cfg(test)]
 mod vault;

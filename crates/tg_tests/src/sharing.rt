@@ -1,10 +1,13 @@
-//! What no clause says: that answers come, and that the definitions give those of cases that were worked by hand.
-use crate::cases::{CASES, Case, SHARED, SPLIT, Want, graph, rights};
-use crate::{Answer, Could, Prospect, can_share, what_could, who_could};
+//! What no clause of tg_sharing says: that answers come, and that the definitions give those of cases that were worked by
+//! hand.
+use crate::sharing_cases::{CASES, Case, SHARED, SPLIT, Want, graph, rights};
 use std::alloc::{AllocError, Global};
 use std::process::Abort;
 use tg_graph::{Goal, Graph};
 use tg_rights::Rights;
+use tg_sharing::{
+    Answer, Could, Listing, Prospect, can_share, every_holder, every_target, what_could, who_could,
+};
 
 /// What the answer is.
 fn kind_of(answer: &Answer) -> Want {
@@ -175,4 +178,59 @@ fn those_who_could_worked_by_hand(rt: HostRuntime) {
     let wanted = &[(1, Could::Ever), (2, Could::Ever), (4, Could::Never)];
     let found = those_who_could(rt.alloc(), &[1, 2, 4, 5]).expect(&rt, "memory");
     assert!(rt; found.as_slice() == wanted.as_slice());
+}
+
+/// Whether all vertices are listed, and these are they.
+fn is_listing(found: &Option<Listing>, wanted: &[(u64, &str)]) -> bool {
+    match found {
+        Some(Listing::All(vertices)) => are_labels(vertices.as_slice(), wanted),
+        _ => false,
+    }
+}
+
+/// All who could ever come to read the document of the shared case.
+fn readers_in(alloc: Global, graph: &Graph, most: usize) -> Result<Option<Listing>, AllocError> {
+    if graph.kind(SHARED.to).is_none() {
+        return Ok(None);
+    }
+    Ok(Some(every_holder(alloc, graph, Rights::read(), SHARED.to, most)?))
+}
+
+fn readers(alloc: Global, most: usize) -> Result<Option<Listing>, AllocError> {
+    let graph = graph(alloc, &SHARED)?;
+    readers_in(alloc, &graph, most)
+}
+
+#[test]
+fn readers_worked_by_hand(rt: HostRuntime) {
+    let found = readers(rt.alloc(), 4).expect(&rt, "memory");
+    assert!(rt;
+        is_listing(&found, &[(1, "r"), (2, ""), (3, "")]),
+        "{found:?}"
+    );
+}
+
+#[test]
+fn readers_are_too_many(rt: HostRuntime) {
+    let found = readers(rt.alloc(), 3).expect(&rt, "memory");
+    assert!(rt; matches!(found, Some(Listing::TooMuch)), "{found:?}");
+}
+
+/// All that carol could ever come to read in the shared case.
+fn texts_in(alloc: Global, graph: &Graph, most: usize) -> Result<Option<Listing>, AllocError> {
+    if graph.kind(3).is_none() {
+        return Ok(None);
+    }
+    Ok(Some(every_target(alloc, graph, 3, Rights::read(), most)?))
+}
+
+fn texts(alloc: Global) -> Result<Option<Listing>, AllocError> {
+    let graph = graph(alloc, &SHARED)?;
+    texts_in(alloc, &graph, 100)
+}
+
+#[test]
+fn texts_worked_by_hand(rt: HostRuntime) {
+    let found = texts(rt.alloc()).expect(&rt, "memory");
+    assert!(rt; is_listing(&found, &[(4, "")]), "{found:?}");
 }
