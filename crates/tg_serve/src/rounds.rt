@@ -3,7 +3,7 @@
 ghost use Rattle.std.specs.Prelude.{◌≡◌, ◌≤◌, ◌<◌, ◌+◌, ◌-◌, ◌↔◌, ◌⊎◌, [], IfErr, IfOk, false, length, min, true};
 ghost use Rattle.tg_talk.specs.Devices.{device_of, has_failed};
 ghost use Rattle.tg_vault.specs.Rebase.{IsRebased};
-ghost use Rattle.tg_serve.specs.Serving.{Concludes, EndsServer, HasAgreed, HasRebased, HasRounds, IsCounted, IsServed, SendsOn, rebased_line, unbounded};
+ghost use Rattle.tg_serve.specs.Serving.{Concludes, EndsServer, HasAgreed, HasRebased, HasRounds, IsAlone, IsCounted, IsServed, SendsOn, rebased_line, unbounded};
 
 use crate::desk::Desk;
 use crate::door::{Door, wait_in_ticks};
@@ -177,7 +177,7 @@ fn serve_rounds<R: Threads + Wait + Clock + Sync, W: Write>(
 
 /// How many connections a round may take.
 fn size_of<R>(service: &Service<'_, R>, left: u64, round: u64) -> u64
-    ensures counted { IsCounted service.now.operating → result ≡ min left round }
+    ensures ends { service.now.operating.is_endless ≡ false → result ≡ min left round }
 {
     if service.operating.is_endless {
         return round;
@@ -191,7 +191,7 @@ fn left_after<R: Wait>(service: &Service<'_, R>, door: &Door<'_>, left: u64, siz
     ensures counted { IsCounted service.now.operating → result ≡ left - size }
     ensures few { left ≤ result + size }
     ensures no_more { result ≤ left }
-    ensures some { service.now.operating.is_endless ≡ false → service.now.operating.is_attended ≡ false → 0 < size → 0 < left → result < left }
+    ensures some { IsAlone service.now.operating → 0 < size → 0 < left → result < left }
 {
     let operating = service.operating;
     if operating.is_endless {
@@ -209,7 +209,7 @@ fn left_after<R: Wait>(service: &Service<'_, R>, door: &Door<'_>, left: u64, siz
 
 /// Whether the server ends with the round after which so many connections are left.
 fn is_last<R>(service: &Service<'_, R>, left: u64, connections: u64, round: u64) -> bool
-    ensures counted { IsCounted service.now.operating → ((result ≡ true) ↔ ((left ≡ 0) ⊎ (connections ≤ round))) }
+    ensures { IsAlone service.now.operating → ((result ≡ true) ↔ ((left ≡ 0) ⊎ (connections ≤ round))) }
 {
     let operating = service.operating;
     if operating.is_attended && service.desk.is_stopping() {
