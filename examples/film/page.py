@@ -34,6 +34,14 @@ body:not(.script) nav { display: none; }
 @media (max-width: 46rem) { section { grid-template-columns: 1fr; } }
 """
 
+# A row of twelve vertices, at its least letter size, beside the words about it in a window of 1,600 pixels, or above them
+# in one that is not so wide.
+WIDE_STYLE = """
+.wide { max-width: 100rem; }
+.wide section { grid-template-columns: minmax(0, 2.6fr) minmax(15rem, 1fr); }
+@media (max-width: 97rem) { .wide section { grid-template-columns: 1fr; } }
+"""
+
 SCRIPT = """
 (() => {
   const frames = [...document.querySelectorAll("section")];
@@ -107,6 +115,8 @@ rights that it has, g to grant it rights</li><li>dotted: the missing right</li>%
 OF_THE_COLLECTOR = """<li>rim white, grey or black: the collector&rsquo;s colour</li><li>dashed: condemned, waits to be swept</li>
 <li>target: the vertex that a session has just made or passed on</li>"""
 
+OF_WIDE_FILMS = """<li>arrows that run together: all of them begin at one vertex, or all of them end at one</li>"""
+
 
 def fact(name, text):
     return "<dt>%s</dt><dd>%s</dd>" % (name, text)
@@ -139,7 +149,9 @@ def section(frame, places, count, is_plain):
 def page_of(title, frames, places, is_plain=False):
     """The whole page."""
     head = '<!DOCTYPE html>\n<html lang="en"><head><meta charset="utf-8"><meta name="viewport" content="width=device-width, initial-scale=1">'
-    head += '<link rel="icon" href="data:,"><title>%s</title><style>%s%s</style></head>' % (escape(title), PAGE_STYLE, STYLE)
-    about = ABOUT % ("" if is_plain else OF_THE_COLLECTOR)
+    style = PAGE_STYLE + (WIDE_STYLE if places.is_wide else "") + STYLE
+    head += '<link rel="icon" href="data:,"><title>%s</title><style>%s</style></head>' % (escape(title), style)
+    about = ABOUT % ((OF_WIDE_FILMS if places.is_wide else "") + ("" if is_plain else OF_THE_COLLECTOR))
     body = ["<h1>%s</h1>" % escape(title), about, NAV % len(frames), *[section(frame, places, len(frames), is_plain) for frame in frames]]
-    return "%s<body>\n%s\n<script>%s</script></body></html>\n" % (head, "\n".join(body), SCRIPT)
+    kind = ' class="wide"' if places.is_wide else ""
+    return "%s<body%s>\n%s\n<script>%s</script></body></html>\n" % (head, kind, "\n".join(body), SCRIPT)
