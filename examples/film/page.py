@@ -50,8 +50,10 @@ SCRIPT = """
   const bar = document.querySelector("nav input"), count = document.querySelector("nav output");
   let now = 0, timer = null;
   function show(number) {
+    const paper = () => frames[now].querySelector(".paper"), left = paper().scrollLeft;
     now = Math.min(Math.max(number, 0), frames.length - 1);
     frames.forEach((frame, place) => frame.classList.toggle("now", place === now));
+    paper().scrollLeft = left;
     bar.value = now + 1;
     bar.setAttribute("aria-valuetext", "frame " + (now + 1) + " of " + frames.length);
     count.value = (now + 1) + " / " + frames.length;

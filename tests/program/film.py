@@ -53,11 +53,14 @@ buttons[6].click(); press("+"); seen.push("larger " + (wide() > 1.4 * before)); 
 document.getElementById("seen").textContent = seen.join("; ");
 </script>"""
 
-# Likewise: whether a picture is shown in its full breadth, and how large.
+# Likewise: whether a picture is shown in its full breadth, how large, and, if not, where the next one is.
 BREADTH = """<pre id="seen"></pre><script>
 const paper = document.querySelector("section.now .paper"), svg = paper.querySelector("svg");
 const fits = paper.scrollWidth <= paper.clientWidth, scale = svg.getBoundingClientRect().width / svg.viewBox.baseVal.width;
-document.getElementById("seen").textContent = (fits ? "all of it at " : "a part of it at ") + scale.toFixed(2);
+paper.scrollLeft = 100;
+document.dispatchEvent(new KeyboardEvent("keydown", { key: "ArrowRight", bubbles: true }));
+const next = document.querySelector("section.now .paper"), kept = next !== paper && next.scrollLeft === 100;
+document.getElementById("seen").textContent = (fits ? "whole" : kept ? "same part" : "part") + ": " + scale.toFixed(2);
 </script>"""
 
 
@@ -273,14 +276,13 @@ def ranks_in_rows(program):
 
 def breadth_in_a_browser(program):
     """A window of 1,600 pixels shows the whole breadth of a wide film, no smaller than letters may get; one of 1,200 too,
-    with the words below; a smaller one shows a part of it."""
+    with the words below; a smaller one shows a part of it, and the same of the next picture."""
     if not shutil.which("dot") or not shutil.which("chromium"):
         return skipped("Graphviz or Chromium")
     page = page_of_lines(program, lines_of(*company()))[1]
     seen = [seen_in_a_browser(page, BREADTH, "--window-size=%d,1000" % breadth) for breadth in (1600, 1200, 600)]
-    wide, narrow, least = [re.fullmatch("(all|a part) of it at ([0-9.]+)", report or "") if not said else None for report, said in seen]
-    good = wide and narrow and least and [found[1] for found in (wide, narrow, least)] == ["all", "all", "a part"]
-    return bool(good) and all(float(found[2]) >= 0.7 for found in (wide, narrow, least))
+    shown = [(report or "no report").partition(": ") for report, said in seen if not said]
+    return [part for part, _, _ in shown] == ["whole", "whole", "same part"] and all(float(scale) >= 0.7 for _, _, scale in shown)
 
 
 def without_graphviz(_):
