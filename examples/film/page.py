@@ -94,8 +94,14 @@ SCRIPT = """
     if (key) { key(); event.preventDefault(); }
   });
   window.onhashchange = () => show((parseInt(location.hash.slice(1)) || 1) - 1);
-  document.body.classList.add("script");
+  // where the first vertex is, if not all of the picture can be seen
+  const paper = frames[0].querySelector(".paper"), vertex = paper.querySelector(".vertex");
+  if (vertex) {
+    const [around, box] = [paper, vertex].map((shown) => shown.getBoundingClientRect());
+    paper.scrollLeft += (box.left + box.right - around.left - around.right) / 2;
+  }
   show((parseInt(location.hash.slice(1)) || 1) - 1);
+  document.body.classList.add("script");
 })();
 """
 

@@ -57,10 +57,12 @@ document.getElementById("seen").textContent = seen.join("; ");
 BREADTH = """<pre id="seen"></pre><script>
 const paper = document.querySelector("section.now .paper"), svg = paper.querySelector("svg");
 const fits = paper.scrollWidth <= paper.clientWidth, scale = svg.getBoundingClientRect().width / svg.viewBox.baseVal.width;
+const around = paper.getBoundingClientRect(), box = paper.querySelector(".vertex").getBoundingClientRect();
+const begun = around.left <= box.left && box.right <= around.right;
 paper.scrollLeft = 100;
 document.dispatchEvent(new KeyboardEvent("keydown", { key: "ArrowRight", bubbles: true }));
 const next = document.querySelector("section.now .paper"), kept = next !== paper && next.scrollLeft === 100;
-document.getElementById("seen").textContent = (fits ? "whole" : kept ? "same part" : "part") + ": " + scale.toFixed(2);
+document.getElementById("seen").textContent = (fits ? "whole" : kept && begun ? "same part" : "part") + ": " + scale.toFixed(2);
 </script>"""
 
 
@@ -276,11 +278,12 @@ def ranks_in_rows(program):
 
 def breadth_in_a_browser(program):
     """A window of 1,600 pixels shows the whole breadth of a wide film, no smaller than letters may get; one of 1,200 too,
-    with the words below; a smaller one shows a part of it, and the same of the next picture."""
+    with the words below; a smaller one shows the part in which the first vertex is, and of the next picture the same part
+    as of this one."""
     if not shutil.which("dot") or not shutil.which("chromium"):
         return skipped("Graphviz or Chromium")
     page = page_of_lines(program, lines_of(*company()))[1]
-    seen = [seen_in_a_browser(page, BREADTH, "--window-size=%d,1000" % breadth) for breadth in (1600, 1200, 600)]
+    seen = [seen_in_a_browser(page, BREADTH, "--window-size=%d,1000" % breadth) for breadth in (1600, 1200, 400)]
     shown = [(report or "no report").partition(": ") for report, said in seen if not said]
     return [part for part, _, _ in shown] == ["whole", "whole", "same part"] and all(float(scale) >= 0.7 for _, _, scale in shown)
 
