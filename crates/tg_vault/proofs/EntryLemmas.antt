@@ -10,7 +10,6 @@ use Rattle.tg_rights.specs.declared.command.Command.{Command}
 use Rattle.tg_rights.specs.declared.command.Command.TheVariants as command
 use Rattle.tg_rights.specs.declared.outcome.Outcome.{Outcome}
 use Rattle.tg_rights.specs.declared.outcome.Outcome.TheVariants as outcome
-use Rattle.tg_rights.specs.declared.outcome.Reply.{Reply}
 use Rattle.tg_graph.specs.declared.member.Member.{Member}
 use Rattle.tg_graph.specs.Protection.{Protection, IsGraph, IsVertex, has_retired}
 use Rattle.tg_graph.specs.Terms as effect
@@ -36,9 +35,9 @@ use Rattle.tg_vault.specs.Fits.{AreTaken, Ties, IsTied}
 use Rattle.tg_vault.specs.StoreSteps.{SessionStep}
 use Rattle.tg_vault.specs.Exact.{IsExact}
 use Rattle.tg_vault.specs.Agreement.{SameForAgreeing, JudgedAlike, IsOfGraph}
-use Rattle.tg_vault.specs.Told.{told}
+use Rattle.tg_vault.specs.declared.carry_out.Answered.{Answered}
 use Rattle.tg_vault.specs.CarriedOut.{CarriedOut, Decided, CellsMoved, EdgeMoves, new_serial}
-use Rattle.tg_vault.proofs.HistoryLemmas.{along_more, graph_of_more, told_outcome, was_stays}
+use Rattle.tg_vault.proofs.HistoryLemmas.{along_more, graph_of_more, was_stays}
 use Rattle.tg_vault.proofs.DecidedLemmas.{IsActor, actor_held, acts_here, decided_permitted, decided_so, entitled_held, exact_full, exact_slots, graph_is, held_is, replied_so, retired_decided}
 use Rattle.tg_vault.proofs.SeatLemmas.{agent_after, target_after}
 use Rattle.tg_vault.proofs.RetiredLemmas.{retired_leaves}
@@ -129,14 +128,14 @@ free_few v j store = let all = store.slots 0 in let many = j.slots in omega arit
 
 -- a command of the actor at a seat was carried out in the store of a vault, in the list of its principals and among those
 -- who have retired
-pub record Serving (v : Contents) (seat x : ℕ) (c : Command) (answer : Reply) (t : Stored) (members : List Member) (after : ℕ) (gone : List ℕ) : Type 0 where
+pub record Serving (v : Contents) (seat x : ℕ) (c : Command) (answer : Answered) (t : Stored) (members : List Member) (after : ℕ) (gone : List ℕ) : Type 0 where
   pub joins : Ties v
   pub store : IsStore v.store
   pub within : seat < 64
   pub acts : actor_at (moment v).world seat ≡ Some x
   pub carried : CarriedOut v.store t (graph_now v).next after (graph_now v).names members (graph_now v).retired (set_of gone) seat x c answer
 
-module _ (v : Contents) (seat x : ℕ) (c : Command) (answer : Reply) (t : Stored) (members : List Member) (after : ℕ) (gone : List ℕ) (s : Serving v seat x c answer t members after gone) where
+module _ (v : Contents) (seat x : ℕ) (c : Command) (answer : Answered) (t : Stored) (members : List Member) (after : ℕ) (gone : List ℕ) (s : Serving v seat x c answer t members after gone) where
   abbrev j : Ties v
   j = s.joins
 
@@ -147,7 +146,7 @@ module _ (v : Contents) (seat x : ℕ) (c : Command) (answer : Reply) (t : Store
   H = held_now v
 
   abbrev o : Outcome
-  o = s.carried.outcome
+  o = answer.outcome
 
   abbrev pub e : Entry
   e = record { seat = seat; actor = x; command = c; outcome = o }
@@ -184,7 +183,7 @@ module _ (v : Contents) (seat x : ℕ) (c : Command) (answer : Reply) (t : Store
   permitted : Permitted v.limits G x c o
   permitted = decided_permitted v.limits G (free_slots v.store) v.store.free_cells x c o j.many_slots j.many_cells decided
 
-  replied : answer ≡ reply_of G x c o
+  replied : answer.reply ≡ reply_of G x c o
   replied = s.carried.replied ∙ by o allowed_held where
     by : (p : Outcome) → (p ≡ outcome.Allowed → Allowed H x c) → reply_of H x c p ≡ reply_of G x c p
     by outcome.Allowed a = elim (acts (a refl)) [
@@ -217,7 +216,7 @@ module _ (v : Contents) (seat x : ℕ) (c : Command) (answer : Reply) (t : Store
     used : v.limits.slots - free_slots t ≡ v.limits.slots - free_slots v.store + slots_taken x c o
     used = let few = free_few v j s.store in let moved = s.carried.slots in omega arith
 
-  pub serving_enters : Enters v.limits (moment v) seat x c answer (moment left)
+  pub serving_enters : Enters v.limits (moment v) seat x c answer.reply (moment left)
   serving_enters = record {
     outcome = o;
     permitted = permitted;
@@ -226,7 +225,7 @@ module _ (v : Contents) (seat x : ℕ) (c : Command) (answer : Reply) (t : Store
     left = moment_left;
   }
 
-  pub serving_same : SameForAgreeing v left answer
+  pub serving_same : SameForAgreeing v left answer.reply
   serving_same = record {
     entry = e;
     added = refl;
@@ -325,18 +324,17 @@ module _ (v : Contents) (seat x : ℕ) (c : Command) (answer : Reply) (t : Store
     retired = retired_are;
   }
 
--- the entry is that of the reply, and is pushed
-pub record Pushed (v : Contents) (next : ℕ) (retired : List ℕ) (seat x : ℕ) (c : Command) (answer : Reply) (t : Stored) (members : List Member) (after : ℕ) (gone : List ℕ) (decision : Outcome) (history : List Entry) : Type 0 where
+-- the entry is that of the outcome, and is pushed
+pub record Pushed (v : Contents) (next : ℕ) (retired : List ℕ) (seat x : ℕ) (c : Command) (answer : Answered) (t : Stored) (members : List Member) (after : ℕ) (gone : List ℕ) (history : List Entry) : Type 0 where
   pub joined : IsTied v next retired
   pub store : IsStore v.store
   pub within : seat < 64
   pub acts : actor_at (moment v).world seat ≡ Some x
   pub carried : CarriedOut v.store t next after v.names members (set_of retired) (set_of gone) seat x c answer
-  pub decision_is : decision ≡ told answer
-  pub history_is : history ≡ v.history ++ record { seat = seat; actor = x; command = c; outcome = decision } ∷ []
+  pub history_is : history ≡ v.history ++ record { seat = seat; actor = x; command = c; outcome = answer.outcome } ∷ []
 
-module _ (v : Contents) (next : ℕ) (retired : List ℕ) (seat x : ℕ) (c : Command) (answer : Reply) (t : Stored) (members : List Member) (after : ℕ) (gone : List ℕ) (decision : Outcome) (history : List Entry)
-    (p : Pushed v next retired seat x c answer t members after gone decision history) where
+module _ (v : Contents) (next : ℕ) (retired : List ℕ) (seat x : ℕ) (c : Command) (answer : Answered) (t : Stored) (members : List Member) (after : ℕ) (gone : List ℕ) (history : List Entry)
+    (p : Pushed v next retired seat x c answer t members after gone history) where
   serving : Serving v seat x c answer t members after gone
   serving =
       let tied = p.joined in
@@ -351,19 +349,16 @@ module _ (v : Contents) (next : ℕ) (retired : List ℕ) (seat x : ℕ) (c : Co
       }
 
   pushed_is : left v seat x c answer t members after gone serving ≡ record v { store = t; names = members; history = history }
-  pushed_is =
-      let s = serving in
-      let told_is : told answer ≡ s.carried.outcome = ap told s.carried.replied ∙ told_outcome (held_now v) x c s.carried.outcome in
-      λ i. record v { store = t; names = members; history = sym (p.history_is ∙ ap (λ d. v.history ++ record { seat = seat; actor = x; command = c; outcome = d } ∷ []) (p.decision_is ∙ told_is)) i }
+  pushed_is = λ i. record v { store = t; names = members; history = sym p.history_is i }
 
   pub pushed_joined : IsTied (record v { store = t; names = members; history = history }) after gone
   pushed_joined = subst (λ (w : Contents). IsTied w after gone) pushed_is (serving_joined v seat x c answer t members after gone serving)
 
-  pub pushed_enters : Enters v.limits (moment v) seat x c answer (moment (record v { store = t; names = members; history = history }))
-  pushed_enters = subst (λ (w : Contents). Enters v.limits (moment v) seat x c answer (moment w)) pushed_is (serving_enters v seat x c answer t members after gone serving)
+  pub pushed_enters : Enters v.limits (moment v) seat x c answer.reply (moment (record v { store = t; names = members; history = history }))
+  pushed_enters = subst (λ (w : Contents). Enters v.limits (moment v) seat x c answer.reply (moment w)) pushed_is (serving_enters v seat x c answer t members after gone serving)
 
-  pub pushed_same : SameForAgreeing v (record v { store = t; names = members; history = history }) answer
-  pushed_same = subst (λ (w : Contents). SameForAgreeing v w answer) pushed_is (serving_same v seat x c answer t members after gone serving)
+  pub pushed_same : SameForAgreeing v (record v { store = t; names = members; history = history }) answer.reply
+  pushed_same = subst (λ (w : Contents). SameForAgreeing v w answer.reply) pushed_is (serving_same v seat x c answer t members after gone serving)
 
   pub pushed_exact : IsExact v (record v { store = t; names = members; history = history })
   pushed_exact = subst (λ (w : Contents). IsExact v w) pushed_is (serving_exact v seat x c answer t members after gone serving)

@@ -13,7 +13,7 @@ ghost use Rattle.tg_graph.specs.Terms.{terms, name_in, text_in};
 ghost use Rattle.tg_collect.specs.Readings.{held, free_slots, IsEdgeIn, IsHeldIn, IsParkedIn, pending_of, place, principals, serial_at};
 ghost use Rattle.tg_collect.specs.Sessions.{Assumed, AgentLeft, Retired, RightsRemoved, TextReplaced, Acted};
 ghost use Rattle.tg_vault.specs.Acting.{IsHere, serial_in};
-ghost use Rattle.tg_vault.specs.CarriedOut.{CarriedOut, HasRoom, Joined, Made, Stores, copies};
+ghost use Rattle.tg_vault.specs.CarriedOut.{CarriedOut, HasRoom, Joined, Made, Stores, allowed, copies, denied, settled};
 ghost use Rattle.tg_vault.specs.Seen.{seen, serials, set_of};
 
 use crate::acting::Actor;
@@ -21,10 +21,56 @@ use std::alloc::{AllocError, Global};
 use std::collections::BTreeSet;
 use tg_collect::{HeapFull, Store};
 use tg_graph::{Effect, LAST_SERIAL, Roll, Spot, decide, effect_of, into_text, is_for_retired};
-use tg_rights::{Cause, Command, EdgeList, Kind, Name, Reply, Rights, Text, Which};
+use tg_rights::{Cause, Command, EdgeList, Kind, Name, Outcome, Reply, Rights, Rule, Text, Which};
+
+/// How a command was decided, and the reply, which follows from that and the graph.
+#[derive(Drop)]
+pub struct Answered {
+    pub outcome: Outcome,
+    pub reply: Reply,
+}
+
+/// An allowed command, which was carried out.
+fn allowed(reply: Reply) -> Answered
+    ensures { result ≡ allowed reply }
+{
+    Answered {
+        outcome: Outcome::Allowed,
+        reply,
+    }
+}
+
+/// An allowed command, which was carried out with this reply, or for which this is used up.
+fn settled(done: Result<Reply, Which>) -> Answered
+    ensures { result ≡ settled done }
+{
+    match done {
+        Ok(reply) => allowed(reply),
+        Err(which) => Answered {
+            outcome: Outcome::Full(which),
+            reply: Reply::Full(which),
+        },
+    }
+}
+
+/// A command that its rule denies.
+fn denied(rule: Rule, cause: &Cause) -> Answered
+    ensures { result ≡ denied rule cause.now }
+{
+    Answered {
+        outcome: Outcome::Denied(rule, *cause),
+        reply: Reply::Denied(rule, *cause),
+    }
+}
 
 /// The edge gains the rights, and its target becomes the seat's; full if it is new and no cell is free.
-fn join(store: &mut Store, seat: u64, owner: u32, target: u32, rights: Rights) -> Reply
+fn join(
+    store: &mut Store,
+    seat: u64,
+    owner: u32,
+    target: u32,
+    rights: Rights,
+) -> Result<Reply, Which>
     requires seat { seat < SEATS }
     requires idle { pending_of store.old seat ≡ None }
     requires source { IsSome (place store.old owner) }
@@ -34,8 +80,8 @@ fn join(store: &mut Store, seat: u64, owner: u32, target: u32, rights: Rights) -
     ensures { Joined store.old store.new seat (serial_at store.old owner) (serial_at store.old target) rights result }
 {
     match store.store_edge(seat, owner, target, rights) {
-        Ok(()) => Reply::Done,
-        Err(_) => Reply::Full(Which::Cells),
+        Ok(()) => Ok(Reply::Done),
+        Err(_) => Err(Which::Cells),
     }
 }
 
@@ -89,7 +135,7 @@ fn make(
     kind: Kind,
     rights: Rights,
     name: Option<Name>,
-) -> Reply
+) -> Result<Reply, Which>
     requires seat { seat < SEATS }
     requires idle { pending_of store.old seat ≡ None }
     requires source { IsSome (place store.old id) }
@@ -102,17 +148,17 @@ fn make(
     ensures { Made store.old store.new next.old next.new names.old names.new seat (serial_at store.old id) kind rights name result }
 {
     if *next > LAST_SERIAL {
-        return Reply::Full(Which::Serials);
+        return Err(Which::Serials);
     }
     let serial = *next;
     match add_vertex(store, alloc, seat, id, serial, kind, rights, &name) {
         Ok(()) => {}
-        Err(HeapFull::Slots) => return Reply::Full(Which::Slots),
-        Err(HeapFull::Cells) => return Reply::Full(Which::Cells),
+        Err(HeapFull::Slots) => return Err(Which::Slots),
+        Err(HeapFull::Cells) => return Err(Which::Cells),
     }
     *next += 1;
     names.add(name, serial);
-    Reply::Created(serial)
+    Ok(Reply::Created(serial))
 }
 
 /// A copy of the name that the command gives to a new principal, if it gives one.
@@ -132,8 +178,7 @@ fn retire(
     names: &mut Roll,
     retired: &mut BTreeSet<u64>,
     actor: u64,
-) -> Result<Reply, AllocError>
-    ensures done { IfOk result (λ answer. answer ≡ reply.Done) }
+) -> Result<(), AllocError>
     ensures gone { OnOk result (set_of retired.new.keys ≡ set.insert (set_of retired.old.keys) actor) }
     ensures retired { OnOk result (Retired store.old store.new actor) }
     ensures acted { OnOk result (Acted store.old store.new None None) }
@@ -145,84 +190,41 @@ fn retire(
     retired.insert(actor)?;
     store.retire(actor);
     names.remove(actor);
-    Ok(Reply::Done)
-}
-
-/// The seat acts for the vertex in the slot, which is its target.
-fn assume(store: &mut Store, seat: u64, agent: u32) -> Reply
-    requires seat { seat < SEATS }
-    requires idle { pending_of store.old seat ≡ None }
-    requires held { IsSome (place store.old agent) }
-    ensures done { result ≡ reply.Done }
-    ensures assumed { Assumed store.old store.new seat (serial_at store.old agent) }
-    ensures acted { Acted store.old store.new None (Some (serial_at store.old agent)) }
-{
-    store.assume(seat, agent);
-    Reply::Done
-}
-
-/// The seat acts for nobody but who sits there.
-fn leave(store: &mut Store, seat: u64) -> Reply
-    requires { seat < SEATS }
-    ensures done { result ≡ reply.Done }
-    ensures left { AgentLeft store.old store.new seat }
-    ensures acted { Acted store.old store.new None None }
-{
-    store.leave(seat);
-    Reply::Done
-}
-
-/// The edge loses the rights.
-fn remove(store: &mut Store, id: u32, over: u64, rights: Rights) -> Reply
-    requires source { IsSome (place store.old id) }
-    requires edge { IsEdgeIn store.old (serial_at store.old id) over }
-    requires has { includes (label (held store.old 0) (serial_at store.old id) over) rights ≡ true }
-    ensures done { result ≡ reply.Done }
-    ensures removed { RightsRemoved store.old store.new (serial_at store.old id) over rights }
-    ensures acted { Acted store.old store.new None None }
-{
-    store.remove_rights(id, over, rights);
-    Reply::Done
+    Ok(())
 }
 
 /// The reply is a copy of the text.
-fn tell(store: &Store, alloc: Global, at: u32) -> Result<Reply, AllocError>
+fn tell(store: &Store, alloc: Global, at: u32) -> Result<Answered, AllocError>
     requires { IsSome (place store.now at) }
-    ensures { IfOk result (λ answer. (next : ℕ) → answer ≡ reply.Text (text_of (held store.now next) (serial_at store.now at))) }
+    ensures { IfOk result (λ answer. (next : ℕ) → answer ≡ allowed (reply.Text (text_of (held store.now next) (serial_at store.now at)))) }
 {
     let text = store.text(at).copy(alloc)?;
-    Ok(Reply::Text(text))
+    Ok(allowed(Reply::Text(text)))
 }
 
 /// A copy of the text that the command brings takes the place of the old one.
-fn replace(
-    store: &mut Store,
-    alloc: Global,
-    at: u32,
-    command: &Command,
-) -> Result<Reply, AllocError>
+fn replace(store: &mut Store, alloc: Global, at: u32, command: &Command) -> Result<(), AllocError>
     requires { IsSome (place store.old at) }
-    ensures done { IfOk result (λ answer. answer ≡ reply.Done) }
     ensures replaced { OnOk result ((old : List ℕ) × TextReplaced store.old store.new (serial_at store.old at) (text_in command.now) old) }
     ensures acted { OnOk result (Acted store.old store.new None None) }
     ensures unchanged { OnErr result (store.new ≡ store.old) }
 {
     let text = into_text(command.copy(alloc)?, alloc);
     store.set_text(at, text);
-    Ok(Reply::Done)
+    Ok(())
 }
 
 /// The reply is the edges, by rising serial.
-fn list(store: &Store, alloc: Global, of: u32) -> Result<Reply, AllocError>
+fn list(store: &Store, alloc: Global, of: u32) -> Result<Answered, AllocError>
     requires { IsSome (place store.now of) }
-    ensures { IfOk result (λ answer. (next : ℕ) → answer ≡ reply.Edges (edges_of (held store.now next) (serial_at store.now of))) }
+    ensures { IfOk result (λ answer. (next : ℕ) → answer ≡ allowed (reply.Edges (edges_of (held store.now next) (serial_at store.now of)))) }
 {
     let edges = store.edges(alloc, of)?;
-    Ok(Reply::Edges(EdgeList::new(edges)))
+    Ok(allowed(Reply::Edges(EdgeList::new(edges))))
 }
 
 /// Decides the command of an actor that has not retired, carries it out if the rules allow it and nothing that it needs
-/// is used up, and returns the reply. `AllocError` leaves everything as it was; it occurs only for an allowed command
+/// is used up. `AllocError` leaves everything as it was; it occurs only for an allowed command
 /// that copies a text, a name or a list, and for a retire, so never for a denial.
 #[inline(always)]
 fn answer_at(
@@ -234,7 +236,7 @@ fn answer_at(
     seat: u64,
     actor: Spot<u32>,
     command: &Command,
-) -> Result<Reply, AllocError>
+) -> Result<Answered, AllocError>
     requires seat { seat < SEATS }
     requires idle { pending_of store.old seat ≡ None }
     requires listed { principals store.old ≡ serials names.old }
@@ -252,27 +254,42 @@ fn answer_at(
 {
     let found = match decide(store, names.as_slice(), actor, command) {
         Ok(found) => found,
-        Err(cause) => return Ok(Reply::Denied(command.rule(), cause)),
+        Err(cause) => return Ok(denied(command.rule(), &cause)),
     };
     let id = actor.place;
     match effect_of(actor.serial, command) {
         Effect::Joins { from, rights, to } => {
             let source = found.spot(from).place;
             let target = found.spot(to).place;
-            Ok(join(store, seat, source, target, rights))
+            Ok(settled(join(store, seat, source, target, rights)))
         }
         Effect::Makes { kind, rights } => {
             let name = name_of(command, alloc)?;
-            Ok(make(store, names, next, alloc, seat, id, kind, rights, name))
+            Ok(settled(make(store, names, next, alloc, seat, id, kind, rights, name)))
         }
-        Effect::Drops { rights, over } => Ok(remove(store, id, over, rights)),
-        Effect::Rewrites { over } => replace(store, alloc, found.spot(over).place, command),
+        Effect::Drops { rights, over } => {
+            store.remove_rights(id, over, rights);
+            Ok(allowed(Reply::Done))
+        }
+        Effect::Rewrites { over } => {
+            replace(store, alloc, found.spot(over).place, command)?;
+            Ok(allowed(Reply::Done))
+        }
         Effect::Tells { over } => tell(store, alloc, found.spot(over).place),
         Effect::Lists { at } => list(store, alloc, found.spot(at).place),
-        Effect::Retires => retire(store, names, retired, actor.serial),
+        Effect::Retires => {
+            retire(store, names, retired, actor.serial)?;
+            Ok(allowed(Reply::Done))
+        }
         Effect::Acts { agent } => match agent {
-            Some(agent) => Ok(assume(store, seat, found.spot(agent).place)),
-            None => Ok(leave(store, seat)),
+            Some(agent) => {
+                store.assume(seat, found.spot(agent).place);
+                Ok(allowed(Reply::Done))
+            }
+            None => {
+                store.leave(seat);
+                Ok(allowed(Reply::Done))
+            }
         },
     }
 }
@@ -288,7 +305,7 @@ pub fn answer(
     seat: u64,
     actor: Actor,
     command: &Command,
-) -> Result<Reply, AllocError>
+) -> Result<Answered, AllocError>
     requires seat { seat < SEATS }
     requires idle { pending_of store.old seat ≡ None }
     requires listed { principals store.old ≡ serials names.old }
@@ -305,7 +322,10 @@ pub fn answer(
 {
     match actor {
         Actor::At(spot) => answer_at(store, names, retired, next, alloc, seat, spot, command),
-        Actor::Gone(serial) if is_for_retired(serial, command) => Ok(leave(store, seat)),
-        Actor::Gone(_) => Ok(Reply::Denied(command.rule(), Cause::Retired)),
+        Actor::Gone(serial) if is_for_retired(serial, command) => {
+            store.leave(seat);
+            Ok(allowed(Reply::Done))
+        }
+        Actor::Gone(_) => Ok(denied(command.rule(), &Cause::Retired)),
     }
 }

@@ -20,7 +20,7 @@ ghost use Rattle.tg_vault.specs.Headline.{Headline};
 
 use crate::acting::acting_at;
 use crate::carry_out::answer;
-use crate::entry::{Entry, entry_of};
+use crate::entry::Entry;
 use crate::event::{Answer, AskFault, Event, SeatFault};
 use crate::laws::courses_have_the_headline;
 use crate::seats::{at_seat, empty_seats};
@@ -334,7 +334,7 @@ impl Vault {
         self.opening.soundness();
         self.store.soundness();
         let actor = acting_at(&self.store, &self.retired, seat, principal);
-        let reply = answer(
+        let answered = answer(
             &mut self.store,
             &mut self.names,
             &mut self.retired,
@@ -345,9 +345,9 @@ impl Vault {
             &command,
         )?;
         self.store.soundness();
-        let entry = entry_of(seat, actor.serial(), command, &reply);
+        let entry = Entry::new(seat, actor.serial(), command, answered.outcome);
         self.history.push(entry)?;
-        Ok((number, reply))
+        Ok((number, answered.reply))
     }
 
     /// Carries out a copy of the command; the copy is made only once the seat is known to have no fault.

@@ -1,7 +1,10 @@
-use Rattle.std.proofs.Common.{◌≡◌, ℕ, List, true, Result, Ok, Err, OnOk, OnErr, ap, subst, sym, ◌∙◌, Some, None}
+use Rattle.std.proofs.Common.{◌≡◌, ℕ, List, true, Result, Ok, Err, OnErr, ap, subst, sym, ◌∙◌, Some, None}
 use Rattle.std.specs.Prelude.{Option}
+use Rattle.std.specs.Ordering.{nat_cmp}
+use Rattle.std.specs.FinSet as set
 use Rattle.std.proofs.lemmas.Result.{IfOk-weaker}
 use Rattle.tg_rights.specs.declared.outcome.Reply.{Reply}
+use Rattle.tg_rights.specs.declared.outcome.Which.{Which}
 use Rattle.tg_rights.specs.declared.outcome.Reply.TheVariants as reply
 use Rattle.tg_graph.specs.declared.member.Member.{Member}
 use Rattle.tg_graph.specs.Terms as effect
@@ -14,9 +17,10 @@ use Rattle.tg_collect.specs.Stored.{Stored}
 use Rattle.tg_collect.specs.Readings.{held, IsEdgeIn, place, serial_at}
 use Rattle.tg_collect.specs.Sessions.{Acted, Assumed, RightsRemoved, TextReplaced}
 use Rattle.tg_collect.proofs.StoreLemmas.{edge_in}
+use Rattle.tg_vault.specs.declared.carry_out.Answered.{Answered}
 use Rattle.tg_vault.specs.Seen.{seen, set_of}
-use Rattle.tg_vault.specs.CarriedOut.{CarriedOut, Joined, Made, copies}
-use Rattle.tg_vault.proofs.CarriedOutLemmas.{ByEffect, assume_done, carried_by, copies_name, denied_carried, drop_done, join_done, leave_done, list_done, make_done, placed, retire_carried, rewrite_carried, serial_found, tell_done}
+use Rattle.tg_vault.specs.CarriedOut.{CarriedOut, Joined, Made, allowed, copies, denied, settled}
+use Rattle.tg_vault.proofs.CarriedOutLemmas.{ByEffect, assume_done, carried_by, copies_name, denied_carried, drop_done, join_done, leave_done, list_done, make_done, placed, retire_done, rewrite_done, serial_found, tell_done}
 use Rattle.tg_vault.proofs.EdgeLemmas.{seen_edge}
 use Rattle.tg_vault.proofs.FoundLemmas.{dropped_edge, joined_apart, joined_named, made_named}
 use Rattle.tg_vault.proofs.PlaceLemmas.{serial_is}
@@ -51,18 +55,23 @@ named c k rights does name copied =
     subst (λ (n : Option (List ℕ)). IsSubjectIfNamed k n × MayBeNamed c.args.names.now n) (sym copied) (may.1, may.2)
 
 -- what an effect does, this command does
-carried : (c : In-Ok) (t : Stored) (after : ℕ) (left : List Member) (d : Does) (answer : Reply) → d ≡ (terms c.args.actor.serial c.args.command.now).does →
-    ByEffect c.args.store.now t c.args.next.now c.args.names.now (set_of c.args.retired.now.keys) c.args.seat after left (set_of c.args.retired.now.keys) c.args.actor.serial d answer →
-    CarriedOut c.args.store.now t c.args.next.now after c.args.names.now left (set_of c.args.retired.now.keys) (set_of c.args.retired.now.keys) c.args.seat c.args.actor.serial c.args.command.now answer
-carried c t after left d answer does came =
-    carried_by c.args.store.now t c.args.next.now c.args.names.now (set_of c.args.retired.now.keys) c.args.seat c.requires.listed after left (set_of c.args.retired.now.keys) c.args.actor.serial c.args.command.now d answer
-    does (granted c) came
+carried_gone : (c : In-Ok) (t : Stored) (after : ℕ) (left : List Member) (gone : set.FinSet nat_cmp) (d : Does) (r : Result Reply Which) (a : Answered) → d ≡ (terms c.args.actor.serial c.args.command.now).does → a ≡ settled r →
+    ByEffect c.args.store.now t c.args.next.now c.args.names.now (set_of c.args.retired.now.keys) c.args.seat after left gone c.args.actor.serial d r →
+    CarriedOut c.args.store.now t c.args.next.now after c.args.names.now left (set_of c.args.retired.now.keys) gone c.args.seat c.args.actor.serial c.args.command.now a
+carried_gone c t after left gone d r a does is came =
+    subst (CarriedOut c.args.store.now t c.args.next.now after c.args.names.now left (set_of c.args.retired.now.keys) gone c.args.seat c.args.actor.serial c.args.command.now) (sym is)
+    (carried_by c.args.store.now t c.args.next.now c.args.names.now (set_of c.args.retired.now.keys) c.args.seat c.requires.listed after left gone c.args.actor.serial c.args.command.now d r does (granted c) came)
+
+carried : (c : In-Ok) (t : Stored) (after : ℕ) (left : List Member) (d : Does) (r : Result Reply Which) (a : Answered) → d ≡ (terms c.args.actor.serial c.args.command.now).does → a ≡ settled r →
+    ByEffect c.args.store.now t c.args.next.now c.args.names.now (set_of c.args.retired.now.keys) c.args.seat after left (set_of c.args.retired.now.keys) c.args.actor.serial d r →
+    CarriedOut c.args.store.now t c.args.next.now after c.args.names.now left (set_of c.args.retired.now.keys) (set_of c.args.retired.now.keys) c.args.seat c.args.actor.serial c.args.command.now a
+carried c t after left d r a does is came = carried_gone c t after left (set_of c.args.retired.now.keys) d r a does is came
 
 pub returns-in-Err-clause-carried : goal.returns-in-Err-clause-carried
 returns-in-Err-clause-carried c =
     let retired = set_of c.args.retired.now.keys in
-    subst (λ rule. CarriedOut c.args.store.now c.args.store.now c.args.next.now c.args.next.now c.args.names.now c.args.names.now retired retired c.args.seat c.args.actor.serial c.args.command.now (reply.Denied rule c.in-Err.cause))
-    (sym c.rule.ensures)
+    subst (CarriedOut c.args.store.now c.args.store.now c.args.next.now c.args.next.now c.args.names.now c.args.names.now retired retired c.args.seat c.args.actor.serial c.args.command.now)
+    (sym (c.denied.ensures ∙ ap (λ rule. denied rule c.in-Err.cause) c.rule.ensures))
     (denied_carried c.args.store.now c.args.next.now c.args.names.now retired c.args.seat c.requires.listed c.args.actor.serial c.args.command.now c.in-Err.cause
     (denial_seen c.args.store.now c.args.next.now c.args.names.now c.as_slice.result.now retired c.args.actor.serial c.args.command.now c.as_slice.ensures c.requires.unretired ∙ c.in-Err.ensures.denied))
 
@@ -86,10 +95,10 @@ pub make-requires-clause-named : goal.make-requires-clause-named
 make-requires-clause-named c =
     (named (goal.at.make-requires-clause-named c).In-Ok c.in-Makes.kind c.in-Makes.rights c.in-Makes.ensures c.in_ok-name-in-Makes.name c.in_ok-name-in-Makes.ensures.copy).1
 
-pub remove-requires-clause-edge : goal.remove-requires-clause-edge
-remove-requires-clause-edge c =
+pub remove_rights-requires-clause-edge : goal.remove_rights-requires-clause-edge
+remove_rights-requires-clause-edge c =
     subst (λ x. IsEdgeIn c.args.store.now x c.in-Drops.over) (sym (serial_is c.args.store.now c.args.actor.place c.args.actor.serial c.requires.actor))
-    (edge_in c.args.store.now 0 c.args.actor.serial c.in-Drops.over (edge (goal.at.remove-requires-clause-edge c).In-Ok c.in-Drops.over c.in-Drops.rights c.in-Drops.ensures 0))
+    (edge_in c.args.store.now 0 c.args.actor.serial c.in-Drops.over (edge (goal.at.remove_rights-requires-clause-edge c).In-Ok c.in-Drops.over c.in-Drops.rights c.in-Drops.ensures 0))
 
 pub returns-in-Joins-clause-carried : goal.returns-in-Joins-clause-carried
 returns-in-Joins-clause-carried c =
@@ -99,7 +108,7 @@ returns-in-Joins-clause-carried c =
     let to = serial_found c.args.store.now c.in-Ok.found c.spot-target.result c.in-Joins.to c.in-Ok.ensures.places c.spot-target.ensures.is c.spot-target.ensures.serial in
     let joined = subst (λ y. Joined c.args.store.now c.join.new.store c.args.seat c.in-Joins.from y c.in-Joins.rights c.join.result) to
     (subst (λ x. Joined c.args.store.now c.join.new.store c.args.seat x (serial_at c.args.store.now c.spot-target.result.place) c.in-Joins.rights c.join.result) from c.join.ensures) in
-    carried w c.join.new.store c.args.next.now c.args.names.now (effect.Joins c.in-Joins.from c.in-Joins.rights c.in-Joins.to) c.join.result c.in-Joins.ensures
+    carried w c.join.new.store c.args.next.now c.args.names.now (effect.Joins c.in-Joins.from c.in-Joins.rights c.in-Joins.to) c.join.result c.settled.result c.in-Joins.ensures c.settled.ensures
     (join_done c.args.store.now c.join.new.store c.args.next.now c.args.names.now (set_of c.args.retired.now.keys) c.args.seat c.requires.listed c.args.actor.serial c.in-Joins.from c.in-Joins.to c.in-Joins.rights c.join.result some joined)
 
 pub returns-in_ok-name-in-Makes-clause-carried : goal.returns-in_ok-name-in-Makes-clause-carried
@@ -108,7 +117,7 @@ returns-in_ok-name-in-Makes-clause-carried c =
     c.in_ok-name-in-Makes.ensures.copy
     (subst (λ x. Made c.args.store.now c.make.new.store c.args.next.now c.make.new.next c.args.names.now c.make.new.names c.args.seat x c.in-Makes.kind c.in-Makes.rights c.in_ok-name-in-Makes.name c.make.result)
     (serial_is c.args.store.now c.args.actor.place c.args.actor.serial c.requires.actor) c.make.ensures) in
-    carried (goal.at.returns-in_ok-name-in-Makes-clause-carried c).In-Ok c.make.new.store c.make.new.next c.make.new.names (effect.Makes c.in-Makes.kind c.in-Makes.rights (name_in c.args.command.now)) c.make.result c.in-Makes.ensures
+    carried (goal.at.returns-in_ok-name-in-Makes-clause-carried c).In-Ok c.make.new.store c.make.new.next c.make.new.names (effect.Makes c.in-Makes.kind c.in-Makes.rights (name_in c.args.command.now)) c.make.result c.settled-in-Makes.result c.in-Makes.ensures c.settled-in-Makes.ensures
     (make_done c.args.store.now c.make.new.store c.args.next.now c.args.names.now (set_of c.args.retired.now.keys) c.args.seat c.requires.listed c.args.actor.serial c.make.new.next c.make.new.names c.in-Makes.kind c.in-Makes.rights (name_in c.args.command.now) c.make.result made)
 
 pub returns-in_err-name-in-Makes-clause-needed : goal.returns-in_err-name-in-Makes-clause-needed
@@ -122,58 +131,61 @@ pub returns-in-Drops-clause-carried : goal.returns-in-Drops-clause-carried
 returns-in-Drops-clause-carried c =
     let w = (goal.at.returns-in-Drops-clause-carried c).In-Ok in
     let here = edge w c.in-Drops.over c.in-Drops.rights c.in-Drops.ensures c.args.next.now in
-    let removed = subst (λ x. RightsRemoved c.args.store.now c.remove.new.store x c.in-Drops.over c.in-Drops.rights) (serial_is c.args.store.now c.args.actor.place c.args.actor.serial c.requires.actor) c.remove.ensures.removed in
-    carried w c.remove.new.store c.args.next.now c.args.names.now (effect.Drops c.in-Drops.rights c.in-Drops.over) c.remove.result c.in-Drops.ensures
-    (subst (ByEffect _ _ _ _ _ _ _ _ _ _ _) (sym c.remove.ensures.done)
-    (drop_done c.args.store.now c.remove.new.store c.args.next.now c.args.names.now (set_of c.args.retired.now.keys) c.args.seat c.requires.listed c.args.actor.serial c.in-Drops.over c.in-Drops.rights here removed c.remove.ensures.acted))
+    let removed = subst (λ x. RightsRemoved c.args.store.now c.remove_rights.new.self x c.in-Drops.over c.in-Drops.rights) (serial_is c.args.store.now c.args.actor.place c.args.actor.serial c.requires.actor) c.remove_rights.ensures.removed in
+    carried w c.remove_rights.new.self c.args.next.now c.args.names.now (effect.Drops c.in-Drops.rights c.in-Drops.over) (Ok reply.Done) c.allowed.result c.in-Drops.ensures c.allowed.ensures
+    (drop_done c.args.store.now c.remove_rights.new.self c.args.next.now c.args.names.now (set_of c.args.retired.now.keys) c.args.seat c.requires.listed c.args.actor.serial c.in-Drops.over c.in-Drops.rights here removed c.remove_rights.ensures.acted)
 
-pub returns-in-Rewrites-clause-carried : goal.returns-in-Rewrites-clause-carried
-returns-in-Rewrites-clause-carried c =
+pub returns-in_ok-replace-in-Rewrites-clause-carried : goal.returns-in_ok-replace-in-Rewrites-clause-carried
+returns-in_ok-replace-in-Rewrites-clause-carried c =
     let over = serial_found c.args.store.now c.in-Ok.found c.spot.result c.in-Rewrites.over c.in-Ok.ensures.places c.spot.ensures.is c.spot.ensures.serial in
-    rewrite_carried c.args.store.now c.replace.new.store c.args.next.now c.args.names.now (set_of c.args.retired.now.keys) c.args.seat c.requires.listed c.args.actor.serial c.args.command.now c.in-Rewrites.over (text_in c.args.command.now)
-    c.replace.result c.in-Rewrites.ensures (granted (goal.at.returns-in-Rewrites-clause-carried c).In-Ok) c.replace.ensures.done
-    (subst (λ v. OnOk c.replace.result ((old : List ℕ) × TextReplaced c.args.store.now c.replace.new.store v (text_in c.args.command.now) old)) over c.replace.ensures.replaced)
-    c.replace.ensures.acted
+    let text = text_in c.args.command.now in
+    let replaced = subst (λ v. (old : List ℕ) × TextReplaced c.args.store.now c.replace.new.store v text old) over c.in_ok-replace-in-Rewrites.ensures.replaced in
+    carried (goal.at.returns-in_ok-replace-in-Rewrites-clause-carried c).In-Ok c.replace.new.store c.args.next.now c.args.names.now (effect.Rewrites c.in-Rewrites.over text) (Ok reply.Done) c.allowed-in-Rewrites.result c.in-Rewrites.ensures c.allowed-in-Rewrites.ensures
+    (rewrite_done c.args.store.now c.replace.new.store c.args.next.now c.args.names.now (set_of c.args.retired.now.keys) c.args.seat c.requires.listed c.args.actor.serial c.in-Rewrites.over text replaced.0 replaced.1
+    c.in_ok-replace-in-Rewrites.ensures.acted)
 
 pub returns-in-Tells-clause-carried : goal.returns-in-Tells-clause-carried
 returns-in-Tells-clause-carried c =
+    let w = (goal.at.returns-in-Tells-clause-carried c).In-Ok in
     let over = serial_found c.args.store.now c.in-Ok.found c.spot-in-Tells.result c.in-Tells.over c.in-Ok.ensures.places c.spot-in-Tells.ensures.is c.spot-in-Tells.ensures.serial in
     IfOk-weaker c.tell.result _ _
-    (λ answer is. carried (goal.at.returns-in-Tells-clause-carried c).In-Ok c.args.store.now c.args.next.now c.args.names.now (effect.Tells c.in-Tells.over) answer c.in-Tells.ensures
-    (tell_done c.args.store.now c.args.next.now c.args.names.now (set_of c.args.retired.now.keys) c.args.seat c.requires.listed c.args.actor.serial c.in-Tells.over answer
-    (is c.args.next.now ∙ ap (λ v. reply.Text (text_of (held c.args.store.now c.args.next.now) v)) over)))
+    (λ a is. carried w c.args.store.now c.args.next.now c.args.names.now (effect.Tells c.in-Tells.over) (Ok _) a c.in-Tells.ensures
+    (is c.args.next.now ∙ ap (λ v. allowed (reply.Text (text_of (held c.args.store.now c.args.next.now) v))) over)
+    (tell_done c.args.store.now c.args.next.now c.args.names.now (set_of c.args.retired.now.keys) c.args.seat c.requires.listed c.args.actor.serial c.in-Tells.over))
     c.tell.ensures
 
 pub returns-in-Lists-clause-carried : goal.returns-in-Lists-clause-carried
 returns-in-Lists-clause-carried c =
+    let w = (goal.at.returns-in-Lists-clause-carried c).In-Ok in
     let at = serial_found c.args.store.now c.in-Ok.found c.spot-in-Lists.result c.in-Lists.at c.in-Ok.ensures.places c.spot-in-Lists.ensures.is c.spot-in-Lists.ensures.serial in
     IfOk-weaker c.list.result _ _
-    (λ answer is. carried (goal.at.returns-in-Lists-clause-carried c).In-Ok c.args.store.now c.args.next.now c.args.names.now (effect.Lists c.in-Lists.at) answer c.in-Lists.ensures
-    (list_done c.args.store.now c.args.next.now c.args.names.now (set_of c.args.retired.now.keys) c.args.seat c.requires.listed c.args.actor.serial c.in-Lists.at answer
-    (is c.args.next.now ∙ ap (λ v. reply.Edges (edges_of (held c.args.store.now c.args.next.now) v)) at)))
+    (λ a is. carried w c.args.store.now c.args.next.now c.args.names.now (effect.Lists c.in-Lists.at) (Ok _) a c.in-Lists.ensures
+    (is c.args.next.now ∙ ap (λ v. allowed (reply.Edges (edges_of (held c.args.store.now c.args.next.now) v))) at)
+    (list_done c.args.store.now c.args.next.now c.args.names.now (set_of c.args.retired.now.keys) c.args.seat c.requires.listed c.args.actor.serial c.in-Lists.at))
     c.list.ensures
 
-pub returns-in-Retires-clause-carried : goal.returns-in-Retires-clause-carried
-returns-in-Retires-clause-carried c =
-    retire_carried c.args.store.now c.retire.new.store c.args.next.now c.args.names.now (set_of c.args.retired.now.keys) c.args.seat c.requires.listed c.args.actor.serial c.args.command.now c.retire.new.names (set_of c.retire.new.retired.keys)
-    c.retire.result c.in-Retires.ensures (granted (goal.at.returns-in-Retires-clause-carried c).In-Ok) c.retire.ensures.done c.retire.ensures.left c.retire.ensures.gone c.retire.ensures.retired c.retire.ensures.acted
+pub returns-in_ok-retire-in-Retires-clause-carried : goal.returns-in_ok-retire-in-Retires-clause-carried
+returns-in_ok-retire-in-Retires-clause-carried c =
+    let e = c.in_ok-retire-in-Retires.ensures in
+    let retired = set_of c.args.retired.now.keys in
+    let gone = set_of c.retire.new.retired.keys in
+    carried_gone (goal.at.returns-in_ok-retire-in-Retires-clause-carried c).In-Ok c.retire.new.store c.args.next.now c.retire.new.names gone effect.Retires (Ok reply.Done) c.allowed-in-Retires.result c.in-Retires.ensures c.allowed-in-Retires.ensures
+    (retire_done c.args.store.now c.retire.new.store c.args.next.now c.args.names.now retired c.args.seat c.requires.listed c.args.actor.serial c.retire.new.names gone e.left e.gone e.retired e.acted)
 
 pub returns-in-Some-clause-carried : goal.returns-in-Some-clause-carried
 returns-in-Some-clause-carried c =
     let agent = serial_found c.args.store.now c.in-Ok.found c.spot-in-Some.result c.in-Some.agent c.in-Ok.ensures.places c.spot-in-Some.ensures.is c.spot-in-Some.ensures.serial in
-    carried (goal.at.returns-in-Some-clause-carried c).In-Ok c.assume.new.store c.args.next.now c.args.names.now (effect.Acts (Some c.in-Some.agent)) c.assume.result (ap (λ a. effect.Acts a) (sym c.in-Some.is) ∙ c.in-Acts.ensures)
-    (subst (ByEffect _ _ _ _ _ _ _ _ _ _ _) (sym c.assume.ensures.done)
-    (assume_done c.args.store.now c.assume.new.store c.args.next.now c.args.names.now (set_of c.args.retired.now.keys) c.args.seat c.requires.listed c.args.actor.serial c.in-Some.agent
-    (subst (Assumed c.args.store.now c.assume.new.store c.args.seat) agent c.assume.ensures.assumed) (subst (λ x. Acted c.args.store.now c.assume.new.store None (Some x)) agent c.assume.ensures.acted)))
+    carried (goal.at.returns-in-Some-clause-carried c).In-Ok c.assume.new.self c.args.next.now c.args.names.now (effect.Acts (Some c.in-Some.agent)) (Ok reply.Done) c.allowed-in-Some.result (ap (λ a. effect.Acts a) (sym c.in-Some.is) ∙ c.in-Acts.ensures) c.allowed-in-Some.ensures
+    (assume_done c.args.store.now c.assume.new.self c.args.next.now c.args.names.now (set_of c.args.retired.now.keys) c.args.seat c.requires.listed c.args.actor.serial c.in-Some.agent
+    (subst (Assumed c.args.store.now c.assume.new.self c.args.seat) agent c.assume.ensures.assumed) (subst (λ x. Acted c.args.store.now c.assume.new.self None (Some x)) agent c.assume.ensures.acted))
 
 pub returns-in-None-clause-carried : goal.returns-in-None-clause-carried
 returns-in-None-clause-carried c =
-    carried (goal.at.returns-in-None-clause-carried c).In-Ok c.leave.new.store c.args.next.now c.args.names.now (effect.Acts None) c.leave.result (ap (λ a. effect.Acts a) (sym c.in-None.is) ∙ c.in-Acts.ensures)
-    (subst (ByEffect _ _ _ _ _ _ _ _ _ _ _) (sym c.leave.ensures.done)
-    (leave_done c.args.store.now c.leave.new.store c.args.next.now c.args.names.now (set_of c.args.retired.now.keys) c.args.seat c.requires.listed c.args.actor.serial c.leave.ensures.left c.leave.ensures.acted))
+    carried (goal.at.returns-in-None-clause-carried c).In-Ok c.leave.new.self c.args.next.now c.args.names.now (effect.Acts None) (Ok reply.Done) c.allowed-in-None.result (ap (λ a. effect.Acts a) (sym c.in-None.is) ∙ c.in-Acts.ensures) c.allowed-in-None.ensures
+    (leave_done c.args.store.now c.leave.new.self c.args.next.now c.args.names.now (set_of c.args.retired.now.keys) c.args.seat c.requires.listed c.args.actor.serial c.leave.ensures.left c.leave.ensures.acted)
 
-pub returns-in-Rewrites-clause-needed : goal.returns-in-Rewrites-clause-needed
-returns-in-Rewrites-clause-needed c = whatever c.replace.result (granted (goal.at.returns-in-Rewrites-clause-needed c).In-Ok)
+pub returns-in_err-replace-in-Rewrites-clause-needed : goal.returns-in_err-replace-in-Rewrites-clause-needed
+returns-in_err-replace-in-Rewrites-clause-needed c = whatever c.from_residual-in_err-replace-in-Rewrites.result (granted (goal.at.returns-in_err-replace-in-Rewrites-clause-needed c).In-Ok)
 
 pub returns-in-Tells-clause-needed : goal.returns-in-Tells-clause-needed
 returns-in-Tells-clause-needed c = whatever c.tell.result (granted (goal.at.returns-in-Tells-clause-needed c).In-Ok)
@@ -181,5 +193,5 @@ returns-in-Tells-clause-needed c = whatever c.tell.result (granted (goal.at.retu
 pub returns-in-Lists-clause-needed : goal.returns-in-Lists-clause-needed
 returns-in-Lists-clause-needed c = whatever c.list.result (granted (goal.at.returns-in-Lists-clause-needed c).In-Ok)
 
-pub returns-in-Retires-clause-needed : goal.returns-in-Retires-clause-needed
-returns-in-Retires-clause-needed c = whatever c.retire.result (granted (goal.at.returns-in-Retires-clause-needed c).In-Ok)
+pub returns-in_err-retire-in-Retires-clause-needed : goal.returns-in_err-retire-in-Retires-clause-needed
+returns-in_err-retire-in-Retires-clause-needed c = whatever c.from_residual-in_err-retire-in-Retires.result (granted (goal.at.returns-in_err-retire-in-Retires-clause-needed c).In-Ok)
