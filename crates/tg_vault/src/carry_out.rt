@@ -14,7 +14,7 @@ ghost use Rattle.tg_collect.specs.Readings.{held, free_slots, IsEdgeIn, IsHeldIn
 ghost use Rattle.tg_collect.specs.Sessions.{Assumed, AgentLeft, Retired, RightsRemoved, TextReplaced, Acted};
 ghost use Rattle.tg_vault.specs.Acting.{IsHere, serial_in};
 ghost use Rattle.tg_vault.specs.CarriedOut.{CarriedOut, HasRoom, Joined, Made, Stores, allowed, copies, denied, settled};
-ghost use Rattle.tg_vault.specs.Seen.{seen, serials, set_of};
+ghost use Rattle.tg_vault.specs.Seen.{seen_in, serials, set_of};
 
 use crate::acting::Actor;
 use std::alloc::{AllocError, Global};
@@ -22,6 +22,15 @@ use std::collections::BTreeSet;
 use tg_collect::{HeapFull, Store};
 use tg_graph::{Effect, LAST_SERIAL, Roll, Spot, decide, effect_of, into_text, is_for_retired};
 use tg_rights::{Cause, Command, EdgeList, Kind, Name, Outcome, Reply, Rights, Rule, Text, Which};
+
+/// What a command changes: the store, the active principals, who has retired, and the next serial.
+#[derive(Drop)]
+pub struct State {
+    pub store: Store,
+    pub names: Roll,
+    pub retired: BTreeSet<u64>,
+    pub next: u64,
+}
 
 /// How a command was decided, and the reply, which follows from that and the graph.
 #[derive(Drop)]
@@ -85,82 +94,6 @@ fn join(
     }
 }
 
-/// A vertex of this serial is stored and becomes the seat's target; with a name it is a principal.
-fn add_vertex(
-    store: &mut Store,
-    alloc: Global,
-    seat: u64,
-    id: u32,
-    serial: u64,
-    kind: Kind,
-    rights: Rights,
-    name: &Option<Name>,
-) -> Result<(), HeapFull>
-    requires seat { seat < SEATS }
-    requires idle { pending_of store.old seat ≡ None }
-    requires source { IsSome (place store.old id) }
-    requires some { is_none rights ≡ false }
-    requires unheld { IsHeldIn store.old serial → ⊥ }
-    requires unparked { IsParkedIn store.old serial → ⊥ }
-    requires subject { IsSubjectIfNamed kind name.now }
-    requires room { HasRoom (principals store.old) name.now }
-    ensures ok { OnOk result (Stores store.old store.new seat (serial_at store.old id) serial kind rights name.now) }
-    ensures acted { OnOk result (Acted store.old store.new (Some serial) (Some serial)) }
-    ensures slots { IfErr result (λ full. full ≡ HeapFull.Slots → free_slots store.old ≡ 0) }
-    ensures cells { IfErr result (λ full. full ≡ HeapFull.Cells → (free_slots store.old ≢ 0) × (store.old.free_cells ≡ 0)) }
-    ensures unchanged { OnErr result (store.new ≡ store.old) }
-{
-    let text = Text::empty(alloc);
-    match name {
-        Some(_) => match store.store_principal(seat, id, serial, rights, text) {
-            Ok(()) => Ok(()),
-            Err((full, _)) => Err(full),
-        },
-        None => match store.store_vertex(seat, id, serial, kind, rights, text) {
-            Ok(()) => Ok(()),
-            Err((full, _)) => Err(full),
-        },
-    }
-}
-
-/// A vertex with the next serial is added and becomes the seat's target; with a name it is a principal. Full if there
-/// is no serial, slot or cell for it.
-fn make(
-    store: &mut Store,
-    names: &mut Roll,
-    next: &mut u64,
-    alloc: Global,
-    seat: u64,
-    id: u32,
-    kind: Kind,
-    rights: Rights,
-    name: Option<Name>,
-) -> Result<Reply, Which>
-    requires seat { seat < SEATS }
-    requires idle { pending_of store.old seat ≡ None }
-    requires source { IsSome (place store.old id) }
-    requires some { is_none rights ≡ false }
-    requires unheld { IsHeldIn store.old next.old → ⊥ }
-    requires unparked { IsParkedIn store.old next.old → ⊥ }
-    requires subject { IsSubjectIfNamed kind name }
-    requires room { HasRoom (principals store.old) name }
-    requires named { MayBeNamed names.old name }
-    ensures { Made store.old store.new next.old next.new names.old names.new seat (serial_at store.old id) kind rights name result }
-{
-    if *next > LAST_SERIAL {
-        return Err(Which::Serials);
-    }
-    let serial = *next;
-    match add_vertex(store, alloc, seat, id, serial, kind, rights, &name) {
-        Ok(()) => {}
-        Err(HeapFull::Slots) => return Err(Which::Slots),
-        Err(HeapFull::Cells) => return Err(Which::Cells),
-    }
-    *next += 1;
-    names.add(name, serial);
-    Ok(Reply::Created(serial))
-}
-
 /// A copy of the name that the command gives to a new principal, if it gives one.
 fn name_of(command: &Command, alloc: Global) -> Result<Option<Name>, AllocError>
     ensures copy { IfOk result (λ name. name ≡ name_in command.now) }
@@ -170,27 +103,6 @@ fn name_of(command: &Command, alloc: Global) -> Result<Option<Name>, AllocError>
         Command::Enrol { name, .. } => Ok(Some(name.copy(alloc)?)),
         _ => Ok(None),
     }
-}
-
-/// The actor has retired, and is a principal no longer. Only the first of this can fail.
-fn retire(
-    store: &mut Store,
-    names: &mut Roll,
-    retired: &mut BTreeSet<u64>,
-    actor: u64,
-) -> Result<(), AllocError>
-    ensures gone { OnOk result (set_of retired.new.keys ≡ set.insert (set_of retired.old.keys) actor) }
-    ensures retired { OnOk result (Retired store.old store.new actor) }
-    ensures acted { OnOk result (Acted store.old store.new None None) }
-    ensures left { OnOk result (names.new ≡ without_member names.old actor) }
-    ensures unchanged { OnErr result (store.new ≡ store.old) }
-    ensures kept { OnErr result (names.new ≡ names.old) }
-    ensures none { OnErr result (retired.new.keys ≡ retired.old.keys) }
-{
-    retired.insert(actor)?;
-    store.retire(actor);
-    names.remove(actor);
-    Ok(())
 }
 
 /// The reply is a copy of the text.
@@ -223,109 +135,192 @@ fn list(store: &Store, alloc: Global, of: u32) -> Result<Answered, AllocError>
     Ok(allowed(Reply::Edges(EdgeList::new(edges))))
 }
 
-/// Decides the command of an actor that has not retired, carries it out if the rules allow it and nothing that it needs
-/// is used up. `AllocError` leaves everything as it was; it occurs only for an allowed command
-/// that copies a text, a name or a list, and for a retire, so never for a denial.
-#[inline(always)]
-fn answer_at(
-    store: &mut Store,
-    names: &mut Roll,
-    retired: &mut BTreeSet<u64>,
-    next: &mut u64,
-    alloc: Global,
-    seat: u64,
-    actor: Spot<u32>,
-    command: &Command,
-) -> Result<Answered, AllocError>
-    requires seat { seat < SEATS }
-    requires idle { pending_of store.old seat ≡ None }
-    requires listed { principals store.old ≡ serials names.old }
-    requires actor { place store.old actor.place ≡ Some actor.serial }
-    requires unretired { set.contains (set_of retired.old.keys) actor.serial ≡ false }
-    requires unheld { IsHeldIn store.old next.old → ⊥ }
-    requires unparked { IsParkedIn store.old next.old → ⊥ }
-    ensures carried { IfOk result (λ answer. CarriedOut store.old store.new next.old next.new names.old names.new (set_of retired.old.keys) (set_of retired.new.keys) seat actor.serial command.now answer) }
-    ensures needed { OnErr result (Allowed (seen store.old next.old names.old (set_of retired.old.keys)) actor.serial command.now) }
-    ensures memory { OnErr result (copies (terms actor.serial command.now).does ≡ true) }
-    ensures unchanged { OnErr result (store.new ≡ store.old) }
-    ensures kept { OnErr result (names.new ≡ names.old) }
-    ensures none { OnErr result (retired.new.keys ≡ retired.old.keys) }
-    ensures same { OnErr result (next.new ≡ next.old) }
-{
-    let found = match decide(store, names.as_slice(), actor, command) {
-        Ok(found) => found,
-        Err(cause) => return Ok(denied(command.rule(), &cause)),
-    };
-    let id = actor.place;
-    match effect_of(actor.serial, command) {
-        Effect::Joins { from, rights, to } => {
-            let source = found.spot(from).place;
-            let target = found.spot(to).place;
-            Ok(settled(join(store, seat, source, target, rights)))
+impl State {
+    /// A vertex with the next serial is stored and becomes the seat's target; with a name it is a principal.
+    fn add_vertex(
+        &mut self,
+        alloc: Global,
+        seat: u64,
+        id: u32,
+        kind: Kind,
+        rights: Rights,
+        name: &Option<Name>,
+    ) -> Result<(), HeapFull>
+        requires seat { seat < SEATS }
+        requires idle { pending_of self.old.store seat ≡ None }
+        requires source { IsSome (place self.old.store id) }
+        requires some { is_none rights ≡ false }
+        requires unheld { IsHeldIn self.old.store self.old.next → ⊥ }
+        requires unparked { IsParkedIn self.old.store self.old.next → ⊥ }
+        requires subject { IsSubjectIfNamed kind name.now }
+        requires room { HasRoom (principals self.old.store) name.now }
+        ensures ok { OnOk result (Stores self.old.store self.new.store seat (serial_at self.old.store id) self.old.next kind rights name.now) }
+        ensures acted { OnOk result (Acted self.old.store self.new.store (Some self.old.next) (Some self.old.next)) }
+        ensures rest { self.new ≡ record self.old { store = self.new.store } }
+        ensures slots { IfErr result (λ full. full ≡ HeapFull.Slots → free_slots self.old.store ≡ 0) }
+        ensures cells { IfErr result (λ full. full ≡ HeapFull.Cells → (free_slots self.old.store ≢ 0) × (self.old.store.free_cells ≡ 0)) }
+        ensures unchanged { OnErr result (self.new ≡ self.old) }
+    {
+        let serial = self.next;
+        let text = Text::empty(alloc);
+        match name {
+            Some(_) => match self.store.store_principal(seat, id, serial, rights, text) {
+                Ok(()) => Ok(()),
+                Err((full, _)) => Err(full),
+            },
+            None => match self
+                .store
+                .store_vertex(seat, id, serial, kind, rights, text)
+            {
+                Ok(()) => Ok(()),
+                Err((full, _)) => Err(full),
+            },
         }
-        Effect::Makes { kind, rights } => {
-            let name = name_of(command, alloc)?;
-            Ok(settled(make(store, names, next, alloc, seat, id, kind, rights, name)))
-        }
-        Effect::Drops { rights, over } => {
-            store.remove_rights(id, over, rights);
-            Ok(allowed(Reply::Done))
-        }
-        Effect::Rewrites { over } => {
-            replace(store, alloc, found.spot(over).place, command)?;
-            Ok(allowed(Reply::Done))
-        }
-        Effect::Tells { over } => tell(store, alloc, found.spot(over).place),
-        Effect::Lists { at } => list(store, alloc, found.spot(at).place),
-        Effect::Retires => {
-            retire(store, names, retired, actor.serial)?;
-            Ok(allowed(Reply::Done))
-        }
-        Effect::Acts { agent } => match agent {
-            Some(agent) => {
-                store.assume(seat, found.spot(agent).place);
-                Ok(allowed(Reply::Done))
-            }
-            None => {
-                store.leave(seat);
-                Ok(allowed(Reply::Done))
-            }
-        },
     }
-}
 
-/// Decides the actor's command and carries it out as `answer_at` does. An actor that has retired is denied each command
-/// but a leave, which is carried out.
-pub fn answer(
-    store: &mut Store,
-    names: &mut Roll,
-    retired: &mut BTreeSet<u64>,
-    next: &mut u64,
-    alloc: Global,
-    seat: u64,
-    actor: Actor,
-    command: &Command,
-) -> Result<Answered, AllocError>
-    requires seat { seat < SEATS }
-    requires idle { pending_of store.old seat ≡ None }
-    requires listed { principals store.old ≡ serials names.old }
-    requires here { IsHere store.old (set_of retired.old.keys) actor }
-    requires unheld { IsHeldIn store.old next.old → ⊥ }
-    requires unparked { IsParkedIn store.old next.old → ⊥ }
-    ensures carried { IfOk result (λ answer. CarriedOut store.old store.new next.old next.new names.old names.new (set_of retired.old.keys) (set_of retired.new.keys) seat (serial_in actor) command.now answer) }
-    ensures needed { OnErr result (Allowed (seen store.old next.old names.old (set_of retired.old.keys)) (serial_in actor) command.now) }
-    ensures memory { OnErr result (copies (terms (serial_in actor) command.now).does ≡ true) }
-    ensures unchanged { OnErr result (store.new ≡ store.old) }
-    ensures kept { OnErr result (names.new ≡ names.old) }
-    ensures none { OnErr result (retired.new.keys ≡ retired.old.keys) }
-    ensures same { OnErr result (next.new ≡ next.old) }
-{
-    match actor {
-        Actor::At(spot) => answer_at(store, names, retired, next, alloc, seat, spot, command),
-        Actor::Gone(serial) if is_for_retired(serial, command) => {
-            store.leave(seat);
-            Ok(allowed(Reply::Done))
+    /// A vertex with the next serial is added and becomes the seat's target; with a name it is a principal. Full if
+    /// there is no serial, slot or cell for it.
+    fn make(
+        &mut self,
+        alloc: Global,
+        seat: u64,
+        id: u32,
+        kind: Kind,
+        rights: Rights,
+        name: Option<Name>,
+    ) -> Result<Reply, Which>
+        requires seat { seat < SEATS }
+        requires idle { pending_of self.old.store seat ≡ None }
+        requires source { IsSome (place self.old.store id) }
+        requires some { is_none rights ≡ false }
+        requires unheld { IsHeldIn self.old.store self.old.next → ⊥ }
+        requires unparked { IsParkedIn self.old.store self.old.next → ⊥ }
+        requires subject { IsSubjectIfNamed kind name }
+        requires room { HasRoom (principals self.old.store) name }
+        requires named { MayBeNamed self.old.names name }
+        ensures { Made self.old self.new seat (serial_at self.old.store id) kind rights name result }
+    {
+        if self.next > LAST_SERIAL {
+            return Err(Which::Serials);
         }
-        Actor::Gone(_) => Ok(denied(command.rule(), &Cause::Retired)),
+        match self.add_vertex(alloc, seat, id, kind, rights, &name) {
+            Ok(()) => {}
+            Err(HeapFull::Slots) => return Err(Which::Slots),
+            Err(HeapFull::Cells) => return Err(Which::Cells),
+        }
+        let serial = self.next;
+        self.next += 1;
+        self.names.add(name, serial);
+        Ok(Reply::Created(serial))
+    }
+
+    /// The actor has retired, and is a principal no longer. Only the first of this can fail.
+    fn retire(&mut self, actor: u64) -> Result<(), AllocError>
+        ensures gone { OnOk result (set_of self.new.retired.keys ≡ set.insert (set_of self.old.retired.keys) actor) }
+        ensures retired { OnOk result (Retired self.old.store self.new.store actor) }
+        ensures acted { OnOk result (Acted self.old.store self.new.store None None) }
+        ensures left { OnOk result (self.new.names ≡ without_member self.old.names actor) }
+        ensures next { OnOk result (self.new.next ≡ self.old.next) }
+        ensures unchanged { OnErr result (self.new ≡ self.old) }
+    {
+        self.retired.insert(actor)?;
+        self.store.retire(actor);
+        self.names.remove(actor);
+        Ok(())
+    }
+
+    /// Decides the command of an actor that has not retired, and carries it out if the rules allow it and nothing that
+    /// it needs is used up. `AllocError` leaves everything as it was; it occurs only for an allowed command that copies
+    /// a text, a name or a list, and for a retire, so never for a denial.
+    #[inline(always)]
+    fn answer_at(
+        &mut self,
+        alloc: Global,
+        seat: u64,
+        actor: Spot<u32>,
+        command: &Command,
+    ) -> Result<Answered, AllocError>
+        requires seat { seat < SEATS }
+        requires idle { pending_of self.old.store seat ≡ None }
+        requires listed { principals self.old.store ≡ serials self.old.names }
+        requires actor { place self.old.store actor.place ≡ Some actor.serial }
+        requires unretired { set.contains (set_of self.old.retired.keys) actor.serial ≡ false }
+        requires unheld { IsHeldIn self.old.store self.old.next → ⊥ }
+        requires unparked { IsParkedIn self.old.store self.old.next → ⊥ }
+        ensures carried { IfOk result (λ answer. CarriedOut self.old self.new seat actor.serial command.now answer) }
+        ensures needed { OnErr result (Allowed (seen_in self.old) actor.serial command.now) }
+        ensures memory { OnErr result (copies (terms actor.serial command.now).does ≡ true) }
+        ensures unchanged { OnErr result (self.new ≡ self.old) }
+    {
+        let found = match decide(&self.store, self.names.as_slice(), actor, command) {
+            Ok(found) => found,
+            Err(cause) => return Ok(denied(command.rule(), &cause)),
+        };
+        let id = actor.place;
+        match effect_of(actor.serial, command) {
+            Effect::Joins { from, rights, to } => {
+                let source = found.spot(from).place;
+                let target = found.spot(to).place;
+                Ok(settled(join(&mut self.store, seat, source, target, rights)))
+            }
+            Effect::Makes { kind, rights } => {
+                let name = name_of(command, alloc)?;
+                Ok(settled(self.make(alloc, seat, id, kind, rights, name)))
+            }
+            Effect::Drops { rights, over } => {
+                self.store.remove_rights(id, over, rights);
+                Ok(allowed(Reply::Done))
+            }
+            Effect::Rewrites { over } => {
+                replace(&mut self.store, alloc, found.spot(over).place, command)?;
+                Ok(allowed(Reply::Done))
+            }
+            Effect::Tells { over } => tell(&self.store, alloc, found.spot(over).place),
+            Effect::Lists { at } => list(&self.store, alloc, found.spot(at).place),
+            Effect::Retires => {
+                self.retire(actor.serial)?;
+                Ok(allowed(Reply::Done))
+            }
+            Effect::Acts { agent } => match agent {
+                Some(agent) => {
+                    self.store.assume(seat, found.spot(agent).place);
+                    Ok(allowed(Reply::Done))
+                }
+                None => {
+                    self.store.leave(seat);
+                    Ok(allowed(Reply::Done))
+                }
+            },
+        }
+    }
+
+    /// Decides the actor's command and carries it out as `answer_at` does. An actor that has retired is denied each
+    /// command but a leave, which is carried out.
+    pub fn answer(
+        &mut self,
+        alloc: Global,
+        seat: u64,
+        actor: Actor,
+        command: &Command,
+    ) -> Result<Answered, AllocError>
+        requires seat { seat < SEATS }
+        requires idle { pending_of self.old.store seat ≡ None }
+        requires listed { principals self.old.store ≡ serials self.old.names }
+        requires here { IsHere self.old.store (set_of self.old.retired.keys) actor }
+        requires unheld { IsHeldIn self.old.store self.old.next → ⊥ }
+        requires unparked { IsParkedIn self.old.store self.old.next → ⊥ }
+        ensures carried { IfOk result (λ answer. CarriedOut self.old self.new seat (serial_in actor) command.now answer) }
+        ensures needed { OnErr result (Allowed (seen_in self.old) (serial_in actor) command.now) }
+        ensures memory { OnErr result (copies (terms (serial_in actor) command.now).does ≡ true) }
+        ensures unchanged { OnErr result (self.new ≡ self.old) }
+    {
+        match actor {
+            Actor::At(spot) => self.answer_at(alloc, seat, spot, command),
+            Actor::Gone(serial) if is_for_retired(serial, command) => {
+                self.store.leave(seat);
+                Ok(allowed(Reply::Done))
+            }
+            Actor::Gone(_) => Ok(denied(command.rule(), &Cause::Retired)),
+        }
     }
 }
