@@ -6,6 +6,8 @@ import sys
 import tempfile
 from pathlib import Path
 
+from planting import reading_tests
+
 ROOT = Path(__file__).resolve().parent.parent
 
 SOURCE = """//! A number and its echo.
@@ -155,8 +157,8 @@ FILES = {
     "crates/tiny/proofs/named/Answers.antt": NAMED,
 }
 
-# Each edit, its file, its old and new text, and how its line begins.
-EDITS = [
+# Each bug, its file, its old and new text, and how its line begins.
+BUGS = [
     ("echo-of-nothing", "src/lib.rt", "let heard = number;", "let heard = 0;", "refused: "),
     ("law-echo-is-four", "specs/Echo.antt", "echo_of number = number", "echo_of number = 4", "refused, alone: "),
     # tried with the next, and not with the one above, to which the laws of both come too
@@ -165,7 +167,7 @@ EDITS = [
     ("law-spare-is-the-same", "specs/Twice.antt", "spare_of number = echo_of number", "spare_of number = (echo_of number)", "alone: NOT REFUSED"),
     # a constant; a function that nothing calls, and a trait's method, which need no control
     ("seven-is-eight", "src/lib.rt", "const MOST: usize = 7;", "const MOST: usize = 8;", "refused: "),
-    ("kept-is-nothing", "src/lib.rt", "let kept_number = number;", "let kept_number = 0;", "refused: "),
+    ("kept-is-nothing", "src/lib.rt", "number;\n    kept_number", "0;\n    kept_number", "refused: "),
     ("rings-four-times", "src/lib.rt", "        3", "        4", "refused: "),
     # it means the same, in a function that nothing calls
     ("harmless-in-its-place", "src/lib.rt", "let shown_number = number;", "let shown_number = (number);", "alone: NOT REFUSED"),
@@ -177,23 +179,32 @@ EDITS = [
 ]
 
 
+def written(bugs):
+    """The files of these bugs, by their paths."""
+    texts = {}
+    for name, file, old, new, _ in bugs:
+        marked = [f"- {row}" for row in old.split("\n")] + [f"+ {row}" for row in new.split("\n")]
+        path = f"crates/tiny/planted/{file}.bugs"
+        texts[path] = texts.get(path, "# Bugs.\n") + "\n".join(["", name, *marked, ""])
+    return texts
+
+
 def said(line):
-    """The edit's name and its result, from a line of the runner."""
+    """The bug's name and its result, from a line of the runner."""
     name, _, result = line.removeprefix("planted tiny/").partition(": ")
     return name, result
 
 
 def edits_of_a_crate_are_told_apart(program):
-    """Six bugs are refused; harmless edits, an absent text and an edit that only a proof's names refuse count as failed."""
+    """Six bugs are refused; harmless ones, an absent text and one that only a proof's names refuse count as failed."""
     with tempfile.TemporaryDirectory() as folder:
-        edits = {f"crates/tiny/planted/{name}.edit": f"file: {file}\nold: {old}\nnew: {new}\n" for name, file, old, new, _ in EDITS}
-        for path, text in (FILES | edits).items():
+        for path, text in (FILES | written(BUGS)).items():
             Path(folder, path).parent.mkdir(parents=True, exist_ok=True)
             Path(folder, path).write_text(text, encoding="utf-8")
         ran = subprocess.run([str(program), "--jobs", "1"], cwd=folder, capture_output=True, text=True, timeout=900)
     lines = ran.stdout.splitlines()
     found = dict(said(line) for line in lines if line.startswith("planted tiny/"))
-    wrong = [name for name, _, _, _, begins in EDITS if not found.get(name, "").startswith(begins)]
+    wrong = [name for name, _, _, _, begins in BUGS if not found.get(name, "").startswith(begins)]
     if wrong or lines[-1:] != ["6 passed, 5 failed"] or ran.returncode != 1:
         print(f"  not as wanted: {wrong}, status {ran.returncode}", *lines, ran.stderr, sep="\n    ")
         return False
@@ -213,6 +224,7 @@ def names_pick_tests(program):
 
 
 def tests():
+    yield from reading_tests.tests()
     yield "edits-of-a-crate-are-told-apart", edits_of_a_crate_are_told_apart
     yield "names-pick-tests", names_pick_tests
 

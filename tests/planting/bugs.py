@@ -2,9 +2,10 @@
 
 import os
 import re
+from pathlib import Path
 from typing import NamedTuple
 
-from planting import kit
+from planting import kit, reading
 from planting.kit import Crate, Function, Source
 
 # A constant may be named by as many functions if its bug is tried with others.
@@ -97,10 +98,9 @@ class Bug:
     replaces there, and the constants."""
 
     def __init__(
-        self, crate: Crate, name: str, texts: dict[str, str] | None, why: str | None
+        self, crate: Crate, name: str, texts: dict[str, str], why: str | None = None
     ) -> None:
-        self.name = f"{crate.name}/{name}"
-        self.texts = texts or {}
+        self.name, self.texts = f"{crate.name}/{name}", texts
         self.result = Result(False, f"BAD EDIT: {why}") if why else None
         self.seconds = 0.0
         self.spans: dict[Function, list[Span]] = {}
@@ -168,12 +168,21 @@ class Bug:
         return bool(self.spans) and all(map(can_stand_twice, self.spans))
 
 
-def edits_of(crate: Crate, parts: list[str]) -> list[Bug]:
-    """The edits in these folders of the crate."""
+def planted(crate: Crate) -> list[Bug]:
+    """The bugs of the crate's planted/."""
+    folder, found = Path(crate.folder), []
+    for name, edits in reading.bugs_of(folder).items():
+        try:
+            found.append(Bug(crate, name, reading.edited(edits, folder)))
+        except reading.Misplaced as error:
+            found.append(Bug(crate, name, {}, str(error)))
+    return found
+
+
+def must_fail(crate: Crate) -> list[Bug]:
+    """The bugs of the crate's must-fail/, each an edit in the toolchain's form."""
     found = []
-    for place in [f"{crate.folder}/{part}" for part in parts]:
-        for name in sorted(os.listdir(place)) if os.path.isdir(place) else []:
-            if name.endswith(".edit"):
-                edited = kit.read_edit(f"{place}/{name}", crate.folder)
-                found.append(Bug(crate, name.removesuffix(".edit"), *edited))
+    for file in sorted(Path(crate.folder, "must-fail").glob("*.edit")):
+        texts, why = kit.read_edit(str(file), crate.folder)
+        found.append(Bug(crate, file.stem, texts or {}, why))
     return found

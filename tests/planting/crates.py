@@ -4,7 +4,7 @@ import os
 from concurrent.futures import Future, ThreadPoolExecutor, as_completed
 
 from planting import kit
-from planting.bugs import edits_of
+from planting.bugs import must_fail, planted
 from planting.kit import Crate
 from planting.trial import Trial
 from planting.turns import Turns
@@ -23,21 +23,23 @@ def are_left(crates: list[Crate], since: float = 0) -> bool:
 
 
 class Planting:
-    """The planted bugs of crates that come one after another."""
+    """The planted bugs of crates that come one after another; `are_all`: of must-fail/ too."""
 
     def __init__(
         self,
         crates: list[Crate],
-        parts: list[str],
         turns: Turns,
         seeds: str | None = None,
         log: str | None = None,
+        are_all: bool = False,
     ) -> None:
         # (its first call sets a signal's handler, which only the main thread may)
         kit.guard()
         # (the dearest crates are last in the list, and have the first turns)
         self.ranks = {it.name: -at for at, it in enumerate(crates)}
-        self.bugs = {it.name: edits_of(it, parts) for it in crates}
+        self.bugs = {
+            it.name: [*(must_fail(it) if are_all else []), *planted(it)] for it in crates
+        }
         self.turns, self.seeds, self.log = turns, seeds, log
         self.begun: dict[str, Trial] = {}
         self.running: dict[Future[None], Trial] = {}
