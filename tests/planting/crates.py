@@ -37,9 +37,7 @@ class Planting:
         kit.guard()
         # (the dearest crates are last in the list, and have the first turns)
         self.ranks = {it.name: -at for at, it in enumerate(crates)}
-        self.bugs = {
-            it.name: [*(must_fail(it) if are_all else []), *planted(it)] for it in crates
-        }
+        self.bugs = {it.name: [*(must_fail(it) if are_all else []), *planted(it)] for it in crates}
         self.turns, self.seeds, self.log = turns, seeds, log
         self.begun: dict[str, Trial] = {}
         self.running: dict[Future[None], Trial] = {}

@@ -195,7 +195,8 @@ def cannot_be_read(line: str, texts: Mapping[str, str | None]) -> bool:
 
 def jobs_now() -> int:
     """How many checks processors and memory allow at once."""
-    return max(1, min(_rt.processors(), int(_rt.free() / 4e9)))
+    processors: int = _rt.processors()
+    return max(1, min(processors, int(_rt.free() / 4e9)))
 
 
 def read_edit(file: str, folder: str) -> tuple[dict[str, str] | None, str | None]:

@@ -62,9 +62,7 @@ class Reach:
         self.folder, self.functions, self.laws = folder, functions, laws
         self.definitions: dict[str, set[str]] = {}
         self.everywhere = words_of(IDLE.sub("", types))
-        self.imported = re.compile(
-            rf"Rattle\.{crate}\.(proofs|specs\.contracts)\b\.?([\w.+-]*)"
-        )
+        self.imported = re.compile(rf"Rattle\.{crate}\.(proofs|specs\.contracts)\b\.?([\w.+-]*)")
         for file in Path(folder, "specs").rglob("*.antt"):
             self.note(read(file))
         self.files = {law: self.files_of(law.replace("::", "/")) for law in laws}
@@ -132,7 +130,7 @@ class Reach:
     def nearest(self, touched: set[str]) -> str | None:
         """The law whose contract comes to any of these definitions by the fewest steps; if none
         does, the function."""
-        ranked = []
+        ranked: list[tuple[bool, int, int, int, str]] = []
         for f, (contract, size) in self.functions.items():
             levels = enumerate(self.levels(words_of(contract)))
             steps = next((at for at, level in levels if level & touched), None)

@@ -132,9 +132,7 @@ class Report:
         return not {*UNTRIED.findall(line)} & self.seen
 
 
-def refusal(
-    ran: Ran, texts: Mapping[str, str | None], own: set[str] | None = None
-) -> str | None:
+def refusal(ran: Ran, texts: Mapping[str, str | None], own: set[str] | None = None) -> str | None:
     """What refuses the edited texts in a check that was asked for some functions, in one of its own
     files if any are given, or None if that is not clear."""
     said = lines_of(ran)
