@@ -6,7 +6,7 @@ import sys
 import tempfile
 from pathlib import Path
 
-from planting import reading_tests
+from planting import reading_tests, reports_tests
 
 ROOT = Path(__file__).resolve().parent.parent
 
@@ -225,6 +225,7 @@ def names_pick_tests(program):
 
 def tests():
     yield from reading_tests.tests()
+    yield from reports_tests.tests()
     yield "edits-of-a-crate-are-told-apart", edits_of_a_crate_are_told_apart
     yield "names-pick-tests", names_pick_tests
 

@@ -5,7 +5,6 @@ from collections.abc import Iterable, Mapping
 
 from planting import kit
 from planting.checks import Ran
-from planting.kit import Crate
 
 # What a report says of a written proof that names what a bug took away, and what the toolchain's
 # rule says of such a bug.
@@ -56,8 +55,8 @@ def waiting(said: list[str], edited: set[str]) -> set[str]:
 
 
 class Report:
-    """What a check said of a crate with edited functions: the faults of each, those that are
-    proved, those whose text cannot be read, and what else is wrong.
+    """What a check said of the crate of this name with edited functions: the faults of each, those
+    that are proved, those whose text cannot be read, and what else is wrong.
 
     `lines` says to which function and number each line of an edited one belongs, `symbols` names
     the edited functions, and `holes` those whose proof is a hole.
@@ -65,15 +64,15 @@ class Report:
 
     def __init__(
         self,
-        crate: Crate,
+        crate: str,
         ran: Ran,
-        lines: dict[tuple[str, int], tuple[kit.Function, int]],
+        lines: Mapping[tuple[str, int], tuple[object, int]],
         symbols: set[str],
         holes: set[str],
     ) -> None:
         self.faults: dict[str, list[str]] = {}
         self.proved: set[str] = set()
-        self.unread: set[tuple[kit.Function, int]] = set()
+        self.unread: set[tuple[object, int]] = set()
         self.stray: list[str] = []
         self.crate, self.lines, self.symbols, self.holes = crate, lines, symbols, holes
         said = lines_of(ran)
@@ -95,7 +94,7 @@ class Report:
         """Takes a line of the report that is no note; these are the notes before it."""
         error, name = ERROR.match(line), ""
         if error:
-            name = "::".join([self.crate.name, *error[1].split("/")[1:-1]])
+            name = "::".join([self.crate, *error[1].split("/")[1:-1]])
         elif line.startswith("fn "):
             name = line[len("fn ") :].partition(": ")[0]
         copy = self.edited(name)

@@ -50,13 +50,13 @@ class Trial:
         done = self.checks.check(texts, [*asked, *more])
         are_holed = self.copies.are_holed
         holes = self.symbols(self.source.functions) - symbols if are_holed else set[str]()
-        report = Report(self.crate, done, lines, symbols, holes)
+        report = Report(self.crate.name, done, lines, symbols, holes)
         if report.unread:
             rest = [it for number, it in enumerate(bugs, 1) if not is_unread(it, number, report)]
             if rest:
                 self.batch(rest)
         elif report.stray:
-            why = f"{len(bugs)} edits are tried in halves, or alone: {report.stray[0][:200]}"
+            why = f"{len(bugs)} bugs are tried in halves, or alone: {report.stray[0][:200]}"
             print(f"planted: {self.crate.name}: {why}", file=sys.stderr)
             middle = len(bugs) // 2
             for half in (bugs[:middle], bugs[middle:]) * (len(bugs) > 1):
@@ -117,7 +117,7 @@ class Trial:
         """What a check with holes says of these functions, if it refuses one for certain."""
         symbols = self.symbols(own)
         holes = self.symbols(self.source.functions) - symbols
-        report = Report(self.crate, done, {}, symbols, holes)
+        report = Report(self.crate.name, done, {}, symbols, holes)
         unproved = [it for it in sorted(report.faults.items()) if it[0] not in report.proved]
         fault = first_fault(line for _, lines in unproved for line in lines)
         return None if report.stray else fault
