@@ -57,7 +57,7 @@ def talk(one, lines):
 def stop(program, vertices, entries, line, *options):
     """Seconds for which a server of three rounds stops after its second, in which the line came so many times."""
     words = [program, "serve", "--listen", "127.0.0.1:0", "--workers", "1", "--connections", "3", "--round", "1", *options]
-    with subprocess.Popen(words, stdin=subprocess.PIPE, stdout=subprocess.PIPE) as server:
+    with subprocess.Popen(words, stdin=subprocess.PIPE, stdout=subprocess.PIPE, stderr=subprocess.DEVNULL) as server:
         server.stdin.write(CONFIG)
         server.stdin.flush()
         address = address_of(server.stdout.readline())
