@@ -106,14 +106,16 @@ rounds_end operating connections round left number old new failed last so_far =
       enough = λ alone. are_enough (so_far.taken alone) (last alone) (so_far.some alone);
       sent = so_far.sent;
     } where
-  n : ℕ
-  n = length so_far.rebased
-  are_rounds : connections ≡ n * round + left → (left ≤ round) ⊎ (connections ≤ round) → (0 < n → 0 < left) → AreRounds connections round n
-  are_rounds served (inl over) some = record { enough = omega arith; needed = λ h. (let more : 0 < left = some h in omega arith) }
-  are_rounds served (inr one) some = record { enough = omega arith; needed = λ h. (let more : 0 < left = some h in omega arith) }
-  are_enough : (connections ≤ n * round + left) × (n + left ≤ connections) → (left ≤ round) ⊎ (connections ≤ round) → (0 < n → 0 < left) → AreEnough connections round n
-  are_enough (most, least) (inl over) some = record { enough = omega arith; used = λ h. (let more : 0 < left = some h in omega arith) }
-  are_enough (most, least) (inr one) some = record { enough = omega arith; used = λ h. (let more : 0 < left = some h in omega arith) }
+      n : ℕ
+      n = length so_far.rebased
+
+      are_rounds : connections ≡ n * round + left → (left ≤ round) ⊎ (connections ≤ round) → (0 < n → 0 < left) → AreRounds connections round n
+      are_rounds served (inl over) some = record { enough = omega arith; needed = λ h. (let more : 0 < left = some h in omega arith) }
+      are_rounds served (inr one) some = record { enough = omega arith; needed = λ h. (let more : 0 < left = some h in omega arith) }
+
+      are_enough : (connections ≤ n * round + left) × (n + left ≤ connections) → (left ≤ round) ⊎ (connections ≤ round) → (0 < n → 0 < left) → AreEnough connections round n
+      are_enough (most, least) (inl over) some = record { enough = omega arith; used = λ h. (let more : 0 < left = some h in omega arith) }
+      are_enough (most, least) (inr one) some = record { enough = omega arith; used = λ h. (let more : 0 < left = some h in omega arith) }
 
 -- behind the address, the lines of the rebases and the last one
 pub is_served : (operating : Operating) (connections round size : ℕ) (last : Contents) (old now mid new : Option (List ℕ)) (was failed : Bool) → (1 ≤ round → size ≡ round) → Announces old now → HasAgreed last
@@ -151,9 +153,9 @@ goes_on operating left size after connections round last some_round takes few no
     let some_left : 0 < left = omega (arith, no_more) in
     let some_size : 0 < size = omega (arith, takes) in
     record { whole = λ counted. whole counted ∙ ap (λ n. left - n) takes; within = omega (arith, few, takes); fewer = some some_size some_left; more = more } where
-  is_some : (n : ℕ) → after ≡ n → 0 < after
-  is_some zero none = absurd (true≢false (sym (ends.1 (inl none)) ∙ goes))
-  is_some (suc n) is = omega (arith, is)
+      is_some : (n : ℕ) → after ≡ n → 0 < after
+      is_some zero none = absurd (true≢false (sym (ends.1 (inl none)) ∙ goes))
+      is_some (suc n) is = omega (arith, is)
 
 -- if nobody ends the server, and this is the last round, it takes all that are left, or all were to be served in one
 pub is_over : (left size after connections round : ℕ) (last : Bool) → size ≡ min left round → left ≤ after + size → ((last ≡ true) ↔ ((after ≡ 0) ⊎ (connections ≤ round))) → last ≡ true → (left ≤ round) ⊎ (connections ≤ round)
