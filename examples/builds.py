@@ -39,7 +39,7 @@ def program():
 def chosen():
     named = os.environ.get("TGDOC")
     if named and not shutil.which(named):
-        sys.exit("TGDOC names %s, which is no program" % named)
+        sys.exit(f"TGDOC names {named}, which is no program")
     if named or PROVED.exists():
         return Path(named) if named else PROVED
     sources = sum_of_sources()

@@ -25,7 +25,7 @@ def refusal_of(kind, command, *arguments):
         command(*arguments)
     except kind as refusal:
         return refusal
-    raise AssertionError("%s%s was carried out" % (command.__name__, arguments))
+    raise AssertionError(f"{command.__name__}{arguments} was carried out")
 
 
 def denial_of(command, *arguments):
@@ -67,7 +67,7 @@ def play(config, workers, connections, story):
             story(address)
             settled = json.loads(answers_in(server.stdout.read().decode())[-1])["settled"]
             found = {"agreed": "agree"}.get(settled, "do not agree: " + settled)
-            told("The server ends: what it answered and its one history %s." % found)
+            told(f"The server ends: what it answered and its one history {found}.")
             return server.wait()
         finally:
             limit.cancel()

@@ -39,7 +39,7 @@ def rows_of(asked):
     """The lines of a question."""
     rows = asked.get("lines")
     if not isinstance(rows, list) or not 1 <= len(rows) <= MOST_LINES or not all(isinstance(row, str) and "\n" not in row for row in rows):
-        raise Unasked(400, "1 to %d lines" % MOST_LINES)
+        raise Unasked(400, f"1 to {MOST_LINES} lines")
     return rows
 
 
@@ -108,7 +108,7 @@ class Service(BaseHTTPRequestHandler):
     def is_ours(self):
         """Whether the request is to this server by its loopback address, and of a page of its own if a page makes it."""
         port = self.server.server_port
-        hosts = ["127.0.0.1:%d" % port, "localhost:%d" % port]
+        hosts = [f"127.0.0.1:{port}", f"localhost:{port}"]
         origin = self.headers.get("Origin")
         is_own = self.headers.get("Sec-Fetch-Site", "none") in ("none", "same-origin")
         return is_own and self.headers.get("Host") in hosts and (origin is None or origin in ["http://" + host for host in hosts])
@@ -140,7 +140,7 @@ class Service(BaseHTTPRequestHandler):
             raise Unasked(403, "not from here")
         length = self.headers.get("Content-Length", "")
         if not length.isdigit() or int(length) > MOST_BYTES:
-            raise Unasked(413, "at most %d bytes" % MOST_BYTES)
+            raise Unasked(413, f"at most {MOST_BYTES} bytes")
         asked = json.loads(self.rfile.read(int(length)))
         if self.path not in self.answers or not isinstance(asked, dict):
             raise Unasked(404, "no such question")

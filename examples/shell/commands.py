@@ -56,7 +56,7 @@ RIGHTS = "r (read), w (write), t (take rights that it has), g (grant it rights)"
 
 def usage(verb):
     words, what, _ = COMMANDS[verb]
-    return "%s: %s" % (words, what)
+    return f"{words}: {what}"
 
 
 def parts_of(line):
@@ -64,8 +64,8 @@ def parts_of(line):
     verb, _, rest = line.strip().partition(" ")
     if verb not in COMMANDS:
         near = [name for name in COMMANDS if name.startswith(verb[:2])]
-        more = "Did you mean %s?" % " or ".join(near) if near else "`help` lists them."
-        raise Confused("There is no command %s. %s" % (verb, more))
+        more = f'Did you mean {" or ".join(near)}?' if near else "`help` lists them."
+        raise Confused(f"There is no command {verb}. {more}")
     kinds = COMMANDS[verb][2]
     words = rest.split(None, len(kinds) - 1) if kinds[-1:] == ["text"] else rest.split()
     least = sum(not kind.startswith("[") for kind in kinds)
@@ -80,7 +80,7 @@ def parts_of(line):
 def rights_of(word):
     """The letters of a word, in their order."""
     if not word or set(word) - set(LETTERS) or len(set(word)) < len(word):
-        raise Confused("%s: rights are letters, each once: %s" % (word, RIGHTS))
+        raise Confused(f"{word}: rights are letters, each once: {RIGHTS}")
     return "".join(letter for letter in LETTERS if letter in word)
 
 
@@ -93,7 +93,7 @@ def fields_of(verb, words, names, actor):
         elif field in VERTICES:
             fields[field] = names.serial_of(word)
         elif field == "kind" and word not in KINDS:
-            raise Confused("%s: a vertex is a document or a subject" % word)
+            raise Confused(f"{word}: a vertex is a document or a subject")
         else:
             fields[field] = word
     if verb == "look" and not words:

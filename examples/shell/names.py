@@ -27,9 +27,9 @@ class Names:
     def give(self, word, serial):
         """Gives a vertex a name, in place of one that it has."""
         if not WORD.fullmatch(word) or word in COMMANDS:
-            raise Confused("%s: a name has letters and digits, begins with a letter, and is no command" % word)
+            raise Confused(f"{word}: a name has letters and digits, begins with a letter, and is no command")
         if word in self.principals:
-            raise Confused("%s is a principal's name" % word)
+            raise Confused(f"{word} is a principal's name")
         self.given = {name: owner for name, owner in self.given.items() if owner != serial}
         self.given[word] = serial
 
@@ -38,7 +38,7 @@ class Names:
             return int(word)
         found = self.principals.get(word, self.given.get(word))
         if found is None:
-            raise Confused("%s: no vertex has this name here; vertices have numbers, and `name NUMBER WORD` names one" % word)
+            raise Confused(f"{word}: no vertex has this name here; vertices have numbers, and `name NUMBER WORD` names one")
         return found
 
     def of(self, serial):
@@ -47,12 +47,12 @@ class Names:
             for name, owner in known.items():
                 if owner == serial:
                     return name
-        return "%d (%s, retired)" % (serial, self.retired[serial]) if serial in self.retired else str(serial)
+        return f"{serial} ({self.retired[serial]}, retired)" if serial in self.retired else str(serial)
 
     def both(self, serial):
         """What a vertex is called, with its serial."""
         name = self.of(serial)
-        return name if name[:1].isdigit() else "%s (%d)" % (name, serial)
+        return name if name[:1].isdigit() else f"{name} ({serial})"
 
     def all(self):
         return [*self.principals, *self.given]

@@ -58,7 +58,7 @@ def own_server(config):
                 told = server.stdout.readline()
                 if b"listening" not in told:
                     said.seek(0)
-                    sys.exit("The server does not start: %s" % (told or said.read()).decode(errors="replace").strip())
+                    sys.exit(f'The server does not start: {(told or said.read()).decode(errors="replace").strip()}')
                 yield Vault(address_of(told), config)
             finally:
                 server.terminate()

@@ -1,1 +1,2 @@
-"""Runs whose lines are drawn at random; the models, or what the runs answered, say what is right."""
+"""Runs whose lines are drawn at random; the models, or what the runs answered, say what is
+right."""

@@ -1,6 +1,12 @@
 """Lines and their answers. Each answer is written by hand from docs/PROTOCOL.md."""
 
+import itertools
 import json
+from collections.abc import Iterable, Iterator
+from typing import NamedTuple
+
+from faults.line_faults import Field, object_of
+from running import joined
 
 CONFIG = b'{"edges":[[1,"tg",2]],"principals":["alice","bob"]}'
 HELLO = b'{"name":"alice","op":"hello"}'
@@ -51,48 +57,54 @@ BAD_VALUES = {
     "agent": BAD_NUMBERS,
     "rights": BAD_RIGHTS,
     "kind": ['"object"', '"Subject"', '""', "1", "null"],
-    "text": ["1", "null", '["hi"]', '"%s"' % ("a" * 4097)],
+    "text": ["1", "null", '["hi"]', f'"{"a" * 4097}"'],
     "name": ["1", "null", '["alice"]'],
 }
 # The names that nobody may have; who says hello may say any.
-NO_NAMES = ['""', '"Carol"', '"carol1"', '"ca rol"', '"carol "', '"é"', '"a\\u0000"', '"%s"' % ("a" * 33)]
+NO_NAMES = ['""', '"Carol"', '"carol1"', '"ca rol"', '"carol "', '"é"', '"a\\u0000"', f'"{"a" * 33}"']
 
 
-def joined(*rows):
-    """Lines, each with its line feed."""
-    return b"".join(row + b"\n" for row in rows)
+class Case(NamedTuple):
+    """A run: its words, its input, and the output and the status that are wanted."""
+
+    name: str
+    words: list[str]
+    given: bytes
+    wanted: bytes
+    status: int
 
 
-def object_of(fields):
-    """An object with these fields, whose values are JSON."""
-    return ("{%s}" % ",".join('"%s":%s' % field for field in fields)).encode()
+Cases = Iterator[Case]
+# A line and its answer.
+Pair = tuple[bytes, bytes]
 
 
-def line_of(op, but=(), extra=()):
+def line_of(op: str, but: Iterable[str] = (), extra: Iterable[Field] = ()) -> bytes:
     """The line of an op with good fields, without some and with others."""
-    fields = [("op", '"%s"' % op)] + [(name, GOOD[name]) for name in REQUIRED[op] if name not in but]
-    return object_of(fields + list(extra))
+    fields = [(name, GOOD[name]) for name in REQUIRED[op] if name not in but]
+    return object_of([("op", f'"{op}"'), *fields, *extra])
 
 
-def after_hello(name, *pairs):
-    """A run of alice's session: lines with their answers. The status is 1 if one is an error."""
-    given = joined(CONFIG, HELLO, *[line for line, _ in pairs])
+def opening(name: str, line: bytes, *pairs: Pair) -> Case:
+    """A configuration that is accepted, and further lines with their answers. The status is 1 if
+    one is an error."""
     answers = [answer for _, answer in pairs]
-    return name, ["run"], given, joined(WELCOME, *answers), int(any(b'"error"' in answer for answer in answers))
+    status = int(any(b'"error"' in answer for answer in answers))
+    given = joined(line, *[row for row, _ in pairs])
+    return Case(name, ["run"], given, joined(*answers), status)
 
 
-def refused_opening(name, line, answer):
+def after_hello(name: str, *pairs: Pair) -> Case:
+    """A run of alice's session."""
+    return opening(name, CONFIG, (HELLO, WELCOME), *pairs)
+
+
+def refused_opening(name: str, line: bytes, answer: bytes) -> Case:
     """A configuration line that is refused, which ends the run."""
-    return name, ["run"], joined(line, HELLO), joined(answer), 1
+    return Case(name, ["run"], joined(line, HELLO), joined(answer), 1)
 
 
-def opening(name, line, *pairs):
-    """A configuration that is accepted, and further lines with their answers."""
-    answers = [answer for _, answer in pairs]
-    return name, ["run"], joined(line, *[row for row, _ in pairs]), joined(*answers), int(any(b'"error"' in answer for answer in answers))
-
-
-def refusals():
+def refusals() -> Cases:
     """Each fault of a line, and the order of the faults."""
     texts = {
         "cut": b'{"op":"look"',
@@ -129,12 +141,12 @@ def refusals():
         yield after_hello("unknown-op-" + name, (line, UNKNOWN_OP), (LOOK, SEEN))
     for op, names in REQUIRED.items():
         for name in names:
-            yield after_hello("missing-%s-of-%s" % (name, op), (line_of(op, but=[name]), MISSING), (LOOK, SEEN))
+            yield after_hello(f"missing-{name}-of-{op}", (line_of(op, but=[name]), MISSING), (LOOK, SEEN))
         for name in names + ["seat"]:
             for value in BAD_VALUES[name] + (NO_NAMES if (op, name) == ("enrol", "name") else []):
                 line = line_of(op, but=[name], extra=[(name, value)])
                 shown = value if len(value) < 30 else "long"
-                yield after_hello("bad-%s-of-%s-%s" % (name, op, shown), (line, BAD), (LOOK, SEEN))
+                yield after_hello(f"bad-{name}-of-{op}-{shown}", (line, BAD), (LOOK, SEEN))
         yield after_hello("unknown-field-of-" + op, (line_of(op, extra=[("x", "1")]), UNKNOWN_FIELD), (LOOK, SEEN))
         yield after_hello("actor-in-" + op, (line_of(op, extra=[("actor", "1")]), UNKNOWN_FIELD), (LOOK, SEEN))
     yield after_hello("missing-before-bad-and-unknown", (b'{"op":"take","over":-1,"rights":"rr","x":1}', MISSING))
@@ -143,14 +155,15 @@ def refusals():
     yield after_hello("bad-name-before-unknown", (b'{"name":"","op":"enrol","rights":"","x":1}', BAD))
     yield after_hello("missing-before-a-bad-name", (b'{"name":"","op":"enrol"}', MISSING))
     yield after_hello("bad-seat-before-unknown", (b'{"op":"bye","seat":-1,"x":1}', BAD))
-    # A field that the op does not have is unknown, whatever its value; only the op's own fields have their values checked.
+    # A field that the op does not have is unknown, whatever its value; only the op's own fields
+    # have their values checked.
     yield after_hello("bad-value-of-another-ops-field", (b'{"op":"read","over":3,"rights":"rr"}', UNKNOWN_FIELD))
     yield after_hello("null-in-another-ops-field", (b'{"op":"read","over":3,"text":null}', UNKNOWN_FIELD))
     yield after_hello("good-field-of-another-op", (b'{"op":"look","at":1,"over":3}', UNKNOWN_FIELD))
     yield after_hello("field-in-another-case", (b'{"op":"look","at":1,"Seat":0}', UNKNOWN_FIELD))
 
 
-def readings():
+def readings() -> Cases:
     """What is read although it looks odd."""
     yield after_hello("of-equal-keys-the-last-wins", (b'{"op":"look","at":-1,"at":1}', SEEN), (b'{"op":"look","at":1,"at":-1}', BAD), (b'{"op":"steal","op":"look","at":1}', SEEN))
     yield after_hello("white-space-round-the-object", (b" \t" + LOOK + b" \r", SEEN), (b'{ "op" : "look" , "at" : 1 }', SEEN))
@@ -181,13 +194,14 @@ def readings():
     yield after_hello("line-of-16384-bytes", (LOOK + b" " * (16384 - len(LOOK)), SEEN), (LOOK, SEEN))
 
 
-def texts():
+def texts() -> Cases:
     """Texts that are written and read back."""
     made = [(b'{"kind":"document","op":"create","rights":"rw"}', b'{"ok":"created","vertex":3}'), (b'{"op":"shade"}', b'{"shaded":3}')]
     read = b'{"op":"read","over":3}'
 
-    def kept(name, given, answered):
-        return after_hello(name, *made, (b'{"op":"write","over":3,"text":"' + given + b'"}', DONE), (read, b'{"ok":"text","text":"' + answered + b'"}'))
+    def kept(name: str, given: bytes, answered: bytes) -> Case:
+        written = (b'{"op":"write","over":3,"text":"%s"}' % given, DONE)
+        return after_hello(name, *made, written, (read, b'{"ok":"text","text":"%s"}' % answered))
 
     yield kept("text-of-4096-letters", b"a" * 4096, b"a" * 4096)
     yield kept("text-of-4096-bytes-in-2048-letters", "é".encode() * 2048, "é".encode() * 2048)
@@ -196,34 +210,47 @@ def texts():
     yield kept("empty-text", b"", b"")
     long = b'{"op":"write","over":3,"text":"' + b"\\u00e9" * 2049 + b'"}'
     yield after_hello("text-of-4098-bytes-by-escapes", *made, (long, BAD), (read, b'{"ok":"text","text":""}'))
-    # A text of 4,096 bytes whose escapes make the line longer than 16,384 bytes is too long a line, which ends the run.
+    # A text of 4,096 bytes whose escapes make the line longer than 16,384 bytes is too long a line,
+    # which ends the run.
     escaped = b'{"op":"write","over":3,"text":"' + b"\\u0061" * 4096 + b'"}'
-    given = joined(CONFIG, HELLO, escaped, LOOK)
-    yield "text-of-4096-bytes-on-too-long-a-line", ["run"], given, joined(WELCOME, TOO_LONG), 1
+    yield ended("text-of-4096-bytes-on-too-long-a-line", joined(escaped, LOOK), TOO_LONG)
 
 
-def ends():
+def ended(name: str, given: bytes, answer: bytes, begin: bytes = joined(CONFIG, HELLO)) -> Case:
+    """A run that ends with one answer, behind the one to alice's hello if that is how it begins."""
+    answers = [answer] if answer else []
+    welcome = [WELCOME] if HELLO in begin else []
+    status = int(b'"error"' in answer)
+    return Case(name, ["run"], begin + given, joined(*welcome, *answers), status)
+
+
+def ends() -> Cases:
     """Where the lines end, and how many they are."""
-    yield "no-line-at-all", ["run"], b"", joined(NOT_JSON), 1
-    yield "an-empty-line-alone", ["run"], b"\n", joined(NOT_JSON), 1
+    yield ended("no-line-at-all", b"", NOT_JSON, b"")
+    yield ended("an-empty-line-alone", b"\n", NOT_JSON, b"")
     yield after_hello("error-after-many-lines", *[(LOOK, SEEN)] * 1_001, (b"", NOT_JSON))
-    yield "last-line-without-a-line-feed", ["run"], joined(CONFIG, HELLO) + LOOK, joined(WELCOME, SEEN), 0
-    yield "configuration-without-a-line-feed", ["run"], CONFIG, b"", 0
-    yield "line-feed-at-the-end-begins-no-line", ["run"], joined(CONFIG, HELLO), joined(WELCOME), 0
-    yield "two-line-feeds-at-the-end-are-an-empty-line", ["run"], joined(CONFIG, HELLO, b""), joined(WELCOME, NOT_JSON), 1
-    yield "line-of-16385-bytes-ends-the-run", ["run"], joined(CONFIG, HELLO, b"x" * 16385, LOOK), joined(WELCOME, TOO_LONG), 1
-    yield "16385-bytes-of-white-space-and-an-object", ["run"], joined(CONFIG, HELLO, LOOK + b" " * (16385 - len(LOOK)), LOOK), joined(WELCOME, TOO_LONG), 1
-    yield "last-line-too-long-without-a-line-feed", ["run"], joined(CONFIG, HELLO) + b"x" * 100000, joined(WELCOME, TOO_LONG), 1
-    yield "configuration-of-16385-bytes", ["run"], joined(CONFIG + b" " * (16385 - len(CONFIG)), HELLO), joined(TOO_LONG), 1
-    yield "configuration-of-16384-bytes", ["run"], joined(CONFIG + b" " * (16384 - len(CONFIG)), HELLO), joined(WELCOME), 0
+    yield ended("last-line-without-a-line-feed", LOOK, SEEN)
+    yield ended("configuration-without-a-line-feed", CONFIG, b"", b"")
+    yield ended("line-feed-at-the-end-begins-no-line", b"", b"")
+    yield ended("two-line-feeds-at-the-end-are-an-empty-line", b"\n", NOT_JSON)
+    yield ended("line-of-16385-bytes-ends-the-run", joined(b"x" * 16385, LOOK), TOO_LONG)
+    white = joined(LOOK.ljust(16385), LOOK)
+    yield ended("16385-bytes-of-white-space-and-an-object", white, TOO_LONG)
+    yield ended("last-line-too-long-without-a-line-feed", b"x" * 100000, TOO_LONG)
+    yield refused_opening("configuration-of-16385-bytes", CONFIG.ljust(16385), TOO_LONG)
+    yield opening("configuration-of-16384-bytes", CONFIG.ljust(16384), (HELLO, WELCOME))
     # The configuration line counts, so that the line after the millionth is the millionth after it.
-    yield "a-million-lines", ["run"], joined(CONFIG) + b"\n" * 999999, (NOT_JSON + b"\n") * 999999, 1
-    yield "the-line-after-the-millionth", ["run"], joined(CONFIG) + b"\n" * 1000000, (NOT_JSON + b"\n") * 999999 + joined(TOO_MANY), 1
-    yield "a-long-line-after-the-millionth", ["run"], joined(CONFIG) + b"\n" * 999999 + b"x" * 20000, (NOT_JSON + b"\n") * 999999 + joined(TOO_MANY), 1
-    yield "more-lines-after-the-millionth", ["run"], joined(CONFIG) + b"\n" * 1000005, (NOT_JSON + b"\n") * 999999 + joined(TOO_MANY), 1
+    most, last = joined(NOT_JSON) * 999999, joined(NOT_JSON) * 999999 + joined(TOO_MANY)
+    for name, given, wanted in [
+        ("a-million-lines", b"\n" * 999999, most),
+        ("the-line-after-the-millionth", b"\n" * 1000000, last),
+        ("a-long-line-after-the-millionth", b"\n" * 999999 + b"x" * 20000, last),
+        ("more-lines-after-the-millionth", b"\n" * 1000005, last),
+    ]:
+        yield Case(name, ["run"], joined(CONFIG) + given, wanted, 1)
 
 
-def configurations():
+def configurations() -> Cases:
     """Configuration lines."""
     for name, line, answer in [
         ("not-json", b"{", NOT_JSON),
@@ -258,14 +285,14 @@ def configurations():
         yield refused_opening("configuration-edges-" + name, object_of([("principals", '["alice","bob"]'), ("edges", value)]), BAD)
     for field in ["next", "slots", "cells"]:
         for value in BAD_NUMBERS:
-            yield refused_opening("configuration-%s-%s" % (field, value), object_of([("principals", '["alice"]'), (field, value)]), BAD)
+            yield refused_opening(f"configuration-{field}-{value}", object_of([("principals", '["alice"]'), (field, value)]), BAD)
     two = ("principals", '["alice","bob"]')
     sixty_five = json.dumps(["a" * (n % 26 + 1) + "b" * (n // 26) for n in range(65)])
     # The first fault of a configuration by its number, over the whole of it.
     for name, fields, fault in [
         ("65-principals", [("principals", sixty_five)], 1),
         ("no-principals-before-the-others", [("principals", "[]"), ("edges", '[[1,"",1]]'), ("next", "0"), ("slots", "0")], 1),
-        ("name-of-33-letters", [("principals", '["%s"]' % ("a" * 33))], 2),
+        ("name-of-33-letters", [("principals", f'["{"a" * 33}"]')], 2),
         ("name-in-capitals", [("principals", '["Alice"]')], 2),
         ("name-of-no-letters", [("principals", '[""]')], 2),
         ("name-with-a-digit", [("principals", '["a1"]')], 2),
@@ -288,13 +315,13 @@ def configurations():
     yield opening("configuration-no-serial-left", object_of([two, ("next", "18446744073709551615")]), (HELLO, WELCOME), (create, b'{"full":"serials"}'))
     yield opening("configuration-greatest-limits", object_of([two, ("slots", "65536"), ("cells", "1048576")]), (HELLO, WELCOME))
     yield opening("configuration-of-equal-keys-the-last-wins", b'{"principals":1,"principals":["alice"]}', (HELLO, WELCOME))
-    yield opening("configuration-name-of-32-letters", object_of([("principals", '["%s"]' % ("z" * 32))]))
+    yield opening("configuration-name-of-32-letters", object_of([("principals", f'["{"z" * 32}"]')]))
     names = ["a" * (n % 26 + 1) + "b" * (n // 26) for n in range(64)]
     last = b'{"name":"%s","op":"hello"}' % names[63].encode()
     yield opening("configuration-of-64-principals", object_of([("principals", json.dumps(names))]), (last, b'{"ok":"hello","vertex":64}'))
 
 
-def answers():
+def answers() -> Cases:
     """Answers of each kind, and the seat's faults in their order."""
     bob = (b'{"name":"bob","op":"hello","seat":1}', b'{"ok":"hello","vertex":2}')
     create = (b'{"kind":"document","op":"create","rights":"rwg"}', b'{"ok":"created","vertex":3}')
@@ -349,12 +376,12 @@ LEAVE = b'{"op":"leave"}'
 BUSY = b'{"error":"busy"}'
 
 
-def of_enrol(cause):
+def of_enrol(cause: bytes) -> bytes:
     """The denial of an enrol."""
     return b'{"cause":"%s","denied":"enrol"}' % cause
 
 
-def enrolments():
+def enrolments() -> Cases:
     """Principals that join, and why they may not, in the order of the causes."""
     none, own = b'{"name":"bob","op":"enrol","rights":""}', line_of("enrol")
     shade = (b'{"op":"shade"}', b'{"shaded":3}')
@@ -379,7 +406,7 @@ def enrolments():
         yield opening("enrol-full-of-" + which, config, (HELLO, WELCOME), *full, unknown)
 
 
-def retirements():
+def retirements() -> Cases:
     """Principals that retire, and what their seats are answered then."""
     commands = [*COMMANDS, "enrol", "retire", "assume"]
     denied = [(line_of(op), b'{"cause":"retired","denied":"%s"}' % op.encode()) for op in commands]
@@ -388,7 +415,8 @@ def retirements():
     yield after_hello("retired-of-each-rule-but-leave", (RETIRE, DONE), *denied, (LEAVE, DONE))
     idle = (b'{"op":"shade"}', b'{"shaded":null}')
     yield after_hello("retired-sits-on", (RETIRE, DONE), (HELLO, b'{"error":"bound"}'), idle, left, gone)
-    # All seats of the one who retires are answered so; a target that is pending at another one stays.
+    # All seats of the one who retires are answered so; a target that is pending at another one
+    # stays.
     again = (b'{"name":"alice","op":"hello","seat":1}', WELCOME)
     other, shade = (b'{"op":"retire","seat":1}', DONE), (b'{"op":"shade"}', b'{"shaded":3}')
     late = [(LOOK, BUSY), (LEAVE, BUSY), shade, denied[-1], left, gone]
@@ -401,7 +429,7 @@ def retirements():
     yield after_hello("name-is-free-again-and-serial-is-not", BOB, other, another, anew)
 
 
-def acting():
+def acting() -> Cases:
     """Seats that act for a subject, and why they may not, in the order of the causes."""
     assume, shades = b'{"agent":%d,"op":"assume"}', b'{"op":"shade"}'
     for_bob = [(assume % 2, DONE), (shades, b'{"shaded":2}')]
@@ -441,9 +469,10 @@ def acting():
     yield opening("assume-and-leave-are-never-full", none, (HELLO, WELCOME), *for_bob, (LEAVE, DONE))
 
 
-def collector():
-    """Collector steps and cycles. Over only one principal a cycle has six steps: it shades her, takes her slot under
-    scan, makes it black, goes to the sweep, makes the slot white, and goes back to idle."""
+def collector() -> Cases:
+    """Collector steps and cycles. Over only one principal a cycle has six steps: it shades her,
+    takes her slot under scan, makes it black, goes to the sweep, makes the slot white, and goes
+    back to idle."""
     one = b'{"cells":1,"principals":["alice"],"slots":1}'
     collect = b'{"op":"collect"}'
     cycle = b'{"op":"cycle"}'
@@ -453,8 +482,8 @@ def collector():
     yield opening("cycle-ends-the-one-begun", one, (collect, steps[0]), (collect, steps[1]), (cycle, b'{"freed":0,"steps":4}'), (collect, steps[0]))
     yield opening("seat-of-a-collector-line-is-not-used", one, (object_of([("op", '"collect"'), ("seat", "64")]), steps[0]), (object_of([("op", '"cycle"'), ("seat", "18446744073709551615")]), b'{"freed":0,"steps":5}'))
     for op in ["collect", "cycle"]:
-        line = object_of([("op", '"%s"' % op), ("seat", "null"), ("x", "1")])
-        yield opening("a-refused-%s-makes-no-step" % op, one, (line, BAD), (object_of([("op", '"%s"' % op), ("at", "1")]), UNKNOWN_FIELD), (cycle, b'{"freed":0,"steps":6}'))
+        line = object_of([("op", f'"{op}"'), ("seat", "null"), ("x", "1")])
+        yield opening(f"a-refused-{op}-makes-no-step", one, (line, BAD), (object_of([("op", f'"{op}"'), ("at", "1")]), UNKNOWN_FIELD), (cycle, b'{"freed":0,"steps":6}'))
     create = b'{"kind":"document","op":"create","rights":"r"}'
     yield opening("full-of-slots", one.replace(b'"slots":1', b'"slots":1,"next":9'), (HELLO, WELCOME), (create, b'{"full":"slots"}'), (b'{"op":"shade"}', b'{"shaded":null}'))
     yield opening(
@@ -475,32 +504,34 @@ SHARED = b'{"verdict":"shared"}'
 COMMANDS = ["take", "grant", "create", "remove", "read", "write", "look"]
 
 
-def audited(name, answer, *rows):
-    """An audit of these lines and its answer. The status is 0 only for the verdict `shared`."""
-    return "audit-" + name, ["audit"], joined(*rows), joined(answer), int(answer != SHARED)
+def audited(name: str, answer: bytes, *rows: bytes, end: bytes = b"") -> Case:
+    """An audit of these lines, and perhaps of a last one without its line feed, and its answer. The
+    status is 0 only for the verdict `shared`."""
+    given, status = joined(*rows) + end, int(answer != SHARED)
+    return Case(f"audit-{name}", ["audit"], given, joined(answer), status)
 
 
-def stopped(index, verdict):
+def stopped(index: int, verdict: bytes) -> bytes:
     """The verdict that this step cannot be carried out."""
     return b'{"step":%d,"verdict":"%s"}' % (index, verdict)
 
 
-def step_of(op, actor="1", **fields):
+def step_of(op: str, actor: str = "1", **fields: str) -> bytes:
     """The line of a step."""
-    return object_of([("actor", actor), ("op", '"%s"' % op), *fields.items()])
+    return object_of([("actor", actor), ("op", f'"{op}"'), *fields.items()])
 
 
-def step_line(op, but=(), extra=()):
+def step_line(op: str, but: Iterable[str] = (), extra: Iterable[Field] = ()) -> bytes:
     """The line of a step with good fields, without some and with others."""
-    fields = [("actor", "1"), ("op", '"%s"' % op)] + [(name, GOOD[name]) for name in REQUIRED[op]]
-    return object_of([field for field in fields if field[0] not in but] + list(extra))
+    fields = [("actor", "1"), ("op", f'"{op}"')] + [(name, GOOD[name]) for name in REQUIRED[op]]
+    return object_of([*(field for field in fields if field[0] not in but), *extra])
 
 
-def audit_refusals():
+def audit_refusals() -> Cases:
     """Each line of an audit that is refused ends it with an error and no verdict."""
     denied = step_of("read", over="9")
     refused = [("not-json", b"{", NOT_JSON), ("empty", b"", NOT_JSON), ("list", b"[]", NOT_OBJECT)]
-    yield "audit-without-lines", ["audit"], b"", joined(NOT_JSON), 1
+    yield audited("without-lines", NOT_JSON)
     yield audited("without-a-goal", NOT_JSON, THREE)
     yield audited("configuration-refused-before-the-goal", b'{"error":"config","fault":2}', b'{"principals":["alice","alice"]}', b"[]")
     yield audited("configuration-alone-refused", b'{"error":"config","fault":1}', b'{"principals":[]}')
@@ -517,35 +548,36 @@ def audit_refusals():
         others = [pair for pair in good if pair[0] != field]
         yield audited("goal-missing-" + field, MISSING, THREE, object_of(others), STEP)
         for value in BAD_VALUES[field]:
-            yield audited("goal-bad-%s-%s" % (field, value), BAD, THREE, object_of(others + [(field, value)]), STEP)
+            yield audited(f"goal-bad-{field}-{value}", BAD, THREE, object_of(others + [(field, value)]), STEP)
     for field in ["op", "seat", "actor", "over"]:
         line = object_of([("from", "1"), ("rights", '"r"'), ("to", "3"), (field, "1")])
         yield audited("goal-with-" + field, UNKNOWN_FIELD, THREE, line, STEP)
     for op in ["hello", "bye", "shade", "collect", "cycle", "enrol", "retire", "assume", "leave"]:
-        yield audited("%s-is-no-step" % op, UNKNOWN_OP, THREE, GOAL, line_of(op), STEP)
+        yield audited(f"{op}-is-no-step", UNKNOWN_OP, THREE, GOAL, line_of(op), STEP)
     yield audited("unknown-op-before-a-missing-actor", UNKNOWN_OP, THREE, GOAL, b'{"op":"steal","seat":1}')
     for op in COMMANDS:
         for field in ["actor", *REQUIRED[op]]:
-            yield audited("missing-%s-of-%s" % (field, op), MISSING, THREE, GOAL, step_line(op, but=[field]))
+            yield audited(f"missing-{field}-of-{op}", MISSING, THREE, GOAL, step_line(op, but=[field]))
             bad = step_line(op, but=[field], extra=[(field, "null")])
-            yield audited("bad-%s-of-%s" % (field, op), BAD, THREE, GOAL, bad)
+            yield audited(f"bad-{field}-of-{op}", BAD, THREE, GOAL, bad)
         for field in ["seat", "x"]:
-            yield audited("%s-in-%s" % (field, op), UNKNOWN_FIELD, THREE, GOAL, step_line(op, extra=[(field, "0")]))
+            yield audited(f"{field}-in-{op}", UNKNOWN_FIELD, THREE, GOAL, step_line(op, extra=[(field, "0")]))
     for value in BAD_NUMBERS:
         yield audited("bad-actor-" + value, BAD, THREE, GOAL, step_line("look", but=["actor"], extra=[("actor", value)]))
     yield audited("missing-before-bad-and-unknown", MISSING, THREE, GOAL, b'{"actor":-1,"op":"read","seat":0}')
     yield audited("bad-before-unknown", BAD, THREE, GOAL, b'{"actor":-1,"op":"read","over":3,"seat":0}')
     for name, rows in [("configuration", []), ("goal", [THREE]), ("step", [THREE, GOAL, STEP, denied])]:
-        yield audited("%s-of-16385-bytes" % name, TOO_LONG, *rows, b" " * 16385, STEP)
+        yield audited(f"{name}-of-16385-bytes", TOO_LONG, *rows, b" " * 16385, STEP)
     yield audited("step-of-16384-bytes", SHARED, THREE, GOAL, STEP + b" " * (16384 - len(STEP)))
-    yield "audit-last-line-without-a-line-feed", ["audit"], joined(THREE, GOAL) + STEP, joined(SHARED), 0
-    yield "audit-cut-in-a-step", ["audit"], joined(THREE, GOAL, STEP) + STEP[:20], joined(NOT_JSON), 1
-    # The configuration and the goal count, so that the line after the millionth is the 999,999th after them.
-    most = joined(THREE, GOAL) + joined(b'{"actor":1,"at":1,"op":"look"}') * 999998
-    yield "audit-of-a-line-after-the-millionth", ["audit"], most + joined(STEP), joined(TOO_MANY), 1
+    yield audited("last-line-without-a-line-feed", SHARED, THREE, GOAL, end=STEP)
+    yield audited("cut-in-a-step", NOT_JSON, THREE, GOAL, STEP, end=STEP[:20])
+    # The configuration and the goal count, so that the line after the millionth is the 999,999th
+    # after them.
+    looks = [b'{"actor":1,"at":1,"op":"look"}'] * 999998
+    yield audited("of-a-line-after-the-millionth", TOO_MANY, THREE, GOAL, *looks, STEP)
 
 
-def verdicts():
+def verdicts() -> Cases:
     """Each verdict, the steps counted from 0."""
     two = b'{"edges":[[1,"tg",2]],"principals":["alice","bob"]}'
     alone = b'{"principals":["alice"]}'
@@ -601,8 +633,8 @@ def verdicts():
     yield audited("step-not-document", b'{"cause":"not document","denied":"read","step":1,"verdict":"step denied","vertex":2}', person, GOAL, create, read)
 
 
-def tests():
-    """All runs, each as a name, words, input, output and status."""
-    groups = [refusals, readings, texts, ends, configurations, answers, enrolments, retirements, acting, collector]
-    for group in [*groups, audit_refusals, verdicts]:
-        yield from group()
+def tests() -> Cases:
+    """All runs."""
+    yield from itertools.chain(refusals(), readings(), texts(), ends(), configurations(), answers())
+    yield from itertools.chain(enrolments(), retirements(), acting(), collector())
+    yield from itertools.chain(audit_refusals(), verdicts())

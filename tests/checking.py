@@ -1,0 +1,47 @@
+"""How a test fails: it raises, with what it found and what it wanted.
+
+A test is a function of the program's path. It passes if it returns nothing (or True), and fails if
+it raises (or returns False).
+"""
+
+import itertools
+from collections import Counter
+from collections.abc import Callable, Iterator
+from pathlib import Path
+
+Test = Callable[[Path], bool | None]
+Tests = Iterator[tuple[str, Test]]
+
+# How much of a value is shown.
+MOST_SHOWN = 2_000
+
+
+def shown(value: object) -> str:
+    """A value for a reader, a long one cut in the middle."""
+    text, half = repr(value), MOST_SHOWN // 2
+    more = len(text) - MOST_SHOWN
+    return text if more <= 0 else f"{text[:half]} ({more} more) {text[-half:]}"
+
+
+def same(found: object, wanted: object, what: str = "") -> None:
+    """Raises unless this was found; if both are bytes, with the first line that differs."""
+    if found == wanted:
+        return
+    if isinstance(found, bytes) and isinstance(wanted, bytes):
+        pairs = itertools.zip_longest(found.splitlines(True), wanted.splitlines(True))
+        lines = ((number, pair) for number, pair in enumerate(pairs, 1) if pair[0] != pair[1])
+        number, (found, wanted) = next(lines)
+        what = f"{what}, line {number}" if what else f"line {number}"
+    begin = f"{what}: " if what else ""
+    raise AssertionError(f"{begin}wanted\n    {shown(wanted)}\n  found\n    {shown(found)}")
+
+
+def tell_counts(what: str, counts: Counter) -> None:
+    """Prints how often each kind was seen."""
+    kinds = ", ".join(f"{number} {kind}" for kind, number in sorted(counts.items())) or "none"
+    print(f"  {what}: {counts.total()} ({kinds})")
+
+
+def skipped(what: str) -> None:
+    """A test that cannot be made here passes, and says so."""
+    print(f"  skipped: there is no {what}")
