@@ -231,8 +231,7 @@ def said(line: str) -> tuple[str, str]:
 
 
 def edits_of_a_crate_are_told_apart(program: Path) -> None:
-    """Six bugs are refused; harmless edits, an absent text and an edit that only a proof's names
-    refuse count as failed."""
+    """Six bugs are refused; harmless edits, an absent text and a lost name count as failed."""
     with tempfile.TemporaryDirectory() as folder:
         edits = {f"crates/tiny/planted/{edit.name}.edit": edit.text for edit in EDITS}
         for path, text in (FILES | edits).items():

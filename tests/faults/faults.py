@@ -1,5 +1,4 @@
-"""Faults from outside: faults.c is built and loaded before a program, and some of its calls go
-wrong."""
+"""Faults from outside: faults.c is loaded before a program, and some of its calls go wrong."""
 
 import contextlib
 import functools
@@ -79,8 +78,7 @@ def library() -> Path:
 
 @contextlib.contextmanager
 def at_fault(fault: Fault) -> Iterator[tuple[dict[str, str], IO[bytes]]]:
-    """The environment in which this goes wrong for a program, and the file in which each call that
-    did is recorded."""
+    """The environment in which this goes wrong, and the file that has a byte for each such call."""
     with tempfile.TemporaryFile() as told:
         numbers = {"FIRST": fault.first, "LAST": fault.last, "MOVES": fault.moves}
         numbers |= {"MOST": fault.most, "TOLD": told.fileno()}
@@ -134,8 +132,7 @@ def memory_refused(
     kind_of: Callable[[Ran], str | None],
     to_the_end: bool = False,
 ) -> Counter[str]:
-    """How many runs ended in which way, as each allocation fails in turn. A run of no kind is not
-    allowed."""
+    """The ends of runs, as each allocation fails in turn. A run of no kind is not allowed."""
     counts: Counter[str] = Counter()
     for number, found in each(attempt, Fault("memory"), to_the_end):
         kind = kind_of(found)

@@ -47,8 +47,7 @@ def counted(program: Path, name: str) -> Counter[str]:
 
 
 def growth_refused(name: str) -> Test:
-    """Whichever allocation of the test fails, the call leaves what it should, and one of them is
-    its own."""
+    """Whichever allocation fails, the call leaves what it should; one of them is its own."""
 
     def test(program: Path) -> None:
         assert counted(program, name)[AGAIN] > 0, "no allocation of the call itself"

@@ -134,8 +134,7 @@ def value(source: Random) -> str:
 
 
 def rewritten(source: Random, word: str) -> str:
-    """The text of a key or a value, some of its letters as escapes; nothing else is changed by
-    that."""
+    """The text of a key or value, some of its letters as escapes, which means the same."""
 
     def escaped(letter: str) -> str:
         code = f"{ord(letter):04x}"

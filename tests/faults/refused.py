@@ -106,8 +106,7 @@ def memory_refused(script: Script, to_the_end: bool = False) -> Test:
 
 
 def memory_of_one_answer_refused(word: str, cases: list[Audit]) -> Test:
-    """Each allocation of runs that have one answer fails: the answer is this, or `out of
-    memory`."""
+    """Each allocation of runs with one answer fails: it is this, or `out of memory`."""
 
     def test(program: Path) -> None:
         refused = 0
@@ -124,8 +123,7 @@ def memory_of_one_answer_refused(word: str, cases: list[Audit]) -> Test:
 
 
 def answers_to(script: Script, given: bytes) -> list[bytes]:
-    """The answers to a script that is cut after these bytes; whatever ends within a line is not
-    JSON."""
+    """The answers to a script that is cut after these bytes; a cut line is not JSON."""
     rows = given.splitlines()
     known = [(script.opening, None), *script.pairs]
     answers = [answer if row == line else NOT_JSON for row, (line, answer) in zip(rows, known)]
@@ -247,8 +245,7 @@ def answers_in_one_write(word: str, given: bytes, answers: list[bytes]) -> Test:
 
 
 def cut_inputs(word: str, given: bytes, wanted: Callable[[bytes], End]) -> Test:
-    """An input that ends after each of its bytes is answered line by line, and a cut line is not
-    JSON."""
+    """An input that ends after each of its bytes is answered line by line."""
 
     def test(program: Path) -> None:
         for count in range(len(given) + 1):

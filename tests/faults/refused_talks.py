@@ -47,8 +47,7 @@ Answers = list[bytes | None]
 
 
 class Served(NamedTuple):
-    """The answers to all lines in order; what the server wrote, its status, and how many calls went
-    wrong."""
+    """All answers in order; what the server wrote, its status, and how many calls went wrong."""
 
     answers: Answers
     output: bytes
@@ -77,8 +76,7 @@ def connected(process: Process, port: int) -> socket.socket | None:
 
 
 def talk(connection: socket.socket, lines: list[bytes]) -> Answers:
-    """The answers to lines, each sent after the answer to the one before; None from the line on at
-    which the talk ends."""
+    """The answers to lines, each sent after the one before is answered; None behind the end."""
     answers: Answers = []
     try:
         with connection, connection.makefile("rb") as source:
@@ -191,8 +189,7 @@ def end_under(options: Options) -> Callable[[Served], str | None]:
 
 
 class Tried(NamedTuple):
-    """A server at fault: its end, the result that its clients' answers show, and all that was
-    seen."""
+    """A server at fault: its end, what its clients' answers show, and all that was seen."""
 
     end: str | None
     told: str | None
@@ -350,8 +347,7 @@ def memory_refused_from_then_on(program: Path, tried: Servers) -> None:
 
 
 def check_cut_off(what: str, tried: Servers) -> None:
-    """The first client of each of these servers of two rounds has all its answers, and the second
-    none."""
+    """Each first client of these servers of two rounds has all answers, and the second none."""
     same([one.told for one in tried if not is_cut_off(one)], [], what)
 
 
@@ -388,8 +384,7 @@ def workers_memory_refused_in_rounds(_: Path, tried: Servers) -> None:
 
 
 def memory_refused_from_then_on_in_rounds(_: Path, tried: Servers) -> None:
-    """An allocation and all after it fail; in some servers the rebase is the first to be
-    refused."""
+    """An allocation and all after it fail; in some servers those of the rebase come first."""
     server = stages(tried)[2]
     all_end("no server settles", server, NOT_SETTLED, NOT_REBASED, NOT_SETTLED_LATER)
     rebases = [one for one in server if one.end == NOT_REBASED]
@@ -473,8 +468,7 @@ def greeted(program: Path, fault: Fault, options: Options = ONE_ROUND) -> tuple[
 
 
 def memory_refused_late(program: Path) -> None:
-    """A server of 101 connections has no more memory once most were served: it takes no further
-    one, and does not settle."""
+    """A server of 101 connections lacks memory late: it takes no further one, nor settles."""
     fault = Fault("memory", LATE, WITHOUT_END, whose="others")
     count, end = greeted(program, fault, ("--workers", "1"))
     print(f"  {count} of 101 clients were greeted")

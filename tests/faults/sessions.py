@@ -14,8 +14,7 @@ NO_MEMORY = (b'{"error":"out of memory"}\n', 1)
 
 
 def allocations_refused(program: Path) -> None:
-    """Whichever allocation fails, the run ends by itself and reports it, and no logs differ; one
-    run has no room to close."""
+    """Whichever allocation fails, the run ends by itself and says so, and no logs differ."""
     words = ["--sessions", "1", "--commands", "10", "--no-collector"]
     attempt = faults.runs(program, words, b"")
     same(attempt(Fault())[:2], AGREED, "with memory")
@@ -26,8 +25,7 @@ def allocations_refused(program: Path) -> None:
 
 
 def threads_refused(program: Path) -> None:
-    """Whichever thread cannot be started, of three sessions' and the collector's, the run ends by
-    itself and reports it."""
+    """Whichever thread of four cannot be started, the run ends by itself and says so."""
     attempt = faults.runs(program, ["--sessions", "3", "--commands", "10"], b"")
     same([run[:2] for _, run in faults.each(attempt, Fault("thread"))], [SHORT] * 4)
 

@@ -164,8 +164,7 @@ def openings(code: str, start: int, at: int) -> Iterator[int]:
 
 
 def called(text: str) -> str | None:
-    """The path of the one call, or of the value, that a text is, which calls before it may lend;
-    None for any other text."""
+    """The path of the one call or value that a text is; None for any other text."""
     flat = re.sub(r"\s*\n\s*", "", text.strip())
     path = flat[: next(openings(flat, 0, len(flat) - 1), 0)] if flat.endswith(")") else flat
     return path if re.fullmatch(r"(?:[\w.:]|\(\))+", path) else None
@@ -254,8 +253,7 @@ def sources(crates: Path) -> Iterator[tuple[str, str]]:
 
 
 def every_want_is_handed_on(crates: Path) -> None:
-    """Each place hands on a refusal and is listed, each one that is listed is there, and the flag
-    is named where it was."""
+    """Each place hands on a refusal and is listed, and each one that is listed is there."""
     texts = dict(sources(crates))
     found = Counter(place for file, text in texts.items() for place in places_in(file, text))
     print(f"  {found.total()} places")
@@ -380,8 +378,7 @@ HEAD = "use std::alloc::{AllocError, Global};\n\nfn work(alloc: Global) -> Optio
 
 
 def looks_can_fail(_: Path) -> None:
-    """The results for bodies of a line: those that hand a refusal on, those that make a want up,
-    and those that make none."""
+    """What is seen in bodies of a line, which hand a refusal on, make a want up, or neither."""
 
     def seen(body: str) -> list[tuple[str | None, str]]:
         return [place[2:] for place in places_in("x.rt", f"{HEAD}\n{body}\n}}\n")]

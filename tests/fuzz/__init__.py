@@ -1,2 +1,1 @@
-"""Runs whose lines are drawn at random; the models, or what the runs answered, say what is
-right."""
+"""Random runs; the models, or what the runs answered, say what is right."""

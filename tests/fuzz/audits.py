@@ -132,8 +132,7 @@ def actors_of(rows: list[Event], answers: list[Answer]) -> Iterator[int | None]:
 
 
 def steps_of(program: Path, config: Event, rows: list[Event]) -> list[Step]:
-    """Each command of a run as a step. In the end everybody acts for nobody, and looks at what they
-    have."""
+    """Each command of a run as a step. In the end everybody looks at what they have themselves."""
     found, _ = answered(program, "run", [config, *rows])
     hellos = [(row, it) for row, it in zip(rows, found) if it.get("ok") == "hello"]
     seated = {row["seat"]: it["vertex"] for row, it in hellos}

@@ -70,8 +70,8 @@ def edges_among(source: Random, count: int) -> list[list[object]]:
 
 
 def opening(source: Random) -> Event:
-    """A configuration of one to four principals, now and then of a crowd; few slots, few cells, and
-    some with few serials."""
+    """A configuration of one to four principals or a crowd; few slots and cells, and few
+    serials."""
     few = source.randint(1, 4)
     count = source.randint(MOST_PRINCIPALS - 1, MOST_PRINCIPALS) if source.random() < 0.08 else few
     pairs = edges_among(source, few)
@@ -187,8 +187,7 @@ def filled(source: Random, graph: Graph) -> Iterator[Event]:
 
 
 def plan(source: Random, run: Run | Course) -> Iterator[Event]:
-    """The lines of a run, each chosen when it is asked for. In the end everybody looks at what they
-    have."""
+    """The lines of a run, each chosen once it is asked for. In the end everybody looks around."""
     graph = run.graph
     for seat, name in enumerate(list(graph.names)[: len(NAMES)]):
         yield {"op": "hello", "name": name, "seat": seat}
@@ -293,8 +292,7 @@ def derivation(source: Random) -> list[Event]:
 
 
 def derivations(count: int) -> Test:
-    """This many random derivations, half of them of each seed, each with the verdict of the graph
-    that is never collected."""
+    """This many random derivations, each with the verdict of the graph that is never collected."""
 
     def test(program: Path) -> None:
         seen: Counter[str] = Counter()

@@ -78,8 +78,7 @@ class Store:
         return False, 0
 
     def start(self, graph: Graph) -> None:
-        """The agents are shaded from the greatest seat to the least, then the principals from the
-        last to the first."""
+        """Shades the agents from the greatest seat on, then the principals from the last on."""
         agents = [agent for _, agent in sorted(graph.agents.items(), reverse=True)]
         for serial in [*agents, *sorted(graph.names.values(), reverse=True)]:
             self.shade(serial)
@@ -121,8 +120,7 @@ class Store:
 
 
 class Course:
-    """A run so far, whose every answer is known. `problem` takes each event in turn with the line
-    that answered it."""
+    """A run so far: `problem` takes each event in turn with the line that answered it."""
 
     def __init__(self, config: Config):
         self.graph, self.store = Graph(config), Store(config)

@@ -133,8 +133,7 @@ class Graph:
         return {"cause": cause, "denied": op} if cause else None
 
     def bar(self, actor: int, event: Event) -> str | None:
-        """Why a command may not enrol a principal, or its actor not retire; nothing if it may, or
-        asks for neither."""
+        """Why a command may not enrol a principal, or its actor not retire; nothing if it may."""
         op = event["op"]
         if op == "retire":
             return None if actor in self.names.values() else "not principal"
@@ -178,8 +177,7 @@ class Graph:
         return actor
 
     def carried_out(self, event: Event) -> Answer:
-        """The answer to an event that is neither refused nor denied, and the change that it
-        makes."""
+        """The answer to an event that is not refused or denied, and the change that it makes."""
         seat = event["seat"]
         if event["op"] == "hello":
             self.seats[seat] = self.names[event["name"]]

@@ -67,8 +67,7 @@ def rights_from(source: Random) -> str:
 
 
 def command(source: Random, owner: Owner) -> tuple[str, Arguments]:
-    """A random command; if much is held, all rights over a vertex are given up, or else it acts for
-    itself."""
+    """A random command; if much is held, one that gives all rights over a vertex up, or leaves."""
     held = owner.graph.edges(owner.actor)
     if len(owner.reached()) > MOST_HELD:
         if not held:

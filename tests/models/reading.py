@@ -77,8 +77,7 @@ def no_constant(_: str) -> None:
 
 
 def is_broken(value: object) -> bool:
-    """Whether a text has half a surrogate pair, which Python would read; the members of objects
-    were checked before."""
+    """Whether a text, or one in a list, has half a surrogate pair, which Python would read."""
     if isinstance(value, list):
         return any(map(is_broken, value))
     return isinstance(value, str) and bool(HALF_A_PAIR.search(value))

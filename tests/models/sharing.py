@@ -52,8 +52,7 @@ def goes_on(labels: Closure, actor: int, other: int) -> bool:
 
 
 def gains(edges: Edges, others: Edges, owner: int) -> bool:
-    """Whether a vertex gains rights that another one has, which it does then; nobody has any over
-    itself."""
+    """Whether a vertex gains rights that another has, over any but itself; it does so then."""
     more = False
     for end, label in list(others.items()):
         if end != owner and not label <= edges.get(end, set()):

@@ -99,8 +99,7 @@ SITS = b"seat 0: 1"
 
 
 def condemned() -> Tests:
-    """Two documents that wait to be swept; and once the first is freed, the other without its edge
-    to it."""
+    """Two documents that wait to be swept; then one is freed, with the other's edge to it."""
     label = said(COLLECT, SWEEP % 0) + state(b"sweep", 0, 6, SITS)
     arrows = ARROW % (3, 4, b"r") + ARROW % (4, 3, b"r")
     # five steps of the marking, the step into the sweep, and those that pass alice and bob
@@ -113,8 +112,7 @@ def condemned() -> Tests:
 
 
 def colours() -> Tests:
-    """Alice is black, bob is grey; the document that alice takes from him is white, and her seat's
-    target."""
+    """Alice is black, bob grey; the document that she takes from him is white, and her target."""
     lines = [
         b'{"cells":8,"edges":[[1,"tg",2]],"principals":["alice","bob"],"slots":3}',
         HELLO[:-1],
@@ -137,8 +135,7 @@ def colours() -> Tests:
 
 
 def seats() -> Tests:
-    """An agent that is its seat's target too, in one picture; and somebody who has retired, has no
-    slot, and sits."""
+    """An agent that is its seat's target too; and somebody retired, without a slot, who sits."""
     subject = b'{"op":"create","kind":"subject","rights":"tg"}'
     assume = b'{"op":"assume","agent":3}'
     label = said(assume, DONE) + state(b"idle", 1, 7, SITS)
@@ -171,8 +168,7 @@ def labels() -> Tests:
 
 
 def endings() -> Tests:
-    """Inputs that end otherwise than well, as a run has them; the last vault is drawn behind the
-    answer."""
+    """Inputs that end otherwise than well, as in a run; the last vault is drawn behind that."""
     bad, refused = b'{"principals":["Alice"]}\n', b'{"error":"config","fault":2}\n'
     for words in [(), ("--each",)]:
         kind = "each" if words else "last"
@@ -197,8 +193,7 @@ def endings() -> Tests:
 
 
 def expected(source: Random) -> tuple[Course, list[bytes], list[bytes], int]:
-    """The lines of a random run, the pictures that a model draws after each, and how many answers
-    are errors."""
+    """The lines of a random run, a model's picture after each, and how many answers are errors."""
     config = line_of(opening(source))
     course, rows, errors = Course(read_config(config)), [config], 0
     shots: list[bytes] = []
@@ -287,8 +282,7 @@ def instructions(program: Path, given: bytes, *words: str) -> int:
 
 
 def last_picture_is_cheap(program: Path) -> None:
-    """So many lines and a picture take at most 1.2 times the instructions that their answers
-    take."""
+    """A run and a picture take at most 1.2 times the instructions of the run's answers."""
     if not shutil.which("valgrind"):
         return skipped("Valgrind")
     given = CONFIG + HELLO + CREATE + SHADE + b'{"op":"remove","rights":"rw","over":2}\n'
@@ -307,8 +301,7 @@ def seconds(program: Path, given: bytes) -> float:
 
 
 def all_slots_are_drawn_at_once(program: Path) -> None:
-    """A vault of 65,536 vertices with an edge to each but one is made and drawn in less than a
-    second."""
+    """65,536 vertices with an edge to each but one are made and drawn in less than a second."""
     given = b'{"principals":["alice"],"slots":%d,"cells":%d}\n' % (MOST_SLOTS, MOST_SLOTS)
     given += HELLO + (CREATE + SHADE) * (MOST_SLOTS - 1)
     shot, _ = drawn(program, given)

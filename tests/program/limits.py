@@ -99,8 +99,7 @@ def greeted(connection: socket.socket, seat: int) -> None:
 
 
 def talked(connection: socket.socket, seat: int) -> None:
-    """The principal of a seat has the answers that are wanted, up to the bye; no line waits for an
-    answer."""
+    """The principal of a seat has the answers that are wanted; no line waits for an answer."""
     rows = [(line, answer) for line, answer, _ in commands(seat)] + [(alone(b"bye"), BYE)]
     with ThreadPoolExecutor() as pool:
         poured = pool.submit(connection.sendall, joined(*[line for line, _ in rows]))

@@ -220,8 +220,7 @@ def asked_at_once(program: Path) -> None:
 
 
 def in_a_browser(size: str) -> Test:
-    """Stories, time, commands, questions and derivations work in a window of this size, and nothing
-    is said in the console."""
+    """All that the page offers works in a window of this size, and the console stays empty."""
 
     def test(program: Path) -> None:
         browser = shutil.which("chromium")
@@ -255,8 +254,7 @@ def in_a_browser(size: str) -> Test:
 
 
 def starts(program: Path) -> None:
-    """The command prints the address of its page, which is there, and Ctrl-C ends it with nothing
-    more said."""
+    """The command prints the address of its page, which is there; Ctrl-C ends it in silence."""
     command = ROOT / "examples" / "playground" / "playground"
     how = {"env": {**os.environ, "TGDOC": str(program)}, "stderr": subprocess.PIPE}
     with started(command, "--port", "0", **how) as process:

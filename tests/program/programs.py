@@ -93,8 +93,7 @@ def lost(word: str, given: bytes, status: int) -> Test:
 
 
 def refused(*words: Word) -> Test:
-    """A command line that is refused: status 2, a text on standard error, nothing on standard
-    output."""
+    """A command line that is refused: status 2, a text on standard error, no output."""
 
     def test(program: Path) -> None:
         found = ran(program, *words, given=CONFIG + HELLO)
@@ -165,8 +164,7 @@ def demo_of(program: Path, *words: str) -> str:
 
 
 def readme_example(program: Path) -> None:
-    """examples/README.md shows what `make demo` prints: its indented lines from the first that
-    opens a graph on."""
+    """examples/README.md shows what `make demo` prints, from the line on that opens a graph."""
     rows = (ROOT / "examples" / "README.md").read_text().splitlines()
     opens = itertools.dropwhile(lambda row: not row.startswith('    {"principals"'), rows)
     shown = itertools.takewhile(lambda row: row.startswith("    "), opens)
@@ -180,8 +178,7 @@ def demo_of_an_audit(program: Path) -> None:
 
 
 def versioned(*words: str) -> Test:
-    """A command line that asks for the version: the name and the version on standard output, status
-    0."""
+    """A command line that asks for the version: the name and the version, status 0."""
 
     def test(program: Path) -> None:
         found = ran(program, *words)

@@ -1,5 +1,4 @@
-"""What standard error says where no line of output can, and what `--explain` says of refused
-lines."""
+"""What standard error says where no line can, and what `--explain` says of refused lines."""
 
 import os
 import pty
@@ -63,8 +62,7 @@ STEPS: list[tuple[bytes, bytes | None]] = [
 
 
 def explains(word: str, head: bytes, rows: list[tuple[bytes, bytes | None]]) -> Test:
-    """Each refused line is explained, by its number, and the answers are those of a run that is
-    not."""
+    """Each refused line is explained, by its number; the answers are as without explanations."""
 
     def test(program: Path) -> None:
         given = head + b"".join(line + b"\n" for line, _ in rows)

@@ -1,5 +1,4 @@
-"""Questions whether rights can ever be shared: answers worked by hand from docs/PROTOCOL.md, and
-what is no question."""
+"""Whether rights can ever be shared: answers worked by hand, and what is no question."""
 
 import resource
 from pathlib import Path
@@ -88,8 +87,7 @@ def alone(given: bytes, question: list[str], wanted: bytes, status: int = 0) -> 
 
 
 def lookups() -> Tests:
-    """Lookups with their answers: who could, or over what, each with the rights that are there
-    now."""
+    """Lookups with their answers: who could, or over what, each with the rights of the present."""
     both = COULD % b'[1,""],[2,"r"]'
     for name, given, question, wanted, status in [
         ("who-could-read", CHAIN, "--to 3 --rights r", both, 0),
@@ -179,8 +177,7 @@ MANY = 65_536
 
 
 def of_every_slot() -> bytes:
-    """A run that fills all slots: alice makes subjects, and at the end a document, with rights over
-    each."""
+    """A run that fills all slots: alice makes subjects, and at last a document."""
     create = b'{"op":"create","kind":"%s","rights":"rtg"}\n' + SHADE
     subject, document = create % b"subject", create % b"document"
     config = b'{"principals":["alice"],"slots":%d,"cells":1048576}\n' % MANY

@@ -1,5 +1,4 @@
-"""The shell of examples/shell: what it prints for typed lines, worked out by hand from the rules of
-docs/PROTOCOL.md."""
+"""The shell of examples/shell: what it prints for typed lines, worked out by hand."""
 
 import json
 import os

@@ -134,8 +134,7 @@ def stop_while_clients_work(program: Path) -> None:
 
 
 def stop_while_silent(program: Path) -> None:
-    """Clients that say nothing are waited for as long as was named, and no longer; nobody else is
-    let in meanwhile."""
+    """Silent clients are waited for as long as was named; nobody else is let in meanwhile."""
     with attended(program, "--workers", "2") as server:
         with server.connection() as one, server.connection() as two:
             for client in (one, two):
@@ -293,8 +292,7 @@ def another_user(program: Path) -> None:
 
 
 def hostile_lines(program: Path) -> None:
-    """Ten thousand hostile lines at the control socket: each is refused or the client is left, and
-    the server serves."""
+    """Ten thousand hostile lines at the control socket are refused, and the server serves."""
     source = random.Random(61)
     texts = [b"", b"[]", b"{}", b'{"op":1}', b'{"op":"stop","within":-1}']
     texts += [b'{"op":"stop","within":1e9}', b'{"op":"stop","op2":1}', b"\xff\xfe"]
@@ -327,8 +325,7 @@ def errors_of(server: Attended, sent: bytes) -> int:
 
 
 def slow_at_the_socket(program: Path) -> None:
-    """A client at the socket that says nothing is left after five seconds, and the next one is
-    answered then."""
+    """A silent client at the socket is left after five seconds, and the next one answered."""
     with attended(program) as server, server.attendant() as one:
         began = time.monotonic()
         same(server.status()["round"], 1)

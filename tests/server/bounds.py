@@ -33,8 +33,7 @@ def peak(server: Server) -> int:
 
 
 def floods(server: Server, lines: bytes, times: int) -> int:
-    """A client that sends lines without end, and takes all answers; returns how many bytes it
-    got."""
+    """A client that sends lines without end and takes all answers; how many bytes it got."""
     with server.connection() as one:
 
         def send() -> None:
@@ -70,8 +69,7 @@ def reads_of_a_long_text(program: Path) -> None:
 
 
 def looks_at_many_edges(program: Path) -> None:
-    """So does one that looks at itself over 60,000 edges: lines are taken one by one where one can
-    fill what is left."""
+    """So does one that looks over 60,000 edges: lines are taken singly where one can fill it."""
     config = line_of({"principals": ["alice"], "slots": 65_536, "cells": 131_072}) + b"\n"
     with served(program, 4, 5, *BOUND, config=config) as server:
         with server.connection() as one, one.makefile("rb") as rows:
@@ -87,8 +85,7 @@ def looks_at_many_edges(program: Path) -> None:
 
 
 def honest_beside_a_flood(program: Path) -> None:
-    """A client beside one that floods is answered until the round ends, and again in the next one,
-    which keeps what lives."""
+    """A client beside one that floods is answered, until the round ends and in the next one."""
     seen, count = b'{"edges":[[2,"t"],[3,"rw"]],"ok":"edges"}\n', 0
     with served(program, 2, 4, *BOUND, "--round", "2", ends=None) as server:
         with server.connection() as honest:
@@ -128,8 +125,7 @@ def short(program: Path, files: int, warning: str, *words: str) -> Iterator[Serv
 
 
 def waits_for_descriptors(program: Path) -> None:
-    """If no descriptor is left a client waits, no connection is lost, and it is served as soon as
-    another one has gone."""
+    """A client waits if no descriptor is left, and is served once another one has gone."""
     words = ("6 workers need 10 open files, and the limit is 7", "--workers", "6")
     with short(program, 7, *words, "--connections", "5") as server, contextlib.ExitStack() as stack:
         clients = [stack.enter_context(server.connection()) for _ in range(3)]
@@ -159,8 +155,7 @@ def lost_for_want_of_descriptors(program: Path) -> None:
 
 
 def says_what_a_round_may_take(program: Path) -> None:
-    """The bound of a round is said on standard error: the one that was asked for, or half of what
-    is available."""
+    """Standard error has the bound: as was asked for, or half of what is available."""
 
     def said(*words: str) -> int:
         more = ("--listen", "nonsense", "--connections", "1", *words)

@@ -75,8 +75,7 @@ class Siege:
             time.sleep(0.1)
 
     def use_up(self) -> None:
-        """Makes the connections that are left, and ends each at once, so that the server comes to
-        its end."""
+        """Makes the connections that are left, and ends each, so that the server ends."""
         for _ in range(self.left):
             self.server.connection().close()
 
@@ -116,8 +115,7 @@ def resets(siege: Siege, source: Random, one: socket.socket, number: int) -> Non
 
 
 def answer_to(line: bytes) -> bytes | None:
-    """The answer to a line from a client that has not said hello; None if it may be a hello that
-    succeeds."""
+    """The answer to a line before any hello; None if it may be a hello that succeeds."""
     try:
         return NO_ACTOR if read_event(line)["op"] != "hello" else None
     except Refused as refused:

@@ -32,8 +32,7 @@ ALONE = 30
 
 
 def makes_and_drops(client: Client, seconds: float) -> tuple[int, float]:
-    """Makes documents and drops them; returns how many there were, and for how long at most none
-    could be made."""
+    """Makes and drops documents: how many, and for how long at most none could be made."""
     made, longest, last = 0, 0.0, time.monotonic()
     until = last + seconds
     while time.monotonic() < until:

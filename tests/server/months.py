@@ -48,8 +48,7 @@ def asked(graph: Graph, events: Events) -> tuple[bytes, bytes]:
 
 
 def chores(graph: Graph, actor: int, count: int) -> Events:
-    """One document is written and read over and over, and others are made and dropped, in about so
-    many commands."""
+    """A document is written and read over and over, others are made and dropped."""
     kept = graph.next
     yield {"op": "create", "kind": "document", "rights": "rw"}
     for number in range(count // 4):

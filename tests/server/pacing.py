@@ -1,5 +1,4 @@
-"""The collector's pace: a server beside a busy program on one processor, and one with nothing to
-do."""
+"""The collector's pace: beside a busy program on one processor, and with nothing to do."""
 
 import contextlib
 import os
@@ -26,8 +25,7 @@ WATCHED, MOST_BUSY = 3, 0.05
 
 @contextlib.contextmanager
 def busy_processor() -> Iterator[None]:
-    """A processor that a program which does nothing else shares with whatever else is begun in the
-    block."""
+    """A processor that a busy program shares with whatever is begun in the block."""
     free = os.sched_getaffinity(0)
     os.sched_setaffinity(0, {max(free)})
     try:

@@ -35,8 +35,7 @@ def shift(owner: int, block: int) -> int:
 
 
 class Pile(NamedTuple):
-    """How many cells there are, a power of two, how many documents, and how many edges among which
-    those of the bucket lie."""
+    """How many cells there are, a power of two, how many documents, and how many other edges."""
 
     cells: int
     vertices: int
@@ -57,8 +56,8 @@ class Pile(NamedTuple):
         return BLOCK * block + place if place < BLOCK else None
 
     def piled(self, bucket: int) -> Iterator[tuple[int, int]]:
-        """Edges between alice's documents that lie in the bucket; the vertex of serial k is in slot
-        k - 1."""
+        """Edges between alice's documents in the bucket; the vertex of serial k is in slot k -
+        1."""
         near = defaultdict(list)
         for block in range((self.vertices + 1) // BLOCK + 1):
             near[(shift(0, block) + BLOCK * block) % self.buckets // BLOCK].append(block)
@@ -111,8 +110,7 @@ def asked(talk: Talk, over: int) -> float:
 
 
 def times(name: str, talk: Talk, pile: Pile, behind: list[str]) -> tuple[float, float]:
-    """Piles the edges up, with lines behind each; returns and prints how long a command takes in
-    the bucket and beside it."""
+    """Piles the edges up; prints and returns how long a command takes in the bucket and beside."""
     lines = ['{"name":"alice","op":"hello"}']
     for _ in range(pile.vertices):
         lines += ['{"kind":"document","op":"create","rights":"rg"}', *behind]
@@ -146,8 +144,7 @@ def times_of_serve(program: Path, pile: Pile) -> tuple[float, float]:
 
 
 def edges_cannot_be_piled_up(program: Path) -> None:
-    """Edges that lie in one bucket under the key that everybody can read do not under a
-    server's."""
+    """Edges in one bucket under the key that all can read are not so under a server's."""
     pile = Pile(cells=32_768, vertices=12_000, others=9_000)
     fixed, own = times_of_run(program, pile), times_of_serve(program, pile)
     assert fixed[0] > LEAST_PILED * fixed[1], "the bucket is not slow under the fixed key"

@@ -25,8 +25,7 @@ from server.servers import (
 
 
 def talks(config: bytes, each: int, *rows: tuple[bytes, bytes], dropped: list[int]) -> Test:
-    """One talk after the other, so many in a round: each row is what a client sends and what it is
-    answered."""
+    """One talk after the other, so many in a round: what is sent, and what is answered."""
 
     def test(program: Path) -> None:
         words, ends = ("--round", str(each)), in_rounds(*dropped)
@@ -79,8 +78,7 @@ def one_waits_for_the_next_round(program: Path) -> None:
 
 
 def many_clients_in_a_round(program: Path) -> None:
-    """Four clients at once in each of three rounds: each makes two documents, and in the end all
-    are there."""
+    """Four clients in each of three rounds: all that they make is there in the end."""
     words, ends = ("--round", "4"), in_rounds(8, 8)
     with served(program, 4, 12, *words, config=ROOMY, ends=ends) as server:
         found = []
@@ -107,8 +105,7 @@ def answer(graph: Graph, event: Event) -> bytes:
 
 
 def visit(server: Server, source: Random, graphs: list[Graph]) -> int:
-    """One client's talk, each answer checked against all graphs; returns how many commands it
-    asked."""
+    """One client's talk, each answer checked against all graphs; how many commands it asked."""
     last, count = graphs[-1], source.randint(5, 40)
     with server.connection() as one:
         for number in range(count + 1):

@@ -59,8 +59,7 @@ class Server:
             one.bye()
 
     def exchange(self, *pieces: bytes) -> bytes:
-        """Sends the pieces over a connection, each by itself, then that no more comes, and reads
-        all answers."""
+        """Sends the pieces over a connection, each by itself, and reads all answers."""
         with self.connection() as one:
             for piece in pieces:
                 one.sendall(piece)
@@ -68,8 +67,7 @@ class Server:
             return read_all(one)
 
     def end(self) -> tuple[bytes, int]:
-        """All that it writes after its first line, and its status; all its connections have to be
-        over."""
+        """What it writes after its first line, and its status, once all connections are over."""
         assert self.process.stdout
         return self.process.stdout.read(), self.process.wait(SECONDS)
 
@@ -78,8 +76,7 @@ class Server:
 def running(
     program: Path, *words: str, config: bytes = CONFIG, seconds: float = SECONDS, **how: Any
 ) -> Iterator[Process]:
-    """A program that serves a configuration. Its input stays open, and what it says on standard
-    error is not shown."""
+    """A program that serves a configuration. Its input stays open; standard error is not shown."""
     how = {"stderr": subprocess.DEVNULL, **how}
     with started(program, "serve", *words, seconds=seconds, **how) as process:
         tell(process, config)
@@ -118,8 +115,7 @@ def read_all(one: socket.socket) -> bytes:
 
 
 def read_line(one: socket.socket) -> bytes:
-    """The bytes up to the next line feed, or to the end of the connection; no byte more is
-    taken."""
+    """The bytes up to the next line feed, or to the end; no byte more is taken."""
     line = b""
     while not line.endswith(b"\n") and (piece := one.recv(1)):
         line += piece
@@ -132,8 +128,7 @@ def is_silent(one: socket.socket, seconds: float = 0.3) -> bool:
 
 
 def figure(process: Process, name: str) -> int:
-    """What the system says of a process in bytes: `VmRSS`, the memory that it has; `VmHWM`, its
-    peak."""
+    """A figure of a process in bytes: `VmRSS`, its memory; `VmHWM`, the peak of that."""
     return figure_in(Path(f"/proc/{process.pid}/status"), name)
 
 

@@ -144,8 +144,7 @@ def one_talk(answer: bytes, *pieces: bytes, config: bytes = CONFIG) -> Test:
 
 
 def answer_comes_before_more(program: Path) -> None:
-    """Each answer can be read before the next line is sent, and a line that is half sent has
-    none."""
+    """Each answer can be read before the next line is sent; half a line has none."""
     with served(program, 1, 1) as server, server.connection() as one:
         one.sendall(HELLO)
         same(read_line(one), WELCOME)
@@ -224,8 +223,7 @@ REFUSALS_OF_COMMANDS: list[tuple[tuple[Any, ...], Any]] = [
 
 
 def refusal_of(client: Client, name: str, *arguments: Any) -> Any:
-    """The fields of the exception that a client raises; if it raises none, what the command
-    returns."""
+    """The fields of the exception that a client raises, or what the command returns."""
     try:
         return getattr(client, name)(*arguments)
     except Denied as it:
@@ -258,8 +256,7 @@ def line_in_many_segments(program: Path) -> None:
 
 
 def after_bye(program: Path) -> None:
-    """The connection ends with the answer to bye, though the client does not end it; lines after
-    the bye are not answered."""
+    """The connection ends with the answer to bye; lines behind the bye are not answered."""
     with served(program, 1, 1, ends=None) as server, server.connection() as one:
         one.sendall(HELLO + BYE + HELLO)
         same(read_all(one), WELCOME + PARTED)
@@ -267,8 +264,7 @@ def after_bye(program: Path) -> None:
 
 
 def lines_up_to_the_limit(program: Path) -> None:
-    """A line of 16,384 bytes is taken; one byte more ends the talk, and the seat is free for the
-    next one."""
+    """A line of 16,384 bytes is taken; one byte more ends the talk, and frees the seat."""
     most = HELLO[:-1].ljust(16_384) + b"\n"
     with served(program, 1, 2) as server:
         same(server.exchange(most, b"x" * 16_385), WELCOME + ERROR % b"line too long")
@@ -316,8 +312,7 @@ def cut_after_each_byte(program: Path) -> None:
 
 
 def dropped_after_each_byte(program: Path) -> None:
-    """A short talk is dropped after each byte, at once and with no answer read: the next client is
-    seated all the same."""
+    """A short talk is dropped after each byte, no answer read: the next client is seated."""
     whole = column(SHORT_TALK, 0)
     with served(program, 2, len(whole) + 2, config=ROOMY) as server:
         for count in range(len(whole) + 1):
@@ -347,8 +342,7 @@ def more_clients_than_workers(program: Path) -> None:
 
 
 def waits_for_a_seat(workers: int, *words: str) -> Test:
-    """This many clients are served at once; one more is answered when the first of them has
-    left."""
+    """This many clients are served at once; one more is answered once the first has left."""
 
     def test(program: Path) -> None:
         connections = ("--connections", str(workers + 1))
@@ -370,8 +364,7 @@ def waits_for_a_seat(workers: int, *words: str) -> Test:
 
 
 def answer_of(client: Client, name: str, *arguments: Any, may_be_full: bool) -> Any:
-    """The answer to a command: a value, or the answer that refuses it. If it may be full, it is
-    sent again, for a time."""
+    """The answer to a command: a value, or a refusal. If it may be full, it is sent again."""
     limit = time.monotonic() + 20
     while True:
         try:
@@ -484,8 +477,7 @@ def guests_beside_others(program: Path) -> None:
 
 
 def retired_on_two_seats(program: Path) -> None:
-    """Who retires on one connection has retired on the other one too. Both end as always do, and
-    leave their seats."""
+    """Who retires on one connection has retired on the other. Both end as always."""
     with served(program, 2, 4, config=ROOMY) as server:
         with server.client() as one, server.client() as other:
             same((one.hello("alice"), other.hello("alice")), (1, 1))
@@ -503,16 +495,14 @@ def retired_on_two_seats(program: Path) -> None:
 
 
 def nobody_is_left(program: Path) -> None:
-    """When the last principal has retired, nobody can say hello any more; the server settles all
-    the same."""
+    """When the last principal has retired nobody can say hello; the server settles."""
     with served(program, 1, 2, config=b'{"principals":["alice"]}\n') as server:
         same(server.exchange(HELLO, RETIRE, BYE), WELCOME + DONE + PARTED)
         same(server.exchange(HELLO, ENROL), NO_PRINCIPAL + NO_ACTOR)
 
 
 def behave(bob: Client, document: int, is_over: threading.Event) -> float:
-    """Writes and reads until everything is over, and thirty times at least; returns the longest
-    wait for an answer."""
+    """Writes and reads until all is over, thirty times at least; the longest wait."""
     longest, number = 0.0, 0
 
     def timed(wanted: str | None, ask: Callable[..., Any], *arguments: Any) -> None:
@@ -584,8 +574,7 @@ def leaves_in_a_line(server: Server) -> None:
 
 
 def resets(server: Server) -> None:
-    """Resets its connections, so that they fail for the server: with answers unread, with half a
-    line sent, with none."""
+    """Resets its connections: with answers unread, with half a line sent, with none."""
     for turn in range(20):
         with server.connection() as one:
             one.setsockopt(socket.SOL_SOCKET, socket.SO_LINGER, struct.pack("ii", 1, 0))
@@ -602,8 +591,7 @@ def floods_and_reads(server: Server) -> None:
 
 
 def slots_come_back(program: Path) -> None:
-    """One client makes and drops more documents than there are slots; a text that it keeps
-    stays."""
+    """A client makes and drops more documents than there are slots; a text that it keeps stays."""
     with served(program, 1, 1) as server, server.client() as alice:
         alice.hello("alice")
         kept = alice.create("document", "rw")
@@ -616,8 +604,7 @@ def slots_come_back(program: Path) -> None:
 
 
 def of_example(name: str, *wanted: str) -> Test:
-    """The example of this name ends well, and reports it and what is wanted; its server says what a
-    round may keep."""
+    """An example ends well and reports what is wanted; its server says what a round may keep."""
 
     def test(program: Path) -> None:
         found = example(name, program)

@@ -35,8 +35,7 @@ def in_time(began: float, patience: float = PATIENCE, latest: float = LATEST) ->
 
 
 def ended_by_server(one: socket.socket) -> bytes | None:
-    """All that came over a connection that the server ended; it may have been reset, if bytes of
-    the client were unread."""
+    """All that came until the server ended the connection; None if it reset it."""
     try:
         return read_all(one)
     except ConnectionResetError:
