@@ -1,4 +1,5 @@
-"""What vertices are called: principals by their names, others by names that were given in the shell, or by their serials."""
+"""What vertices are called: principals by their names, others by names that were given in the
+shell, or by their serials."""
 
 import re
 
@@ -27,7 +28,8 @@ class Names:
     def give(self, word, serial):
         """Gives a vertex a name, in place of one that it has."""
         if not WORD.fullmatch(word) or word in COMMANDS:
-            raise Confused(f"{word}: a name has letters and digits, begins with a letter, and is no command")
+            what = "a name has letters and digits, begins with a letter, and is no command"
+            raise Confused(f"{word}: {what}")
         if word in self.principals:
             raise Confused(f"{word} is a principal's name")
         self.given = {name: owner for name, owner in self.given.items() if owner != serial}
@@ -38,7 +40,8 @@ class Names:
             return int(word)
         found = self.principals.get(word, self.given.get(word))
         if found is None:
-            raise Confused(f"{word}: no vertex has this name here; vertices have numbers, and `name NUMBER WORD` names one")
+            what = "vertices have numbers, and `name NUMBER WORD` names one"
+            raise Confused(f"{word}: no vertex has this name here; {what}")
         return found
 
     def of(self, serial):
@@ -47,7 +50,8 @@ class Names:
             for name, owner in known.items():
                 if owner == serial:
                     return name
-        return f"{serial} ({self.retired[serial]}, retired)" if serial in self.retired else str(serial)
+        was = self.retired.get(serial)
+        return f"{serial} ({was}, retired)" if was else str(serial)
 
     def both(self, serial):
         """What a vertex is called, with its serial."""

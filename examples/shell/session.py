@@ -4,16 +4,24 @@ from dataclasses import dataclass
 from pathlib import Path
 
 from shell import reasons, words
-from shell.commands import COMMANDS, FIELDS, Confused, fields_of, line_of, parts_of, rights_of, usage
+from shell.commands import (
+    COMMANDS, FIELDS, Confused, fields_of, line_of, parts_of, rights_of, usage,
+)
 from shell.names import Names
 from tgdoc_client import Client, Refused
 
-NOT_OURS = "This server is not the shell's own, and others may talk to it, so the shell does not know all that was done."
+NOT_OURS = "This server is not the shell's own, and others may talk to it, so the shell does not "
+NOT_OURS += "know all that was done."
+NOT_SURE = "A line may have been carried out whose answer was lost, so the shell is no longer sure "
+NOT_SURE += "what was done."
+LETTERS = "KIND is document or subject. RIGHTS are letters: r to read, w to write, t to take "
+LETTERS += "rights that it has, g to grant it rights."
 
 
 @dataclass
 class Person:
-    """A connection: its client, its seat in the record, its principal and the subject that it acts for."""
+    """A connection: its client, its seat in the record, its principal and the subject that it acts
+    for."""
 
     client: Client
     seat: int
@@ -36,9 +44,12 @@ class Session:
     def begin(self):
         """Says what there is, and lets the first principal sit."""
         config = self.vault.config
-        print(f'Principals: {", ".join(config["principals"])}.', end=" ")
-        print("".join(f"{self.names.of(a)} has {rights} over {self.names.of(b)}. " for a, rights, b in config.get("edges", [])), end="")
-        print("`help` lists the commands.")
+        names = ", ".join(config["principals"])
+        edges = [
+            f"{self.names.of(start)} has {rights} over {self.names.of(end)}."
+            for start, rights, end in config.get("edges", [])
+        ]
+        print(f"Principals: {names}.", *edges, "`help` lists the commands.")
         self.sit(config["principals"][0])
 
     def prompt(self):
@@ -138,12 +149,13 @@ class Session:
         if not self.vault.record:
             raise Confused(NOT_OURS)
         if not self.vault.record.is_sure:
-            raise Confused("A line may have been carried out whose answer was lost, so the shell is no longer sure what was done.")
+            raise Confused(NOT_SURE)
         return self.vault.record
 
     def do_share(self, rights, over, who):
         self.record()
-        rights, end, start = rights_of(rights), self.names.serial_of(over), self.names.serial_of(who)
+        rights = rights_of(rights)
+        end, start = self.names.serial_of(over), self.names.serial_of(who)
         steps, verdict = self.vault.shared(start, rights, end)
         has = f"{rights} over {self.names.of(end)}"
         if verdict == "never":
@@ -153,7 +165,7 @@ class Session:
         elif not steps:
             print(f"{self.names.of(start)} has {has} already.")
         else:
-            print(f'Yes, in {len(steps)} {("step" if len(steps) == 1 else "steps")}:')
+            print(f"Yes, in {len(steps)} step{'s' if len(steps) > 1 else ''}:")
             print("\n".join(words.steps_told(steps, self.names, self.vault.following())))
 
     def do_who(self, rights, over):
@@ -168,16 +180,18 @@ class Session:
         self.record()
         shot = self.vault.picture()
         for serial, vertex in shot.vertices.items():
-            edges = [(end, rights) for (start, end), rights in shot.edges.items() if start == serial]
+            edges = [(end, it) for (start, end), it in shot.edges.items() if start == serial]
             unreached = "" if vertex.is_held else " (waits to be freed)"
             if vertex.kind == "subject" or edges:
-                print(f"  {self.names.both(serial)} has {words.edges_told(edges, self.names)}{unreached}")
+                told = words.edges_told(edges, self.names)
+                print(f"  {self.names.both(serial)} has {told}{unreached}")
 
     def do_collect(self):
         rows = self.record()
         freed, steps, shot = self.vault.collected()
         print("The server's collector runs all the time, so there is nothing to do.")
-        print(f"In a run of the same lines, two cycles take {steps} steps and free {freed}; {shot.free_slots} of {rows.slots} slots are free then.")
+        left = f"{shot.free_slots} of {rows.slots} slots are free then."
+        print(f"In a run of the same lines, two cycles take {steps} steps and free {freed}; {left}")
 
     def do_name(self, number, word):
         serial = self.names.serial_of(number)
@@ -207,5 +221,5 @@ class Session:
             return
         for told, what, _ in COMMANDS.values():
             print(f"  {told:<26} {what}")
-        print("KIND is document or subject. RIGHTS are letters: r to read, w to write, t to take rights that it has, g to grant it rights.")
+        print(LETTERS)
         print("Vertices are named by number, or by name if they have one.")

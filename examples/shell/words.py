@@ -2,14 +2,18 @@
 
 ERRORS = {
     "no principal": "No principal has this name. `enrol NAME RIGHTS` makes one.",
-    "out of memory": "The server had no memory for this; it may have been carried out all the same.",
+    "out of memory": "The server had no memory for this; it may have been carried out all the "
+    "same.",
     "line too long": "The line is longer than 16,384 bytes.",
-    "bad field": "A word is not as the protocol wants it: a text has at most 4,096 bytes, a new name 1 to 32 letters a to z.",
+    "bad field": "A word is not as the protocol wants it: a text has at most 4,096 bytes, a new "
+    "name 1 to 32 letters a to z.",
     "no actor": "Nobody sits here: `as NAME` first.",
 }
 FULL = {
-    "slots": "There is no room: every slot is taken. The collector frees those of what nobody can reach; try again in a moment.",
-    "cells": "There is no room: every cell, which an edge takes, is taken. Try again in a moment, or give up some rights.",
+    "slots": "There is no room: every slot is taken. The collector frees those of what nobody can "
+    "reach; try again in a moment.",
+    "cells": "There is no room: every cell, which an edge takes, is taken. Try again in a moment, "
+    "or give up some rights.",
     "serials": "There is no room: all serials are given out.",
 }
 CAUSES = {
@@ -33,17 +37,20 @@ def done_told(fields, answer, names, actor):
     """What was carried out."""
     op = fields["op"]
     over, rights, me = names.of(fields.get("over", 0)), fields.get("rights"), names.of(actor)
+    made, agent = answer.get("vertex"), names.of(fields.get("agent", 0))
     return {
-        "grant": lambda: f'{names.of(fields["to"])} now has {rights} over {over}.',
+        "grant": lambda: f"{names.of(fields['to'])} now has {rights} over {over}.",
         "take": lambda: f"{me} now has {rights} over {over}.",
         "remove": lambda: f"{me} no longer has {rights} over {over}.",
-        "create": lambda: f'{fields["kind"].capitalize()} {answer["vertex"]}: {me} has {rights} over it.',
-        "enrol": lambda: f'{fields["name"]} is a principal, vertex {answer["vertex"]}; {me} has {rights} over it.',
+        "create": lambda: f"{fields['kind'].capitalize()} {made}: {me} has {rights} over it.",
+        "enrol": lambda: (
+            f"{fields['name']} is a principal, vertex {made}; {me} has {rights} over it."
+        ),
         "read": lambda: answer["text"] or "(an empty text)",
         "write": lambda: "Written.",
-        "look": lambda: f'{names.of(fields["at"])} has {edges_told(answer["edges"], names)}.',
+        "look": lambda: f"{names.of(fields['at'])} has {edges_told(answer['edges'], names)}.",
         "retire": lambda: f"{me} is a principal no longer; only `leave` and `bye` are left.",
-        "assume": lambda: f'From now on the rights of {names.of(fields["agent"])} count, until you `leave`.',
+        "assume": lambda: f"From now on the rights of {agent} count, until you `leave`.",
         "leave": lambda: "Your own rights count again.",
         "bye": lambda: "Bye.",
     }[op]()
@@ -54,21 +61,23 @@ def refusal_told(answer, names, actor):
     if "full" in answer:
         return FULL[answer["full"]]
     if "error" in answer:
-        return ERRORS.get(answer["error"], f'The server refuses the line: {answer["error"]}.')
+        return ERRORS.get(answer["error"], f"The server refuses the line: {answer['error']}.")
     if "missing" in answer:
-        return f'Denied: {names.of(answer["from"])} has no {answer["missing"]} over {names.of(answer["to"])}.'
+        who, what = names.of(answer["from"]), names.of(answer["to"])
+        return f"Denied: {who} has no {answer['missing']} over {what}."
     vertex = names.of(answer["vertex"]) if "vertex" in answer else None
-    return f'Denied: {CAUSES[answer["cause"]].format(actor=names.of(actor), vertex=vertex)}.'
+    return f"Denied: {CAUSES[answer['cause']].format(actor=names.of(actor), vertex=vertex)}."
 
 
 def step_told(step, names):
     """A step of a derivation."""
     who, op = names.of(step["actor"]), step["op"]
     if op == "create":
-        return f'{who} makes a {step["kind"]} with {step["rights"]} over it'
-    what = f'{who} {op}s {step["rights"]} over {names.of(step["over"])}'
+        return f"{who} makes a {step['kind']} with {step['rights']} over it"
+    what = f"{who} {op}s {step['rights']} over {names.of(step['over'])}"
     other = step.get("from", step.get("to"))
-    return what if other is None else f'{what} {("from" if op == "take" else "to")} {names.of(other)}'
+    way = "from" if op == "take" else "to"
+    return what if other is None else f"{what} {way} {names.of(other)}"
 
 
 def steps_told(steps, names, following):

@@ -70,8 +70,7 @@ def edges_among(source: Random, count: int) -> list[list[object]]:
 
 
 def opening(source: Random) -> Event:
-    """A configuration of one to four principals or a crowd; few slots and cells, and few
-    serials."""
+    """A configuration of one to four principals or a crowd; few slots, cells and serials."""
     few = source.randint(1, 4)
     count = source.randint(MOST_PRINCIPALS - 1, MOST_PRINCIPALS) if source.random() < 0.08 else few
     pairs = edges_among(source, few)

@@ -55,16 +55,14 @@ class Run:
         return answer
 
     def rebase(self) -> None:
-        """Three cycles while nobody has a seat: just what is live has a slot, and is the graph
-        then."""
+        """Three cycles while nobody has a seat: just what is live has a slot then."""
         self.graph = self.graph.rebased()
         self.used = len(self.graph.kinds)
         self.phase, self.steps, self.is_alone, self.quiet = "idle", 0, True, 2
         self.doomed, self.ripe, self.gone = set(), set(), set()
 
     def cells_in_use(self) -> tuple[int, int]:
-        """The fewest and the most cells in use: those of what is live, and of what may have a
-        slot."""
+        """The fewest and the most cells in use: those of what is live, and of what may be there."""
         live, starts = self.graph.live(), [start for start, _ in self.graph.pairs()]
         return sum(it in live for it in starts), sum(it not in self.gone for it in starts)
 

@@ -112,8 +112,7 @@ def line_of(op: str, but: Iterable[str] = (), extra: Iterable[Field] = ()) -> by
 
 
 def opening(name: str, line: bytes, *pairs: Pair) -> Case:
-    """A configuration that is accepted, and lines with their answers; the status is 1 for an
-    error."""
+    """A configuration that is accepted, and lines with answers; the status is 1 for an error."""
     answers = [answer for _, answer in pairs]
     status = int(any(b'"error"' in answer for answer in answers))
     given = joined(line, *[row for row, _ in pairs])

@@ -56,8 +56,7 @@ class Pile(NamedTuple):
         return BLOCK * block + place if place < BLOCK else None
 
     def piled(self, bucket: int) -> Iterator[tuple[int, int]]:
-        """Edges between alice's documents in the bucket; the vertex of serial k is in slot k -
-        1."""
+        """Edges of alice's documents in the bucket; the vertex of serial k is in slot k - 1."""
         near = defaultdict(list)
         for block in range((self.vertices + 1) // BLOCK + 1):
             near[(shift(0, block) + BLOCK * block) % self.buckets // BLOCK].append(block)
