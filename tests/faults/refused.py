@@ -327,7 +327,6 @@ def tests_of_devices() -> Tests:
 
 
 def tests() -> Tests:
-    """All tests by their names."""
     yield "memory-refused-once", memory_refused(scripts.RUN)
     yield "memory-refused-from-then-on", memory_refused(scripts.RUN, to_the_end=True)
     yield "memory-refused-in-a-run-without-errors", memory_refused(scripts.WITHOUT_ERRORS)

@@ -497,7 +497,6 @@ def thread_refused_of_many(program: Path) -> None:
 
 
 def tests() -> Tests:
-    """All tests by their names."""
     first, others, all_memory = (Fault("memory", whose=whose) for whose in ("first", "others", ""))
     for name, test in {
         "a-server-itself-refused-once": gone_wrong(first, own_memory_refused),

@@ -31,6 +31,5 @@ def threads_refused(program: Path) -> None:
 
 
 def tests() -> Tests:
-    """All tests by their names."""
     yield "allocations-refused", allocations_refused
     yield "threads-refused", threads_refused

@@ -18,18 +18,15 @@ from random import Random
 from typing import NamedTuple
 
 from checking import Tests, same, tell_counts
-from fuzz.differential import edges_among, printed_if_wrong, some
-from models.reading import LETTERS, Answer, Event, line_of
+from fuzz.differential import answered, opening, printed_if_wrong
+from models.collector import Course
+from models.graph import NONE_LEFT
+from models.reading import LETTERS, Answer, Event, line_of, read_config, read_event
 from running import asked, joined
 
 RUNS = 50
-LAST_SERIAL = 18446744073709551615
-# Those who join while a run goes on, each at a seat of its own.
-JOINING = ["erin", "frank"]
-# Lines that are no steps, and why commands are denied that are no steps then.
+# Lines that are no steps.
 NO_STEPS = ["hello", "bye", "shade", "collect", "cycle", "retire", "assume", "leave"]
-OF_PRINCIPALS = ["retired", "name taken"]
-OPS = ["take", "grant", "create"] * 2 + ["remove", "read", "write", "look"]
 
 
 class Step(NamedTuple):
@@ -47,66 +44,19 @@ class Trial(NamedTuple):
     verdict: Answer
 
 
-def answered(program: Path, word: str, rows: list[Event]) -> tuple[list[Answer], int]:
+def asked_for(program: Path, word: str, rows: list[Event]) -> tuple[list[Answer], int]:
     """The program's answers to these lines, as values, and its status."""
     written, status = asked(program, word, given=joined(*map(line_of, rows)))
     return [json.loads(row) for row in written.splitlines()], status
 
 
-def opening(source: Random) -> Event:
-    """A configuration of two to four principals with edges between most of them; some have few
-    slots, some few cells, some few serials."""
-    count = source.randint(2, 4)
-    edges = edges_among(source, count)
-    config = {"principals": ["alice", "bob", "carol", "dave"][:count], "edges": edges}
-    few = {
-        "slots": count + source.randint(0, 3),
-        "cells": len(edges) + source.randint(1, 4),
-        "next": LAST_SERIAL - source.randint(0, 4),
-    }
-    return {**config, **{name: few[name] for name in few if source.random() < 0.3}}
-
-
-def command(source: Random, serials: list[int]) -> Event:
-    """A command over some of the serials."""
-    over, other, op = source.choice(serials), source.choice(serials), source.choice(OPS)
-    fields = {
-        "take": {"rights": some(source), "over": over, "from": other},
-        "grant": {"rights": some(source), "over": over, "to": other},
-        "create": {"kind": source.choice(["subject", "document"]), "rights": some(source)},
-        "remove": {"rights": some(source), "over": over},
-        "read": {"over": over},
-        "write": {"over": over, "text": f"text {source.randint(0, 9)}"},
-        "look": {"at": over},
-    }
-    return {"op": op, **fields[op]}
-
-
-def drawn(source: Random, config: Event) -> list[Event]:
-    """The lines of a random run over a configuration, without it."""
-    names = config["principals"]
-    first = config.get("next", len(names) + 1)
-    serials = [*range(1, len(names) + 1), *range(first, min(first + 6, LAST_SERIAL + 1))]
-    rows = [{"op": "hello", "name": name, "seat": seat} for seat, name in enumerate(names)]
-    joining = {name: seat for seat, name in enumerate(JOINING, len(names))}
-    for _ in range(60):
-        seat = source.randrange(len(names) + len(joining))
-        shade = {"op": "shade", "seat": seat}
-        rows += [{"seat": seat, **command(source, serials)}, shade]
-        if source.random() < 0.1:
-            rows.append({"op": source.choice(["collect", "cycle"])})
-        if source.random() < 0.1:
-            name = source.choice(JOINING)
-            rows.append({"op": "enrol", "name": name, "rights": some(source), "seat": seat})
-            rows += [shade, {"op": "bye", "seat": joining[name]}]
-            rows.append({"op": "hello", "name": name, "seat": joining[name]})
-        if source.random() < 0.01:
-            rows.append({"op": "retire", "seat": seat})
-        if source.random() < 0.3:
-            rows += [{"op": "assume", "agent": source.choice(serials), "seat": seat}, shade]
-        if source.random() < 0.1:
-            rows.append({"op": "leave", "seat": seat})
-    return rows
+def drawn(source: Random) -> tuple[Event, list[Event]]:
+    """A random configuration and the lines of a random run over it."""
+    config = opening(source)
+    if source.random() < 0.3:
+        config["next"] = NONE_LEFT - source.randint(0, 4)
+    course = Course(read_config(line_of(config)))
+    return config, [read_event(row) for row, _ in answered(source, course)]
 
 
 def step_of(row: Event, actor: int | None) -> Event:
@@ -133,20 +83,26 @@ def actors_of(rows: list[Event], answers: list[Answer]) -> Iterator[int | None]:
 
 def steps_of(program: Path, config: Event, rows: list[Event]) -> list[Step]:
     """Each command of a run as a step. In the end everybody looks at what they have themselves."""
-    found, _ = answered(program, "run", [config, *rows])
+    found, _ = asked_for(program, "run", [config, *rows])
     hellos = [(row, it) for row, it in zip(rows, found) if it.get("ok") == "hello"]
     seated = {row["seat"]: it["vertex"] for row, it in hellos}
-    rows += [{"op": "leave", "seat": seat} for seat in seated]
+    for op in ("shade", "leave"):
+        rows += [{"op": op, "seat": seat} for seat in seated]
     rows += [{"op": "look", "at": actor, "seat": seat} for seat, actor in seated.items()]
-    answers, _ = answered(program, "run", [config, *rows])
+    answers, _ = asked_for(program, "run", [config, *rows])
     same((len(answers), answers[: len(found)]), (len(rows), found), "the same answers again")
     return [
         Step(step_of(row, actor), answer)
         for row, answer, actor in zip(rows, answers, actors_of(rows, answers))
-        if row["op"] not in NO_STEPS
-        and "error" not in answer
-        and answer.get("cause") not in OF_PRINCIPALS
+        if is_step(row, answer)
     ]
+
+
+def is_step(row: Event, answer: Answer) -> bool:
+    """Whether a line is a command as a derivation has them: it asks for nothing of principals."""
+    is_enrolment_denied = row["op"] == "enrol" and "denied" in answer
+    is_of_principals = is_enrolment_denied or answer.get("cause") == "retired"
+    return row["op"] not in NO_STEPS and "error" not in answer and not is_of_principals
 
 
 def last_looks(steps: list[Step]) -> list[Step]:
@@ -190,18 +146,17 @@ def runs(program: Path) -> None:
     source, seen = random.Random(seed), Counter[str]()
     print(f"  seed {seed}")
     for _ in range(RUNS):
-        config = opening(source)
-        steps = steps_of(program, config, drawn(source, config))
+        config, rows = drawn(source)
+        steps = steps_of(program, config, rows)
         for goal, done, verdict in trials(source, steps):
-            rows = [config, goal, *done]
-            with printed_if_wrong("an audit", [line_of(row) for row in rows]):
+            lines = [config, goal, *done]
+            with printed_if_wrong("an audit", [line_of(line) for line in lines]):
                 status = int(verdict["verdict"] != "shared")
-                same(answered(program, "audit", rows), ([verdict], status))
+                same(asked_for(program, "audit", lines), ([verdict], status))
             seen[verdict["verdict"]] += 1
     tell_counts("verdicts", seen)
     same(len(seen), 4, "kinds of verdicts")
 
 
 def tests() -> Tests:
-    """All tests by their names."""
     yield "audits-of-random-runs", runs

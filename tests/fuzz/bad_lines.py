@@ -93,7 +93,8 @@ def check_run(program: Path, source: Random, config: bytes, lines: list[bytes]) 
         if event is None:
             same(answer, refusal, f"the answer to {line!r}")
         else:
-            same(run.problem(event, answer), None, f"the answer to {line!r} is {answer!r}")
+            problem = run.problem(event, answer)
+            assert problem is None, f"{line!r} is answered {answer!r}: {problem}"
         count += 1
         if len(line) > LONGEST_LINE:
             break
@@ -162,5 +163,4 @@ def bad_lines(count: int) -> Test:
 
 
 def tests(count: int = LINES) -> Tests:
-    """All tests by their names."""
     yield "bad-lines", bad_lines(count)

@@ -21,7 +21,7 @@ from checking import Test, Tests, same, tell_counts
 from models.collector import Course
 from models.graph import MOST_PRINCIPALS, NONE_LEFT, SEATS, Graph, verdict
 from models.reading import (
-    COMMANDS, LETTERS, Event, line_of, read_config, read_event, read_goal, read_step,
+    COMMANDS, LETTERS, Answer, Event, line_of, read_config, read_event, read_goal, read_step,
 )
 from models.storage import Run
 from running import asked, hear, joined, rest_of, started, tell
@@ -210,6 +210,13 @@ def row_of(source: Random, event: Event) -> bytes:
     return json.dumps(dict(fields)).encode()
 
 
+def answered(source: Random, course: Course) -> Iterator[tuple[bytes, Answer]]:
+    """The lines of a run, each with the model's answer."""
+    for event in plan(source, course):
+        row = row_of(source, event)
+        yield row, course.answer(read_event(row))
+
+
 def talked(
     program: Path, source: Random, config: bytes, told: list[bytes], seen: Counter[str]
 ) -> None:
@@ -225,7 +232,8 @@ def talked(
             answer = hear(process)
             told.append(answer[:-1])
             for model in (run, course):
-                same(model.problem(read_event(row), answer[:-1]), None, "the last answer")
+                problem = model.problem(read_event(row), answer[:-1])
+                assert problem is None, problem
             kind = next((kind for kind in KINDS if f'"{kind}"'.encode() in answer), "steps")
             seen[kind] += 1
             errors += kind == "error"
@@ -312,6 +320,5 @@ def derivations(count: int) -> Test:
 
 
 def tests(runs: int = RUNS, of_audits: int = DERIVATIONS) -> Tests:
-    """All tests by their names."""
     yield "random-runs", random_runs(runs)
     yield "random-derivations", derivations(of_audits)

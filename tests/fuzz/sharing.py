@@ -207,6 +207,5 @@ def chain(program: Path) -> None:
 
 
 def tests(graphs: int = GRAPHS) -> Tests:
-    """All tests by their names."""
     yield "rights-that-can-be-shared", random_graphs(graphs)
     yield "no-new-vertex-in-a-long-chain", chain

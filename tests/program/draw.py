@@ -13,10 +13,10 @@ from checking import Test, Tests, same, skipped
 from faults import faults
 from faults.faults import BEFORE_ANY, one_of
 from film.pictures import picture as read
-from fuzz.differential import opening, plan, printed_if_wrong, row_of, sources
+from fuzz.differential import answered, opening, printed_if_wrong, sources
 from models import picture as model
 from models.collector import Course
-from models.reading import Refused, line_of, read_config, read_event
+from models.reading import line_of, read_config
 from program.programs import CONFIG, HELLO, PICTURE, WELCOME
 from running import asked, joined, ran
 
@@ -197,15 +197,10 @@ def expected(source: Random) -> tuple[Course, list[bytes], list[bytes], int]:
     config = line_of(opening(source))
     course, rows, errors = Course(read_config(config)), [config], 0
     shots: list[bytes] = []
-    for event in plan(source, course):
-        row = row_of(source, event)
-        try:
-            answer = line_of(course.answer(read_event(row)))
-        except Refused as refused:
-            answer = line_of(refused.answer)
-        errors += answer.startswith(b'{"error"')
+    for row, answer in answered(source, course):
+        errors += "error" in answer
         rows.append(row)
-        shots.append(model.picture(course, joined(row, answer)))
+        shots.append(model.picture(course, joined(row, line_of(answer))))
     return course, rows, shots, errors
 
 
@@ -312,7 +307,6 @@ def all_slots_are_drawn_at_once(program: Path) -> None:
 
 
 def tests() -> Tests:
-    """All tests by their names."""
     for group in (condemned, colours, seats, labels, endings):
         yield from group()
     yield "memory-refused-to-the-last-picture", memory_refused_to_last()

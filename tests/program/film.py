@@ -66,8 +66,7 @@ def described(text):
 
 
 def kept(story):
-    """The page that is kept shows what the program draws now, and so does the one that is made of
-    it."""
+    """The page that is kept shows what the program draws now, and so does the one that is made of it."""
 
     def test(program):
         if not shutil.which("dot"):
@@ -109,8 +108,7 @@ def in_a_browser(story):
 
 
 def cut(program):
-    """Without the collector no colours, targets and steps of it are shown, and what is condemned is
-    gone; over one vertex, only what leads to it."""
+    """Without the collector no colours, targets and steps of it are shown, and what is condemned is gone; over one vertex, only what leads to it."""
     if not shutil.which("dot"):
         return skipped("Graphviz")
     _, plain = page_of(program, "collector", "--plain")
@@ -118,8 +116,7 @@ def cut(program):
     words, frames = " ".join(described(plain)), described(over)
     # of 28 events 3 are shades, 1 is a cycle and 15 are steps
     good = len(described(plain)) == 9 and not re.search("grey|black|target|condemned", words) and "4: document" not in described(plain)[-1]
-    # document 4 is made by event 10, before a shade, two cycles and six others; bob and document 3
-    # lead nowhere near it
+    # document 4 is made by event 10, before a shade, two cycles and six others; bob and document 3 lead nowhere near it
     return good and len(frames) == 7 and all("1 has rw over 4." in row and "2 bob" not in row and "3:" not in row for row in frames)
 
 

@@ -232,7 +232,6 @@ def answered(lines: Callable[[], Rows]) -> Test:
 
 
 def tests() -> Tests:
-    """All tests by their names."""
     yield "a-name-of-100000-principals", answered(lines_of_one_name)
     yield "every-slot-of-a-principal-that-retired", answered(lines_of_all_slots)
     yield "each-seat-acts-for-a-subject", answered(lines_of_64_agents)

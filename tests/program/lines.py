@@ -11,6 +11,7 @@ from faults.scripts import (
     BOUND, BUSY, MARK, NO_ACTOR, NO_PRINCIPAL, SWEEP, caused, created, edges, goal, goal_missing,
     hello, missing, no_document, no_subject, shaded, stopped, swept, text, welcome,
 )
+from models.reading import EVENTS, STEPS
 from running import joined
 
 CONFIG = b'{"edges":[[1,"tg",2]],"principals":["alice","bob"]}'
@@ -39,24 +40,6 @@ ASSUME, READ, LOOK_AT = (
     b'{"at":%d,"op":"look"}',
 )
 
-REQUIRED = {
-    "hello": ["name"],
-    "bye": [],
-    "shade": [],
-    "collect": [],
-    "cycle": [],
-    "take": ["rights", "over", "from"],
-    "grant": ["rights", "over", "to"],
-    "create": ["kind", "rights"],
-    "remove": ["rights", "over"],
-    "read": ["over"],
-    "write": ["over", "text"],
-    "look": ["at"],
-    "enrol": ["name", "rights"],
-    "retire": [],
-    "assume": ["agent"],
-    "leave": [],
-}
 GOOD = {"name": '"alice"', "rights": '"r"', "over": "3", "from": "2", "to": "2"}
 GOOD |= {"kind": '"document"', "text": '"hi"', "at": "1", "agent": "2", "seat": "0"}
 
@@ -64,12 +47,7 @@ BAD_NUMBERS = ["-1", "-0", "1.5", "2.0", "2e0", "18446744073709551616", '"1"', "
 BAD_NUMBERS += ["[1]", "{}"]
 BAD_RIGHTS = ['"rr"', '"x"', '"R"', '"r w"', '"rwtgr"', '"rwtgx"', "1", "null", "[]"]
 BAD_VALUES = {
-    "seat": BAD_NUMBERS,
-    "over": BAD_NUMBERS,
-    "from": BAD_NUMBERS,
-    "to": BAD_NUMBERS,
-    "at": BAD_NUMBERS,
-    "agent": BAD_NUMBERS,
+    **dict.fromkeys(["seat", "over", "from", "to", "at", "agent"], BAD_NUMBERS),
     "rights": BAD_RIGHTS,
     "kind": ['"object"', '"Subject"', '""', "1", "null"],
     "text": ["1", "null", '["hi"]', f'"{"a" * 4097}"'],
@@ -107,7 +85,7 @@ def shade(serial: int) -> Pair:
 
 def line_of(op: str, but: Iterable[str] = (), extra: Iterable[Field] = ()) -> bytes:
     """The line of an op with good fields, without some and with others."""
-    fields = [(name, GOOD[name]) for name in REQUIRED[op] if name not in but]
+    fields = [(name, GOOD[name]) for name in EVENTS[op] if name not in but]
     return object_of([("op", f'"{op}"'), *fields, *extra])
 
 
@@ -165,7 +143,7 @@ def refusals() -> Cases:
     }
     for name, line in ops.items():
         yield run("unknown-op-" + name, (line, UNKNOWN_OP), (LOOK, SEEN))
-    for op, names in REQUIRED.items():
+    for op, names in EVENTS.items():
         for name in names:
             yield run(f"missing-{name}-of-{op}", (line_of(op, but=[name]), MISSING), (LOOK, SEEN))
         for name in names + ["seat"]:
@@ -382,7 +360,7 @@ def answers() -> Cases:
         (b'{"op":"shade","seat":18446744073709551615}', NO_SEAT),
         (b'{"at":1,"op":"look","seat":64}', NO_SEAT),
     )
-    ops = [op for op in REQUIRED if op not in ("hello", "collect", "cycle")]
+    ops = [op for op in EVENTS if op not in ("hello", "collect", "cycle")]
     yield run("no-actor", *[(line_of(op, extra=[("seat", "1")]), NO_ACTOR) for op in ops])
     grant = (b'{"op":"grant","over":3,"rights":"rg","to":2}', DONE)
     yield run("grant", create, shade(3), grant, shade(3), (LOOK_AT % 2, edges(b'[3,"rg"]')))
@@ -460,7 +438,7 @@ def enrolments() -> Cases:
 
 def retirements() -> Cases:
     """Principals that retire, and what their seats are answered then."""
-    commands = [*COMMANDS, "enrol", "retire", "assume"]
+    commands = [*STEPS, "enrol", "retire", "assume"]
     denied = [(line_of(op), b'{"cause":"retired","denied":"%s"}' % op.encode()) for op in commands]
     gone = (HELLO, NO_PRINCIPAL)
     left = (BYE, PARTED)
@@ -572,7 +550,6 @@ THREE = b'{"edges":[[1,"t",2],[2,"r",3]],"principals":["alice","bob","carol"]}'
 GOAL = b'{"from":1,"rights":"r","to":3}'
 STEP = b'{"actor":1,"from":2,"op":"take","over":3,"rights":"r"}'
 SHARED = b'{"verdict":"shared"}'
-COMMANDS = ["take", "grant", "create", "remove", "read", "write", "look"]
 
 
 def audited(name: str, answer: bytes, *rows: bytes, end: bytes = b"") -> Case:
@@ -599,7 +576,7 @@ def step_of(op: str, actor: str = "1", **fields: str) -> bytes:
 
 def step_line(op: str, but: Iterable[str] = (), extra: Iterable[Field] = ()) -> bytes:
     """The line of a step with good fields, without some and with others."""
-    fields = [("actor", "1"), ("op", f'"{op}"')] + [(name, GOOD[name]) for name in REQUIRED[op]]
+    fields = [("actor", "1"), ("op", f'"{op}"')] + [(name, GOOD[name]) for name in EVENTS[op]]
     return object_of([*(field for field in fields if field[0] not in but), *extra])
 
 
@@ -634,8 +611,8 @@ def audit_refusals() -> Cases:
     for op in ["hello", "bye", "shade", "collect", "cycle", "enrol", "retire", "assume", "leave"]:
         yield audit_of(f"{op}-is-no-step", UNKNOWN_OP, line_of(op), STEP)
     yield audit_of("unknown-op-before-a-missing-actor", UNKNOWN_OP, b'{"op":"steal","seat":1}')
-    for op in COMMANDS:
-        for field in ["actor", *REQUIRED[op]]:
+    for op in STEPS:
+        for field in ["actor", *EVENTS[op]]:
             yield audit_of(f"missing-{field}-of-{op}", MISSING, step_line(op, but=[field]))
             bad = step_line(op, but=[field], extra=[(field, "null")])
             yield audit_of(f"bad-{field}-of-{op}", BAD, bad)

@@ -266,7 +266,6 @@ def starts(program: Path) -> None:
 
 
 def tests() -> Tests:
-    """All tests by their names."""
     yield "playground-starts", starts
     yield "playground-answers", answers
     yield "playground-asks-at-once", asked_at_once

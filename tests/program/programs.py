@@ -250,7 +250,6 @@ def tests_of_words() -> Tests:
 
 
 def tests() -> Tests:
-    """All tests by their names."""
     yield from tests_of_pipes()
     yield from tests_of_words()
     yield "help", help_with_a_file(WELCOME, ["run", "audit", "draw", "share", "serve"])

@@ -120,7 +120,6 @@ def waits_on_a_terminal(program: Path) -> None:
 
 
 def tests() -> Tests:
-    """All tests by their names."""
     full, device = b"tgdoc: standard output: No space left on device (os error 28)\n", "/dev/full"
     for word in ("run", "draw"):
         yield f"no-space-for-{word}", says(full, word, given=CONFIG + b"[]\n", output=device)

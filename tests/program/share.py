@@ -195,7 +195,6 @@ def all_slots(program: Path) -> None:
 
 
 def tests() -> Tests:
-    """All tests by their names."""
     yield from answers()
     yield from lookups()
     yield from no_questions()

@@ -283,7 +283,6 @@ def without_rt(_: Path) -> None:
 
 
 def tests() -> Tests:
-    """All tests by their names."""
     yield "shell-shares", printed(SHARING)
     yield "shell-names", printed(NAMES)
     yield "shell-is-confused", printed(CONFUSED, status=1)

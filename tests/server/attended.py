@@ -497,7 +497,6 @@ def memory_refused_at_a_stop(program: Path) -> None:
 
 
 def tests() -> Tests:
-    """All tests by their names."""
     yield "stop-while-idle", stop_while_idle
     yield "stop-before-anybody-came", stop_before_anybody_came
     yield "stop-while-63-clients-work", stop_while_clients_work

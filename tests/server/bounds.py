@@ -168,7 +168,6 @@ def says_what_a_round_may_take(program: Path) -> None:
 
 
 def tests() -> Tests:
-    """All tests by their names."""
     yield "memory-that-reads-fill", reads_of_a_long_text
     yield "memory-that-looks-fill", looks_at_many_edges
     yield "memory-beside-a-flood", honest_beside_a_flood

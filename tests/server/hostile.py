@@ -196,5 +196,4 @@ def withstood(seconds: float) -> Test:
 
 
 def tests(seconds: float = SECONDS) -> Tests:
-    """All tests by their names."""
     yield "server-under-hostile-clients", withstood(seconds)

@@ -82,7 +82,6 @@ def used(use: Callable[[Client, float], tuple[int, float]], seconds: float, leas
 
 
 def tests(seconds: float = SECONDS) -> Tests:
-    """All tests by their names."""
     yield "server-that-makes-and-drops", used(makes_and_drops, seconds, SLOTS)
     # only the collector's own thread can free the one slot, since no create succeeds before
     yield "full-but-for-one", used(makes_one_at_a_time, ALONE, ALONE)

@@ -208,6 +208,5 @@ def tests_of_words() -> Tests:
 
 
 def tests() -> Tests:
-    """All tests by their names."""
     yield from tests_of_listening()
     yield from tests_of_words()

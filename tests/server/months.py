@@ -172,5 +172,4 @@ def lasted(rounds: int) -> Test:
 
 
 def tests(rounds: int = ROUNDS) -> Tests:
-    """All tests by their names."""
     yield "server-in-many-rounds", lasted(rounds)

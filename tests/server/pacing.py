@@ -137,7 +137,6 @@ def rests(program: Path) -> None:
 
 
 def tests() -> Tests:
-    """All tests by their names."""
     yield "creates-on-a-busy-processor", keeps_pace
     yield "server-with-nothing-to-do", rests
     yield "collector-that-frees-alone", frees_alone

@@ -151,5 +151,4 @@ def edges_cannot_be_piled_up(program: Path) -> None:
 
 
 def tests() -> Tests:
-    """All tests by their names."""
     yield "edges-cannot-be-piled-up", edges_cannot_be_piled_up

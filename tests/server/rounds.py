@@ -175,7 +175,8 @@ def models_after_garbage(_: Path) -> None:
     for model in (Course(config), Run(config)):
         for rows in (GARBAGE, AFTERWARDS):
             for event, wanted in rows:
-                same(model.problem({"seat": 0, **event}, line_of(wanted)), None, str(event))
+                problem = model.problem({"seat": 0, **event}, line_of(wanted))
+                assert problem is None, f"{event}: {problem}"
             if rows is GARBAGE:
                 model.rebase()
         graph = model.graph
@@ -183,7 +184,6 @@ def models_after_garbage(_: Path) -> None:
 
 
 def tests() -> Tests:
-    """All tests by their names."""
     yield "models-after-garbage", models_after_garbage
     yield "a-server-in-rounds", talks(CONFIG, 1, WRITES, READS, dropped=[2])
     yield "one-round", talks(CONFIG, 2, WRITES, READS, dropped=[])

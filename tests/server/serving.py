@@ -181,28 +181,21 @@ def many_lines_of_a_client(program: Path) -> None:
         alice.bye()
 
 
-def denied(
-    rule: str,
-    cause: str,
-    missing: str | None = None,
-    source: int | None = None,
-    target: int | None = None,
-    vertex: int | None = None,
-) -> tuple[str | int | None, ...]:
-    """The fields of a denial, as the client's exception has them."""
-    return rule, cause, missing, source, target, vertex
+def denied(rule: str, cause: str, **more: str | int) -> dict[str, str | int]:
+    """The fields of a denial that are not None, as the client's exception has them."""
+    return {"rule": rule, "cause": cause, **more}
 
 
 # What is refused to alice, who made document 3 with r alone and left no slot free, as the client's
 # exceptions have it.
 REFUSALS_OF_COMMANDS: list[tuple[tuple[Any, ...], Any]] = [
-    (("take", "wt", 9, 2), denied("take", "missing", "wt", 2, 9)),
+    (("take", "wt", 9, 2), denied("take", "missing", missing="wt", source=2, target=9)),
     (("take", "r", 2, 2), denied("take", "not distinct")),
     (("create", "document", ""), denied("create", "empty")),
     (("read", 2), denied("read", "not document", vertex=2)),
-    (("read", 9), denied("read", "missing", "r", 1, 9)),
-    (("write", 3, "no"), denied("write", "missing", "w", 1, 3)),
-    (("take", "r", 4, 2), denied("take", "missing", "r", 2, 4)),
+    (("read", 9), denied("read", "missing", missing="r", source=1, target=9)),
+    (("write", 3, "no"), denied("write", "missing", missing="w", source=1, target=3)),
+    (("take", "r", 4, 2), denied("take", "missing", missing="r", source=2, target=4)),
     (("create", "document", "r"), "slots"),
     (("hello", "bob"), "bound"),
     (("look", "1"), "bad field"),
@@ -211,7 +204,7 @@ REFUSALS_OF_COMMANDS: list[tuple[tuple[Any, ...], Any]] = [
     (("enrol", "bob", "r"), denied("enrol", "name taken")),
     (("enrol", "Carol", "r"), "bad field"),
     (("assume", 1), denied("assume", "not distinct")),
-    (("assume", 2), denied("assume", "missing", "g", 1, 2)),
+    (("assume", 2), denied("assume", "missing", missing="g", source=1, target=2)),
     (("assume", "2"), "bad field"),
     (("leave",), None),
     (("retire",), None),
@@ -226,8 +219,10 @@ def refusal_of(client: Client, name: str, *arguments: Any) -> Any:
     """The fields of the exception that a client raises, or what the command returns."""
     try:
         return getattr(client, name)(*arguments)
-    except Denied as it:
-        return denied(it.rule, it.cause, it.missing, it.source, it.target, it.vertex)
+    except Denied as denial:
+        fields = {name: value for name, value in vars(denial).items() if value is not None}
+        same(fields.pop("answer")["denied"], fields["rule"])
+        return fields
     except Full as full:
         return full.what
     except Fault as fault:
@@ -490,7 +485,8 @@ def retired_on_two_seats(program: Path) -> None:
         with server.client() as late, server.client() as bob:
             same(refusal_of(late, "hello", "alice"), "no principal")
             same((late.hello("bob"), bob.hello("bob"), bob.enrol("alice", "t")), (2, 2, 4))
-            same(refusal_of(bob, "read", document), denied("read", "missing", "r", 2, document))
+            lacks = denied("read", "missing", missing="r", source=2, target=document)
+            same(refusal_of(bob, "read", document), lacks)
             same(late.look(2), {4: "t"})
 
 
@@ -674,7 +670,6 @@ def tests_of_clients_at_once() -> Tests:
 
 
 def tests() -> Tests:
-    """All tests by their names."""
     yield from tests_of_talks()
     yield from tests_of_clients_at_once()
     for part in (listening, waiting, rounds, pacing, bounds, attended, piling):

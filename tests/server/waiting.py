@@ -170,7 +170,6 @@ def waits_without_end(program: Path) -> None:
 
 
 def tests() -> Tests:
-    """All tests by their names."""
     yield "silent-clients", silent_clients(b"", b"")
     yield "silent-clients-in-a-line", silent_clients(HELLO[:10], b"")
     yield "silent-clients-in-a-session", silent_clients(HELLO, WELCOME)
