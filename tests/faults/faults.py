@@ -10,7 +10,7 @@ from collections import Counter
 from collections.abc import Callable, Iterator
 from concurrent.futures import ThreadPoolExecutor
 from pathlib import Path
-from typing import IO, Any, NamedTuple, Protocol, TypeVar
+from typing import IO, Any, NamedTuple
 
 from checking import shown, tell_counts
 
@@ -46,16 +46,6 @@ class Ran(NamedTuple):
     output: bytes
     status: int
     wrong: int
-
-
-class Tried(Protocol):
-    """What comes of a try: how many of its calls went wrong, among other things."""
-
-    @property
-    def wrong(self) -> int: ...
-
-
-T = TypeVar("T", bound=Tried)
 
 
 @functools.cache
@@ -111,10 +101,10 @@ def runs(program: Path, words: list[str], given: bytes) -> Callable[[Fault], Ran
 
 
 def each(
-    attempt: Callable[[Fault], T], fault: Fault, to_the_end: bool = False
-) -> Iterator[tuple[int, T]]:
+    attempt: Callable[[Fault], Any], fault: Fault, to_the_end: bool = False
+) -> Iterator[tuple[int, Any]]:
     """The results of the attempt if the call 1, 2, .. goes wrong, or all calls from it on, until
-    none of that number is made."""
+    none of that number is made; a result has in `wrong` how many calls did."""
     library()
     with ThreadPoolExecutor(WORKERS) as pool:
         for start in itertools.count(1, BLOCK):

@@ -608,7 +608,7 @@ def of_example(name: str, *wanted: str) -> Test:
             assert text in found.stdout, f"{text} is not in {found.stdout}"
         same(found.returncode, 0)
         kept = re.fullmatch(r"tgdoc: the history and .* may take \d+ bytes .*\n", found.stderr)
-        assert kept, found.stderr
+        assert kept, f"on standard error: {found.stderr!r}"
 
     return test
 
