@@ -219,9 +219,9 @@ def all_heard(what: str, tried: Servers) -> None:
 def tried_each(program: Path, fault: Fault, to_the_end: bool, options: Options) -> Servers:
     """A server for each call of a kind, which goes wrong."""
     references = References(lambda places: serve(program, lines_at(places), Fault()).answers)
-    attempt, end = lambda at: serve(program, ALL_LINES, at, options), end_under(options)
-    found = [one for _, one in faults.each(attempt, fault, to_the_end)]
-    return [Tried(end(one), references.kind(one.answers), one) for one in found]
+    attempt = functools.partial(serve, program, ALL_LINES, options=options)
+    found, end = list(faults.each(attempt, fault, to_the_end)), end_under(options)
+    return [Tried(end(one), references.kind(one.answers), one) for _, one in found]
 
 
 def gone_wrong(
@@ -241,7 +241,7 @@ def gone_wrong(
                 assert one.told, f"a client is told what it may not be: {one.found}"
                 assert one.end, f"a server ends as it may not: {one.found}"
             check(program, tried)
-        except AssertionError:
+        except (AssertionError, ValueError, IndexError):
             for row, group in itertools.groupby(results):
                 print(f"    {len(list(group))} {row}")
             raise
