@@ -36,6 +36,15 @@ def same(found: object, wanted: object, what: str = "") -> None:
     raise AssertionError(f"{begin}wanted\n    {shown(wanted)}\n  found\n    {shown(found)}")
 
 
+def passes(test: Test, program: Path) -> bool:
+    """Whether a program passes a test; if not, why not is printed."""
+    try:
+        return test(program) in (None, True)
+    except Exception as error:
+        print(f"  {type(error).__name__}: {error}")
+        return False
+
+
 def tell_counts(what: str, counts: Counter) -> None:
     """Prints how often each kind was seen."""
     kinds = ", ".join(f"{number} {kind}" for kind, number in sorted(counts.items())) or "none"
