@@ -6,7 +6,7 @@ it raises (or returns False).
 
 import itertools
 from collections import Counter
-from collections.abc import Callable, Iterator
+from collections.abc import Callable, Iterator, Sequence
 from pathlib import Path
 
 Test = Callable[[Path], bool | None]
@@ -23,15 +23,23 @@ def shown(value: object) -> str:
     return text if more <= 0 else f"{text[:half]} ({more} more) {text[-half:]}"
 
 
+def parts_of(value: object) -> Sequence[object]:
+    """The lines of bytes, or the elements of a list or tuple; else none."""
+    if isinstance(value, bytes):
+        return value.splitlines(True)
+    return value if isinstance(value, list | tuple) else []
+
+
 def same(found: object, wanted: object, what: str = "") -> None:
-    """Raises unless this was found; if both are bytes, with the first line that differs."""
+    """Raises unless this was found; of values that are too long, with the first part that
+    differs."""
     if found == wanted:
         return
-    if isinstance(found, bytes) and isinstance(wanted, bytes):
-        pairs = itertools.zip_longest(found.splitlines(True), wanted.splitlines(True))
-        lines = ((number, pair) for number, pair in enumerate(pairs, 1) if pair[0] != pair[1])
-        number, (found, wanted) = next(lines)
-        what = f"{what}, line {number}" if what else f"line {number}"
+    parts, others = parts_of(found), parts_of(wanted)
+    is_long = len(repr(found)) > MOST_SHOWN or len(repr(wanted)) > MOST_SHOWN
+    if is_long and max(len(parts), len(others)) > 1:
+        for number, pair in enumerate(itertools.zip_longest(parts, others), 1):
+            same(*pair, f"{what} [{number}]".strip())
     begin = f"{what}: " if what else ""
     raise AssertionError(f"{begin}wanted\n    {shown(wanted)}\n  found\n    {shown(found)}")
 

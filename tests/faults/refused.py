@@ -125,7 +125,7 @@ def memory_of_one_answer_refused(word: str, cases: list[Audit]) -> Test:
 def answers_to(script: Script, given: bytes) -> list[bytes]:
     """The answers to a script that is cut after these bytes; a cut line is not JSON."""
     rows = given.splitlines()
-    known = [(script.opening, None), *script.pairs]
+    known: list[tuple[bytes, bytes | None]] = [(script.opening, None), *script.pairs]
     answers = [answer if row == line else NOT_JSON for row, (line, answer) in zip(rows, known)]
     return [answer for answer in answers or [NOT_JSON] if answer is not None]
 
