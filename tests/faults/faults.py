@@ -129,8 +129,12 @@ def memory_refused(
         at = f"at allocation {number}: status {found.status}, {shown(found.output)}"
         assert kind is not None, at
         counts[kind] += 1
-    tell_counts("allocations refused", counts)
     return counts
+
+
+def tell_refused(counts: Counter[str]) -> None:
+    """Prints how many allocations were refused, and what came of it."""
+    tell_counts("allocations refused", counts)
 
 
 # The ends of a program that lacks memory before its first answer.

@@ -13,7 +13,7 @@ from pathlib import Path
 
 from checking import Test, Tests, same
 from faults import faults
-from faults.faults import Fault, Ran
+from faults.faults import Fault, Ran, tell_refused
 from running import ROOT, asked
 
 OK = b"\ntest result: ok\n"
@@ -43,7 +43,9 @@ def counted(program: Path, name: str) -> Counter[str]:
     """The test passes with memory; as its allocations fail in turn, how many had which result."""
     attempt = faults.runs(program, [name], b"")
     same(attempt(Fault())[:2], (OK, 0), "with memory")
-    return faults.memory_refused(attempt, kind_of)
+    counts = faults.memory_refused(attempt, kind_of)
+    tell_refused(counts)
+    return counts
 
 
 def growth_refused(name: str) -> Test:

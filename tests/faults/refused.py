@@ -7,12 +7,13 @@ it, or with it. All other answers are in scripts.py. Each test prints how many c
 """
 
 import os
+from collections import Counter
 from collections.abc import Callable, Sequence
 from pathlib import Path
 
 from checking import Test, Tests, same
 from faults import faults, scripts
-from faults.faults import BEFORE_ANY, FAILS, INTERRUPTED, Fault, Ran, one_of, ran
+from faults.faults import BEFORE_ANY, FAILS, INTERRUPTED, Fault, Ran, one_of, ran, tell_refused
 from faults.scripts import NOT_JSON, Audit, Script
 from running import asked, joined
 
@@ -100,6 +101,7 @@ def memory_refused(script: Script, to_the_end: bool = False) -> Test:
         counts = faults.memory_refused(
             attempt, lambda found: kind_of_run(references, script, found), to_the_end
         )
+        tell_refused(counts)
         assert any("not sent" in kind for kind in counts), "no line was refused"
 
     return test
@@ -109,15 +111,16 @@ def memory_of_one_answer_refused(word: str, cases: list[Audit]) -> Test:
     """Each allocation of runs with one answer fails: it is this, or `out of memory`."""
 
     def test(program: Path) -> None:
-        refused = 0
+        counts: Counter[str] = Counter()
         for lines, answer in cases:
             attempt = faults.runs(program, [word], joined(*lines))
             whole = joined(answer), int(answer != scripts.SHARED)
             same(attempt(Fault())[:2], whole, "with memory")
             no_memory = {(joined(NO_MEMORY), 1): "out of memory"}
             ends = {**BEFORE_ANY, **no_memory, whole: "answered all the same"}
-            refused += faults.memory_refused(attempt, one_of(ends))["out of memory"]
-        assert refused > 0, "nothing was out of memory"
+            counts += faults.memory_refused(attempt, one_of(ends))
+        tell_refused(counts)
+        assert counts["out of memory"] > 0, "nothing was out of memory"
 
     return test
 
@@ -133,12 +136,13 @@ def answers_to(script: Script, given: bytes) -> list[bytes]:
 def memory_of_texts_refused(program: Path) -> None:
     """Each allocation fails when a text is asked for, or a command line is refused: it is the same
     text, or none and status 2."""
-    refused = 0
+    counts: Counter[str] = Counter()
     for words in (["--help"], ["run", "--help"], ["--version"], [], ["steal"]):
         attempt = faults.runs(program, words, b"")
         ends = {attempt(Fault())[:2]: "the same text", (b"", 2): "command line refused"}
-        refused += faults.memory_refused(attempt, one_of(ends))["command line refused"]
-    assert refused > 0, "no command line was refused"
+        counts += faults.memory_refused(attempt, one_of(ends))
+    tell_refused(counts)
+    assert counts["command line refused"] > 0, "no command line was refused"
 
 
 def end_of_run(script: Script, given: bytes) -> End:

@@ -11,7 +11,7 @@ from random import Random
 
 from checking import Test, Tests, same, skipped
 from faults import faults
-from faults.faults import BEFORE_ANY, one_of
+from faults.faults import BEFORE_ANY, one_of, tell_refused
 from film.pictures import picture as read
 from fuzz.differential import answered, opening, printed_if_wrong, sources
 from models import picture as model
@@ -235,6 +235,7 @@ def memory_refused(given: bytes, ends: dict[str, bytes], *words: str) -> Test:
     def test(program: Path) -> None:
         attempt = faults.runs(program, ["draw", *words], given)
         counts = faults.memory_refused(attempt, one_of(known))
+        tell_refused(counts)
         same([name for name in ends if "picture" in name and not counts[name]], [], "never seen")
 
     return test

@@ -5,7 +5,7 @@ from pathlib import Path
 
 from checking import Test, Tests, same
 from faults import faults
-from faults.faults import BEFORE_ANY, one_of
+from faults.faults import BEFORE_ANY, one_of, tell_refused
 from fuzz.sharing import NEVER, NO_SERIAL, SHARED, TOO_MUCH, audited, shared
 from models.reading import line_of
 from running import example, ran
@@ -161,6 +161,7 @@ def memory_refused(program: Path) -> None:
     right = (CHAIN + GOAL % (1, b"r", 3) + TAKE, 0)
     ends = {right: "answered all the same", (NO_MEMORY, 1): "out of memory", **BEFORE_ANY}
     counts = faults.memory_refused(attempt, one_of(ends))
+    tell_refused(counts)
     assert counts["out of memory"] > 10, "too few"
 
 
