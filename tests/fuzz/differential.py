@@ -282,7 +282,7 @@ def derivation(source: Random) -> list[Event]:
         config["next"] = NONE_LEFT - source.randint(0, 4)
     graph, is_good = Graph(read_config(line_of(config))), source.random() < 0.5
     steps: list[Event] = []
-    for _ in range(source.randint(0, 40)):
+    for _ in range(source.randint(0, source.choice([40, 40, 160]))):
         subjects = [serial for serial, kind in graph.kinds.items() if kind == "subject"]
         actor = source.choice(subjects) if source.random() < 0.9 else serial(source, graph)
         step = {"actor": actor, **command(source, graph, actor, OPS)}
