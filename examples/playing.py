@@ -20,6 +20,12 @@ def told(*words):
     print(*words, flush=True)
 
 
+def same(found, wanted):
+    """Raises unless this was found."""
+    if found != wanted:
+        raise AssertionError(f"wanted {wanted!r}, found {found!r}")
+
+
 def refusal_of(kind, command, *arguments):
     """The refusal of a command that is to be refused in this way."""
     try:
