@@ -130,19 +130,10 @@ def tests() -> Tests:
     twice = b"tgdoc: the configuration is refused: two principals have the same name\n"
     for word in ("run", "draw"):
         yield f"configuration-explained-for-{word}", says(twice, word, given=TWICE)
-    for name, said, address in [
-        (
-            "address-of-no-loopback-explained",
-            b"tgdoc: 0.0.0.0:0 is not an address of the loopback",
-            "0.0.0.0:0",
-        ),
-        (
-            "address-that-is-none-explained",
-            b"tgdoc: here is no address with a port, as 127.0.0.1:7000 is",
-            "here",
-        ),
-    ]:
-        yield name, not_served(said, "--listen", address)
+    said = b"tgdoc: 0.0.0.0:0 is not an address of the loopback"
+    yield "address-of-no-loopback-explained", not_served(said, "--listen", "0.0.0.0:0")
+    said = b"tgdoc: here is no address with a port, as 127.0.0.1:7000 is"
+    yield "address-that-is-none-explained", not_served(said, "--listen", "here")
     unserved = not_served(twice.rstrip(), *ANY_PORT, given=TWICE)
     yield "configuration-explained-for-serve", unserved
     yield "port-in-use-explained", port_in_use
