@@ -140,7 +140,7 @@ class Client:
                 raise ConnectionError("the server ended the connection")
             self._wait(0, limit)
             found = self.arrived.find(b"\n")
-        answer = json.loads(self.arrived[:found])
+        answer: Answer = json.loads(self.arrived[:found])
         del self.arrived[: found + 1]
         for key, refusal in REFUSALS.items():
             if key in answer:
@@ -170,7 +170,7 @@ class Client:
     def hello(self, name: str) -> int:
         """Begins the session of the principal of this name, and returns its serial. There is no
         password: the server believes the name."""
-        return self.ask(op="hello", name=name)["vertex"]
+        return int(self.ask(op="hello", name=name)["vertex"])
 
     def bye(self) -> None:
         """Ends the session; the server then ends the connection."""
@@ -187,13 +187,13 @@ class Client:
     def create(self, kind: str, rights: str) -> int:
         """Makes a vertex, a `subject` or a `document`, over which the one who asks has these
         rights, and returns its serial."""
-        return self.ask(op="create", kind=kind, rights=rights)["vertex"]
+        return int(self.ask(op="create", kind=kind, rights=rights)["vertex"])
 
     def enrol(self, name: str, rights: str) -> int:
         """Makes a subject that is a principal by this name, 1 to 32 letters a to z, and over which
         the one who asks has these rights; returns its serial. A client may then say hello by the
         name."""
-        return self.ask(op="enrol", name=name, rights=rights)["vertex"]
+        return int(self.ask(op="enrol", name=name, rights=rights)["vertex"])
 
     def retire(self) -> None:
         """Ends the principal who asks: its name is free for another, and from then on its own
@@ -234,7 +234,7 @@ class Client:
 
     def read(self, over: int) -> str:
         """The text of a document."""
-        return self.ask(op="read", over=over)["text"]
+        return str(self.ask(op="read", over=over)["text"])
 
     def write(self, over: int, text: str) -> None:
         """Makes this the text of a document."""

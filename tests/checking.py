@@ -53,7 +53,7 @@ def passes(test: Test, program: Path) -> bool:
         return False
 
 
-def tell_counts(what: str, counts: Counter) -> None:
+def tell_counts(what: str, counts: Counter[str]) -> None:
     """Prints how often each kind was seen."""
     kinds = ", ".join(f"{number} {kind}" for kind, number in sorted(counts.items())) or "none"
     print(f"  {what}: {counts.total()} ({kinds})")

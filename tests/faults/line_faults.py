@@ -109,7 +109,7 @@ def text_of_bytes(source: Random) -> str:
 def nested(source: Random) -> str:
     """A value that is nested about as deeply as it may be, one level being that of the line."""
     near = range(MOST_LEVELS - 2, MOST_LEVELS + 2)
-    depth = source.choice([1, 2, *near, 1000, 5000])
+    depth: int = source.choice([1, 2, *near, 1000, 5000])
     if source.random() < 0.5:
         return "[" * depth + "]" * depth
     return '{"a":' * (depth - 1) + "{}" + "}" * (depth - 1)

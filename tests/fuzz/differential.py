@@ -91,7 +91,7 @@ def serial(source: Random, graph: Graph) -> int:
 
 def at_random(source: Random, graph: Graph, op: str) -> Event:
     """A command of this op, about as often denied as allowed, or more often."""
-    fields = {
+    fields: Event = {
         "rights": some(source) if source.random() < 0.95 else "",
         "kind": source.choice(["subject", "document"]),
         "text": source.choice([*TEXTS, f"text {source.randint(0, 99)}"]),
@@ -231,9 +231,9 @@ def talked(
             tell(process, row + b"\n")
             answer = hear(process)
             told.append(answer[:-1])
-            for model in (run, course):
-                problem = model.problem(read_event(row), answer[:-1])
-                assert problem is None, problem
+            read, heard = read_event(row), answer[:-1]
+            problem = run.problem(read, heard) or course.problem(read, heard)
+            assert problem is None, problem
             kind = next((kind for kind in KINDS if f'"{kind}"'.encode() in answer), "steps")
             seen[kind] += 1
             errors += kind == "error"

@@ -96,7 +96,7 @@ def check_steps(program: Path, run: Drawn, words: list[str], text: bytes, goal: 
     assert text.endswith(alone), f"the steps alone are not those of the derivation: {alone!r}"
     steps = [json.loads(row) for row in alone.splitlines()]
     most, creates = most_steps(run.graph, goal["rights"])
-    made = sum(step["op"] == "create" for step in steps)
+    made = len([step for step in steps if step["op"] == "create"])
     assert len(steps) <= most and made <= creates, f"{len(steps)} steps, {made} creates"
     same(audited(program, text), SHARED, "an audit of the derivation")
     same(lines[0], run.rows[0] + b"\n", "the configuration of the derivation")

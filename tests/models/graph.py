@@ -23,7 +23,7 @@ OF_KIND = {
 
 def needs(actor: int, event: Event) -> list[tuple[int, int, str]]:
     """The labels that a command asks for, in their order: from, to, rights."""
-    op, over, rights = event["op"], event.get("over"), event.get("rights")
+    op, over, rights = event["op"], event.get("over", 0), event.get("rights", "")
     if op == "take":
         return [(actor, event["from"], "t"), (event["from"], over, rights)]
     if op == "grant":

@@ -54,7 +54,7 @@ class Owner:
         self.graph.triples = {triple for triple in self.graph.triples if triple[0] in reached}
         if name == "look":
             return dict(answer["edges"])
-        return answer.get({"create": "vertex", "read": "text"}.get(name))
+        return answer.get({"create": "vertex", "read": "text"}.get(name, ""))
 
     def reached(self) -> set[int]:
         """All vertices that the principal and the actor reach over edges, themselves among them."""

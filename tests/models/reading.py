@@ -29,8 +29,9 @@ LETTERS = "rwtg"
 LONGEST_LINE = 16384
 LONGEST_TEXT = 4096
 MOST_LEVELS = 127
-# The commands that a step of an audit may be.
-STEPS = {
+# Ops with their fields: the commands that a step of an audit may be, all commands, all events.
+Ops = dict[str, list[str]]
+STEPS: Ops = {
     "take": ["rights", "over", "from"],
     "grant": ["rights", "over", "to"],
     "create": ["kind", "rights"],
@@ -39,8 +40,9 @@ STEPS = {
     "write": ["over", "text"],
     "look": ["at"],
 }
-COMMANDS = {**STEPS, "enrol": ["name", "rights"], "retire": [], "assume": ["agent"], "leave": []}
-EVENTS = {"hello": ["name"], "bye": [], **COMMANDS, "shade": [], "collect": [], "cycle": []}
+COMMANDS: Ops = {**STEPS, "enrol": ["name", "rights"], "retire": [], "assume": ["agent"]}
+COMMANDS["leave"] = []
+EVENTS: Ops = {"hello": ["name"], "bye": [], **COMMANDS, "shade": [], "collect": [], "cycle": []}
 
 TEXT = re.compile(r'"(?:[^"\\]|\\.)*"', re.DOTALL)
 BRACKET = re.compile(r"[\[\]{}]")
