@@ -124,7 +124,7 @@ class Service(BaseHTTPRequestHandler):
         is_own = is_own and (origin is None or origin in [f"http://{host}" for host in hosts])
         return is_own and self.headers.get("Host") in hosts
 
-    def reply(self, status, kind, body):
+    def reply(self, status: int, kind: str, body: bytes) -> None:
         self.send_response(status)
         about = {"Content-Type": f"{kind}; charset=utf-8", "Content-Length": str(len(body))}
         for name, value in {**HEADERS, **about}.items():
@@ -135,7 +135,7 @@ class Service(BaseHTTPRequestHandler):
     def reply_value(self, status, value):
         self.reply(status, "application/json", json.dumps(value).encode())
 
-    def do_GET(self):
+    def do_GET(self) -> None:
         name = self.path.partition("?")[0].lstrip("/") or "page.html"
         if not self.is_ours():
             self.reply_value(403, {"refused": "not from here"})
@@ -170,7 +170,7 @@ class Service(BaseHTTPRequestHandler):
             self.reply_value(400, {"refused": str(error)})
 
 
-def opened(service, port):
+def opened(service: type[BaseHTTPRequestHandler], port: int) -> ThreadingHTTPServer:
     """A server at this port of the loopback address, or at any free one if it is taken."""
     try:
         return ThreadingHTTPServer(("127.0.0.1", port), service)

@@ -89,9 +89,9 @@ def source_of(given: bytes) -> Iterator[IO[bytes]]:
 def ran(program: Path, words: list[str], given: bytes, fault: Fault) -> Ran:
     """A run on these bytes, in which this goes wrong."""
     with source_of(given) as source, at_fault(fault) as (environment, told):
-        pipes = {"stdin": source, "stdout": subprocess.PIPE, "stderr": subprocess.DEVNULL}
-        how: dict[str, Any] = {"env": environment, "pass_fds": [told.fileno()], "timeout": SECONDS}
-        done = subprocess.run([str(program), *words], **pipes, **how)
+        how: dict[str, Any] = {"stdin": source, "stderr": subprocess.DEVNULL, "env": environment}
+        how |= {"pass_fds": [told.fileno()], "timeout": SECONDS}
+        done = subprocess.run([str(program), *words], stdout=subprocess.PIPE, **how)
         return Ran(done.stdout, done.returncode, os.fstat(told.fileno()).st_size)
 
 

@@ -137,7 +137,8 @@ def memory_of_texts_refused(program: Path) -> None:
     """Each allocation fails when a text is asked for, or a command line is refused: it is the same
     text, or none and status 2."""
     counts: Counter[str] = Counter()
-    for words in (["--help"], ["run", "--help"], ["--version"], [], ["steal"]):
+    asked_for: list[list[str]] = [["--help"], ["run", "--help"], ["--version"], [], ["steal"]]
+    for words in asked_for:
         attempt = faults.runs(program, words, b"")
         ends = {attempt(Fault())[:2]: "the same text", (b"", 2): "command line refused"}
         counts += faults.memory_refused(attempt, one_of(ends))

@@ -18,6 +18,7 @@ import re
 from collections import Counter
 from collections.abc import Iterator
 from pathlib import Path
+from typing import Any
 
 from checking import Tests, same
 
@@ -263,7 +264,7 @@ def every_want_is_handed_on(crates: Path) -> None:
     same([line for line in lines if FLAG in line], FLAG_LINES)
 
 
-def all_are_listed(found: Counter, listed: dict) -> None:
+def all_are_listed(found: Counter[Any], listed: dict[Any, int]) -> None:
     """What is found and what is listed, each as often as the other."""
     for one in found.keys() | listed.keys():
         same(found[one], listed.get(one, 0), f"how often there is {one}")

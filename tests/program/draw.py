@@ -8,6 +8,7 @@ import shutil
 import subprocess
 from pathlib import Path
 from random import Random
+from typing import Any
 
 from checking import Test, Tests, same, skipped
 from faults import faults
@@ -271,9 +272,9 @@ def memory_refused_to_last() -> Test:
 def instructions(program: Path, given: bytes, *words: str) -> int:
     """How many instructions the program takes for an input, as Valgrind counts them: the same,
     whatever else the machine does."""
-    counting = ("--tool=callgrind", "--callgrind-out-file=/dev/null", program, *words)
-    how = {"stdout": subprocess.DEVNULL, "check": True}
-    counted = ran(Path("valgrind"), *counting, given=given, **how)
+    options = ("--tool=callgrind", "--callgrind-out-file=/dev/null")
+    how: dict[str, Any] = {"stdout": subprocess.DEVNULL, "check": True}
+    counted = ran(Path("valgrind"), *options, program, *words, given=given, **how)
     return int(re.findall(rb"Collected : (\d+)", counted.stderr)[0])
 
 

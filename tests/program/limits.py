@@ -14,6 +14,7 @@ import socket
 from collections.abc import Callable, Iterator
 from concurrent.futures import ThreadPoolExecutor
 from pathlib import Path
+from typing import Any
 
 from checking import Test, Tests, same
 from faults.scripts import (
@@ -126,7 +127,7 @@ def a_full_vault_is_rebased(program: Path) -> None:
     document, and the text of one."""
     rows = [(hello(NAMES[0].encode()), welcome(1)), (longest(look(1)), OWNED)]
     rows += [(read(FIRST, 0), LAST_TEXT), (alone(b"bye"), BYE)]
-    how = {"config": OPENING + b"\n", "ends": in_rounds(len(commands(0)))}
+    how: dict[str, Any] = {"config": OPENING + b"\n", "ends": in_rounds(len(commands(0)))}
     with served(program, 1, 2, "--round", "1", **how) as server:
         with server.connection() as first:
             greeted(first, 0)

@@ -330,13 +330,14 @@ def configurations() -> Cases:
         yield refused_opening(f"configuration-fault-{name}", object_of(fields), answer)
     create = make(b"r", 0)[0]
     longest, equal = [("principals", f'["{"z" * 32}"]')], [("principals", "1")]
-    for name, fields, pairs in [
+    configured: list[tuple[str, list[Field], list[Pair]]] = [
         ("next-is-the-number-of-principals-plus-1", [two], [(create, created(3))]),
         ("next-given", [two, ("next", "7")], [(create, created(7))]),
         ("no-serial-left", [two, ("next", "18446744073709551615")], [(create, FULL % b"serials")]),
         ("greatest-limits", [two, ("slots", "65536"), ("cells", "1048576")], []),
         ("of-equal-keys-the-last-wins", [*equal, ("principals", '["alice"]')], []),
-    ]:
+    ]
+    for name, fields, pairs in configured:
         yield opening(f"configuration-{name}", object_of(fields), (HELLO, WELCOME), *pairs)
     yield opening("configuration-name-of-32-letters", object_of(longest))
     names = ["a" * (n % 26 + 1) + "b" * (n // 26) for n in range(64)]
@@ -526,14 +527,14 @@ def collector() -> Cases:
         refused = [(bad, BAD), (unknown, UNKNOWN_FIELD), whole]
         yield opening(f"a-refused-{op}-makes-no-step", one, *refused)
     create, edge = make(b"r", 0)[0], b'[[1,"t",2]]'
-    for name, config, which, *more in [
-        ("slots", one[:-1] + b',"next":9}', b"slots", (SHADE, NO_TARGET)),
+    next_9, idle = one[:-1] + b',"next":9}', (SHADE, NO_TARGET)
+    yield opening("full-of-slots", next_9, (HELLO, WELCOME), (create, FULL % b"slots"), idle)
+    for name, config, which in [
         ("serials-before-slots-and-cells", small(edge, 2, NO_SERIAL), b"serials"),
         ("slots-before-cells", small(edge, 2), b"slots"),
         ("cells", small(edge, 3), b"cells"),
     ]:
-        full = (create, FULL % which)
-        yield opening(f"full-of-{name}", config, (HELLO, WELCOME), full, *more)
+        yield opening(f"full-of-{name}", config, (HELLO, WELCOME), (create, FULL % which))
 
 
 NO_SERIAL = b'"next":18446744073709551615,'
@@ -671,11 +672,11 @@ def verdicts() -> Cases:
     document = step_of("create", actor="2", kind='"document"', rights='"r"')
     take = step_of("take", rights='"r"', over="3", **{"from": "2"})
     over_3 = goal(1, b"r", 3)
-    for name, answer, *steps in [
-        ("of-a-created-subject", SHARED, subject, document, take),
-        ("actor-that-is-created-later", no_subject_at(0), document, subject, take),
-        ("actor-that-is-a-document", no_subject_at(2), subject, document, LOOK_OF_3),
-        ("actor-before-the-rules", no_subject_at(0), CREATE_OF_9),
+    for name, answer, steps in [
+        ("of-a-created-subject", SHARED, [subject, document, take]),
+        ("actor-that-is-created-later", no_subject_at(0), [document, subject, take]),
+        ("actor-that-is-a-document", no_subject_at(2), [subject, document, LOOK_OF_3]),
+        ("actor-before-the-rules", no_subject_at(0), [CREATE_OF_9]),
     ]:
         yield audited(name, answer, alone, over_3, *steps)
     following = b'{"next":7,"principals":["alice"]}'
@@ -699,12 +700,13 @@ def verdicts() -> Cases:
     # The verdict on many steps is the one on few, and so is the status.
     looks = [step_of("look", at="1")] * 1_001
     lacks = STEP_LACKS % (b"look", 1, b"t", 1_001, 9)
-    for name, answer, *steps in [
-        ("goal-missing", goal_missing(b"r")),
-        ("step-denied", lacks, step_of("look", at="9")),
-        ("actor-no-subject", no_subject_at(1_001), step_of("look", actor="9", at="9")),
-        ("line-refused", NOT_JSON, b""),
-    ]:
+    late: list[tuple[str, bytes, list[bytes]]] = [
+        ("goal-missing", goal_missing(b"r"), []),
+        ("step-denied", lacks, [step_of("look", at="9")]),
+        ("actor-no-subject", no_subject_at(1_001), [step_of("look", actor="9", at="9")]),
+        ("line-refused", NOT_JSON, [b""]),
+    ]
+    for name, answer, steps in late:
         yield audited(f"{name}-after-many-steps", answer, two, GOAL, *looks, *steps)
     person = b'{"edges":[[1,"r",2]],"principals":["alice","bob"]}'
     read = step_of("read", over="2")

@@ -121,10 +121,12 @@ def served(program: Path, service: type[Service] = Service) -> Iterator[int]:
         builds.FOUND = before
 
 
-def replied(port: int, *request: Any, **headers: str) -> tuple[int, bytes]:
+def replied(
+    port: int, method: str, path: str, headers: dict[str, str], body: bytes | None = None
+) -> tuple[int, bytes]:
     """The status and the body of the reply to a request."""
     line = http.client.HTTPConnection("127.0.0.1", port, timeout=SECONDS)
-    line.request(*request, headers=headers)
+    line.request(method, path, body, headers)
     reply = line.getresponse()
     found = reply.status, reply.read()
     line.close()
@@ -135,13 +137,13 @@ def told(port: int, path: str, question: object, **headers: str) -> tuple[int, A
     """The status and the answer to a question."""
     body = question if isinstance(question, bytes) else json.dumps(question).encode()
     headers = {"Content-Type": "application/json", **headers}
-    status, answer = replied(port, "POST", path, body, **headers)
+    status, answer = replied(port, "POST", path, headers, body)
     return status, json.loads(answer)
 
 
 def fetched(port: int, path: str, **headers: str) -> int:
     """The status of a file."""
-    return replied(port, "GET", path, **headers)[0]
+    return replied(port, "GET", path, headers)[0]
 
 
 WHO = {"lines": GROUP, "to": 6, "rights": "r"}
@@ -163,7 +165,8 @@ def answers(program: Path) -> None:
         same(told(port, "/state", {"lines": ["{}"]}), (200, refused))
         same(told(port, "/who", WHO), TOLD_WHO)
         for start, verdict in ((4, "never"), (2, None)):
-            answer = told(port, "/share", {**WHO, "from": start})
+            question: dict[str, Any] = {**WHO, "from": start}
+            answer = told(port, "/share", question)
             same(answer, (200, {"steps": [], "verdict": verdict}))
 
 
@@ -240,8 +243,8 @@ def in_a_browser(size: str) -> Test:
             folder = stack.enter_context(tempfile.TemporaryDirectory())
             said = stack.enter_context(open(f"{folder}/said", "w+b"))
             port = stack.enter_context(served(program, probed))
-            words = ("--headless", "--no-sandbox", "--disable-gpu", "--enable-logging=stderr")
-            words += (f"--user-data-dir={folder}/data", f"--window-size={size}")
+            words = ["--headless", "--no-sandbox", "--disable-gpu", "--enable-logging=stderr"]
+            words += [f"--user-data-dir={folder}/data", f"--window-size={size}"]
             with started(Path(browser), *words, f"http://127.0.0.1:{port}/", stderr=said):
                 is_told.wait(SECONDS)
             said.seek(0)
@@ -256,7 +259,7 @@ def in_a_browser(size: str) -> Test:
 def starts(program: Path) -> None:
     """The command prints the address of its page, which is there; Ctrl-C ends it in silence."""
     command = ROOT / "examples" / "playground" / "playground"
-    how = {"env": {**os.environ, "TGDOC": str(program)}, "stderr": subprocess.PIPE}
+    how: dict[str, Any] = {"env": {**os.environ, "TGDOC": str(program)}, "stderr": subprocess.PIPE}
     with started(command, "--port", "0", **how) as process:
         address = hear(process).decode()
         same(fetched(int(address.split(":")[2].partition("/")[0]), "/"), 200)

@@ -19,7 +19,7 @@ from typing import Any
 
 from checking import Tests, same, skipped
 from models.graph import Graph
-from models.reading import line_of, read_config, read_step
+from models.reading import Event, line_of, read_config, read_step
 from running import Process, Word, asked, ran, started
 from server.servers import (
     AGREED, ANY_PORT, BYE, CONFIG, CREATE, HELLO, LOOK, PARTED, SEEN, WELCOME, Server, in_rounds,
@@ -47,7 +47,8 @@ class Attended(Server):
         """The answer to one line."""
         with self.attendant() as one:
             one.sendall(json.dumps(fields).encode() + b"\n")
-            return json.loads(read_line(one))
+            answer: dict[str, Any] = json.loads(read_line(one))
+            return answer
 
     def status(self) -> dict[str, Any]:
         """What the server says of itself."""
@@ -82,7 +83,7 @@ def attended(
         yield Attended(stack.enter_context(serving), path)
 
 
-def until(what: str, holds: Callable[[], bool]) -> None:
+def until(what: str, holds: Callable[[], object]) -> None:
     """Returns once this holds, which has to be before long."""
     end = time.monotonic() + 10.0
     while not holds():
@@ -205,7 +206,7 @@ def status_tells(program: Path) -> None:
         found = server.status()
         server.stop()
     (client,) = found["clients"]
-    known = {
+    known: dict[str, Any] = {
         "clients": [
             {
                 **{"worker": client["worker"], "seat": client["worker"], "idle": client["idle"]},
@@ -316,10 +317,16 @@ def hostile_lines(program: Path) -> None:
     same(refusals, 10_000)
 
 
+def send(one: socket.socket, sent: bytes) -> None:
+    """Sends bytes, and that no more comes."""
+    one.sendall(sent)
+    one.shutdown(socket.SHUT_WR)
+
+
 def errors_of(server: Attended, sent: bytes) -> int:
     """How many answers are errors, to lines of which each is answered by one."""
     with server.attendant() as one, ThreadPoolExecutor() as pool:
-        pool.submit(lambda: (one.sendall(sent), one.shutdown(socket.SHUT_WR)))
+        pool.submit(send, one, sent)
         answers = read_all(one)
     return sum(line.startswith(b'{"error"') for line in answers.splitlines())
 
@@ -358,7 +365,7 @@ def log_tells(program: Path) -> None:
 
 # What alice does in a round: a grant and a write are denied, some changes no edge, and she enrols
 # another principal.
-WORK = [
+WORK: list[Event] = [
     {"op": "create", "kind": "document", "rights": "rw"},
     {"op": "grant", "over": 3, "rights": "r", "to": 2},
     {"op": "create", "kind": "subject", "rights": "tg"},
@@ -482,7 +489,7 @@ def memory_refused_at_a_stop(program: Path) -> None:
         resource.setrlimit(resource.RLIMIT_AS, (384 << 20, 384 << 20))
 
     words = ("--workers", "2", "--memory", "1g")
-    how = {"preexec_fn": few, "stderr": subprocess.DEVNULL}
+    how: dict[str, Any] = {"preexec_fn": few, "stderr": subprocess.DEVNULL}
     with attended(program, *words, config=LARGE, **how) as server:
         with server.connection() as one, contextlib.suppress(OSError):
             one.sendall(HELLO)

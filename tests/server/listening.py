@@ -53,7 +53,7 @@ def not_served(answer: bytes, address: str, config: bytes = CONFIG, connections:
 def free_port() -> int:
     """A port at which nobody listens."""
     with socket.create_server(("127.0.0.1", 0)) as one:
-        return one.getsockname()[1]
+        return int(one.getsockname()[1])
 
 
 def addresses_of_this_machine() -> list[str]:

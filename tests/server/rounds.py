@@ -81,7 +81,7 @@ def many_clients_in_a_round(program: Path) -> None:
     """Four clients in each of three rounds: all that they make is there in the end."""
     words, ends = ("--round", "4"), in_rounds(8, 8)
     with served(program, 4, 12, *words, config=ROOMY, ends=ends) as server:
-        found = []
+        found: list[bytes] = []
         for lines in (CREATE * 2, CREATE * 2, LOOK):
             with ThreadPoolExecutor(4) as pool:
                 found += pool.map(server.exchange, [HELLO + lines + BYE] * 4)
@@ -145,9 +145,12 @@ def same_before_and_after(program: Path) -> None:
 
 # Events and their answers, and those after a rebase, by the models alone: slots and cells stay as
 # they were.
-HELLO_OF_ALICE = ({"op": "hello", "name": "alice"}, {"ok": "hello", "vertex": 1})
+HELLO_OF_ALICE: tuple[Event, Event] = (
+    {"op": "hello", "name": "alice"},
+    {"ok": "hello", "vertex": 1},
+)
 A_DOCUMENT = {"op": "create", "kind": "document", "rights": "r"}
-GARBAGE = [
+GARBAGE: list[tuple[Event, Event]] = [
     HELLO_OF_ALICE,
     ({"op": "hello", "name": "bob", "seat": 1}, {"ok": "hello", "vertex": 2}),
     (A_DOCUMENT, {"ok": "created", "vertex": 3}),
@@ -161,7 +164,7 @@ GARBAGE = [
     ({"op": "bye"}, {"ok": "bye"}),
     ({"op": "bye", "seat": 1}, {"ok": "bye"}),
 ]
-AFTERWARDS = [
+AFTERWARDS: list[tuple[Event, Event]] = [
     HELLO_OF_ALICE,
     ({"op": "read", "over": 4}, {"ok": "text", "text": ""}),
     ({"op": "read", "over": 3}, {"denied": "read", "from": 1, "missing": "r", "to": 3}),
@@ -172,7 +175,8 @@ AFTERWARDS = [
 def models_after_garbage(_: Path) -> None:
     """The worked case of a rebase after garbage, by the models."""
     config: Config = read_config(NARROW[:-1])
-    for model in (Course(config), Run(config)):
+    models: list[Course | Run] = [Course(config), Run(config)]
+    for model in models:
         for rows in (GARBAGE, AFTERWARDS):
             for event, wanted in rows:
                 problem = model.problem({"seat": 0, **event}, line_of(wanted))

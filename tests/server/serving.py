@@ -13,7 +13,7 @@ import socket
 import struct
 import threading
 import time
-from collections.abc import Callable
+from collections.abc import Callable, Iterable
 from concurrent.futures import ThreadPoolExecutor
 from pathlib import Path
 from random import Random
@@ -269,10 +269,15 @@ def lines_up_to_the_limit(program: Path) -> None:
 def poured(server: Server, *pieces: bytes) -> bytes:
     """Sends the pieces as fast as they are taken; all answers."""
     with server.connection() as one, ThreadPoolExecutor() as pool:
-        sent = pool.submit(lambda: [one.sendall(piece) for piece in pieces])
+        sent = pool.submit(pour, one, pieces)
         found = read_all(one)
         sent.result(SECONDS)
     return found
+
+
+def pour(one: socket.socket, pieces: Iterable[bytes]) -> None:
+    for piece in pieces:
+        one.sendall(piece)
 
 
 def million_lines(program: Path) -> None:
@@ -471,6 +476,9 @@ def guests_beside_others(program: Path) -> None:
     print(f"  {len(guests) - 40} of them by guests")
 
 
+GONE: list[list[Any]] = [["look", 1], ["create", "document", "r"], ["retire"]]
+
+
 def retired_on_two_seats(program: Path) -> None:
     """Who retires on one connection has retired on the other. Both end as always."""
     with served(program, 2, 4, config=ROOMY) as server:
@@ -479,8 +487,8 @@ def retired_on_two_seats(program: Path) -> None:
             document = other.create("document", "rw")
             one.retire()
             for client in (one, other):
-                for command in [("look", 1), ("create", "document", "r"), ("retire",)]:
-                    same(refusal_of(client, *command), denied(command[0], "retired"))
+                for name, *arguments in GONE:
+                    same(refusal_of(client, name, *arguments), denied(name, "retired"))
             other.bye()
         with server.client() as late, server.client() as bob:
             same(refusal_of(late, "hello", "alice"), "no principal")
