@@ -2,7 +2,7 @@
 CRATES := $(shell sed 's/:.*//' crates.txt)
 PREFIX ?= /usr/local
 
-.PHONY: all help play playground demo load test soak bench check install clean $(CRATES)
+.PHONY: all help play playground demo load test soak bench check types install clean $(CRATES)
 
 all: ## prove the program and the crates below it (half an hour), and leave it at bin/tgdoc
 	cd crates/tgdoc && rt run -- run < ../../examples/first-run.jsonl > /dev/null
@@ -51,6 +51,10 @@ bench: all load ## measure speed, memory, threads, rounds, and a server beside R
 # bugs and proves the crates that stand on it; `make check` proves every crate, and no more.
 check: ## prove what changed: `make check NAME` a crate, its tests, its planted bugs and the crates above it
 	tests/check $(filter-out check,$(MAKECMDGOALS))
+
+# The settings of mypy and of black, which formats, are in pyproject.toml.
+types: ## check the types of the Python programs, if mypy is installed
+	@if command -v mypy > /dev/null; then mypy; else echo "mypy is not installed"; fi
 
 install: all ## copy the program and its man page to PREFIX (/usr/local unless given)
 	install -D -m 755 crates/tgdoc/out/tgdoc $(DESTDIR)$(PREFIX)/bin/tgdoc

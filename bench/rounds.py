@@ -3,7 +3,8 @@
 who was connected before.
 
 `bench/rounds.py PROGRAM` takes another program than crates/tgdoc/out/tgdoc. Each row is the median of some servers, whose store has so many
-vertices, each with some edges, and whose round so many entries. Takes two minutes.
+vertices, each with some edges, and whose round so many entries: reads or, in the last rows, grants, which a history keeps as steps. There
+servers that keep a history (--history) take turns with those that keep none. Takes three minutes.
 """
 
 import json
@@ -11,6 +12,7 @@ import socket
 import statistics
 import subprocess
 import sys
+import tempfile
 import time
 from pathlib import Path
 
@@ -22,9 +24,11 @@ from tgdoc_client import address_of
 SERVERS, EDGES, TOGETHER = 5, 3, 500
 # Vertices in the store, and entries of the round that is over.
 ROWS = [(2, 10_000), (2, 999_000), (65_536, 10_000), (65_536, 999_000)]
+KEPT_ROWS = [(3, 10_000), (3, 999_000), (65_536, 999_000)]
 CONFIG = b'{"cells":1048576,"principals":["alice"],"slots":65536}\n'
 HELLO = b'{"name":"alice","op":"hello"}\n'
 READ = b'{"op":"read","over":2}\n'
+GRANT = b'{"op":"grant","over":2,"rights":"r","to":3}\n'
 
 
 def documents(count):
@@ -50,10 +54,10 @@ def talk(one, lines):
         assert answers.read() == b""
 
 
-def stop(program, vertices, entries):
-    """Seconds for which a server of three rounds stops after its second."""
-    words = [program, "serve", "--listen", "127.0.0.1:0", "--workers", "1", "--connections", "3", "--round", "1"]
-    with subprocess.Popen(words, stdin=subprocess.PIPE, stdout=subprocess.PIPE) as server:
+def stop(program, vertices, entries, line, *options):
+    """Seconds for which a server of three rounds stops after its second, in which the line came so many times."""
+    words = [program, "serve", "--listen", "127.0.0.1:0", "--workers", "1", "--connections", "3", "--round", "1", *options]
+    with subprocess.Popen(words, stdin=subprocess.PIPE, stdout=subprocess.PIPE, stderr=subprocess.DEVNULL) as server:
         server.stdin.write(CONFIG)
         server.stdin.flush()
         address = address_of(server.stdout.readline())
@@ -61,7 +65,7 @@ def stop(program, vertices, entries):
         second = socket.create_connection(address)
         with socket.create_connection(address) as late, late.makefile("rb") as answers:
             late.sendall(HELLO)
-            talk(second, [READ] * entries)
+            talk(second, [line] * entries)
             start = time.perf_counter()
             answers.readline()
             seconds = time.perf_counter() - start
@@ -70,12 +74,26 @@ def stop(program, vertices, entries):
         return seconds
 
 
+def stop_with_history(program, vertices, entries):
+    """The same of a server that keeps the history of its rounds."""
+    with tempfile.TemporaryDirectory() as folder:
+        return stop(program, vertices, entries, GRANT, "--history", f"{folder}/steps.jsonl")
+
+
 def main():
     program = sys.argv[1] if len(sys.argv) > 1 else str(ROOT / "crates" / "tgdoc" / "out" / "tgdoc")
     print("%10s %10s %12s %12s" % ("vertices", "entries", "median ms", "longest ms"))
     for vertices, entries in ROWS:
-        found = [1000 * stop(program, vertices, entries) for _ in range(SERVERS)]
+        found = [1000 * stop(program, vertices, entries, READ) for _ in range(SERVERS)]
         print("%10d %10d %12.1f %12.1f" % (vertices, entries, statistics.median(found), max(found)), flush=True)
+    print("%10s %10s %12s %12s %8s" % ("vertices", "grants", "none kept", "history kept", "ratio"))
+    for vertices, entries in KEPT_ROWS:
+        without, kept = [], []
+        for _ in range(SERVERS):
+            without.append(1000 * stop(program, vertices, entries, GRANT))
+            kept.append(1000 * stop_with_history(program, vertices, entries))
+        first, second = statistics.median(without), statistics.median(kept)
+        print("%10d %10d %12.1f %12.1f %8.2f" % (vertices, entries, first, second, second / first), flush=True)
     return 0
 
 

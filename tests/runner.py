@@ -2,11 +2,14 @@
 no bug with another's refusal; tests/run, given names, runs the tests of these names, and fails if a
 name is no test's."""
 
+import sys
 import tempfile
+from collections.abc import Iterable
 from pathlib import Path
 from typing import NamedTuple
 
-from checking import Tests, same
+from checking import Tests, passes, same
+from planting import reading_tests, reports_tests
 from running import ROOT, ran
 
 SOURCE = """//! A number and its echo.
@@ -158,8 +161,8 @@ FILES = {
 
 
 
-class Edit(NamedTuple):
-    """An edit: its name, its file, its old and new text, and how the runner's line on it begins."""
+class Bug(NamedTuple):
+    """A bug: its name, its file, its old and new text, and how the runner's line on it begins."""
 
     name: str
     file: str
@@ -167,21 +170,16 @@ class Edit(NamedTuple):
     new: str
     begins: str
 
-    @property
-    def text(self) -> str:
-        """The edit as a file of planted/."""
-        return f"file: {self.file}\nold: {self.old}\nnew: {self.new}\n"
 
-
-def in_main(name: str, old: str, new: str, begins: str) -> Edit:
-    return Edit(name, "src/lib.rt", old, new, begins)
+def in_main(name: str, old: str, new: str, begins: str) -> Bug:
+    return Bug(name, "src/lib.rt", old, new, begins)
 
 
 NOT_REFUSED = "alone: NOT REFUSED"
 TWICE_OF, SPARE_OF = "echo_of number + number", "spare_of number = "
-EDITS = [
+BUGS = [
     in_main("echo-of-nothing", "let heard = number;", "let heard = 0;", "refused: "),
-    Edit(
+    Bug(
         "law-echo-is-four",
         "specs/Echo.antt",
         "echo_of number = number",
@@ -189,9 +187,9 @@ EDITS = [
         "refused, alone: ",
     ),
     # tried with the next, and not with the one above, to which the laws of both come too
-    Edit("law-twice-is-thrice", "specs/Twice.antt", TWICE_OF, f"{TWICE_OF} + number", "refused: "),
+    Bug("law-twice-is-thrice", "specs/Twice.antt", TWICE_OF, f"{TWICE_OF} + number", "refused: "),
     # it means the same, beside a bug
-    Edit(
+    Bug(
         "law-spare-is-the-same",
         "specs/Twice.antt",
         f"{SPARE_OF}echo_of number",
@@ -202,7 +200,7 @@ EDITS = [
     in_main(
         "seven-is-eight", "const MOST: usize = 7;", "const MOST: usize = 8;", "refused: "
     ),
-    in_main("kept-is-nothing", "let kept_number = number;", "let kept_number = 0;", "refused: "),
+    in_main("kept-is-nothing", "number;\n    kept_number", "0;\n    kept_number", "refused: "),
     in_main("rings-four-times", "        3", "        4", "refused: "),
     # it means the same, in a function that nothing calls
     in_main(
@@ -224,23 +222,33 @@ EDITS = [
 ]
 
 
+def written(bugs: Iterable[Bug]) -> dict[str, str]:
+    """The files of these bugs, by their paths."""
+    texts: dict[str, str] = {}
+    for bug in bugs:
+        rows = [f"- {row}" for row in bug.old.split("\n")]
+        rows += [f"+ {row}" for row in bug.new.split("\n")]
+        path = f"crates/tiny/planted/{bug.file}.bugs"
+        texts[path] = texts.get(path, "# Bugs.\n") + "\n".join(["", bug.name, *rows, ""])
+    return texts
+
+
 def said(line: str) -> tuple[str, str]:
-    """The edit's name and its result, from a line of the runner."""
+    """The bug's name and its result, from a line of the runner."""
     name, _, result = line.removeprefix("planted tiny/").partition(": ")
     return name, result
 
 
 def edits_of_a_crate_are_told_apart(program: Path) -> None:
-    """Six bugs are refused; harmless edits, an absent text and a lost name count as failed."""
+    """Six bugs are refused; harmless ones, an absent text and a lost name count as failed."""
     with tempfile.TemporaryDirectory() as folder:
-        edits = {f"crates/tiny/planted/{edit.name}.edit": edit.text for edit in EDITS}
-        for path, text in (FILES | edits).items():
+        for path, text in (FILES | written(BUGS)).items():
             Path(folder, path).parent.mkdir(parents=True, exist_ok=True)
             Path(folder, path).write_text(text, encoding="utf-8")
         tried = ran(program, "--jobs", "1", cwd=folder, timeout=900)
     lines = tried.stdout.decode().splitlines()
     found = dict(said(line) for line in lines if line.startswith("planted tiny/"))
-    wrong = [edit.name for edit in EDITS if not found.get(edit.name, "").startswith(edit.begins)]
+    wrong = [bug.name for bug in BUGS if not found.get(bug.name, "").startswith(bug.begins)]
     if wrong:
         print(*lines, tried.stderr.decode(), sep="\n    ")
     same(wrong, [], "not as wanted")
@@ -259,10 +267,12 @@ def names_pick_tests(program: Path) -> None:
 
 def tests() -> Tests:
     """All tests by their names; they take the runner of planted bugs."""
+    yield from reading_tests.tests()
+    yield from reports_tests.tests()
     yield "edits-of-a-crate-are-told-apart", edits_of_a_crate_are_told_apart
     yield "names-pick-tests", names_pick_tests
 
 
 if __name__ == "__main__":
-    for _, one in tests():
-        one(ROOT / "tests" / "planted")
+    passed = [passes(test, ROOT / "tests" / "planted") for _, test in tests()]
+    sys.exit(not all(passed))

@@ -34,6 +34,14 @@ body:not(.script) nav { display: none; }
 @media (max-width: 46rem) { section { grid-template-columns: 1fr; } }
 """
 
+# A row of twelve vertices, at its least letter size, beside the words about it in a window of 1,600 pixels, or above them
+# in one that is not so wide.
+WIDE_STYLE = """
+.wide { max-width: 100rem; }
+.wide section { grid-template-columns: minmax(0, 2.6fr) minmax(15rem, 1fr); }
+@media (max-width: 97rem) { .wide section { grid-template-columns: 1fr; } }
+"""
+
 SCRIPT = """
 (() => {
   const frames = [...document.querySelectorAll("section")];
@@ -42,8 +50,10 @@ SCRIPT = """
   const bar = document.querySelector("nav input"), count = document.querySelector("nav output");
   let now = 0, timer = null;
   function show(number) {
+    const paper = () => frames[now].querySelector(".paper"), left = paper().scrollLeft;
     now = Math.min(Math.max(number, 0), frames.length - 1);
     frames.forEach((frame, place) => frame.classList.toggle("now", place === now));
+    paper().scrollLeft = left;
     bar.value = now + 1;
     bar.setAttribute("aria-valuetext", "frame " + (now + 1) + " of " + frames.length);
     count.value = (now + 1) + " / " + frames.length;
@@ -84,8 +94,14 @@ SCRIPT = """
     if (key) { key(); event.preventDefault(); }
   });
   window.onhashchange = () => show((parseInt(location.hash.slice(1)) || 1) - 1);
-  document.body.classList.add("script");
+  // where the first vertex is, if not all of the picture can be seen
+  const paper = frames[0].querySelector(".paper"), vertex = paper.querySelector(".vertex");
+  if (vertex) {
+    const [around, box] = [paper, vertex].map((shown) => shown.getBoundingClientRect());
+    paper.scrollLeft += (box.left + box.right - around.left - around.right) / 2;
+  }
   show((parseInt(location.hash.slice(1)) || 1) - 1);
+  document.body.classList.add("script");
 })();
 """
 
@@ -106,6 +122,8 @@ ABOUT = """<p>Keys: <kbd>&larr;</kbd> <kbd>&rarr;</kbd> step, <kbd>space</kbd> p
 rights that it has, g to grant it rights</li><li>dotted: the missing right</li>%s</ul>"""
 OF_THE_COLLECTOR = """<li>rim white, grey or black: the collector&rsquo;s colour</li><li>dashed: condemned, waits to be swept</li>
 <li>target: the vertex that a session has just made or passed on</li>"""
+
+OF_WIDE_FILMS = """<li>arrows that run together: all of them begin at one vertex, or all of them end at one</li>"""
 
 
 def fact(name, text):
@@ -139,7 +157,9 @@ def section(frame, places, count, is_plain):
 def page_of(title, frames, places, is_plain=False):
     """The whole page."""
     head = '<!DOCTYPE html>\n<html lang="en"><head><meta charset="utf-8"><meta name="viewport" content="width=device-width, initial-scale=1">'
-    head += '<link rel="icon" href="data:,"><title>%s</title><style>%s%s</style></head>' % (escape(title), PAGE_STYLE, STYLE)
-    about = ABOUT % ("" if is_plain else OF_THE_COLLECTOR)
+    style = PAGE_STYLE + (WIDE_STYLE if places.is_wide else "") + STYLE
+    head += '<link rel="icon" href="data:,"><title>%s</title><style>%s</style></head>' % (escape(title), style)
+    about = ABOUT % ((OF_WIDE_FILMS if places.is_wide else "") + ("" if is_plain else OF_THE_COLLECTOR))
     body = ["<h1>%s</h1>" % escape(title), about, NAV % len(frames), *[section(frame, places, len(frames), is_plain) for frame in frames]]
-    return "%s<body>\n%s\n<script>%s</script></body></html>\n" % (head, "\n".join(body), SCRIPT)
+    kind = ' class="wide"' if places.is_wide else ""
+    return "%s<body%s>\n%s\n<script>%s</script></body></html>\n" % (head, kind, "\n".join(body), SCRIPT)

@@ -1,6 +1,6 @@
+-- How many vertices and edges the graph of what is held has, and which edges a held vertex has in it.
 use Rattle.std.proofs.Common.{◌≡◌, ◌≢◌, ℕ, zero, suc, List, [], ◌∷◌, length, map, Option, Some, None, true, false, sym, ◌∙◌, subst, ap, refl, arith, sum_by, ◌<◌, cond, T, ◌+◌}
 use Rattle.tg_collect.proofs.Common.{length-map, sum_by-append, is_none, place, Contains, Distinct, contains_map, Edge, Kept, total, Stored, kept, vertices, held, Letters, edges, IsHeap, name_of, Root, Machine, lists_of, body, progress_of, Whole, stored, shown, spot, root_serial, serial_of, IsHeldIn, IsParkedIn, IsStore, ◌↔◌, IsPermutation, IsNonDecreasingBy, IsPermutation-sym, IsPermutation-map, ones, permuted, rises_by, same_in_order, serials_distinct, vertex_count, edge_count, edge_list, keys_occur_once, serials, held_one, held_cells, parked_cells, Closed, left_most, counted, IsRootAt, left_some, keys_apart, sorted_rises, edges_of, IsEdgeList, option_to_list, Rises, vertex_listed}
--- How many vertices and edges the graph of what is held has, and which edges a held vertex has in it.
 use Rattle.std.specs.FinMap as finmap
 use Rattle.tg_marking.specs.Values as values
 use Rattle.tg_graph.specs.Protection.{label}

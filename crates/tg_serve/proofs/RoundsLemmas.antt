@@ -1,5 +1,5 @@
 -- The rounds of a server, and the lines between them.
-use Rattle.std.proofs.Common.{◌≡◌, ◌⊎◌, ◌↔◌, ℕ, zero, suc, ap, ◌+◌, ◌-◌, ◌*◌, ◌<◌, ◌≤◌, min, List, [], ◌∷◌, ◌++◌, length, Option, None, Bool, true, false, Result, Ok, Err, IfErr, IfOk, inl, inr, refl, sym, subst, true≢false, ◌∙◌, append_assoc, append-nil, arith}
+use Rattle.std.proofs.Common.{◌≡◌, ◌⊎◌, ◌↔◌, ℕ, zero, suc, ap, ◌+◌, ◌-◌, ◌*◌, ◌<◌, ◌≤◌, min, List, [], ◌∷◌, ◌++◌, length, Option, Bool, true, false, Result, Ok, Err, IfErr, IfOk, inl, inr, refl, sym, subst, true≢false, ◌∙◌, append_assoc, append-nil, arith}
 use Rattle.tg_audit.specs.declared.logs.Settled.TheVariants as settled
 use Rattle.tg_share.specs.Closing.{IsClosed, logs_of}
 use Rattle.tg_share.specs.declared.closing.Closed.{Closed}
@@ -12,7 +12,7 @@ use Rattle.tg_vault.specs.Contents.{Contents}
 use Rattle.tg_vault.specs.Rebase.{IsRebased}
 use Rattle.tg_serve.specs.declared.operating.Operating.{Operating}
 use Rattle.tg_serve.specs.declared.serve.Unsettled.{Unsettled}
-use Rattle.tg_serve.specs.Serving.{Announces, AreRounds, EndsServer, HasAgreed, HasRounds, Concludes, HaveAgreed, HaveRebased, IsCounted, IsServed, SendsOn, agreed_line, found_of, listening_line, rebased_line, rebased_lines}
+use Rattle.tg_serve.specs.Serving.{Announces, AreEnough, AreRounds, EndsServer, HasAgreed, HasRounds, Concludes, HaveAgreed, HaveRebased, IsAlone, IsCounted, IsServed, SendsOn, agreed_line, found_of, listening_line, rebased_line, rebased_lines}
 
 -- a vault that was closed as agreed has agreed
 pub closing_agrees : {L : Type 0} (ended : List (Ended L)) (c : Closed L) → IsClosed ended c → IfOk (found_of c) HasAgreed
@@ -44,52 +44,76 @@ pub record RoundsSoFar (operating : Operating) (connections round left number : 
   pub fresh : HaveRebased rebased
   pub next : number ≡ suc (length rebased)
   pub served : IsCounted operating → connections ≡ length rebased * round + left
-  pub some : IsCounted operating → 0 < length rebased → 0 < left
+  pub taken : IsAlone operating → (connections ≤ length rebased * round + left) × (length rebased + left ≤ connections)
+  pub some : IsAlone operating → 0 < length rebased → 0 < left
   pub sent : Sends old new failed (rebased_lines rebased)
 
 pub rounds_none : (operating : Operating) (connections round : ℕ) (a : Option (List ℕ)) (failed : Bool) → RoundsSoFar operating connections round connections 1 a a failed
 rounds_none operating connections round a failed =
     let served : connections ≡ 0 * round + connections = omega arith in
-    record { rebased = []; agreed = tt; fresh = tt; next = refl; served = λ h. served; some = λ counted h. (let none : 0 < 0 = h in omega (arith, none)); sent = sends_none a failed }
+    let within : connections ≤ 0 * round + connections = omega arith in
+    let taken : 0 + connections ≤ connections = omega arith in
+    record { rebased = []; agreed = tt; fresh = tt; next = refl; served = λ counted. served; taken = λ alone. (within, taken); some = λ alone h. (let none : 0 < 0 = h in omega (arith, none)); sent = sends_none a failed }
 
--- the rounds are as many as the connections need, if none are left or all were to be served in one
-are_rounds : (connections round left taken n : ℕ) → connections ≡ n * round + left → (left - taken ≡ 0) ⊎ (connections ≤ round) → taken ≡ min left round → (0 < n → 0 < left) → AreRounds connections round n
-are_rounds connections round left taken n served (inl over) takes some = record { enough = omega arith; needed = λ h. (let more : 0 < left = some h in omega arith) }
-are_rounds connections round left taken n served (inr one) takes some = record { enough = omega arith; needed = λ h. (let more : 0 < left = some h in omega arith) }
+-- what a round takes of the connections that are left, after which more are
+pub record GoesOn (operating : Operating) (round left after : ℕ) : Type 0 where
+  pub whole : IsCounted operating → after ≡ left - min left round
+  pub within : left ≤ after + round
+  pub fewer : after < left
+  pub more : 0 < after
 
--- after a round more connections are left, if they alone count, and it was rebased
-pub rounds_go_on : (operating : Operating) (connections round left after number : ℕ) (v w : Contents) (old now new : Option (List ℕ)) (was failed : Bool) → (IsCounted operating → (after ≡ left - min left round) × (0 < after))
+-- after a round more connections are left, and it was rebased
+pub rounds_go_on : (operating : Operating) (connections round left after number : ℕ) (v w : Contents) (old now new : Option (List ℕ)) (was failed : Bool) → (IsAlone operating → GoesOn operating round left after)
     → RoundsSoFar operating connections round left number old now was → HasAgreed v → IsRebased v w → SendsOn now was new failed (rebased_line (length v.history) number)
     → RoundsSoFar operating connections round after (number + 1) old new failed
 rounds_go_on operating connections round left after number v w old now new was failed more so_far agreed fresh told =
     let n = length so_far.rebased in
     let is : number ≡ suc n = so_far.next in
     let next : number + 1 ≡ suc (suc n) = omega (arith, is) in
-    let whole : IsCounted operating → connections ≡ suc n * round + after =
-    λ counted. (let served : connections ≡ n * round + left = so_far.served counted in let taken : after ≡ left - min left round = (more counted).0 in let some : 0 < after = (more counted).1 in omega arith) in
     let sent = told.behind old (rebased_lines so_far.rebased) so_far.sent in
     record {
       rebased = v ∷ so_far.rebased;
       agreed = (agreed, so_far.agreed);
       fresh = (record { fresh = w; rebased = fresh }, so_far.fresh);
       next = next;
-      served = whole;
-      some = λ counted h. (more counted).1;
+      served = λ counted. (
+          let goes = more counted.alone in
+          let served : connections ≡ n * round + left = so_far.served counted in
+          let taken : after ≡ left - min left round = goes.whole counted in
+          let some : 0 < after = goes.more in
+          omega arith);
+      taken = λ alone. (
+          let goes = more alone in
+          let (most, least) = so_far.taken alone in
+          let at_most : connections ≤ n * round + left = most in
+          let at_least : n + left ≤ connections = least in
+          let within : left ≤ after + round = goes.within in
+          let fewer : after < left = goes.fewer in
+          (omega (arith, at_most), omega (arith, at_least)));
+      some = λ alone h. (more alone).more;
       sent = subst (λ k. Sends old new failed (rebased_lines so_far.rebased ++ rebased_line (length v.history) k)) is sent;
     }
 
--- none are left, or all were to be served in one round, if the connections alone count
-pub rounds_end : (operating : Operating) (connections round left number : ℕ) (old new : Option (List ℕ)) (failed : Bool) → (IsCounted operating → (left - min left round ≡ 0) ⊎ (connections ≤ round))
+-- the last round takes all that are left, or all were to be served in one
+pub rounds_end : (operating : Operating) (connections round left number : ℕ) (old new : Option (List ℕ)) (failed : Bool) → (IsAlone operating → (left ≤ round) ⊎ (connections ≤ round))
     → RoundsSoFar operating connections round left number old new failed → HasRounds operating connections round old new failed
 rounds_end operating connections round left number old new failed last so_far =
-    let n = length so_far.rebased in
     record {
       rebased = so_far.rebased;
       agreed = so_far.agreed;
       fresh = so_far.fresh;
-      rounds = λ counted. are_rounds connections round left (min left round) n (so_far.served counted) (last counted) refl (so_far.some counted);
+      rounds = λ counted. are_rounds (so_far.served counted) (last counted.alone) (so_far.some counted.alone);
+      enough = λ alone. are_enough (so_far.taken alone) (last alone) (so_far.some alone);
       sent = so_far.sent;
-    }
+    } where
+  n : ℕ
+  n = length so_far.rebased
+  are_rounds : connections ≡ n * round + left → (left ≤ round) ⊎ (connections ≤ round) → (0 < n → 0 < left) → AreRounds connections round n
+  are_rounds served (inl over) some = record { enough = omega arith; needed = λ h. (let more : 0 < left = some h in omega arith) }
+  are_rounds served (inr one) some = record { enough = omega arith; needed = λ h. (let more : 0 < left = some h in omega arith) }
+  are_enough : (connections ≤ n * round + left) × (n + left ≤ connections) → (left ≤ round) ⊎ (connections ≤ round) → (0 < n → 0 < left) → AreEnough connections round n
+  are_enough (most, least) (inl over) some = record { enough = omega arith; used = λ h. (let more : 0 < left = some h in omega arith) }
+  are_enough (most, least) (inr one) some = record { enough = omega arith; used = λ h. (let more : 0 < left = some h in omega arith) }
 
 -- behind the address, the lines of the rebases and the last one
 pub is_served : (operating : Operating) (connections round size : ℕ) (last : Contents) (old now mid new : Option (List ℕ)) (was failed : Bool) → (1 ≤ round → size ≡ round) → Announces old now → HasAgreed last
@@ -105,6 +129,7 @@ is_served operating connections round size last old now mid new was failed same 
       agreed = (agrees, rounds.agreed);
       fresh = rounds.fresh;
       rounds = λ counted some. subst (λ n. AreRounds connections n (length rounds.rebased)) (same some) (rounds.rounds counted);
+      enough = λ alone some. subst (λ n. AreEnough connections n (length rounds.rebased)) (same some) (rounds.enough alone);
       appended = Appends-more old now new (listening_line announced.address) (lines ++ agreed_line) announced.appended (sent_whole now new failed (lines ++ agreed_line) unfailed sent);
     }
 
@@ -118,9 +143,21 @@ concluded (Ok v) operating connections round size is_announced settled old now m
 concluded (Err end) operating connections round size is_announced settled old now mid new was failed same announced agrees rounds concludes so =
     absurd (true≢false (sym so ∙ concludes.ended))
 
--- if the connections alone count, and this is not the last round, more are left
-pub goes_on : (left size after connections round : ℕ) (last : Bool) → size ≡ min left round → after ≡ left - size → ((last ≡ true) ↔ ((after ≡ 0) ⊎ (connections ≤ round))) → last ≡ false → (after ≡ left - min left round) × (0 < after)
-goes_on left size after connections round last takes is ends goes = (is ∙ ap (λ n. left - n) takes, some after refl) where
-  some : (n : ℕ) → after ≡ n → 0 < after
-  some zero none = absurd (true≢false (sym (ends.1 (inl none)) ∙ goes))
-  some (suc n) is = omega (arith, is)
+-- if nobody ends the server, and this is not the last round, more are left
+pub goes_on : (operating : Operating) (left size after connections round : ℕ) (last : Bool) → 1 ≤ round → size ≡ min left round → left ≤ after + size → after ≤ left → (0 < size → 0 < left → after < left)
+    → (IsCounted operating → after ≡ left - size) → ((last ≡ true) ↔ ((after ≡ 0) ⊎ (connections ≤ round))) → last ≡ false → GoesOn operating round left after
+goes_on operating left size after connections round last some_round takes few no_more some whole ends goes =
+    let more : 0 < after = is_some after refl in
+    let some_left : 0 < left = omega (arith, no_more) in
+    let some_size : 0 < size = omega (arith, takes) in
+    record { whole = λ counted. whole counted ∙ ap (λ n. left - n) takes; within = omega (arith, few, takes); fewer = some some_size some_left; more = more } where
+  is_some : (n : ℕ) → after ≡ n → 0 < after
+  is_some zero none = absurd (true≢false (sym (ends.1 (inl none)) ∙ goes))
+  is_some (suc n) is = omega (arith, is)
+
+-- if nobody ends the server, and this is the last round, it takes all that are left, or all were to be served in one
+pub is_over : (left size after connections round : ℕ) (last : Bool) → size ≡ min left round → left ≤ after + size → ((last ≡ true) ↔ ((after ≡ 0) ⊎ (connections ≤ round))) → last ≡ true → (left ≤ round) ⊎ (connections ≤ round)
+is_over left size after connections round last takes few ends is = by (ends.0 is) where
+  by : (after ≡ 0) ⊎ (connections ≤ round) → (left ≤ round) ⊎ (connections ≤ round)
+  by (inl none) = inl (omega (arith, few, takes, none))
+  by (inr one) = inr one

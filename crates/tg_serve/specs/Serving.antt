@@ -133,19 +133,29 @@ pub record AreRounds (connections round full : ℕ) : Type 0 where
 abbrev pub unbounded : Operating
 unbounded = record { patience = None; memory = None; is_endless = false; is_attended = false; notifies = false; keeps_history = false }
 
--- the connections alone say how many rounds there are: no memory is reached that would end one, and nobody attends
+-- the server ends once the connections are used up: it has an end, and nobody attends
+pub record IsAlone (operating : Operating) : Type 0 where
+  pub ends : operating.is_endless ≡ false
+  pub unattended : operating.is_attended ≡ false
+
+-- the connections also say how many rounds there are: the memory of a round, which would end it, has no bound
 pub record IsCounted (operating : Operating) : Type 0 where
   pub memory : operating.memory ≡ None
-  pub ends : operating.is_endless ≡ false
-  pub alone : operating.is_attended ≡ false
+  pub alone : IsAlone operating
 
--- there are as many vaults as so many connections need rebases, if these alone count; each has agreed and was rebased,
--- and for each the line of a rebase that drops its history was sent
+-- these full rounds and one more can serve all connections, and each takes at least one
+pub record AreEnough (connections round full : ℕ) : Type 0 where
+  pub enough : connections ≤ suc full * round
+  pub used : 0 < full → full < connections
+
+-- each vault has agreed and was rebased, and for each the line of a rebase that drops its history was sent; of a server
+-- that nobody ends there are enough for the connections, and just as many as these need if they alone count
 pub record HasRounds (operating : Operating) (connections round : ℕ) (old new : Option (List ℕ)) (failed : Bool) : Type 0 where
   pub rebased : List Contents
   pub agreed : HaveAgreed rebased
   pub fresh : HaveRebased rebased
   pub rounds : IsCounted operating → AreRounds connections round (length rebased)
+  pub enough : IsAlone operating → AreEnough connections round (length rebased)
   pub sent : Sends old new failed (rebased_lines rebased)
 
 -- what is written of how the rounds ended, and whether the server has settled: nothing, if its address was not written
@@ -162,8 +172,8 @@ pub record Announces (old new : Option (List ℕ)) : Type 0 where
 
 -- there are vaults that have agreed, one for each round, and all but the last were rebased; the writer has not failed,
 -- and has got the line of an address, one for each of these vaults but the last, by the length of its history, and the
--- line that all agrees, and nothing else. That they are those of the rounds is not said. If the memory of a round has no
--- bound, there are as many as serve all connections.
+-- line that all agrees, and nothing else. That they are those of the rounds is not said. Of a server that nobody ends there
+-- are enough to serve all connections, and no more than these need if the memory of a round has no bound either.
 pub record IsServed (operating : Operating) (connections round : ℕ) (old new : Option (List ℕ)) (failed : Bool) : Type 0 where
   pub unfailed : failed ≡ false
   pub address : List ℕ
@@ -172,6 +182,7 @@ pub record IsServed (operating : Operating) (connections round : ℕ) (old new :
   pub agreed : HaveAgreed (last ∷ rebased)
   pub fresh : HaveRebased rebased
   pub rounds : IsCounted operating → 1 ≤ round → AreRounds connections round (length rebased)
+  pub enough : IsAlone operating → 1 ≤ round → AreEnough connections round (length rebased)
   pub appended : Appends old new (listening_line address ++ (rebased_lines rebased ++ agreed_line))
 
 -- these lines begin with a configuration that opens this vault

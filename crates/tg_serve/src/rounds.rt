@@ -1,9 +1,9 @@
 //! A server that serves its connections in rounds: between two of them what lives becomes the opening graph, and the
 //! history is dropped.
-ghost use Rattle.std.specs.Prelude.{◌≡◌, ◌≤◌, ◌-◌, ◌↔◌, ◌⊎◌, [], IfErr, IfOk, false, length, min, true};
+ghost use Rattle.std.specs.Prelude.{◌≡◌, ◌≤◌, ◌<◌, ◌+◌, ◌-◌, ◌↔◌, ◌⊎◌, [], IfErr, IfOk, false, length, min, true};
 ghost use Rattle.tg_talk.specs.Devices.{device_of, has_failed};
 ghost use Rattle.tg_vault.specs.Rebase.{IsRebased};
-ghost use Rattle.tg_serve.specs.Serving.{Concludes, EndsServer, HasAgreed, HasRebased, HasRounds, IsCounted, IsServed, SendsOn, rebased_line, unbounded};
+ghost use Rattle.tg_serve.specs.Serving.{Concludes, EndsServer, HasAgreed, HasRebased, HasRounds, IsAlone, IsCounted, IsServed, SendsOn, rebased_line, unbounded};
 
 use crate::desk::Desk;
 use crate::door::{Door, wait_in_ticks};
@@ -177,7 +177,7 @@ fn serve_rounds<R: Threads + Wait + Clock + Sync, W: Write>(
 
 /// How many connections a round may take.
 fn size_of<R>(service: &Service<'_, R>, left: u64, round: u64) -> u64
-    ensures counted { IsCounted service.now.operating → result ≡ min left round }
+    ensures ends { service.now.operating.is_endless ≡ false → result ≡ min left round }
 {
     if service.operating.is_endless {
         return round;
@@ -186,9 +186,12 @@ fn size_of<R>(service: &Service<'_, R>, left: u64, round: u64) -> u64
 }
 
 /// How many connections are left after a round that could take so many of them: all of those were taken, unless
-/// something else ended it.
+/// something else ended it; and one at least, unless whoever attends ended it.
 fn left_after<R: Wait>(service: &Service<'_, R>, door: &Door<'_>, left: u64, size: u64) -> u64
     ensures counted { IsCounted service.now.operating → result ≡ left - size }
+    ensures few { left ≤ result + size }
+    ensures no_more { result ≤ left }
+    ensures some { IsAlone service.now.operating → 0 < size → 0 < left → result < left }
 {
     let operating = service.operating;
     if operating.is_endless {
@@ -197,13 +200,16 @@ fn left_after<R: Wait>(service: &Service<'_, R>, door: &Door<'_>, left: u64, siz
     if operating.memory.is_none() && !operating.is_attended {
         return left.saturating_sub(size);
     }
-    let unused = door.left(service.rt);
-    left.saturating_sub(size.saturating_sub(unused))
+    let taken = size.saturating_sub(door.left(service.rt));
+    if operating.is_attended {
+        return left.saturating_sub(taken);
+    }
+    left.saturating_sub(taken.max(1).min(size))
 }
 
 /// Whether the server ends with the round after which so many connections are left.
 fn is_last<R>(service: &Service<'_, R>, left: u64, connections: u64, round: u64) -> bool
-    ensures counted { IsCounted service.now.operating → ((result ≡ true) ↔ ((left ≡ 0) ⊎ (connections ≤ round))) }
+    ensures { IsAlone service.now.operating → ((result ≡ true) ↔ ((left ≡ 0) ⊎ (connections ≤ round))) }
 {
     let operating = service.operating;
     if operating.is_attended && service.desk.is_stopping() {

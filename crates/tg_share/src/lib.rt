@@ -1,5 +1,5 @@
 //! Threads over one vault, under one lock. Nothing but events of the vault happens under the lock, and a hold of the
-//! lock is used up by its event.
+//! lock is used up by its event, if it makes one.
 #![tactic(auto)]
 
 mod closing;

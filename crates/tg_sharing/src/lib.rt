@@ -16,8 +16,6 @@ ghost use Rattle.tg_sharing.specs.Laws.{WithheldForEver};
 
 mod builder;
 mod carry;
-#[cfg(test)]
-mod cases;
 mod fetch;
 mod follow;
 mod gains;
@@ -27,8 +25,6 @@ mod plain;
 mod prospect;
 mod search;
 mod sharing;
-#[cfg(test)]
-mod tests;
 
 pub use lookup::{Listing, every_holder, every_target};
 pub use prospect::{Could, Prospect, what_could, who_could};

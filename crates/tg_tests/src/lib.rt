@@ -1,4 +1,4 @@
-//! The tests of the crates from tg_rights up to tg_audit, each in a module of its crate's name; those of calls that
+//! The tests of the crates from tg_rights up to tg_sharing, each in a module of its crate's name; those of calls that
 //! lack memory are in one that ends in `_growths`. They are in one crate because the gate proves a crate once more for
 //! its tests, and loads all that it depends on: here it does so once. tg_collect has its tests in the crate itself, as
 //! they look at what it does not show.
@@ -27,6 +27,10 @@ mod heap_scripts;
 mod index;
 #[cfg(test)]
 mod rights;
+#[cfg(test)]
+mod sharing;
+#[cfg(test)]
+mod sharing_cases;
 #[cfg(test)]
 mod slots;
 #[cfg(test)]

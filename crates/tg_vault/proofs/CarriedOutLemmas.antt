@@ -1,5 +1,5 @@
 -- what the calls of a store do for an effect that the rules allow
-use Rattle.std.proofs.Common.{◌≡◌, ℕ, ◌+◌, Bool, true, false, cond, [], refl, sym, ap, subst, ◌∙◌, ◌⊎◌, inl, inr, Some, None, Result, Ok, Err, IfOk, OnOk, arith, List, set as set_at}
+use Rattle.std.proofs.Common.{◌≡◌, ℕ, ◌+◌, ◌≤◌, Bool, true, false, cond, [], refl, sym, ap, subst, ◌∙◌, ◌⊎◌, inl, inr, Some, None, Result, Ok, Err, arith, List, set as set_at}
 use Rattle.std.specs.Prelude.{Option}
 use Rattle.std.specs.Option.{is_some}
 use Rattle.std.specs.Ordering.{nat_cmp}
@@ -12,7 +12,6 @@ use Rattle.tg_rights.specs.declared.command.Command.{Command}
 use Rattle.tg_rights.specs.declared.outcome.Cause.{Cause}
 use Rattle.tg_rights.specs.declared.outcome.Which.{Which}
 use Rattle.tg_rights.specs.declared.outcome.Which.TheVariants as which
-use Rattle.tg_rights.specs.declared.outcome.Outcome.TheVariants as outcome
 use Rattle.tg_rights.specs.declared.outcome.Reply.{Reply}
 use Rattle.tg_rights.specs.declared.outcome.Reply.TheVariants as reply
 use Rattle.tg_graph.specs.declared.member.Member.{Member}
@@ -26,7 +25,7 @@ use Rattle.tg_graph.specs.Deciding.{Each}
 use Rattle.tg_graph.specs.Triples.{edge}
 use Rattle.tg_graph.specs.Protection.{Protection, IsEdge, label, vertex}
 use Rattle.tg_graph.specs.Fullness.{NewEdge, edges_at}
-use Rattle.tg_graph.specs.Rules.{Allowed, answered, denial, done, edges_of, is_new, text_of, with_text}
+use Rattle.tg_graph.specs.Rules.{Allowed, answered, denial, done, edges_of, is_new, last_serial, text_of, with_text}
 use Rattle.tg_collect.specs.Stored.{Stored}
 use Rattle.tg_collect.specs.Readings.{agents, held, pending, principals, free_slots, place, serial_at}
 use Rattle.tg_collect.specs.Sessions.{Assumed, EdgeStored, AgentLeft, Retired, RightsRemoved, TextReplaced, Acted}
@@ -34,8 +33,9 @@ use Rattle.tg_collect.proofs.SeatLemmas.{acted_same}
 use Rattle.tg_collect.proofs.RunLemmas.{acted_slots, agents_set, pending_set, text_graph}
 use Rattle.tg_collect.proofs.StoreLemmas.{edge_in, in_edge}
 use Rattle.tg_vault.specs.World.{new_agents, new_target, with_target}
-use Rattle.tg_vault.specs.Seen.{seen, serials}
-use Rattle.tg_vault.specs.CarriedOut.{CarriedOut, EdgeMoves, IsUsedUp, Joined, Made, NoRoom, Stores, copies, serial_of}
+use Rattle.tg_vault.specs.declared.carry_out.State.{State}
+use Rattle.tg_vault.specs.Seen.{seen, seen_in, serials, set_of}
+use Rattle.tg_vault.specs.CarriedOut.{CarriedIn, EdgeMoves, IsUsedUp, Joined, Made, NoRoom, Stores, copies, denied, serial_of, settled}
 use Rattle.tg_vault.proofs.EdgeLemmas.{edge_seen, edges_seen, joined_some, label_cut, label_seen, seen_edge}
 use Rattle.tg_vault.proofs.PlaceLemmas.{serial_is}
 use Rattle.tg_vault.proofs.SerialsLemmas.{serials_left, serials_pushed}
@@ -116,40 +116,41 @@ module _ (s t : Stored) (next : ℕ) (names : List Member) (retired : set.FinSet
   abbrev S : Protection
   S = seen s next names retired
 
-  -- an effect was carried out in the store and the list of the active principals, with this reply
-  pub record IsDone (after : ℕ) (left : List Member) (gone : set.FinSet nat_cmp) (x : ℕ) (d : Does) (answer : Reply) : Type 0 where
+  -- an effect was carried out in the store and in what is kept besides, with this reply
+  pub record IsDone (K : Protection) (x : ℕ) (d : Does) (answer : Reply) : Type 0 where
     pub room : (w : Which) → IsUsedUp S (free_slots s) s.free_cells d w → ⊥
     pub replied : answer ≡ answered S d
-    pub graph : seen t after left gone ≡ done S x d
+    pub graph : K ≡ done S x d
     pub pending : pending t ≡ with_target (pending s) seat (new_target S d)
     pub agents : agents t ≡ new_agents (agents s) seat d
     pub acted : Acted s t (serial_of next d) (new_target S d)
-    pub listed : principals t ≡ serials left
+    pub listed : principals t ≡ serials K.names
     pub slots : free_slots s ≡ free_slots t + cond (is_new d) 1 0
     pub cells : EdgeMoves S s.free_cells t.free_cells x d
 
   -- something that it needs is used up, and nothing changed
-  pub record IsFull (after : ℕ) (left : List Member) (gone : set.FinSet nat_cmp) (d : Does) (w : Which) : Type 0 where
+  pub record IsFull (K : Protection) (d : Does) (w : Which) : Type 0 where
     pub used : IsUsedUp S (free_slots s) s.free_cells d w
     pub same : t ≡ s
-    pub next_same : after ≡ next
-    pub names_same : left ≡ names
-    pub gone_same : gone ≡ retired
+    pub kept : K ≡ S
 
-  abbrev pub ByEffect : (after : ℕ) → (left : List Member) → (gone : set.FinSet nat_cmp) → (x : ℕ) → Does → Reply → Type 0
-  ByEffect after left gone x d answer = IsDone after left gone x d answer ⊎ ((w : Which) × (answer ≡ reply.Full w) × IsFull after left gone d w)
+  abbrev pub ByEffect : (K : Protection) → (x : ℕ) → Does → Result Reply Which → Type 0
+  ByEffect K x d (Ok answer) = IsDone K x d answer
+  ByEffect K x d (Err w) = IsFull K d w
 
   -- with other principals and others retired
   among : {G K : Protection} → G ≡ K → record G { names = names; retired = retired } ≡ record K { names = names; retired = retired }
   among is = λ i. record (is i) { names = names; retired = retired }
 
+  -- the store has changed, and nothing else that is kept
+  abbrev T : Protection
+  T = seen t next names retired
+
   module _ (known : principals s ≡ serials names) where
-    pub carried_by : (after : ℕ) (left : List Member) (gone : set.FinSet nat_cmp) (x : ℕ) (c : Command) (d : Does) (answer : Reply) → d ≡ (terms x c).does → Allowed S x c → ByEffect after left gone x d answer →
-        CarriedOut s t next after names left retired gone seat x c answer
-    carried_by after left gone x c d answer is a came = by (subst (λ e. ByEffect after left gone x e answer) is came) where
-      by : ByEffect after left gone x (terms x c).does answer → CarriedOut s t next after names left retired gone seat x c answer
-      by (inl k) = record {
-        outcome = outcome.Allowed;
+    pub carried_by : (K : Protection) (x : ℕ) (c : Command) (d : Does) (r : Result Reply Which) → d ≡ (terms x c).does → Allowed S x c → ByEffect K x d r → CarriedIn S K s t seat x c (settled r)
+    carried_by K x c d r is a came = by r (subst (λ e. ByEffect K x e r) is came) where
+      by : (r : Result Reply Which) → ByEffect K x (terms x c).does r → CarriedIn S K s t seat x c (settled r)
+      by (Ok answer) k = record {
         decided = (a, k.room);
         replied = k.replied;
         graph = k.graph;
@@ -160,21 +161,20 @@ module _ (s t : Stored) (next : ℕ) (names : List Member) (retired : set.FinSet
         slots = k.slots;
         cells = k.cells;
       }
-      by (inr (w, told, f)) = record {
-        outcome = outcome.Full w;
+      by (Err w) f = record {
         decided = (a, f.used);
-        replied = told;
-        graph = (λ i. seen (f.same i) (f.next_same i) (f.names_same i) (f.gone_same i));
+        replied = refl;
+        graph = f.kept;
         pending = ap (λ k. pending k) f.same;
         agents = ap (λ k. agents k) f.same;
         acted = subst (λ (k : Stored). Acted s k None None) (sym f.same) (acted_same s s refl);
-        principals = ap (λ (k : Stored). principals k) f.same ∙ known ∙ ap serials (sym f.names_same);
+        principals = ap (λ (k : Stored). principals k) f.same ∙ known ∙ ap (λ (G : Protection). serials G.names) (sym f.kept);
         slots = let same = ap (λ k. free_slots k) f.same in omega arith;
         cells = ap (λ k. k.free_cells) f.same;
       }
 
-    pub join_done : (x from to : ℕ) (α : Letters) (answer : Reply) → is_none α ≡ false → Joined s t seat from to α answer → ByEffect next names retired x (effect.Joins from α to) answer
-    join_done x from to α reply.Done some j = inl (record {
+    pub join_done : (x from to : ℕ) (α : Letters) (r : Result Reply Which) → is_none α ≡ false → Joined s t seat from to α r → ByEffect T x (effect.Joins from α to) r
+    join_done x from to α (Ok reply.Done) some j = record {
       room = room;
       replied = refl;
       graph = among (j.0.graph next);
@@ -184,13 +184,13 @@ module _ (s t : Stored) (next : ℕ) (names : List Member) (retired : set.FinSet
       listed = ap (λ z. principals z) j.0.is ∙ known;
       slots = let same = acted_slots j.1 in omega arith;
       cells = subst (λ l. t.free_cells + edges_at (joined l α) ≡ s.free_cells + edges_at l) (sym (label_seen s next next names retired from to)) (cells_joined s t next seat from to α some j.0);
-    }) where
+    } where
       room : (w : Which) → IsUsedUp S (free_slots s) s.free_cells (effect.Joins from α to) w → ⊥
       room which.Serials u = cc u.0
       room which.Slots u = cc u.0
       room which.Cells u = had_room s t next seat from to α j.0 (λ e. u.0 (edge_seen s next next names retired from to e)) u.2
-    join_done x from to α (reply.Full which.Cells) some j =
-        inr (which.Cells, refl, record { used = (λ e. j.2 (edge_in s next from to (seen_edge s next next names retired from to e)), λ e. absurd (cc e), j.1); same = j.0; next_same = refl; names_same = refl; gone_same = refl })
+    join_done x from to α (Err which.Cells) some j =
+        record { used = (λ e. j.2 (edge_in s next from to (seen_edge s next next names retired from to e)), λ e. absurd (cc e), j.1); same = j.0; kept = (λ i. seen (j.0 i) next names retired) }
     join_done x from to α _ some j = absurd j
 
     -- what a new vertex leaves, whether it is a principal or not
@@ -220,35 +220,29 @@ module _ (s t : Stored) (next : ℕ) (names : List Member) (retired : set.FinSet
       cells = p.vertex.free_cells ∙ ap (λ z. z.free_cells + 1) (sym p.is);
     })
 
-    pub make_done : (x after : ℕ) (left : List Member) (k : Kind) (α : Letters) (name : Option (List ℕ)) (answer : Reply) → Made s t next after names left seat x k α name answer →
-        ByEffect after left retired x (effect.Makes k α name) answer
-    make_done x after left k α name (reply.Created serial) m = inl (record {
+    pub stored_done : (x : ℕ) (k : Kind) (α : Letters) (name : Option (List ℕ)) → next ≤ last_serial → Stores s t seat x next k α name → Acted s t (Some next) (Some next) →
+        ByEffect (seen t (next + 1) (with_member names name next) retired) x (effect.Makes k α name) (Ok (reply.Created next))
+    stored_done x k α name few stores acted = record {
       room = room;
-      replied = ap (λ n. reply.Created n) m.0;
-      graph = (λ i. seen t (m.2 i) (m.3 i) retired) ∙ (λ i. record (new.graph (next + 1) i) { names = with_member names name next; retired = retired });
+      replied = refl;
+      graph = (λ i. record (new.graph (next + 1) i) { names = with_member names name next; retired = retired });
       pending = new.targets;
       agents = new.agents;
-      acted = m.5;
-      listed = new.listed ∙ ap serials (sym m.3);
+      acted = acted;
+      listed = new.listed;
       slots = new.slots;
       cells = new.cells;
-    }) where
+    } where
       new : IsStored x k α name
-      new = stored x k α name m.4
+      new = stored x k α name stores
 
       room : (w : Which) → IsUsedUp S (free_slots s) s.free_cells (effect.Makes k α name) w → ⊥
-      room which.Serials u = let low = m.1 in let high = u.1 in absurd (omega arith)
+      room which.Serials u = let low = few in let high = u.1 in absurd (omega arith)
       room which.Slots u = let none = u.2 in let had = new.slots in absurd (omega arith)
       room which.Cells u = let none = u.2 in let had = new.cells in absurd (omega arith)
-    make_done x after left k α name (reply.Full full) m = inr (full, refl, record { used = no_room full m.3; same = m.0; next_same = m.1; names_same = m.2; gone_same = refl }) where
-      no_room : (w : Which) → NoRoom s next w → IsUsedUp S (free_slots s) s.free_cells (effect.Makes k α name) w
-      no_room which.Serials n = (refl, n)
-      no_room which.Slots n = (refl, n.0, n.1)
-      no_room which.Cells n = (n.0, (λ _. n.1), n.2)
-    make_done x after left k α name _ m = absurd m
 
-    pub drop_done : (x over : ℕ) (α : Letters) → IsEdge (held s next) x over → RightsRemoved s t x over α → Acted s t None None → ByEffect next names retired x (effect.Drops α over) reply.Done
-    drop_done x over α here removed acted = inl (record {
+    pub drop_done : (x over : ℕ) (α : Letters) → IsEdge (held s next) x over → RightsRemoved s t x over α → Acted s t None None → ByEffect T x (effect.Drops α over) (Ok reply.Done)
+    drop_done x over α here removed acted = record {
       room = needs_none S (free_slots s) s.free_cells (effect.Drops α over) refl (λ u. u);
       replied = refl;
       graph = among (removed.graph next);
@@ -258,10 +252,10 @@ module _ (s t : Stored) (next : ℕ) (names : List Member) (retired : set.FinSet
       listed = ap (λ z. principals z) removed.is ∙ known;
       slots = let same = acted_slots acted in omega arith;
       cells = subst (λ l. t.free_cells + edges_at (without l α) ≡ s.free_cells + edges_at l) (sym (label_seen s next next names retired x over)) (cells_cut s t next seat x over α here removed);
-    })
+    }
 
-    pub rewrite_done : (x over : ℕ) (text old : List ℕ) → TextReplaced s t over text old → Acted s t None None → ByEffect next names retired x (effect.Rewrites over text) reply.Done
-    rewrite_done x over text old replaced acted = inl (record {
+    pub rewrite_done : (x over : ℕ) (text old : List ℕ) → TextReplaced s t over text old → Acted s t None None → ByEffect T x (effect.Rewrites over text) (Ok reply.Done)
+    rewrite_done x over text old replaced acted = record {
       room = needs_none S (free_slots s) s.free_cells (effect.Rewrites over text) refl (λ u. u);
       replied = refl;
       graph = among (text_graph replaced next) ∙ with_text_among names retired (held s next) over text (vertex (held s next) over);
@@ -271,11 +265,11 @@ module _ (s t : Stored) (next : ℕ) (names : List Member) (retired : set.FinSet
       listed = ap (λ z. principals z) replaced.is ∙ known;
       slots = let same = acted_slots acted in omega arith;
       cells = ap (λ z. z.free_cells) replaced.is;
-    })
+    }
 
     pub retire_done : (x : ℕ) (left : List Member) (gone : set.FinSet nat_cmp) → left ≡ without_member names x → gone ≡ set.insert retired x → Retired s t x → Acted s t None None →
-        ByEffect next left gone x effect.Retires reply.Done
-    retire_done x left gone is more goes acted = inl (record {
+        ByEffect (seen t next left gone) x effect.Retires (Ok reply.Done)
+    retire_done x left gone is more goes acted = record {
       room = needs_none S (free_slots s) s.free_cells effect.Retires refl (λ u. u);
       replied = refl;
       graph = (λ i. record (held (goes i) next) { names = is i; retired = more i });
@@ -285,10 +279,10 @@ module _ (s t : Stored) (next : ℕ) (names : List Member) (retired : set.FinSet
       listed = serials_left s t names known x goes ∙ ap serials (sym is);
       slots = let same = acted_slots acted in omega arith;
       cells = ap (λ z. z.free_cells) goes;
-    })
+    }
 
-    pub assume_done : (x agent : ℕ) → Assumed s t seat agent → Acted s t None (Some agent) → ByEffect next names retired x (effect.Acts (Some agent)) reply.Done
-    assume_done x agent assumed acted = inl (record {
+    pub assume_done : (x agent : ℕ) → Assumed s t seat agent → Acted s t None (Some agent) → ByEffect T x (effect.Acts (Some agent)) (Ok reply.Done)
+    assume_done x agent assumed acted = record {
       room = needs_none S (free_slots s) s.free_cells (effect.Acts (Some agent)) refl (λ u. u);
       replied = refl;
       graph = among (ap (λ z. held z next) assumed.is);
@@ -298,10 +292,10 @@ module _ (s t : Stored) (next : ℕ) (names : List Member) (retired : set.FinSet
       listed = ap (λ z. principals z) assumed.is ∙ known;
       slots = let same = acted_slots acted in omega arith;
       cells = ap (λ z. z.free_cells) assumed.is;
-    })
+    }
 
-    pub leave_done : (x : ℕ) → AgentLeft s t seat → Acted s t None None → ByEffect next names retired x (effect.Acts None) reply.Done
-    leave_done x left acted = inl (record {
+    pub leave_done : (x : ℕ) → AgentLeft s t seat → Acted s t None None → ByEffect T x (effect.Acts None) (Ok reply.Done)
+    leave_done x left acted = record {
       room = needs_none S (free_slots s) s.free_cells (effect.Acts None) refl (λ u. u);
       replied = refl;
       graph = among (ap (λ z. held z next) left);
@@ -311,14 +305,28 @@ module _ (s t : Stored) (next : ℕ) (names : List Member) (retired : set.FinSet
       listed = ap (λ z. principals z) left ∙ known;
       slots = let same = acted_slots acted in omega arith;
       cells = ap (λ z. z.free_cells) left;
-    })
+    }
+
+-- a vertex was made, or there was no room for it
+pub make_done : (old new : State) (seat : ℕ) (known : principals old.store ≡ serials old.names) (x : ℕ) (k : Kind) (α : Letters) (name : Option (List ℕ)) (r : Result Reply Which) → Made old new seat x k α name r →
+    ByEffect old.store new.store old.next old.names (set_of old.retired.keys) seat (seen_in new) x (effect.Makes k α name) r
+make_done old new seat known x k α name (Ok (reply.Created serial)) m =
+    subst (λ (w : Protection × ℕ). ByEffect old.store new.store old.next old.names (set_of old.retired.keys) seat w.0 x (effect.Makes k α name) (Ok (reply.Created w.1)))
+    (sym (λ i. (seen new.store (m.2 i) (m.3 i) (set_of (m.4 i).keys), m.0 i)))
+    (stored_done old.store new.store old.next old.names (set_of old.retired.keys) seat known x k α name m.1 m.5 m.6)
+make_done old new seat known x k α name (Err full) m = record { used = no_room full m.1; same = (λ i. (m.0 i).store); kept = (λ i. seen_in (m.0 i)) } where
+  no_room : (w : Which) → NoRoom old.store old.next w → IsUsedUp (seen_in old) (free_slots old.store) old.store.free_cells (effect.Makes k α name) w
+  no_room which.Serials n = (refl, n)
+  no_room which.Slots n = (refl, n.0, n.1)
+  no_room which.Cells n = (n.0, (λ _. n.1), n.2)
+make_done old new seat known x k α name _ m = absurd m
 
 -- reads, looks and denials change nothing
 module _ (s : Stored) (next : ℕ) (names : List Member) (retired : set.FinSet nat_cmp) (seat : ℕ) (known : principals s ≡ serials names) (x : ℕ) where
-  pub tell_done : (over : ℕ) (answer : Reply) → answer ≡ reply.Text (text_of (held s next) over) → ByEffect s s next names retired seat next names retired x (effect.Tells over) answer
-  tell_done over answer is = inl (record {
+  pub tell_done : (over : ℕ) → ByEffect s s next names retired seat (seen s next names retired) x (effect.Tells over) (Ok (reply.Text (text_of (held s next) over)))
+  tell_done over = record {
     room = needs_none (seen s next names retired) (free_slots s) s.free_cells (effect.Tells over) refl (λ u. u);
-    replied = is;
+    replied = refl;
     graph = refl;
     pending = refl;
     agents = refl;
@@ -326,12 +334,12 @@ module _ (s : Stored) (next : ℕ) (names : List Member) (retired : set.FinSet n
     listed = known;
     slots = omega arith;
     cells = refl;
-  })
+  }
 
-  pub list_done : (at : ℕ) (answer : Reply) → answer ≡ reply.Edges (edges_of (held s next) at) → ByEffect s s next names retired seat next names retired x (effect.Lists at) answer
-  list_done at answer is = inl (record {
+  pub list_done : (at : ℕ) → ByEffect s s next names retired seat (seen s next names retired) x (effect.Lists at) (Ok (reply.Edges (edges_of (held s next) at)))
+  list_done at = record {
     room = needs_none (seen s next names retired) (free_slots s) s.free_cells (effect.Lists at) refl (λ u. u);
-    replied = is ∙ ap (λ es. reply.Edges es) (sym (edges_seen s next next names retired at));
+    replied = ap (λ es. reply.Edges es) (sym (edges_seen s next next names retired at));
     graph = refl;
     pending = refl;
     agents = refl;
@@ -339,12 +347,11 @@ module _ (s : Stored) (next : ℕ) (names : List Member) (retired : set.FinSet n
     listed = known;
     slots = omega arith;
     cells = refl;
-  })
+  }
 
-  pub denied_carried : (c : Command) (why : Cause) → denial (seen s next names retired) x c ≡ Some why → CarriedOut s s next next names names retired retired seat x c (reply.Denied (rule_of c) why)
-  denied_carried c why denied = record {
-    outcome = outcome.Denied (rule_of c) why;
-    decided = (refl, denied);
+  pub denied_carried : (c : Command) (why : Cause) → denial (seen s next names retired) x c ≡ Some why → CarriedIn (seen s next names retired) (seen s next names retired) s s seat x c (denied (rule_of c) why)
+  denied_carried c why is = record {
+    decided = (refl, is);
     replied = refl;
     graph = refl;
     pending = refl;
@@ -354,24 +361,6 @@ module _ (s : Stored) (next : ℕ) (names : List Member) (retired : set.FinSet n
     slots = omega arith;
     cells = refl;
   }
-
--- what was done, or failed
-module _ (s t : Stored) (next : ℕ) (names : List Member) (retired : set.FinSet nat_cmp) (seat : ℕ) (known : principals s ≡ serials names) (x : ℕ) (c : Command) {E : Type 0} where
-  pub rewrite_carried : (over : ℕ) (text : List ℕ) (result : Result Reply E) → effect.Rewrites over text ≡ (terms x c).does → Allowed (seen s next names retired) x c →
-      IfOk result (λ answer. answer ≡ reply.Done) → OnOk result ((old : List ℕ) × TextReplaced s t over text old) → OnOk result (Acted s t None None) →
-      IfOk result (λ answer. CarriedOut s t next next names names retired retired seat x c answer)
-  rewrite_carried over text (Ok answer) does allowed is replaced acted =
-      subst (CarriedOut s t next next names names retired retired seat x c) (sym is)
-      (carried_by s t next names retired seat known next names retired x c (effect.Rewrites over text) reply.Done does allowed (rewrite_done s t next names retired seat known x over text replaced.0 replaced.1 acted))
-  rewrite_carried over text (Err fault) does allowed is replaced acted = tt
-
-  pub retire_carried : (left : List Member) (gone : set.FinSet nat_cmp) (result : Result Reply E) → effect.Retires ≡ (terms x c).does → Allowed (seen s next names retired) x c →
-      IfOk result (λ answer. answer ≡ reply.Done) → OnOk result (left ≡ without_member names x) → OnOk result (gone ≡ set.insert retired x) → OnOk result (Retired s t x) → OnOk result (Acted s t None None) →
-      IfOk result (λ answer. CarriedOut s t next next names left retired gone seat x c answer)
-  retire_carried left gone (Ok answer) does allowed is less more goes acted =
-      subst (CarriedOut s t next next names left retired gone seat x c) (sym is)
-      (carried_by s t next names retired seat known next left gone x c effect.Retires reply.Done does allowed (retire_done s t next names retired seat known x left gone less more goes acted))
-  retire_carried left gone (Err fault) does allowed is less more goes acted = tt
 
 -- a vertex with a name brings one that has to be copied
 pub copies_name : (k : Kind) (α : Letters) (name : Option (List ℕ)) → is_some name ≡ true → copies (effect.Makes k α name) ≡ true

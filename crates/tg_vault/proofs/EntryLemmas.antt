@@ -1,8 +1,6 @@
 -- A vault with one more entry.
 use Rattle.std.proofs.Common.{◌≡◌, ℕ, ◌+◌, ◌-◌, ◌<◌, ◌≤◌, List, [], ◌∷◌, ◌++◌, refl, sym, ap, subst, ◌∙◌, ◌⊎◌, inl, inr, Some, None, is_some, Bool, true, false, cond, arith}
 use Rattle.std.specs.Prelude.{Option}
-use Rattle.std.specs.Ordering.{nat_cmp}
-use Rattle.std.specs.FinSet as set
 use Rattle.std.proofs.lemmas.List.Elements.{All-append, All-cons, All-nil}
 use Rattle.tg_rights.specs.Letters.{joined, without}
 use Rattle.tg_rights.proofs.MembershipLemmas.{contains_left, contains_right}
@@ -10,8 +8,6 @@ use Rattle.tg_rights.specs.declared.command.Command.{Command}
 use Rattle.tg_rights.specs.declared.command.Command.TheVariants as command
 use Rattle.tg_rights.specs.declared.outcome.Outcome.{Outcome}
 use Rattle.tg_rights.specs.declared.outcome.Outcome.TheVariants as outcome
-use Rattle.tg_rights.specs.declared.outcome.Reply.{Reply}
-use Rattle.tg_graph.specs.declared.member.Member.{Member}
 use Rattle.tg_graph.specs.Protection.{Protection, IsGraph, IsVertex, has_retired}
 use Rattle.tg_graph.specs.Terms as effect
 use Rattle.tg_graph.specs.Terms.{Does, terms}
@@ -24,21 +20,21 @@ use Rattle.tg_graph.proofs.PartsStayLemmas.{part_stays}
 use Rattle.tg_graph.proofs.RepliesAgreeLemmas.{same_reply}
 use Rattle.tg_graph.proofs.VertexLemmas.{IsVertex-from_kind}
 use Rattle.tg_vault.specs.declared.entry.Entry.{Entry}
-use Rattle.tg_collect.specs.Stored.{Stored}
 use Rattle.tg_collect.specs.Readings.{IsRootIn, IsParkedIn, agents, pending, free_slots}
 use Rattle.tg_collect.specs.Views.{IsStore}
 use Rattle.tg_collect.proofs.RunLemmas.{acted_parked}
 use Rattle.tg_vault.specs.History.{MayAsk, WasAssumed, WasPrincipal}
-use Rattle.tg_vault.specs.Seen.{seen, set_of}
+use Rattle.tg_vault.specs.Seen.{seen, seen_in, set_of}
 use Rattle.tg_vault.specs.World.{acting, actor_at, agents_after, at_seat, in_use, new_target, target_of, with_target, slots_taken, entered, Enters}
 use Rattle.tg_vault.specs.Contents.{Contents, IsVault, graph_now, held_now, moment}
 use Rattle.tg_vault.specs.Fits.{AreTaken, Ties, IsTied}
 use Rattle.tg_vault.specs.StoreSteps.{SessionStep}
 use Rattle.tg_vault.specs.Exact.{IsExact}
 use Rattle.tg_vault.specs.Agreement.{SameForAgreeing, JudgedAlike, IsOfGraph}
-use Rattle.tg_vault.specs.Told.{told}
-use Rattle.tg_vault.specs.CarriedOut.{CarriedOut, Decided, CellsMoved, EdgeMoves, new_serial}
-use Rattle.tg_vault.proofs.HistoryLemmas.{along_more, graph_of_more, told_outcome, was_stays}
+use Rattle.tg_vault.specs.declared.carry_out.Answered.{Answered}
+use Rattle.tg_vault.specs.declared.carry_out.State.{State}
+use Rattle.tg_vault.specs.CarriedOut.{CarriedIn, Decided, CellsMoved, EdgeMoves, new_serial}
+use Rattle.tg_vault.proofs.HistoryLemmas.{along_more, graph_of_more, was_stays}
 use Rattle.tg_vault.proofs.DecidedLemmas.{IsActor, actor_held, acts_here, decided_permitted, decided_so, entitled_held, exact_full, exact_slots, graph_is, held_is, replied_so, retired_decided}
 use Rattle.tg_vault.proofs.SeatLemmas.{agent_after, target_after}
 use Rattle.tg_vault.proofs.RetiredLemmas.{retired_leaves}
@@ -129,14 +125,14 @@ free_few v j store = let all = store.slots 0 in let many = j.slots in omega arit
 
 -- a command of the actor at a seat was carried out in the store of a vault, in the list of its principals and among those
 -- who have retired
-pub record Serving (v : Contents) (seat x : ℕ) (c : Command) (answer : Reply) (t : Stored) (members : List Member) (after : ℕ) (gone : List ℕ) : Type 0 where
+pub record Serving (v : Contents) (seat x : ℕ) (c : Command) (answer : Answered) (new : State) : Type 0 where
   pub joins : Ties v
   pub store : IsStore v.store
   pub within : seat < 64
   pub acts : actor_at (moment v).world seat ≡ Some x
-  pub carried : CarriedOut v.store t (graph_now v).next after (graph_now v).names members (graph_now v).retired (set_of gone) seat x c answer
+  pub carried : CarriedIn (held_now v) (seen_in new) v.store new.store seat x c answer
 
-module _ (v : Contents) (seat x : ℕ) (c : Command) (answer : Reply) (t : Stored) (members : List Member) (after : ℕ) (gone : List ℕ) (s : Serving v seat x c answer t members after gone) where
+module _ (v : Contents) (seat x : ℕ) (c : Command) (answer : Answered) (new : State) (s : Serving v seat x c answer new) where
   abbrev j : Ties v
   j = s.joins
 
@@ -147,14 +143,14 @@ module _ (v : Contents) (seat x : ℕ) (c : Command) (answer : Reply) (t : Store
   H = held_now v
 
   abbrev o : Outcome
-  o = s.carried.outcome
+  o = answer.outcome
 
   abbrev pub e : Entry
   e = record { seat = seat; actor = x; command = c; outcome = o }
 
   -- the vault with the entry
   abbrev pub left : Contents
-  left = record v { store = t; names = members; history = v.history ++ e ∷ [] }
+  left = record v { store = new.store; names = new.names; history = v.history ++ e ∷ [] }
 
   who : MayAsk G v.history seat x × (IsActor v x ⊎ (has_retired G x ≡ true))
   who = acts_here v j s.store seat x s.acts
@@ -184,7 +180,7 @@ module _ (v : Contents) (seat x : ℕ) (c : Command) (answer : Reply) (t : Store
   permitted : Permitted v.limits G x c o
   permitted = decided_permitted v.limits G (free_slots v.store) v.store.free_cells x c o j.many_slots j.many_cells decided
 
-  replied : answer ≡ reply_of G x c o
+  replied : answer.reply ≡ reply_of G x c o
   replied = s.carried.replied ∙ by o allowed_held where
     by : (p : Outcome) → (p ≡ outcome.Allowed → Allowed H x c) → reply_of H x c p ≡ reply_of G x c p
     by outcome.Allowed a = elim (acts (a refl)) [
@@ -197,7 +193,7 @@ module _ (v : Contents) (seat x : ℕ) (c : Command) (answer : Reply) (t : Store
   graph_left : graph_now left ≡ next_graph G x c o
   graph_left = graph_of_more v.opening v.history e
 
-  pub after_is : after ≡ (graph_now left).next
+  pub after_is : new.next ≡ (graph_now left).next
   after_is = ap (λ (K : Protection). K.next) s.carried.graph ∙ next_same H G x c o refl ∙ sym (ap (λ (K : Protection). K.next) graph_left)
 
   target_is : target_of H x c o ≡ target_of G x c o
@@ -214,10 +210,10 @@ module _ (v : Contents) (seat x : ℕ) (c : Command) (answer : Reply) (t : Store
     };
     history = v.history ++ e ∷ [];
   } where
-    used : v.limits.slots - free_slots t ≡ v.limits.slots - free_slots v.store + slots_taken x c o
+    used : v.limits.slots - free_slots new.store ≡ v.limits.slots - free_slots v.store + slots_taken x c o
     used = let few = free_few v j s.store in let moved = s.carried.slots in omega arith
 
-  pub serving_enters : Enters v.limits (moment v) seat x c answer (moment left)
+  pub serving_enters : Enters v.limits (moment v) seat x c answer.reply (moment left)
   serving_enters = record {
     outcome = o;
     permitted = permitted;
@@ -226,7 +222,7 @@ module _ (v : Contents) (seat x : ℕ) (c : Command) (answer : Reply) (t : Store
     left = moment_left;
   }
 
-  pub serving_same : SameForAgreeing v left answer
+  pub serving_same : SameForAgreeing v left answer.reply
   serving_same = record {
     entry = e;
     added = refl;
@@ -271,14 +267,14 @@ module _ (v : Contents) (seat x : ℕ) (c : Command) (answer : Reply) (t : Store
     by (outcome.Denied rule cause) a there = j.part
     by (outcome.Full w) a there = j.part
 
-  names_are : members ≡ (graph_now left).names
+  names_are : new.names ≡ (graph_now left).names
   names_are = ap (λ (K : Protection). K.names) s.carried.graph ∙ sym part_next.names ∙ sym (ap (λ (K : Protection). K.names) graph_left)
 
-  retired_are : set_of gone ≡ (graph_now left).retired
+  retired_are : set_of new.retired.keys ≡ (graph_now left).retired
   retired_are = ap (λ (K : Protection). K.retired) s.carried.graph ∙ sym part_next.retired ∙ sym (ap (λ (K : Protection). K.retired) graph_left)
 
   held_left : next_graph H x c o ≡ held_now left
-  held_left = sym s.carried.graph ∙ (λ i. seen t (after_is i) (names_are i) (retired_are i))
+  held_left = sym s.carried.graph ∙ (λ i. seen new.store (after_is i) (names_are i) (retired_are i))
 
   still_part : IsPart (graph_now left) (held_now left)
   still_part = subst (λ K. IsPart (graph_now left) K) held_left (subst (λ K. IsPart K (next_graph H x c o)) (sym graph_left) part_next)
@@ -297,7 +293,7 @@ module _ (v : Contents) (seat x : ℕ) (c : Command) (answer : Reply) (t : Store
     here : (k : ℕ) → k ≡ seat → in_use (moment v).world k ≡ true
     here k there = subst (λ n. in_use (moment v).world n ≡ true) (sym there) (acts_taken v j seat x s.acts)
 
-  pub serving_joined : IsTied left after gone
+  pub serving_joined : IsTied left new.next new.retired.keys
   serving_joined = record {
     joins = record {
       vault = still_vault;
@@ -318,26 +314,25 @@ module _ (v : Contents) (seat x : ℕ) (c : Command) (answer : Reply) (t : Store
       many_cells =
           let many = j.many_cells in
           let same = ap edge_count graph_left in
-          let counted = edges_counted G in_G x c o v.store.free_cells t.free_cells carried (moved_so v j s.store x v.store.free_cells t.free_cells c o allowed_held acts s.carried.cells) in
+          let counted = edges_counted G in_G x c o v.store.free_cells new.store.free_cells carried (moved_so v j s.store x v.store.free_cells new.store.free_cells c o allowed_held acts s.carried.cells) in
           omega arith;
     };
     serial = after_is;
     retired = retired_are;
   }
 
--- the entry is that of the reply, and is pushed
-pub record Pushed (v : Contents) (next : ℕ) (retired : List ℕ) (seat x : ℕ) (c : Command) (answer : Reply) (t : Stored) (members : List Member) (after : ℕ) (gone : List ℕ) (decision : Outcome) (history : List Entry) : Type 0 where
+-- the entry is that of the outcome, and is pushed
+pub record Pushed (v : Contents) (next : ℕ) (retired : List ℕ) (seat x : ℕ) (c : Command) (answer : Answered) (new : State) (history : List Entry) : Type 0 where
   pub joined : IsTied v next retired
   pub store : IsStore v.store
   pub within : seat < 64
   pub acts : actor_at (moment v).world seat ≡ Some x
-  pub carried : CarriedOut v.store t next after v.names members (set_of retired) (set_of gone) seat x c answer
-  pub decision_is : decision ≡ told answer
-  pub history_is : history ≡ v.history ++ record { seat = seat; actor = x; command = c; outcome = decision } ∷ []
+  pub carried : CarriedIn (seen v.store next v.names (set_of retired)) (seen_in new) v.store new.store seat x c answer
+  pub history_is : history ≡ v.history ++ record { seat = seat; actor = x; command = c; outcome = answer.outcome } ∷ []
 
-module _ (v : Contents) (next : ℕ) (retired : List ℕ) (seat x : ℕ) (c : Command) (answer : Reply) (t : Stored) (members : List Member) (after : ℕ) (gone : List ℕ) (decision : Outcome) (history : List Entry)
-    (p : Pushed v next retired seat x c answer t members after gone decision history) where
-  serving : Serving v seat x c answer t members after gone
+module _ (v : Contents) (next : ℕ) (retired : List ℕ) (seat x : ℕ) (c : Command) (answer : Answered) (new : State) (history : List Entry)
+    (p : Pushed v next retired seat x c answer new history) where
+  serving : Serving v seat x c answer new
   serving =
       let tied = p.joined in
       record {
@@ -346,30 +341,26 @@ module _ (v : Contents) (next : ℕ) (retired : List ℕ) (seat x : ℕ) (c : Co
         within = p.within;
         acts = p.acts;
         carried =
-            subst (λ (w : ℕ × List Member × set.FinSet nat_cmp). CarriedOut v.store t w.0 after w.1 members w.2 (set_of gone) seat x c answer)
-            (λ i. (tied.serial i, tied.joins.names i, tied.retired i)) p.carried;
+            subst (λ (H : Protection). CarriedIn H (seen_in new) v.store new.store seat x c answer) (λ i. seen v.store (tied.serial i) (tied.joins.names i) (tied.retired i)) p.carried;
       }
 
-  pushed_is : left v seat x c answer t members after gone serving ≡ record v { store = t; names = members; history = history }
-  pushed_is =
-      let s = serving in
-      let told_is : told answer ≡ s.carried.outcome = ap told s.carried.replied ∙ told_outcome (held_now v) x c s.carried.outcome in
-      λ i. record v { store = t; names = members; history = sym (p.history_is ∙ ap (λ d. v.history ++ record { seat = seat; actor = x; command = c; outcome = d } ∷ []) (p.decision_is ∙ told_is)) i }
+  pushed_is : left v seat x c answer new serving ≡ record v { store = new.store; names = new.names; history = history }
+  pushed_is = λ i. record v { store = new.store; names = new.names; history = sym p.history_is i }
 
-  pub pushed_joined : IsTied (record v { store = t; names = members; history = history }) after gone
-  pushed_joined = subst (λ (w : Contents). IsTied w after gone) pushed_is (serving_joined v seat x c answer t members after gone serving)
+  pub pushed_joined : IsTied (record v { store = new.store; names = new.names; history = history }) new.next new.retired.keys
+  pushed_joined = subst (λ (w : Contents). IsTied w new.next new.retired.keys) pushed_is (serving_joined v seat x c answer new serving)
 
-  pub pushed_enters : Enters v.limits (moment v) seat x c answer (moment (record v { store = t; names = members; history = history }))
-  pushed_enters = subst (λ (w : Contents). Enters v.limits (moment v) seat x c answer (moment w)) pushed_is (serving_enters v seat x c answer t members after gone serving)
+  pub pushed_enters : Enters v.limits (moment v) seat x c answer.reply (moment (record v { store = new.store; names = new.names; history = history }))
+  pushed_enters = subst (λ (w : Contents). Enters v.limits (moment v) seat x c answer.reply (moment w)) pushed_is (serving_enters v seat x c answer new serving)
 
-  pub pushed_same : SameForAgreeing v (record v { store = t; names = members; history = history }) answer
-  pushed_same = subst (λ (w : Contents). SameForAgreeing v w answer) pushed_is (serving_same v seat x c answer t members after gone serving)
+  pub pushed_same : SameForAgreeing v (record v { store = new.store; names = new.names; history = history }) answer.reply
+  pushed_same = subst (λ (w : Contents). SameForAgreeing v w answer.reply) pushed_is (serving_same v seat x c answer new serving)
 
-  pub pushed_exact : IsExact v (record v { store = t; names = members; history = history })
-  pushed_exact = subst (λ (w : Contents). IsExact v w) pushed_is (serving_exact v seat x c answer t members after gone serving)
+  pub pushed_exact : IsExact v (record v { store = new.store; names = new.names; history = history })
+  pushed_exact = subst (λ (w : Contents). IsExact v w) pushed_is (serving_exact v seat x c answer new serving)
 
-  pub pushed_acts : SessionStep v (record v { store = t; names = members; history = history })
-  pushed_acts = subst (λ (w : Contents). SessionStep v w) pushed_is (serving_acts v seat x c answer t members after gone serving)
+  pub pushed_acts : SessionStep v (record v { store = new.store; names = new.names; history = history })
+  pushed_acts = subst (λ (w : Contents). SessionStep v w) pushed_is (serving_acts v seat x c answer new serving)
 
 -- no vertex that waits to be swept has the next serial
 pub next_unparked : (v : Contents) → Ties v → IsStore v.store → IsParkedIn v.store (graph_now v).next → ⊥

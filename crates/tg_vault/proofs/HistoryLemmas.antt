@@ -15,14 +15,13 @@ use Rattle.tg_graph.specs.Names.{has_serial, without_member}
 use Rattle.tg_graph.specs.Protection.{Protection, IsGraph, IsSubject, has_retired, is_active, vertex}
 use Rattle.tg_graph.specs.Terms as effect
 use Rattle.tg_graph.specs.Terms.{Does, terms}
-use Rattle.tg_graph.specs.Rules.{answered, done, next_graph, reply_of, with_text}
+use Rattle.tg_graph.specs.Rules.{done, next_graph, with_text}
 use Rattle.tg_graph.proofs.CommandsKeepGraphsLemmas.{graph_stays, subject_stays}
 use Rattle.tg_graph.proofs.ProtectionLemmas.{entitled}
 use Rattle.tg_graph.proofs.RollLemmas.{member_finds, member_found}
 use Rattle.tg_vault.specs.declared.entry.Entry.{Entry}
 use Rattle.tg_graph.specs.Fullness.{Limits, Permitted}
 use Rattle.tg_vault.specs.History.{Legal, MayAsk, WasAssumed, WasPrincipal, EntryStep, EntryRun, graph_of}
-use Rattle.tg_vault.specs.Told.{told}
 use Rattle.tg_vault.proofs.RetiredLemmas.{retired_leaves}
 
 pub graph_of_more : (G : Protection) (es : List Entry) (e : Entry) → graph_of G (es ++ e ∷ []) ≡ next_graph (graph_of G es) e.actor e.command e.outcome
@@ -36,21 +35,6 @@ along_more limits earlier G [] H e K same turns =
 along_more limits earlier G (x ∷ es) H e K along turns =
     let here = subst (λ (l : List Entry). EntryStep limits l H e K) (sym (append_assoc earlier (x ∷ []) es)) turns in
     (along.0, along.1, along_more limits (earlier ++ x ∷ []) along.0 es H e K along.2 here)
-
-told_answered : (G : Protection) (d : Does) → told (answered G d) ≡ outcome.Allowed
-told_answered G (effect.Joins from α to) = refl
-told_answered G (effect.Makes k α name) = refl
-told_answered G (effect.Drops α over) = refl
-told_answered G (effect.Rewrites over text) = refl
-told_answered G (effect.Tells over) = refl
-told_answered G (effect.Lists at) = refl
-told_answered G effect.Retires = refl
-told_answered G (effect.Acts agent) = refl
-
-pub told_outcome : (G : Protection) (x : ℕ) (c : Command) (o : Outcome) → told (reply_of G x c o) ≡ o
-told_outcome G x c outcome.Allowed = told_answered G (terms x c).does
-told_outcome G x c (outcome.Denied rule cause) = refl
-told_outcome G x c (outcome.Full which) = refl
 
 pub active_subject : (G : Protection) (x : ℕ) → IsGraph G → is_active G x ≡ true → IsSubject G x
 active_subject G x graph active = let m = member_found G.names x active in subst (IsSubject G) m.2 (graph.roll.subjects m.0 m.1)

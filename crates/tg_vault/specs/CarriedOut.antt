@@ -1,19 +1,18 @@
 -- what a command does to a store, which decides it by what it holds
-use Rattle.std.specs.Prelude.{◌≡◌, ◌≢◌, ◌<◌, ◌≤◌, ℕ, ◌+◌, Bool, true, false, cond, List, [], length, Option, Some, None}
-use Rattle.std.specs.Ordering.{nat_cmp}
-use Rattle.std.specs.FinSet as set
+use Rattle.std.specs.Prelude.{◌≡◌, ◌≢◌, ◌<◌, ◌≤◌, ℕ, ◌+◌, Bool, true, false, cond, List, [], length, Option, Some, None, Result, Ok, Err}
 use Rattle.tg_rights.specs.Letters.{Letters, joined, without}
 use Rattle.tg_rights.specs.declared.limits.TheConstants.{MAX_PRINCIPALS}
 use Rattle.tg_rights.specs.declared.kind.Kind.{Kind}
 use Rattle.tg_rights.specs.declared.kind.Kind.TheVariants.{Subject}
 use Rattle.tg_rights.specs.declared.command.Command.{Command}
+use Rattle.tg_rights.specs.declared.command.Rule.{Rule}
+use Rattle.tg_rights.specs.declared.outcome.Cause.{Cause}
 use Rattle.tg_rights.specs.declared.outcome.Which.{Which}
 use Rattle.tg_rights.specs.declared.outcome.Which.TheVariants as which
 use Rattle.tg_rights.specs.declared.outcome.Outcome.{Outcome}
 use Rattle.tg_rights.specs.declared.outcome.Outcome.TheVariants as outcome
 use Rattle.tg_rights.specs.declared.outcome.Reply.{Reply}
 use Rattle.tg_rights.specs.declared.outcome.Reply.TheVariants as reply
-use Rattle.tg_graph.specs.declared.member.Member.{Member}
 use Rattle.tg_graph.specs.Names.{with_member}
 use Rattle.tg_graph.specs.Terms as effect
 use Rattle.tg_graph.specs.Terms.{Does, terms}
@@ -23,8 +22,10 @@ use Rattle.tg_graph.specs.Fullness.{NewEdge, edges_at}
 use Rattle.tg_collect.specs.Stored.{Stored}
 use Rattle.tg_collect.specs.Readings.{IsEdgeIn, agents, pending, principals, free_slots}
 use Rattle.tg_collect.specs.Sessions.{EdgeStored, VertexStored, PrincipalStored, Acted}
+use Rattle.tg_vault.specs.declared.carry_out.Answered.{Answered}
+use Rattle.tg_vault.specs.declared.carry_out.State.{State}
 use Rattle.tg_vault.specs.World.{agents_after, target_of, with_target, slots_taken}
-use Rattle.tg_vault.specs.Seen.{seen, serials}
+use Rattle.tg_vault.specs.Seen.{seen_in, serials}
 
 -- the first of serials, slots and cells that an effect needs and that is used up
 abbrev pub IsUsedUp : Protection → (free_slots free_cells : ℕ) → Does → Which → Type 0
@@ -76,24 +77,37 @@ copies (effect.Lists at) = true
 copies effect.Retires = true
 copies (effect.Acts agent) = false
 
--- the command of x, from the seat, was decided and carried out in the store, in the list of the active principals and in
--- the set of those who have retired, with this reply
-pub record CarriedOut (s t : Stored) (next after : ℕ) (names left : List Member) (retired gone : set.FinSet nat_cmp) (seat x : ℕ) (c : Command) (answer : Reply) : Type 0 where
-  pub outcome : Outcome
-  pub decided : Decided (seen s next names retired) (free_slots s) s.free_cells x c outcome
-  pub replied : answer ≡ reply_of (seen s next names retired) x c outcome
-  pub graph : seen t after left gone ≡ next_graph (seen s next names retired) x c outcome
-  pub pending : pending t ≡ with_target (pending s) seat (target_of (seen s next names retired) x c outcome)
-  pub agents : agents t ≡ agents_after (agents s) seat x c outcome
-  pub acted : Acted s t (new_serial next x c outcome) (target_of (seen s next names retired) x c outcome)
-  pub principals : principals t ≡ serials left
-  pub slots : free_slots s ≡ free_slots t + slots_taken x c outcome
-  pub cells : CellsMoved (seen s next names retired) s.free_cells t.free_cells x c outcome
+-- the outcome with the reply of a command that was carried out, that may be full, and that its rule denies
+abbrev pub allowed : Reply → Answered
+allowed told = record { outcome = outcome.Allowed; reply = told }
+
+abbrev pub settled : Result Reply Which → Answered
+settled (Ok told) = allowed told
+settled (Err w) = record { outcome = outcome.Full w; reply = reply.Full w }
+
+abbrev pub denied : Rule → Cause → Answered
+denied rule cause = record { outcome = outcome.Denied rule cause; reply = reply.Denied rule cause }
+
+-- the command of x, from the seat, was decided in the graph G, which is what is held and kept, and carried out in the
+-- store, with this outcome and the reply that follows from it; K is what is held and kept then
+pub record CarriedIn (G K : Protection) (s t : Stored) (seat x : ℕ) (c : Command) (a : Answered) : Type 0 where
+  pub decided : Decided G (free_slots s) s.free_cells x c a.outcome
+  pub replied : a.reply ≡ reply_of G x c a.outcome
+  pub graph : K ≡ next_graph G x c a.outcome
+  pub pending : pending t ≡ with_target (pending s) seat (target_of G x c a.outcome)
+  pub agents : agents t ≡ agents_after (agents s) seat x c a.outcome
+  pub acted : Acted s t (new_serial G.next x c a.outcome) (target_of G x c a.outcome)
+  pub principals : principals t ≡ serials K.names
+  pub slots : free_slots s ≡ free_slots t + slots_taken x c a.outcome
+  pub cells : CellsMoved G s.free_cells t.free_cells x c a.outcome
+
+abbrev pub CarriedOut : (old new : State) → (seat x : ℕ) → Command → Answered → Type 0
+CarriedOut old new seat x c a = CarriedIn (seen_in old) (seen_in new) old.store new.store seat x c a
 
 -- an edge from x to y gained rights, or no cell was free for it
-abbrev pub Joined : (v w : Stored) → (seat x y : ℕ) → Letters → Reply → Type 0
-Joined v w seat x y rights reply.Done = EdgeStored v w seat x y rights × Acted v w None (Some y)
-Joined v w seat x y rights (reply.Full which.Cells) = (w ≡ v) × (v.free_cells ≡ 0) × (IsEdgeIn v x y → ⊥)
+abbrev pub Joined : (v w : Stored) → (seat x y : ℕ) → Letters → Result Reply Which → Type 0
+Joined v w seat x y rights (Ok reply.Done) = EdgeStored v w seat x y rights × Acted v w None (Some y)
+Joined v w seat x y rights (Err which.Cells) = (w ≡ v) × (v.free_cells ≡ 0) × (IsEdgeIn v x y → ⊥)
 Joined v w seat x y rights _ = ⊥
 
 -- what a new vertex needs first and is used up
@@ -114,8 +128,9 @@ Stores v w seat x serial kind rights (Some name) = (kind ≡ Subject) × Princip
 
 -- a vertex was added, with the rights of x over it, and to the list of the active principals if it has a name; or there
 -- was no room for it
-abbrev pub Made : (v w : Stored) → (next after : ℕ) → (names left : List Member) → (seat x : ℕ) → Kind → Letters → Option (List ℕ) → Reply → Type 0
-Made v w next after names left seat x kind rights name (reply.Created serial) =
-    (serial ≡ next) × (next ≤ last_serial) × (after ≡ next + 1) × (left ≡ with_member names name next) × Stores v w seat x next kind rights name × Acted v w (Some next) (Some next)
-Made v w next after names left seat x kind rights name (reply.Full full) = (w ≡ v) × (after ≡ next) × (left ≡ names) × NoRoom v next full
-Made v w next after names left seat x kind rights name _ = ⊥
+abbrev pub Made : (old new : State) → (seat x : ℕ) → Kind → Letters → Option (List ℕ) → Result Reply Which → Type 0
+Made old new seat x kind rights name (Ok (reply.Created serial)) =
+    (serial ≡ old.next) × (old.next ≤ last_serial) × (new.next ≡ old.next + 1) × (new.names ≡ with_member old.names name old.next) × (new.retired ≡ old.retired)
+    × Stores old.store new.store seat x old.next kind rights name × Acted old.store new.store (Some old.next) (Some old.next)
+Made old new seat x kind rights name (Err full) = (new ≡ old) × NoRoom old.store old.next full
+Made old new seat x kind rights name _ = ⊥

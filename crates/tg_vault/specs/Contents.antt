@@ -46,10 +46,10 @@ contents_code =
 abbrev pub contents : Inside → Contents
 contents v = record {
   opening = v.opening;
-  names = v.names;
+  names = v.state.names;
   limits = record { slots = v.slots; cells = v.cells };
   seats = v.seats.items;
-  store = v.store;
+  store = v.state.store;
   history = v.history.items;
 }
 

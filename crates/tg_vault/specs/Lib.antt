@@ -9,7 +9,6 @@ pub mod Fits
 pub mod StoreSteps
 pub mod Exact
 pub mod Agreement
-pub mod Told
 pub mod Added
 pub mod Course
 pub mod Cycles

@@ -6,6 +6,7 @@ use Rattle.tg_graph.specs.declared.member.Member.{Member}
 use Rattle.tg_graph.specs.Protection.{Protection}
 use Rattle.tg_collect.specs.Stored.{Stored}
 use Rattle.tg_collect.specs.Readings.{held}
+use Rattle.tg_vault.specs.declared.carry_out.State.{State}
 
 -- what is held, as a graph with this next serial, these active principals, and those who have retired
 abbrev pub seen : Stored → (next : ℕ) → List Member → set.FinSet nat_cmp → Protection
@@ -18,3 +19,7 @@ set_of keys = set.from_list keys
 -- the serials of the active principals
 abbrev pub serials : List Member → List ℕ
 serials members = map (λ (m : Member). m.serial) members
+
+-- what a command sees of a state: what is held, with what is kept besides
+abbrev pub seen_in : State → Protection
+seen_in s = seen s.store s.next s.names (set_of s.retired.keys)

@@ -13,18 +13,73 @@ ghost use Rattle.tg_graph.specs.Terms.{terms, name_in, text_in};
 ghost use Rattle.tg_collect.specs.Readings.{held, free_slots, IsEdgeIn, IsHeldIn, IsParkedIn, pending_of, place, principals, serial_at};
 ghost use Rattle.tg_collect.specs.Sessions.{Assumed, AgentLeft, Retired, RightsRemoved, TextReplaced, Acted};
 ghost use Rattle.tg_vault.specs.Acting.{IsHere, serial_in};
-ghost use Rattle.tg_vault.specs.CarriedOut.{CarriedOut, HasRoom, Joined, Made, Stores, copies};
-ghost use Rattle.tg_vault.specs.Seen.{seen, serials, set_of};
+ghost use Rattle.tg_vault.specs.CarriedOut.{CarriedOut, HasRoom, Joined, Made, Stores, allowed, copies, denied, settled};
+ghost use Rattle.tg_vault.specs.Seen.{seen_in, serials, set_of};
 
 use crate::acting::Actor;
 use std::alloc::{AllocError, Global};
 use std::collections::BTreeSet;
 use tg_collect::{HeapFull, Store};
 use tg_graph::{Effect, LAST_SERIAL, Roll, Spot, decide, effect_of, into_text, is_for_retired};
-use tg_rights::{Cause, Command, EdgeList, Kind, Name, Reply, Rights, Text, Which};
+use tg_rights::{Cause, Command, EdgeList, Kind, Name, Outcome, Reply, Rights, Rule, Text, Which};
+
+/// What a command changes: the store, the active principals, who has retired, and the next serial.
+#[derive(Drop)]
+pub struct State {
+    pub store: Store,
+    pub names: Roll,
+    pub retired: BTreeSet<u64>,
+    pub next: u64,
+}
+
+/// How a command was decided, and the reply, which follows from that and the graph.
+#[derive(Drop)]
+pub struct Answered {
+    pub outcome: Outcome,
+    pub reply: Reply,
+}
+
+/// An allowed command, which was carried out.
+fn allowed(reply: Reply) -> Answered
+    ensures { result ≡ allowed reply }
+{
+    Answered {
+        outcome: Outcome::Allowed,
+        reply,
+    }
+}
+
+/// An allowed command, which was carried out with this reply, or for which this is used up.
+fn settled(done: Result<Reply, Which>) -> Answered
+    ensures { result ≡ settled done }
+{
+    match done {
+        Ok(reply) => allowed(reply),
+        Err(which) => Answered {
+            outcome: Outcome::Full(which),
+            reply: Reply::Full(which),
+        },
+    }
+}
+
+/// A command that its rule denies.
+fn denied(rule: Rule, cause: &Cause) -> Answered
+    ensures { result ≡ denied rule cause.now }
+{
+    Answered {
+        outcome: Outcome::Denied(rule, *cause),
+        reply: Reply::Denied(rule, *cause),
+    }
+}
 
 /// The edge gains the rights, and its target becomes the seat's; full if it is new and no cell is free.
-fn join(store: &mut Store, seat: u64, owner: u32, target: u32, rights: Rights) -> Reply
+fn join(
+    store: &mut Store,
+    seat: u64,
+    owner: u32,
+    target: u32,
+    rights: Rights,
+) -> Result<Reply, Which>
     requires seat { seat < SEATS }
     requires idle { pending_of store.old seat ≡ None }
     requires source { IsSome (place store.old owner) }
@@ -34,85 +89,9 @@ fn join(store: &mut Store, seat: u64, owner: u32, target: u32, rights: Rights) -
     ensures { Joined store.old store.new seat (serial_at store.old owner) (serial_at store.old target) rights result }
 {
     match store.store_edge(seat, owner, target, rights) {
-        Ok(()) => Reply::Done,
-        Err(_) => Reply::Full(Which::Cells),
+        Ok(()) => Ok(Reply::Done),
+        Err(_) => Err(Which::Cells),
     }
-}
-
-/// A vertex of this serial is stored and becomes the seat's target; with a name it is a principal.
-fn add_vertex(
-    store: &mut Store,
-    alloc: Global,
-    seat: u64,
-    id: u32,
-    serial: u64,
-    kind: Kind,
-    rights: Rights,
-    name: &Option<Name>,
-) -> Result<(), HeapFull>
-    requires seat { seat < SEATS }
-    requires idle { pending_of store.old seat ≡ None }
-    requires source { IsSome (place store.old id) }
-    requires some { is_none rights ≡ false }
-    requires unheld { IsHeldIn store.old serial → ⊥ }
-    requires unparked { IsParkedIn store.old serial → ⊥ }
-    requires subject { IsSubjectIfNamed kind name.now }
-    requires room { HasRoom (principals store.old) name.now }
-    ensures ok { OnOk result (Stores store.old store.new seat (serial_at store.old id) serial kind rights name.now) }
-    ensures acted { OnOk result (Acted store.old store.new (Some serial) (Some serial)) }
-    ensures slots { IfErr result (λ full. full ≡ HeapFull.Slots → free_slots store.old ≡ 0) }
-    ensures cells { IfErr result (λ full. full ≡ HeapFull.Cells → (free_slots store.old ≢ 0) × (store.old.free_cells ≡ 0)) }
-    ensures unchanged { OnErr result (store.new ≡ store.old) }
-{
-    let text = Text::empty(alloc);
-    match name {
-        Some(_) => match store.store_principal(seat, id, serial, rights, text) {
-            Ok(()) => Ok(()),
-            Err((full, _)) => Err(full),
-        },
-        None => match store.store_vertex(seat, id, serial, kind, rights, text) {
-            Ok(()) => Ok(()),
-            Err((full, _)) => Err(full),
-        },
-    }
-}
-
-/// A vertex with the next serial is added and becomes the seat's target; with a name it is a principal. Full if there
-/// is no serial, slot or cell for it.
-fn make(
-    store: &mut Store,
-    names: &mut Roll,
-    next: &mut u64,
-    alloc: Global,
-    seat: u64,
-    id: u32,
-    kind: Kind,
-    rights: Rights,
-    name: Option<Name>,
-) -> Reply
-    requires seat { seat < SEATS }
-    requires idle { pending_of store.old seat ≡ None }
-    requires source { IsSome (place store.old id) }
-    requires some { is_none rights ≡ false }
-    requires unheld { IsHeldIn store.old next.old → ⊥ }
-    requires unparked { IsParkedIn store.old next.old → ⊥ }
-    requires subject { IsSubjectIfNamed kind name }
-    requires room { HasRoom (principals store.old) name }
-    requires named { MayBeNamed names.old name }
-    ensures { Made store.old store.new next.old next.new names.old names.new seat (serial_at store.old id) kind rights name result }
-{
-    if *next > LAST_SERIAL {
-        return Reply::Full(Which::Serials);
-    }
-    let serial = *next;
-    match add_vertex(store, alloc, seat, id, serial, kind, rights, &name) {
-        Ok(()) => {}
-        Err(HeapFull::Slots) => return Reply::Full(Which::Slots),
-        Err(HeapFull::Cells) => return Reply::Full(Which::Cells),
-    }
-    *next += 1;
-    names.add(name, serial);
-    Reply::Created(serial)
 }
 
 /// A copy of the name that the command gives to a new principal, if it gives one.
@@ -126,186 +105,222 @@ fn name_of(command: &Command, alloc: Global) -> Result<Option<Name>, AllocError>
     }
 }
 
-/// The actor has retired, and is a principal no longer. Only the first of this can fail.
-fn retire(
-    store: &mut Store,
-    names: &mut Roll,
-    retired: &mut BTreeSet<u64>,
-    actor: u64,
-) -> Result<Reply, AllocError>
-    ensures done { IfOk result (λ answer. answer ≡ reply.Done) }
-    ensures gone { OnOk result (set_of retired.new.keys ≡ set.insert (set_of retired.old.keys) actor) }
-    ensures retired { OnOk result (Retired store.old store.new actor) }
-    ensures acted { OnOk result (Acted store.old store.new None None) }
-    ensures left { OnOk result (names.new ≡ without_member names.old actor) }
-    ensures unchanged { OnErr result (store.new ≡ store.old) }
-    ensures kept { OnErr result (names.new ≡ names.old) }
-    ensures none { OnErr result (retired.new.keys ≡ retired.old.keys) }
-{
-    retired.insert(actor)?;
-    store.retire(actor);
-    names.remove(actor);
-    Ok(Reply::Done)
-}
-
-/// The seat acts for the vertex in the slot, which is its target.
-fn assume(store: &mut Store, seat: u64, agent: u32) -> Reply
-    requires seat { seat < SEATS }
-    requires idle { pending_of store.old seat ≡ None }
-    requires held { IsSome (place store.old agent) }
-    ensures done { result ≡ reply.Done }
-    ensures assumed { Assumed store.old store.new seat (serial_at store.old agent) }
-    ensures acted { Acted store.old store.new None (Some (serial_at store.old agent)) }
-{
-    store.assume(seat, agent);
-    Reply::Done
-}
-
-/// The seat acts for nobody but who sits there.
-fn leave(store: &mut Store, seat: u64) -> Reply
-    requires { seat < SEATS }
-    ensures done { result ≡ reply.Done }
-    ensures left { AgentLeft store.old store.new seat }
-    ensures acted { Acted store.old store.new None None }
-{
-    store.leave(seat);
-    Reply::Done
-}
-
-/// The edge loses the rights.
-fn remove(store: &mut Store, id: u32, over: u64, rights: Rights) -> Reply
-    requires source { IsSome (place store.old id) }
-    requires edge { IsEdgeIn store.old (serial_at store.old id) over }
-    requires has { includes (label (held store.old 0) (serial_at store.old id) over) rights ≡ true }
-    ensures done { result ≡ reply.Done }
-    ensures removed { RightsRemoved store.old store.new (serial_at store.old id) over rights }
-    ensures acted { Acted store.old store.new None None }
-{
-    store.remove_rights(id, over, rights);
-    Reply::Done
-}
-
 /// The reply is a copy of the text.
-fn tell(store: &Store, alloc: Global, at: u32) -> Result<Reply, AllocError>
+fn tell(store: &Store, alloc: Global, at: u32) -> Result<Answered, AllocError>
     requires { IsSome (place store.now at) }
-    ensures { IfOk result (λ answer. (next : ℕ) → answer ≡ reply.Text (text_of (held store.now next) (serial_at store.now at))) }
+    ensures { IfOk result (λ answer. (next : ℕ) → answer ≡ allowed (reply.Text (text_of (held store.now next) (serial_at store.now at)))) }
 {
     let text = store.text(at).copy(alloc)?;
-    Ok(Reply::Text(text))
+    Ok(allowed(Reply::Text(text)))
 }
 
 /// A copy of the text that the command brings takes the place of the old one.
-fn replace(
-    store: &mut Store,
-    alloc: Global,
-    at: u32,
-    command: &Command,
-) -> Result<Reply, AllocError>
+fn replace(store: &mut Store, alloc: Global, at: u32, command: &Command) -> Result<(), AllocError>
     requires { IsSome (place store.old at) }
-    ensures done { IfOk result (λ answer. answer ≡ reply.Done) }
     ensures replaced { OnOk result ((old : List ℕ) × TextReplaced store.old store.new (serial_at store.old at) (text_in command.now) old) }
     ensures acted { OnOk result (Acted store.old store.new None None) }
     ensures unchanged { OnErr result (store.new ≡ store.old) }
 {
     let text = into_text(command.copy(alloc)?, alloc);
     store.set_text(at, text);
-    Ok(Reply::Done)
+    Ok(())
 }
 
 /// The reply is the edges, by rising serial.
-fn list(store: &Store, alloc: Global, of: u32) -> Result<Reply, AllocError>
+fn list(store: &Store, alloc: Global, of: u32) -> Result<Answered, AllocError>
     requires { IsSome (place store.now of) }
-    ensures { IfOk result (λ answer. (next : ℕ) → answer ≡ reply.Edges (edges_of (held store.now next) (serial_at store.now of))) }
+    ensures { IfOk result (λ answer. (next : ℕ) → answer ≡ allowed (reply.Edges (edges_of (held store.now next) (serial_at store.now of)))) }
 {
     let edges = store.edges(alloc, of)?;
-    Ok(Reply::Edges(EdgeList::new(edges)))
+    Ok(allowed(Reply::Edges(EdgeList::new(edges))))
 }
 
-/// Decides the command of an actor that has not retired, carries it out if the rules allow it and nothing that it needs
-/// is used up, and returns the reply. `AllocError` leaves everything as it was; it occurs only for an allowed command
-/// that copies a text, a name or a list, and for a retire, so never for a denial.
-#[inline(always)]
-fn answer_at(
-    store: &mut Store,
-    names: &mut Roll,
-    retired: &mut BTreeSet<u64>,
-    next: &mut u64,
-    alloc: Global,
-    seat: u64,
-    actor: Spot<u32>,
-    command: &Command,
-) -> Result<Reply, AllocError>
-    requires seat { seat < SEATS }
-    requires idle { pending_of store.old seat ≡ None }
-    requires listed { principals store.old ≡ serials names.old }
-    requires actor { place store.old actor.place ≡ Some actor.serial }
-    requires unretired { set.contains (set_of retired.old.keys) actor.serial ≡ false }
-    requires unheld { IsHeldIn store.old next.old → ⊥ }
-    requires unparked { IsParkedIn store.old next.old → ⊥ }
-    ensures carried { IfOk result (λ answer. CarriedOut store.old store.new next.old next.new names.old names.new (set_of retired.old.keys) (set_of retired.new.keys) seat actor.serial command.now answer) }
-    ensures needed { OnErr result (Allowed (seen store.old next.old names.old (set_of retired.old.keys)) actor.serial command.now) }
-    ensures memory { OnErr result (copies (terms actor.serial command.now).does ≡ true) }
-    ensures unchanged { OnErr result (store.new ≡ store.old) }
-    ensures kept { OnErr result (names.new ≡ names.old) }
-    ensures none { OnErr result (retired.new.keys ≡ retired.old.keys) }
-    ensures same { OnErr result (next.new ≡ next.old) }
-{
-    let found = match decide(store, names.as_slice(), actor, command) {
-        Ok(found) => found,
-        Err(cause) => return Ok(Reply::Denied(command.rule(), cause)),
-    };
-    let id = actor.place;
-    match effect_of(actor.serial, command) {
-        Effect::Joins { from, rights, to } => {
-            let source = found.spot(from).place;
-            let target = found.spot(to).place;
-            Ok(join(store, seat, source, target, rights))
+impl State {
+    /// A vertex with the next serial is stored and becomes the seat's target; with a name it is a principal.
+    fn add_vertex(
+        &mut self,
+        alloc: Global,
+        seat: u64,
+        id: u32,
+        kind: Kind,
+        rights: Rights,
+        name: &Option<Name>,
+    ) -> Result<(), HeapFull>
+        requires seat { seat < SEATS }
+        requires idle { pending_of self.old.store seat ≡ None }
+        requires source { IsSome (place self.old.store id) }
+        requires some { is_none rights ≡ false }
+        requires unheld { IsHeldIn self.old.store self.old.next → ⊥ }
+        requires unparked { IsParkedIn self.old.store self.old.next → ⊥ }
+        requires subject { IsSubjectIfNamed kind name.now }
+        requires room { HasRoom (principals self.old.store) name.now }
+        ensures ok { OnOk result (Stores self.old.store self.new.store seat (serial_at self.old.store id) self.old.next kind rights name.now) }
+        ensures acted { OnOk result (Acted self.old.store self.new.store (Some self.old.next) (Some self.old.next)) }
+        ensures rest { self.new ≡ record self.old { store = self.new.store } }
+        ensures slots { IfErr result (λ full. full ≡ HeapFull.Slots → free_slots self.old.store ≡ 0) }
+        ensures cells { IfErr result (λ full. full ≡ HeapFull.Cells → (free_slots self.old.store ≢ 0) × (self.old.store.free_cells ≡ 0)) }
+        ensures unchanged { OnErr result (self.new ≡ self.old) }
+    {
+        let serial = self.next;
+        let text = Text::empty(alloc);
+        match name {
+            Some(_) => match self.store.store_principal(seat, id, serial, rights, text) {
+                Ok(()) => Ok(()),
+                Err((full, _)) => Err(full),
+            },
+            None => match self
+                .store
+                .store_vertex(seat, id, serial, kind, rights, text)
+            {
+                Ok(()) => Ok(()),
+                Err((full, _)) => Err(full),
+            },
         }
-        Effect::Makes { kind, rights } => {
-            let name = name_of(command, alloc)?;
-            Ok(make(store, names, next, alloc, seat, id, kind, rights, name))
-        }
-        Effect::Drops { rights, over } => Ok(remove(store, id, over, rights)),
-        Effect::Rewrites { over } => replace(store, alloc, found.spot(over).place, command),
-        Effect::Tells { over } => tell(store, alloc, found.spot(over).place),
-        Effect::Lists { at } => list(store, alloc, found.spot(at).place),
-        Effect::Retires => retire(store, names, retired, actor.serial),
-        Effect::Acts { agent } => match agent {
-            Some(agent) => Ok(assume(store, seat, found.spot(agent).place)),
-            None => Ok(leave(store, seat)),
-        },
     }
-}
 
-/// Decides the actor's command and carries it out as `answer_at` does. An actor that has retired is denied each command
-/// but a leave, which is carried out.
-pub fn answer(
-    store: &mut Store,
-    names: &mut Roll,
-    retired: &mut BTreeSet<u64>,
-    next: &mut u64,
-    alloc: Global,
-    seat: u64,
-    actor: Actor,
-    command: &Command,
-) -> Result<Reply, AllocError>
-    requires seat { seat < SEATS }
-    requires idle { pending_of store.old seat ≡ None }
-    requires listed { principals store.old ≡ serials names.old }
-    requires here { IsHere store.old (set_of retired.old.keys) actor }
-    requires unheld { IsHeldIn store.old next.old → ⊥ }
-    requires unparked { IsParkedIn store.old next.old → ⊥ }
-    ensures carried { IfOk result (λ answer. CarriedOut store.old store.new next.old next.new names.old names.new (set_of retired.old.keys) (set_of retired.new.keys) seat (serial_in actor) command.now answer) }
-    ensures needed { OnErr result (Allowed (seen store.old next.old names.old (set_of retired.old.keys)) (serial_in actor) command.now) }
-    ensures memory { OnErr result (copies (terms (serial_in actor) command.now).does ≡ true) }
-    ensures unchanged { OnErr result (store.new ≡ store.old) }
-    ensures kept { OnErr result (names.new ≡ names.old) }
-    ensures none { OnErr result (retired.new.keys ≡ retired.old.keys) }
-    ensures same { OnErr result (next.new ≡ next.old) }
-{
-    match actor {
-        Actor::At(spot) => answer_at(store, names, retired, next, alloc, seat, spot, command),
-        Actor::Gone(serial) if is_for_retired(serial, command) => Ok(leave(store, seat)),
-        Actor::Gone(_) => Ok(Reply::Denied(command.rule(), Cause::Retired)),
+    /// A vertex with the next serial is added and becomes the seat's target; with a name it is a principal. Full if
+    /// there is no serial, slot or cell for it.
+    fn make(
+        &mut self,
+        alloc: Global,
+        seat: u64,
+        id: u32,
+        kind: Kind,
+        rights: Rights,
+        name: Option<Name>,
+    ) -> Result<Reply, Which>
+        requires seat { seat < SEATS }
+        requires idle { pending_of self.old.store seat ≡ None }
+        requires source { IsSome (place self.old.store id) }
+        requires some { is_none rights ≡ false }
+        requires unheld { IsHeldIn self.old.store self.old.next → ⊥ }
+        requires unparked { IsParkedIn self.old.store self.old.next → ⊥ }
+        requires subject { IsSubjectIfNamed kind name }
+        requires room { HasRoom (principals self.old.store) name }
+        requires named { MayBeNamed self.old.names name }
+        ensures { Made self.old self.new seat (serial_at self.old.store id) kind rights name result }
+    {
+        if self.next > LAST_SERIAL {
+            return Err(Which::Serials);
+        }
+        match self.add_vertex(alloc, seat, id, kind, rights, &name) {
+            Ok(()) => {}
+            Err(HeapFull::Slots) => return Err(Which::Slots),
+            Err(HeapFull::Cells) => return Err(Which::Cells),
+        }
+        let serial = self.next;
+        self.next += 1;
+        self.names.add(name, serial);
+        Ok(Reply::Created(serial))
+    }
+
+    /// The actor has retired, and is a principal no longer. Only the first of this can fail.
+    fn retire(&mut self, actor: u64) -> Result<(), AllocError>
+        ensures gone { OnOk result (set_of self.new.retired.keys ≡ set.insert (set_of self.old.retired.keys) actor) }
+        ensures retired { OnOk result (Retired self.old.store self.new.store actor) }
+        ensures acted { OnOk result (Acted self.old.store self.new.store None None) }
+        ensures left { OnOk result (self.new.names ≡ without_member self.old.names actor) }
+        ensures next { OnOk result (self.new.next ≡ self.old.next) }
+        ensures unchanged { OnErr result (self.new ≡ self.old) }
+    {
+        self.retired.insert(actor)?;
+        self.store.retire(actor);
+        self.names.remove(actor);
+        Ok(())
+    }
+
+    /// Decides the command of an actor that has not retired, and carries it out if the rules allow it and nothing that
+    /// it needs is used up. `AllocError` leaves everything as it was; it occurs only for an allowed command that copies
+    /// a text, a name or a list, and for a retire, so never for a denial.
+    #[inline(always)]
+    fn answer_at(
+        &mut self,
+        alloc: Global,
+        seat: u64,
+        actor: Spot<u32>,
+        command: &Command,
+    ) -> Result<Answered, AllocError>
+        requires seat { seat < SEATS }
+        requires idle { pending_of self.old.store seat ≡ None }
+        requires listed { principals self.old.store ≡ serials self.old.names }
+        requires actor { place self.old.store actor.place ≡ Some actor.serial }
+        requires unretired { set.contains (set_of self.old.retired.keys) actor.serial ≡ false }
+        requires unheld { IsHeldIn self.old.store self.old.next → ⊥ }
+        requires unparked { IsParkedIn self.old.store self.old.next → ⊥ }
+        ensures carried { IfOk result (λ answer. CarriedOut self.old self.new seat actor.serial command.now answer) }
+        ensures needed { OnErr result (Allowed (seen_in self.old) actor.serial command.now) }
+        ensures memory { OnErr result (copies (terms actor.serial command.now).does ≡ true) }
+        ensures unchanged { OnErr result (self.new ≡ self.old) }
+    {
+        let found = match decide(&self.store, self.names.as_slice(), actor, command) {
+            Ok(found) => found,
+            Err(cause) => return Ok(denied(command.rule(), &cause)),
+        };
+        let id = actor.place;
+        match effect_of(actor.serial, command) {
+            Effect::Joins { from, rights, to } => {
+                let source = found.spot(from).place;
+                let target = found.spot(to).place;
+                Ok(settled(join(&mut self.store, seat, source, target, rights)))
+            }
+            Effect::Makes { kind, rights } => {
+                let name = name_of(command, alloc)?;
+                Ok(settled(self.make(alloc, seat, id, kind, rights, name)))
+            }
+            Effect::Drops { rights, over } => {
+                self.store.remove_rights(id, over, rights);
+                Ok(allowed(Reply::Done))
+            }
+            Effect::Rewrites { over } => {
+                replace(&mut self.store, alloc, found.spot(over).place, command)?;
+                Ok(allowed(Reply::Done))
+            }
+            Effect::Tells { over } => tell(&self.store, alloc, found.spot(over).place),
+            Effect::Lists { at } => list(&self.store, alloc, found.spot(at).place),
+            Effect::Retires => {
+                self.retire(actor.serial)?;
+                Ok(allowed(Reply::Done))
+            }
+            Effect::Acts { agent } => match agent {
+                Some(agent) => {
+                    self.store.assume(seat, found.spot(agent).place);
+                    Ok(allowed(Reply::Done))
+                }
+                None => {
+                    self.store.leave(seat);
+                    Ok(allowed(Reply::Done))
+                }
+            },
+        }
+    }
+
+    /// Decides the actor's command and carries it out as `answer_at` does. An actor that has retired is denied each
+    /// command but a leave, which is carried out.
+    pub fn answer(
+        &mut self,
+        alloc: Global,
+        seat: u64,
+        actor: Actor,
+        command: &Command,
+    ) -> Result<Answered, AllocError>
+        requires seat { seat < SEATS }
+        requires idle { pending_of self.old.store seat ≡ None }
+        requires listed { principals self.old.store ≡ serials self.old.names }
+        requires here { IsHere self.old.store (set_of self.old.retired.keys) actor }
+        requires unheld { IsHeldIn self.old.store self.old.next → ⊥ }
+        requires unparked { IsParkedIn self.old.store self.old.next → ⊥ }
+        ensures carried { IfOk result (λ answer. CarriedOut self.old self.new seat (serial_in actor) command.now answer) }
+        ensures needed { OnErr result (Allowed (seen_in self.old) (serial_in actor) command.now) }
+        ensures memory { OnErr result (copies (terms (serial_in actor) command.now).does ≡ true) }
+        ensures unchanged { OnErr result (self.new ≡ self.old) }
+    {
+        match actor {
+            Actor::At(spot) => self.answer_at(alloc, seat, spot, command),
+            Actor::Gone(serial) if is_for_retired(serial, command) => {
+                self.store.leave(seat);
+                Ok(allowed(Reply::Done))
+            }
+            Actor::Gone(_) => Ok(denied(command.rule(), &Cause::Retired)),
+        }
     }
 }

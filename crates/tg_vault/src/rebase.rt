@@ -95,19 +95,19 @@ impl Vault {
     fn live_graph(&self) -> Result<Graph, AllocError>
         ensures { IfOk result (λ graph. graph ≡ reopening self.now) }
     {
-        self.store.soundness();
+        self.state.store.soundness();
         parts_are_one_graph();
-        let (vertices, edges) = self.store.parts(self.alloc)?;
+        let (vertices, edges) = self.state.store.parts(self.alloc)?;
         let listed = vertices.as_slice();
-        let retired = retired_among(self.alloc, &self.retired, listed)?;
-        let members = self.names.as_slice();
+        let retired = retired_among(self.alloc, &self.state.retired, listed)?;
+        let members = self.state.names.as_slice();
         let names = pairs_of(self.alloc, members)?;
         let parts = Parts {
             vertices,
             edges,
             names,
             retired,
-            next: self.next,
+            next: self.state.next,
         };
         let graph = Graph::from_parts(self.alloc, parts)?;
         Ok(graph)
@@ -120,8 +120,8 @@ impl Vault {
         requires opening { opening ≡ reopening self.old }
         ensures { self.new ≡ record self.old { opening = opening; history = [] } }
     {
-        self.store.soundness();
-        keep_retired(&mut self.retired, &opening);
+        self.state.store.soundness();
+        keep_retired(&mut self.state.retired, &opening);
         self.opening = opening;
         self.history = Vec::new(self.alloc);
     }

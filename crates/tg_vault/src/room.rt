@@ -20,9 +20,9 @@ impl Vault {
     {
         Room {
             slots: self.slots,
-            free_slots: u64::from(self.store.free_slots()),
+            free_slots: u64::from(self.state.store.free_slots()),
             cells: self.cells,
-            free_cells: u64::from(self.store.free_cells()),
+            free_cells: u64::from(self.state.store.free_cells()),
         }
     }
 }

@@ -44,12 +44,12 @@ impl Vault {
     pub fn scene(&self) -> Result<Scene, AllocError>
         ensures { IfOk result (IsScene self.now) }
     {
-        let (vertices, edges) = self.store.figures(self.alloc)?;
-        let names = self.names.copy(self.alloc)?;
+        let (vertices, edges) = self.state.store.figures(self.alloc)?;
+        let names = self.state.names.copy(self.alloc)?;
         let seats = self.sittings()?;
-        let slots_left = self.store.free_slots();
-        let cells_left = self.store.free_cells();
-        let phase_now = self.store.phase();
+        let slots_left = self.state.store.free_slots();
+        let cells_left = self.state.store.free_cells();
+        let phase_now = self.state.store.phase();
         Ok(Scene {
             vertices,
             edges,
@@ -81,8 +81,8 @@ impl Vault {
     {
         let seats = self.seats.as_slice();
         let who = at_seat(seats, seat);
-        let whom = agent_at(&self.store, seat);
-        let what = self.store.pending(seat);
+        let whom = agent_at(&self.state.store, seat);
+        let what = self.state.store.pending(seat);
         sitting_of(seat, who, whom, what)
     }
 }

@@ -19,8 +19,8 @@ ghost use Rattle.tg_vault.specs.Cycles.{IsBounded, IsCycle};
 ghost use Rattle.tg_vault.specs.Headline.{Headline};
 
 use crate::acting::acting_at;
-use crate::carry_out::answer;
-use crate::entry::{Entry, entry_of};
+use crate::carry_out::State;
+use crate::entry::Entry;
 use crate::event::{Answer, AskFault, Event, SeatFault};
 use crate::laws::courses_have_the_headline;
 use crate::seats::{at_seat, empty_seats};
@@ -43,13 +43,10 @@ use tg_rights::{Command, Reply, SEATS};
 pub struct Vault {
     pub(crate) alloc: Global,
     pub(crate) opening: Graph,
-    pub(crate) names: Roll,
-    pub(crate) retired: BTreeSet<u64>,
     pub(crate) slots: u64,
     pub(crate) cells: u64,
     pub(crate) seats: Vec<Option<u64>>,
-    pub(crate) store: Store,
-    pub(crate) next: u64,
+    pub(crate) state: State,
     pub(crate) history: Vec<Entry>,
 }
 
@@ -63,7 +60,7 @@ impl Model for Vault {
 
     ghost view = { λ v. contents v };
 
-    ghost invariant = { λ v. IsTied (contents v) v.next v.retired.keys };
+    ghost invariant = { λ v. IsTied (contents v) v.state.next v.state.retired.keys };
 }
 
 /// What the collector steps of a cycle did.
@@ -127,13 +124,15 @@ impl Vault {
         Ok(Vault {
             alloc,
             opening,
-            names,
-            retired: BTreeSet::new(alloc),
             slots: config.slots,
             cells: config.cells,
             seats,
-            store,
-            next: config.next,
+            state: State {
+                store,
+                names,
+                retired: BTreeSet::new(alloc),
+                next: config.next,
+            },
             history: Vec::new(alloc),
         })
     }
@@ -147,7 +146,7 @@ impl Vault {
         ensures fits { Fits self.now }
     {
         self.opening.soundness();
-        self.store.soundness();
+        self.state.store.soundness();
     }
 
     /// The number of entries in the history.
@@ -187,7 +186,7 @@ impl Vault {
         if at_seat(self.seats.as_slice(), seat).is_some() {
             return Err(SeatFault::Bound);
         }
-        match serial_of(self.names.as_slice(), name) {
+        match serial_of(self.state.names.as_slice(), name) {
             Some(principal) => {
                 self.seats[seat as usize] = Some(principal);
                 Ok(principal)
@@ -216,7 +215,7 @@ impl Vault {
         ensures err { IfErr result (λ fault. bye_fault (moment self.now).world seat ≡ Some fault) }
     {
         let principal = self.principal_at(seat)?;
-        if self.store.pending(seat).is_some() {
+        if self.state.store.pending(seat).is_some() {
             return Err(SeatFault::Busy);
         }
         Ok(principal)
@@ -234,7 +233,7 @@ impl Vault {
     {
         self.idle_at(seat)?;
         self.seats[seat as usize] = None;
-        self.store.leave(seat);
+        self.state.store.leave(seat);
         Ok(())
     }
 
@@ -250,9 +249,9 @@ impl Vault {
         ensures unchanged { OnErr result (self.new ≡ self.old) }
     {
         self.principal_at(seat)?;
-        self.store.soundness();
-        let target = self.store.shade(seat);
-        self.store.soundness();
+        self.state.store.soundness();
+        let target = self.state.store.shade(seat);
+        self.state.store.soundness();
         Ok(target)
     }
 
@@ -263,9 +262,9 @@ impl Vault {
         ensures keeps { Keeps self.old self.new }
         ensures stored { StoreStep self.old event.Collect (answer.Noted result) self.new }
     {
-        self.store.soundness();
-        let note = self.store.collect();
-        self.store.soundness();
+        self.state.store.soundness();
+        let note = self.state.store.collect();
+        self.state.store.soundness();
         note
     }
 
@@ -332,22 +331,13 @@ impl Vault {
         let number = self.count();
         self.history.try_reserve(1)?;
         self.opening.soundness();
-        self.store.soundness();
-        let actor = acting_at(&self.store, &self.retired, seat, principal);
-        let reply = answer(
-            &mut self.store,
-            &mut self.names,
-            &mut self.retired,
-            &mut self.next,
-            self.alloc,
-            seat,
-            actor,
-            &command,
-        )?;
-        self.store.soundness();
-        let entry = entry_of(seat, actor.serial(), command, &reply);
+        self.state.store.soundness();
+        let actor = acting_at(&self.state.store, &self.state.retired, seat, principal);
+        let answered = self.state.answer(self.alloc, seat, actor, &command)?;
+        self.state.store.soundness();
+        let entry = Entry::new(seat, actor.serial(), command, answered.outcome);
         self.history.push(entry)?;
-        Ok((number, reply))
+        Ok((number, answered.reply))
     }
 
     /// Carries out a copy of the command; the copy is made only once the seat is known to have no fault.

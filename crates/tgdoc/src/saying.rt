@@ -51,9 +51,9 @@ fn say_failure<N: Eprint>(rt: &N, stream: &str, noted: &Noted) {
     }
 }
 
-/// Says that no line could be read for want of memory.
+/// Says that memory is lacking for what was to be done.
 pub(crate) fn say_no_memory<N: Eprint>(rt: &N) {
-    let _ = eprintln!(rt; "tgdoc: no memory for the lines");
+    let _ = eprintln!(rt; "tgdoc: no memory");
 }
 
 /// Says what is wrong with a configuration of this fault.

@@ -1,11 +1,11 @@
-use Rattle.std.proofs.Common.{◌≡◌, ◌<◌, ◌≤◌, ◌+◌, ◌-◌, ℕ, min, arith, subst, sym}
+use Rattle.std.proofs.Common.{◌≡◌, ◌<◌, ◌≤◌, ◌+◌, ◌-◌, ℕ, arith, subst, sym}
 use Rattle.tg_talk.specs.Devices.{device_of, has_failed}
-use Rattle.tg_serve.specs.Serving.{IsCounted}
-use Rattle.tg_serve.proofs.RoundsLemmas.{RoundsSoFar, goes_on, rounds_go_on, rounds_none}
+use Rattle.tg_serve.specs.Serving.{IsAlone}
+use Rattle.tg_serve.proofs.RoundsLemmas.{GoesOn, RoundsSoFar, goes_on, rounds_go_on, rounds_none}
 use Rattle.tg_serve.proofs.rounds.serve_rounds.Goals as goal
 
 pub rounds-init : goal.rounds-init
-rounds-init g c = record { empty = c.requires.empty; few = λ counted. omega arith; so_far = λ told. rounds_none _ _ _ _ _ }
+rounds-init g c = record { empty = c.requires.empty; few = λ alone. omega arith; so_far = λ told. rounds_none _ _ _ _ _ }
 
 pub rounds-preserved : goal.rounds-preserved
 rounds-preserved g c =
@@ -14,16 +14,15 @@ rounds-preserved g c =
     let left = c.rounds.left in
     let after = c.left_after-left.result in
     let next : c.in-Some-checked_add.next ≡ c.rounds.number + 1 = c.in-Some-checked_add.ensures.1 in
-    let more : IsCounted operating → (after ≡ left - min left round) × (0 < after) = λ counted.
-    goes_on left c.size_of-size.result after c.args.connections round c.is_last.result (c.size_of-size.ensures.counted counted) (c.left_after-left.ensures.counted counted) (c.is_last.ensures.counted counted) c.if-is_last.false
+    let more : IsAlone operating → GoesOn operating round left after = λ alone.
+    goes_on operating left c.size_of-size.result after c.args.connections round c.is_last.result c.requires.some (c.size_of-size.ensures.ends alone.ends) c.left_after-left.ensures.few c.left_after-left.ensures.no_more (c.left_after-left.ensures.some alone)
+    c.left_after-left.ensures.counted (c.is_last.ensures alone) c.if-is_last.false
     in
     record {
       empty = c.in_ok-vault.ensures.fresh.history;
-      few = λ counted. (
-          let few : c.rounds.number + left ≤ c.args.connections + 1 = c.rounds.invariant.few counted in
-          let taken : after ≡ left - min left round = (more counted).0 in
-          let some : 0 < after = (more counted).1 in
-          let whole : 1 ≤ round = c.requires.some in
+      few = λ alone. (
+          let few : c.rounds.number + left ≤ c.args.connections + 1 = c.rounds.invariant.few alone in
+          let fewer : after < left = (more alone).fewer in
           omega (arith, next));
       so_far = λ told.
           subst (λ (n : ℕ). RoundsSoFar operating c.args.connections round after n (g.W.Write.contents (device_of c.args.writer.now)) (g.W.Write.contents (device_of c.rebase.new.writer)) (has_failed c.rebase.new.writer)) (sym next)

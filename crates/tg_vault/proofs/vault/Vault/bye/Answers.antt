@@ -12,13 +12,13 @@ no_fault w seat x within at idle = grind (arith, common_steps)
 
 pub invariant_of-self : goal.invariant_of-self
 invariant_of-self c =
-    left_joins (contents c.self.inside) c.self.inside.next c.self.inside.retired.keys c.self.invariant c.leave.new.self c.args.seat
+    left_joins (contents c.self.inside) c.self.inside.state.next c.self.inside.state.retired.keys c.self.invariant c.leave.new.self c.args.seat
     (subst (λ (w : Contents). pending_of w.store c.args.seat ≡ None) (sym c.self.view_is) c.in_ok-idle_at.ensures.ok.2) c.leave.ensures.left c.leave.ensures.acted
 
 pub returns-clause-step : goal.returns-clause-step
 returns-clause-step c = (
   no_fault (moment c.args.self.now).world c.args.seat _ c.in_ok-idle_at.ensures.ok.0 c.in_ok-idle_at.ensures.ok.1 c.in_ok-idle_at.ensures.ok.2,
   subst (λ (w : Contents). moment (record (contents c.self.inside) { seats = set c.self.inside.seats.items c.args.seat None; store = c.leave.new.self }) ≡ with_agents (with_seats (moment w) (set w.seats c.args.seat None)) (set (agents w.store) c.args.seat None)) c.self.view_is
-      (left_step (contents c.self.inside) c.self.inside.next c.self.inside.retired.keys c.self.invariant c.leave.new.self c.args.seat
+      (left_step (contents c.self.inside) c.self.inside.state.next c.self.inside.state.retired.keys c.self.invariant c.leave.new.self c.args.seat
       (subst (λ (w : Contents). pending_of w.store c.args.seat ≡ None) (sym c.self.view_is) c.in_ok-idle_at.ensures.ok.2) c.leave.ensures.left c.leave.ensures.acted),
 )

@@ -7,7 +7,6 @@ use Rattle.tg_vault.specs.Contents.{Contents, Keeps, contents, moment}
 use Rattle.tg_vault.specs.StoreSteps.{SessionStep}
 use Rattle.tg_vault.specs.Exact.{IsExact}
 use Rattle.tg_vault.specs.Agreement.{SameForAgreeing}
-use Rattle.tg_vault.specs.Told.{told}
 use Rattle.tg_vault.proofs.DecidedLemmas.{next_unheld, none_gone, root_active}
 use Rattle.tg_vault.proofs.EntryLemmas.{Pushed, pushed_joined, pushed_enters, pushed_same, pushed_exact, pushed_acts, next_unparked}
 use Rattle.tg_vault.proofs.vault.Vault.enter.Goals as goal
@@ -22,10 +21,10 @@ acting_at-actor-requires-clause-gone c = λ none.
     ∙ none_gone _ c.self.invariant.joins c.soundness-2.ensures.sound c.args.principal (c.self.invariant.joins.vault.seated c.args.seat c.args.principal sits) none
 
 pub answer-requires-clause-unheld : goal.answer-requires-clause-unheld
-answer-requires-clause-unheld c = subst (λ n. IsHeldIn c.self.inside.store n → ⊥) (sym c.self.invariant.serial) (next_unheld _ c.self.invariant.joins c.soundness-2.ensures.sound)
+answer-requires-clause-unheld c = subst (λ n. IsHeldIn c.self.inside.state.store n → ⊥) (sym c.self.invariant.serial) (next_unheld _ c.self.invariant.joins c.soundness-2.ensures.sound)
 
 pub answer-requires-clause-unparked : goal.answer-requires-clause-unparked
-answer-requires-clause-unparked c = subst (λ n. IsParkedIn c.self.inside.store n → ⊥) (sym c.self.invariant.serial) (next_unparked _ c.self.invariant.joins c.soundness-2.ensures.sound)
+answer-requires-clause-unparked c = subst (λ n. IsParkedIn c.self.inside.state.store n → ⊥) (sym c.self.invariant.serial) (next_unparked _ c.self.invariant.joins c.soundness-2.ensures.sound)
 
 pub answer-requires-clause-listed : goal.answer-requires-clause-listed
 answer-requires-clause-listed c = c.self.invariant.joins.principals
@@ -33,49 +32,47 @@ answer-requires-clause-listed c = c.self.invariant.joins.principals
 acts : (c : goal.In_ok-push) → actor_at (moment (contents c.self.inside)).world c.args.seat ≡ Some (serial_in c.acting_at-actor.result)
 acts c =
     let sits = subst (λ (w : Contents). at_seat w.seats c.args.seat ≡ Some c.args.principal) (sym c.self.view_is) c.requires.seated in
-    ap (acting (at_seat (agents c.self.inside.store) c.args.seat)) sits ∙ c.acting_at-actor.ensures.actor
+    ap (acting (at_seat (agents c.self.inside.state.store) c.args.seat)) sits ∙ c.acting_at-actor.ensures.actor
 
 pushed : (c : goal.In_ok-push) →
-    Pushed (contents c.self.inside) c.self.inside.next c.self.inside.retired.keys c.args.seat (serial_in c.acting_at-actor.result) c.args.command c.in_ok-reply.reply c.answer.new.store c.answer.new.names c.answer.new.next
-    c.answer.new.retired.keys (told c.in_ok-reply.reply) c.push.new.self.items
+    Pushed (contents c.self.inside) c.self.inside.state.next c.self.inside.state.retired.keys c.args.seat (serial_in c.acting_at-actor.result) c.args.command c.in_ok-answered.answered c.answer.new.self c.push.new.self.items
 pushed c = record {
   joined = c.self.invariant;
   store = c.soundness-2.ensures.sound;
   within = c.requires.seat;
   acts = acts c;
-  carried = c.in_ok-reply.ensures.carried;
-  decision_is = refl;
+  carried = c.in_ok-answered.ensures.carried;
   history_is =
       c.in_ok-push.ensures.items
-      ∙ (λ i. c.try_reserve.ensures.items i ++ c.entry_of-entry.ensures i ∷ [])
-      ∙ ap (λ (x : ℕ). c.self.inside.history.items ++ record { seat = c.args.seat; actor = x; command = c.args.command; outcome = told c.in_ok-reply.reply } ∷ []) c.serial.ensures;
+      ∙ (λ i. c.try_reserve.ensures.items i ++ c.new-entry.ensures i ∷ [])
+      ∙ ap (λ (x : ℕ). c.self.inside.history.items ++ record { seat = c.args.seat; actor = x; command = c.args.command; outcome = c.in_ok-answered.answered.outcome } ∷ []) c.serial.ensures;
 }
 
 pub invariant_of-self-2 : goal.invariant_of-self-2
-invariant_of-self-2 c = pushed_joined (contents c.self.inside) _ _ _ _ _ _ _ _ _ _ _ _ (pushed c)
+invariant_of-self-2 c = pushed_joined (contents c.self.inside) _ _ _ _ _ _ _ _ (pushed c)
 
 pub returns-clause-ok : goal.returns-clause-ok
 returns-clause-ok c =
     subst (λ (w : Contents). (actor : ℕ) × (actor_at (moment w).world c.args.seat ≡ Some actor)
-    × Enters w.limits (moment w) c.args.seat actor c.args.command c.in_ok-reply.reply (moment (record (contents c.self.inside) { store = c.answer.new.store; names = c.answer.new.names; history = c.push.new.self.items }))) c.self.view_is
-    (serial_in c.acting_at-actor.result, acts c, pushed_enters (contents c.self.inside) _ _ _ _ _ _ _ _ _ _ _ _ (pushed c))
+    × Enters w.limits (moment w) c.args.seat actor c.args.command c.in_ok-answered.answered.reply (moment (record (contents c.self.inside) { store = c.answer.new.self.store; names = c.answer.new.self.names; history = c.push.new.self.items }))) c.self.view_is
+    (serial_in c.acting_at-actor.result, acts c, pushed_enters (contents c.self.inside) _ _ _ _ _ _ _ _ (pushed c))
 
 pub returns-clause-keeps : goal.returns-clause-keeps
 returns-clause-keeps c =
-    subst (λ (w : Contents). Keeps w (record (contents c.self.inside) { store = c.answer.new.store; names = c.answer.new.names; history = c.push.new.self.items })) c.self.view_is
-    (record { opening = refl; limits = refl; key = c.in_ok-reply.ensures.carried.acted.key })
+    subst (λ (w : Contents). Keeps w (record (contents c.self.inside) { store = c.answer.new.self.store; names = c.answer.new.self.names; history = c.push.new.self.items })) c.self.view_is
+    (record { opening = refl; limits = refl; key = c.in_ok-answered.ensures.carried.acted.key })
 
 pub returns-clause-agrees : goal.returns-clause-agrees
 returns-clause-agrees c =
-    subst (λ (w : Contents). SameForAgreeing w (record (contents c.self.inside) { store = c.answer.new.store; names = c.answer.new.names; history = c.push.new.self.items }) c.in_ok-reply.reply) c.self.view_is
-    (pushed_same (contents c.self.inside) _ _ _ _ _ _ _ _ _ _ _ _ (pushed c))
+    subst (λ (w : Contents). SameForAgreeing w (record (contents c.self.inside) { store = c.answer.new.self.store; names = c.answer.new.self.names; history = c.push.new.self.items }) c.in_ok-answered.answered.reply) c.self.view_is
+    (pushed_same (contents c.self.inside) _ _ _ _ _ _ _ _ (pushed c))
 
 pub returns-clause-exact : goal.returns-clause-exact
 returns-clause-exact c =
-    subst (λ (w : Contents). IsExact w (record (contents c.self.inside) { store = c.answer.new.store; names = c.answer.new.names; history = c.push.new.self.items })) c.self.view_is
-    (pushed_exact (contents c.self.inside) _ _ _ _ _ _ _ _ _ _ _ _ (pushed c))
+    subst (λ (w : Contents). IsExact w (record (contents c.self.inside) { store = c.answer.new.self.store; names = c.answer.new.self.names; history = c.push.new.self.items })) c.self.view_is
+    (pushed_exact (contents c.self.inside) _ _ _ _ _ _ _ _ (pushed c))
 
 pub returns-clause-acts : goal.returns-clause-acts
 returns-clause-acts c =
-    subst (λ (w : Contents). SessionStep w (record (contents c.self.inside) { store = c.answer.new.store; names = c.answer.new.names; history = c.push.new.self.items })) c.self.view_is
-    (pushed_acts (contents c.self.inside) _ _ _ _ _ _ _ _ _ _ _ _ (pushed c))
+    subst (λ (w : Contents). SessionStep w (record (contents c.self.inside) { store = c.answer.new.self.store; names = c.answer.new.self.names; history = c.push.new.self.items })) c.self.view_is
+    (pushed_acts (contents c.self.inside) _ _ _ _ _ _ _ _ (pushed c))

@@ -7,5 +7,5 @@ use Rattle.tg_vault.proofs.vault.Vault.hello.Goals as goal
 
 pub invariant_of-self : goal.invariant_of-self
 invariant_of-self c =
-    seat_taken (contents c.self.inside) c.self.inside.next c.self.inside.retired.keys c.self.invariant c.args.seat c.args.name.now c.in-Some.principal
+    seat_taken (contents c.self.inside) c.self.inside.state.next c.self.inside.state.retired.keys c.self.invariant c.args.seat c.args.name.now c.in-Some.principal
     (ap (λ (ms : List Member). serial_of ms c.args.name.now) (sym c.as_slice-2.ensures) ∙ sym c.in-Some.ensures)

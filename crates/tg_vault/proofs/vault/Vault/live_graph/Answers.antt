@@ -12,7 +12,7 @@ use Rattle.tg_vault.proofs.vault.Vault.live_graph.Goals.{In_ok-names}
 sound : (c : In_ok-names) → IsCoherent (contents c.self.inside)
 sound c = record { ties = c.self.invariant.joins; store = c.soundness.ensures.sound }
 
-held : (c : In_ok-names) → AreHeld (contents c.self.inside) (record { vertices = c.in_ok-vertices.vertices; edges = c.in_ok-vertices.edges; names = c.in_ok-names.names; retired = c.in_ok-retired.retired; next = c.self.inside.next })
+held : (c : In_ok-names) → AreHeld (contents c.self.inside) (record { vertices = c.in_ok-vertices.vertices; edges = c.in_ok-vertices.edges; names = c.in_ok-names.names; retired = c.in_ok-retired.retired; next = c.self.inside.state.next })
 held c = record {
   lists = c.in_ok-vertices.ensures;
   names = c.in_ok-names.ensures ∙ c.as_slice-members.ensures;

@@ -9,7 +9,7 @@ use Rattle.tg_vault.proofs.vault.Vault.reopen.Goals as goal
 
 pub invariant_of-self : goal.invariant_of-self
 invariant_of-self c =
-    reopened_tied (contents c.self.inside) c.self.inside.next c.self.inside.retired.keys c.self.invariant c.soundness.ensures.sound
+    reopened_tied (contents c.self.inside) c.self.inside.state.next c.self.inside.state.retired.keys c.self.invariant c.soundness.ensures.sound
     (subst (λ (w : Contents). NobodySits w.seats) (sym c.self.view_is) c.requires.nobody) (subst (λ (w : Contents). phase w.store ≡ Idle) (sym c.self.view_is) c.requires.idle)
     c.args.opening c.keep_retired.new.retired.keys c.new.result.items (c.requires.opening ∙ ap reopening (sym c.self.view_is)) c.keep_retired.ensures c.new.ensures.items
 

@@ -1,0 +1,1 @@
+"""How planted bugs are tried: README.md says what each module does."""

@@ -1,0 +1,153 @@
+"""Checks of a crate with other texts in its files' place, over what earlier checks have kept."""
+
+import os
+import re
+import shutil
+import subprocess
+import tempfile
+import threading
+import time
+from collections.abc import Collection, Mapping
+from contextlib import suppress
+from pathlib import Path
+from typing import NamedTuple
+
+from planting import kit
+from planting.kit import Crate
+from planting.turns import Turns
+
+FLAGS = ["--jobs", "1"]
+
+
+class Ran(NamedTuple):
+    """What a check said, its status, how many seconds each function's proof took, and the whole."""
+
+    stdout: str
+    returncode: int
+    seconds: dict[str, float]
+    elapsed: float
+
+
+class Judged(NamedTuple):
+    """What the toolchain's own rule said of a bug, and how many seconds it took."""
+
+    is_refused: bool
+    said: str
+    elapsed: float
+
+
+def link(one: str, other: str) -> None:
+    """Copies a file of what was kept. A check puts new files in the place of what was proved, so
+    that a link to it will do; into the few other files it writes, so these get a copy each."""
+    if one.endswith(".oantt"):
+        os.link(one, other)
+    else:
+        shutil.copy2(one, other)
+
+
+def linked(kept: str | Path, to: str) -> None:
+    """Makes a copy of the work that checks have kept."""
+    shutil.copytree(kept, to, copy_function=link)
+
+
+def ran(words: list[str], folder: str, turns: Turns) -> Ran:
+    """Runs a check in the folder. A function's seconds are those since the last proof ended."""
+    begun = last = time.monotonic()
+    said: list[str] = []
+    seconds: dict[str, float] = {}
+    with subprocess.Popen(
+        [*kit.guard(), *words, "--progress"],
+        cwd=folder,
+        stdin=subprocess.DEVNULL,
+        stdout=subprocess.PIPE,
+        stderr=subprocess.STDOUT,
+        errors="replace",
+    ) as process, turns.minded(process.pid):
+        for line in process.stdout or []:
+            ended = re.match(r"checked (\S+), \d+ of \d+$", line)
+            if ended:
+                seconds[ended[1]], last = time.monotonic() - last, time.monotonic()
+            else:
+                said.append(line)
+    return Ran("".join(said), process.returncode, seconds, time.monotonic() - begun)
+
+
+def put(room: str, texts: Mapping[str, str | None]) -> None:
+    """Writes these texts into the folder, and takes away the files that have none."""
+    for path, text in texts.items():
+        file = Path(room, path)
+        file.parent.mkdir(parents=True, exist_ok=True)
+        file.unlink(missing_ok=True)
+        if text is not None:
+            file.write_text(text, encoding="utf-8")
+
+
+class Checks:
+    """The checks of a crate: what the crate's own checks kept (`were`), what these keep, how many
+    there were, and the folder for their reports."""
+
+    def __init__(
+        self, crate: Crate, turns: Turns, rank: int, seeds: str | None, log: str | None
+    ) -> None:
+        self.crate, self.turns, self.rank, self.log = crate, turns, rank, log
+        places = [f"{crate.folder}/{kit.KEPT}", *[f"{it}/{crate.name}" for it in [seeds] if it]]
+        self.were = [it for it in places if os.path.isdir(it)]
+        self.kept, self.count, self.counting = "", 0, threading.Lock()
+
+    def keep_in(self, room: str) -> None:
+        """Has the checks keep their work in this folder, over what the crate's own checks kept."""
+        self.kept = f"{room}/kept"
+        if self.were:
+            linked(self.were[-1], self.kept)
+
+    def has_kept(self) -> bool:
+        """Whether there is kept work that the next check can take over."""
+        return os.path.isdir(self.kept)
+
+    def check(
+        self, texts: Mapping[str, str | None], only: Collection[str], is_alone: bool = False
+    ) -> Ran:
+        """What a check says of these functions of the crate with these texts."""
+        turn = self.turns.turn((is_alone, self.rank))
+        with turn, tempfile.TemporaryDirectory(prefix="planted-") as room:
+            for part in kit.PARTS:
+                if os.path.isdir(f"{self.crate.folder}/{part}"):
+                    shutil.copytree(f"{self.crate.folder}/{part}", f"{room}/{part}")
+            put(room, texts)
+            is_first = not self.has_kept()
+            if not is_first:
+                linked(self.kept, f"{room}/kept")
+            flags = [*FLAGS, "--allow-holes"] if None in texts.values() else FLAGS
+            words = [kit.RATTLE, "check", *self.crate.words(flags, keeps=False)]
+            words += [word for it in only for word in ("--only", it)]
+            done = ran([*words, "--incremental", f"{room}/kept"], room, self.turns)
+            if is_first:
+                # (of several that began without, the first one to end leaves its own)
+                with suppress(OSError):
+                    os.rename(f"{room}/kept", self.kept)
+        self.note(done)
+        return done
+
+    def note(self, done: Ran) -> None:
+        """Counts a check, and writes its report into the folder for reports, if there is one."""
+        with self.counting:
+            self.count += 1
+            file = f"{self.crate.name}-{self.count}"
+        if self.log:
+            Path(self.log, file).write_text(done.stdout, encoding="utf-8")
+
+    def by_the_rule(self, name: str, texts: dict[str, str]) -> Judged:
+        """What the toolchain's own rule says of the crate with these texts, over what is kept and,
+        if that settles nothing, from nothing."""
+        turn = self.turns.turn((True, self.rank))
+        with turn, tempfile.TemporaryDirectory(prefix="planted-") as room:
+            if self.has_kept():
+                linked(self.kept, f"{room}/kept")
+            begun = time.monotonic()
+            for kept in (f"{room}/kept", None):
+                with self.counting:
+                    self.count += 1
+                is_refused, is_settled, said = kit.tried(self.crate, name, texts, FLAGS, kept)
+                if is_settled:
+                    break
+        return Judged(is_refused, said, time.monotonic() - begun)

@@ -1,0 +1,75 @@
+"""The planted bugs of several crates, tried at once."""
+
+import os
+from concurrent.futures import Future, ThreadPoolExecutor, as_completed
+
+from planting import kit
+from planting.bugs import must_fail, planted
+from planting.kit import Crate
+from planting.trial import Trial
+from planting.turns import Turns
+
+
+def are_left(crates: list[Crate], since: float = 0) -> bool:
+    """Whether each library is there as rt ci leaves it, without a stamp, newer than its sources,
+    and written after this time."""
+    for it in crates:
+        made = f"{it.rlib}/format"
+        if not os.path.isfile(made) or os.path.exists(f"{it.folder}/out/rlib/stamp"):
+            return False
+        if os.path.getmtime(made) <= max(since, kit.changed_at(it)):
+            return False
+    return True
+
+
+class Planting:
+    """The planted bugs of crates that come one after another; `are_all`: of must-fail/ too."""
+
+    def __init__(
+        self,
+        crates: list[Crate],
+        turns: Turns,
+        seeds: str | None = None,
+        log: str | None = None,
+        are_all: bool = False,
+    ) -> None:
+        # (its first call sets a signal's handler, which only the main thread may)
+        kit.guard()
+        # (the dearest crates are last in the list, and have the first turns)
+        self.ranks = {it.name: -at for at, it in enumerate(crates)}
+        self.bugs = {it.name: [*(must_fail(it) if are_all else []), *planted(it)] for it in crates}
+        self.turns, self.seeds, self.log = turns, seeds, log
+        self.begun: dict[str, Trial] = {}
+        self.running: dict[Future[None], Trial] = {}
+        self.crates = ThreadPoolExecutor(max(1, len(crates)))
+        # (most of the threads wait for a turn)
+        self.pool = ThreadPoolExecutor(max(1, sum(map(len, self.bugs.values()))))
+
+    def begin(self, crate: Crate) -> None:
+        """Begins with the bugs of a crate whose libraries are proved."""
+        bugs, rank = self.bugs[crate.name], self.ranks[crate.name]
+        trial = Trial(crate, bugs, self.turns, rank, self.seeds, self.log)
+        self.begun[crate.name] = trial
+        self.running[self.crates.submit(trial.run, self.pool)] = trial
+
+    def leave(self) -> None:
+        """Waits for the checks that run, and begins with no other."""
+        self.turns.close()
+        self.crates.shutdown()
+        self.pool.shutdown()
+
+    def end(self) -> bool:
+        """Reports each bug once its crate's have been tried; returns whether all were refused."""
+        for ended in as_completed(self.running):
+            ended.result()
+            for bug in self.running[ended].bugs:
+                print(f"planted {bug.name}: {bug.verdict().said}", flush=True)
+        trials = self.begun.values()
+        bugs = [bug for trial in trials for bug in trial.bugs]
+        dearest = sorted(bugs, key=lambda it: -it.seconds)[:10]
+        times = ", ".join(f"{it.name} {it.seconds:.0f}" for it in dearest)
+        print(f"planted: dearest, in seconds: {times}")
+        print(f"planted: {sum(it.checks.count for it in trials)} checks")
+        passed = sum(it.verdict().is_refused for it in bugs)
+        print(f"{passed} passed, {len(bugs) - passed} failed", flush=True)
+        return passed == len(bugs)

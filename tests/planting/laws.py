@@ -1,0 +1,131 @@
+"""Which functions a bug is tried on that is not tried in copies: the laws for a bug in a
+definition, those that a bug is about for any other."""
+
+import re
+from typing import NamedTuple
+
+from planting import kit
+from planting.bugs import Bug, can_be_edited
+from planting.copies import Copies
+from planting.kit import Function
+from planting.reach import Reach
+
+# A line of a constant.
+CONSTANT = re.compile(rb"\s*(?:pub(?:\([a-z]+\))? )?const (\w+):[^\n]*")
+
+
+class Asked(NamedTuple):
+    """A bug in definitions, the function that is asked for it, what the bug touches, and the files
+    of the function's proof if it is a law."""
+
+    bug: Bug
+    law: str
+    touched: set[str]
+    files: set[str] | None
+
+
+def are_apart(reach: Reach, one: Asked, other: Asked) -> bool:
+    """Whether the law of each is certain not to reach what the other touches."""
+    return reach.is_apart(one.law, other.touched) and reach.is_apart(other.law, one.touched)
+
+
+class Laws:
+    """The functions of a crate by what they state."""
+
+    def __init__(self, copies: Copies) -> None:
+        self.crate, self.copies, self.source = copies.crate, copies, copies.source
+
+    def name(self, f: Function) -> str:
+        """The function's path in the crate."""
+        return "::".join(self.copies.path(f))
+
+    def laws(self) -> list[str]:
+        """The functions that only state something: with no arguments, and no result."""
+        functions = [f for f in self.source.functions if f.has_ensures]
+        return [self.name(f) for f in functions if not (f.block or f.params or f.ret)]
+
+    def reach(self) -> Reach:
+        """What the functions of the crate reach by contracts, and the laws by proofs too."""
+
+        def text(file: str, start: int, end: int) -> str:
+            return self.source.data[file][start:end].decode()
+
+        own = [f for f in self.source.functions if f.has_body and not f.in_trait]
+        contracts = {self.name(f): (text(f.file, f.first, f.opens), len(f.body)) for f in own}
+        types = []
+        for file, data in self.source.data.items():
+            spans = sorted((f.first, f.end) for f in self.source.functions if f.file == file)
+            between = zip([(0, 0), *spans], [*spans, (len(data), 0)])
+            types += [text(file, done, start) for (_, done), (start, _) in between]
+        calling = {self.name(f) for f in own if self.copies.calls[f]}
+        laws = [it for it in self.laws() if it not in calling]
+        return Reach(self.crate.folder, self.crate.name, contracts, laws, "\n".join(types))
+
+    def groups(self, bugs: list[Bug]) -> list[list[Asked]]:
+        """The bugs in definitions that one check each tries."""
+        reach = self.reach()
+        groups: list[list[Asked]] = []
+        for bug in bugs:
+            touched = reach.touched(bug.texts)
+            law = reach.nearest(touched)
+            if law:
+                own = Asked(bug, law, touched, reach.files.get(law))
+                fitting = (it for it in groups if all(are_apart(reach, own, them) for them in it))
+                room = next(fitting, None)
+                if room:
+                    room.append(own)
+                else:
+                    groups.append([own])
+        return groups
+
+    def joined(self, bugs: list[Bug]) -> dict[str, str]:
+        """The texts with all of these bugs, no two of which change the same line."""
+        texts: dict[str, str] = {}
+        for bug in bugs:
+            for file, text in bug.texts.items():
+                was = kit.text_of(f"{self.crate.folder}/{file}")
+                now = texts.get(file, was)
+                rows = zip(was.split("\n"), text.split("\n"), now.split("\n"))
+                texts[file] = "\n".join(row if old == new else new for old, new, row in rows)
+        return texts
+
+    def constants(self, bug: Bug) -> list[bytes]:
+        """The constants whose lines a bug changes; none if it changes anything else."""
+        found = [CONSTANT.fullmatch(it.was) for it in bug.lines(self.source)]
+        return [it[1] for it in found if it] if all(found) else []
+
+    def users(self, constants: list[bytes]) -> list[Function]:
+        """The functions that name one of the constants: those that do so in their bodies and those
+        of the others that call one of these, or all of them if no body does."""
+        named = [re.compile(rb"\b%s\b" % it) for it in constants]
+
+        def names(f: Function, at: int) -> bool:
+            return any(it.search(self.source.data[f.file], at, f.end) for it in named)
+
+        every = [f for f in self.source.functions if names(f, f.first)]
+        nearest = {f for f in every if f.has_body and names(f, f.opens)}
+        if not nearest:
+            return every
+        return [f for f in every if f in nearest or self.copies.calls[f] & nearest]
+
+    def inside(self, bug: Bug) -> set[Function]:
+        """The functions in which the bug changes lines; none if a change there changes more than
+        one proof."""
+        found = set()
+        for line in bug.lines(self.source):
+            here = [f for f in self.source.functions if f.file == line.file]
+            end = line.at + len(line.was)
+            found |= {f for f in here if f.first <= end and line.at < f.end}
+        return found if all(map(can_be_edited, found)) else set()
+
+    def about(self, bug: Bug) -> list[str]:
+        """The functions that a bug is about: the laws if it changes a definition, those that name a
+        constant that it changes, those in which it changes lines, or else those of the modules that
+        it changes."""
+        if any(not it.startswith("src/") for it in bug.texts):
+            return self.laws()
+        own = self.users(self.constants(bug)) or self.inside(bug)
+        if own:
+            return sorted(map(self.copies.asked, own))
+        modules = {f.module for f in self.source.functions if f.file in bug.texts}
+        return [] if () in modules else ["::".join(it) for it in sorted(modules)]

@@ -1,0 +1,203 @@
+"""Tests of how planted bugs are read and made, and of what is said over another kit."""
+
+import os
+import shutil
+import subprocess
+import tempfile
+from collections.abc import Callable, Iterator
+from pathlib import Path
+
+from planting import reading
+from planting.reading import Edit
+
+ROOT = Path(__file__).resolve().parent.parent.parent
+
+TEXT = """# Bugs of src/rules.rt.
+
+one-line
+- let a = 1;
++ let a = 2;
+
+# two edits, the second in another file, and of it a text of three lines
+several-lines
+- let b = 1;
++
+in src/graph.rt
+-     if b {
+-
+-     }
++     if !b {
++ - + #
++     }
+
+last
+- c
++  d
+- e
++ f"""
+READ = {
+    "one-line": [Edit("src/rules.rt", "let a = 1;", "let a = 2;")],
+    "several-lines": [
+        Edit("src/rules.rt", "let b = 1;", ""),
+        Edit("src/graph.rt", "    if b {\n\n    }", "    if !b {\n- + #\n    }"),
+    ],
+    "last": [Edit("src/rules.rt", "c", " d"), Edit("src/rules.rt", "e", "f")],
+}
+
+HERE = f"here should be {reading.WANTED}"
+# Texts that are no bugs, and what is said of each.
+MISREAD = [
+    ("one\n- a\n+ b\n\ntwo\n- a\n+ b\none\n- c\n+ d\n", "8: the name one stands twice"),
+    ("one\n- a\n+ b\n\none\n", "5: the name one stands twice"),
+    ("one\n\ntwo\n- a\n+ b\n", "one has no old and new text"),
+    ("one\n- a\n+ b\ntwo", "two has no old and new text"),
+    # no new text: at the end, above a name, above a line between them
+    ("one\n- a", f"2: {HERE}"),
+    ("one\n- a\n- b\ntwo\n- a\n+ b\n", f"2: {HERE}"),
+    ("one\n- a\n\n+ b\n", f"2: {HERE}"),
+    ("one\n- a\n# b\n+ b\n", f"2: {HERE}"),
+    # no old text, no name, no mark, or no blank behind it
+    ("one\n+ b\n", f"2: {HERE}"),
+    ("one\n- a\n+ b\n\n+ b\n", f"5: {HERE}"),
+    ("# One.\n\n- a\n+ b\n", f"3: {HERE}"),
+    ("in src/lib.rt\none\n- a\n+ b\n", f"1: {HERE}"),
+    ("one\n- a\n+ b\n}\n", f"4: {HERE}"),
+    ("one\n-a\n+b\n", f"2: {HERE}"),
+    ("One\n- a\n+ b\n", f"1: {HERE}"),
+]
+
+# Edits that cannot be made in a file that says "a b b", and what is said of each.
+MISPLACED = [
+    ([("src/lib.rt", "c", "d")], "an old text is in src/lib.rt 0 times, and not once: c"),
+    ([("src/lib.rt", "b", "d")], "an old text is in src/lib.rt 2 times, and not once: b"),
+    ([("src/lib.rt", "", "d")], "an old text is in src/lib.rt 7 times, and not once: "),
+    ([("src/lib.rt", "a", "a")], "it changes nothing"),
+    ([("src/lib.rt", "a", "c"), ("src/lib.rt", "c", "a")], "it changes nothing"),
+    (
+        [("src/lib.rt", "a", "c"), ("src/lib.rt", "a", "d")],
+        "an old text is in src/lib.rt 0 times, and not once: a",
+    ),
+    ([("src/none.rt", "a", "b")], "there is no file src/none.rt"),
+    ([("src/../lib.rt", "a", "b")], "src/../lib.rt is no path below src/, specs/ or proofs/"),
+    ([("crates.txt", "a", "b")], "crates.txt is no path below src/, specs/ or proofs/"),
+]
+
+# Files of planted/ that are not read, and what is said of the last one.
+STRANGE = [
+    (["src/lib.rt.bugs", "src/old.edit"], "src/old.edit is no file of bugs"),
+    (
+        ["src/lib.rt.bugs", "src/two.rt.bugs"],
+        "src/two.rt.bugs: the name one stands in another file of the crate too",
+    ),
+]
+
+
+def error_of(call: Callable[..., object], *given: object) -> str:
+    """What the call raises, or what it returns."""
+    try:
+        return f"no error, but {call(*given)}"
+    except ValueError as error:
+        return str(error)
+
+
+def are_equal(found: object, wanted: object) -> bool:
+    """Whether this was found; if not, both are printed."""
+    if found != wanted:
+        print(f"  wanted: {wanted}\n  found:  {found}")
+    return found == wanted
+
+
+def bugs_are_read(_: Path) -> bool:
+    """Names, texts of one line and of several, an empty one, and other files."""
+    read = reading.bugs_in(TEXT, "src/rules.rt")
+    return are_equal(list(read.items()), list(READ.items()))
+
+
+def misread_bugs_are_told(_: Path) -> bool:
+    """What is no bug is told, with its line."""
+    told = [error_of(reading.bugs_in, text, "src/lib.rt") for text, _ in MISREAD]
+    return are_equal(told, [wanted for _, wanted in MISREAD])
+
+
+def misplaced_bugs_are_told(_: Path) -> bool:
+    """A bug whose old text is not there exactly once is told; an edit sees those before it."""
+    with tempfile.TemporaryDirectory() as folder:
+        crate = Path(folder)
+        (crate / "src").mkdir()
+        (crate / "src" / "lib.rt").write_text("a b b\n")
+        told = [error_of(made, edits, crate) for edits, _ in MISPLACED]
+        twice = made([("src/lib.rt", "a", "c\n"), ("src/lib.rt", "c\n b", "")], crate)
+    good = are_equal(told, [wanted for _, wanted in MISPLACED])
+    return are_equal(twice, {"src/lib.rt": " b\n"}) and good
+
+
+def made(edits: list[tuple[str, str, str]], crate: Path) -> dict[str, str]:
+    """The texts with the edits."""
+    return reading.edited([Edit(*it) for it in edits], crate)
+
+
+def strange_files_are_told(_: Path) -> bool:
+    """A file of another form, and a name in two files, are told with the file's name."""
+    good = True
+    for files, wanted in STRANGE:
+        with tempfile.TemporaryDirectory() as folder:
+            for file in files:
+                path = Path(folder, "planted", file)
+                path.parent.mkdir(parents=True, exist_ok=True)
+                path.write_text("one\n- a\n+ b\n")
+            told = error_of(reading.bugs_of, Path(folder))
+        good = are_equal(told, f"{folder}/planted/{wanted}") and good
+    return good
+
+
+def planted_bugs_have_their_places(_: Path) -> bool:
+    """Each bug of the repository is read and can be made, and there are some."""
+    wrong = reading.misplaced(ROOT)
+    print(*[f"  {it}" for it in wrong], sep="\n", end="\n" * bool(wrong))
+    return not wrong and any(ROOT.glob("crates/*/planted/**/*.bugs"))
+
+
+def said_over(kit: Path, program: Path) -> tuple[int, list[str]]:
+    """The status and the lines of errors of the runner over a kit, asked for an unknown crate."""
+    environment = {**os.environ, "PATH": f"{kit}/bin:{os.environ['PATH']}"}
+    words = [str(program), "no-crate"]
+    ran = subprocess.run(
+        words, cwd=kit, env=environment, capture_output=True, text=True, timeout=60
+    )
+    return ran.returncode, ran.stderr.splitlines()
+
+
+def another_kit_is_told(program: Path) -> bool:
+    """Over a kit of another name there is a warning; one that lacks a name ends the run."""
+    real = Path(os.path.realpath(shutil.which("rt") or ""))
+    with tempfile.TemporaryDirectory() as folder:
+        kit = Path(folder)
+        (kit / "bin").mkdir()
+        for name in ("rt", "rtlib.py", "rt-plant-bodies"):
+            shutil.copy(real.parent / name, kit / "bin" / name)
+        (kit / "KIT-ID").write_text("another kit\n")
+        (kit / "crates.txt").write_text("")
+        status, lines = said_over(kit, program)
+        text = (kit / "bin" / "rt").read_text(encoding="utf-8")
+        renamed = text.replace("def must_fail(", "def renamed(")
+        (kit / "bin" / "rt").write_text(renamed, encoding="utf-8")
+        lacking = said_over(kit, program)
+    good = "written for" in lines[0] and lines[0].endswith("this kit is another kit")
+    wanted = "planted: this kit's rt has no must_fail: tests/planting/kit.py is written for "
+    is_one = len(lacking[1]) == 1 and lacking[1][0].startswith(wanted)
+    if not good or not lines[-1].endswith("there is no crate no-crate") or status != 2:
+        print("  a kit of another name:", status, *lines, sep="\n    ")
+        good = False
+    if not is_one or lacking[0] != 1:
+        print("  a kit that lacks a name:", *lacking, sep="\n    ")
+    return good and is_one and lacking[0] == 1
+
+
+def tests() -> Iterator[tuple[str, Callable[[Path], bool]]]:
+    """The tests with their names."""
+    yield "bugs-are-read", bugs_are_read
+    yield "misread-bugs-are-told", misread_bugs_are_told
+    yield "misplaced-bugs-are-told", misplaced_bugs_are_told
+    yield "strange-files-are-told", strange_files_are_told
+    yield "planted-bugs-have-their-places", planted_bugs_have_their_places
+    yield "another-kit-is-told", another_kit_is_told

@@ -1,0 +1,187 @@
+"""The planted bugs of a crate, tried: many in one check, and the others one by one."""
+
+import re
+import sys
+import tempfile
+from collections.abc import Iterable
+from concurrent.futures import ThreadPoolExecutor
+
+from planting.bugs import Bug, Result, can_be_edited
+from planting.checks import Checks, Ran
+from planting.copies import Copies, Numbered
+from planting.kit import Crate, Function, Texts
+from planting.laws import Asked, Laws
+from planting.reports import BY_FORM, Report, first_fault, refusal
+from planting.turns import Turns
+
+# The bugs that one check tries at most, and how many that then need no copy are worth a check of
+# their own.
+MOST, APART = 40, 8
+
+
+class Trial:
+    """The planted bugs of a crate. Those that are tried alone, which take less time each, come
+    after all checks of copies."""
+
+    def __init__(
+        self,
+        crate: Crate,
+        bugs: list[Bug],
+        turns: Turns,
+        rank: int,
+        seeds: str | None,
+        log: str | None = None,
+    ) -> None:
+        self.crate, self.bugs = crate, bugs
+        self.checks = Checks(crate, turns, rank, seeds, log)
+        self.copies = Copies(crate, are_holed=not self.checks.were)
+        self.laws, self.source = Laws(self.copies), self.copies.source
+
+    def symbols(self, functions: Iterable[Function]) -> set[str]:
+        """The names by which a report calls these functions."""
+        return set(map(self.copies.symbol, functions))
+
+    def batch(self, bugs: list[Bug], more: Iterable[str] = ()) -> None:
+        """Tries the bugs in one check, which also proves these functions. Those that it does not
+        refuse for certain get no result."""
+        texts, lines, names = self.copies.made(bugs)
+        symbols = {*names.values()}
+        asked = [it.partition("::")[2] for it in sorted(symbols)]
+        done = self.checks.check(texts, [*asked, *more])
+        are_holed = self.copies.are_holed
+        holes = self.symbols(self.source.functions) - symbols if are_holed else set[str]()
+        report = Report(self.crate.name, done, lines, symbols, holes)
+        if report.unread:
+            rest = [it for number, it in enumerate(bugs, 1) if not is_unread(it, number, report)]
+            if rest:
+                self.batch(rest)
+        elif report.stray:
+            why = f"{len(bugs)} bugs are tried in halves, or alone: {report.stray[0][:200]}"
+            print(f"planted: {self.crate.name}: {why}", file=sys.stderr)
+            middle = len(bugs) // 2
+            for half in (bugs[:middle], bugs[middle:]) * (len(bugs) > 1):
+                self.batch(half)
+        else:
+            self.judge(bugs, names, report, done.seconds)
+
+    def judge(
+        self,
+        bugs: list[Bug],
+        names: dict[Numbered, str],
+        report: Report,
+        seconds: dict[str, float],
+    ) -> None:
+        """Gives their result to the bugs that the report refuses for certain, and to each how long
+        its functions took."""
+        for number, bug in enumerate(bugs, 1):
+            for f in bug.spans:
+                name, control = names[f, number], names.get((f, 0))
+                bug.seconds += seconds.get(name, 0)
+                fault = first_fault(report.faults.get(name, []))
+                is_sound = control is None or control in report.proved
+                if fault and is_sound and name not in report.proved:
+                    bug.result = Result(True, f"refused: {fault[:160]}")
+
+    def by_laws(self, group: list[Asked]) -> None:
+        """Tries bugs in definitions in one check of the functions that are asked for them."""
+        texts, is_alone = self.laws.joined([it.bug for it in group]), len(group) == 1
+        done = self.checks.check(texts, [it.law for it in group], is_alone=True)
+        for bug, law, _, files in group:
+            is_proved = f"\nfn {self.crate.name}::{law}: not proved" not in done.stdout
+            fault = refusal(done, texts, None if is_alone else files)
+            bug.seconds += done.elapsed / len(group)
+            if fault and (is_alone or not is_proved):
+                bug.result = Result(True, f"refused{', alone' * is_alone}: {fault[:160]}")
+
+    def alone(self, bug: Bug) -> None:
+        """Tries the bug on the functions that it is about, and then by the toolchain's own rule."""
+        about = self.laws.about(bug)
+        fault = self.fault(bug, about) if about else None
+        if fault:
+            bug.result = Result(True, f"refused, alone: {fault[:160]}")
+        else:
+            self.by_the_rule(bug)
+
+    def fault(self, bug: Bug, about: list[str]) -> str | None:
+        """What refuses the bug in a check of these functions, if that is clear."""
+        functions = filter(can_be_edited, self.source.functions)
+        own = {f for f in functions if self.copies.asked(f) in about}
+        is_inside = len(own) == len(about) and bug.texts.keys() <= self.source.data.keys()
+        is_holed = self.copies.are_holed and is_inside
+        texts: Texts = self.copies.holes(own) if is_holed else {}
+        done = self.checks.check({**texts, **bug.texts}, about, is_alone=True)
+        bug.seconds += done.elapsed
+        return self.fault_over_holes(done, own) if is_holed else refusal(done, bug.texts)
+
+    def fault_over_holes(self, done: Ran, own: set[Function]) -> str | None:
+        """What a check with holes says of these functions, if it refuses one for certain."""
+        symbols = self.symbols(own)
+        holes = self.symbols(self.source.functions) - symbols
+        report = Report(self.crate.name, done, {}, symbols, holes)
+        unproved = [it for it in sorted(report.faults.items()) if it[0] not in report.proved]
+        fault = first_fault(line for _, lines in unproved for line in lines)
+        return None if report.stray else fault
+
+    def by_the_rule(self, bug: Bug) -> None:
+        """Tries the bug by the toolchain's own rule."""
+        judged = self.checks.by_the_rule(bug.name, bug.texts)
+        bug.seconds += judged.elapsed
+        if BY_FORM in judged.said:
+            bug.result = Result(False, f"BY FORM ALONE: {judged.said}")
+        else:
+            bug.result = Result(judged.is_refused, f"alone: {judged.said}")
+
+    def batches(self, bugs: list[Bug]) -> list[list[Bug]]:
+        """The bugs that are tried in one check each: those that cannot be made in copies, and with
+        them, or by themselves if they are enough, those that need no copy there; and all others."""
+        copied = [it for it in bugs if it.can_be_copied()]
+        # (a function's bugs follow one another, so that it has one control)
+        copied.sort(key=lambda it: min((f.file, f.start) for f in it.spans))
+        left = [it for it in bugs if it not in copied]
+        apart: list[list[Bug]] = []
+        while left or len(self.together([], self.inner(copied))) >= APART:
+            room = self.together([], left)
+            left = [it for it in left if it not in room]
+            room = self.together(room, self.inner(copied))
+            copied = [it for it in copied if it not in room]
+            apart.append(room)
+        count = -(-len(copied) // MOST)
+        ends = [at * len(copied) // count for at in range(count + 1)] if count else []
+        return [*(copied[at:end] for at, end in zip(ends, ends[1:])), *apart]
+
+    def inner(self, bugs: list[Bug]) -> list[Bug]:
+        """Those of the bugs that cannot be made in the functions themselves if all of them are
+        tried at once."""
+        placed = self.copies.placed(bugs)
+        return [it for it in bugs if it not in placed]
+
+    def together(self, room: list[Bug], bugs: list[Bug]) -> list[Bug]:
+        """The room, and as many of the bugs as can be made in the functions themselves in one check
+        with it."""
+        for bug in bugs:
+            if len(room) < MOST and len(self.copies.placed([*room, bug])) > len(room):
+                room = [*room, bug]
+        return room
+
+    def run(self, pool: ThreadPoolExecutor) -> None:
+        """Tries all the bugs."""
+        with tempfile.TemporaryDirectory(prefix="planted-") as room:
+            self.checks.keep_in(room)
+            copied = [it for it in self.bugs if not it.result and it.fits(self.source)]
+            others = [it for it in self.bugs if not it.result and it not in copied]
+            batches = self.batches(copied)
+            if not self.checks.were and batches:
+                # (it makes what the others begin with; the laws are for bugs in definitions)
+                laws = self.laws.laws() if len(copied) < len(self.bugs) else []
+                self.batch(batches.pop(0), laws)
+            groups = self.laws.groups(others)
+            if not self.checks.has_kept() and groups:
+                self.by_laws(groups.pop(0))
+            list(pool.map(self.batch, batches))
+            list(pool.map(self.by_laws, groups))
+            list(pool.map(self.alone, [it for it in self.bugs if not it.result]))
+
+
+def is_unread(bug: Bug, number: int, report: Report) -> bool:
+    """Whether the text of a function with the bug, or of its control, cannot be read."""
+    return any(report.unread & {(f, number), (f, 0)} for f in bug.spans)

@@ -1,0 +1,83 @@
+"""Who may run a check now: so many at once, the dearest crates first."""
+
+import heapq
+import os
+import threading
+from collections.abc import Iterator
+from contextlib import contextmanager, suppress
+from pathlib import Path
+
+# The lower comes first: whether a bug is tried alone, and its crate's place.
+Rank = tuple[bool, int]
+
+
+class Closed(Exception):
+    """No turn comes any more."""
+
+
+def set_niceness(process: int, niceness: int) -> None:
+    """Gives the threads of a process this niceness, as far as it may be given."""
+    for thread in Path(f"/proc/{process}/task").glob("[0-9]*"):
+        with suppress(OSError):
+            os.setpriority(os.PRIO_PROCESS, int(thread.name), niceness)
+
+
+class Turns:
+    """Lets this many run at once, with this niceness, and next the first by rank of the others."""
+
+    def __init__(self, count: int, niceness: int = 0) -> None:
+        self.free, self.niceness, self.is_closed = count, niceness, False
+        self.asked = 0
+        self.waiting: list[tuple[Rank, int]] = []
+        self.processes: set[int] = set()
+        self.changed = threading.Condition()
+
+    @contextmanager
+    def turn(self, rank: Rank) -> Iterator[None]:
+        """Waits for a turn, and holds it."""
+        with self.changed:
+            self.asked += 1
+            own = rank, self.asked
+            heapq.heappush(self.waiting, own)
+            self.changed.wait_for(lambda: self.is_closed or self.is_next(own))
+            if self.is_closed:
+                raise Closed
+            heapq.heappop(self.waiting)
+            self.free -= 1
+            self.changed.notify_all()
+        try:
+            yield
+        finally:
+            with self.changed:
+                self.free += 1
+                self.changed.notify_all()
+
+    def is_next(self, own: tuple[Rank, int]) -> bool:
+        """Whether the one that waits may run."""
+        return self.free > 0 and self.waiting[0] == own
+
+    @contextmanager
+    def minded(self, process: int) -> Iterator[None]:
+        """Runs the process with the niceness that those who run now have, until it ends."""
+        with self.changed:
+            self.processes.add(process)
+            set_niceness(process, os.nice(0) + self.niceness)
+        try:
+            yield
+        finally:
+            with self.changed:
+                self.processes.discard(process)
+
+    def grow(self, more: int) -> None:
+        """Lets this many more run at once, and also those that run already at full speed."""
+        with self.changed:
+            self.free, self.niceness = self.free + more, 0
+            for process in self.processes:
+                set_niceness(process, os.nice(0))
+            self.changed.notify_all()
+
+    def close(self) -> None:
+        """Gives no more turns."""
+        with self.changed:
+            self.is_closed = True
+            self.changed.notify_all()
