@@ -160,7 +160,6 @@ FILES = {
 }
 
 
-
 class Bug(NamedTuple):
     """A bug: its name, its file, its old and new text, and how the runner's line on it begins."""
 
@@ -197,9 +196,7 @@ BUGS = [
         NOT_REFUSED,
     ),
     # a constant; a function that nothing calls, and a trait's method, which need no control
-    in_main(
-        "seven-is-eight", "const MOST: usize = 7;", "const MOST: usize = 8;", "refused: "
-    ),
+    in_main("seven-is-eight", "const MOST: usize = 7;", "const MOST: usize = 8;", "refused: "),
     in_main("kept-is-nothing", "number;\n    kept_number", "0;\n    kept_number", "refused: "),
     in_main("rings-four-times", "        3", "        4", "refused: "),
     # it means the same, in a function that nothing calls

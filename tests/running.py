@@ -43,9 +43,7 @@ def example(name: str, program: Path, *words: str) -> subprocess.CompletedProces
 
 
 @contextlib.contextmanager
-def started(
-    program: Path, *words: Word, seconds: float = SECONDS, **how: Any
-) -> Iterator[Process]:
+def started(program: Path, *words: Word, seconds: float = SECONDS, **how: Any) -> Iterator[Process]:
     """A program that runs while a test talks to it. It is killed in the end, or when its time is
     over: a read from it then finds no more bytes."""
     how = {"stdin": subprocess.PIPE, "stdout": subprocess.PIPE, **how}

@@ -4,9 +4,8 @@ from dataclasses import dataclass
 from pathlib import Path
 
 from shell import reasons, words
-from shell.commands import (
-    COMMANDS, FIELDS, Confused, fields_of, line_of, parts_of, rights_of, usage,
-)
+from shell.commands import COMMANDS, FIELDS, Confused, fields_of, line_of, parts_of, rights_of
+from shell.commands import usage
 from shell.names import Names
 from tgdoc_client import Client, Refused
 

@@ -68,7 +68,6 @@ GOOD = {
 SERIALS = ["1", "2", "3", "4", "99"]
 
 
-
 def quoted(words: Iterable[str]) -> list[str]:
     """Texts as JSON, if they need no escapes."""
     return [f'"{word}"' for word in words]

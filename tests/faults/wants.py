@@ -371,7 +371,7 @@ MADE_UP = [
 NONE_MADE = [
     "let room: Result<Vec<u8>, AllocError> = Vec::with_capacity(alloc, 9); Ok(room?)",
     "match fault { AskFault::OutOfMemory => 1, AskFault::Busy | AskFault::NoSeat => 2 }",
-    "// Err(AllocError)\nlet text = \"AllocError\"; all.push(text)?; Ok(())",
+    '// Err(AllocError)\nlet text = "AllocError"; all.push(text)?; Ok(())',
 ]
 
 

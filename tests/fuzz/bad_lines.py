@@ -16,9 +16,8 @@ from checking import Test, Tests, same
 from faults.line_faults import GOOD, fields_of, object_of, with_faults
 from fuzz.differential import printed_if_wrong, seeds
 from models.graph import verdict
-from models.reading import (
-    EVENTS, LONGEST_LINE, STEPS, Refused, line_of, read_config, read_event, read_goal, read_step,
-)
+from models.reading import EVENTS, LONGEST_LINE, STEPS, Refused, line_of, read_config, read_event
+from models.reading import read_goal, read_step
 from models.storage import Run
 from running import asked, joined
 

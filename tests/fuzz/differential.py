@@ -20,9 +20,8 @@ from random import Random
 from checking import Test, Tests, same, tell_counts
 from models.collector import Course
 from models.graph import MOST_PRINCIPALS, NONE_LEFT, SEATS, Graph, verdict
-from models.reading import (
-    COMMANDS, LETTERS, Answer, Event, line_of, read_config, read_event, read_goal, read_step,
-)
+from models.reading import COMMANDS, LETTERS, Answer, Event, line_of, read_config, read_event
+from models.reading import read_goal, read_step
 from models.storage import Run
 from running import asked, hear, joined, rest_of, started, tell
 

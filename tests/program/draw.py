@@ -157,7 +157,7 @@ def opened(label: bytes, seated: bool) -> bytes:
 def labels() -> Tests:
     """Lines that are refused, with bytes of all kinds, and what they become between quotes."""
     for name, line, shown in [
-        ("quotes-and-backslashes", rb'"\ \\ "', rb'\"\\ \\\\ \"'),
+        ("quotes-and-backslashes", rb'"\ \\ "', rb"\"\\ \\\\ \""),
         ("an-ampersand", b"&lt;", b"&amp;lt;"),
         ("control-bytes", b"\0\t\r\x1b\x7f", "␀␉␍␛␡".encode()),
         ("other-letters", "é文\U0001f4c4".encode(), "é文\U0001f4c4".encode()),

@@ -17,10 +17,8 @@ from pathlib import Path
 from typing import Any
 
 from checking import Test, Tests, same
-from faults.scripts import (
-    BYE, DONE, SHARED, alone, assume, caused, create, created, edges, enrol, goal, hello, look,
-    remove, shaded, swept, take, text, welcome, write,
-)
+from faults.scripts import BYE, DONE, SHARED, alone, assume, caused, create, created, edges, enrol
+from faults.scripts import goal, hello, look, remove, shaded, swept, take, text, welcome, write
 from models.graph import SEATS
 from models.reading import LONGEST_LINE, LONGEST_TEXT
 from running import SECONDS, asked, joined

@@ -6,11 +6,9 @@ from collections.abc import Iterable, Iterator
 from typing import NamedTuple
 
 from faults.line_faults import Field, object_of
-from faults.scripts import (
-    CAUSED as STEP_CAUSED,
-    BOUND, BUSY, MARK, NO_ACTOR, NO_PRINCIPAL, SWEEP, caused, created, edges, goal, goal_missing,
-    hello, missing, no_document, no_subject, shaded, stopped, swept, text, welcome,
-)
+from faults.scripts import CAUSED as STEP_CAUSED, BOUND, BUSY, MARK, NO_ACTOR, NO_PRINCIPAL, SWEEP
+from faults.scripts import caused, created, edges, goal, goal_missing, hello, missing, no_document
+from faults.scripts import no_subject, shaded, stopped, swept, text, welcome
 from models.reading import EVENTS, STEPS
 from running import joined
 
@@ -295,7 +293,7 @@ def configurations() -> Cases:
         ("with-a-letter-twice", '[[1,"rr",2]]'),
         ("with-a-fraction", '[[1.5,"r",2]]'),
         ("with-a-text-for-a-number", '[["1","r",2]]'),
-        ("with-null", '[[1,null,2]]'),
+        ("with-null", "[[1,null,2]]"),
     ]:
         line = object_of([("principals", '["alice","bob"]'), ("edges", value)])
         yield refused_opening(f"configuration-edges-{name}", line, BAD)

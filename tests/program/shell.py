@@ -155,9 +155,12 @@ Lines are no longer shown.
 alice> look
 alice has g over bob (2); r over 5.
 """
-RAW_BEGIN = BEGIN + """  sent      {"name":"alice","op":"hello"}
+RAW_BEGIN = (
+    BEGIN
+    + """  sent      {"name":"alice","op":"hello"}
   answered  {"ok":"hello","vertex":1}
 """
+)
 
 
 def record_fits(program: Path) -> None:

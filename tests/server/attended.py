@@ -21,10 +21,8 @@ from checking import Tests, same, skipped
 from models.graph import Graph
 from models.reading import Event, line_of, read_config, read_step
 from running import Process, Word, asked, ran, started
-from server.servers import (
-    AGREED, ANY_PORT, BYE, CONFIG, CREATE, HELLO, LOOK, PARTED, SEEN, WELCOME, Server, in_rounds,
-    is_silent, read_all, read_line, running,
-)
+from server.servers import AGREED, ANY_PORT, BYE, CONFIG, CREATE, HELLO, LOOK, PARTED, SEEN, WELCOME
+from server.servers import Server, in_rounds, is_silent, read_all, read_line, running
 
 LARGE = b'{"edges":[[1,"t",2]],"principals":["alice","bob"],"slots":4096,"cells":65536}\n'
 

@@ -12,10 +12,9 @@ from typing import Any
 from checking import Tests, same
 from models.reading import line_of
 from running import ran
-from server.servers import (
-    AGREED, ANY_PORT, BYE, CONFIG, CREATE, DONE, HELLO, LOOK, MADE, PARTED, READ, WELCOME, WRITE,
-    Server, figure, figure_in, is_silent, read_all, read_line, running, served,
-)
+from server.servers import AGREED, ANY_PORT, BYE, CONFIG, CREATE, DONE, HELLO, LOOK, MADE, PARTED
+from server.servers import READ, WELCOME, WRITE, Server, figure, figure_in, is_silent, read_all
+from server.servers import read_line, running, served
 
 MEGABYTE = 1 << 20
 

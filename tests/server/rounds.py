@@ -18,10 +18,8 @@ from models.graph import Graph
 from models.reading import Config, Event, line_of, read_config, read_event
 from models.storage import Run
 from program.programs import refused
-from server.servers import (
-    ANY_PORT, BYE, CONFIG, CREATE, CREATED, DONE, HELLO, LOOK, MADE, PARTED, READ, ROOMY, WELCOME,
-    WRITE, Server, in_rounds, read_line, served,
-)
+from server.servers import ANY_PORT, BYE, CONFIG, CREATE, CREATED, DONE, HELLO, LOOK, MADE, PARTED
+from server.servers import READ, ROOMY, WELCOME, WRITE, Server, in_rounds, read_line, served
 
 
 def talks(config: bytes, each: int, *rows: tuple[bytes, bytes], dropped: list[int]) -> Test:
@@ -56,8 +54,11 @@ ENROLS = HELLO + ENROL % b"t" + BYE, WELCOME + MADE + PARTED
 RETIRES = CAROL + b'{"op":"retire"}\n' + BYE, b'{"ok":"hello","vertex":3}\n' + DONE + PARTED
 ENROLS_AGAIN = (
     CAROL + HELLO + ENROL % b"r" + LOOK + BYE,
-    b'{"error":"no principal"}\n' + WELCOME + CREATED % 4
-    + b'{"edges":[[2,"t"],[3,"t"],[4,"r"]],"ok":"edges"}\n' + PARTED,
+    b'{"error":"no principal"}\n'
+    + WELCOME
+    + CREATED % 4
+    + b'{"edges":[[2,"t"],[3,"t"],[4,"r"]],"ok":"edges"}\n'
+    + PARTED,
 )
 COMES_BACK = CAROL + BYE, b'{"ok":"hello","vertex":4}\n' + PARTED
 

@@ -23,10 +23,9 @@ from checking import Test, Tests, same
 from models import owners
 from running import SECONDS, example
 from server import attended, bounds, listening, pacing, piling, rounds, waiting
-from server.servers import (
-    AGREED, ANY_PORT, BYE, CONFIG, CREATE, CREATED, DONE, HELLO, LOOK, MADE, NOT_JSON, PARTED, READ,
-    ROOMY, SEEN, WELCOME, Server, is_silent, read_all, read_line, running, served,
-)
+from server.servers import AGREED, ANY_PORT, BYE, CONFIG, CREATE, CREATED, DONE, HELLO, LOOK, MADE
+from server.servers import NOT_JSON, PARTED, READ, ROOMY, SEEN, WELCOME, Server, is_silent, read_all
+from server.servers import read_line, running, served
 from tgdoc_client import Client, Denied, Fault, Full, Refused
 
 # A well-behaved client is answered within this many seconds, whatever others do.

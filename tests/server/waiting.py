@@ -13,10 +13,8 @@ import time
 from pathlib import Path
 
 from checking import Test, Tests, same
-from server.servers import (
-    AGREED, BYE, CREATE, DONE, HELLO, LOOK, MADE, PARTED, READ, SEEN, WELCOME, WRITE, is_silent,
-    read_all, read_line, served,
-)
+from server.servers import AGREED, BYE, CREATE, DONE, HELLO, LOOK, MADE, PARTED, READ, SEEN, WELCOME
+from server.servers import WRITE, is_silent, read_all, read_line, served
 
 PATIENCE = 1.0
 PATIENT = ("--patience", "1")
