@@ -299,55 +299,24 @@ def every_size_is_listed(crates: Path) -> None:
 
 # Functions with a size, which is seen as it is.
 SEEN_SIZES = [
-    (
-        "let none: Vec<u8> = Vec::with_capacity(alloc, usize::MAX)?; Ok(none)",
-        [("Vec::with_capacity", "usize::MAX")],
-    ),
-    (
-        "let right = Vec::with_capacity(\nself.alloc,\ncount.saturating_mul(2),\n)?;",
-        [("Vec::with_capacity", "count.saturating_mul(2)")],
-    ),
-    (
-        "list.items.try_reserve(u64::MAX as usize)?;",
-        [("list.items.try_reserve", "u64::MAX as usize")],
-    ),
-    ("let all = vec![in rt.alloc(); None; count * 2]?;", [("vec!", "count * 2")]),
-    ("let two = vec![in alloc; first, second]?;", []),
+    ("let none = Vec::with_capacity(alloc, usize::MAX)?;", "Vec::with_capacity", "usize::MAX"),
+    ("let two = Vec::with_capacity(\nself.alloc,\nn * 2,\n)?;", "Vec::with_capacity", "n * 2"),
+    ("list.all.try_reserve(u64::MAX as usize)?;", "list.all.try_reserve", "u64::MAX as usize"),
+    ("let all = vec![in rt.alloc(); None; count * 2]?;", "vec!", "count * 2"),
+    ("let two = vec![in alloc; first, second]?;",),
 ]
 
 
 # Functions that hand on what they were refused, with the call or the fault.
 HANDED_ON = [
-    (
-        "Vec::with_capacity",
-        "let Ok(room) = Vec::with_capacity(alloc, 9) else { return Err(AllocError); }; Ok(room)",
-    ),
-    (
-        "self.enter",
-        "match self\n.enter(seat) {\nOk(reply) => Ok(reply),\n"
-        "Err(_) => Err(AskFault::OutOfMemory),\n}",
-    ),
-    (
-        "settle",
-        "match settle(logs) { Err(_) => Settled::NoMemory { vault, logs }, "
-        "Ok(()) => Settled::Agreed(vault) }",
-    ),
-    (
-        "write",
-        "match write(room) {\nOk(line) => Told { text: Ok(line) },\n"
-        "Err(_) => Told {\ntext: Err(WireFault::OutOfMemory),\n},\n}",
-    ),
-    (
-        "Closed::NoRoom",
-        "match close(ended) { Closed::Done { .. } => Found::Agreed, "
-        "Closed::NoRoom { .. } => Found::NoMemory }",
-    ),
+    ("Vec::new", "let Ok(room) = Vec::new(alloc, 9) else { return Err(AllocError); }; Ok(room)"),
+    ("self.enter", "match self\n.enter(one) {\nOk(it) => Ok(it),\nErr(_) => Err(AllocError),\n}"),
+    ("settle", "match settle(it) { Err(_) => Settled::NoMemory { it }, Ok(()) => Settled::Done }"),
+    ("write", "match write(it) {\nOk(it) => T { it },\nErr(_) => T {\nit: Err(AllocError),\n},\n}"),
+    ("A::NoRoom", "match close(it) { A::Done { .. } => B::Done, A::NoRoom { .. } => B::NoMemory }"),
     ("all.push", "if all.push(one).is_err() { return Err(AllocError); } Ok(())"),
     ("all.push", "all.push(one).map_err(|_| AllocError)"),
-    (
-        "serve_in_threads",
-        "match serve_in_threads(rt) { Some(ended) => Found::Agreed, None => Found::NoMemory }",
-    ),
+    ("serve_in_threads", "match serve_in_threads(rt) { Some(it) => it, None => Found::NoMemory }"),
 ]
 
 # Functions that report without cause that memory ran out.
@@ -357,8 +326,7 @@ MADE_UP = [
     "if logs.len() < usize::MAX { return Settled::NoMemory { vault, logs }; } settle(logs)",
     "if connections > 9 { Found::NoMemory } else { found }",
     "let Some(first) = list.first() else { return Err(AllocError); }; Ok(first)",
-    "match store.join(edge) { Ok(()) => Ok(Reply::Done), "
-    "Err(HeapFull::Cells) => Err(AskFault::OutOfMemory) }",
+    "match store.join(edge) { Ok(()) => Ok(Done), Err(Full::Cells) => Err(AskFault::OutOfMemory) }",
     "match list.first() { Some(one) => Ok(one), None => Err(AllocError) }",
     "match all.push(one) { Ok(()) => Err(AllocError), Err(_) => unreachable!() }",
     "if text.len() > 9 || all.push(one).is_err() { return Err(AllocError); } Ok(())",
@@ -390,9 +358,9 @@ def looks_can_fail(_: Path) -> None:
         same([handed for handed, _ in seen(body)], [None], body)
     for body in NONE_MADE:
         same(seen(body), [], body)
-    for body, sizes in SEEN_SIZES:
+    for body, *sizes in SEEN_SIZES:
         found = sizes_in("x.rt", f"fn work() {{\n{body}\n}}\n")
-        same([size[2:] for size in found], sizes, body)
+        same([part for size in found for part in size[2:]], sizes, body)
 
 
 def tests() -> Tests:

@@ -155,12 +155,8 @@ Lines are no longer shown.
 alice> look
 alice has g over bob (2); r over 5.
 """
-RAW_BEGIN = (
-    BEGIN
-    + """  sent      {"name":"alice","op":"hello"}
-  answered  {"ok":"hello","vertex":1}
-"""
-)
+RAW_BEGIN = BEGIN + '  sent      {"name":"alice","op":"hello"}\n'
+RAW_BEGIN += '  answered  {"ok":"hello","vertex":1}\n'
 
 
 def record_fits(program: Path) -> None:
