@@ -23,7 +23,8 @@ from fuzz.differential import seeds
 from models import owners
 from models.reading import EVENTS, Refused, line_of, read_event
 from server.servers import AGREED, LOOK, Server, figure, read_line, served
-from server.serving import NO_ACTOR, one_more
+from server.serving import one_more
+from server.talks import NO_ACTOR
 
 SECONDS = 60
 WORKERS = 63

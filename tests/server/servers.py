@@ -8,13 +8,14 @@ import contextlib
 import select
 import socket
 import subprocess
-from collections.abc import Iterator
+from collections.abc import Iterable, Iterator
+from concurrent.futures import ThreadPoolExecutor
 from pathlib import Path
 from typing import Any
 
 from checking import same
 from running import SECONDS, Process, hear, started, tell
-from tgdoc_client import Client, address_of
+from tgdoc_client import Client, Denied, Fault, Full, address_of
 
 CONFIG = b'{"cells":8,"edges":[[1,"t",2]],"principals":["alice","bob"],"slots":8}\n'
 ROOMY = b'{"edges":[[1,"t",2]],"principals":["alice","bob"]}\n'
@@ -136,3 +137,36 @@ def figure_in(file: Path, name: str) -> int:
     """A figure of the system, in bytes."""
     rows = file.read_text().splitlines()
     return next(int(row.split()[1]) << 10 for row in rows if row.startswith(name + ":"))
+
+
+def poured(server: Server, *pieces: bytes) -> bytes:
+    """Sends the pieces as fast as they are taken; all answers."""
+    with server.connection() as one, ThreadPoolExecutor() as pool:
+        sent = pool.submit(pour, one, pieces)
+        found = read_all(one)
+        sent.result(SECONDS)
+    return found
+
+
+def pour(one: socket.socket, pieces: Iterable[bytes]) -> None:
+    for piece in pieces:
+        one.sendall(piece)
+
+
+def denied(rule: str, cause: str, **more: str | int) -> dict[str, str | int]:
+    """The fields of a denial that are not None, as the client's exception has them."""
+    return {"rule": rule, "cause": cause, **more}
+
+
+def refusal_of(client: Client, name: str, *arguments: Any) -> Any:
+    """The fields of the exception that a client raises, or what the command returns."""
+    try:
+        return getattr(client, name)(*arguments)
+    except Denied as denial:
+        fields = {name: value for name, value in vars(denial).items() if value is not None}
+        same(fields.pop("answer")["denied"], fields["rule"])
+        return fields
+    except Full as full:
+        return full.what
+    except Fault as fault:
+        return fault.error
