@@ -1,8 +1,9 @@
-"""The program that the examples run: the proved one, or an unproved build, which is made once and kept.
+"""The program that the examples run: the proved one, or an unproved build, which is made once and
+kept.
 
-The proved program is crates/tgdoc/out/tgdoc, which `make` builds, or the one that TGDOC names. Without one, `rt try` makes a
-build with checks in place of proofs, and runs it; it is copied to bin/unproved while it runs. `make clean` removes it, and
-it is made anew once a source has changed.
+The proved program is crates/tgdoc/out/tgdoc, which `make` builds, or the one that TGDOC names.
+Without one, `rt try` makes a build with checks in place of proofs, and runs it; it is copied to
+bin/unproved while it runs. `make clean` removes it, and it is made anew once a source has changed.
 """
 
 import contextlib
@@ -24,8 +25,10 @@ KEPT = ROOT / "bin" / "unproved" / "tgdoc"
 FOLDER = None
 # How long `rt try` may take.
 SECONDS = 600
-NO_RT = """There is no proved program at %s, and `rt`, which builds one, is not on the path: it comes with the Rattle kit,
-whose folder has a first page, START-HERE.md."""
+NO_RT = "There is no proved program at %s, and `rt`, which builds one, is not on the path: it "
+NO_RT += "comes with the Rattle kit, whose folder has a first page, START-HERE.md."
+UNPROVED = "There is no proved program yet (`make` builds it, in half an hour): an unproved one is "
+UNPROVED += "made and kept. Wait a minute .."
 FOUND = None
 
 
@@ -39,15 +42,15 @@ def program():
 def chosen():
     named = os.environ.get("TGDOC")
     if named and not shutil.which(named):
-        sys.exit("TGDOC names %s, which is no program" % named)
+        sys.exit(f"TGDOC names {named}, which is no program")
     if named or PROVED.exists():
         return Path(named) if named else PROVED
     sources = sum_of_sources()
     told = KEPT.with_name("sources")
     if not (KEPT.exists() and told.exists() and told.read_text() == sources):
         if not shutil.which("rt"):
-            sys.exit(" ".join((NO_RT % PROVED).split()))
-        say("There is no proved program yet (`make` builds it, in half an hour): an unproved one is made and kept. Wait a minute ..")
+            sys.exit(NO_RT % PROVED)
+        say(UNPROVED)
         make()
         told.write_text(sources)
     else:
@@ -60,8 +63,10 @@ def say(text):
 
 
 def crates_below():
-    """The crate of the program and those that it is built from, by crates.txt: `NAME: NAME NAME ..`."""
-    rows = [row.partition(":") for row in (ROOT / "crates.txt").read_text().splitlines() if row[:1].isalpha()]
+    """The crate of the program and those that it is built from, by crates.txt: `NAME: NAME NAME
+    ..`."""
+    rows = (ROOT / "crates.txt").read_text().splitlines()
+    rows = [row.partition(":") for row in rows if row[:1].isalpha()]
     needs = {head.split()[0]: names.split() for head, _, names in rows}
     found, waiting = [], ["tgdoc"]
     while waiting:
@@ -77,7 +82,8 @@ def sum_of_sources():
     files = [ROOT / "crates.txt"]
     for name in crates_below():
         files += sorted((ROOT / "crates" / name / "src").rglob("*.rt"))
-    return hashlib.sha256(b"".join(hashlib.sha256(file.read_bytes()).digest() for file in files)).hexdigest()
+    sums = [hashlib.sha256(file.read_bytes()).digest() for file in files]
+    return hashlib.sha256(b"".join(sums)).hexdigest()
 
 
 def free_address():
@@ -90,11 +96,15 @@ def make():
     """Has `rt try` make the program and run it as a server, and copies it once it listens."""
     KEPT.parent.mkdir(parents=True, exist_ok=True)
     KEPT.unlink(missing_ok=True)
-    address = free_address()
-    words = ["rt", "try", "--", "serve", "--listen", "%s:%d" % address, "--workers", "1", "--connections", "1"]
-    with tempfile.TemporaryDirectory(dir=KEPT.parent) as folder, open(Path(folder) / "said", "w+b") as said:
-        how = {"stdin": subprocess.PIPE, "stdout": subprocess.DEVNULL, "stderr": said, "env": {**os.environ, "TMPDIR": folder}}
-        with subprocess.Popen(words, cwd=PROVED.parents[1], **how) as server:
+    host, port = address = free_address()
+    words = ["rt", "try", "--", "serve", "--listen", f"{host}:{port}"]
+    words += ["--workers", "1", "--connections", "1"]
+    with contextlib.ExitStack() as stack:
+        folder = stack.enter_context(tempfile.TemporaryDirectory(dir=KEPT.parent))
+        said = stack.enter_context(open(Path(folder) / "said", "w+b"))
+        how = {"stdin": subprocess.PIPE, "stdout": subprocess.DEVNULL, "stderr": said}
+        how |= {"env": {**os.environ, "TMPDIR": folder}, "cwd": PROVED.parents[1]}
+        with subprocess.Popen(words, **how) as server:
             try:
                 with contextlib.suppress(BrokenPipeError), server.stdin as lines:
                     lines.write(json.dumps({"principals": ["alice"]}).encode() + b"\n")

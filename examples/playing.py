@@ -1,4 +1,5 @@
-"""What the examples with a server have in common: how it is started and ends, and how its clients wait and report.
+"""What the examples with a server have in common: how it is started and ends, and how its clients
+wait and report.
 
 examples/builds.py says which build of `tgdoc` is run.
 """
@@ -19,13 +20,19 @@ def told(*words):
     print(*words, flush=True)
 
 
+def same(found, wanted):
+    """Raises unless this was found."""
+    if found != wanted:
+        raise AssertionError(f"wanted {wanted!r}, found {found!r}")
+
+
 def refusal_of(kind, command, *arguments):
     """The refusal of a command that is to be refused in this way."""
     try:
         command(*arguments)
     except kind as refusal:
         return refusal
-    raise AssertionError("%s%s was carried out" % (command.__name__, arguments))
+    raise AssertionError(f"{command.__name__}{arguments} was carried out")
 
 
 def denial_of(command, *arguments):
@@ -39,8 +46,8 @@ def connected(address):
 
 
 def with_room(command, *arguments):
-    """The answer to a command, and how often it was sent again: if no slot is free, until the collector has freed
-    one."""
+    """The answer to a command, and how often it was sent again: if no slot is free, until the
+    collector has freed one."""
     limit = time.monotonic() + SECONDS
     tries = 0
     while True:
@@ -54,20 +61,22 @@ def with_room(command, *arguments):
 
 
 def play(config, workers, connections, story):
-    """Starts a server over a configuration, tells the story to its address, and returns the server's status."""
-    options = ["--listen", "127.0.0.1:0", "--workers", str(workers), "--connections", str(connections)]
-    with subprocess.Popen(words("serve", *options), stdin=subprocess.PIPE, stdout=subprocess.PIPE) as server:
+    """Starts a server over a configuration, tells the story to its address, and returns the
+    server's status."""
+    numbers = ["--workers", str(workers), "--connections", str(connections)]
+    command = words("serve", "--listen", "127.0.0.1:0", *numbers)
+    with subprocess.Popen(command, stdin=subprocess.PIPE, stdout=subprocess.PIPE) as server:
         limit = threading.Timer(2 * SECONDS, server.terminate)
         limit.start()
         try:
             server.stdin.write(json.dumps(config).encode() + b"\n")
             server.stdin.close()
             address = address_of(server.stdout.readline())
-            told("The server listens on %s, port %d." % address)
+            told(f"The server listens on {address[0]}, port {address[1]}.")
             story(address)
             settled = json.loads(answers_in(server.stdout.read().decode())[-1])["settled"]
             found = {"agreed": "agree"}.get(settled, "do not agree: " + settled)
-            told("The server ends: what it answered and its one history %s." % found)
+            told(f"The server ends: what it answered and its one history {found}.")
             return server.wait()
         finally:
             limit.cancel()

@@ -1,4 +1,5 @@
-"""What the program tells about the lines of a run: answers, pictures, and what can ever come about."""
+"""What the program tells about the lines of a run: answers, pictures, and what can ever come
+about."""
 
 import json
 import subprocess
@@ -11,9 +12,11 @@ SECONDS = 60
 
 
 def asked(rows, *words):
-    """The lines that the program writes about these; a ValueError if it refuses its command line."""
+    """The lines that the program writes about these; a ValueError if it refuses its command
+    line."""
     given = "".join(row + "\n" for row in rows).encode()
-    ran = subprocess.run([str(builds.program()), *words], input=given, capture_output=True, timeout=SECONDS)
+    command = [str(builds.program()), *words]
+    ran = subprocess.run(command, input=given, capture_output=True, timeout=SECONDS)
     if ran.returncode == 2:
         raise ValueError(ran.stderr.decode(errors="replace").strip())
     # not splitlines, which also cuts at other signs than line feeds
@@ -31,23 +34,29 @@ def drawn(rows):
 
 
 def shared(rows, start, rights, end):
-    """How one vertex can come to have rights over another: steps and None, or no steps and a word that says why."""
-    told = asked(rows, "share", "--from", str(start), "--to", str(end), "--rights", rights, "--steps")
+    """How one vertex can come to have rights over another: steps and None, or no steps and a word
+    that says why."""
+    question = ["--from", str(start), "--to", str(end), "--rights", rights]
+    told = asked(rows, "share", *question, "--steps")
     steps = [json.loads(row) for row in told]
     if steps and "op" not in steps[0]:
         why = steps[0]
-        return [], why.get("verdict") or " ".join(str(why[key]) for key in ("error", "vertex") if key in why)
+        words = [str(why[key]) for key in ("error", "vertex") if key in why]
+        return [], why.get("verdict") or " ".join(words)
     return steps, None
 
 
 def who(rows, rights, end):
-    """Who has rights over a vertex, who else could come to have them, and who never can, of all subjects with a slot."""
+    """Who has rights over a vertex, who else could come to have them, and who never can, of all
+    subjects with a slot."""
     shot = drawn(rows)
-    subjects = [serial for serial, vertex in shot.vertices.items() if vertex.kind == "subject" and serial != end]
+    subjects = [serial for serial, vertex in shot.vertices.items() if vertex.kind == "subject"]
+    subjects = [serial for serial in subjects if serial != end]
     have = [serial for serial in subjects if set(rights) <= set(shot.edges.get((serial, end), ""))]
     others = [serial for serial in subjects if serial not in have]
     found = could(rows, rights, end)
-    return have, [serial for serial in others if serial in found], [serial for serial in others if serial not in found]
+    could_have = [serial for serial in others if serial in found]
+    return have, could_have, [serial for serial in others if serial not in found]
 
 
 def could(rows, rights, end):

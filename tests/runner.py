@@ -1,14 +1,16 @@
-"""What the runners report: that of planted bugs, of a crate of three lines, can fail, and credits no bug with another's refusal; tests/run, given
-names, runs the tests of these names, and fails if a name is no test's."""
+"""What the runners report: that of planted bugs, of a crate of three lines, can fail, and credits
+no bug with another's refusal; tests/run, given names, runs the tests of these names, and fails if a
+name is no test's."""
 
-import subprocess
 import sys
 import tempfile
+from collections.abc import Iterable
 from pathlib import Path
+from typing import NamedTuple
 
+from checking import Tests, passes, same
 from planting import reading_tests, reports_tests
-
-ROOT = Path(__file__).resolve().parent.parent
+from running import ROOT, ran
 
 SOURCE = """//! A number and its echo.
 #![tactic(auto)]
@@ -157,73 +159,111 @@ FILES = {
     "crates/tiny/proofs/named/Answers.antt": NAMED,
 }
 
-# Each bug, its file, its old and new text, and how its line begins.
+
+class Bug(NamedTuple):
+    """A bug: its name, its file, its old and new text, and how the runner's line on it begins."""
+
+    name: str
+    file: str
+    old: str
+    new: str
+    begins: str
+
+
+def in_main(name: str, old: str, new: str, begins: str) -> Bug:
+    return Bug(name, "src/lib.rt", old, new, begins)
+
+
+NOT_REFUSED = "alone: NOT REFUSED"
+TWICE_OF, SPARE_OF = "echo_of number + number", "spare_of number = "
 BUGS = [
-    ("echo-of-nothing", "src/lib.rt", "let heard = number;", "let heard = 0;", "refused: "),
-    ("law-echo-is-four", "specs/Echo.antt", "echo_of number = number", "echo_of number = 4", "refused, alone: "),
+    in_main("echo-of-nothing", "let heard = number;", "let heard = 0;", "refused: "),
+    Bug(
+        "law-echo-is-four",
+        "specs/Echo.antt",
+        "echo_of number = number",
+        "echo_of number = 4",
+        "refused, alone: ",
+    ),
     # tried with the next, and not with the one above, to which the laws of both come too
-    ("law-twice-is-thrice", "specs/Twice.antt", "echo_of number + number", "echo_of number + number + number", "refused: "),
+    Bug("law-twice-is-thrice", "specs/Twice.antt", TWICE_OF, f"{TWICE_OF} + number", "refused: "),
     # it means the same, beside a bug
-    ("law-spare-is-the-same", "specs/Twice.antt", "spare_of number = echo_of number", "spare_of number = (echo_of number)", "alone: NOT REFUSED"),
+    Bug(
+        "law-spare-is-the-same",
+        "specs/Twice.antt",
+        f"{SPARE_OF}echo_of number",
+        f"{SPARE_OF}(echo_of number)",
+        NOT_REFUSED,
+    ),
     # a constant; a function that nothing calls, and a trait's method, which need no control
-    ("seven-is-eight", "src/lib.rt", "const MOST: usize = 7;", "const MOST: usize = 8;", "refused: "),
-    ("kept-is-nothing", "src/lib.rt", "number;\n    kept_number", "0;\n    kept_number", "refused: "),
-    ("rings-four-times", "src/lib.rt", "        3", "        4", "refused: "),
+    in_main("seven-is-eight", "const MOST: usize = 7;", "const MOST: usize = 8;", "refused: "),
+    in_main("kept-is-nothing", "number;\n    kept_number", "0;\n    kept_number", "refused: "),
+    in_main("rings-four-times", "        3", "        4", "refused: "),
     # it means the same, in a function that nothing calls
-    ("harmless-in-its-place", "src/lib.rt", "let shown_number = number;", "let shown_number = (number);", "alone: NOT REFUSED"),
+    in_main(
+        "harmless-in-its-place",
+        "let shown_number = number;",
+        "let shown_number = (number);",
+        NOT_REFUSED,
+    ),
     # it means the same, and what it calls is broken by the first
-    ("harmless-beside-a-bug", "src/lib.rt", "let answer = echo(number);", "let answer = (echo(number));", "alone: NOT REFUSED"),
-    ("text-that-is-not-there", "src/lib.rt", "let heard = nothing;", "let heard = 0;", "BAD EDIT"),
+    in_main(
+        "harmless-beside-a-bug",
+        "let answer = echo(number);",
+        "let answer = (echo(number));",
+        NOT_REFUSED,
+    ),
+    in_main("text-that-is-not-there", "let heard = nothing;", "let heard = 0;", "BAD EDIT"),
     # it means the same, and the written proof names the call of `echo`
-    ("proof-loses-a-name", "src/lib.rt", "    echo(number)", "    same(number)", "BY FORM ALONE"),
+    in_main("proof-loses-a-name", "    echo(number)", "    same(number)", "BY FORM ALONE"),
 ]
 
 
-def written(bugs):
+def written(bugs: Iterable[Bug]) -> dict[str, str]:
     """The files of these bugs, by their paths."""
-    texts = {}
-    for name, file, old, new, _ in bugs:
-        marked = [f"- {row}" for row in old.split("\n")] + [f"+ {row}" for row in new.split("\n")]
-        path = f"crates/tiny/planted/{file}.bugs"
-        texts[path] = texts.get(path, "# Bugs.\n") + "\n".join(["", name, *marked, ""])
+    texts: dict[str, str] = {}
+    for bug in bugs:
+        rows = [f"- {row}" for row in bug.old.split("\n")]
+        rows += [f"+ {row}" for row in bug.new.split("\n")]
+        path = f"crates/tiny/planted/{bug.file}.bugs"
+        texts[path] = texts.get(path, "# Bugs.\n") + "\n".join(["", bug.name, *rows, ""])
     return texts
 
 
-def said(line):
+def said(line: str) -> tuple[str, str]:
     """The bug's name and its result, from a line of the runner."""
     name, _, result = line.removeprefix("planted tiny/").partition(": ")
     return name, result
 
 
-def edits_of_a_crate_are_told_apart(program):
-    """Six bugs are refused; harmless ones, an absent text and one that only a proof's names refuse count as failed."""
+def edits_of_a_crate_are_told_apart(program: Path) -> None:
+    """Six bugs are refused; harmless ones, an absent text and a lost name count as failed."""
     with tempfile.TemporaryDirectory() as folder:
         for path, text in (FILES | written(BUGS)).items():
             Path(folder, path).parent.mkdir(parents=True, exist_ok=True)
             Path(folder, path).write_text(text, encoding="utf-8")
-        ran = subprocess.run([str(program), "--jobs", "1"], cwd=folder, capture_output=True, text=True, timeout=900)
-    lines = ran.stdout.splitlines()
+        tried = ran(program, "--jobs", "1", cwd=folder, timeout=900)
+    lines = tried.stdout.decode().splitlines()
     found = dict(said(line) for line in lines if line.startswith("planted tiny/"))
-    wrong = [name for name, _, _, _, begins in BUGS if not found.get(name, "").startswith(begins)]
-    if wrong or lines[-1:] != ["6 passed, 5 failed"] or ran.returncode != 1:
-        print(f"  not as wanted: {wrong}, status {ran.returncode}", *lines, ran.stderr, sep="\n    ")
-        return False
-    return True
+    wrong = [bug.name for bug in BUGS if not found.get(bug.name, "").startswith(bug.begins)]
+    if wrong:
+        print(*lines, tried.stderr.decode(), sep="\n    ")
+    same(wrong, [], "not as wanted")
+    same((lines[-1:], tried.returncode), (["6 passed, 5 failed"], 1))
 
 
-def names_pick_tests(program):
+def names_pick_tests(program: Path) -> None:
     """A name and a pattern pick a test each; a name that no test has counts as failed."""
-    words = ["every-want-of-memory-is-handed-on", "wants-that-*", "no-test"]
-    ran = subprocess.run([str(program.parent / "run"), *words], capture_output=True, text=True, timeout=60)
-    rows = [row for row in ran.stdout.splitlines() if not row.startswith(" ")]
-    wanted = [f"passed {words[0]} (crates)", "passed wants-that-are-made-up-are-seen (crates)", "no test has the name no-test", "2 passed, 1 failed"]
-    if (rows, ran.returncode) != (wanted, 1):
-        print(f"  not as wanted, status {ran.returncode}", *rows, ran.stderr, sep="\n    ")
-        return False
-    return True
+    name, pattern = "every-want-of-memory-is-handed-on", "wants-that-*"
+    tried = ran(program.parent / "run", name, pattern, "no-test")
+    rows = [row for row in tried.stdout.decode().splitlines() if not row.startswith(" ")]
+    passed = [f"passed {name} (crates)", "passed wants-that-are-made-up-are-seen (crates)"]
+    wanted = [*passed, "no test has the name no-test", "2 passed, 1 failed"]
+    same((rows, tried.returncode), (wanted, 1))
 
 
-def tests():
+def tests() -> Tests:
+    """All tests by their names; they take the runner of planted bugs."""
     yield from reading_tests.tests()
     yield from reports_tests.tests()
     yield "edits-of-a-crate-are-told-apart", edits_of_a_crate_are_told_apart
@@ -231,4 +271,5 @@ def tests():
 
 
 if __name__ == "__main__":
-    sys.exit(0 if all(test(ROOT / "tests" / "planted") for _, test in tests()) else 1)
+    passed = [passes(test, ROOT / "tests" / "planted") for _, test in tests()]
+    sys.exit(not all(passed))

@@ -1,7 +1,8 @@
-"""The playground's server: the page's files, and the program's answers about lines that the page sends.
+"""The playground's server: the page's files, and the program's answers about lines that the page
+sends.
 
-It keeps no state. It answers only requests to its own loopback address that no other web page makes, and lines of bounded
-size, by a few programs at a time.
+It keeps no state. It answers only requests to its own loopback address that no other web page
+makes, and lines of bounded size, by a few programs at a time.
 """
 
 import functools
@@ -15,7 +16,8 @@ from builds import ROOT
 
 HERE = Path(__file__).resolve().parent
 TYPES = {".html": "text/html", ".css": "text/css", ".js": "text/javascript"}
-FILES = ["page.html", "page.css", "app.js", "derivation.js", "dot.js", "dragging.js", "drawing.js", "layout.js", "panels.js", "words.js"]
+FILES = ["page.html", "page.css", "app.js", "derivation.js", "dot.js", "dragging.js", "drawing.js"]
+FILES += ["layout.js", "panels.js", "words.js"]
 STORIES = {
     "sharing": ("Sharing", "film/sharing", False),
     "group": ("A group", "models/group", False),
@@ -23,8 +25,9 @@ STORIES = {
 }
 MOST_LINES, MOST_BYTES, AT_ONCE = 500, 262_144, 4
 HEADERS = {
-    "Content-Security-Policy": "default-src 'none'; script-src 'self'; style-src 'self'; connect-src 'self'; img-src data:; base-uri 'none'; "
-    "form-action 'none'; frame-ancestors 'none'",
+    "Content-Security-Policy": "default-src 'none'; script-src 'self'; style-src 'self'; "
+    "connect-src 'self'; img-src data:; base-uri 'none'; form-action 'none'; "
+    "frame-ancestors 'none'",
     "X-Content-Type-Options": "nosniff",
     "Referrer-Policy": "no-referrer",
     "Cache-Control": "no-store",
@@ -38,8 +41,9 @@ class Unasked(Exception):
 def rows_of(asked):
     """The lines of a question."""
     rows = asked.get("lines")
-    if not isinstance(rows, list) or not 1 <= len(rows) <= MOST_LINES or not all(isinstance(row, str) and "\n" not in row for row in rows):
-        raise Unasked(400, "1 to %d lines" % MOST_LINES)
+    is_list = isinstance(rows, list) and 1 <= len(rows) <= MOST_LINES
+    if not is_list or not all(isinstance(row, str) and "\n" not in row for row in rows):
+        raise Unasked(400, f"1 to {MOST_LINES} lines")
     return rows
 
 
@@ -75,7 +79,8 @@ def state(asked):
 
 def share(asked):
     """The steps by which a vertex can come to have rights over another, or why there are none."""
-    steps, verdict = questions.shared(rows_of(asked), serial_of(asked, "from"), rights_of(asked), serial_of(asked, "to"))
+    start, end = serial_of(asked, "from"), serial_of(asked, "to")
+    steps, verdict = questions.shared(rows_of(asked), start, rights_of(asked), end)
     return {"steps": steps, "verdict": verdict}
 
 
@@ -86,12 +91,16 @@ def who(asked):
 
 
 def stories():
-    """The stories: their names, lines, a sentence on each but the first, and whether the collector is shown."""
-    return [story(key, name, ROOT / "examples" / file, shows) for key, (name, file, shows) in STORIES.items()]
+    """The stories: their names, lines, a sentence on each but the first, and whether the collector
+    is shown."""
+    return [story(key, *about) for key, about in STORIES.items()]
 
 
 def story(key, name, file, shows):
-    lines, captions = [file.with_suffix(suffix).read_text().splitlines() for suffix in (".jsonl", ".captions")]
+    lines, captions = (
+        (ROOT / "examples" / f"{file}.{suffix}").read_text().splitlines()
+        for suffix in ("jsonl", "captions")
+    )
     return {"key": key, "name": name, "lines": lines, "captions": captions, "collector": shows}
 
 
@@ -106,16 +115,19 @@ class Service(BaseHTTPRequestHandler):
         """Nothing is logged."""
 
     def is_ours(self):
-        """Whether the request is to this server by its loopback address, and of a page of its own if a page makes it."""
+        """Whether the request is to this server by its loopback address, and of a page of its own
+        if a page makes it."""
         port = self.server.server_port
-        hosts = ["127.0.0.1:%d" % port, "localhost:%d" % port]
+        hosts = [f"127.0.0.1:{port}", f"localhost:{port}"]
         origin = self.headers.get("Origin")
         is_own = self.headers.get("Sec-Fetch-Site", "none") in ("none", "same-origin")
-        return is_own and self.headers.get("Host") in hosts and (origin is None or origin in ["http://" + host for host in hosts])
+        is_own = is_own and (origin is None or origin in [f"http://{host}" for host in hosts])
+        return is_own and self.headers.get("Host") in hosts
 
-    def reply(self, status, kind, body):
+    def reply(self, status: int, kind: str, body: bytes) -> None:
         self.send_response(status)
-        for name, value in {**HEADERS, "Content-Type": kind + "; charset=utf-8", "Content-Length": str(len(body))}.items():
+        about = {"Content-Type": f"{kind}; charset=utf-8", "Content-Length": str(len(body))}
+        for name, value in {**HEADERS, **about}.items():
             self.send_header(name, value)
         self.end_headers()
         self.wfile.write(body)
@@ -123,7 +135,7 @@ class Service(BaseHTTPRequestHandler):
     def reply_value(self, status, value):
         self.reply(status, "application/json", json.dumps(value).encode())
 
-    def do_GET(self):
+    def do_GET(self) -> None:
         name = self.path.partition("?")[0].lstrip("/") or "page.html"
         if not self.is_ours():
             self.reply_value(403, {"refused": "not from here"})
@@ -140,7 +152,7 @@ class Service(BaseHTTPRequestHandler):
             raise Unasked(403, "not from here")
         length = self.headers.get("Content-Length", "")
         if not length.isdigit() or int(length) > MOST_BYTES:
-            raise Unasked(413, "at most %d bytes" % MOST_BYTES)
+            raise Unasked(413, f"at most {MOST_BYTES} bytes")
         asked = json.loads(self.rfile.read(int(length)))
         if self.path not in self.answers or not isinstance(asked, dict):
             raise Unasked(404, "no such question")
@@ -158,7 +170,7 @@ class Service(BaseHTTPRequestHandler):
             self.reply_value(400, {"refused": str(error)})
 
 
-def opened(service, port):
+def opened(service: type[BaseHTTPRequestHandler], port: int) -> ThreadingHTTPServer:
     """A server at this port of the loopback address, or at any free one if it is taken."""
     try:
         return ThreadingHTTPServer(("127.0.0.1", port), service)

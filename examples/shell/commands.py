@@ -1,4 +1,5 @@
-"""The commands of the shell: how each is written, what it is for, and how its words become the fields of a line."""
+"""The commands of the shell: how each is written, what it is for, and how its words become the
+fields of a line."""
 
 import json
 
@@ -10,30 +11,66 @@ class Confused(Exception):
     """A line that is no command, with what to say about it."""
 
 
-# Each command: its words, what it does, and the kinds of its words. A word in brackets may be left out.
+# Each command: its words, what it does, and the kinds of its words. A word in brackets may be left
+# out.
 COMMANDS = {
-    "as": ("as NAME", "go on as this principal, on a connection of their own", ["person"]),
-    "create": ("create KIND RIGHTS [NAME]", "make a document or a subject with rights over it; NAME is known to this shell alone", ["kind", "rights", "[new"]),
-    "grant": ("grant RIGHTS OVER TO", "give TO rights over OVER that you have; needs g over TO", ["rights", "vertex", "vertex"]),
-    "take": ("take RIGHTS OVER FROM", "take rights over OVER that FROM has; needs t over FROM", ["rights", "vertex", "vertex"]),
-    "remove": ("remove RIGHTS OVER", "give up your own rights over OVER; nobody can take a right away from somebody else", ["rights", "vertex"]),
-    "read": ("read OVER", "read a document; needs r", ["vertex"]),
-    "write": ("write OVER TEXT", "replace a document's text; needs w", ["vertex", "text"]),
-    "look": ("look [AT]", "list what AT has, or what you have; needs t over AT", ["[vertex"]),
-    "enrol": ("enrol NAME RIGHTS", "make a principal of this name, with rights over it", ["new", "rights"]),
-    "retire": ("retire", "be a principal no longer", []),
-    "assume": ("assume AGENT", "act for a subject, with its rights in place of yours; needs t and g over it", ["vertex"]),
-    "leave": ("leave", "act for yourself again", []),
-    "bye": ("bye", "end your connection", []),
-    "share": ("share RIGHTS OVER WHO", "can WHO ever come to have rights over OVER, whatever all of them do?", ["rights", "vertex", "vertex"]),
-    "who": ("who RIGHTS OVER", "who has rights over OVER now, who could come to have them, and who never can", ["rights", "vertex"]),
-    "graph": ("graph", "show who has which rights over whom", []),
-    "collect": ("collect", "what the collector frees: what nobody can reach any more", []),
-    "name": ("name NUMBER WORD", "give a vertex a name that this shell knows", ["vertex", "new"]),
-    "lines": ("lines [FILE]", "what was done so far, as lines for `tgdoc run`; into FILE if it is named", ["[file"]),
-    "raw": ("raw", "show the lines that are sent and answered, or no longer", []),
-    "help": ("help [COMMAND]", "this list, or one command", ["[command"]),
-    "quit": ("quit", "leave the shell (or Ctrl-D)", []),
+    words.split()[0]: (words, what, kinds.split())
+    for words, what, kinds in [
+        ("as NAME", "go on as this principal, on a connection of their own", "person"),
+        (
+            "create KIND RIGHTS [NAME]",
+            "make a document or a subject with rights over it; NAME is known to this shell alone",
+            "kind rights [new",
+        ),
+        (
+            "grant RIGHTS OVER TO",
+            "give TO rights over OVER that you have; needs g over TO",
+            "rights vertex vertex",
+        ),
+        (
+            "take RIGHTS OVER FROM",
+            "take rights over OVER that FROM has; needs t over FROM",
+            "rights vertex vertex",
+        ),
+        (
+            "remove RIGHTS OVER",
+            "give up your own rights over OVER; nobody can take a right away from somebody else",
+            "rights vertex",
+        ),
+        ("read OVER", "read a document; needs r", "vertex"),
+        ("write OVER TEXT", "replace a document's text; needs w", "vertex text"),
+        ("look [AT]", "list what AT has, or what you have; needs t over AT", "[vertex"),
+        ("enrol NAME RIGHTS", "make a principal of this name, with rights over it", "new rights"),
+        ("retire", "be a principal no longer", ""),
+        (
+            "assume AGENT",
+            "act for a subject, with its rights in place of yours; needs t and g over it",
+            "vertex",
+        ),
+        ("leave", "act for yourself again", ""),
+        ("bye", "end your connection", ""),
+        (
+            "share RIGHTS OVER WHO",
+            "can WHO ever come to have rights over OVER, whatever all of them do?",
+            "rights vertex vertex",
+        ),
+        (
+            "who RIGHTS OVER",
+            "who has rights over OVER now, who could come to have them, and who never can",
+            "rights vertex",
+        ),
+        ("graph", "show who has which rights over whom", ""),
+        ("collect", "what the collector frees: what nobody can reach any more", ""),
+        ("name NUMBER WORD", "give a vertex a name that this shell knows", "vertex new"),
+        (
+            "lines [FILE]",
+            "what was done so far, as lines for `tgdoc run`; into FILE if it is named",
+            "[file",
+        ),
+        ("raw", "show the lines that are sent and answered, or no longer", ""),
+        ("help [COMMAND]", "this list, or one command", "[command"),
+        ("quit", "leave the shell (or Ctrl-D)", ""),
+    ]
 }
 # The commands that are lines of a client, with the fields that their words fill.
 FIELDS = {
@@ -56,7 +93,7 @@ RIGHTS = "r (read), w (write), t (take rights that it has), g (grant it rights)"
 
 def usage(verb):
     words, what, _ = COMMANDS[verb]
-    return "%s: %s" % (words, what)
+    return f"{words}: {what}"
 
 
 def parts_of(line):
@@ -64,8 +101,8 @@ def parts_of(line):
     verb, _, rest = line.strip().partition(" ")
     if verb not in COMMANDS:
         near = [name for name in COMMANDS if name.startswith(verb[:2])]
-        more = "Did you mean %s?" % " or ".join(near) if near else "`help` lists them."
-        raise Confused("There is no command %s. %s" % (verb, more))
+        more = f"Did you mean {' or '.join(near)}?" if near else "`help` lists them."
+        raise Confused(f"There is no command {verb}. {more}")
     kinds = COMMANDS[verb][2]
     words = rest.split(None, len(kinds) - 1) if kinds[-1:] == ["text"] else rest.split()
     least = sum(not kind.startswith("[") for kind in kinds)
@@ -80,7 +117,7 @@ def parts_of(line):
 def rights_of(word):
     """The letters of a word, in their order."""
     if not word or set(word) - set(LETTERS) or len(set(word)) < len(word):
-        raise Confused("%s: rights are letters, each once: %s" % (word, RIGHTS))
+        raise Confused(f"{word}: rights are letters, each once: {RIGHTS}")
     return "".join(letter for letter in LETTERS if letter in word)
 
 
@@ -93,7 +130,7 @@ def fields_of(verb, words, names, actor):
         elif field in VERTICES:
             fields[field] = names.serial_of(word)
         elif field == "kind" and word not in KINDS:
-            raise Confused("%s: a vertex is a document or a subject" % word)
+            raise Confused(f"{word}: a vertex is a document or a subject")
         else:
             fields[field] = word
     if verb == "look" and not words:

@@ -1,4 +1,5 @@
-"""What vertices are called: principals by their names, others by names that were given in the shell, or by their serials."""
+"""What vertices are called: principals by their names, others by names that were given in the
+shell, or by their serials."""
 
 import re
 
@@ -27,9 +28,10 @@ class Names:
     def give(self, word, serial):
         """Gives a vertex a name, in place of one that it has."""
         if not WORD.fullmatch(word) or word in COMMANDS:
-            raise Confused("%s: a name has letters and digits, begins with a letter, and is no command" % word)
+            what = "a name has letters and digits, begins with a letter, and is no command"
+            raise Confused(f"{word}: {what}")
         if word in self.principals:
-            raise Confused("%s is a principal's name" % word)
+            raise Confused(f"{word} is a principal's name")
         self.given = {name: owner for name, owner in self.given.items() if owner != serial}
         self.given[word] = serial
 
@@ -38,7 +40,8 @@ class Names:
             return int(word)
         found = self.principals.get(word, self.given.get(word))
         if found is None:
-            raise Confused("%s: no vertex has this name here; vertices have numbers, and `name NUMBER WORD` names one" % word)
+            what = "vertices have numbers, and `name NUMBER WORD` names one"
+            raise Confused(f"{word}: no vertex has this name here; {what}")
         return found
 
     def of(self, serial):
@@ -47,12 +50,13 @@ class Names:
             for name, owner in known.items():
                 if owner == serial:
                     return name
-        return "%d (%s, retired)" % (serial, self.retired[serial]) if serial in self.retired else str(serial)
+        was = self.retired.get(serial)
+        return f"{serial} ({was}, retired)" if was else str(serial)
 
     def both(self, serial):
         """What a vertex is called, with its serial."""
         name = self.of(serial)
-        return name if name[:1].isdigit() else "%s (%d)" % (name, serial)
+        return name if name[:1].isdigit() else f"{name} ({serial})"
 
     def all(self):
         return [*self.principals, *self.given]

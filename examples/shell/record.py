@@ -1,9 +1,10 @@
 """What the shell's clients did, as the lines of a run.
 
-A client's connection has a seat of its own, the least that is free. A server finishes each pending target by itself and
-collects all the time; in the run a `shade` follows each command that leaves a target, and two cycles come before a command
-that could find the vault full otherwise: they free whatever the server can have freed by then. Commands that were refused
-as full or as an error changed nothing, and are left out.
+A client's connection has a seat of its own, the least that is free. A server finishes each pending
+target by itself and collects all the time; in the run a `shade` follows each command that leaves a
+target, and two cycles come before a command that could find the vault full otherwise: they free
+whatever the server can have freed by then. Commands that were refused as full or as an error
+changed nothing, and are left out.
 """
 
 from shell.commands import line_of
@@ -16,7 +17,8 @@ CYCLES = [line_of({"op": "cycle"})] * 2
 
 
 class Record:
-    """The lines so far. It is no longer sure once a line may have been carried out whose answer is lost."""
+    """The lines so far. It is no longer sure once a line may have been carried out whose answer is
+    lost."""
 
     def __init__(self, config):
         self.rows = [line_of(config)]

@@ -4,16 +4,23 @@ from dataclasses import dataclass
 from pathlib import Path
 
 from shell import reasons, words
-from shell.commands import COMMANDS, FIELDS, Confused, fields_of, line_of, parts_of, rights_of, usage
+from shell.commands import COMMANDS, FIELDS, Confused, fields_of, line_of, parts_of, rights_of
+from shell.commands import usage
 from shell.names import Names
 from tgdoc_client import Client, Refused
 
-NOT_OURS = "This server is not the shell's own, and others may talk to it, so the shell does not know all that was done."
+NOT_OURS = "This server is not the shell's own, and others may talk to it, so the shell does not "
+NOT_OURS += "know all that was done."
+NOT_SURE = "A line may have been carried out whose answer was lost, so the shell is no longer sure "
+NOT_SURE += "what was done."
+LETTERS = "KIND is document or subject. RIGHTS are letters: r to read, w to write, t to take "
+LETTERS += "rights that it has, g to grant it rights."
 
 
 @dataclass
 class Person:
-    """A connection: its client, its seat in the record, its principal and the subject that it acts for."""
+    """A connection: its client, its seat in the record, its principal and the subject that it acts
+    for."""
 
     client: Client
     seat: int
@@ -36,16 +43,19 @@ class Session:
     def begin(self):
         """Says what there is, and lets the first principal sit."""
         config = self.vault.config
-        print("Principals: %s." % ", ".join(config["principals"]), end=" ")
-        print("".join("%s has %s over %s. " % (self.names.of(a), rights, self.names.of(b)) for a, rights, b in config.get("edges", [])), end="")
-        print("`help` lists the commands.")
+        names = ", ".join(config["principals"])
+        edges = [
+            f"{self.names.of(start)} has {rights} over {self.names.of(end)}."
+            for start, rights, end in config.get("edges", [])
+        ]
+        print(f"Principals: {names}.", *edges, "`help` lists the commands.")
         self.sit(config["principals"][0])
 
     def prompt(self):
         if self.now is None:
             return "> "
-        acts = " for %s" % self.names.of(self.now.agent) if self.now.agent else ""
-        return "%s%s> " % (self.names.of(self.now.serial), acts)
+        acts = f" for {self.names.of(self.now.agent)}" if self.now.agent else ""
+        return f"{self.names.of(self.now.serial)}{acts}> "
 
     def do(self, line):
         self.status = 0
@@ -67,7 +77,7 @@ class Session:
         except Refused as refusal:
             answer = refusal.answer
         if self.is_raw:
-            print("  sent      %s\n  answered  %s" % (line_of(fields), line_of(answer)))
+            print(f"  sent      {line_of(fields)}\n  answered  {line_of(answer)}")
         if "error" in answer:
             self.status = 1
         return answer
@@ -138,51 +148,54 @@ class Session:
         if not self.vault.record:
             raise Confused(NOT_OURS)
         if not self.vault.record.is_sure:
-            raise Confused("A line may have been carried out whose answer was lost, so the shell is no longer sure what was done.")
+            raise Confused(NOT_SURE)
         return self.vault.record
 
     def do_share(self, rights, over, who):
         self.record()
-        rights, end, start = rights_of(rights), self.names.serial_of(over), self.names.serial_of(who)
+        rights = rights_of(rights)
+        end, start = self.names.serial_of(over), self.names.serial_of(who)
         steps, verdict = self.vault.shared(start, rights, end)
-        has = "%s over %s" % (rights, self.names.of(end))
+        has = f"{rights} over {self.names.of(end)}"
         if verdict == "never":
-            print("Never: whatever all of them do, %s can never have %s." % (self.names.of(start), has))
+            print(f"Never: whatever all of them do, {self.names.of(start)} can never have {has}.")
         elif verdict:
-            print("Not known: %s." % verdict)
+            print(f"Not known: {verdict}.")
         elif not steps:
-            print("%s has %s already." % (self.names.of(start), has))
+            print(f"{self.names.of(start)} has {has} already.")
         else:
-            print("Yes, in %d %s:" % (len(steps), "step" if len(steps) == 1 else "steps"))
+            print(f"Yes, in {len(steps)} step{'s' if len(steps) > 1 else ''}:")
             print("\n".join(words.steps_told(steps, self.names, self.vault.following())))
 
     def do_who(self, rights, over):
         self.record()
         rights, end = rights_of(rights), self.names.serial_of(over)
         have, could, never = self.vault.who(rights, end)
-        print("%s over %s" % (rights, self.names.both(end)))
+        print(f"{rights} over {self.names.both(end)}")
         for head, serials in (("now", have), ("could come to have it", could), ("never", never)):
-            print("  %s: %s" % (head, words.listed(serials, self.names)))
+            print(f"  {head}: {words.listed(serials, self.names)}")
 
     def do_graph(self):
         self.record()
         shot = self.vault.picture()
         for serial, vertex in shot.vertices.items():
-            edges = [(end, rights) for (start, end), rights in shot.edges.items() if start == serial]
+            edges = [(end, it) for (start, end), it in shot.edges.items() if start == serial]
             unreached = "" if vertex.is_held else " (waits to be freed)"
             if vertex.kind == "subject" or edges:
-                print("  %s has %s%s" % (self.names.both(serial), words.edges_told(edges, self.names), unreached))
+                told = words.edges_told(edges, self.names)
+                print(f"  {self.names.both(serial)} has {told}{unreached}")
 
     def do_collect(self):
         rows = self.record()
         freed, steps, shot = self.vault.collected()
         print("The server's collector runs all the time, so there is nothing to do.")
-        print("In a run of the same lines, two cycles take %d steps and free %d; %d of %d slots are free then." % (steps, freed, shot.free_slots, rows.slots))
+        left = f"{shot.free_slots} of {rows.slots} slots are free then."
+        print(f"In a run of the same lines, two cycles take {steps} steps and free {freed}; {left}")
 
     def do_name(self, number, word):
         serial = self.names.serial_of(number)
         self.names.give(word, serial)
-        print("%d is called %s here." % (serial, word))
+        print(f"{serial} is called {word} here.")
 
     def do_lines(self, file=None):
         text = "".join(row + "\n" for row in self.record().rows)
@@ -192,8 +205,8 @@ class Session:
         try:
             Path(file).write_text(text)
         except OSError as error:
-            raise Confused("%s: %s" % (file, error.strerror)) from None
-        print("Written; `tgdoc run < %s` answers the lines, `tgdoc draw < %s` draws them." % (file, file))
+            raise Confused(f"{file}: {error.strerror}") from None
+        print(f"Written; `tgdoc run < {file}` answers the lines, `tgdoc draw < {file}` draws them.")
 
     def do_raw(self):
         self.is_raw = not self.is_raw
@@ -201,11 +214,11 @@ class Session:
 
     def do_help(self, verb=None):
         if verb is not None and verb not in COMMANDS:
-            raise Confused("There is no command %s." % verb)
+            raise Confused(f"There is no command {verb}.")
         if verb:
             print(usage(verb))
             return
         for told, what, _ in COMMANDS.values():
-            print("  %-26s %s" % (told, what))
-        print("KIND is document or subject. RIGHTS are letters: r to read, w to write, t to take rights that it has, g to grant it rights.")
+            print(f"  {told:<26} {what}")
+        print(LETTERS)
         print("Vertices are named by number, or by name if they have one.")

@@ -1,4 +1,5 @@
-"""Lines as they are typed: with history and completion at a terminal, printed behind their prompts otherwise."""
+"""Lines as they are typed: with history and completion at a terminal, printed behind their prompts
+otherwise."""
 
 import sys
 
@@ -17,7 +18,8 @@ def offered(session, before):
     if before[0] not in COMMANDS or len(before) > len(COMMANDS[before[0]][2]):
         return []
     kind = COMMANDS[before[0]][2][len(before) - 1].removeprefix("[")
-    known = {"person": list(session.names.principals), "vertex": session.names.all(), "kind": list(KINDS), "command": list(COMMANDS)}
+    known = {"person": list(session.names.principals), "vertex": session.names.all()}
+    known |= {"kind": list(KINDS), "command": list(COMMANDS)}
     return known.get(kind, ["r", "rw", "tg", "t", "g", "w"] if kind == "rights" else [])
 
 

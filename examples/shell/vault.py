@@ -41,24 +41,27 @@ class Vault:
         """What two cycles after all lines free, in how many steps, and the picture then."""
         rows = [*self.record.rows, *CYCLES]
         told = questions.answers(rows)[-2:]
-        return sum(it["freed"] for it in told), sum(it["steps"] for it in told), questions.drawn(rows)
+        freed, steps = (sum(it[key] for it in told) for key in ("freed", "steps"))
+        return freed, steps, questions.drawn(rows)
 
 
 @contextlib.contextmanager
 def own_server(config):
     """A server over a configuration, until the block ends."""
-    words = builds.words("serve", "--listen", "127.0.0.1:0", "--workers", str(WORKERS), "--connections", "1000000")
+    numbers = ("--workers", str(WORKERS), "--connections", "1000000")
+    words = builds.words("serve", "--listen", "127.0.0.1:0", *numbers)
     with tempfile.TemporaryFile() as said:
         # in a session of its own, so that Ctrl-C ends a line of the shell and not the server
-        how = {"stdin": subprocess.PIPE, "stdout": subprocess.PIPE, "stderr": said, "start_new_session": True}
-        with subprocess.Popen(words, **how) as server:
+        pipes = {"stdin": subprocess.PIPE, "stdout": subprocess.PIPE, "stderr": said}
+        with subprocess.Popen(words, **pipes, start_new_session=True) as server:
             try:
                 server.stdin.write(line_of(config).encode() + b"\n")
                 server.stdin.close()
                 told = server.stdout.readline()
                 if b"listening" not in told:
                     said.seek(0)
-                    sys.exit("The server does not start: %s" % (told or said.read()).decode(errors="replace").strip())
+                    why = (told or said.read()).decode(errors="replace").strip()
+                    sys.exit(f"The server does not start: {why}")
                 yield Vault(address_of(told), config)
             finally:
                 server.terminate()

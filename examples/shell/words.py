@@ -2,14 +2,18 @@
 
 ERRORS = {
     "no principal": "No principal has this name. `enrol NAME RIGHTS` makes one.",
-    "out of memory": "The server had no memory for this; it may have been carried out all the same.",
+    "out of memory": "The server had no memory for this; it may have been carried out all the "
+    "same.",
     "line too long": "The line is longer than 16,384 bytes.",
-    "bad field": "A word is not as the protocol wants it: a text has at most 4,096 bytes, a new name 1 to 32 letters a to z.",
+    "bad field": "A word is not as the protocol wants it: a text has at most 4,096 bytes, a new "
+    "name 1 to 32 letters a to z.",
     "no actor": "Nobody sits here: `as NAME` first.",
 }
 FULL = {
-    "slots": "There is no room: every slot is taken. The collector frees those of what nobody can reach; try again in a moment.",
-    "cells": "There is no room: every cell, which an edge takes, is taken. Try again in a moment, or give up some rights.",
+    "slots": "There is no room: every slot is taken. The collector frees those of what nobody can "
+    "reach; try again in a moment.",
+    "cells": "There is no room: every cell, which an edge takes, is taken. Try again in a moment, "
+    "or give up some rights.",
     "serials": "There is no room: all serials are given out.",
 }
 CAUSES = {
@@ -26,24 +30,27 @@ CAUSES = {
 
 def edges_told(edges, names):
     """A list of edges, each a serial and its rights."""
-    return "; ".join("%s over %s" % (rights, names.both(serial)) for serial, rights in edges) or "nothing"
+    return "; ".join(f"{rights} over {names.both(serial)}" for serial, rights in edges) or "nothing"
 
 
 def done_told(fields, answer, names, actor):
     """What was carried out."""
     op = fields["op"]
     over, rights, me = names.of(fields.get("over", 0)), fields.get("rights"), names.of(actor)
+    made, agent = answer.get("vertex"), names.of(fields.get("agent", 0))
     return {
-        "grant": lambda: "%s now has %s over %s." % (names.of(fields["to"]), rights, over),
-        "take": lambda: "%s now has %s over %s." % (me, rights, over),
-        "remove": lambda: "%s no longer has %s over %s." % (me, rights, over),
-        "create": lambda: "%s %s: %s has %s over it." % (fields["kind"].capitalize(), answer["vertex"], me, rights),
-        "enrol": lambda: "%s is a principal, vertex %d; %s has %s over it." % (fields["name"], answer["vertex"], me, rights),
+        "grant": lambda: f"{names.of(fields['to'])} now has {rights} over {over}.",
+        "take": lambda: f"{me} now has {rights} over {over}.",
+        "remove": lambda: f"{me} no longer has {rights} over {over}.",
+        "create": lambda: f"{fields['kind'].capitalize()} {made}: {me} has {rights} over it.",
+        "enrol": lambda: (
+            f"{fields['name']} is a principal, vertex {made}; {me} has {rights} over it."
+        ),
         "read": lambda: answer["text"] or "(an empty text)",
         "write": lambda: "Written.",
-        "look": lambda: "%s has %s." % (names.of(fields["at"]), edges_told(answer["edges"], names)),
-        "retire": lambda: "%s is a principal no longer; only `leave` and `bye` are left." % me,
-        "assume": lambda: "From now on the rights of %s count, until you `leave`." % names.of(fields["agent"]),
+        "look": lambda: f"{names.of(fields['at'])} has {edges_told(answer['edges'], names)}.",
+        "retire": lambda: f"{me} is a principal no longer; only `leave` and `bye` are left.",
+        "assume": lambda: f"From now on the rights of {agent} count, until you `leave`.",
         "leave": lambda: "Your own rights count again.",
         "bye": lambda: "Bye.",
     }[op]()
@@ -54,21 +61,23 @@ def refusal_told(answer, names, actor):
     if "full" in answer:
         return FULL[answer["full"]]
     if "error" in answer:
-        return ERRORS.get(answer["error"], "The server refuses the line: %s." % answer["error"])
+        return ERRORS.get(answer["error"], f"The server refuses the line: {answer['error']}.")
     if "missing" in answer:
-        return "Denied: %s has no %s over %s." % (names.of(answer["from"]), answer["missing"], names.of(answer["to"]))
+        who, what = names.of(answer["from"]), names.of(answer["to"])
+        return f"Denied: {who} has no {answer['missing']} over {what}."
     vertex = names.of(answer["vertex"]) if "vertex" in answer else None
-    return "Denied: %s." % CAUSES[answer["cause"]].format(actor=names.of(actor), vertex=vertex)
+    return f"Denied: {CAUSES[answer['cause']].format(actor=names.of(actor), vertex=vertex)}."
 
 
 def step_told(step, names):
     """A step of a derivation."""
     who, op = names.of(step["actor"]), step["op"]
     if op == "create":
-        return "%s makes a %s with %s over it" % (who, step["kind"], step["rights"])
-    what = "%s %ss %s over %s" % (who, op, step["rights"], names.of(step["over"]))
+        return f"{who} makes a {step['kind']} with {step['rights']} over it"
+    what = f"{who} {op}s {step['rights']} over {names.of(step['over'])}"
     other = step.get("from", step.get("to"))
-    return what if other is None else "%s %s %s" % (what, "from" if op == "take" else "to", names.of(other))
+    way = "from" if op == "take" else "to"
+    return what if other is None else f"{what} {way} {names.of(other)}"
 
 
 def steps_told(steps, names, following):
@@ -76,8 +85,8 @@ def steps_told(steps, names, following):
     for number, step in enumerate(steps, 1):
         made = ""
         if step["op"] == "create":
-            made, following = ", vertex %d" % following, following + 1
-        yield "  %d. %s%s" % (number, step_told(step, names), made)
+            made, following = f", vertex {following}", following + 1
+        yield f"  {number}. {step_told(step, names)}{made}"
 
 
 def listed(serials, names):

@@ -1,4 +1,4 @@
-"""Faults from outside: faults.c is built and loaded before a program, and some of its calls go wrong."""
+"""Faults from outside: faults.c is loaded before a program, and some of its calls go wrong."""
 
 import contextlib
 import functools
@@ -6,9 +6,13 @@ import itertools
 import os
 import subprocess
 import tempfile
+from collections import Counter
+from collections.abc import Callable, Iterator
 from concurrent.futures import ThreadPoolExecutor
 from pathlib import Path
-from typing import NamedTuple
+from typing import IO, Any, NamedTuple
+
+from checking import shown, tell_counts
 
 SOURCE = Path(__file__).resolve().with_name("faults.c")
 SECONDS = 60
@@ -24,9 +28,9 @@ WITHOUT_END = 1 << 62
 
 
 class Fault(NamedTuple):
-    """What goes wrong: the calls of a kind from the first to the last; the bytes that they move if they read or write;
-    the most that any does; and whose calls count, those of the program's first thread, those of its others, or of
-    all."""
+    """What goes wrong: the calls of a kind from the first to the last; the bytes that they move if
+    they read or write; the most that any does; and whose calls count, those of the program's first
+    thread, those of its others, or of all."""
 
     kind: str = ""
     first: int = 0
@@ -45,33 +49,36 @@ class Ran(NamedTuple):
 
 
 @functools.cache
-def folder():
+def folder() -> tempfile.TemporaryDirectory[str]:
     """A folder that is removed as the tests end."""
     return tempfile.TemporaryDirectory(prefix="faults-")
 
 
 @functools.cache
-def library():
+def library() -> Path:
     """The library, built by the toolchain's own clang."""
-    page = subprocess.run(["rt", "doc"], capture_output=True, text=True, timeout=SECONDS, check=True).stdout.strip()
-    tools = Path(page).parent / "toolchain" / "bin"
-    code, built = Path(folder().name) / "faults.o", Path(folder().name) / "faults.so"
-    subprocess.run([tools / "clang", "-O1", "-fPIC", "-c", SOURCE, "-o", code], timeout=SECONDS, check=True)
-    subprocess.run([tools / "ld.lld", "-shared", code, "-o", built], timeout=SECONDS, check=True)
+    how: dict[str, Any] = {"timeout": SECONDS, "check": True}
+    page = subprocess.run(["rt", "doc"], capture_output=True, text=True, **how).stdout.strip()
+    tools, place = Path(page).parent / "toolchain" / "bin", Path(folder().name)
+    code, built = place / "faults.o", place / "faults.so"
+    subprocess.run([tools / "clang", "-O1", "-fPIC", "-c", SOURCE, "-o", code], **how)
+    subprocess.run([tools / "ld.lld", "-shared", code, "-o", built], **how)
     return built
 
 
 @contextlib.contextmanager
-def at_fault(fault):
-    """The environment in which this goes wrong for a program, and the file in which each call that did is recorded."""
+def at_fault(fault: Fault) -> Iterator[tuple[dict[str, str], IO[bytes]]]:
+    """The environment in which this goes wrong, and the file that has a byte for each such call."""
     with tempfile.TemporaryFile() as told:
-        numbers = {"FIRST": fault.first, "LAST": fault.last, "MOVES": fault.moves, "MOST": fault.most, "TOLD": told.fileno()}
+        numbers = {"FIRST": fault.first, "LAST": fault.last, "MOVES": fault.moves}
+        numbers |= {"MOST": fault.most, "TOLD": told.fileno()}
         given = {name: str(number) for name, number in numbers.items()}
-        yield {**os.environ, **given, "LD_PRELOAD": str(library()), "FAULT": fault.kind, "WHOSE": fault.whose}, told
+        given |= {"LD_PRELOAD": str(library()), "FAULT": fault.kind, "WHOSE": fault.whose}
+        yield {**os.environ, **given}, told
 
 
 @contextlib.contextmanager
-def source_of(given):
+def source_of(given: bytes) -> Iterator[IO[bytes]]:
     """A file to read these bytes from."""
     with tempfile.TemporaryFile() as source:
         source.write(given)
@@ -79,29 +86,61 @@ def source_of(given):
         yield source
 
 
-def ran(program, words, given, fault):
+def ran(program: Path, words: list[str], given: bytes, fault: Fault) -> Ran:
     """A run on these bytes, in which this goes wrong."""
     with source_of(given) as source, at_fault(fault) as (environment, told):
-        done = subprocess.run(
-            [str(program), *words], stdin=source, stdout=subprocess.PIPE, stderr=subprocess.DEVNULL, env=environment, pass_fds=[told.fileno()], timeout=SECONDS
-        )
+        how: dict[str, Any] = {"stdin": source, "stderr": subprocess.DEVNULL, "env": environment}
+        how |= {"pass_fds": [told.fileno()], "timeout": SECONDS}
+        done = subprocess.run([str(program), *words], stdout=subprocess.PIPE, **how)
         return Ran(done.stdout, done.returncode, os.fstat(told.fileno()).st_size)
 
 
-def runs(program, words, given):
+def runs(program: Path, words: list[str], given: bytes) -> Callable[[Fault], Ran]:
     """Such runs, each at a fault of its own."""
     return functools.partial(ran, program, words, given)
 
 
-def each(attempt, fault, to_the_end=False):
-    """The results of the attempt if the call 1, 2, .. goes wrong, or all calls from it on, until none of that number is
-    made."""
+def each(
+    attempt: Callable[[Fault], Any], fault: Fault, to_the_end: bool = False
+) -> Iterator[tuple[int, Any]]:
+    """The results of the attempt if the call 1, 2, .. goes wrong, or all calls from it on, until
+    none of that number is made; a result has in `wrong` how many calls did."""
     library()
     with ThreadPoolExecutor(WORKERS) as pool:
         for start in itertools.count(1, BLOCK):
             numbers = range(start, start + BLOCK)
-            faults = [fault._replace(first=number, last=WITHOUT_END if to_the_end else number) for number in numbers]
+            lasts = [WITHOUT_END if to_the_end else number for number in numbers]
+            faults = [fault._replace(first=it, last=last) for it, last in zip(numbers, lasts)]
             for number, found in zip(numbers, pool.map(attempt, faults)):
                 if not found.wrong:
                     return
                 yield number, found
+
+
+def memory_refused(
+    attempt: Callable[[Fault], Ran],
+    kind_of: Callable[[Ran], str | None],
+    to_the_end: bool = False,
+) -> Counter[str]:
+    """The ends of runs, as each allocation fails in turn. A run of no kind is not allowed."""
+    counts: Counter[str] = Counter()
+    for number, found in each(attempt, Fault("memory"), to_the_end):
+        kind = kind_of(found)
+        at = f"at allocation {number}: status {found.status}, {shown(found.output)}"
+        assert kind is not None, at
+        counts[kind] += 1
+    return counts
+
+
+def tell_refused(counts: Counter[str]) -> None:
+    """Prints how many allocations were refused, and what came of it."""
+    tell_counts("allocations refused", counts)
+
+
+# The ends of a program that lacks memory before its first answer.
+BEFORE_ANY = {(b"", 2): "command line refused", (b"", 1): "no line read"}
+
+
+def one_of(ends: dict[tuple[bytes, int], str]) -> Callable[[Ran], str | None]:
+    """The kind of a run by its output and status."""
+    return lambda found: ends.get(found[:2])

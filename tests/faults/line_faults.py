@@ -1,34 +1,57 @@
 """Lines with faults, drawn at random: each form of a line with one or two of them.
 
-Faults are made in the fields (keys renamed, doubled, moved and removed, values of other types, values at and beyond each limit, escapes) and in the
-bytes (cut, spoilt, invalid UTF-8, a byte order mark, lengths about the longest). What is wrong with a line, if anything, is not said here.
+Faults are made in the fields (keys renamed, doubled, moved and removed, values of other types,
+values at and beyond each limit, escapes) and in the bytes (cut, spoilt, invalid UTF-8, a byte order
+mark, lengths about the longest). What is wrong with a line, if anything, is not said here.
 """
+
+from collections.abc import Iterable
+from random import Random
 
 from models.reading import EVENTS, LONGEST_LINE, MOST_LEVELS
 
-NUMBERS = """0 1 2 3 4 63 64 65 65536 65537 1048576 1048577 -1 -0 -3 -18446744073709551616 4294967296 9223372036854775807 9223372036854775808
-18446744073709551614 18446744073709551615 18446744073709551616 99999999999999999999 100000000000000000000 1.0 3.5 -0.0 1e0 3E0 1e+0 1e-0 0e0 0.3e1
-0e400 1e-400 1e308 -1e308 1.7976931348623158e308 1e-999999999999999999999 18446744073709551616.0 -18446744073709551616e0""".split()
-# The greatest whole number that is nearer to a float than to what is beyond the range is among them; the next one is not JSON.
+# A key and its value as JSON.
+Field = tuple[str, str]
+Fields = list[Field]
+
+NUMBERS = """0 1 2 3 4 63 64 65 65536 65537 1048576 1048577 -1 -0 -3 -18446744073709551616
+4294967296 9223372036854775807 9223372036854775808 18446744073709551614
+18446744073709551615 18446744073709551616 99999999999999999999 100000000000000000000 1.0 3.5
+-0.0 1e0 3E0 1e+0 1e-0 0e0
+0.3e1 0e400 1e-400 1e308 -1e308 1.7976931348623158e308 1e-999999999999999999999
+18446744073709551616.0 -18446744073709551616e0""".split()
+# The greatest whole number that is nearer to a float than to what is beyond the range is among
+# them; the next one is not JSON.
 LIMIT = 2**1024 - 2**970
-NUMBERS += ["9" * 19, "9" * 21, "9" * 308, "-" + "9" * 308, "%d" % (LIMIT - 1), "0." + "0" * 5000 + "1"]
-NO_NUMBERS = """1e400 -1e400 1e309 1.7976931348623159e308 1E999999999999999999999 01 00 +1 .5 1. 1e 1e+ 0x10 1_0 - -- NaN Infinity -Infinity nan ١ ３""".split()
-NO_NUMBERS += ["%d" % LIMIT, "-%d" % LIMIT, "9" * 309, "1" + "0" * 5000, "-" + "9" * 400]
-OTHER_VALUES = """null true false [] {} [1] [[]] [null] {"a":1} [{}] [[1,"tg",2]] ["alice"] [1.5] {"a":{"a":1}} "" "a" "1" "null" """.split()
-NO_VALUES = """True None nul 'a' a undefined [1,] [,1] {"a"} {"a":} {a:1} {1:1} {"a":1,} [1 "a""".split()
-LETTERS_OF_RIGHTS = ["rr", "ww", "tt", "gg", "gwg", "rwtgr", "R", "x", "r w", " r", "r\\n", "\\u0072", "\\u0072r", "ŕ", "rwtg", "gtwr", "", "g", "tw", "\\u0000"]
-WORDS = ["Subject", "document ", "object", "documen", "DOCUMENT", "\\u0064ocument", "alice\\u0000", "Alice", "bob", "carol", "hell\\u006f", "look", "LOOK", "bye"]
+NUMBERS += ["9" * 19, "9" * 21, "9" * 308, "-" + "9" * 308, str(LIMIT - 1), "0." + "0" * 5000 + "1"]
+NO_NUMBERS = """1e400 -1e400 1e309 1.7976931348623159e308 1E999999999999999999999 01 00 +1 .5 1. 1e
+1e+ 0x10 1_0 - -- NaN Infinity -Infinity nan ١ ３""".split()
+NO_NUMBERS += [str(LIMIT), str(-LIMIT), "9" * 309, "1" + "0" * 5000, "-" + "9" * 400]
+OTHER_VALUES = """null true false [] {} [1] [[]] [null] {"a":1} [{}] [[1,"tg",2]] ["alice"] [1.5]
+{"a":{"a":1}} "" "a" "1" "null" """.split()
+NO_VALUES = """True None nul 'a' a undefined [1,] [,1] {"a"} {"a":} {a:1} {1:1} {"a":1,} [1
+"a""".split()
+LETTERS_OF_RIGHTS = ["rr", "ww", "tt", "gg", "gwg", "rwtgr", "R", "x", "r w", " r", "r\\n"]
+LETTERS_OF_RIGHTS += ["\\u0072", "\\u0072r", "ŕ", "rwtg", "gtwr", "", "g", "tw", "\\u0000"]
+WORDS = ["Subject", "document ", "object", "documen", "DOCUMENT", "\\u0064ocument", "alice\\u0000"]
+WORDS += ["Alice", "bob", "carol", "hell\\u006f", "look", "LOOK", "bye"]
 WORDS += ["enrol", "Enrol", "enroll", "retire", "retir\\u0065", "retired"]
 WORDS += ["assume", "Assume", "assum\\u0065", "leave", "Leave", "leaves"]
-ESCAPES = ["\\u0061", "\\u00E9", "\\u00e9", "\\uD83D\\uDE00", "\\ud83d\\ude00", "\\ud83d", "\\ude00", "\\ude00\\ud83d", "\\ud83d\\u0061", "\\ud83d\\ud83d\\ude00"]
-ESCAPES += ["\\uD800\\uDC00", "\\uDBFF\\uDFFF", "\\udbff", "\\udfffx", "\\ud83d \\ude00", "\\uffff", "\\u0000", "\\u001F", "\\/", "\\\\", '\\"', "\\b\\f\\n\\r\\t"]
-ESCAPES += ["\\x61", "\\u61", "\\u006", "\\u00g1", "\\U0061", "\\u{61}", "\\a", "\\'", "\\0", "\\", "\\u", "\\u+061", "\\u 061"]
-BROKEN = [b"\x80", b"\xff", b"\xfe\xff", b"\xc0\xaf", b"\xc1\xbf", b"\xe0\x80\xaf", b"\xed\xa0\x80", b"\xed\xbf\xbf", b"\xf0\x80\x80\xaf", b"\xf4\x90\x80\x80"]
+ESCAPES = ["\\u0061", "\\u00E9", "\\u00e9", "\\uD83D\\uDE00", "\\ud83d\\ude00", "\\ud83d"]
+ESCAPES += ["\\ude00", "\\ude00\\ud83d", "\\ud83d\\u0061", "\\ud83d\\ud83d\\ude00"]
+ESCAPES += ["\\uD800\\uDC00", "\\uDBFF\\uDFFF", "\\udbff", "\\udfffx", "\\ud83d \\ude00", "\\uffff"]
+ESCAPES += ["\\u0000", "\\u001F", "\\/", "\\\\", '\\"', "\\b\\f\\n\\r\\t"]
+ESCAPES += ["\\x61", "\\u61", "\\u006", "\\u00g1", "\\U0061", "\\u{61}", "\\a", "\\'", "\\0", "\\"]
+ESCAPES += ["\\u", "\\u+061", "\\u 061"]
+BROKEN = [b"\x80", b"\xff", b"\xfe\xff", b"\xc0\xaf", b"\xc1\xbf", b"\xe0\x80\xaf", b"\xed\xa0\x80"]
+BROKEN += [b"\xed\xbf\xbf", b"\xf0\x80\x80\xaf", b"\xf4\x90\x80\x80"]
 BROKEN += [b"\xc3", b"\xe2\x82", b"\xf0\x9f\x98", b"\xf8\x88\x80\x80\x80", b"\xc3\x28"]
 WHOLE = ["é", "😀", "\u2028", "\ufeff", "\ufffd", "\uffff", "\U0010ffff", "\x7f", "\x80", "\xa0"]
 CONTROLS = [bytes([byte]) for byte in range(32) if byte != 10]
-KEYS = ["x", "Seat", "OP", "op ", "", "\\u0000", "actor", "next", "slots", "edges", "principals", "кey", "over", "from", "to", "at", "seat", "name", "text", "kind", "agent"]
-NAMES = ["a", "z" * 32, "z" * 33, "a1", "a b", "a-b", " a", "a\\n", "\\u0061", "a\\u0000", "é", "@", "`", "{", "ALICE"]
+KEYS = ["x", "Seat", "OP", "op ", "", "\\u0000", "actor", "next", "slots", "edges", "principals"]
+KEYS += ["кey", "over", "from", "to", "at", "seat", "name", "text", "kind", "agent"]
+NAMES = ["a", "z" * 32, "z" * 33, "a1", "a b", "a-b", " a", "a\\n", "\\u0061", "a\\u0000", "é", "@"]
+NAMES += ["`", "{", "ALICE"]
 GOOD = {
     "name": ['"alice"', '"bob"', '"carol"'],
     "rights": ['"r"', '"tg"', '"rwtg"', '"w"'],
@@ -44,50 +67,63 @@ GOOD = {
 }
 SERIALS = ["1", "2", "3", "4", "99"]
 
+
+def quoted(words: Iterable[str]) -> list[str]:
+    """Texts as JSON, if they need no escapes."""
+    return [f'"{word}"' for word in words]
+
+
 # Values at and beyond what a field may have; if a field is not named, those of numbers.
-SIXTY_FOUR = ",".join('"%s"' % ("a" * (number % 26 + 1) + "b" * (number // 26)) for number in range(64))
+SIXTY_FOUR = ",".join(quoted("a" * (it % 26 + 1) + "b" * (it // 26) for it in range(64)))
+BOBS = ["", "Alice", "al ice", "alice1", "ali\\u0063e", "bo\\u0062", "é", "alice\\n"]
+ODD_EDGES = """[1,"t",3] [0,"t",1] [1,"t",1] [1,"",2] [1,"t",2],[1,"r",2] [2,"t",1],[1,"t",2]"""
+BAD_EDGES = """[1,"tt",2] [1,"t",2,3] [1,"t"] [1.0,"t",2] [1,"t",2e0] [-1,"t",2] 1,"t",2
+    [1,"t",2],null ["1","t","2"] [1,null,2] [1,["t"],2] [2,"x",2]"""
 AT_A_LIMIT = {
-    "rights": ['"%s"' % word for word in LETTERS_OF_RIGHTS],
-    **dict.fromkeys(["kind", "op"], ['"%s"' % word for word in ["", *WORDS]]),
-    "name": ['"%s"' % word for word in ["", *WORDS, *NAMES]],
+    "rights": quoted(LETTERS_OF_RIGHTS),
+    **dict.fromkeys(["kind", "op"], quoted(["", *WORDS])),
+    "name": quoted(["", *WORDS, *NAMES]),
     "slots": ["0", "1", "2", "3", "65536", "65537"],
     "cells": ["0", "1", "1", "2", "1048576", "1048577"],
     "next": ["0", "1", "2", "3", "18446744073709551614", "18446744073709551615"],
-    "principals": ["[]", "[%s]" % SIXTY_FOUR, '[%s,"z"]' % SIXTY_FOUR, '["%s"]' % ("z" * 32), '["%s"]' % ("z" * 33), '["alice","alice"]', '["alice",null]']
-    + ['["%s","bob"]' % word for word in ["", "Alice", "al ice", "alice1", "ali\\u0063e", "bo\\u0062", "é", "alice\\n"]],
-    "edges": ["[%s]" % pair for pair in """[1,"t",3] [0,"t",1] [1,"t",1] [1,"",2] [1,"t",2],[1,"r",2] [2,"t",1],[1,"t",2]""".split() * 3]
-    + ["[%s]" % pair for pair in """[1,"tt",2] [1,"t",2,3] [1,"t"] [1.0,"t",2] [1,"t",2e0] [-1,"t",2] 1,"t",2 [1,"t",2],null ["1","t","2"] [1,null,2]
-        [1,["t"],2] [2,"x",2]""".split()],
+    "principals": [
+        *["[]", f"[{SIXTY_FOUR}]", f'[{SIXTY_FOUR},"z"]', f'["{"z" * 32}"]', f'["{"z" * 33}"]'],
+        *['["alice","alice"]', '["alice",null]'],
+        *[f'["{word}","bob"]' for word in BOBS],
+    ],
+    "edges": [f"[{edges}]" for edges in ODD_EDGES.split() * 3 + BAD_EDGES.split()],
 }
 
 
-def text_of_bytes(source):
+def text_of_bytes(source: Random) -> str:
     """A text about the longest, in letters of one to four bytes, some as escapes."""
-    letter, width, escaped = source.choice([("a", 1, "\\u0061"), ("é", 2, "\\u00e9"), ("€", 3, "\\u20AC"), ("😀", 4, "\\ud83d\\ude00")])
+    kinds = [("a", 1, "\\u0061"), ("é", 2, "\\u00e9"), ("€", 3, "\\u20AC")]
+    letter, width, escaped = source.choice([*kinds, ("😀", 4, "\\ud83d\\ude00")])
     size = source.choice([4092, 4095, 4096, 4097, 4100, 8192])
     count, rest = divmod(size, width)
     escapes = source.randint(0, 900)
-    return '"%s%s%s"' % (escaped * escapes, letter * (count - escapes), "b" * rest)
+    return f'"{escaped * escapes}{letter * (count - escapes)}{"b" * rest}"'
 
 
-def nested(source):
+def nested(source: Random) -> str:
     """A value that is nested about as deeply as it may be, one level being that of the line."""
-    depth = source.choice([1, 2, MOST_LEVELS - 2, MOST_LEVELS - 1, MOST_LEVELS, MOST_LEVELS + 1, 1000, 5000])
+    near = range(MOST_LEVELS - 2, MOST_LEVELS + 2)
+    depth: int = source.choice([1, 2, *near, 1000, 5000])
     if source.random() < 0.5:
         return "[" * depth + "]" * depth
     return '{"a":' * (depth - 1) + "{}" + "}" * (depth - 1)
 
 
-def text(source):
+def text(source: Random) -> str:
     """A text with something odd in it."""
     kind = source.randrange(5)
     if kind == 0:
         return text_of_bytes(source)
     inside = source.choice([ESCAPES, WHOLE, LETTERS_OF_RIGHTS, WORDS][kind - 1])
-    return '"%s"' % (inside if source.random() < 0.7 else "ab" + inside + "c")
+    return f'"{inside}"' if source.random() < 0.7 else f'"ab{inside}c"'
 
 
-def value(source):
+def value(source: Random) -> str:
     """Any value, as JSON or nearly so."""
     kind = source.randrange(10)
     if kind == 0:
@@ -97,148 +133,186 @@ def value(source):
     return text(source) if kind < 5 else source.choice(NUMBERS if kind < 8 else OTHER_VALUES)
 
 
-def rewritten(source, word):
-    """The text of a key or a value, some of its letters as escapes; nothing else is changed by that."""
-    return "".join(source.choice(["\\u%04x", "\\u%04X"]) % ord(letter) if source.random() < 0.5 else letter for letter in word)
+def rewritten(source: Random, word: str) -> str:
+    """The text of a key or value, some of its letters as escapes, which means the same."""
+
+    def escaped(letter: str) -> str:
+        code = f"{ord(letter):04x}"
+        return "\\u" + source.choice([code, code.upper()])
+
+    return "".join(escaped(it) if source.random() < 0.5 else it for it in word)
 
 
-def renamed(source, fields, at):
+# Faults in fields: each changes those at a place.
+
+
+def renamed(source: Random, fields: Fields, at: int) -> None:
     """Another key in place of one."""
-    fields[at] = (source.choice([source.choice(KEYS), fields[at][0].upper(), fields[at][0] + "s", fields[at][0][1:]]), fields[at][1])
+    key, given = fields[at]
+    fields[at] = (source.choice([source.choice(KEYS), key.upper(), key + "s", key[1:]]), given)
 
 
-def doubled(source, fields, at):
+def doubled(source: Random, fields: Fields, at: int) -> None:
     """A key once more, before or after, with the same value or another."""
-    fields.insert(source.randrange(len(fields) + 1), (fields[at][0], source.choice([fields[at][1], value(source)])))
+    key, given = fields[at]
+    place = source.randrange(len(fields) + 1)
+    fields.insert(place, (key, source.choice([given, value(source)])))
 
 
-def escaped_key(source, fields, at):
+def escaped_key(source: Random, fields: Fields, at: int) -> None:
     """A key with escapes for some of its letters."""
     fields[at] = (rewritten(source, fields[at][0]), fields[at][1])
 
 
-def escaped_value(source, fields, at):
+def escaped_value(source: Random, fields: Fields, at: int) -> None:
     """A text with escapes for some of its letters."""
-    name, given = fields[at]
-    fields[at] = (name, '"%s"' % rewritten(source, given[1:-1]) if given[:1] == '"' and "\\" not in given else given)
+    key, given = fields[at]
+    if given[:1] == '"' and "\\" not in given:
+        fields[at] = (key, f'"{rewritten(source, given[1:-1])}"')
 
 
-def removed(source, fields, at):
+def removed(_: Random, fields: Fields, at: int) -> None:
     """One field fewer."""
     del fields[at]
 
 
-def replaced(source, fields, at):
+def replaced(source: Random, fields: Fields, at: int) -> None:
     """Any other value."""
     fields[at] = (fields[at][0], value(source))
 
 
-def at_a_limit(source, fields, at):
+def at_a_limit(source: Random, fields: Fields, at: int) -> None:
     """A value at or beyond a limit of the field."""
-    name = fields[at][0]
-    near = [text_of_bytes(source)] if name == "text" else AT_A_LIMIT.get(name, NUMBERS if source.random() < 0.8 else NO_NUMBERS)
-    fields[at] = (name, source.choice(near))
+    key = fields[at][0]
+    if key == "text":
+        near = [text_of_bytes(source)]
+    else:
+        numbers = NUMBERS if source.random() < 0.8 else NO_NUMBERS
+        near = AT_A_LIMIT.get(key, numbers)
+    fields[at] = (key, source.choice(near))
 
 
-def wrapped(source, fields, at):
+def wrapped(source: Random, fields: Fields, at: int) -> None:
     """A value inside another, or with a little before or after it."""
-    name, given = fields[at]
-    fields[at] = (name, source.choice(["[%s]", '{"a":%s}', '"%s"', "[%s,1]", " %s ", "-%s", "%s.0", "%se0"]) % given)
+    key, given = fields[at]
+    around = [f"[{given}]", f'{{"a":{given}}}', f'"{given}"', f"[{given},1]", f" {given} "]
+    fields[at] = (key, source.choice([*around, f"-{given}", f"{given}.0", f"{given}e0"]))
 
 
-def moved_inside(source, fields, at):
+def moved_inside(source: Random, fields: Fields, at: int) -> None:
     """A field inside the value of another."""
-    fields[at] = (source.choice(KEYS), '{"%s":%s}' % fields[at])
+    key, given = fields[at]
+    fields[at] = (source.choice(KEYS), f'{{"{key}":{given}}}')
 
 
-def added(source, fields, at):
+def added(source: Random, fields: Fields, at: int) -> None:
     """One more field, which may be one of another op."""
     fields.insert(at, (source.choice(KEYS), value(source)))
 
 
-IN_FIELDS = [renamed, doubled, escaped_key, escaped_value, removed, replaced, at_a_limit, at_a_limit, at_a_limit, wrapped, moved_inside, added]
+IN_FIELDS = [renamed, doubled, escaped_key, escaped_value, removed, replaced]
+IN_FIELDS += [at_a_limit, at_a_limit, at_a_limit, wrapped, moved_inside, added]
 
 
-def cut(source, line):
+# Faults in bytes.
+
+
+def cut(source: Random, line: bytes) -> bytes:
     """The line up to some byte."""
     return line[: source.randrange(len(line) + 1)]
 
 
-def spoilt(source, line):
+def spoilt(source: Random, line: bytes) -> bytes:
     """Some bytes put in, or in place of others."""
     at, end = source.randrange(len(line) + 1), source.randint(0, 2)
-    odd = source.choice([source.choice(BROKEN), source.choice(CONTROLS), source.choice(WHOLE).encode(), bytes([source.choice([*range(10), *range(11, 256)])])])
+    kinds = [source.choice(BROKEN), source.choice(CONTROLS), source.choice(WHOLE).encode()]
+    odd = source.choice([*kinds, bytes([source.choice([*range(10), *range(11, 256)])])])
     return line[:at] + odd + line[at + end :]
 
 
-def marked(source, line):
+def marked(source: Random, line: bytes) -> bytes:
     """A byte order mark before the line, or what may pass for one."""
     return source.choice([b"\xef\xbb\xbf", b"\xfe\xff", b"\xff\xfe", b"\0"]) + line
 
 
-def trailed(source, line):
+def trailed(source: Random, line: bytes) -> bytes:
     """Something after the line, white space or not."""
-    return line + source.choice([b",", b"}", b"]", b"{}", b"null", b"x", b"\0", b"\r", b" \t\r", b"\x0b", b"\x0c", b"\xc2\xa0", b"//", b"/**/", b"#", line])
+    ends = [b",", b"}", b"]", b"{}", b"null", b"x", b"\0", b"\r", b" \t\r", b"\x0b", b"\x0c"]
+    return line + source.choice([*ends, b"\xc2\xa0", b"//", b"/**/", b"#", line])
 
 
-def spaced(source, line):
+def spaced(source: Random, line: bytes) -> bytes:
     """White space at a mark of the line, or what looks like it."""
     mark = source.choice([b",", b":", b"{", b"}"])
-    space = source.choice([b" ", b"\t", b"\r", b"  \t\r ", b"\x0c", b"\x0b", b"\xc2\xa0", b"\xe2\x80\xa8", b"/* */"])
+    spaces = [b" ", b"\t", b"\r", b"  \t\r ", b"\x0c", b"\x0b", b"\xc2\xa0", b"\xe2\x80\xa8"]
+    space = source.choice([*spaces, b"/* */"])
     return line.replace(mark, source.choice([mark + space, space + mark]))
 
 
-def enclosed(source, line):
+def enclosed(source: Random, line: bytes) -> bytes:
     """The line inside something else."""
-    return source.choice([b"[%s]", b'{"a":%s}', b'"%s"', b"(%s)", b" %s ", b"[%s", b"%s]"]) % line
+    around = [b"[%s]", b'{"a":%s}', b'"%s"', b"(%s)", b" %s ", b"[%s", b"%s]"]
+    return source.choice(around) % line
 
 
-def misspelt(source, line):
+def misspelt(source: Random, line: bytes) -> bytes:
     """Some marks of the line in another form, or none in their place."""
-    return line.replace(*source.choice([(b'"', b"'"), (b":", b"="), (b",", b";"), (b",", b""), (b'"', b""), (b"}", b",}"), (b"{", b"{,")]), source.randint(1, 3))
+    forms = [(b'"', b"'"), (b":", b"="), (b",", b";"), (b",", b""), (b'"', b"")]
+    old, new = source.choice([*forms, (b"}", b",}"), (b"{", b"{,")])
+    return line.replace(old, new, source.randint(1, 3))
 
 
-def turned(source, line):
+def turned(source: Random, line: bytes) -> bytes:
     """One bit turned."""
-    at = source.randrange(len(line)) if line else 0
-    return line[:at] + bytes([line[at] ^ 1 << source.randrange(8)]) + line[at + 1 :] if line else line
+    if not line:
+        return line
+    at = source.randrange(len(line))
+    return line[:at] + bytes([line[at] ^ 1 << source.randrange(8)]) + line[at + 1 :]
 
 
-def lengthened(source, line):
+def lengthened(source: Random, line: bytes) -> bytes:
     """White space up to the longest line, or a byte more, which ends a run."""
     size = source.choice([LONGEST_LINE - 1] * 4 + [LONGEST_LINE] * 4 + [LONGEST_LINE + 1])
-    return line + b" " * (size - len(line)) if source.random() < 0.5 else b"\t" * (size - len(line)) + line
+    return line.ljust(size) if source.random() < 0.5 else line.rjust(size, b"\t")
 
 
-IN_BYTES = [cut, spoilt, spoilt, spoilt, marked, trailed, spaced, enclosed, misspelt, turned, turned]
+IN_BYTES = [cut, spoilt, spoilt, spoilt, marked, trailed, spaced, enclosed, misspelt]
+IN_BYTES += [turned, turned]
 
 
-def fields_of(source, form):
-    """The fields of a form, each with its value as JSON, in any order. The values are good, but for some of a configuration, whose faults are many."""
-    names = {"config": ["principals"], "goal": ["from", "to", "rights"]}.get(form) or EVENTS[form]
-    others = ["edges", "slots", "cells", "next"] if form == "config" else ["seat"] if form in EVENTS else []
-    names = [*names, *[name for name in others if source.random() < 0.5]]
-    values = [AT_A_LIMIT if form == "config" and source.random() < 0.3 else GOOD for _ in names]
-    fields = [(name, source.choice(given.get(name, SERIALS))) for name, given in zip(names, values)]
-    fields += [("op", '"%s"' % form)] if form in EVENTS else []
+def fields_of(source: Random, form: str) -> Fields:
+    """The fields of a form, each with its value as JSON, in any order. The values are good, but for
+    some of a configuration, whose faults are many."""
+    known = {"config": ["principals"], "goal": ["from", "to", "rights"]}.get(form) or EVENTS[form]
+    others = ["seat"] if form in EVENTS else []
+    others = ["edges", "slots", "cells", "next"] if form == "config" else others
+    names = [*known, *[name for name in others if source.random() < 0.5]]
+    is_config = form == "config"
+    values = [AT_A_LIMIT if is_config and source.random() < 0.3 else GOOD for _ in names]
+    fields = [(it, source.choice(given.get(it, SERIALS))) for it, given in zip(names, values)]
+    fields += [("op", f'"{form}"')] if form in EVENTS else []
     source.shuffle(fields)
     return fields
 
 
-def joined(fields):
+def object_of(fields: Iterable[Field]) -> bytes:
     """The line of these fields."""
-    return ("{%s}" % ",".join('"%s":%s' % field for field in fields)).encode()
+    inside = ",".join(f'"{key}":{given}' for key, given in fields)
+    return f"{{{inside}}}".encode()
 
 
-def with_faults(source, fields):
+def with_faults(source: Random, fields: Fields) -> bytes:
     """A line with one or two faults; perhaps with none that matters."""
-    in_fields, in_bytes = source.choice([(1, 0), (1, 0), (2, 0), (2, 0), (2, 0), (0, 1), (0, 2), (1, 1)])
+    counts = [(1, 0), (1, 0), (2, 0), (2, 0), (2, 0), (0, 1), (0, 2), (1, 1)]
+    in_fields, in_bytes = source.choice(counts)
     for _ in range(in_fields):
-        # The fields besides the op are the more often at fault, since an unknown op hides what is wrong with them.
-        places = [at for at, field in enumerate(fields) if field[0] != "op" or source.random() < 0.2]
+        # The fields besides the op are the more often at fault, since an unknown op hides what is
+        # wrong with them.
+        ops = [field[0] == "op" for field in fields]
+        places = [at for at, is_op in enumerate(ops) if not is_op or source.random() < 0.2]
         if places:
             source.choice(IN_FIELDS)(source, fields, source.choice(places))
-    line = joined(fields)
+    line = object_of(fields)
     for _ in range(in_bytes):
         line = source.choice(IN_BYTES)(source, line)
     if source.random() < 0.02:

@@ -1,9 +1,13 @@
-"""Lines with their answers for refused.py: each command, cause, fault and kind of answer at least once.
+"""Lines with their answers for refused.py: each command, cause, fault and kind of answer at least
+once.
 
-The answers are written by hand from docs/PROTOCOL.md, the steps of cycles from the table of docs/COLLECTOR.md.
+The answers are written by hand from docs/PROTOCOL.md, the steps of cycles from the table of
+docs/COLLECTOR.md.
 """
 
 from typing import NamedTuple
+
+from running import joined
 
 LAST_SERIAL = 18446744073709551614
 
@@ -19,105 +23,113 @@ MARK = b'{"ended":false,"freed":0,"phase":"mark"}'
 SWEEP = b'{"ended":false,"freed":0,"phase":"sweep"}'
 
 
+Pairs = list[tuple[bytes, bytes]]
+
+
 class Script(NamedTuple):
     """An opening, and lines with their answers."""
 
     opening: bytes
-    pairs: list
+    pairs: Pairs
 
-    def lines(self):
+    def lines(self) -> list[bytes]:
         return [line for line, _ in self.pairs]
 
-    def answers(self):
+    def answers(self) -> list[bytes]:
         return [answer for _, answer in self.pairs]
 
+    def given(self) -> bytes:
+        """The opening and the lines, each with its line feed."""
+        return joined(self.opening, *self.lines())
 
-def take(rights, over, source, seat=0):
-    return b'{"from":%d,"op":"take","over":%d,"rights":"%s","seat":%d}' % (source, over, rights, seat)
+
+def take(rights: bytes, over: int, source: int, seat: int = 0) -> bytes:
+    fields = (source, over, rights, seat)
+    return b'{"from":%d,"op":"take","over":%d,"rights":"%s","seat":%d}' % fields
 
 
-def grant(rights, over, to, seat=0):
+def grant(rights: bytes, over: int, to: int, seat: int = 0) -> bytes:
     return b'{"op":"grant","over":%d,"rights":"%s","seat":%d,"to":%d}' % (over, rights, seat, to)
 
 
-def create(rights, kind=b"document", seat=0):
+def create(rights: bytes, kind: bytes = b"document", seat: int = 0) -> bytes:
     return b'{"kind":"%s","op":"create","rights":"%s","seat":%d}' % (kind, rights, seat)
 
 
-def remove(rights, over, seat=0):
+def remove(rights: bytes, over: int, seat: int = 0) -> bytes:
     return b'{"op":"remove","over":%d,"rights":"%s","seat":%d}' % (over, rights, seat)
 
 
-def read(over):
+def read(over: int) -> bytes:
     return b'{"op":"read","over":%d}' % over
 
 
-def write(over, text):
+def write(over: int, text: bytes) -> bytes:
     return b'{"op":"write","over":%d,"text":"%s"}' % (over, text)
 
 
-def look(at, seat=0):
+def look(at: int, seat: int = 0) -> bytes:
     return b'{"at":%d,"op":"look","seat":%d}' % (at, seat)
 
 
-def hello(name, seat=0):
+def hello(name: bytes, seat: int = 0) -> bytes:
     return b'{"name":"%s","op":"hello","seat":%d}' % (name, seat)
 
 
-def enrol(name, rights, seat=0):
+def enrol(name: bytes, rights: bytes, seat: int = 0) -> bytes:
     return b'{"name":"%s","op":"enrol","rights":"%s","seat":%d}' % (name, rights, seat)
 
 
-def alone(op, seat=0):
+def alone(op: bytes, seat: int = 0) -> bytes:
     """The line of an op that has no field of its own."""
     return b'{"op":"%s","seat":%d}' % (op, seat)
 
 
-def assume(agent, seat=0):
+def assume(agent: int, seat: int = 0) -> bytes:
     return b'{"agent":%d,"op":"assume","seat":%d}' % (agent, seat)
 
 
-def welcome(vertex):
+def welcome(vertex: int) -> bytes:
     return b'{"ok":"hello","vertex":%d}' % vertex
 
 
-def created(vertex):
+def created(vertex: int) -> bytes:
     return b'{"ok":"created","vertex":%d}' % vertex
 
 
-def shaded(vertex):
+def shaded(vertex: int) -> bytes:
     return b'{"shaded":%d}' % vertex
 
 
-def swept(freed, steps):
+def swept(freed: int, steps: int) -> bytes:
     return b'{"freed":%d,"steps":%d}' % (freed, steps)
 
 
-def text(written):
+def text(written: bytes) -> bytes:
     return b'{"ok":"text","text":"%s"}' % written
 
 
-def edges(listed):
+def edges(listed: bytes) -> bytes:
     return b'{"edges":[%s],"ok":"edges"}' % listed
 
 
-def missing(rule, source, rights, to):
+def missing(rule: bytes, source: int, rights: bytes, to: int) -> bytes:
     return b'{"denied":"%s","from":%d,"missing":"%s","to":%d}' % (rule, source, rights, to)
 
 
-def caused(rule, cause):
+def caused(rule: bytes, cause: bytes) -> bytes:
     return b'{"cause":"%s","denied":"%s"}' % (cause, rule)
 
 
-def no_document(rule, vertex):
+def no_document(rule: bytes, vertex: int) -> bytes:
     return b'{"cause":"not document","denied":"%s","vertex":%d}' % (rule, vertex)
 
 
-def no_subject(vertex):
+def no_subject(vertex: int) -> bytes:
     return b'{"cause":"not subject","denied":"assume","vertex":%d}' % vertex
 
 
-def error(fault):
+def error(fault: bytes) -> bytes:
     return b'{"error":"%s"}' % fault
 
 
@@ -134,7 +146,8 @@ SEATS = [
     (hello(b"bob", 1), welcome(2)),
 ]
 
-# Document 3 is given up, outlives one cycle, and is freed in the next, step by step: 4 is put into its slot behind the sweep, 5 ahead of it.
+# Document 3 is given up, outlives one cycle, and is freed in the next, step by step: 4 is put into
+# its slot behind the sweep, 5 ahead of it.
 COLLECTING = [
     (create(b"r"), created(3)),
     (read(3), BUSY),
@@ -229,8 +242,8 @@ FREEING = [
     (alone(b"bye", 1), BYE),
 ]
 
-# Carol takes the last slot and the last cell. She retires; her vertex, which was shaded, is freed by two cycles, and
-# her name is another's.
+# Carol takes the last slot and the last cell. She retires; her vertex, which was shaded, is freed
+# by two cycles, and her name is another's.
 PRINCIPALS = [
     (enrol(b"carol", b"t"), NO_ACTOR),
     (hello(b"alice"), welcome(1)),
@@ -273,8 +286,9 @@ TOO_LONG = [(b"x" * 16385, error(b"line too long"))]
 
 MOST_OF_RUN = SEATS + COLLECTING + COMMANDS + DENIALS + REFUSED_LINES
 
-# Each command, cause, fault and answer, but `{"full":"serials"}`, which the second script has, `crowded`, which the
-# third has, what is asked for an agent, which the fourth has, and `too many lines`.
+# Each command, cause, fault and answer, but `{"full":"serials"}`, which the second script has,
+# `crowded`, which the third has, what is asked for an agent, which the fourth has, and `too many
+# lines`.
 RUN = Script(OPENING, MOST_OF_RUN + LONG_TEXTS + FREEING + PRINCIPALS + TOO_LONG)
 WITHOUT_ERRORS = Script(
     b'{"next":%d,"principals":["alice"]}' % LAST_SERIAL,
@@ -302,8 +316,9 @@ CROWDED = Script(
         (enrol(b"zoe", b"r"), caused(b"enrol", b"crowded")),
     ],
 )
-# Alice acts for 3, a subject that she made, and retires at another seat. It works on until she leaves it: then the
-# first cycle frees her vertex, which was not shaded, and the second one those that she had.
+# Alice acts for 3, a subject that she made, and retires at another seat. It works on until she
+# leaves it: then the first cycle frees her vertex, which was not shaded, and the second one those
+# that she had.
 ACTING = Script(
     b'{"cells":8,"principals":["alice","bob"],"slots":6}',
     [
@@ -347,7 +362,15 @@ ACTING = Script(
 # The same without what is long, for reads and writes of few bytes.
 PLAIN = Script(OPENING, MOST_OF_RUN + FREEING + PRINCIPALS)
 # Some hundred bytes, for a cut at each of them.
-SHORT = Script(OPENING, [SEATS[0], SEATS[5], COLLECTING[0], COLLECTING[3], (write(3, b"hi"), missing(b"write", 1, b"w", 3)), (look(1), edges(b'[2,"tg"],[3,"r"]')), (alone(b"cycle"), swept(0, 16))])
+SHORT = Script(
+    OPENING,
+    [
+        *[SEATS[0], SEATS[5], COLLECTING[0], COLLECTING[3]],
+        (write(3, b"hi"), missing(b"write", 1, b"w", 3)),
+        (look(1), edges(b'[2,"tg"],[3,"r"]')),
+        (alone(b"cycle"), swept(0, 16)),
+    ],
+)
 
 REFUSED_OPENINGS = [
     (b'{"principals":[]}', 1),
@@ -362,7 +385,8 @@ REFUSED_OPENINGS = [
     (b'{"principals":["alice"],"slots":65537}', 10),
 ]
 
-# Alice may not take from bob; bob and carol help her by a vertex that she creates, as in examples/README.md. Each of the seven commands is a step.
+# Alice may not take from bob; bob and carol help her by a vertex that she creates, as in
+# examples/README.md. Each of the seven commands is a step.
 DERIVED = b'{"edges":[[2,"t",1],[3,"g",2]],"principals":["alice","bob","carol"]}'
 STEPS = [
     b'{"actor":3,"kind":"document","op":"create","rights":"rw"}',
@@ -379,43 +403,70 @@ STEPS = [
 SHARED = b'{"verdict":"shared"}'
 
 
-def goal(source, rights, to):
+def goal(source: int, rights: bytes, to: int) -> bytes:
     return b'{"from":%d,"rights":"%s","to":%d}' % (source, rights, to)
 
 
-def goal_missing(rights):
+def goal_missing(rights: bytes) -> bytes:
     return b'{"missing":"%s","verdict":"goal missing"}' % rights
 
 
 class Audit(NamedTuple):
     """The lines of an audit and its one answer."""
 
-    lines: list
+    lines: list[bytes]
     answer: bytes
 
 
+def derived(answer: bytes, *steps: bytes, rights: bytes = b"r") -> Audit:
+    """An audit of steps from this opening, for rights of alice over vertex 4."""
+    return Audit([DERIVED, goal(1, rights, 4), *steps], answer)
+
+
+def stopped(index: int, verdict: bytes) -> bytes:
+    return b'{"step":%d,"verdict":"%s"}' % (index, verdict)
+
+
+MAKES = b'{"actor":1,"kind":"%s","op":"create","rights":"%s"}'
+READS = b'{"actor":1,"op":"read","over":%d}'
+LACKS = b'{"denied":"take","from":1,"missing":"t","step":1,"to":5,"verdict":"step denied"}'
+CAUSED = b'{"cause":"%s","denied":"%s","step":%d,"verdict":"step denied"%s}'
 AUDITS = [
-    Audit([DERIVED, goal(1, b"r", 4), *STEPS], SHARED),
-    Audit([DERIVED, goal(1, b"wr", 4), *STEPS], goal_missing(b"w")),
-    Audit([DERIVED, goal(1, b"", 4), *STEPS[:2], b'{"actor":4,"op":"look","at":4}'], b'{"step":2,"verdict":"actor not subject"}'),
-    Audit([DERIVED, goal(1, b"r", 4), *STEPS[:1], STEPS[7]], b'{"denied":"take","from":1,"missing":"t","step":1,"to":5,"verdict":"step denied"}'),
-    Audit([DERIVED, goal(1, b"r", 4), b'{"actor":1,"kind":"subject","op":"create","rights":""}'], b'{"cause":"empty","denied":"create","step":0,"verdict":"step denied"}'),
-    Audit([DERIVED, goal(1, b"r", 4), b'{"actor":1,"op":"read","over":1}'], b'{"cause":"not distinct","denied":"read","step":0,"verdict":"step denied"}'),
-    Audit(
-        [DERIVED, goal(1, b"r", 4), b'{"actor":1,"kind":"subject","op":"create","rights":"r"}', b'{"actor":1,"op":"read","over":4}'],
-        b'{"cause":"not document","denied":"read","step":1,"verdict":"step denied","vertex":4}',
+    derived(SHARED, *STEPS),
+    derived(goal_missing(b"w"), *STEPS, rights=b"wr"),
+    derived(
+        stopped(2, b"actor not subject"),
+        *STEPS[:2],
+        b'{"actor":4,"op":"look","at":4}',
+        rights=b"",
     ),
-    Audit([b'{"next":18446744073709551615,"principals":["alice"]}', goal(1, b"", 1), b'{"actor":1,"kind":"document","op":"create","rights":"r"}'], b'{"step":0,"verdict":"step full"}'),
-    Audit([DERIVED, goal(1, b"r", 4), b'{"actor":1,"op":"hello"}'], error(b"unknown op")),
-    Audit([DERIVED, goal(1, b"r", 4), b'{"actor":1,"name":"dave","op":"enrol","rights":"r"}'], error(b"unknown op")),
-    Audit([DERIVED, goal(1, b"r", 4), b'{"actor":1,"op":"retire"}'], error(b"unknown op")),
-    Audit([DERIVED, goal(1, b"r", 4), b'{"actor":2,"agent":1,"op":"assume"}'], error(b"unknown op")),
-    Audit([DERIVED, goal(1, b"r", 4), b'{"actor":1,"op":"leave"}'], error(b"unknown op")),
+    derived(LACKS, STEPS[0], STEPS[7]),
+    derived(CAUSED % (b"empty", b"create", 0, b""), MAKES % (b"subject", b"")),
+    derived(CAUSED % (b"not distinct", b"read", 0, b""), READS % 1),
+    derived(
+        CAUSED % (b"not document", b"read", 1, b',"vertex":4'),
+        MAKES % (b"subject", b"r"),
+        READS % 4,
+    ),
+    Audit(
+        [
+            b'{"next":18446744073709551615,"principals":["alice"]}',
+            goal(1, b"", 1),
+            MAKES % (b"document", b"r"),
+        ],
+        stopped(0, b"step full"),
+    ),
+    derived(error(b"unknown op"), b'{"actor":1,"op":"hello"}'),
+    derived(error(b"unknown op"), b'{"actor":1,"name":"dave","op":"enrol","rights":"r"}'),
+    derived(error(b"unknown op"), b'{"actor":1,"op":"retire"}'),
+    derived(error(b"unknown op"), b'{"actor":2,"agent":1,"op":"assume"}'),
+    derived(error(b"unknown op"), b'{"actor":1,"op":"leave"}'),
     Audit([DERIVED, b'{"from":1}'], error(b"missing field")),
     Audit([b'{"principals":[]}', goal(1, b"r", 4)], b'{"error":"config","fault":1}'),
 ]
 
-# Two clients of a server, one after the other. A talk shades by itself; `seat` is read and not used.
+# Two clients of a server, one after the other. A talk shades by itself; `seat` is read and not
+# used.
 TALKS = [
     [
         (read(3), NO_ACTOR),

@@ -1,24 +1,38 @@
 """A look at the sources: no body reports without cause that memory ran out.
 
-A body may always report that memory ran out, so no contract refuses one that makes it up. Here each place at which such a fault is made is found, and has to
-be exactly where the refusal of a call is handed on: in the arm `Err(_) =>` of a match on the call, in the block of a `let Ok(..) = .. else` or of an `if ..
-.is_err()`, in a `map_err`, or in the arm of another such fault. And it has to be in the list below, by its file and function, by the call or the fault that is
-handed on, and by the fault that is made of it. What `?` hands on is made nowhere. Modules of tests are left out.
+A body may always report that memory ran out, so no contract refuses one that makes it up. Here each
+place at which such a fault is made is found, and has to be exactly where the refusal of a call is
+handed on: in the arm `Err(_) =>` of a match on the call, in the block of a `let Ok(..) = .. else`
+or of an `if .. .is_err()`, in a `map_err`, or in the arm of another such fault. And it has to be in
+the list below, by its file and function, by the call or the fault that is handed on, and by the
+fault that is made of it. What `?` hands on is made nowhere. Modules of tests are left out.
 
-Nor does a contract say how much room a body asks for, of which there may be too little or none. So each size that a list is made with, or that room is taken
-for, is in another list, and a call that asks for what nobody has is seen there.
+Nor does a contract say how much room a body asks for, of which there may be too little or none. So
+each size that a list is made with, or that room is taken for, is in another list, and a call that
+asks for what nobody has is seen there.
 
 The sources are read as text, laid out as `rt fmt` does it.
 """
 
 import re
 from collections import Counter
+from collections.abc import Iterator
 from pathlib import Path
+from typing import Any
 
-ROOT = Path(__file__).resolve().parents[2]
+from checking import Tests, same
+
+# A place at which it is reported that memory ran out: file, function, what is handed on, and what
+# is made of it.
+Place = tuple[str, str, str | None, str]
+# A size: file, function, call, and what it is given but for the allocator.
+Size = tuple[str, str, str, str]
 
 # What says that memory ran out, if it is a value and not a type.
-WANT = re.compile(r"\b(?:\w+::(?:OutOfMemory|NoMemory|NoRoom)|(?:Heard|Said)::Nothing)\b|(?<!: )\bAllocError\b(?!>)")
+WANT = re.compile(
+    r"\b(?:\w+::(?:OutOfMemory|NoMemory|NoRoom)|(?:Heard|Said)::Nothing)\b"
+    r"|(?<!: )\bAllocError\b(?!>)"
+)
 NONE = re.compile(r"\bNone\b")
 
 # Functions, and the results of two, whose `None` says so too.
@@ -51,7 +65,8 @@ LISTED = {
     ("tg_share/src/session.rt", "carry_out", "self.log.try_reserve", "AskFault::OutOfMemory"): 1,
     ("tg_share/src/session.rt", "carry_out", "command.copy", "AskFault::OutOfMemory"): 1,
     ("tg_share/src/closing.rt", "close", "Vec::with_capacity", "Closed::NoRoom"): 1,
-    # Lines: each lack of memory is one fault, and the parser says which of its own errors mean that memory ran out.
+    # Lines: each lack of memory is one fault, and the parser says which of its own errors mean that
+    # memory ran out.
     ("tg_wire/src/fault.rt", "from", "AllocError", "WireFault::OutOfMemory"): 1,
     ("tg_wire/src/fault.rt", "from", "AllocFailed", "WireFault::OutOfMemory"): 1,
     ("tg_wire/src/object.rt", "json", "e.is_memory", "WireFault::OutOfMemory"): 1,
@@ -71,7 +86,8 @@ LISTED = {
     ("tgdoc/src/audit.rt", "answer", "write_verdict", "WireFault::OutOfMemory"): 1,
     ("tgdoc/src/audit.rt", "judge", "check", "WireFault::OutOfMemory"): 1,
     ("tgdoc/src/audit.rt", "take_steps", "steps.push", "WireFault::OutOfMemory"): 1,
-    # A server: its buffer of lines; what a worker was refused, and what the server itself was, threads among it; settling; a rebase.
+    # A server: its buffer of lines; what a worker was refused, and what the server itself was,
+    # threads among it; settling; a rebase.
     ("tg_serve/src/listening.rt", "read_vault", "InputLines::new", "WireFault::OutOfMemory"): 1,
     ("tg_serve/src/serve.rt", "work", "serve_one", "None"): 1,
     ("tg_serve/src/serve.rt", "serve_in_threads", FLAG, "None"): 1,
@@ -88,7 +104,8 @@ LISTED = {
     ("tg_load/src/run.rt", "run_next", "ran", "Found::NoMemory"): 1,
 }
 
-# Each size that a list or a buffer is made with, or that room is taken for, by file, function, call, and the arguments without the allocator.
+# Each size that a list or a buffer is made with, or that room is taken for, by file, function,
+# call, and the arguments without the allocator.
 SIZES = {
     ("tg_cells/src/cells.rt", "with_key", "vec!", "owners as usize"): 1,
     ("tg_collect/src/opening.rt", "empty_seats", "Vec::with_capacity", "SEATS as usize"): 1,
@@ -113,25 +130,30 @@ SIZES = {
 }
 
 # A call that takes a size, and a list of so many equal elements.
-SIZED = re.compile(r"((?:\w+::|[\w.]+\.)(?:with_capacity|with_capacity_in|reserve|try_reserve|reserve_exact|try_reserve_exact|resize))\(|(vec!)\[in [^;]*;[^;\]]*;")
+SIZED = re.compile(
+    r"((?:\w+::|[\w.]+\.)(?:with_capacity|with_capacity_in|reserve|try_reserve|reserve_exact"
+    r"|try_reserve_exact|resize))\(|(vec!)\[in [^;]*;[^;\]]*;"
+)
 
 FUNCTION = re.compile(r"\bfn (\w+)")
 CONVERSION = re.compile(r"fn from\(_\w*: (Alloc\w+)")
-# What follows a pattern: the rest of it, and the arrow of its arm, another pattern, or the value that it is matched with.
+# What follows a pattern: the rest of it, and the arrow of its arm, another pattern, or the value
+# that it is matched with.
 BEHIND_A_PATTERN = re.compile(r"(?:\s*(?:\{[^{}]*\}|\([^()]*\)))?\)*\s*(?:=>|\||=[^=])")
 PATTERN = re.compile(r"[\w:]+(?:\([^()]*\)|\s\{[^{}]*\})?$")
 # The name before the fields of a value.
 NAME = re.compile(r"(?:^|[\s(>])(?:\w+::)*[A-Z]\w*$")
 
 
-def code_of(text):
+def code_of(text: str) -> str:
     """The code without comments, texts, characters and imports."""
     bare = re.sub(r'//[^\n]*|b?"(?:[^"\\]|\\.)*"|b?\'(?:[^\'\\]|\\.)\'', "", text, flags=re.DOTALL)
     return re.sub(r"^\s*(?:pub |ghost )*use [^;]*;", "", bare, flags=re.MULTILINE)
 
 
-def openings(code, start, at):
-    """What a place is in, from the inside: the places of open brackets, and of the arrows of arms at the same depth, back to the start."""
+def openings(code: str, start: int, at: int) -> Iterator[int]:
+    """What a place is in, from the inside: the places of open brackets, and of the arrows of arms
+    at the same depth, back to the start."""
     depth = 0
     for place in range(at - 1, start - 1, -1):
         if code[place] in ")]}":
@@ -142,24 +164,24 @@ def openings(code, start, at):
             depth -= 1
 
 
-def called(text):
-    """The path of the one call, or of the value, that a text is, which calls before it may lend; None for any other text."""
+def called(text: str) -> str | None:
+    """The path of the one call or value that a text is; None for any other text."""
     flat = re.sub(r"\s*\n\s*", "", text.strip())
     path = flat[: next(openings(flat, 0, len(flat) - 1), 0)] if flat.endswith(")") else flat
     return path if re.fullmatch(r"(?:[\w.:]|\(\))+", path) else None
 
 
-def by_none(call):
+def by_none(call: str | None) -> str | None:
     """The call, if it reports by `None` that memory ran out."""
     return call if call in SAY_IT_BY_NONE else None
 
 
-def head_of(before):
+def head_of(before: str) -> str:
     """The last statement before a block, as far as it goes."""
     return re.split(r"[;{}]", before)[-1].strip()
 
 
-def handed_on_in_block(head):
+def handed_on_in_block(head: str) -> str | None:
     """The call whose refusal the block after this is about; None for any other block."""
     if head in (f"if {FLAG}", "if e.is_memory()"):
         return head.removeprefix("if ").removesuffix("()")
@@ -170,8 +192,9 @@ def handed_on_in_block(head):
     return by_none(call) if found[1] == "Some" else call
 
 
-def handed_on_in_arm(pattern, matched):
-    """The call whose refusal an arm of a match on it is about, or the fault that is the arm's pattern; None for any other arm."""
+def handed_on_in_arm(pattern: str, matched: str) -> str | None:
+    """The call whose refusal an arm of a match on it is about, or the fault that is the arm's
+    pattern; None for any other arm."""
     call = called(matched.rpartition("match ")[2])
     if WANT.search(pattern):
         return pattern.split()[0]
@@ -180,9 +203,9 @@ def handed_on_in_arm(pattern, matched):
     return by_none(call) if pattern == "None" else None
 
 
-def handed_on(code, start, at):
-    """The refusal that is handed on at a place of the function that starts there: the call, or the fault; None if there
-    is none."""
+def handed_on(code: str, start: int, at: int) -> str | None:
+    """The refusal that is handed on at a place of the function that starts there: the call, or the
+    fault; None if there is none."""
     conversion = CONVERSION.match(code, start)
     if conversion:
         return conversion[1]
@@ -191,8 +214,9 @@ def handed_on(code, start, at):
         before = code[start:place].rstrip()
         if code.startswith("=>", place):
             pattern = PATTERN.search(before)
-            matched = next((code[start:other].rstrip() for other in places if code[other] == "{"), "")
-            return handed_on_in_arm(pattern[0] if pattern else "", head_of(matched))
+            opening = next((other for other in places if code[other] == "{"), start)
+            head = head_of(code[start:opening].rstrip())
+            return handed_on_in_arm(pattern[0] if pattern else "", head)
         if code[place] == "{" and not before.endswith("=>") and not NAME.search(before):
             return handed_on_in_block(head_of(before))
         if before.endswith(".map_err"):
@@ -200,47 +224,53 @@ def handed_on(code, start, at):
     return None
 
 
-def places_in(file, text):
-    """The places of a source at which it is reported that memory ran out: file, function, what is handed on, and what is made of it."""
+def functions_in(text: str) -> Iterator[tuple[str, str, int, int]]:
+    """The functions of a source: the code, and each one's name and its ends."""
     code = code_of(text)
     functions = list(FUNCTION.finditer(code))
-    for function, following in zip(functions, [*functions[1:], None]):
-        start, end = function.start(), following.start() if following else len(code)
-        words = [WANT, NONE] if function[1] in SAY_IT_BY_NONE else [WANT]
+    ends = [*(function.start() for function in functions[1:]), len(code)]
+    for function, end in zip(functions, ends):
+        yield code, function[1], function.start(), end
+
+
+def places_in(file: str, text: str) -> Iterator[Place]:
+    """The places of a source at which it is reported that memory ran out."""
+    for code, name, start, end in functions_in(text):
+        words = [WANT, NONE] if name in SAY_IT_BY_NONE else [WANT]
         for found in (found for word in words for found in word.finditer(code, start, end)):
             if not BEHIND_A_PATTERN.match(code, found.end()):
-                yield file, function[1], handed_on(code, start, found.start()), found[0]
+                yield file, name, handed_on(code, start, found.start()), found[0]
 
 
-def sources(crates):
+def sources(crates: Path) -> Iterator[tuple[str, str]]:
     """The sources of all crates by their names, without the modules of tests."""
+    module = re.compile(r"#\[cfg\(test\)\]\s*mod (\w+);")
     for crate in sorted(crates.iterdir()):
         files = sorted((crate / "src").rglob("*.rt"))
-        tests = {name for file in files for name in re.findall(r"#\[cfg\(test\)\]\s*mod (\w+);", file.read_text())}
+        tests = {name for file in files for name in module.findall(file.read_text())}
         for file in files:
             if tests.isdisjoint(file.relative_to(crate / "src").with_suffix("").parts):
                 yield str(file.relative_to(crates)), file.read_text()
 
 
-def every_want_is_handed_on(crates):
-    """Each place hands on a refusal and is listed, each one that is listed is there, and the flag is named where it
-    was."""
+def every_want_is_handed_on(crates: Path) -> None:
+    """Each place hands on a refusal and is listed, and each one that is listed is there."""
     texts = dict(sources(crates))
     found = Counter(place for file, text in texts.items() for place in places_in(file, text))
-    for place in found:
-        if place[2] is None:
-            print("  made of no refusal: %s, %s: %s" % (place[0], place[1], place[3]))
-    for place in found.keys() | LISTED.keys():
-        if found[place] != LISTED.get(place, 0):
-            print("  %d times, listed %d times: %s" % (found[place], LISTED.get(place, 0), place))
-    flag = [line.strip() for text in texts.values() for line in text.splitlines() if FLAG in line]
-    if flag != FLAG_LINES:
-        print("  %s is named otherwise: %s" % (FLAG, flag))
-    print("  %d places" % sum(found.values()))
-    return found == LISTED and all(place[2] for place in found) and flag == FLAG_LINES
+    print(f"  {found.total()} places")
+    same([place for place in found if place[2] is None], [], "made of no refusal")
+    all_are_listed(found, LISTED)
+    lines = [line.strip() for text in texts.values() for line in text.splitlines()]
+    same([line for line in lines if FLAG in line], FLAG_LINES)
 
 
-def arguments(code, start):
+def all_are_listed(found: Counter[Any], listed: dict[Any, int]) -> None:
+    """What is found and what is listed, each as often as the other."""
+    for one in found.keys() | listed.keys():
+        same(found[one], listed.get(one, 0), f"how often there is {one}")
+
+
+def arguments(code: str, start: int) -> str:
     """The text from a place up to the bracket that closes what it is in, on one line."""
     depth = 0
     for place in range(start, len(code)):
@@ -250,49 +280,44 @@ def arguments(code, start):
     return ""
 
 
-def sizes_in(file, text):
-    """The sizes of a source: file, function, call, and what it is given but for the allocator."""
-    code = code_of(text)
-    functions = list(FUNCTION.finditer(code))
-    for function, following in zip(functions, [*functions[1:], None]):
-        for found in SIZED.finditer(code, function.start(), following.start() if following else len(code)):
+def sizes_in(file: str, text: str) -> Iterator[Size]:
+    """The sizes of a source."""
+    for code, name, start, end in functions_in(text):
+        for found in SIZED.finditer(code, start, end):
             given = arguments(code, found.end())
             if "with_capacity" in found[0]:
                 given = given.partition(", ")[2]
-            yield file, function[1], found[1] or found[2], given
+            yield file, name, found[1] or found[2], given
 
 
-def every_size_is_listed(crates):
+def every_size_is_listed(crates: Path) -> None:
     """Each size is listed, and each one that is listed is there."""
     found = Counter(size for file, text in sources(crates) for size in sizes_in(file, text))
-    for size in sorted(found.keys() | SIZES.keys()):
-        if found[size] != SIZES.get(size, 0):
-            print("  %d times, listed %d times: %s" % (found[size], SIZES.get(size, 0), size))
-    print("  %d sizes" % sum(found.values()))
-    return found == SIZES
+    print(f"  {found.total()} sizes")
+    all_are_listed(found, SIZES)
 
 
 # Functions with a size, which is seen as it is.
-SEEN_SIZES = {
-    "let none: Vec<u8> = Vec::with_capacity(alloc, usize::MAX)?; Ok(none)": [("Vec::with_capacity", "usize::MAX")],
-    "let right = Vec::with_capacity(\nself.alloc,\ncount.saturating_mul(2),\n)?;": [("Vec::with_capacity", "count.saturating_mul(2)")],
-    "list.items.try_reserve(u64::MAX as usize)?;": [("list.items.try_reserve", "u64::MAX as usize")],
-    "let all = vec![in rt.alloc(); None; count * 2]?;": [("vec!", "count * 2")],
-    "let two = vec![in alloc; first, second]?;": [],
-}
+SEEN_SIZES = [
+    ("let none = Vec::with_capacity(alloc, usize::MAX)?;", "Vec::with_capacity", "usize::MAX"),
+    ("let two = Vec::with_capacity(\nself.alloc,\nn * 2,\n)?;", "Vec::with_capacity", "n * 2"),
+    ("list.all.try_reserve(u64::MAX as usize)?;", "list.all.try_reserve", "u64::MAX as usize"),
+    ("let all = vec![in rt.alloc(); None; count * 2]?;", "vec!", "count * 2"),
+    ("let two = vec![in alloc; first, second]?;",),
+]
 
 
 # Functions that hand on what they were refused, with the call or the fault.
-HANDED_ON = {
-    "let Ok(room) = Vec::with_capacity(alloc, 9) else { return Err(AllocError); }; Ok(room)": "Vec::with_capacity",
-    "match self\n.enter(seat) {\nOk(reply) => Ok(reply),\nErr(_) => Err(AskFault::OutOfMemory),\n}": "self.enter",
-    "match settle(logs) { Err(_) => Settled::NoMemory { vault, logs }, Ok(()) => Settled::Agreed(vault) }": "settle",
-    "match write(room) {\nOk(line) => Told { text: Ok(line) },\nErr(_) => Told {\ntext: Err(WireFault::OutOfMemory),\n},\n}": "write",
-    "match close(ended) { Closed::Done { .. } => Found::Agreed, Closed::NoRoom { .. } => Found::NoMemory }": "Closed::NoRoom",
-    "if all.push(one).is_err() { return Err(AllocError); } Ok(())": "all.push",
-    "all.push(one).map_err(|_| AllocError)": "all.push",
-    "match serve_in_threads(rt) { Some(ended) => Found::Agreed, None => Found::NoMemory }": "serve_in_threads",
-}
+HANDED_ON = [
+    ("Vec::new", "let Ok(room) = Vec::new(alloc, 9) else { return Err(AllocError); }; Ok(room)"),
+    ("self.enter", "match self\n.enter(one) {\nOk(it) => Ok(it),\nErr(_) => Err(AllocError),\n}"),
+    ("settle", "match settle(it) { Err(_) => Settled::NoMemory { it }, Ok(()) => Settled::Done }"),
+    ("write", "match write(it) {\nOk(it) => T { it },\nErr(_) => T {\nit: Err(AllocError),\n},\n}"),
+    ("A::NoRoom", "match close(it) { A::Done { .. } => B::Done, A::NoRoom { .. } => B::NoMemory }"),
+    ("all.push", "if all.push(one).is_err() { return Err(AllocError); } Ok(())"),
+    ("all.push", "all.push(one).map_err(|_| AllocError)"),
+    ("serve_in_threads", "match serve_in_threads(rt) { Some(it) => it, None => Found::NoMemory }"),
+]
 
 # Functions that report without cause that memory ran out.
 MADE_UP = [
@@ -301,7 +326,7 @@ MADE_UP = [
     "if logs.len() < usize::MAX { return Settled::NoMemory { vault, logs }; } settle(logs)",
     "if connections > 9 { Found::NoMemory } else { found }",
     "let Some(first) = list.first() else { return Err(AllocError); }; Ok(first)",
-    "match store.join(edge) { Ok(()) => Ok(Reply::Done), Err(HeapFull::Cells) => Err(AskFault::OutOfMemory) }",
+    "match store.join(edge) { Ok(()) => Ok(Done), Err(Full::Cells) => Err(AskFault::OutOfMemory) }",
     "match list.first() { Some(one) => Ok(one), None => Err(AllocError) }",
     "match all.push(one) { Ok(()) => Err(AllocError), Err(_) => unreachable!() }",
     "if text.len() > 9 || all.push(one).is_err() { return Err(AllocError); } Ok(())",
@@ -314,27 +339,31 @@ MADE_UP = [
 NONE_MADE = [
     "let room: Result<Vec<u8>, AllocError> = Vec::with_capacity(alloc, 9); Ok(room?)",
     "match fault { AskFault::OutOfMemory => 1, AskFault::Busy | AskFault::NoSeat => 2 }",
-    "// Err(AllocError)\nlet text = \"AllocError\"; all.push(text)?; Ok(())",
+    '// Err(AllocError)\nlet text = "AllocError"; all.push(text)?; Ok(())',
 ]
 
 
-def looks_can_fail(_):
-    """The results for bodies of a line: those that hand a refusal on, those that make a want up, and those that make
-    none."""
-
-    def seen(body):
-        return [place[2:] for place in places_in("x.rt", "use std::alloc::{AllocError, Global};\n\nfn work(alloc: Global) -> Option<Told> {\n%s\n}\n" % body)]
-
-    wrong = [body for body, refusal in HANDED_ON.items() if [handed for handed, made in seen(body) if made != "None"] != [refusal]]
-    wrong += [body for body in MADE_UP if [handed for handed, _ in seen(body)] != [None]]
-    wrong += [body for body in NONE_MADE if seen(body)]
-    wrong += [body for body, sizes in SEEN_SIZES.items() if [size[2:] for size in sizes_in("x.rt", "fn work() {\n%s\n}\n" % body)] != sizes]
-    for body in wrong:
-        print("  not seen as it is: %s: %s" % (body, seen(body)))
-    return not wrong
+HEAD = "use std::alloc::{AllocError, Global};\n\nfn work(alloc: Global) -> Option<Told> {"
 
 
-def tests():
+def looks_can_fail(_: Path) -> None:
+    """What is seen in bodies of a line, which hand a refusal on, make a want up, or neither."""
+
+    def seen(body: str) -> list[tuple[str | None, str]]:
+        return [place[2:] for place in places_in("x.rt", f"{HEAD}\n{body}\n}}\n")]
+
+    for refusal, body in HANDED_ON:
+        same([handed for handed, made in seen(body) if made != "None"], [refusal], body)
+    for body in MADE_UP:
+        same([handed for handed, _ in seen(body)], [None], body)
+    for body in NONE_MADE:
+        same(seen(body), [], body)
+    for body, *sizes in SEEN_SIZES:
+        found = sizes_in("x.rt", f"fn work() {{\n{body}\n}}\n")
+        same([part for size in found for part in size[2:]], sizes, body)
+
+
+def tests() -> Tests:
     """All tests by their names; they take the folder of the crates."""
     yield "every-want-of-memory-is-handed-on", every_want_is_handed_on
     yield "every-size-is-listed", every_size_is_listed

@@ -1,1 +1,1 @@
-"""Runs whose lines are drawn at random; the models, or what the runs answered, say what is right."""
+"""Random runs, graphs and derivations; the models say what is right."""

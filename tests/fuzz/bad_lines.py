@@ -1,27 +1,32 @@
 """Bad lines, answered as docs/PROTOCOL.md says.
 
-The lines come from faults/line_faults.py. models/reading.py says what each is read as, and what is wrong with it;
-lines that are valid after all are answered as models/storage.py says, so that a refused line which changed something
-would show. Half of the lines come from a fixed seed and half from one of the clock, both printed; SEED names one for
-all.
+The lines come from faults/line_faults.py. models/reading.py says what each is read as, and what is
+wrong with it; lines that are valid after all are answered as models/storage.py says, so that a
+refused line which changed something would show. Half of the lines come from a fixed seed and half
+from one of the clock, both printed; SEED names one for all.
 """
 
 import random
-import subprocess
+from collections.abc import Callable
+from pathlib import Path
+from random import Random
+from typing import TypeVar
 
-from faults.line_faults import GOOD, fields_of, joined, with_faults
-from fuzz.differential import seeds
+from checking import Test, Tests, same
+from faults.line_faults import GOOD, fields_of, object_of, with_faults
+from fuzz.differential import printed_if_wrong, seeds
 from models.graph import verdict
-from models.reading import (
-    EVENTS, LONGEST_LINE, STEPS, Refused, line_of, read_config, read_event, read_goal, read_step,
-)
+from models.reading import EVENTS, LONGEST_LINE, STEPS, Refused, line_of, read_config, read_event
+from models.reading import read_goal, read_step
 from models.storage import Run
-from program.programs import SECONDS
+from running import asked, joined
+
+T = TypeVar("T")
 
 LINES = 20000
 LINES_OF_A_RUN = 500
-# The forms of a run's lines; two are rare, since answers tell less of what a line changed once alice has retired, or
-# acts for bob.
+# The forms of a run's lines; two are rare, since answers tell less of what a line changed once
+# alice has retired, or acts for bob.
 FORMS = [form for form in EVENTS for _ in range({"retire": 1, "assume": 2}.get(form, 8))]
 
 CONFIG = b'{"principals":["alice","bob"],"edges":[[1,"tg",2],[2,"r",1]],"slots":64,"cells":256}'
@@ -33,26 +38,32 @@ BEGIN = [
     b'{"op":"write","over":3,"text":"kept"}',
 ]
 # Sent again and again between the bad lines: their answers would show a change.
-PROBES = [b'{"op":"hello","name":"alice"}', b'{"op":"shade"}', b'{"op":"look","at":1}', b'{"op":"read","over":3}', b'{"op":"look","at":2,"seat":1}']
+PROBES = [
+    b'{"op":"hello","name":"alice"}',
+    b'{"op":"shade"}',
+    b'{"op":"look","at":1}',
+    b'{"op":"read","over":3}',
+    b'{"op":"look","at":2,"seat":1}',
+]
 
 
-def config_of(source):
+def config_of(source: Random) -> bytes:
     """A configuration line, with faults in its values or in the line."""
     fields = fields_of(source, "config")
-    return with_faults(source, fields) if source.random() < 0.5 else joined(fields)
+    return with_faults(source, fields) if source.random() < 0.5 else object_of(fields)
 
 
-def answer_wanted(read, line):
+def read_or_refused(read: Callable[[bytes], T], line: bytes) -> tuple[T | None, bytes]:
     """What a line is read as, or nothing and the answer that refuses it."""
     try:
-        return read(line), None
+        return read(line), b""
     except Refused as refused:
         return None, line_of(refused.answer)
 
 
-def lines_of_a_run(source):
-    """The lines of one run, which a line that is too long ends; after that one come a few more, which are not
-    answered."""
+def lines_of_a_run(source: Random) -> tuple[list[bytes], int]:
+    """The lines of one run, which a line that is too long ends; after that one come a few more,
+    which are not answered. And how many of them are drawn."""
     lines, count = list(BEGIN), 0
     while count < LINES_OF_A_RUN:
         line = with_faults(source, fields_of(source, source.choice(FORMS)))
@@ -62,114 +73,93 @@ def lines_of_a_run(source):
             return [*lines, *PROBES], count
         if source.random() < 0.1:
             lines += PROBES
-    return [*lines, source.choice(PROBES).ljust(LONGEST_LINE + 1), *PROBES] if source.random() < 0.3 else lines, count
+    if source.random() < 0.3:
+        lines += [source.choice(PROBES).ljust(LONGEST_LINE + 1), *PROBES]
+    return lines, count
 
 
-def problem_of(run, line, answer):
-    """What is wrong with the answer to a line, and whether the line ends the run."""
-    event, refusal = answer_wanted(read_event, line)
-    problem = run.problem(event, answer) if event else None if answer == refusal else "wanted " + refusal.decode()
-    return problem, len(line) > LONGEST_LINE
-
-
-def difference(config, lines, written, status):
-    """What is wrong with what a run wrote: the line, the answer that is wanted and the one that came; nothing if all is
-    right."""
-    answers = written.split(b"\n")
-    wanted_status = int(b'{"error":' in written)
-    opened, refusal = answer_wanted(read_config, config)
-    if refusal:
-        return None if (written, status) == (refusal + b"\n", 1) else (config, "wanted " + refusal.decode(), written)
-    run, count, is_over = Run(opened), 0, False
-    for line, answer in zip(lines, answers):
-        problem, is_over = problem_of(run, line, answer)
-        if problem:
-            return line, problem, answer
-        count += 1
-        if is_over:
-            break
-    if answers[count:] != [b""] or (count < len(lines) and not is_over):
-        return b"", "wanted %d answers" % count, b"%d" % (len(answers) - 1)
-    return None if status == wanted_status else (b"", "wanted status %d" % wanted_status, b"%d" % status)
-
-
-def is_right(program, source, where, config, lines):
-    """Whether a run writes what it should; if not, the line is printed."""
+def check_run(program: Path, source: Random, config: bytes, lines: list[bytes]) -> None:
+    """A run, with each of its answers."""
     end = b"" if lines[-1:] != [b""] and source.random() < 0.5 else b"\n"
-    given = b"\n".join([config, *lines]) + end
-    ran = subprocess.run([str(program), "run"], input=given, capture_output=True, timeout=SECONDS)
-    wrong = difference(config, lines, ran.stdout, ran.returncode)
-    if wrong:
-        print("  %s: %s\n    line: %r\n    found %r" % (where, wrong[1], wrong[0], wrong[2]))
-    return not wrong
+    written, status = asked(program, "run", given=b"\n".join([config, *lines]) + end)
+    opened, refusal = read_or_refused(read_config, config)
+    if opened is None:
+        same((written, status), (refusal + b"\n", 1), f"a run of {config!r}")
+        return
+    run, answers, count = Run(opened), written.split(b"\n"), 0
+    for line, answer in zip(lines, answers):
+        event, refusal = read_or_refused(read_event, line)
+        if event is None:
+            same(answer, refusal, f"the answer to {line!r}")
+        else:
+            problem = run.problem(event, answer)
+            assert problem is None, f"{line!r} is answered {answer!r}: {problem}"
+        count += 1
+        if len(line) > LONGEST_LINE:
+            break
+    else:
+        same(count, len(lines), "how many lines are answered")
+    same(answers[count:], [b""], "answers to no lines")
+    same(status, int(b'{"error":' in written), "the status")
 
 
-def rows_of_an_audit(source):
+def rows_of_an_audit(source: Random) -> list[bytes]:
     """A configuration, a goal and steps, one of them or more at fault; perhaps not all."""
-    forms = ["config", "goal", *[source.choice(list(STEPS)) for _ in range(source.randint(1, 4))]]
-    rows = []
+    steps = [source.choice(list(STEPS)) for _ in range(source.randint(1, 4))]
+    forms, rows = ["config", "goal", *steps], []
     for form in forms:
         fields = [field for field in fields_of(source, form) if field[0] != "seat"]
         fields += [("actor", source.choice(GOOD["actor"]))] if form in STEPS else []
-        rows.append(with_faults(source, fields) if source.random() < 1.5 / len(forms) else joined(fields))
+        is_bad = source.random() < 1.5 / len(forms)
+        rows.append(with_faults(source, fields) if is_bad else object_of(fields))
     return rows[: source.randint(0, 1)] if source.random() < 0.02 else rows
 
 
-def verdict_wanted(rows):
+def verdict_wanted(rows: list[bytes]) -> bytes:
     """The answer to an audit, as a line without its line feed."""
-    readers = [read_config, read_goal] + [read_step] * (len(rows) - 2)
-    values = []
-    for read, row in zip(readers, rows if len(rows) > 1 else [*rows, b""]):
-        value, refusal = answer_wanted(read, row)
-        if refusal:
-            return refusal
-        values.append(value)
-    return line_of(verdict(values[0], values[1], values[2:]))
+    try:
+        config = read_config(rows[0] if rows else b"")
+        goal = read_goal(rows[1] if len(rows) > 1 else b"")
+        return line_of(verdict(config, goal, [read_step(row) for row in rows[2:]]))
+    except Refused as refused:
+        return line_of(refused.answer)
 
 
-def audit_is_right(program, source, where):
-    """Whether an audit is answered as it should be; if not, it is printed."""
+def check_audit(program: Path, source: Random) -> None:
+    """An audit, with its answer."""
     rows = rows_of_an_audit(source)
-    ran = subprocess.run([str(program), "audit"], input=b"".join(row + b"\n" for row in rows), capture_output=True, timeout=SECONDS)
     wanted = verdict_wanted(rows)
-    if (ran.stdout, ran.returncode) == (wanted + b"\n", int(wanted != b'{"verdict":"shared"}')):
-        return True
-    print("  %s: wanted %s, found %r for\n    %s" % (where, wanted.decode(), ran.stdout, "\n    ".join(map(repr, rows))))
-    return False
+    status = int(wanted != b'{"verdict":"shared"}')
+    with printed_if_wrong("an audit", rows):
+        same(asked(program, "audit", given=joined(*rows)), (wanted + b"\n", status))
 
 
-def lines_are_right(program, seed, count):
-    """Whether this many lines of a seed are answered as they should be; every twentieth is a configuration, every
-    hundredth an audit."""
+def check_lines(program: Path, seed: str, count: int) -> None:
+    """This many lines of a seed; every twentieth is a configuration, every hundredth an audit."""
     made, number = 0, 0
     while made < count:
         number += 1
-        source, where = random.Random("%s/%d" % (seed, number)), "run %d of seed %s" % (number, seed)
+        source = random.Random(f"{seed}/{number}")
         lines, of_this = lines_of_a_run(source)
         made += of_this
-        good = is_right(program, source, where, CONFIG, lines)
-        for _ in range(of_this // 20):
-            good = is_right(program, source, where, config_of(source), [*BEGIN, *PROBES]) and good
-        for _ in range(of_this // 100):
-            good = audit_is_right(program, source, where) and good
-        if not good:
-            return False
-    return True
+        with printed_if_wrong(f"run {number} of seed {seed}", []):
+            check_run(program, source, CONFIG, lines)
+            for _ in range(of_this // 20):
+                check_run(program, source, config_of(source), [*BEGIN, *PROBES])
+            for _ in range(of_this // 100):
+                check_audit(program, source)
 
 
-def bad_lines(count):
+def bad_lines(count: int) -> Test:
     """This many bad lines, half of them of each seed."""
 
-    def test(program):
+    def test(program: Path) -> None:
         for seed in seeds():
-            print("  seed %s" % seed)
-            if not lines_are_right(program, seed, count // len(seeds())):
-                return False
-        return True
+            print(f"  seed {seed}")
+            check_lines(program, seed, count // len(seeds()))
 
     return test
 
 
-def tests(count=LINES):
-    """All tests by their names."""
+def tests(count: int = LINES) -> Tests:
     yield "bad-lines", bad_lines(count)

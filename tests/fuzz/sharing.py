@@ -1,20 +1,24 @@
-"""Random graphs, and whether rights can ever be shared in them: each answer of `tgdoc share` compared with a closure by brute force, and each
-derivation given to `tgdoc audit`. It may make vertices only if a closure in which nobody makes any lacks the goal's rights.
+"""Random graphs, and whether rights can ever be shared in them: each answer of `tgdoc share`
+compared with a closure by brute force, and each derivation given to `tgdoc audit`. It may make
+vertices only if a closure in which nobody makes any lacks the goal's rights.
 
-Half of the graphs come from a fixed seed and half from one of the clock, both printed; SEED names one for all. The first answer that is wrong is
-printed with the whole run before it.
+Half of the graphs come from a fixed seed and half from one of the clock, both printed; SEED names
+one for all. The first answer that is wrong is printed with the whole run before it.
 """
 
 import json
-import random
-import subprocess
+from collections import Counter
+from dataclasses import dataclass
+from pathlib import Path
+from random import Random
 
-from fuzz.differential import event_of, opening, row_of, seeds, some
+from checking import Test, Tests, same, tell_counts
+from fuzz.differential import event_of, opening, printed_if_wrong, row_of, some, sources
 from models.collector import Course
-from models.graph import NONE_LEFT, verdict
-from models.reading import LETTERS, line_of, read_config, read_event, read_goal, read_step
-from models.sharing import actors, closure, most_steps
-from program.programs import SECONDS
+from models.graph import NONE_LEFT, Graph, verdict
+from models.reading import LETTERS, Event, line_of, read_config, read_event, read_goal, read_step
+from models.sharing import Closure, actors, closure, most_steps
+from running import asked, joined
 
 GRAPHS = 500
 GOALS = 4
@@ -22,171 +26,186 @@ GOALS = 4
 MOST_VERTICES = 9
 NEVER, NO_SERIAL = b'{"verdict":"never"}\n', b'{"verdict":"no serial"}\n'
 SHARED = b'{"verdict":"shared"}\n'
+TOO_MUCH = b'{"error":"too much"}\n'
 
 
-def run_of(source):
-    """The lines of a run, and the model that has carried them out."""
+def shared(program: Path, given: bytes, *words: str) -> tuple[bytes, int]:
+    """What `share` writes, and its status."""
+    return asked(program, "share", *words, given=given)
+
+
+def audited(program: Path, given: bytes) -> bytes:
+    """What `audit` writes."""
+    return asked(program, "audit", given=given)[0]
+
+
+@dataclass
+class Drawn:
+    """The lines of a run, the graph that it leads to, the status that it ends with, and what each
+    vertex can come to have, also if nobody makes anything."""
+
+    rows: list[bytes]
+    graph: Graph
+    status: int
+    reached: Closure
+    plain: Closure
+
+    @property
+    def given(self) -> bytes:
+        return joined(*self.rows)
+
+    def room_is_near(self, serials: int) -> bool:
+        """Whether there are not so many serials left for each actor."""
+        left = NONE_LEFT - self.graph.next
+        return left < serials * max(1, len(actors(self.graph)))
+
+
+def drawn(source: Random) -> Drawn | None:
+    """A random run; None if its graph has too many vertices."""
     config = line_of(opening(source))
-    course, rows = Course(read_config(config)), [config]
-    events = [{"op": "hello", "name": name, "seat": seat} for seat, name in enumerate(list(course.graph.names)[:4])]
+    course, rows, status = Course(read_config(config)), [config], 0
+    graph = course.graph
+    seats = enumerate(list(graph.names)[:4])
+    events = [{"op": "hello", "name": name, "seat": seat} for seat, name in seats]
     for _ in range(len(events) + source.randint(0, 30)):
-        event = events.pop(0) if events else event_of(source, course)
+        event = events.pop(0) if events else event_of(source, graph)
         rows.append(row_of(source, event))
-        course.errors = getattr(course, "errors", 0) + ("error" in course.answer(read_event(rows[-1])))
-    return rows, course
+        status |= "error" in course.answer(read_event(rows[-1]))
+    if len(graph.kinds) > MOST_VERTICES:
+        return None
+    depth = 2 if len(graph.kinds) < 6 else 1
+    return Drawn(rows, graph, status, closure(graph, depth), closure(graph, 0))
 
 
-def vertex(source, graph):
+def vertex(source: Random, graph: Graph) -> tuple[str, int]:
     """A vertex, as a serial or, if it is a principal, now and then by its name."""
-    name, serial = source.choice([("", serial) for serial in graph.kinds] + list(graph.names.items()))
+    vertices = [("", serial) for serial in graph.kinds] + list(graph.names.items())
+    name, serial = source.choice(vertices)
     return name or str(serial), serial
 
 
-def shared(program, given, *words):
-    """What `share` writes, and its status."""
-    ran = subprocess.run([str(program), "share", *words], input=given, capture_output=True, timeout=SECONDS)
-    return ran.stdout, ran.returncode
+def has(closed: Closure, start: int, rights: str, end: int) -> bool:
+    """Whether one vertex has the rights over another in a closure."""
+    return start != end and set(rights) <= closed[start].get(end, set())
 
 
-def audited(program, given):
-    """What `audit` writes."""
-    return subprocess.run([str(program), "audit"], input=given, capture_output=True, timeout=SECONDS).stdout
-
-
-def has(closed, goal):
-    """Whether the goal's rights are in a closure."""
-    return goal["from"] != goal["to"] and set(goal["rights"]) <= closed[goal["from"]].get(goal["to"], set())
-
-
-def problem_of_steps(program, given, words, text, graph, goal, is_plain):
-    """What is wrong with a derivation, which is plain if it can be: makes no vertex. Nothing if all is right."""
+def check_steps(program: Path, run: Drawn, words: list[str], text: bytes, goal: Event) -> int:
+    """A derivation of a goal; how many vertices it makes."""
     lines = text.splitlines(keepends=True)
-    alone, _ = shared(program, given, *words, "--steps")
-    if not text.endswith(alone):
-        return "the steps alone are not those of the derivation"
+    alone, _ = shared(program, run.given, *words, "--steps")
+    assert text.endswith(alone), f"the steps alone are not those of the derivation: {alone!r}"
     steps = [json.loads(row) for row in alone.splitlines()]
-    most, creates = most_steps(graph, goal["rights"])
-    made = sum(step["op"] == "create" for step in steps)
-    if len(steps) > most or made > creates:
-        return "more than %d steps, or more than %d creates" % (most, creates)
-    if is_plain and made:
-        return "makes a vertex, and none is needed"
-    if audited(program, text) != SHARED:
-        return "an audit finds the derivation wrong"
-    config, said, done = read_config(lines[0][:-1]), read_goal(lines[1][:-1]), [read_step(row[:-1]) for row in lines[2:]]
-    if lines[0] != given.splitlines(keepends=True)[0] or said != goal or verdict(config, said, done) != {"verdict": "shared"}:
-        return "not a derivation of the goal"
-    return None
+    most, creates = most_steps(run.graph, goal["rights"])
+    made = len([step for step in steps if step["op"] == "create"])
+    assert len(steps) <= most and made <= creates, f"{len(steps)} steps, {made} creates"
+    same(audited(program, text), SHARED, "an audit of the derivation")
+    same(lines[0], run.rows[0] + b"\n", "the configuration of the derivation")
+    same(read_goal(lines[1][:-1]), goal, "the goal of the derivation")
+    done = [read_step(row[:-1]) for row in lines[2:]]
+    same(verdict(read_config(lines[0][:-1]), goal, done), {"verdict": "shared"})
+    return made
 
 
-def problem(program, source, rows, course, reached, plain):
-    """What is wrong with the answer to a random question; nothing if all is right. And what was answered."""
-    graph, given = course.graph, b"\n".join(rows) + b"\n"
-    (start, from_serial), (end, to_serial) = vertex(source, graph), vertex(source, graph)
-    asked = some(source, source.choice(["r", "w", "t", "g", "rw", "tg", "rwtg"]))
-    goal = {"from": from_serial, "rights": "".join(letter for letter in LETTERS if letter in asked), "to": to_serial}
-    words = ["--from", start, "--to", end, "--rights", asked]
-    text, status = shared(program, given, *words)
-    can, is_plain = has(reached, goal), has(plain, goal)
-    if status != int(course.errors > 0):
-        return "status %d, with %d error answers" % (status, course.errors), "status"
-    if text == NO_SERIAL and can and not is_plain and NONE_LEFT - graph.next < 4 * max(1, len(actors(graph))):
-        return None, "no serial"
-    if not can or text in (NEVER, NO_SERIAL):
-        wrong = None if text == NEVER and not can else "%s wanted, found %s" % ("a derivation" if can else "never", text[:200])
-        return wrong and "%s: %s" % (words, wrong), "never"
-    wrong = problem_of_steps(program, given, words, text, graph, goal, is_plain)
-    return wrong and "%s: %s" % (words, wrong), "shared" if is_plain else "shared by new vertices"
+def check_question(program: Path, source: Random, run: Drawn) -> str:
+    """A random question; the kind of its answer."""
+    (start, from_serial), (end, to_serial) = (vertex(source, run.graph) for _ in range(2))
+    letters = some(source, source.choice(["r", "w", "t", "g", "rw", "tg", "rwtg"]))
+    rights = "".join(letter for letter in LETTERS if letter in letters)
+    words = ["--from", start, "--to", end, "--rights", letters]
+    text, status = shared(program, run.given, *words)
+    can, is_plain = (has(it, from_serial, rights, to_serial) for it in (run.reached, run.plain))
+    same(status, run.status, f"the status of {words}")
+    if text == NO_SERIAL and can and not is_plain and run.room_is_near(4):
+        return "no serial"
+    if not can:
+        same(text, NEVER, f"the answer to {words}")
+        return "never"
+    assert text not in (NEVER, NO_SERIAL), f"{words}: a derivation is wanted, and not {text!r}"
+    goal = {"from": from_serial, "rights": rights, "to": to_serial}
+    made = check_steps(program, run, words, text, goal)
+    assert not (is_plain and made), f"{words}: makes a vertex, and none is needed"
+    return "shared" if is_plain else "shared by new vertices"
 
 
-def problem_of_lookup(program, source, rows, course, reached):
-    """What is wrong with the answer to who could have rights over a vertex, or over what one could; nothing if all is right."""
-    graph, given = course.graph, b"\n".join(rows) + b"\n"
-    end, (word, serial) = source.choice(["--from", "--to"]), vertex(source, graph)
-    asked = source.choice(["r", "w", "t", "g", "rw", "tg"])
-    words = [end, word, "--rights", asked]
-    text, status = shared(program, given, *words)
-
-    def goal(other):
-        return (serial, other) if end == "--from" else (other, serial)
-
-    could = [other for other in sorted(graph.kinds) if other != serial and set(asked) <= reached[goal(other)[0]].get(goal(other)[1], set())]
-    wanted = {"could": [[other, "".join(right for right in graph.label(*goal(other)) if right in asked)] for other in could]}
-    if text == line_of(wanted) + b"\n" and status == int(course.errors > 0):
-        return None
-    is_near_the_last = NONE_LEFT - graph.next < 100 * max(1, len(actors(graph)))
-    # (all that a vertex could have may take more serials than are left, though what is asked for takes none, or is never had)
-    if is_near_the_last and (text == NO_SERIAL and could or text == b'{"error":"too much"}\n' and end == "--from"):
-        return None
-    return "%s: %s wanted, found %d: %s" % (words, wanted, status, text[:200])
+def check_lookup(program: Path, source: Random, run: Drawn) -> None:
+    """Who could have rights over a random vertex, or over what one could."""
+    end, (word, serial) = source.choice(["--from", "--to"]), vertex(source, run.graph)
+    rights = some(source, source.choice(["r", "w", "t", "g", "rw", "tg"]))
+    words = [end, word, "--rights", rights]
+    text, status = shared(program, run.given, *words)
+    could = []
+    for other in sorted(run.graph.kinds):
+        start, over = (serial, other) if end == "--from" else (other, serial)
+        if has(run.reached, start, rights, over):
+            label = run.graph.label(start, over)
+            could.append([other, "".join(right for right in label if right in rights)])
+    # (all that a vertex could have may take more serials than are left, though what is asked for
+    # takes none, or is never had)
+    is_too_much = text == NO_SERIAL and could or text == TOO_MUCH and end == "--from"
+    if not (is_too_much and run.room_is_near(100)):
+        wanted = (line_of({"could": could}) + b"\n", run.status)
+        same((text, status), wanted, f"the answer to {words}")
 
 
-def graph_is_right(program, seed, index, seen):
-    """Whether the answers about a graph are right; if not, its run is printed."""
-    source = random.Random("%s/sharing/%d" % (seed, index))
-    rows, course = run_of(source)
-    if len(course.graph.kinds) > MOST_VERTICES:
-        return True
-    reached, plain = closure(course.graph, 2 if len(course.graph.kinds) < 6 else 1), closure(course.graph, 0)
-    for _ in range(GOALS):
-        wrong, kind = problem(program, source, rows, course, reached, plain)
-        seen[kind] = seen.get(kind, 0) + 1
-        wrong = wrong or problem_of_lookup(program, source, rows, course, reached)
-        if wrong:
-            print("  graph %d of seed %s:" % (index, seed))
-            print("\n".join("    " + row.decode("utf-8", "backslashreplace") for row in rows))
-            print("  " + wrong)
-            return False
-    return True
-
-
-def random_graphs(count):
+def random_graphs(count: int) -> Test:
     """This many random graphs of each seed, every answer checked."""
 
-    def test(program):
-        seen = {}
-        for seed in seeds():
-            print("  seed %s" % seed)
-            if not all(graph_is_right(program, seed, index, seen) for index in range(count // len(seeds()))):
-                return False
-        print("  %s" % ", ".join("%s %d" % pair for pair in sorted(seen.items())))
-        # Answers of each kind were among them.
-        return all(seen.get(kind, 0) > 0 for kind in ("never", "shared", "shared by new vertices"))
+    def test(program: Path) -> None:
+        seen: Counter[str] = Counter()
+        for name, source in sources(count, "sharing/"):
+            run = drawn(source)
+            if run is None:
+                continue
+            with printed_if_wrong(name, run.rows):
+                for _ in range(GOALS):
+                    seen[check_question(program, source, run)] += 1
+                    check_lookup(program, source, run)
+        tell_counts("questions", seen)
+        kinds = {"never", "shared", "shared by new vertices"}
+        same(kinds - set(seen), set(), "no answers of these kinds")
 
     return test
 
 
-def run_of_chain(links):
-    """A run in which alice makes subjects 2, 3, .., a document for each two that follow each other, by which the earlier can pass on what it has to
-    the later, and one that the first may read, and drops all that she has. Each subject also has take over the next, by which it could pass on as
+def run_of_chain(links: int) -> bytes:
+    """A run in which alice makes subjects 2, 3, .., a document for each two that follow each other,
+    by which the earlier can pass on what it has to the later, and one that the first may read, and
+    drops all that she has. Each subject also has take over the next, by which it could pass on as
     much with a new vertex."""
     first, last = links + 3, 2 * links + 3
-    events = [{"op": "create", "kind": "subject" if serial < first else "document", "rights": "rwtg"} for serial in range(2, last + 1)]
+    made = range(2, last + 1)
+    kinds = ["subject" if serial < first else "document" for serial in made]
+    events: list[Event] = [{"op": "create", "kind": kind, "rights": "rwtg"} for kind in kinds]
+    grants = []
     for giver in range(2, links + 2):
-        for rights, over, to in [("g", first + giver - 2, giver), ("t", first + giver - 2, giver + 1), ("t", giver + 1, giver)]:
-            events.append({"op": "grant", "rights": rights, "over": over, "to": to})
-    events.append({"op": "grant", "rights": "r", "over": last, "to": 2})
-    rows = [b'{"principals":["alice"],"slots":1024,"cells":8192}', b'{"op":"hello","name":"alice"}']
+        between = first + giver - 2
+        grants += [("g", between, giver), ("t", between, giver + 1), ("t", giver + 1, giver)]
+    grants.append(("r", last, 2))
+    events += [{"op": "grant", "rights": it, "over": over, "to": to} for it, over, to in grants]
+    rows = [b'{"principals":["alice"],"slots":1024,"cells":8192}']
+    rows.append(b'{"op":"hello","name":"alice"}')
     for event in events:
         rows += [line_of(event), b'{"op":"shade"}']
-    return rows + [line_of({"op": "remove", "rights": "rwtg", "over": serial}) for serial in range(2, last + 1)]
+    rows += [line_of({"op": "remove", "rights": "rwtg", "over": serial}) for serial in made]
+    return joined(*rows)
 
 
-def chain(program):
-    """If 128 vertices can take part, none is made, and there are at most two steps a link; if there are more, the answer is right."""
+def chain(program: Path) -> None:
+    """If 128 vertices can take part, none is made, and there are at most two steps a link; if there
+    are more, the answer is right."""
     for links in (63, 100):
-        given = b"\n".join(run_of_chain(links)) + b"\n"
+        given = run_of_chain(links)
         words = ["--from", str(links + 2), "--to", str(2 * links + 3), "--rights", "r"]
-        steps = [json.loads(row) for row in shared(program, given, *words, "--steps")[0].splitlines()]
+        rows = shared(program, given, *words, "--steps")[0].splitlines()
+        steps = [json.loads(row) for row in rows]
         made = sum(step["op"] == "create" for step in steps)
         text, status = shared(program, given, *words)
-        print("  %d links: %d steps, %d creates" % (links, len(steps), made))
-        if status != 0 or audited(program, text) != SHARED or (links == 63 and (made or len(steps) > 2 * links)):
-            return False
-    return True
+        print(f"  {links} links: {len(steps)} steps, {made} creates")
+        same((status, audited(program, text)), (0, SHARED))
+        if links == 63:
+            assert not made and len(steps) <= 2 * links, "too many steps or creates"
 
 
-def tests(graphs=GRAPHS):
-    """All tests by their names."""
+def tests(graphs: int = GRAPHS) -> Tests:
     yield "rights-that-can-be-shared", random_graphs(graphs)
     yield "no-new-vertex-in-a-long-chain", chain

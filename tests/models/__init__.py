@@ -1,1 +1,1 @@
-"""What docs/PROTOCOL.md and docs/COLLECTOR.md say, written once more; the program under test shares nothing with it."""
+"""What docs/PROTOCOL.md and docs/COLLECTOR.md say, once more; nothing of the program is used."""

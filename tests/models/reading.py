@@ -1,4 +1,5 @@
-"""What docs/PROTOCOL.md says of lines, as a program of its own: what a line is read as, or `Refused` with its answer.
+"""What docs/PROTOCOL.md says of lines, as a program of its own: what a line is read as, or
+`Refused` with its answer.
 
 It shares nothing with the program under test.
 """
@@ -6,13 +7,31 @@ It shares nothing with the program under test.
 import json
 import math
 import re
+from collections.abc import Callable, Collection, Iterable
+from typing import Any, TypedDict
+
+# The fields of a line: an event of a run, a step or a goal of an audit, or an answer.
+Event = dict[str, Any]
+Answer = dict[str, Any]
+
+
+class Config(TypedDict):
+    """A configuration; each edge is a list of its start, rights and end."""
+
+    principals: list[str]
+    edges: list[list[Any]]
+    next: int
+    slots: int
+    cells: int
+
 
 LETTERS = "rwtg"
 LONGEST_LINE = 16384
 LONGEST_TEXT = 4096
 MOST_LEVELS = 127
-# The commands that a step of an audit may be.
-STEPS = {
+# Ops with their fields: the commands that a step of an audit may be, all commands, all events.
+Ops = dict[str, list[str]]
+STEPS: Ops = {
     "take": ["rights", "over", "from"],
     "grant": ["rights", "over", "to"],
     "create": ["kind", "rights"],
@@ -21,8 +40,9 @@ STEPS = {
     "write": ["over", "text"],
     "look": ["at"],
 }
-COMMANDS = {**STEPS, "enrol": ["name", "rights"], "retire": [], "assume": ["agent"], "leave": []}
-EVENTS = {"hello": ["name"], "bye": [], **COMMANDS, "shade": [], "collect": [], "cycle": []}
+COMMANDS: Ops = {**STEPS, "enrol": ["name", "rights"], "retire": [], "assume": ["agent"]}
+COMMANDS["leave"] = []
+EVENTS: Ops = {"hello": ["name"], "bye": [], **COMMANDS, "shade": [], "collect": [], "cycle": []}
 
 TEXT = re.compile(r'"(?:[^"\\]|\\.)*"', re.DOTALL)
 BRACKET = re.compile(r"[\[\]{}]")
@@ -33,17 +53,18 @@ HALF_A_PAIR = re.compile("[\ud800-\udfff]")
 class Refused(Exception):
     """A line that is refused, with its answer."""
 
-    def __init__(self, error, **more):
+    def __init__(self, error: str, **more: int):
         super().__init__(error)
-        self.answer = {"error": error, **more}
+        self.answer: Answer = {"error": error, **more}
 
 
-def line_of(answer):
+def line_of(answer: object) -> bytes:
     """The line of an answer, without its line feed."""
-    return json.dumps(answer, ensure_ascii=False, separators=(",", ":"), sort_keys=True).encode()
+    text = json.dumps(answer, ensure_ascii=False, separators=(",", ":"), sort_keys=True)
+    return text.encode()
 
 
-def number(text):
+def number(text: str) -> int | float:
     """A whole number from 0 to 2^64-1 without a sign as an int, every other number as a float."""
     if text.isdigit() and len(text) <= 20 and int(text) < 2**64:
         return int(text)
@@ -52,26 +73,26 @@ def number(text):
     return float(text)
 
 
-def no_constant(_):
+def no_constant(_: str) -> None:
     """NaN and the infinities, which Python would read."""
     raise Refused("not json")
 
 
-def is_broken(value):
-    """Whether a text has half a surrogate pair, which Python would read; the members of objects were checked before."""
+def is_broken(value: object) -> bool:
+    """Whether a text, or one in a list, has half a surrogate pair, which Python would read."""
     if isinstance(value, list):
         return any(map(is_broken, value))
     return isinstance(value, str) and bool(HALF_A_PAIR.search(value))
 
 
-def members(pairs):
+def members(pairs: list[tuple[str, Any]]) -> Event:
     """An object; of equal keys the last one counts."""
     if any(is_broken(part) for pair in pairs for part in pair):
         raise Refused("not json")
     return dict(pairs)
 
 
-def levels(text):
+def levels(text: str) -> int:
     """How deeply lists and objects are nested."""
     depth = most = 0
     for bracket in BRACKET.findall(TEXT.sub("", text)):
@@ -80,10 +101,15 @@ def levels(text):
     return most
 
 
-DECODER = json.JSONDecoder(parse_int=number, parse_float=number, parse_constant=no_constant, object_pairs_hook=members)
+DECODER = json.JSONDecoder(
+    parse_int=number,
+    parse_float=number,
+    parse_constant=no_constant,
+    object_pairs_hook=members,
+)
 
 
-def read_object(line):
+def read_object(line: bytes) -> Event:
     """The object that a line is."""
     if len(line) > LONGEST_LINE:
         raise Refused("line too long")
@@ -100,52 +126,68 @@ def read_object(line):
     return value
 
 
-def is_number(value):
+def is_number(value: object) -> bool:
     return type(value) is int
 
 
-def is_rights(value):
-    return isinstance(value, str) and len(value) == len(set(value)) and set(value) <= set(LETTERS)
+def is_rights(value: object) -> bool:
+    if not isinstance(value, str):
+        return False
+    return len(value) == len(set(value)) and set(value) <= set(LETTERS)
 
 
-def is_name(value):
+def is_name(value: object) -> bool:
     """Whether a principal may have this name."""
     return isinstance(value, str) and bool(NAME.fullmatch(value))
 
 
-def is_edge(value):
-    return isinstance(value, list) and len(value) == 3 and is_number(value[0]) and is_rights(value[1]) and is_number(value[2])
+def is_edge(value: object) -> bool:
+    if not isinstance(value, list) or len(value) != 3:
+        return False
+    return is_number(value[0]) and is_rights(value[1]) and is_number(value[2])
 
 
-GOOD = {
-    **dict.fromkeys(["seat", "over", "from", "to", "at", "agent", "actor", "next", "slots", "cells"], is_number),
+def is_list_of(is_one: Callable[[object], bool], value: object) -> bool:
+    return isinstance(value, list) and all(map(is_one, value))
+
+
+def is_text(value: object) -> bool:
+    return isinstance(value, str)
+
+
+NUMBERS = ["seat", "over", "from", "to", "at", "agent", "actor", "next", "slots", "cells"]
+
+
+GOOD: dict[str, Callable[[Any], bool]] = {
+    **dict.fromkeys(NUMBERS, is_number),
     "op": lambda value: True,
     "rights": is_rights,
     "kind": lambda value: value in ("subject", "document"),
     "text": lambda value: isinstance(value, str) and len(value.encode()) <= LONGEST_TEXT,
-    "name": lambda value: isinstance(value, str),
-    "principals": lambda value: isinstance(value, list) and all(isinstance(name, str) for name in value),
-    "edges": lambda value: isinstance(value, list) and all(map(is_edge, value)),
+    "name": is_text,
+    "principals": lambda value: is_list_of(is_text, value),
+    "edges": lambda value: is_list_of(is_edge, value),
 }
 
 
-def is_good(op, name, value):
+def is_good(op: object, name: str, value: object) -> bool:
     """Whether a field of a line may have this value; `hello` takes any text for a name."""
     return is_name(value) if (op, name) == ("enrol", "name") else GOOD[name](value)
 
 
-def with_fields(value, required, optional=()):
+def with_fields(value: Event, required: list[str], optional: Iterable[str] = ()) -> Event:
     """An object whose fields are these, with values that they may have."""
+    known, op = [*required, *optional], value.get("op")
     if any(name not in value for name in required):
         raise Refused("missing field")
-    if any(name in value and not is_good(value.get("op"), name, value[name]) for name in [*required, *optional]):
+    if any(name in value and not is_good(op, name, value[name]) for name in known):
         raise Refused("bad field")
-    if any(name not in required and name not in optional for name in value):
+    if any(name not in known for name in value):
         raise Refused("unknown field")
     return value
 
 
-def op_of(value, ops):
+def op_of(value: Event, ops: Collection[str]) -> str:
     """The op of a line, one of these."""
     op = value.get("op")
     if not isinstance(op, str) or op not in ops:
@@ -153,25 +195,27 @@ def op_of(value, ops):
     return op
 
 
-def read_event(line):
+def read_event(line: bytes) -> Event:
     """An event line of a run, with its seat."""
     value = read_object(line)
     return {"seat": 0, **with_fields(value, ["op", *EVENTS[op_of(value, EVENTS)]], ["seat"])}
 
 
-def read_step(line):
+def read_step(line: bytes) -> Event:
     """A step line of an audit."""
     value = read_object(line)
     return with_fields(value, ["op", "actor", *STEPS[op_of(value, STEPS)]])
 
 
-def read_goal(line):
+def read_goal(line: bytes) -> Event:
     """The goal line of an audit."""
     return with_fields(read_object(line), ["from", "to", "rights"])
 
 
-def config_fault(names, edges, after, slots, cells):
+def config_fault(config: Config) -> int:
     """The first fault of a configuration, 0 if it has none."""
+    names, edges = config["principals"], config["edges"]
+    slots, cells = config["slots"], config["cells"]
     pairs = [(edge[0], edge[2]) for edge in edges]
     faults = [
         not 1 <= len(names) <= 64,
@@ -180,7 +224,7 @@ def config_fault(names, edges, after, slots, cells):
         any(start == end for start, end in pairs),
         any(edge[1] == "" for edge in edges),
         len(set(pairs)) < len(pairs),
-        after <= len(names),
+        config["next"] <= len(names),
         slots < len(names),
         cells < len(edges),
         not (1 <= slots <= 65536 and 1 <= cells <= 1048576),
@@ -188,11 +232,17 @@ def config_fault(names, edges, after, slots, cells):
     return next((fault for fault, is_there in enumerate(faults, 1) if is_there), 0)
 
 
-def read_config(line):
+def read_config(line: bytes) -> Config:
     """The configuration line, with all its fields."""
     value = with_fields(read_object(line), ["principals"], ["edges", "next", "slots", "cells"])
-    config = {"edges": [], "next": len(value["principals"]) + 1, "slots": 1024, "cells": 16384, **value}
-    fault = config_fault(*[config[name] for name in ("principals", "edges", "next", "slots", "cells")])
+    config: Config = {
+        "principals": value["principals"],
+        "edges": value.get("edges", []),
+        "next": value.get("next", len(value["principals"]) + 1),
+        "slots": value.get("slots", 1024),
+        "cells": value.get("cells", 16384),
+    }
+    fault = config_fault(config)
     if fault:
         raise Refused("config", fault=fault)
     return config

@@ -1,24 +1,33 @@
 """Whether rights can ever be shared, by brute force, in a small graph.
 
-Whoever may act makes a subject and a document with all rights over them, and so do the subjects that are made, as deep as is asked for (with a
-depth of 0 nobody makes anything); then every take and every grant that the rules allow is made, with all the rights that it can bring, until
-nothing changes. A remove is of no use: it allows nothing that was not allowed before.
+Whoever may act makes a subject and a document with all rights over them, and so do the subjects
+that are made, as deep as is asked for (with a depth of 0 nobody makes anything); then every take
+and every grant that the rules allow is made, with all the rights that it can bring, until nothing
+changes. A remove is of no use: it allows nothing that was not allowed before.
 """
 
+from models.graph import Graph
 from models.reading import LETTERS
 
+# The rights that a vertex has, by the vertex that they are over.
+Edges = dict[int, set[str]]
+Closure = dict[int, Edges]
 
-def actors(graph):
+
+def actors(graph: Graph) -> list[int]:
     """The subjects that have not retired."""
-    return [serial for serial, kind in graph.kinds.items() if kind == "subject" and serial not in graph.retired]
+    subjects = [serial for serial, kind in graph.kinds.items() if kind == "subject"]
+    return [serial for serial in subjects if serial not in graph.retired]
 
 
-def closure(graph, depth):
-    """The rights that each vertex can come to have, by vertex and by the vertex over which it has them."""
-    labels = {serial: {end: set(label) for end, label in graph.edges(serial)} for serial in graph.kinds}
+def closure(graph: Graph, depth: int) -> Closure:
+    """The rights that each vertex can come to have."""
+    labels: Closure = {
+        serial: {end: set(label) for end, label in graph.edges(serial)} for serial in graph.kinds
+    }
     acting, makers, new = actors(graph), actors(graph), max(graph.kinds) + 1
     for _ in range(depth):
-        subjects = []
+        subjects: list[int] = []
         for maker in makers:
             for is_subject in (True, False):
                 labels[new], labels[maker][new] = {}, set(LETTERS)
@@ -27,11 +36,12 @@ def closure(graph, depth):
         acting, makers = acting + subjects, subjects
     changed = True
     while changed:
-        changed = any([goes_on(labels, actor, other) for actor in acting for other in list(labels[actor])])
+        pairs = [(actor, other) for actor in acting for other in labels[actor]]
+        changed = any([goes_on(labels, actor, other) for actor, other in pairs])
     return labels
 
 
-def goes_on(labels, actor, other):
+def goes_on(labels: Closure, actor: int, other: int) -> bool:
     """Whether the actor takes something from the other vertex, or grants something to it."""
     label, more = labels[actor][other], False
     if "t" in label:
@@ -41,8 +51,8 @@ def goes_on(labels, actor, other):
     return more
 
 
-def gains(edges, others, owner):
-    """Whether a vertex gains rights that another one has, which it does then; nobody has any over itself."""
+def gains(edges: Edges, others: Edges, owner: int) -> bool:
+    """Whether a vertex gains rights that another has, over any but itself; it does so then."""
     more = False
     for end, label in list(others.items()):
         if end != owner and not label <= edges.get(end, set()):
@@ -51,7 +61,7 @@ def gains(edges, others, owner):
     return more
 
 
-def most_steps(graph, rights):
+def most_steps(graph: Graph, rights: str) -> tuple[int, int]:
     """The most steps that a derivation of these rights has, and the most creates among them."""
     acting = len(actors(graph))
     return len(rights) * (2 * len(graph.kinds) + 6 * acting), len(rights) * max(1, acting)

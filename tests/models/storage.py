@@ -1,13 +1,15 @@
-"""A run as its answers describe it: the graph that is never collected, and how many slots and cells may be in use.
+"""A run as its answers describe it: the graph that is never collected, and how many slots and cells
+may be in use.
 
-Only the number in use is known: slots by the creates and enrols and the slots that collector steps freed, cells between
-the edges of what is live and those of what may still have a slot. docs/COLLECTOR.md has what a collector step does.
+Only the number in use is known: slots by the creates and enrols and the slots that collector steps
+freed, cells between the edges of what is live and those of what may still have a slot.
+docs/COLLECTOR.md has what a collector step does.
 """
 
 import re
 
-from models.graph import MAKES, NONE_LEFT, Graph, gained
-from models.reading import line_of
+from models.graph import MAKES, NONE_LEFT, Graph
+from models.reading import Answer, Config, Event, line_of
 
 NOTE = re.compile(rb'\{"ended":(true|false),"freed":([01]),"phase":"(idle|mark|sweep)"\}')
 SWEPT = re.compile(rb'\{"freed":(0|[1-9][0-9]*),"steps":([1-9][0-9]*)\}')
@@ -19,17 +21,21 @@ CHANGES = (*MAKES, "take", "grant", "remove", "assume")
 class Run:
     """A run so far. `problem` takes each event in turn with the line that answered it."""
 
-    def __init__(self, config):
+    def __init__(self, config: Config):
         self.graph = Graph(config)
         self.slots, self.cells = config["slots"], config["cells"]
         self.used = len(self.graph.names)
         self.phase, self.steps = "idle", 0
-        # What was unreachable when this cycle started, what was so when the one before it did, and what has no slot any more.
-        self.doomed, self.ripe, self.gone = set(), set(), set()
-        # Whether sessions changed nothing since this cycle started, and how many cycles in a row before it were like that.
+        # What was unreachable when this cycle started, what was so when the one before it did, and
+        # what has no slot any more.
+        self.doomed: set[int] = set()
+        self.ripe: set[int] = set()
+        self.gone: set[int] = set()
+        # Whether sessions changed nothing since this cycle started, and how many cycles in a row
+        # before it were like that.
         self.is_alone, self.quiet = True, 0
 
-    def problem(self, event, answer):
+    def problem(self, event: Event, answer: bytes) -> str | None:
         """What is wrong with the answer to an event; nothing if it is right."""
         if event["op"] in ("collect", "cycle"):
             return self.noted(event["op"], answer)
@@ -37,9 +43,9 @@ class Run:
         if wanted is None:
             full = self.full(event, answer)
             wanted = {"full": full} if full else self.carried_out(event)
-        return None if answer == line_of(wanted) else "wanted " + line_of(wanted).decode()
+        return None if answer == line_of(wanted) else f"wanted {line_of(wanted).decode()}"
 
-    def carried_out(self, event):
+    def carried_out(self, event: Event) -> Answer:
         """The answer to an event that is carried out; what it changes ends the quiet."""
         roots = self.graph.roots()
         answer = self.graph.carried_out(event)
@@ -48,63 +54,66 @@ class Run:
             self.is_alone, self.quiet = False, 0
         return answer
 
-    def rebase(self):
-        """Three cycles while nobody has a seat, after which exactly what is live has a slot; it is the graph from then
-        on."""
+    def rebase(self) -> None:
+        """Three cycles while nobody has a seat: just what is live has a slot then."""
         self.graph = self.graph.rebased()
         self.used = len(self.graph.kinds)
         self.phase, self.steps, self.is_alone, self.quiet = "idle", 0, True, 2
         self.doomed, self.ripe, self.gone = set(), set(), set()
 
-    def cells_in_use(self):
-        """The fewest and the most cells that may be in use: the edges of what is live, and those of what may have a slot."""
-        live, pairs = self.graph.live(), self.graph.pairs()
-        return sum(start in live for start, _ in pairs), sum(start not in self.gone for start, _ in pairs)
+    def cells_in_use(self) -> tuple[int, int]:
+        """The fewest and the most cells in use: those of what is live, and of what may be there."""
+        live, starts = self.graph.live(), [start for start, _ in self.graph.pairs()]
+        return sum(it in live for it in starts), sum(it not in self.gone for it in starts)
 
-    def full(self, event, answer):
-        """Why an event that the rules allow is refused as full: what has to be used up, or what may be and is reported
-        as such."""
+    def full(self, event: Event, answer: bytes) -> str | None:
+        """Why an event that the rules allow is refused as full: what has to be used up, or what may
+        be and is reported as such."""
         graph, op = self.graph, event["op"]
         if op in MAKES and graph.next == NONE_LEFT:
             return "serials"
         if op in MAKES and self.used == self.slots:
             return "slots"
-        if op in MAKES or (op in ("take", "grant") and not graph.label(*gained(graph.actor(event["seat"]), event))):
+        if op in MAKES or not graph.has_edge(event):
             fewest, most = self.cells_in_use()
             if fewest >= self.cells or (most >= self.cells and answer == b'{"full":"cells"}'):
                 return "cells"
         return None
 
-    def noted(self, op, answer):
+    def noted(self, op: str, answer: bytes) -> str | None:
         """What is wrong with the answer to a line for the collector."""
         told = (NOTE if op == "collect" else SWEPT).fullmatch(answer)
         if not told:
-            return "no answer to " + op
+            return f"no answer to {op}"
         if self.phase == "idle":
             self.steps, self.is_alone = 0, True
             self.doomed = set(self.graph.kinds) - self.graph.live()
         if op == "collect":
-            ended, freed, phase = told[1] == b"true", int(told[2]), told[3].decode()
-            if phase not in FOLLOWS[self.phase] or ended != (phase == "idle") or (freed and (self.phase, phase) != ("sweep", "sweep")):
-                return "a step that does not follow the phase " + self.phase
-            self.phase, self.steps, self.used = phase, self.steps + 1, self.used - freed
+            ended, freed, steps, phase = told[1] == b"true", int(told[2]), 1, told[3].decode()
+            may_free = self.phase == phase == "sweep"
+            follows = phase in FOLLOWS[self.phase] and ended == (phase == "idle")
+            if not follows or (freed and not may_free):
+                return f"a step that does not follow the phase {self.phase}"
         else:
-            ended, self.phase, self.steps, self.used = True, "idle", self.steps + int(told[2]), self.used - int(told[1])
-        if told[2 if op == "collect" else 1] != b"0" and self.used < len(self.graph.live()):
+            ended, freed, steps, phase = True, int(told[1]), int(told[2]), "idle"
+        self.phase, self.steps, self.used = phase, self.steps + steps, self.used - freed
+        if freed and self.used < len(self.graph.live()):
             return "fewer slots in use than live vertices"
         if self.steps > self.slots**2 + 3 * self.slots + self.cells + 3:
             return "more steps than a cycle has"
         return self.ended() if ended else None
 
-    def ended(self):
+    def ended(self) -> str | None:
         """What is wrong at the end of a cycle."""
         if self.is_alone:
             fewest, most = self.cells_in_use()
             late = self.shaded_late()
-            # A start, an end of marking and an end of the sweep; a step for each slot; two for each slot that is kept, one for each cell.
+            # A start, an end of marking and an end of the sweep; a step for each slot; two for each
+            # slot that is kept, one for each cell.
             cells = self.steps - 3 - self.slots - 2 * self.used
             if not fewest + (late if self.quiet else 0) <= cells <= most + late:
-                return "%d steps, where the cells are %d to %d and %d targets are shaded" % (self.steps, fewest, most, late)
+                known = f"the cells are {fewest} to {most} and {late} targets are shaded"
+                return f"{self.steps} steps, where {known}"
             self.quiet += 1
         self.gone |= self.ripe
         self.ripe = self.doomed
@@ -112,7 +121,7 @@ class Run:
             return "more slots in use than may be after two cycles"
         return None
 
-    def shaded_late(self):
+    def shaded_late(self) -> int:
         """How many pending targets a cycle shades for their seats, when sessions wait."""
         found, late = self.graph.reached(self.graph.roots()), 0
         for _, target in sorted(self.graph.pending.items()):

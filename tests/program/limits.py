@@ -1,27 +1,28 @@
-"""Every limit at once: a run, a server with its settling, and an audit, each with the greatest configuration, lines of
-16,384 bytes, texts of 4,096 bytes, an owner of an edge for each slot, and 63 sessions, 64 seats or 100,000 steps. And
-runs in which a name is that of 100,000 principals, in which every slot is that of one who retired, and in which every
-seat acts for a subject of its own. And a server that begins a round with a vault that is full. No answer may be `out of memory`.
+"""Every limit at once: a run, a server with its settling, and an audit, each with the greatest
+configuration, lines of 16,384 bytes, texts of 4,096 bytes, an owner of an edge for each slot, and
+63 sessions, 64 seats or 100,000 steps. And runs in which a name is that of 100,000 principals, in
+which every slot is that of one who retired, and in which every seat acts for a subject of its own.
+And a server that begins a round with a vault that is full. No answer may be `out of memory`.
 
-Each answer is built here by the rules of docs/PROTOCOL.md, the steps of the cycle by docs/COLLECTOR.md. Each test takes
-the program's path and answers whether it passed.
+Each answer is built here by the rules of docs/PROTOCOL.md, the steps of the cycle by
+docs/COLLECTOR.md.
 """
 
 import contextlib
 import json
-import subprocess
+import socket
+from collections.abc import Callable, Iterator
 from concurrent.futures import ThreadPoolExecutor
+from pathlib import Path
+from typing import Any
 
-from faults.refused import NO_MEMORY
-from faults.scripts import (
-    BYE, DONE, SHARED, alone, assume, caused, create, created, edges, enrol, goal, hello, look, remove, shaded, swept, take,
-    text, welcome, write,
-)
+from checking import Test, Tests, same
+from faults.scripts import BYE, DONE, SHARED, alone, assume, caused, create, created, edges, enrol
+from faults.scripts import goal, hello, look, remove, shaded, swept, take, text, welcome, write
 from models.graph import SEATS
 from models.reading import LONGEST_LINE, LONGEST_TEXT
-from program.lines import joined
-from server.rounds import in_rounds, told
-from server.servers import AGREED, SECONDS, read_all, read_line, served
+from running import SECONDS, asked, joined
+from server.servers import in_rounds, read_all, read_line, served
 
 SLOTS, CELLS = 65_536, 1_048_576
 NAMES = [x + y for x in "abcdefgh" for y in "abcdefgh"]
@@ -30,16 +31,25 @@ STEPS = 100_000
 VISITS = 100_000
 
 # Each principal may take from the first, who makes documents until no slot is left.
-CONFIG = {"cells": CELLS, "edges": [[serial, "t", 1] for serial in range(2, len(NAMES) + 1)], "principals": NAMES, "slots": SLOTS}
+EDGES = [[serial, "t", 1] for serial in range(2, len(NAMES) + 1)]
+CONFIG = {"cells": CELLS, "edges": EDGES, "principals": NAMES, "slots": SLOTS}
 DOCUMENTS = range(len(NAMES) + 1, SLOTS + 1)
 FIRST = DOCUMENTS[0]
 OWNED = edges(b",".join(b'[%d,"rw"]' % serial for serial in DOCUMENTS))
 
 # The second is written by escapes, which make a line of three times its bytes.
-TEXTS = {b"a" * LONGEST_TEXT: b"a" * LONGEST_TEXT, b"\\u00e9" * (LONGEST_TEXT // 2): "é".encode() * (LONGEST_TEXT // 2)}
+TEXTS = {
+    b"a" * LONGEST_TEXT: b"a" * LONGEST_TEXT,
+    b"\\u00e9" * (LONGEST_TEXT // 2): "é".encode() * (LONGEST_TEXT // 2),
+}
+LAST_TEXT = text(list(TEXTS.values())[-1])
+FULL = b'{"full":"slots"}'
+
+# Lines with their answers; an opening has none.
+Rows = Iterator[tuple[bytes, bytes | None]]
 
 
-def longest(line):
+def longest(line: bytes) -> bytes:
     """The line with white space up to the limit."""
     return line.ljust(LONGEST_LINE)
 
@@ -47,117 +57,104 @@ def longest(line):
 OPENING = longest(json.dumps(CONFIG).encode())
 
 
-def read(over, seat):
+def read(over: int, seat: int) -> bytes:
     return b'{"op":"read","over":%d,"seat":%d}' % (over, seat)
 
 
-def asked(seat):
-    """The commands of the principal of a seat, each with its answer and the target that it leaves. The first principal's come before all others'."""
+def commands(seat: int) -> list[tuple[bytes, bytes, int | None]]:
+    """The commands of the principal of a seat, each with its answer and the target that it leaves.
+    The first principal's come before all others'."""
     if seat > 0:
-        return [(take(b"r", FIRST, 1, seat), DONE, FIRST), (longest(read(FIRST, seat)), text(list(TEXTS.values())[-1]), None)]
+        taken = (take(b"r", FIRST, 1, seat), DONE, FIRST)
+        return [taken, (longest(read(FIRST, seat)), LAST_TEXT, None)]
     made = [(create(b"rw"), created(serial), serial) for serial in DOCUMENTS]
-    told = [(create(b"r"), b'{"full":"slots"}', None), (longest(look(1)), OWNED, None)]
+    told = [(create(b"r"), FULL, None), (longest(look(1)), OWNED, None)]
     for given, kept in TEXTS.items():
-        told += [(longest(write(FIRST, given)), DONE, None), (longest(read(FIRST, 0)), text(kept), None)]
-    return made + told
+        told.append((longest(write(FIRST, given)), DONE, None))
+        told.append((longest(read(FIRST, 0)), text(kept), None))
+    return [*made, *told]
 
 
-def is_as_wanted(found, wanted):
-    """Whether these are the lines that are wanted, none of which is `out of memory`; the first other is printed."""
-    pairs = list(zip(found.splitlines(), wanted.splitlines()))
-    for place, (row, other) in enumerate(pairs):
-        if row != other:
-            print("  answer %d: wanted %r, found %r" % (place, other[:200], row[:200]))
-            break
-    return NO_MEMORY not in found and found == wanted
-
-
-def lines_of_run():
-    """The lines of a run, with their answers; the opening has none. A cycle starts, ends its marking and ends its sweep, goes over each slot once, and has two
-    steps for each that is kept, which all are, and one for each edge."""
+def lines_of_run() -> Rows:
+    """The lines of a run of 64 principals, each on a seat, with their answers, none of which is an
+    error. A cycle starts, ends its marking and ends its sweep, goes over each slot once, and has
+    two steps for each that is kept, which all are, and one for each edge."""
     yield OPENING, None
     for seat, name in enumerate(NAMES):
         yield longest(hello(name.encode(), seat)), welcome(seat + 1)
     for seat in range(len(NAMES)):
-        for line, answer, target in asked(seat):
+        for line, answer, target in commands(seat):
             yield line, answer
             if target:
                 yield alone(b"shade", seat), shaded(target)
-    held = len(CONFIG["edges"]) + len(DOCUMENTS) + len(NAMES) - 1
+    held = len(EDGES) + len(DOCUMENTS) + len(NAMES) - 1
     yield alone(b"cycle"), swept(0, 3 + 3 * SLOTS + held)
 
 
-def run_at_every_limit(program):
-    """64 principals, each on a seat. No answer is an error."""
-    rows = list(lines_of_run())
-    given = joined(*[line for line, _ in rows])
-    ran = subprocess.run([str(program), "run"], input=given, stdout=subprocess.PIPE, timeout=SECONDS)
-    return is_as_wanted(ran.stdout, joined(*[answer for _, answer in rows if answer])) and ran.returncode == 0
-
-
-def greeted(connection, seat):
-    """Whether the client of a connection is greeted as the principal of a seat."""
+def greeted(connection: socket.socket, seat: int) -> None:
+    """The client of a connection is greeted as the principal of a seat."""
     connection.sendall(longest(hello(NAMES[seat].encode())) + b"\n")
-    return read_line(connection) == welcome(seat + 1) + b"\n"
+    same(read_line(connection), welcome(seat + 1) + b"\n")
 
 
-def talked(connection, seat):
-    """Whether the principal of a seat has the answers that are wanted, up to the bye; no line waits for an answer."""
-    rows = [(line, answer) for line, answer, _ in asked(seat)] + [(alone(b"bye"), BYE)]
+def talked(connection: socket.socket, seat: int) -> None:
+    """The principal of a seat has the answers that are wanted; no line waits for an answer."""
+    rows = [(line, answer) for line, answer, _ in commands(seat)] + [(alone(b"bye"), BYE)]
     with ThreadPoolExecutor() as pool:
         poured = pool.submit(connection.sendall, joined(*[line for line, _ in rows]))
         found = read_all(connection)
         poured.result(SECONDS)
-    return is_as_wanted(found, joined(*[answer for _, answer in rows]))
+    same(found, joined(*[answer for _, answer in rows]), f"seat {seat}")
 
 
-def talks_at_every_limit(program):
-    """63 sessions at once. Settling goes over all that was made, written, looked at and read, and over what was full:
-    it finds that everything agrees."""
-    with served(program, SESSIONS, SESSIONS, OPENING + b"\n") as server, contextlib.ExitStack() as stack:
+def talks_at_every_limit(program: Path) -> None:
+    """63 sessions at once. Settling goes over all that was made, written, looked at and read, and
+    over what was full: it finds that everything agrees."""
+    serving = served(program, SESSIONS, SESSIONS, config=OPENING + b"\n")
+    with serving as server, contextlib.ExitStack() as stack:
         clients = [stack.enter_context(server.connection()) for _ in range(SESSIONS)]
-        good = all([greeted(client, seat) for seat, client in enumerate(clients)])
-        good = good and talked(clients[0], 0)
+        for seat, client in enumerate(clients):
+            greeted(client, seat)
+        talked(clients[0], 0)
         with ThreadPoolExecutor(SESSIONS) as pool:
-            good = good and all(pool.map(talked, clients[1:], range(1, SESSIONS)))
-        stack.close()
-        ended = server.end()
-    return good and ended == AGREED
+            list(pool.map(talked, clients[1:], range(1, SESSIONS)))
 
 
-def a_full_vault_is_rebased(program):
-    """What fills every slot lives, so the next round begins with all of it: an edge to each document, and the text of one."""
-    rows = [(hello(NAMES[0].encode()), welcome(1)), (longest(look(1)), OWNED), (read(FIRST, 0), text(list(TEXTS.values())[-1])), (alone(b"bye"), BYE)]
-    with in_rounds(program, 1, 2, 1, OPENING + b"\n") as server:
+def a_full_vault_is_rebased(program: Path) -> None:
+    """What fills every slot lives, so the next round begins with all of it: an edge to each
+    document, and the text of one."""
+    rows = [(hello(NAMES[0].encode()), welcome(1)), (longest(look(1)), OWNED)]
+    rows += [(read(FIRST, 0), LAST_TEXT), (alone(b"bye"), BYE)]
+    how: dict[str, Any] = {"config": OPENING + b"\n", "ends": in_rounds(len(commands(0)))}
+    with served(program, 1, 2, "--round", "1", **how) as server:
         with server.connection() as first:
-            good = greeted(first, 0) and talked(first, 0)
-        with server.connection() as second:
-            second.sendall(joined(*[line for line, _ in rows]))
-            good = is_as_wanted(read_all(second), joined(*[answer for _, answer in rows])) and good
-        ended = server.end()
-    return good and ended == told(len(asked(0)))
+            greeted(first, 0)
+            talked(first, 0)
+        found = server.exchange(joined(*[line for line, _ in rows]))
+        same(found, joined(*[answer for _, answer in rows]))
 
 
-def step(actor, line):
+def step(actor: int, line: bytes) -> bytes:
     """The step that a line of a run is, of this actor."""
     fields = {name: value for name, value in json.loads(line).items() if name != "seat"}
     return json.dumps({"actor": actor, **fields}).encode()
 
 
-def audit_at_every_limit(program):
-    """As many documents as in the run; what is owned is looked at, each text is written and read, the last one again
-    and again; and all take from the first, the last of them what the goal asks for."""
+def audit_at_every_limit(program: Path) -> None:
+    """As many documents as in the run; what is owned is looked at, each text is written and read,
+    the last one again and again; and all take from the first, the last of them what the goal asks
+    for."""
     steps = [step(1, create(b"rw"))] * len(DOCUMENTS) + [step(1, look(1))]
     for given in TEXTS:
         steps += [step(1, write(FIRST, given)), longest(step(1, read(FIRST, 0)))]
     steps += [step(1, read(FIRST, 0))] * (STEPS - len(steps) - (len(NAMES) - 1))
     steps += [step(serial, take(b"r", FIRST, 1)) for serial in range(2, len(NAMES) + 1)]
+    same(len(steps), STEPS)
     given = joined(OPENING, longest(goal(len(NAMES), b"r", FIRST)), *steps)
-    ran = subprocess.run([str(program), "audit"], input=given, stdout=subprocess.PIPE, timeout=SECONDS)
-    return len(steps) == STEPS and is_as_wanted(ran.stdout, joined(SHARED)) and ran.returncode == 0
+    same(asked(program, "audit", given=given), (joined(SHARED), 0))
 
 
-def visit(serial):
+def visit(serial: int) -> Rows:
     """The lines of a guest who is enrolled, retires and leaves, with their answers."""
     yield enrol(b"guest", b"r"), created(serial)
     yield alone(b"shade"), shaded(serial)
@@ -167,9 +164,10 @@ def visit(serial):
     yield alone(b"bye", 1), BYE
 
 
-def lines_of_one_name():
-    """One name, of one guest after the other. Each was shaded, so that it is freed by the second cycle after it is
-    dropped: three slots are enough. A cycle goes over alice and the last guest, neither of whom has an edge then."""
+def lines_of_one_name() -> Rows:
+    """One name, of one guest after the other. Each was shaded, so that it is freed by the second
+    cycle after it is dropped: three slots are enough. A cycle goes over alice and the last guest,
+    neither of whom has an edge then."""
     yield b'{"principals":["alice"],"slots":3}', None
     yield hello(b"alice"), welcome(1)
     for serial in range(2, VISITS + 2):
@@ -178,22 +176,23 @@ def lines_of_one_name():
         yield alone(b"cycle"), swept(int(serial > 2), 3 + 3 + 2 * 2)
 
 
-def lines_of_all_slots():
-    """No guest is dropped, so that each keeps a slot, and there is no room for one more. When alice has retired too,
-    there is no root, and one cycle frees all that the one before it made white."""
+def lines_of_all_slots() -> Rows:
+    """No guest is dropped, so that each keeps a slot, and there is no room for one more. When alice
+    has retired too, there is no root, and one cycle frees all that the one before it made white."""
     yield b'{"cells":65536,"principals":["alice"],"slots":65536}', None
     yield hello(b"alice"), welcome(1)
     for serial in range(2, SLOTS + 1):
         yield from visit(serial)
-    yield enrol(b"guest", b"r"), b'{"full":"slots"}'
+    yield enrol(b"guest", b"r"), FULL
     yield alone(b"cycle"), swept(0, 3 + 3 * SLOTS + SLOTS - 1)
     yield alone(b"retire"), DONE
     yield alone(b"cycle"), swept(SLOTS, 3 + SLOTS + SLOTS - 1)
 
 
-def lines_of_64_agents():
-    """Each seat is alice's, and acts for a subject of its own that has a document; only of the last does alice keep her
-    rights. They are all kept, and after half of the seats left and half said bye all but the last are freed."""
+def lines_of_64_agents() -> Rows:
+    """Each seat is alice's, and acts for a subject of its own that has a document; only of the last
+    does alice keep her rights. They are all kept, and after half of the seats left and half said
+    bye all but the last are freed."""
     slots = 1 + 2 * SEATS
     yield b'{"principals":["alice"],"slots":%d}' % slots, None
     for seat in range(SEATS):
@@ -207,8 +206,9 @@ def lines_of_64_agents():
         yield alone(b"shade", seat), shaded(agent)
         yield create(b"r", seat=seat), created(agent + 1)
         yield alone(b"shade", seat), shaded(agent + 1)
-    yield create(b"r"), b'{"full":"slots"}'
-    # The steps are those that `lines_of_run` counts; a cell that is freed takes one step like one that is looked at.
+    yield create(b"r"), FULL
+    # The steps are those that `lines_of_run` counts; a cell that is freed takes one step like one
+    # that is looked at.
     yield from [(alone(b"cycle"), swept(0, 3 + 3 * slots + SEATS + 1))] * 2
     for seat in range(SEATS):
         agent = 2 + 2 * seat
@@ -218,24 +218,23 @@ def lines_of_64_agents():
     yield look(1, 63), edges(b'[%d,"tg"]' % (2 * SEATS))
 
 
-def answered(lines):
+def answered(lines: Callable[[], Rows]) -> Test:
     """A run whose lines have their answers; no answer is an error."""
 
-    def test(program):
+    def test(program: Path) -> None:
         rows = list(lines())
-        given = joined(*[line for line, _ in rows])
-        ran = subprocess.run([str(program), "run"], input=given, stdout=subprocess.PIPE, timeout=SECONDS)
-        return is_as_wanted(ran.stdout, joined(*[answer for _, answer in rows if answer])) and ran.returncode == 0
+        written, status = asked(program, "run", given=joined(*[line for line, _ in rows]))
+        same(written, joined(*[answer for _, answer in rows if answer]))
+        same(status, 0)
 
     return test
 
 
-def tests():
-    """All tests by their names."""
+def tests() -> Tests:
     yield "a-name-of-100000-principals", answered(lines_of_one_name)
     yield "every-slot-of-a-principal-that-retired", answered(lines_of_all_slots)
     yield "each-seat-acts-for-a-subject", answered(lines_of_64_agents)
-    yield "run-at-every-limit", run_at_every_limit
+    yield "run-at-every-limit", answered(lines_of_run)
     yield "talks-at-every-limit", talks_at_every_limit
     yield "a-full-vault-is-rebased", a_full_vault_is_rebased
     yield "audit-at-every-limit", audit_at_every_limit

@@ -13,11 +13,14 @@ import signal
 import subprocess
 import tempfile
 import threading
+from collections.abc import Iterator
 from pathlib import Path
+from typing import Any
 
 import builds
+from checking import Test, Tests, same, skipped
 from playground.service import MOST_BYTES, MOST_LINES, Service, opened
-from program.programs import ROOT, SECONDS, skipped
+from running import ROOT, SECONDS, asked, hear, joined, started
 
 GROUP = (ROOT / "examples" / "models" / "group.jsonl").read_text().splitlines()
 
@@ -89,12 +92,13 @@ class Probed(Service):
 
     files = [*Service.files, "probe.js"]
 
-    def reply(self, status, kind, body):
+    def reply(self, status: int, kind: str, body: bytes) -> None:
         if kind == "text/html":
-            body = body.replace(b"</head>", b'<script type="module" src="probe.js"></script></head>')
+            probe = b'<script type="module" src="probe.js"></script></head>'
+            body = body.replace(b"</head>", probe)
         super().reply(status, kind, body)
 
-    def do_GET(self):
+    def do_GET(self) -> None:
         if self.path == "/probe.js":
             self.reply(200, "text/javascript", PROBE.encode())
         else:
@@ -102,7 +106,7 @@ class Probed(Service):
 
 
 @contextlib.contextmanager
-def served(program, service=Service):
+def served(program: Path, service: type[Service] = Service) -> Iterator[int]:
     """A playground over this program, on a free port."""
     before, builds.FOUND = builds.FOUND, program
     server = opened(service, 0)
@@ -117,61 +121,85 @@ def served(program, service=Service):
         builds.FOUND = before
 
 
-def asked(port, path, question, **headers):
-    """The status and the answer to a question."""
+def replied(
+    port: int, method: str, path: str, headers: dict[str, str], body: bytes | None = None
+) -> tuple[int, bytes]:
+    """The status and the body of the reply to a request."""
     line = http.client.HTTPConnection("127.0.0.1", port, timeout=SECONDS)
-    body = question if isinstance(question, bytes) else json.dumps(question).encode()
-    told = {"Content-Type": "application/json", **{name.replace("_", "-"): value for name, value in headers.items()}}
-    line.request("POST", path, body, told)
+    line.request(method, path, body, headers)
     reply = line.getresponse()
-    answer = json.loads(reply.read())
+    found = reply.status, reply.read()
     line.close()
-    return reply.status, answer
+    return found
 
 
-def answers(program):
+def told(port: int, path: str, question: object, **headers: str) -> tuple[int, Any]:
+    """The status and the answer to a question."""
+    body = question if isinstance(question, bytes) else json.dumps(question).encode()
+    headers = {"Content-Type": "application/json", **headers}
+    status, answer = replied(port, "POST", path, headers, body)
+    return status, json.loads(answer)
+
+
+def fetched(port: int, path: str, **headers: str) -> int:
+    """The status of a file."""
+    return replied(port, "GET", path, headers)[0]
+
+
+WHO = {"lines": GROUP, "to": 6, "rights": "r"}
+# alice and bob have it, and so has the group (5); carol can be granted it; nobody can give dave
+# anything
+TOLD_WHO = (200, {"have": [1, 2, 5], "could": [3], "never": [4]})
+
+
+def answers(program: Path) -> None:
     """What the server answers is what the program does about the lines."""
+    given = joined(*[row.encode() for row in GROUP])
+    ran, drew = asked(program, "run", given=given), asked(program, "draw", "--each", given=given)
     with served(program) as port:
-        status, state = asked(port, "/state", {"lines": GROUP})
-        ran = subprocess.run([str(program), "run"], input="\n".join(GROUP).encode() + b"\n", capture_output=True, timeout=SECONDS)
-        drew = subprocess.run([str(program), "draw", "--each"], input="\n".join(GROUP).encode() + b"\n", capture_output=True, timeout=SECONDS)
-        refused = asked(port, "/state", {"lines": ["{}"]})
-        who = asked(port, "/who", {"lines": GROUP, "to": 6, "rights": "r"})
-        never = asked(port, "/share", {"lines": GROUP, "from": 4, "to": 6, "rights": "r"})
-        shared = asked(port, "/share", {"lines": GROUP, "from": 2, "to": 6, "rights": "r"})
-    good = status == 200 and state["answers"] == ran.stdout.decode().splitlines() and state["pictures"][1:] == drew.stdout.decode().splitlines()
-    good = good and refused == (200, {"refused": {"error": "missing field"}})
-    # alice and bob have it, and so has the group (5); carol can be granted it; nobody can give dave anything
-    good = good and who == (200, {"have": [1, 2, 5], "could": [3], "never": [4]})
-    return good and never == (200, {"steps": [], "verdict": "never"}) and shared == (200, {"steps": [], "verdict": None})
+        status, state = told(port, "/state", {"lines": GROUP})
+        same(status, 200)
+        same(state["answers"], ran[0].decode().splitlines())
+        same(state["pictures"][1:], drew[0].decode().splitlines())
+        refused = {"refused": {"error": "missing field"}}
+        same(told(port, "/state", {"lines": ["{}"]}), (200, refused))
+        same(told(port, "/who", WHO), TOLD_WHO)
+        for start, verdict in ((4, "never"), (2, None)):
+            question: dict[str, Any] = {**WHO, "from": start}
+            answer = told(port, "/share", question)
+            same(answer, (200, {"steps": [], "verdict": verdict}))
 
 
-def refusals(program):
+def refusals(program: Path) -> None:
     """Requests that no page of the server's own makes, and questions that are too long or none."""
     fine = {"lines": GROUP[:1]}
+    ends: dict[str, Any] = {**fine, "from": 1, "to": 2, "rights": "r"}
     with served(program) as port:
-        own = "http://127.0.0.1:%d" % port
-        found = [
-            asked(port, "/state", fine, Origin=own)[0],
-            asked(port, "/state", fine, Origin="http://example.org")[0],
-            asked(port, "/state", fine, Origin="null")[0],
-            asked(port, "/state", fine, Host="example.org:%d" % port)[0],
-            asked(port, "/state", fine, Sec_Fetch_Site="cross-site")[0],
-            asked(port, "/state", fine, Content_Type="text/plain")[0],
-            asked(port, "/nothing", fine)[0],
-            asked(port, "/state", b"[]")[0],
-            asked(port, "/state", b"{")[0],
-            asked(port, "/state", {"lines": ["x"] * (MOST_LINES + 1)})[0],
-            asked(port, "/state", {"lines": ["x\ny"]})[0],
-            asked(port, "/state", {"lines": []})[0],
-            asked(port, "/state", {"lines": ["x" * MOST_BYTES]})[0],
-            asked(port, "/share", {**fine, "from": 1, "to": 2, "rights": "--help"})[0],
-            asked(port, "/share", {**fine, "from": "--help", "to": 2, "rights": "r"})[0],
-        ]
-        files = [fetched(port, path) for path in ("/", "/app.js", "/service.py", "/../builds.py", "/playground", "/%2e%2e/builds.py")]
-        other = fetched(port, "/", "example.org")
-    print("  %s; %s, %d" % (found, files, other))
-    return found == [200, 403, 403, 403, 403, 403, 404, 404, 400, 400, 400, 400, 413, 400, 400] and (files, other) == ([200, 200, 404, 404, 404, 404], 403)
+        for status, headers in [
+            (200, {"Origin": f"http://127.0.0.1:{port}"}),
+            (403, {"Origin": "http://example.org"}),
+            (403, {"Origin": "null"}),
+            (403, {"Host": f"example.org:{port}"}),
+            (403, {"Sec-Fetch-Site": "cross-site"}),
+            (403, {"Content-Type": "text/plain"}),
+        ]:
+            same(told(port, "/state", fine, **headers)[0], status, str(headers))
+        for status, path, question in [
+            (404, "/nothing", fine),
+            (404, "/state", b"[]"),
+            (400, "/state", b"{"),
+            (400, "/state", {"lines": ["x"] * (MOST_LINES + 1)}),
+            (400, "/state", {"lines": ["x\ny"]}),
+            (400, "/state", {"lines": []}),
+            (413, "/state", {"lines": ["x" * MOST_BYTES]}),
+            (400, "/share", {**ends, "rights": "--help"}),
+            (400, "/share", {**ends, "from": "--help"}),
+        ]:
+            same(told(port, path, question)[0], status, str(question)[:100])
+        outside = ["/service.py", "/../builds.py", "/playground", "/%2e%2e/builds.py"]
+        for status, path in [(200, "/"), (200, "/app.js"), *[(404, path) for path in outside]]:
+            same(fetched(port, path), status, path)
+        same(fetched(port, "/", Host="example.org"), 403)
 
 
 # A program that answers for all vertices at once who could come to have rights, and for none alone.
@@ -184,68 +212,64 @@ esac
 """
 
 
-def asked_at_once(program):
+def asked_at_once(program: Path) -> None:
     """Of a program that can be asked for all vertices at once, that one question is asked."""
     with tempfile.TemporaryDirectory() as folder:
         other = Path(folder) / "tgdoc"
         other.write_text(AT_ONCE % shlex.quote(str(program)))
         other.chmod(0o755)
         with served(other) as port:
-            who = asked(port, "/who", {"lines": GROUP, "to": 6, "rights": "r"})
-    return who == (200, {"have": [1, 2, 5], "could": [3], "never": [4]})
+            same(told(port, "/who", WHO), TOLD_WHO)
 
 
-def fetched(port, path, host=None):
-    """The status of a file."""
-    line = http.client.HTTPConnection("127.0.0.1", port, timeout=SECONDS)
-    line.request("GET", path, headers={"Host": host} if host else {})
-    status = line.getresponse().status
-    line.close()
-    return status
+def in_a_browser(size: str) -> Test:
+    """All that the page offers works in a window of this size, and the console stays empty."""
 
-
-def in_a_browser(size):
-    """Stories, time, commands, questions and derivations work in a window of this size, and nothing is said in the console."""
-
-    def test(program):
+    def test(program: Path) -> None:
         browser = shutil.which("chromium")
         if not browser:
             return skipped("Chromium")
-        report, is_told = [], threading.Event()
+        report: list[str] = []
+        is_told = threading.Event()
 
-        def tell(asked):
+        def tell(asked: dict[str, Any]) -> dict[str, Any]:
             report.append("; ".join(asked["seen"]))
             is_told.set()
             return {}
 
-        probed = type("Reporting", (Probed,), {"answers": {**Service.answers, "/seen": tell}})
-        with tempfile.TemporaryDirectory() as folder, open(folder + "/said", "w+b") as said, served(program, probed) as port:
-            words = [browser, "--headless", "--no-sandbox", "--disable-gpu", "--enable-logging=stderr", "--user-data-dir=" + folder + "/data"]
-            with subprocess.Popen([*words, "--window-size=" + size, "http://127.0.0.1:%d/" % port], stdout=subprocess.DEVNULL, stderr=said) as process:
+        reporting = {"answers": {**Service.answers, "/seen": tell}}
+        probed = type("Reporting", (Probed,), reporting)
+        with contextlib.ExitStack() as stack:
+            folder = stack.enter_context(tempfile.TemporaryDirectory())
+            said = stack.enter_context(open(f"{folder}/said", "w+b"))
+            port = stack.enter_context(served(program, probed))
+            words = ["--headless", "--no-sandbox", "--disable-gpu", "--enable-logging=stderr"]
+            words += [f"--user-data-dir={folder}/data", f"--window-size={size}"]
+            with started(Path(browser), *words, f"http://127.0.0.1:{port}/", stderr=said):
                 is_told.wait(SECONDS)
-                process.kill()
             said.seek(0)
-            console = [row for row in said.read().decode(errors="replace").splitlines() if ":CONSOLE" in row]
-        print("  %s%s" % (report or "no report", "".join("\n  " + row for row in console)))
-        return report == [WANTED.replace("\n", " ")] and not console
+            rows = said.read().decode(errors="replace").splitlines()
+        print(f"  {report or 'no report'}")
+        same([row for row in rows if ":CONSOLE" in row], [], "the console")
+        same(report, [WANTED.replace("\n", " ")])
 
     return test
 
 
-def started(program):
-    """The command prints the address of its page, which is there, and Ctrl-C ends it with nothing more said."""
-    words, how = [str(ROOT / "examples" / "playground" / "playground"), "--port", "0"], {"stdout": subprocess.PIPE, "stderr": subprocess.PIPE}
-    with subprocess.Popen(words, env={**os.environ, "TGDOC": str(program)}, **how) as process:
-        told = process.stdout.readline().decode()
-        status = fetched(int(told.split(":")[2].partition("/")[0]), "/")
+def starts(program: Path) -> None:
+    """The command prints the address of its page, which is there; Ctrl-C ends it in silence."""
+    command = ROOT / "examples" / "playground" / "playground"
+    how: dict[str, Any] = {"env": {**os.environ, "TGDOC": str(program)}, "stderr": subprocess.PIPE}
+    with started(command, "--port", "0", **how) as process:
+        address = hear(process).decode()
+        same(fetched(int(address.split(":")[2].partition("/")[0]), "/"), 200)
         process.send_signal(signal.SIGINT)
-        rest, errors = process.communicate(timeout=SECONDS)
-    return (status, rest, errors, process.returncode) == (200, b"\n", b"", 0)
+        same(process.communicate(timeout=SECONDS), (b"\n", b""))
+        same(process.returncode, 0)
 
 
-def tests():
-    """All tests by their names."""
-    yield "playground-starts", started
+def tests() -> Tests:
+    yield "playground-starts", starts
     yield "playground-answers", answers
     yield "playground-asks-at-once", asked_at_once
     yield "playground-refuses", refusals

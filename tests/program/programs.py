@@ -1,307 +1,268 @@
-"""Runs that are more than an input and an output: each test takes the program's path and returns whether it passed."""
+"""Runs that are more than an input and an output."""
 
-import contextlib
 import itertools
-import os
 import re
 import select
 import shlex
 import subprocess
-import threading
 from pathlib import Path
 
-ROOT = Path(__file__).resolve().parents[2]
+from checking import Test, Tests, same, skipped
+from running import ROOT, Word, asked, example, hear, ran, rest_of, started, tell, unreadable
 
-# Each program is killed after this many seconds, so that no test hangs.
-SECONDS = 60
+__all__ = ["refused", "skipped", "tests"]
+
 CONFIG = b'{"principals":["alice"]}\n'
 HELLO = b'{"name":"alice","op":"hello"}\n'
 WELCOME = b'{"ok":"hello","vertex":1}\n'
-DERIVATION = CONFIG + b'{"from":1,"rights":"r","to":2}\n{"actor":1,"kind":"document","op":"create","rights":"r"}\n'
+BYE, PARTED = b'{"op":"bye"}\n', b'{"ok":"bye"}\n'
+DERIVATION = CONFIG + b'{"from":1,"rights":"r","to":2}\n'
+DERIVATION += b'{"actor":1,"kind":"document","op":"create","rights":"r"}\n'
 SHARED = b'{"verdict":"shared"}\n'
 # What `draw` writes for alice, who has a seat, after both lines.
-PICTURE = b'digraph { graph [labelloc=t,labeljust=l,label="lines 2, errors 0\\lphase idle, free slots 1023, free cells 16384\\lseat 0: 1\\l"]; '
-PICTURE += b'node [shape=circle,width=1]; 1 [label="1 alice\\nwhite\\nseat 0",class="subject white",style=filled,fillcolor=skyblue,penwidth=1]; }\n'
+PICTURE = (
+    b'digraph { graph [labelloc=t,labeljust=l,label="lines 2, errors 0\\l'
+    b'phase idle, free slots 1023, free cells 16384\\lseat 0: 1\\l"]; '
+    b'node [shape=circle,width=1]; 1 [label="1 alice\\nwhite\\nseat 0",class="subject white",'
+    b"style=filled,fillcolor=skyblue,penwidth=1]; }\n"
+)
 
 
-def skipped(what):
-    """A test that cannot be made here passes, and says so."""
-    print("  skipped: there is no %s" % what)
-    return True
-
-
-@contextlib.contextmanager
-def talk(program, *words, room=-1):
-    """A program that runs while a test talks to it, over pipes with this many bytes of room. It is killed in the end,
-    or when its time is over: a read from it then finds no more bytes."""
-    with subprocess.Popen([str(program), *words], stdin=subprocess.PIPE, stdout=subprocess.PIPE, pipesize=room) as process:
-        limit = threading.Timer(SECONDS, process.kill)
-        limit.start()
-        try:
-            yield process
-        finally:
-            limit.cancel()
-            process.kill()
-
-
-def answers_come_at_once(program):
+def answers_come_at_once(program: Path) -> None:
     """Each answer can be read before the next line is sent."""
-    with talk(program, "run") as process:
-        process.stdin.write(CONFIG + HELLO)
-        process.stdin.flush()
-        first = process.stdout.readline()
-        process.stdin.write(b'{"op":"bye"}\n')
-        process.stdin.flush()
-        second = process.stdout.readline()
-        process.stdin.write(b"half a li")
-        process.stdin.flush()
-        process.stdin.write(b"ne\n")
-        process.stdin.flush()
-        third = process.stdout.readline()
-        process.stdin.close()
-        rest = process.stdout.read()
-        status = process.wait(SECONDS)
-    return (first, second, third, rest, status) == (b'{"ok":"hello","vertex":1}\n', b'{"ok":"bye"}\n', b'{"error":"not json"}\n', b"", 1)
+    with started(program, "run") as process:
+        tell(process, CONFIG + HELLO)
+        same(hear(process), WELCOME)
+        tell(process, BYE)
+        same(hear(process), PARTED)
+        tell(process, b"half a li")
+        tell(process, b"ne\n")
+        same(hear(process), b'{"error":"not json"}\n')
+        same(rest_of(process), (b"", 1))
 
 
-def lines_in_one_write(program):
-    """Lines that are sent together are all answered before the program waits for more."""
-    answer = b'{"ok":"hello","vertex":1}\n'
-    with talk(program, "run") as process:
-        process.stdin.write(CONFIG + HELLO + b'{"op":"bye"}\n' + HELLO)
-        process.stdin.flush()
-        answers = [process.stdout.readline() for _ in range(3)]
-        process.stdin.close()
-        status = process.wait(SECONDS)
-    return (answers, status) == ([answer, b'{"ok":"bye"}\n', answer], 0)
+def answered_together(lines: bytes, answers: bytes, status: int, room: int = -1) -> Test:
+    """Lines that are sent together, over pipes with this many bytes of room, are all answered
+    before the program waits for more."""
+
+    def test(program: Path) -> None:
+        with started(program, "run", pipesize=room) as process:
+            tell(process, CONFIG + lines)
+            found = b"".join(hear(process) for _ in range(lines.count(b"\n")))
+            same((found, rest_of(process)), (answers, (b"", status)))
+
+    return test
 
 
-def many_lines_before_any_answer_is_read(program):
-    """Ten thousand lines are sent before the first answer is read; each is answered before the program waits for more."""
-    with talk(program, "run", room=1 << 20) as process:
-        process.stdin.write(CONFIG + HELLO * 9_999 + b'{"op":"bye"}\n')
-        process.stdin.flush()
-        answers = [process.stdout.readline() for _ in range(10_000)]
-        process.stdin.close()
-        status = process.wait(SECONDS)
-    bound = b'{"error":"bound"}\n'
-    return (answers, status) == ([WELCOME] + [bound] * 9_998 + [b'{"ok":"bye"}\n'], 1)
-
-
-def input_that_cannot_be_read(word):
+def input_that_cannot_be_read(word: str) -> Test:
     """A read that fails ends the run with status 1 and no answer."""
 
-    def test(program):
-        folder = os.open("/", os.O_RDONLY)
-        try:
-            ran = subprocess.run([str(program), word], stdin=folder, capture_output=True, timeout=SECONDS)
-        finally:
-            os.close(folder)
-        return (ran.stdout, ran.returncode) == (b"", 1)
+    def test(program: Path) -> None:
+        with unreadable() as folder:
+            found = ran(program, word, given=None, stdin=folder)
+        same((found.stdout, found.returncode), (b"", 1))
 
     return test
 
 
-def no_verdict_before_the_end(program):
+def no_verdict_before_the_end(program: Path) -> None:
     """Steps that may still come keep the verdict back; it is there as soon as the input ends."""
-    with talk(program, "audit") as process:
-        process.stdin.write(DERIVATION)
-        process.stdin.flush()
-        early, _, _ = select.select([process.stdout], [], [], 0.2)
-        process.stdin.close()
-        rest = process.stdout.read()
-        status = process.wait(SECONDS)
-    return (early, rest, status) == ([], SHARED, 0)
+    with started(program, "audit") as process:
+        tell(process, DERIVATION)
+        same(select.select([process.stdout], [], [], 0.2)[0], [])
+        same(rest_of(process), (SHARED, 0))
 
 
-def refused_line_is_answered_at_once(program):
+def refused_line_is_answered_at_once(program: Path) -> None:
     """A line that is refused ends an audit though its input goes on."""
-    with talk(program, "audit") as process:
-        process.stdin.write(CONFIG + b"{}\n")
-        process.stdin.flush()
-        rest = process.stdout.read()
-        status = process.wait(SECONDS)
-    return (rest, status) == (b'{"error":"missing field"}\n', 1)
+    with started(program, "audit") as process:
+        tell(process, CONFIG + b"{}\n")
+        assert process.stdout
+        same(process.stdout.read(), b'{"error":"missing field"}\n')
+        same(process.wait(), 1)
 
 
-def verdict_that_cannot_be_written(program):
-    """A verdict that is lost is status 1, even if it is `shared`."""
-    with open("/dev/full", "wb") as full:
-        ran = subprocess.run([str(program), "audit"], input=DERIVATION, stdout=full, stderr=subprocess.PIPE, timeout=SECONDS)
-    return ran.returncode == 1
+def lost(word: str, given: bytes, status: int) -> Test:
+    """The status of a run whose output cannot be written: 0 if there is none."""
 
-
-def output_that_cannot_be_written(program):
-    """A write that fails ends the run with status 1, though more lines were to come."""
-    with open("/dev/full", "wb") as full:
-        ran = subprocess.run([str(program), "run"], input=CONFIG + HELLO * 1000, stdout=full, stderr=subprocess.PIPE, timeout=SECONDS)
-    return ran.returncode == 1
-
-
-def nothing_to_write(program):
-    """An output that cannot be written does no harm if there is no answer."""
-    with open("/dev/full", "wb") as full:
-        ran = subprocess.run([str(program), "run"], input=CONFIG, stdout=full, stderr=subprocess.PIPE, timeout=SECONDS)
-    return ran.returncode == 0
-
-
-def refused(*words):
-    """A command line that is refused: status 2, a text on standard error, nothing on standard output."""
-
-    def test(program):
-        ran = subprocess.run([str(program), *words], input=CONFIG + HELLO, capture_output=True, timeout=SECONDS)
-        return ran.returncode == 2 and ran.stdout == b"" and ran.stderr != b""
+    def test(program: Path) -> None:
+        with open("/dev/full", "wb") as full:
+            same(ran(program, word, given=given, stdout=full).returncode, status)
 
     return test
 
 
-def accepted(given, answer, *words):
+def refused(*words: Word) -> Test:
+    """A command line that is refused: status 2, a text on standard error, no output."""
+
+    def test(program: Path) -> None:
+        found = ran(program, *words, given=CONFIG + HELLO)
+        same((found.returncode, found.stdout), (2, b""))
+        assert found.stderr, "nothing on standard error"
+
+    return test
+
+
+def accepted(given: bytes, answer: bytes, *words: str, status: int = 0) -> Test:
     """A command line that asks for a mode: the lines are answered."""
-
-    def test(program):
-        ran = subprocess.run([str(program), *words], input=given, capture_output=True, timeout=SECONDS)
-        return (ran.stdout, ran.returncode) == (answer, 0)
-
-    return test
+    return lambda program: same(asked(program, *words, given=given), (answer, status))
 
 
-def example_of(program, named, *words):
-    """The words of the one example that ends a help text; none if the text is not as wanted or does not have the words
-    that it is to name."""
-    ran = subprocess.run([str(program), *words], input=b"", capture_output=True, timeout=SECONDS)
-    before, mark, example = ran.stdout.decode().partition("\nExample:\n")
-    good = ran.returncode == 0 and all(word in before for word in named) and ran.stderr == b"" and example.count("\n") == 1
-    return shlex.split(example) if good else []
+def example_of(program: Path, named: list[str], *words: str) -> list[str]:
+    """The words of the one example that ends a help text, which names certain words before."""
+    found = ran(program, *words, "--help")
+    same((found.returncode, found.stderr), (0, b""))
+    before, _, line = found.stdout.decode().partition("\nExample:\n")
+    same([word for word in named if word not in before], [], "not named")
+    same(line.count("\n"), 1, "lines of the example")
+    return shlex.split(line)
 
 
-def help_with_a_file(begins, named, *help_words):
+def help_with_a_file(begins: bytes, named: list[str], *help_words: str) -> Test:
     """Help on standard output, status 0; its example answers the lines of a file."""
 
-    def test(program):
-        *words, sign, name = example_of(program, named, *help_words)
-        given = (ROOT / name).read_bytes()
-        ran = subprocess.run([str(program), *words[1:]], input=given, capture_output=True, timeout=SECONDS)
-        return (words[0], sign, ran.returncode) == ("tgdoc", "<", 0) and ran.stdout.startswith(begins)
+    def test(program: Path) -> None:
+        tgdoc, *words, sign, name = example_of(program, named, *help_words)
+        written, status = asked(program, *words, given=(ROOT / name).read_bytes())
+        same((tgdoc, sign, status), ("tgdoc", "<", 0))
+        assert written.startswith(begins), written
 
     return test
 
 
-def help_on_run(program):
+def help_on_run(program: Path) -> None:
     """Help on standard output, status 0; its example answers the lines of another command."""
-    words = example_of(program, ["run"], "run", "--help")
+    words = example_of(program, ["run"], "run")
     bar = words.index("|")
-    lines = subprocess.run(words[:bar], capture_output=True, timeout=SECONDS).stdout
-    ran = subprocess.run([str(program), *words[bar + 2 :]], input=lines, capture_output=True, timeout=SECONDS)
-    return words[bar + 1] == "tgdoc" and (ran.stdout, ran.returncode) == (b'{"ok":"hello","vertex":1}\n', 0)
+    lines = subprocess.run(words[:bar], capture_output=True, check=True).stdout
+    same(words[bar + 1], "tgdoc")
+    same(asked(program, *words[bar + 2 :], given=lines), (WELCOME, 0))
 
 
-def help_on_draw(program):
+def help_on_draw(program: Path) -> None:
     """Help on standard output, status 0; its example draws the lines of a file, for Graphviz."""
-    *words, sign, name, bar, dot, kind, into, _ = example_of(program, ["draw", "--each"], "draw", "--help")
-    ran = subprocess.run([str(program), *words[1:]], input=(ROOT / name).read_bytes(), capture_output=True, timeout=SECONDS)
-    written = (sign, bar, dot, kind, into) == ("<", "|", "dot", "-Tsvg", ">")
-    return written and ran.returncode == 0 and ran.stdout.startswith(b"digraph") and ran.stdout.count(b"\n") == 1
+    tgdoc, *words, sign, name, bar, dot, kind, into, _ = example_of(
+        program, ["draw", "--each"], "draw"
+    )
+    shell = ("tgdoc", "<", "|", "dot", "-Tsvg", ">")
+    same((tgdoc, sign, bar, dot, kind, into), shell)
+    written, status = asked(program, *words, given=(ROOT / name).read_bytes())
+    same((written[:7], written.count(b"\n"), status), (b"digraph", 1, 0))
 
 
-def example(name, answer, status):
+def derivation_of(name: str, answer: bytes, status: int) -> Test:
     """The verdict on the derivation of an example."""
-
-    def test(program):
-        given = (ROOT / "examples" / name).read_bytes()
-        ran = subprocess.run([str(program), "audit"], input=given, capture_output=True, timeout=SECONDS)
-        return (ran.stdout, ran.returncode) == (answer, status)
-
-    return test
+    given = (ROOT / "examples" / name).read_bytes()
+    return accepted(given, answer, "audit", status=status)
 
 
-def demo_of(program, *words):
+def demo_of(program: Path, *words: str) -> str:
     """What examples/demo prints, with status 0."""
-    shown = [str(ROOT / "examples" / "demo"), *words]
-    how = {"env": {**os.environ, "TGDOC": str(program)}, "capture_output": True, "text": True}
-    return subprocess.run(shown, timeout=SECONDS, check=True, **how).stdout
+    found = example("demo", program, *words)
+    same(found.returncode, 0)
+    return found.stdout
 
 
-def readme_example(program):
-    """examples/README.md shows what `make demo` prints: its indented lines from the first that opens a graph on."""
+def readme_example(program: Path) -> None:
+    """examples/README.md shows what `make demo` prints, from the line on that opens a graph."""
     rows = (ROOT / "examples" / "README.md").read_text().splitlines()
-    first = next(place for place, row in enumerate(rows) if row.startswith('    {"principals"'))
-    shown = itertools.takewhile(lambda row: row.startswith("    "), rows[first:])
-    return demo_of(program) == "".join(row[4:] + "\n" for row in shown)
+    opens = itertools.dropwhile(lambda row: not row.startswith('    {"principals"'), rows)
+    shown = itertools.takewhile(lambda row: row.startswith("    "), opens)
+    same("".join(row[4:] + "\n" for row in shown), demo_of(program))
 
 
-def demo_of_an_audit(program):
+def demo_of_an_audit(program: Path) -> None:
     """The demo of a derivation prints its lines, and the verdict after them."""
     given = ROOT / "examples" / "derivation.jsonl"
-    return demo_of(program, str(given)) == given.read_text() + SHARED.decode()
+    same(demo_of(program, str(given)), given.read_text() + SHARED.decode())
 
 
-def versioned(*words):
-    """A command line that asks for the version: the name and the version on standard output, status 0."""
+def versioned(*words: str) -> Test:
+    """A command line that asks for the version: the name and the version, status 0."""
 
-    def test(program):
-        ran = subprocess.run([str(program), *words], input=b"", capture_output=True, timeout=SECONDS)
-        return (ran.stdout, ran.stderr, ran.returncode) == (b"tgdoc 0.1.0\n", b"", 0)
+    def test(program: Path) -> None:
+        found = ran(program, *words)
+        version = (b"tgdoc 0.1.0\n", b"", 0)
+        same((found.stdout, found.stderr, found.returncode), version)
 
     return test
 
 
-def library_page(_):
+def library_page(_: Path) -> None:
     """docs/LIBRARY.md shows the program of crates/tg_example, and what it prints."""
     page, crate = (ROOT / "docs" / "LIBRARY.md").read_text(), ROOT / "crates" / "tg_example"
-    printed = "".join("    %s\n" % row for row in (crate / "stdout").read_text().splitlines())
-    return "```rust\n%s```\n" % (crate / "src" / "main.rt").read_text() in page and printed in page
+    rows = (crate / "stdout").read_text().splitlines()
+    main = (crate / "src" / "main.rt").read_text()
+    assert f"```rust\n{main}```\n" in page, "another program"
+    assert "".join(f"    {row}\n" for row in rows) in page, "another output"
 
 
-def man_page(program):
+def man_page(program: Path) -> None:
     """The man page tells every option that the help texts tell, and no other, for each command."""
     page = (ROOT / "docs" / "tgdoc.1").read_text().replace("\\-", "-")
-    parts = re.split(r"\.TP\n\.B (?=[a-z])", page.partition(".SH COMMANDS")[2].partition(".SH LINES")[0])[1:]
-    for part in parts:
-        word = part.partition("\n")[0]
-        shown = subprocess.run([str(program), word, "--help"], capture_output=True, timeout=SECONDS).stdout.decode()
-        told, wanted = [set(re.findall(r"--[a-z]+", text)) - {"--help"} for text in (part, shown.partition("Example:")[0])]
-        if told != wanted:
-            print("  of %s the page tells %s, and the help %s" % (word, sorted(told), sorted(wanted)))
-            return False
-    return [part.partition("\n")[0] for part in parts] == ["run", "draw", "share", "audit", "serve", "control"]
+    commands = page.partition(".SH COMMANDS")[2].partition(".SH LINES")[0]
+    words = []
+    for part in re.split(r"\.TP\n\.B (?=[a-z])", commands)[1:]:
+        words.append(part.partition("\n")[0])
+        shown = ran(program, words[-1], "--help").stdout.decode().partition("Example:")[0]
+        told, wanted = (set(re.findall("--[a-z]+", text)) for text in (part, shown))
+        same(told - {"--help"}, wanted - {"--help"}, f"options of {words[-1]}")
+    same(words, ["run", "draw", "share", "audit", "serve", "control"])
 
 
-def tests():
-    """All tests by their names."""
+def tests_of_pipes() -> Tests:
+    """When a program reads and writes, and what it does if it cannot."""
     yield "answers-come-at-once", answers_come_at_once
-    yield "lines-in-one-write", lines_in_one_write
-    yield "many-lines-before-any-answer-is-read", many_lines_before_any_answer_is_read
+    together = answered_together(HELLO + BYE + HELLO, WELCOME + PARTED + WELCOME, 0)
+    yield "lines-in-one-write", together
+    lines, bound = HELLO * 9_999 + BYE, b'{"error":"bound"}\n'
+    many = answered_together(lines, WELCOME + bound * 9_998 + PARTED, 1, 1 << 20)
+    yield "many-lines-before-any-answer-is-read", many
     yield "input-that-cannot-be-read", input_that_cannot_be_read("run")
     yield "input-of-an-audit-that-cannot-be-read", input_that_cannot_be_read("audit")
     yield "input-of-a-picture-that-cannot-be-read", input_that_cannot_be_read("draw")
     yield "no-verdict-before-the-end", no_verdict_before_the_end
     yield "refused-line-of-an-audit-is-answered-at-once", refused_line_is_answered_at_once
-    yield "verdict-that-cannot-be-written", verdict_that_cannot_be_written
-    yield "output-that-cannot-be-written", output_that_cannot_be_written
-    yield "nothing-to-write", nothing_to_write
-    for word, given, answer in [("run", CONFIG + HELLO, WELCOME), ("audit", DERIVATION, SHARED), ("draw", CONFIG + HELLO, PICTURE)]:
-        yield "%s-alone" % word, accepted(given, answer, word)
-        yield "dashes-behind-" + word, accepted(given, answer, word, "--")
-        yield "dashes-before-" + word, refused("--", word)
-        yield "version-of-" + word, refused(word, "--version")
-        yield "a-word-too-many-behind-" + word, refused(word, "now")
-        yield "an-option-that-%s-does-not-have" % word, refused(word, "--fast")
-    yield "help", help_with_a_file(WELCOME, ["run", "audit", "draw", "share", "serve"], "--help")
-    yield "help-on-run", help_on_run
-    yield "help-on-audit", help_with_a_file(SHARED, ["audit"], "audit", "--help")
-    yield "help-on-draw", help_on_draw
-    yield "man-page", man_page
-    yield "library-page", library_page
-    yield "version", versioned("--version")
-    yield "version-before-other-words", versioned("--version", "run", "now")
-    yield "example-derivation", example("derivation.jsonl", SHARED, 0)
-    # Without the step by which bob takes g, he may not grant to vertex 5.
-    short = b'{"denied":"grant","from":2,"missing":"g","step":3,"to":5,"verdict":"step denied"}\n'
-    yield "example-derivation-short", example("derivation-short.jsonl", short, 1)
-    yield "demo-of-the-readme", readme_example
-    yield "demo-of-an-audit", demo_of_an_audit
+    yield "verdict-that-cannot-be-written", lost("audit", DERIVATION, 1)
+    yield "output-that-cannot-be-written", lost("run", CONFIG + HELLO * 1000, 1)
+    yield "nothing-to-write", lost("run", CONFIG, 0)
+
+
+def tests_of_words() -> Tests:
+    """Command lines."""
+    lines = CONFIG + HELLO
+    for word, given, answer in [
+        ("run", lines, WELCOME),
+        ("audit", DERIVATION, SHARED),
+        ("draw", lines, PICTURE),
+    ]:
+        yield f"{word}-alone", accepted(given, answer, word)
+        yield f"dashes-behind-{word}", accepted(given, answer, word, "--")
+        yield f"dashes-before-{word}", refused("--", word)
+        yield f"version-of-{word}", refused(word, "--version")
+        yield f"a-word-too-many-behind-{word}", refused(word, "now")
+        yield f"an-option-that-{word}-does-not-have", refused(word, "--fast")
     yield "no-word", refused()
     yield "another-word", refused("steal")
     yield "two-modes", refused("run", "audit")
     yield "a-word-that-is-not-utf-8", refused(b"run\xff")
     yield "a-word-that-is-not-utf-8-behind-run", refused("run", b"\xff")
+
+
+def tests() -> Tests:
+    yield from tests_of_pipes()
+    yield from tests_of_words()
+    yield "help", help_with_a_file(WELCOME, ["run", "audit", "draw", "share", "serve"])
+    yield "help-on-run", help_on_run
+    yield "help-on-audit", help_with_a_file(SHARED, ["audit"], "audit")
+    yield "help-on-draw", help_on_draw
+    yield "man-page", man_page
+    yield "library-page", library_page
+    yield "version", versioned("--version")
+    yield "version-before-other-words", versioned("--version", "run", "now")
+    yield "example-derivation", derivation_of("derivation.jsonl", SHARED, 0)
+    # Without the step by which bob takes g, he may not grant to vertex 5.
+    short = b'{"denied":"grant","from":2,"missing":"g","step":3,"to":5,"verdict":"step denied"}\n'
+    yield "example-derivation-short", derivation_of("derivation-short.jsonl", short, 1)
+    yield "demo-of-the-readme", readme_example
+    yield "demo-of-an-audit", demo_of_an_audit

@@ -1,141 +1,141 @@
-"""What standard error says where no line of output can, and what `--explain` says of refused lines. Each test takes the program's path and
-returns whether it passed.
-"""
+"""What standard error says where no line can, and what `--explain` says of refused lines."""
 
-import contextlib
 import os
 import pty
 import socket
 import subprocess
+from pathlib import Path
 
-CONFIG = b'{"principals":["alice"]}\n'
+from checking import Test, Tests, same
+from program.programs import CONFIG
+from running import Word, ran, started, unreadable
+from server.servers import ANY_PORT
+
 GOAL = b'{"from":1,"rights":"r","to":2}\n'
 TWICE = b'{"principals":["alice","alice"]}\n'
 
 
-def ran(program, *words, given=CONFIG, **more):
-    """The run of a program over an input."""
-    return subprocess.run([str(program), *words], input=given, stderr=subprocess.PIPE, timeout=60, **{"stdout": subprocess.PIPE, **more})
+def says(wanted: bytes, *words: str, given: bytes = CONFIG, output: str = os.devnull) -> Test:
+    """Standard error has exactly this, and the status is 1."""
 
-
-def says(wanted, *words, given=CONFIG, status=1, output=None):
-    """Standard error has exactly this, or begins with it, and the status is this one."""
-
-    def test(program):
-        with open(output or os.devnull, "wb") as out:
-            found = ran(program, *words, given=given, **({"stdout": out} if output else {}))
-        if found.stderr != wanted or found.returncode != status:
-            print("  wanted %d %r\n  found  %d %r" % (status, wanted, found.returncode, found.stderr))
-        return found.stderr == wanted and found.returncode == status
+    def test(program: Path) -> None:
+        with open(output, "wb") as out:
+            found = ran(program, *words, given=given, stdout=out)
+        same((found.stderr, found.returncode), (wanted, 1))
 
     return test
 
 
-def no_reading(program):
+def no_reading(program: Path) -> None:
     """An input that cannot be read is named, with the reason."""
-    with contextlib.suppress(OSError):
-        folder = os.open("/", os.O_RDONLY)
-        found = subprocess.run([str(program), "run"], stdin=folder, capture_output=True, timeout=60)
-        os.close(folder)
-    return found.returncode == 1 and found.stdout == b"" and found.stderr.startswith(b"tgdoc: standard input: Is a directory")
+    with unreadable() as folder:
+        found = ran(program, "run", given=None, stdin=folder)
+    same((found.stdout, found.returncode), (b"", 1))
+    begin = b"tgdoc: standard input: Is a directory"
+    assert found.stderr.startswith(begin), found.stderr
 
 
+BAD = b"a value that may not be in the field "
+OTHER = b"with the field, which this op does not have: "
 # Lines of a run, and what is said of them: nothing if they are not refused for themselves.
-EVENTS = [
+EVENTS: list[tuple[bytes, bytes | None]] = [
     (b'{"op":"hello","name":"alice"}', None),
     (b'{"op":"read","over":9}', None),
     (b"no json", b"not one JSON value in UTF-8"),
     (b"[]", b"not an object"),
     (b'{"op":"shutdown"}', b"no op that there is here"),
     (b'{"op":"take","rights":"r","over":2}', b"without the field from"),
-    (b'{"op":"take","rights":"rr","over":"x","from":1}', b"a value that may not be in the field rights"),
-    (b'{"op":"look","at":1,"seat":"0"}', b"a value that may not be in the field seat"),
-    (b'{"op":"look","at":1,"to":2}', b"with the field, which this op does not have: to"),
-    (b'{"op":"write","over":2,"text":"%s"}' % (b"a" * 4_097), b"a value that may not be in the field text"),
-    (b'{"op":"create","kind":"folder","rights":"r"}', b"a value that may not be in the field kind"),
-    (b'{"op":"enrol","name":"Bob","rights":"r"}', b"a value that may not be in the field name"),
+    (b'{"op":"take","rights":"rr","over":"x","from":1}', BAD + b"rights"),
+    (b'{"op":"look","at":1,"seat":"0"}', BAD + b"seat"),
+    (b'{"op":"look","at":1,"to":2}', OTHER + b"to"),
+    (b'{"op":"write","over":2,"text":"%s"}' % (b"a" * 4_097), BAD + b"text"),
+    (b'{"op":"create","kind":"folder","rights":"r"}', BAD + b"kind"),
+    (b'{"op":"enrol","name":"Bob","rights":"r"}', BAD + b"name"),
     (b'{"op":"bye"}', None),
 ]
 
-STEPS = [
+STEPS: list[tuple[bytes, bytes | None]] = [
     (b'{"op":"create","kind":"document","rights":"r"}', b"without the field actor"),
     (b'{"op":"enrol","actor":1,"name":"bob","rights":"r"}', b"no op that there is here"),
-    (b'{"op":"create","actor":1,"kind":"document","rights":"r","seat":0}', b"with the field, which this op does not have: seat"),
+    (b'{"op":"create","actor":1,"kind":"document","rights":"r","seat":0}', OTHER + b"seat"),
 ]
 
 
-def explains(word, head, rows):
-    """Each refused line is explained, by its number, and the answers are those of a run that is not."""
+def explains(word: str, head: bytes, rows: list[tuple[bytes, bytes | None]]) -> Test:
+    """Each refused line is explained, by its number; the answers are as without explanations."""
 
-    def test(program):
+    def test(program: Path) -> None:
         given = head + b"".join(line + b"\n" for line, _ in rows)
-        first = head.count(b"\n") + 1
-        wanted = b"".join(b"line %d: %s\n" % (number, why) for number, (_, why) in enumerate(rows, first) if why)
+        numbered = enumerate(rows, head.count(b"\n") + 1)
+        wanted = b"".join(b"line %d: %s\n" % (number, why) for number, (_, why) in numbered if why)
         found, plain = ran(program, word, "--explain", given=given), ran(program, word, given=given)
-        if found.stderr != wanted:
-            print("  wanted %r\n  found  %r" % (wanted, found.stderr))
-        return found.stderr == wanted and (found.stdout, found.returncode) == (plain.stdout, plain.returncode) and plain.stderr == b""
+        same((found.stderr, plain.stderr), (wanted, b""))
+        same((found.stdout, found.returncode), (plain.stdout, plain.returncode))
 
     return test
 
 
-def last_line_without_line_feed(program):
+def last_line_without_line_feed(program: Path) -> None:
     """The last line may lack its line feed."""
-    return ran(program, "run", "--explain", given=CONFIG + b"x").stderr == b"line 2: not one JSON value in UTF-8\n"
+    found = ran(program, "run", "--explain", given=CONFIG + b"x")
+    same(found.stderr, b"line 2: not one JSON value in UTF-8\n")
 
 
-def explains_nothing_else(program):
+def explains_nothing_else(program: Path) -> None:
     """No other mode takes the word, and nothing stands behind it."""
-    return all(ran(program, *words).returncode == 2 for words in (["draw", "--explain"], ["run", "--explain", "x"], ["run", "--explain", "--explain"]))
+    for words in (["draw", "--explain"], ["run", "--explain", "x"], ["run"] + ["--explain"] * 2):
+        same(ran(program, *words, given=CONFIG).returncode, 2, str(words))
 
 
-def port_in_use(program):
+def last_said(program: Path, *words: Word, given: bytes = CONFIG) -> bytes:
+    """The last line of standard error of a server that does not serve."""
+    found = ran(program, "serve", "--connections", "1", *words, given=given)
+    same(found.returncode, 1)
+    return found.stderr.splitlines()[-1]
+
+
+def port_in_use(program: Path) -> None:
     """A port that is in use is named, with the reason."""
     with socket.create_server(("127.0.0.1", 0)) as taken:
-        address = "127.0.0.1:%d" % taken.getsockname()[1]
-        found = ran(program, "serve", "--listen", address, "--connections", "1")
-    said = found.stderr.splitlines()[-1]
-    return found.returncode == 1 and said.startswith(b"tgdoc: %s: Address already in use" % address.encode())
+        address = f"127.0.0.1:{taken.getsockname()[1]}"
+        said = last_said(program, "--listen", address).decode()
+    assert said.startswith(f"tgdoc: {address}: Address already in use"), said
 
 
-def refused_server(wanted, *words, given=CONFIG):
-    """The last line of standard error of a server that does not serve."""
-
-    def test(program):
-        found = ran(program, "serve", "--connections", "1", *words, given=given)
-        said = found.stderr.splitlines()[-1]
-        if said != wanted:
-            print("  found  %r" % found.stderr)
-        return found.returncode == 1 and said == wanted
-
-    return test
+def not_served(wanted: bytes, *words: str, given: bytes = CONFIG) -> Test:
+    """What is said of a server that does not serve."""
+    return lambda program: same(last_said(program, *words, given=given), wanted)
 
 
-def waits_on_a_terminal(program):
+def waits_on_a_terminal(program: Path) -> None:
     """On a terminal a server says that it waits for its configuration."""
     leader, follower = pty.openpty()
-    with subprocess.Popen([str(program), "serve", "--listen", "127.0.0.1:0", "--connections", "1"], stdin=follower, stdout=subprocess.PIPE, stderr=subprocess.PIPE) as process:
+    how = {"stdin": follower, "stderr": subprocess.PIPE}
+    with started(program, "serve", *ANY_PORT, "--connections", "1", **how) as process:
         os.close(follower)
+        assert process.stderr
         said = [process.stderr.readline() for _ in range(2)]
-        process.kill()
     os.close(leader)
-    return any(b"waiting for the configuration" in line for line in said)
+    assert any(b"waiting for the configuration" in line for line in said), said
 
 
-def tests():
-    """All tests by their names."""
-    full = b"tgdoc: standard output: No space left on device (os error 28)\n"
-    for words in (["run"], ["draw"]):
-        yield "no-space-for-%s" % words[0], says(full, *words, given=CONFIG + b"[]\n", output="/dev/full")
-    yield "no-space-for-audit", says(full, "audit", given=CONFIG + GOAL, output="/dev/full")
-    yield "no-space-for-share", says(full, "share", "--from", "1", "--to", "1", "--rights", "r", output="/dev/full")
+def tests() -> Tests:
+    full, device = b"tgdoc: standard output: No space left on device (os error 28)\n", "/dev/full"
+    for word in ("run", "draw"):
+        yield f"no-space-for-{word}", says(full, word, given=CONFIG + b"[]\n", output=device)
+    yield "no-space-for-audit", says(full, "audit", given=CONFIG + GOAL, output=device)
+    question = ("share", "--from", "1", "--to", "1", "--rights", "r")
+    yield "no-space-for-share", says(full, *question, output=device)
     yield "no-input-to-read", no_reading
     twice = b"tgdoc: the configuration is refused: two principals have the same name\n"
     for word in ("run", "draw"):
-        yield "configuration-explained-for-" + word, says(twice, word, given=TWICE)
-    yield "configuration-explained-for-serve", refused_server(twice.rstrip(), "--listen", "127.0.0.1:0", given=TWICE)
-    yield "address-of-no-loopback-explained", refused_server(b"tgdoc: 0.0.0.0:0 is not an address of the loopback", "--listen", "0.0.0.0:0")
-    yield "address-that-is-none-explained", refused_server(b"tgdoc: here is no address with a port, as 127.0.0.1:7000 is", "--listen", "here")
+        yield f"configuration-explained-for-{word}", says(twice, word, given=TWICE)
+    said = b"tgdoc: 0.0.0.0:0 is not an address of the loopback"
+    yield "address-of-no-loopback-explained", not_served(said, "--listen", "0.0.0.0:0")
+    said = b"tgdoc: here is no address with a port, as 127.0.0.1:7000 is"
+    yield "address-that-is-none-explained", not_served(said, "--listen", "here")
+    unserved = not_served(twice.rstrip(), *ANY_PORT, given=TWICE)
+    yield "configuration-explained-for-serve", unserved
     yield "port-in-use-explained", port_in_use
     yield "waits-for-its-configuration", waits_on_a_terminal
     yield "lines-explained", explains("run", CONFIG, EVENTS)

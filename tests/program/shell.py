@@ -1,50 +1,51 @@
-"""The shell of examples/shell: what it prints for typed lines, worked out by hand from the rules of docs/PROTOCOL.md."""
+"""The shell of examples/shell: what it prints for typed lines, worked out by hand."""
 
 import json
 import os
 import pty
 import re
+import shutil
 import signal
-import subprocess
 import sys
 import tempfile
 import threading
 import time
 from pathlib import Path
 
-from program.programs import ROOT, SECONDS
+from checking import Test, Tests, same
+from running import ROOT, SECONDS, Process, hear, ran, rest_of, started, tell
+from server.servers import AGREED, Server, running
 
 SHELL = ROOT / "examples" / "shell" / "shell"
-BEGIN = "Principals: alice, bob, carol, dave. alice has g over bob. bob has g over carol. `help` lists the commands.\n"
-# What a person types in the README's session stands behind these.
-PROMPT = re.compile("(?:[a-z]+> )(.*)")
+BEGIN = "Principals: alice, bob, carol, dave. alice has g over bob. bob has g over carol. "
+BEGIN += "`help` lists the commands.\n"
+# What a person types stands behind these, in a README and elsewhere.
+PROMPT = re.compile("[a-z]+> (.*)")
+ANY_PROMPT = re.compile("[a-z0-9 (),]*> (.*)")
 
 
-def environment(program):
+def environment(program: Path) -> dict[str, str]:
     return {**os.environ, "TGDOC": str(program)}
 
 
-def session(program, typed, *words):
+def session(program: Path, typed: list[str], *words: str) -> tuple[str, int]:
     """What the shell prints for these lines, and its status."""
-    ran = subprocess.run([str(SHELL), *words], input=typed, env=environment(program), capture_output=True, text=True, timeout=SECONDS)
-    if ran.stderr:
-        print("  on standard error: %s" % ran.stderr)
-    return ran.stdout, ran.returncode
+    given = "".join(line + "\n" for line in typed).encode()
+    found = ran(SHELL, *words, given=given, env=environment(program))
+    if found.stderr:
+        print(f"  on standard error: {found.stderr.decode()}")
+    return found.stdout.decode(), found.returncode
 
 
-def printed(wanted, status=0, *words, begin=BEGIN):
+def printed(wanted: str, *words: str, status: int = 0, begin: str = BEGIN) -> Test:
     """A session that prints exactly this; what is typed stands behind its prompts."""
 
-    def test(program):
-        rows = wanted.splitlines()
-        typed = "".join(match[1] + "\n" for row in rows if (match := re.match("(?:[a-z0-9 (),]*)> (.*)", row)))
-        found = session(program, typed, *words)
-        # the last prompt, at which the input ends
-        text = re.sub(r"[^\n]*> \n\Z", "", found[0])
-        good = (text, found[1]) == (begin + wanted, status)
-        if not good:
-            print("  printed, with status %d:\n%s" % (found[1], text))
-        return good
+    def test(program: Path) -> None:
+        typed = [match[1] for row in wanted.splitlines() if (match := ANY_PROMPT.match(row))]
+        text, ended = session(program, typed, *words)
+        # without the last prompt, at which the input ends
+        shown = re.sub(r"[^\n]*> \n\Z", "", text)
+        same((shown, ended), (begin + wanted, status))
 
     return test
 
@@ -83,7 +84,8 @@ Denied: bob has no t over alice.
   Nobody has t over alice.
   Can it ever come about? `share t alice bob` tells.
 """
-# Bob, whom no t or g joins to alice, can still make a subject, act for it and enrol erin; what he drops is freed.
+# Bob, whom no t or g joins to alice, can still make a subject, act for it and enrol erin; what he
+# drops is freed.
 NAMES = """alice> as bob
 bob> create subject tg helper
 Subject 5: bob has tg over it.
@@ -153,51 +155,53 @@ Lines are no longer shown.
 alice> look
 alice has g over bob (2); r over 5.
 """
-RAW_BEGIN = BEGIN + '  sent      {"name":"alice","op":"hello"}\n  answered  {"ok":"hello","vertex":1}\n'
+RAW_BEGIN = BEGIN + '  sent      {"name":"alice","op":"hello"}\n'
+RAW_BEGIN += '  answered  {"ok":"hello","vertex":1}\n'
 
 
-def record_fits(program):
-    """The lines that the shell keeps are a run: each is answered there as it was on the server, though slots were used up and freed between them."""
+def record_fits(program: Path) -> None:
+    """The lines that the shell keeps are a run: each is answered there as it was on the server,
+    though slots were used up and freed between them."""
     with tempfile.TemporaryDirectory() as folder:
         config, kept = Path(folder) / "config", Path(folder) / "lines"
         config.write_text('{"principals":["alice","bob"],"edges":[[1,"g",2]],"slots":4}\n')
-        typed, number = "", 3
-        for _ in range(6):
-            # a create that finds no slot is refused at first; it is typed again until the collector has freed one
-            typed += "create document r\nremove r %d\n" % number
-            number += 1
+        made = range(3, 9)
+        typed = [line for it in made for line in ("create document r", f"remove r {it}")]
         text, status = slowly(program, typed, config, kept)
-        ran = subprocess.run([str(program), "run"], input=kept.read_bytes(), capture_output=True, timeout=SECONDS)
-    answers = ran.stdout.decode().splitlines()
-    made = re.findall(r"^Document (\d+)", text, re.MULTILINE)
-    wanted = [row for row in answers if row.startswith('{"ok":"created"')]
-    print("  made %s, cycles in the run: %d" % (" ".join(made), sum("steps" in row for row in answers)))
-    return status == 0 and ran.returncode == 0 and len(made) == 6 and [str(json.loads(row)["vertex"]) for row in wanted] == made
+        found = ran(program, "run", given=kept.read_bytes())
+    same((status, found.returncode), (0, 0))
+    answers = [json.loads(row) for row in found.stdout.splitlines()]
+    cycles = sum("steps" in answer for answer in answers)
+    print(f"  cycles in the run: {cycles}")
+    same(re.findall(r"^Document (\d+)", text, re.MULTILINE), [str(serial) for serial in made])
+    serials = [answer["vertex"] for answer in answers if answer.get("ok") == "created"]
+    same(serials, list(made))
 
 
-def slowly(program, typed, config, kept):
-    """What the shell prints for lines that are typed one by one, each again while there is no room for it."""
-    with subprocess.Popen([str(SHELL), "--config", str(config)], stdin=subprocess.PIPE, stdout=subprocess.PIPE, env=environment(program), text=True) as process:
-        told, limit = process.stdout.readline(), time.monotonic() + SECONDS
-        for line in typed.splitlines():
+def slowly(program: Path, typed: list[str], config: Path, kept: Path) -> tuple[str, int]:
+    """What the shell prints for lines that are typed one by one, each again while there is no room
+    for it: the collector may not have freed a slot yet."""
+    environ = environment(program)
+    with started(SHELL, "--config", config, env=environ) as process:
+        told, limit = hear(process).decode(), time.monotonic() + SECONDS
+        for line in typed:
             told += line_of_shell(process, line)
-            while told.splitlines()[-1].startswith("There is no room") and time.monotonic() < limit:
+            while told.splitlines()[-1].startswith("There is no room"):
+                assert time.monotonic() < limit, "there is no room"
                 time.sleep(0.05)
                 told += line_of_shell(process, line)
-        process.stdin.write("lines %s\nquit\n" % kept)
-        process.stdin.close()
-        told += process.stdout.read()
-        return told, process.wait(SECONDS)
+        tell(process, f"lines {kept}\nquit\n".encode())
+        text, status = rest_of(process)
+    return told + text.decode(), status
 
 
-def line_of_shell(process, line):
+def line_of_shell(process: Process, line: str) -> str:
     """Types a line; its echo and one line of an answer."""
-    process.stdin.write(line + "\n")
-    process.stdin.flush()
-    return process.stdout.readline() + process.stdout.readline()
+    tell(process, f"{line}\n".encode())
+    return (hear(process) + hear(process)).decode()
 
 
-def in_a_terminal(program):
+def in_a_terminal(program: Path) -> None:
     """At a terminal there are prompts, completion and history, and Ctrl-D ends the shell."""
     process, terminal = pty.fork()
     if process == 0:
@@ -213,12 +217,11 @@ def in_a_terminal(program):
     _, status = os.waitpid(process, 0)
     limit.cancel()
     os.close(terminal)
-    if made % 6 not in seen:
-        print("  seen: %r" % seen)
-    return os.waitstatus_to_exitcode(status) == 0 and made % 6 in seen
+    same(os.waitstatus_to_exitcode(status), 0)
+    assert made % 6 in seen, f"seen: {seen!r}"
 
 
-def until(terminal, wanted):
+def until(terminal: int, wanted: bytes | None) -> bytes:
     """What a terminal shows until it has shown this, or until it ends."""
     seen = b""
     while wanted is None or wanted not in seen:
@@ -232,48 +235,57 @@ def until(terminal, wanted):
     return seen
 
 
-def of_the_readme(program):
-    """README.md shows what the shell prints."""
+def of_the_readme(program: Path) -> None:
+    """README.md shows what the shell prints, but for its last prompt."""
     rows = (ROOT / "README.md").read_text().splitlines()
     first = rows.index("    $ make play") + 1
     shown = [row[4:] for row in rows[first : rows.index("", first)]]
     typed = [match[1] for row in shown if (match := PROMPT.fullmatch(row))]
-    found, status = session(program, "\n".join(typed) + "\n")
-    wanted = "\n".join(shown) + "\n"
-    good = status == 0 and found.startswith(wanted) and len(typed) > 5 and len(found.splitlines()) == len(shown) + 1
-    if not good:
-        print("  printed:\n%s" % found)
-    return good
+    assert len(typed) > 5, "too short"
+    text, status = session(program, typed)
+    same((text.splitlines()[:-1], status), (shown, 0))
 
 
-def other_server(program):
+OF_ANOTHER = """> as alice
+alice> create document r
+Document 2: alice has r over it.
+alice> read 2
+(an empty text)
+alice> share r 2 alice
+This server is not"""
+
+
+def other_server(program: Path) -> None:
     """On a server that is not its own the shell talks, and says what it cannot tell."""
-    with subprocess.Popen([str(program), "serve", "--listen", "127.0.0.1:0", "--connections", "1"], stdin=subprocess.PIPE, stdout=subprocess.PIPE, stderr=subprocess.DEVNULL) as server:
-        server.stdin.write(b'{"principals":["alice"]}\n')
-        server.stdin.close()
-        address = json.loads(server.stdout.readline())["listening"]
-        typed = "as alice\ncreate document r\nread 2\nshare r 2 alice\nbye\n"
-        text, status = session(program, typed, "--connect", address)
-        settled = server.stdout.read()
-    wanted = "> as alice\nalice> create document r\nDocument 2: alice has r over it.\nalice> read 2\n(an empty text)\nalice> share r 2 alice\nThis server is not"
-    return text.startswith(wanted) and text.endswith("alice> bye\nBye.\n> \n") and status == 1 and settled == b'{"settled":"agreed"}\n'
+    words, config = ("--listen", "127.0.0.1:0", "--connections", "1"), b'{"principals":["alice"]}\n'
+    with running(program, *words, config=config) as process:
+        server = Server(process)
+        typed = ["as alice", "create document r", "read 2", "share r 2 alice", "bye"]
+        host, port = server.address
+        text, status = session(program, typed, "--connect", f"{host}:{port}")
+        same(server.end(), AGREED)
+    same((text[: len(OF_ANOTHER)], status), (OF_ANOTHER, 1))
+    assert text.endswith("alice> bye\nBye.\n> \n"), text
 
 
-def without_rt(_):
+def without_rt(_: Path) -> None:
     """Without a program and without `rt` there is one sentence, and no more."""
-    with tempfile.TemporaryDirectory() as folder:
-        subprocess.run(["cp", "-r", str(ROOT / "examples"), str(ROOT / "crates.txt"), folder], check=True)
-        how = {"env": {"PATH": "/nowhere"}, "input": "", "capture_output": True, "text": True, "timeout": SECONDS}
-        runs = [subprocess.run([sys.executable, "%s/examples/%s" % (folder, name)], **how) for name in ("shell/shell", "demo", "two-clients")]
-    return all(ran.returncode == 1 and ran.stdout == "" and ran.stderr.count("\n") == 1 and "START-HERE.md" in ran.stderr for ran in runs)
+    with tempfile.TemporaryDirectory() as name:
+        folder = Path(name)
+        shutil.copytree(ROOT / "examples", folder / "examples")
+        shutil.copy(ROOT / "crates.txt", folder)
+        for example in ("shell/shell", "demo", "two-clients"):
+            command = (Path(sys.executable), folder / "examples" / example)
+            found = ran(*command, env={"PATH": "/nowhere"})
+            same((found.returncode, found.stdout, found.stderr.count(b"\n")), (1, b"", 1))
+            assert b"START-HERE.md" in found.stderr, found.stderr
 
 
-def tests():
-    """All tests by their names."""
+def tests() -> Tests:
     yield "shell-shares", printed(SHARING)
     yield "shell-names", printed(NAMES)
-    yield "shell-is-confused", printed(CONFUSED, 1)
-    yield "shell-shows-lines", printed(RAW, 0, "--raw", begin=RAW_BEGIN)
+    yield "shell-is-confused", printed(CONFUSED, status=1)
+    yield "shell-shows-lines", printed(RAW, "--raw", begin=RAW_BEGIN)
     yield "shell-keeps-a-run", record_fits
     yield "shell-in-a-terminal", in_a_terminal
     yield "shell-on-another-server", other_server

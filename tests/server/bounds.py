@@ -1,49 +1,41 @@
-"""What bounds a server: the memory of a round, and the descriptors of its process. Each test takes the program's path and returns whether it
-passed.
-"""
+"""What bounds a server: the memory of a round, and the descriptors of its process."""
 
 import contextlib
 import resource
 import subprocess
 import threading
 import time
+from collections.abc import Iterator
 from pathlib import Path
+from typing import Any
 
+from checking import Tests, same
 from models.reading import line_of
-from server.servers import AGREED, CONFIG, Server, greet, is_silent, read_all, read_line, running
+from running import ran
+from server.servers import AGREED, ANY_PORT, BYE, CONFIG, CREATE, DONE, HELLO, LOOK, MADE, PARTED
+from server.servers import READ, WELCOME, WRITE, Server, figure, figure_in, is_silent, read_all
+from server.servers import read_line, running, served
 
-HELLO = b'{"name":"alice","op":"hello"}\n'
-WELCOME = b'{"ok":"hello","vertex":1}\n'
-BYE = b'{"op":"bye"}\n'
-CREATE = b'{"kind":"document","op":"create","rights":"rw"}\n'
-READ = b'{"op":"read","over":3}\n'
-LOOK = b'{"at":1,"op":"look"}\n'
 MEGABYTE = 1 << 20
 
-# What a round may keep in these tests, and what the process may take besides: what it has at its start, the buffers of its clients, and the
-# graph that settling replays.
+# What a round may keep in these tests, and what the process may take besides: what it has at its
+# start, the buffers of its clients, and the graph that settling replays.
 KEPT = 48 * MEGABYTE
 BESIDES = 64 * MEGABYTE
+BOUND = ("--memory", str(KEPT))
+LONG_TEXT = WRITE % (b"a" * 4_096)
 
 
-def peak(process):
-    """The most memory that the process has had, in bytes."""
-    rows = Path(f"/proc/{process.pid}/status").read_text().splitlines()
-    return int(next(row for row in rows if row.startswith("VmHWM:")).split()[1]) * 1024
+def peak(server: Server) -> int:
+    """The most memory that a server has had, in bytes."""
+    return figure(server.process, "VmHWM")
 
 
-@contextlib.contextmanager
-def bounded(program, *words, config=CONFIG, memory=KEPT):
-    """A server each of whose rounds may keep so much."""
-    with running(program, "--listen", "127.0.0.1:0", "--memory", str(memory), *words, config=config) as process:
-        yield Server(process)
-
-
-def floods(server, lines, times):
-    """A client that sends lines without end, and takes all answers; returns how many bytes it got."""
+def floods(server: Server, lines: bytes, times: int) -> int:
+    """A client that sends lines without end and takes all answers; how many bytes it got."""
     with server.connection() as one:
 
-        def send():
+        def send() -> None:
             with contextlib.suppress(OSError):
                 for _ in range(times):
                     one.sendall(lines)
@@ -58,28 +50,29 @@ def floods(server, lines, times):
     return count
 
 
-def reads_of_a_long_text(program):
-    """A client that reads a text of 4,096 bytes without end fills what a round may keep, and no more: the round ends and agrees."""
-    text = b'{"op":"write","over":3,"text":"%s"}\n' % (b"a" * 4_096)
-    with bounded(program, "--connections", "5") as server:
-        before = peak(server.process)
-        with server.connection() as one:
-            one.sendall(HELLO + CREATE + text + BYE)
-            read_all(one)
-        count = floods(server, HELLO + READ * 1_000, 60)
-        most = peak(server.process)
-        ended = server.end()
-    print("  %d MB answered, %d MB at most" % (count >> 20, most >> 20))
-    return KEPT // 2 < count and most < before + KEPT + BESIDES and ended == AGREED
+def flooded(server: Server, lines: bytes, times: int) -> int:
+    """How many bytes a client that floods gets; the memory that it takes is bounded."""
+    before, count = peak(server), floods(server, HELLO + lines, times)
+    most = peak(server)
+    print(f"  {count >> 20} MB answered, {before >> 20} MB before, {most >> 20} MB at most")
+    assert most < before + KEPT + BESIDES, "too much"
+    return count
 
 
-def looks_at_many_edges(program):
-    """So does one that looks at itself over 60,000 edges: lines are taken one by one where one can fill what is left."""
+def reads_of_a_long_text(program: Path) -> None:
+    """A client that reads a text of 4,096 bytes without end fills what a round may keep, and no
+    more: the round ends and agrees."""
+    with served(program, 4, 5, *BOUND) as server:
+        server.exchange(HELLO + CREATE + LONG_TEXT + BYE)
+        assert flooded(server, READ * 1_000, 60) > KEPT // 2, "too few answers"
+
+
+def looks_at_many_edges(program: Path) -> None:
+    """So does one that looks over 60,000 edges: lines are taken singly where one can fill it."""
     config = line_of({"principals": ["alice"], "slots": 65_536, "cells": 131_072}) + b"\n"
-    with bounded(program, "--connections", "5", config=config) as server:
-        with server.connection() as one:
+    with served(program, 4, 5, *BOUND, config=config) as server:
+        with server.connection() as one, one.makefile("rb") as rows:
             one.sendall(HELLO)
-            rows = one.makefile("rb")
             rows.readline()
             for _ in range(60):
                 one.sendall(CREATE * 1_000)
@@ -87,104 +80,93 @@ def looks_at_many_edges(program):
                     rows.readline()
             one.sendall(BYE)
             rows.readline()
-        before = peak(server.process)
-        count = floods(server, HELLO + LOOK * 1_000, 1)
-        most = peak(server.process)
-        ended = server.end()
-    print("  %d MB answered, %d MB before and %d MB at most" % (count >> 20, before >> 20, most >> 20))
-    return most < before + KEPT + BESIDES and ended == AGREED
+        flooded(server, LOOK * 1_000, 1)
 
 
-def honest_beside_a_flood(program):
-    """A client beside one that floods is answered until the round ends, and again in the next one, which keeps what lives."""
-    with bounded(program, "--workers", "2", "--connections", "4", "--round", "2") as server:
+def honest_beside_a_flood(program: Path) -> None:
+    """A client beside one that floods is answered, until the round ends and in the next one."""
+    seen, count = b'{"edges":[[2,"t"],[3,"rw"]],"ok":"edges"}\n', 0
+    with served(program, 2, 4, *BOUND, "--round", "2", ends=None) as server:
         with server.connection() as honest:
-            honest.sendall(HELLO + CREATE + b'{"op":"write","over":3,"text":"%s"}\n' % (b"a" * 4_096))
-            good = [read_line(honest) == WELCOME, read_line(honest) != b"", read_line(honest) == b'{"ok":"done"}\n']
-            flood = threading.Thread(target=floods, args=(server, HELLO + READ * 1_000, 60))
+            honest.sendall(HELLO + CREATE + LONG_TEXT)
+            same([read_line(honest) for _ in range(3)], [WELCOME, MADE, DONE])
+            arguments = (server, HELLO + READ * 1_000, 60)
+            flood = threading.Thread(target=floods, args=arguments)
             flood.start()
-            count = 0
             with contextlib.suppress(ConnectionError):
-                while honest.send(LOOK) and read_line(honest) == b'{"edges":[[2,"t"],[3,"rw"]],"ok":"edges"}\n':
+                while honest.send(LOOK) and read_line(honest) == seen:
                     count += 1
             flood.join()
-        good += [greet(server), greet(server)]
+        server.greet()
+        server.greet()
         lines, status = server.end()
-    print("  %d answers beside the flood" % count)
-    first, last = lines.splitlines()
-    return all(good) and count > 0 and first.endswith(b',"round":1}') and last + b"\n" == AGREED[0] and status == 0
-
-
-def fewer_files(files):
-    """Lets a program have so many files open."""
-    return lambda: resource.setrlimit(resource.RLIMIT_NOFILE, (files, files))
+    print(f"  {count} answers beside the flood")
+    first, last = lines.splitlines(True)
+    same((last, status), AGREED)
+    assert count > 0 and first.endswith(b',"round":1}\n'), first
 
 
 @contextlib.contextmanager
-def short(program, files, *words):
-    """A server whose process may have so many files open, and what it writes on standard error."""
-    command = [str(program), "serve", "--listen", "127.0.0.1:0", *words]
-    pipes = {name: subprocess.PIPE for name in ("stdin", "stdout", "stderr")}
-    with subprocess.Popen(command, preexec_fn=fewer_files(files), **pipes) as process:
-        limit = threading.Timer(60, process.kill)
-        limit.start()
-        try:
-            process.stdin.write(CONFIG)
-            process.stdin.flush()
-            yield Server(process)
-        finally:
-            limit.cancel()
-            process.kill()
+def short(program: Path, files: int, warning: str, *words: str) -> Iterator[Server]:
+    """A server whose process may have so many files open, of which it warns on standard error."""
+
+    def fewer() -> None:
+        resource.setrlimit(resource.RLIMIT_NOFILE, (files, files))
+
+    how: dict[str, Any] = {"preexec_fn": fewer, "stderr": subprocess.PIPE}
+    with running(program, *ANY_PORT, *words, **how) as process:
+        server = Server(process)
+        yield server
+        same(server.end(), AGREED)
+        assert process.stderr
+        said = process.stderr.read().decode()
+        assert warning in said, said
 
 
-def waits_for_descriptors(program):
-    """If no descriptor is left a client waits, no connection is lost, and it is served as soon as another one has gone."""
-    with short(program, 7, "--workers", "6", "--connections", "5") as server, contextlib.ExitStack() as stack:
-        served = [stack.enter_context(server.connection()) for _ in range(3)]
-        good = []
-        for one in served:
+def waits_for_descriptors(program: Path) -> None:
+    """A client waits if no descriptor is left, and is served once another one has gone."""
+    words = ("6 workers need 10 open files, and the limit is 7", "--workers", "6")
+    with short(program, 7, *words, "--connections", "5") as server, contextlib.ExitStack() as stack:
+        clients = [stack.enter_context(server.connection()) for _ in range(3)]
+        for one in clients:
             one.sendall(HELLO)
-            good.append(read_line(one) == WELCOME)
+            same(read_line(one), WELCOME)
         late = stack.enter_context(server.connection())
         late.sendall(HELLO)
-        good.append(is_silent(late, 1.5))
-        served[0].sendall(BYE)
-        good.append(read_all(served[0]) == b'{"ok":"bye"}\n')
-        good.append(read_line(late) == WELCOME)
-        for one in (*served[1:], late):
+        assert is_silent(late, 1.5), "served without a descriptor"
+        clients[0].sendall(BYE)
+        same(read_all(clients[0]), PARTED)
+        same(read_line(late), WELCOME)
+        for one in (*clients[1:], late):
             one.sendall(BYE)
             read_all(one)
-        good.append(greet(server))
-        ended = server.end()
-        said = server.process.stderr.read()
-    return all(good) and ended == AGREED and b"6 workers need 10 open files, and the limit is 7" in said
+        server.greet()
 
 
-def lost_for_want_of_descriptors(program):
+def lost_for_want_of_descriptors(program: Path) -> None:
     """A connection that cannot be accepted for ten seconds counts."""
     began = time.monotonic()
-    with short(program, 4, "--connections", "1") as server:
-        ended = server.end()
-        said = server.process.stderr.read()
+    with short(program, 4, "the limit is 4", "--connections", "1"):
+        pass
     passed = time.monotonic() - began
-    print("  ended after %.1f s" % passed)
-    return 9.5 < passed < 30 and ended == AGREED and b"the limit is 4" in said
+    print(f"  ended after {passed:.1f} s")
+    assert 9.5 < passed < 30, "not in time"
 
 
-def says_what_a_round_may_take(program):
-    """The bound of a round is said on standard error: the one that was asked for, or half of what is available."""
-    found = []
-    for words in (["--memory", "3m"], []):
-        command = [str(program), "serve", "--listen", "nonsense", "--connections", "1", *words]
-        found.append(subprocess.run(command, input=CONFIG, capture_output=True, timeout=10).stderr.split())
-    rows = Path("/proc/meminfo").read_text().splitlines()
-    half = int(next(row for row in rows if row.startswith("MemAvailable:")).split()[1]) * 512
-    asked, usual = (int(next(word for word in said if word.isdigit())) for said in found)
-    return asked == 3 * MEGABYTE and 0.8 * half < usual < 1.2 * half
+def says_what_a_round_may_take(program: Path) -> None:
+    """Standard error has the bound: as was asked for, or half of what is available."""
+
+    def said(*words: str) -> int:
+        more = ("--listen", "nonsense", "--connections", "1", *words)
+        told = ran(program, "serve", *more, given=CONFIG).stderr.split()
+        return int(next(word for word in told if word.isdigit()))
+
+    same(said("--memory", "3m"), 3 * MEGABYTE)
+    usual, half = said(), figure_in(Path("/proc/meminfo"), "MemAvailable") // 2
+    assert 0.8 * half < usual < 1.2 * half, (usual, half)
 
 
-def tests():
-    """All tests by their names."""
+def tests() -> Tests:
     yield "memory-that-reads-fill", reads_of_a_long_text
     yield "memory-that-looks-fill", looks_at_many_edges
     yield "memory-beside-a-flood", honest_beside_a_flood

@@ -1,11 +1,12 @@
 """A server under hostile clients for a while, with ten others that behave: for tests/soak.
 
-The hostile ones leave within a line, wait within one, flood without reading, reset their connections and send bad
-lines, each as long as the time lasts. Those that behave have each answer checked by models/owners.py. In the end the
-server settles as agreed; its memory and its open files stayed within bounds, and are printed.
+The hostile ones leave within a line, wait within one, flood without reading, reset their
+connections and send bad lines, each as long as the time lasts. Those that behave have each answer
+checked by models/owners.py. In the end the server settles as agreed; its memory and its open files
+stayed within bounds, and are printed.
 """
 
-import itertools
+import contextlib
 import random
 import socket
 import struct
@@ -13,43 +14,47 @@ import threading
 import time
 from concurrent.futures import ThreadPoolExecutor
 from pathlib import Path
+from random import Random
+from typing import Any
 
+from checking import Test, Tests, same
 from faults.line_faults import fields_of, with_faults
 from fuzz.differential import seeds
 from models import owners
 from models.reading import EVENTS, Refused, line_of, read_event
-from server.servers import AGREED, read_line, served
+from server.servers import AGREED, LOOK, Server, figure, read_line, served
 from server.serving import one_more
+from server.talks import NO_ACTOR
 
 SECONDS = 60
 WORKERS = 63
 BEHAVED = 10
 CONNECTIONS = 100_000
-NAMES = ["%s%s" % pair for pair in itertools.product("abcdefgh", "abcdefgh")][:WORKERS]
+NAMES = [x + y for x in "abcdefgh" for y in "abcdefgh"][:WORKERS]
 CONFIG = line_of({"principals": NAMES, "slots": 4096, "cells": 65536}) + b"\n"
-LOOK = b'{"at":1,"op":"look"}\n'
 
-# Open files of the server besides a connection for each worker; bytes that it may use, in all and for each line that was sent.
+# Open files of the server besides a connection for each worker; bytes that it may use, in all and
+# for each line that was sent.
 MORE_FILES = 8
 MOST_BYTES = 96 << 20
 BYTES_A_LINE = 1024
 
 
 class Siege:
-    """A server that is used for a while: how many connections may still be made, how many lines were sent, and the most
-    that it used."""
+    """A server that is used for a while: how many connections may still be made, how many lines
+    were sent, and the most that it used."""
 
-    def __init__(self, server, seconds):
+    def __init__(self, server: Server, seconds: float):
         self.server = server
         self.until = time.monotonic() + seconds
         self.left = CONNECTIONS - BEHAVED
         self.lines = self.files = self.memory = 0
         self.lock = threading.Lock()
 
-    def is_over(self):
+    def is_over(self) -> bool:
         return time.monotonic() > self.until
 
-    def connection(self):
+    def connection(self) -> socket.socket | None:
         """A connection, as long as there are any."""
         with self.lock:
             if self.left == 0 or self.is_over():
@@ -57,45 +62,44 @@ class Siege:
             self.left -= 1
         return self.server.connection()
 
-    def sent(self, count):
+    def sent(self, count: int) -> None:
         with self.lock:
             self.lines += count
 
-    def look(self):
+    def look(self) -> None:
         """Looks at what the server uses, until the time is over."""
-        process = Path("/proc/%d" % self.server.process.pid)
+        process = self.server.process
+        files = Path(f"/proc/{process.pid}/fd")
         while not self.is_over():
-            rows = (process / "status").read_text().splitlines()
-            size = next(int(row.split()[1]) << 10 for row in rows if row.startswith("VmRSS"))
-            self.memory = max(self.memory, size)
-            self.files = max(self.files, len(list((process / "fd").iterdir())))
+            self.memory = max(self.memory, figure(process, "VmRSS"))
+            self.files = max(self.files, len(list(files.iterdir())))
             time.sleep(0.1)
 
-    def use_up(self):
-        """Makes the connections that are left, and ends each at once, so that the server comes to its end."""
+    def use_up(self) -> None:
+        """Makes the connections that are left, and ends each, so that the server ends."""
         for _ in range(self.left):
             self.server.connection().close()
 
 
-def hello(number):
+def hello(number: int) -> bytes:
     """The line that seats a principal."""
     return line_of({"name": NAMES[number], "op": "hello"}) + b"\n"
 
 
-def leaves(siege, source, one, number):
+def leaves(siege: Siege, source: Random, one: socket.socket, number: int) -> None:
     """Leaves within a line."""
     one.sendall((hello(number) + LOOK)[: source.randrange(60)])
     siege.sent(1)
 
 
-def waits(siege, source, one, number):
+def waits(siege: Siege, source: Random, one: socket.socket, number: int) -> None:
     """Waits within a line, and leaves."""
     one.sendall(hello(number) + LOOK[:10])
     siege.sent(1)
     time.sleep(source.random())
 
 
-def floods(siege, source, one, number):
+def floods(siege: Siege, source: Random, one: socket.socket, number: int) -> None:
     """Sends lines and reads no answer, until none is taken for a moment."""
     one.sendall(hello(number))
     one.settimeout(0.2)
@@ -104,22 +108,22 @@ def floods(siege, source, one, number):
         one.sendall(LOOK * 100)
 
 
-def resets(siege, source, one, number):
+def resets(siege: Siege, source: Random, one: socket.socket, number: int) -> None:
     """Resets its connection with answers unread."""
     one.setsockopt(socket.SOL_SOCKET, socket.SO_LINGER, struct.pack("ii", 1, 0))
     one.sendall(hello(number) + LOOK * source.randrange(20))
     siege.sent(20)
 
 
-def answer_to(line):
-    """The answer to a line from a client that has not said hello; None if it may be a hello that succeeds."""
+def answer_to(line: bytes) -> bytes | None:
+    """The answer to a line before any hello; None if it may be a hello that succeeds."""
     try:
-        return b'{"error":"no actor"}\n' if read_event(line)["op"] != "hello" else None
+        return NO_ACTOR if read_event(line)["op"] != "hello" else None
     except Refused as refused:
         return line_of(refused.answer) + b"\n"
 
 
-def misspeaks(siege, source, one, _number):
+def misspeaks(siege: Siege, source: Random, one: socket.socket, _number: int) -> None:
     """Sends bad lines before any hello; each is answered by its first fault."""
     for _ in range(source.randrange(1, 50)):
         line = with_faults(source, fields_of(source, source.choice(list(EVENTS))))
@@ -128,9 +132,7 @@ def misspeaks(siege, source, one, _number):
             continue
         one.sendall(line + b"\n")
         siege.sent(1)
-        found = read_line(one)
-        if found != wanted:
-            raise AssertionError("%r was answered %r" % (line[:200], found))
+        same(read_line(one), wanted, f"the answer to {line[:200]!r}")
         if b"line too long" in wanted:
             return
 
@@ -138,61 +140,61 @@ def misspeaks(siege, source, one, _number):
 ROUGH = [leaves, waits, floods, resets, misspeaks]
 
 
-def besieges(siege, seed, number):
+def besieges(siege: Siege, seed: str, number: int) -> int:
     """One hostile client after the other; returns how many there were."""
-    source = random.Random("%s/%d" % (seed, number))
-    for count in itertools.count():
-        one = siege.connection()
-        if one is None:
-            return count
-        with one:
-            try:
-                source.choice(ROUGH)(siege, source, one, number)
-            except (TimeoutError, ConnectionError):
-                pass
+    source = random.Random(f"{seed}/{number}")
+    count = 0
+    while one := siege.connection():
+        with one, contextlib.suppress(TimeoutError, ConnectionError):
+            source.choice(ROUGH)(siege, source, one, number)
+        count += 1
+    return count
 
 
-def behaves(siege, seed, number):
-    """A client that behaves, for as long as the time lasts; returns how many commands it sent, and the longest wait for
-    an answer."""
-    source, longest = random.Random("%s/%d" % (seed, number)), 0.0
+def behaves(siege: Siege, seed: str, number: int) -> tuple[int, float]:
+    """A client that behaves, for as long as the time lasts; returns how many commands it sent, and
+    the longest wait for an answer."""
+    source, longest, count = random.Random(f"{seed}/{number}"), 0.0, 0
     with siege.server.client() as client:
-        owner = owners.Owner(client.hello(NAMES[number]), NAMES[number])
-        made = [WORKERS]
-        for count in itertools.count():
-            if siege.is_over():
-                client.bye()
-                return count, longest
+        owner, made = owners.Owner(client.hello(NAMES[number]), NAMES[number]), [WORKERS]
+        while not siege.is_over():
             began = time.monotonic()
             one_more(source, client, owner, made)
             longest = max(longest, time.monotonic() - began)
             siege.sent(1)
+            count += 1
+        client.bye()
+    return count, longest
 
 
-def withstood(seconds):
+def withstood(seconds: float) -> Test:
     """A server that is besieged for this long."""
 
-    def test(program):
+    def test(program: Path) -> None:
         seed = seeds()[-1]
-        print("  seed %s" % seed)
-        with served(program, WORKERS, CONNECTIONS, CONFIG, seconds + 120) as server, ThreadPoolExecutor(WORKERS + 1) as pool:
+        print(f"  seed {seed}")
+        how: dict[str, Any] = {"config": CONFIG, "seconds": seconds + 120, "ends": None}
+        besieged = served(program, WORKERS, CONNECTIONS, **how)
+        with besieged as server, ThreadPoolExecutor(WORKERS + 1) as pool:
             siege = Siege(server, seconds)
             looked = pool.submit(siege.look)
             behaved = [pool.submit(behaves, siege, seed, number) for number in range(BEHAVED)]
-            rough = [pool.submit(besieges, siege, seed, number) for number in range(BEHAVED, WORKERS)]
-            commands, waits_at_most = zip(*[one.result() for one in behaved])
+            others = range(BEHAVED, WORKERS)
+            rough = [pool.submit(besieges, siege, seed, number) for number in others]
+            commands, waited = zip(*[one.result() for one in behaved])
             hostile = sum(one.result() for one in rough)
             looked.result()
             siege.use_up()
-            ended = server.end()
-        print("  %d commands of %d clients that behave, the longest wait %.2f s" % (sum(commands), BEHAVED, max(waits_at_most)))
-        print("  %d hostile connections, %d lines in all, %d open files, %d MB" % (hostile, siege.lines, siege.files, siege.memory >> 20))
-        bounded = siege.files <= WORKERS + MORE_FILES and siege.memory <= MOST_BYTES + BYTES_A_LINE * siege.lines
-        return bounded and min(commands) > 0 and hostile > 0 and ended == AGREED
+            same(server.end(), AGREED)
+        print(f"  {sum(commands)} commands of {BEHAVED} clients that behave")
+        print(f"  the longest wait {max(waited):.2f} s; {hostile} hostile connections")
+        print(f"  {siege.lines} lines, {siege.files} open files, {siege.memory >> 20} MB")
+        assert siege.files <= WORKERS + MORE_FILES, "too many files"
+        assert siege.memory <= MOST_BYTES + BYTES_A_LINE * siege.lines, "too much memory"
+        assert min(commands) > 0 and hostile > 0, "too few connections or commands"
 
     return test
 
 
-def tests(seconds=SECONDS):
-    """All tests by their names."""
+def tests(seconds: float = SECONDS) -> Tests:
     yield "server-under-hostile-clients", withstood(seconds)

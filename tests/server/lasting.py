@@ -1,16 +1,21 @@
 """A server whose one client makes documents and drops each at once, for a while: for tests/soak.
 
-The server has room for few, so what was dropped has to be freed over and over, for as long as the server lasts, by its collector and by
-those who make documents. To be full for a moment is no fault; to stay full is one. That the collector's own thread goes on is shown by
-`collector-that-frees-alone`, and by `full-but-for-one` here, in which no create succeeds before it has freed something.
+The server has room for few, so what was dropped has to be freed over and over, for as long as the
+server lasts, by its collector and by those who make documents. To be full for a moment is no fault;
+to stay full is one. That the collector's own thread goes on is shown by
+`collector-that-frees-alone`, and by `full-but-for-one` here, in which no create succeeds before it
+has freed something.
 """
 
 import contextlib
 import time
+from collections.abc import Callable
+from pathlib import Path
 
+from checking import Test, Tests
 from models.reading import line_of
-from server.servers import AGREED, served
-from tgdoc_client import Full
+from server.servers import served
+from tgdoc_client import Client, Full
 
 # More than a minute, so that a collector that gives up after a count of steps or of rests is seen.
 SECONDS = 90
@@ -21,12 +26,13 @@ CONFIG = line_of({"principals": ["alice"], "slots": SLOTS, "cells": 4 * SLOTS}) 
 PAUSE = 0.001
 MOST_FULL = 5.0
 
-# Seconds for which the collector's own thread alone has to free what was dropped: more than 10,000 of its turns.
+# Seconds for which the collector's own thread alone has to free what was dropped: more than 10,000
+# of its turns.
 ALONE = 30
 
 
-def makes_and_drops(client, seconds):
-    """Makes documents and drops them; returns how many there were, and for how long at most none could be made."""
+def makes_and_drops(client: Client, seconds: float) -> tuple[int, float]:
+    """Makes and drops documents: how many, and for how long at most none could be made."""
     made, longest, last = 0, 0.0, time.monotonic()
     until = last + seconds
     while time.monotonic() < until:
@@ -39,9 +45,9 @@ def makes_and_drops(client, seconds):
     return made, longest
 
 
-def makes_one_at_a_time(client, seconds):
-    """In a vault in which all slots but one are kept, drops a document and makes one, over and over; returns how many were made, and for how
-    long at most none could be."""
+def makes_one_at_a_time(client: Client, seconds: float) -> tuple[int, float]:
+    """In a vault in which all slots but one are kept, drops a document and makes one, over and
+    over; returns how many were made, and for how long at most none could be."""
     kept = [client.create("document", "rw") for _ in range(SLOTS - 1)]
     made, longest = 0, 0.0
     until = time.monotonic() + seconds
@@ -59,36 +65,23 @@ def makes_one_at_a_time(client, seconds):
     return made, longest
 
 
-def full_but_for_one(program):
-    """A server whose slots are all kept but for one that is dropped over and over: only the collector's own thread can free it, since no
-    create succeeds before."""
-    with served(program, 1, 1, CONFIG, ALONE + 60) as server:
-        with server.client() as alice:
-            alice.hello("alice")
-            made, longest = makes_one_at_a_time(alice, ALONE)
-            alice.bye()
-        ended = server.end()
-    print("  %d documents for the one slot, none for %.2f s at most" % (made, longest))
-    return made > ALONE and longest < MOST_FULL and ended == AGREED
+def used(use: Callable[[Client, float], tuple[int, float]], seconds: float, least: int) -> Test:
+    """A server that is used in this way for so long makes more documents than these."""
 
-
-def lasted(seconds):
-    """A server that is used in this way for this long."""
-
-    def test(program):
-        with served(program, 1, 1, CONFIG, seconds + 60) as server:
+    def test(program: Path) -> None:
+        with served(program, 1, 1, config=CONFIG, seconds=seconds + 60) as server:
             with server.client() as alice:
                 alice.hello("alice")
-                made, longest = makes_and_drops(alice, seconds)
+                made, longest = use(alice, seconds)
                 alice.bye()
-            ended = server.end()
-        print("  %d documents in %d slots, none for %.2f s at most" % (made, SLOTS, longest))
-        return made > SLOTS and longest <= MOST_FULL and ended == AGREED
+        print(f"  {made} documents in {SLOTS} slots, none for {longest:.2f} s at most")
+        assert made > least, "too few"
+        assert longest < MOST_FULL, "full for too long"
 
     return test
 
 
-def tests(seconds=SECONDS):
-    """All tests by their names."""
-    yield "server-that-makes-and-drops", lasted(seconds)
-    yield "full-but-for-one", full_but_for_one
+def tests(seconds: float = SECONDS) -> Tests:
+    yield "server-that-makes-and-drops", used(makes_and_drops, seconds, SLOTS)
+    # only the collector's own thread can free the one slot, since no create succeeds before
+    yield "full-but-for-one", used(makes_one_at_a_time, ALONE, ALONE)

@@ -1,109 +1,172 @@
-"""Servers that run while clients talk to them, for the tests of `tgdoc serve`.
+"""Servers that run while clients talk to them, for the tests of `tgdoc serve`, and what both say.
 
-Every wait has an end: a client's and a connection's are ten seconds, and a server is killed when its time is over.
+Every wait has an end: a client's and a connection's are ten seconds, and a server is killed when
+its time is over.
 """
 
 import contextlib
 import select
 import socket
 import subprocess
-import threading
+from collections.abc import Iterable, Iterator
+from concurrent.futures import ThreadPoolExecutor
+from pathlib import Path
+from typing import Any
 
-from tgdoc_client import Client, address_of
-
-SECONDS = 60
+from checking import same
+from running import SECONDS, Process, hear, started, tell
+from tgdoc_client import Client, Denied, Fault, Full, address_of
 
 CONFIG = b'{"cells":8,"edges":[[1,"t",2]],"principals":["alice","bob"],"slots":8}\n'
+ROOMY = b'{"edges":[[1,"t",2]],"principals":["alice","bob"]}\n'
 NOT_JSON = b'{"error":"not json"}\n'
 # What a server writes at its end, and its status.
 AGREED = (b'{"settled":"agreed"}\n', 0)
+
+# What alice sends, and how a server over these configurations answers her.
+HELLO, WELCOME = b'{"name":"alice","op":"hello"}\n', b'{"ok":"hello","vertex":1}\n'
+LOOK, SEEN = b'{"at":1,"op":"look"}\n', b'{"edges":[[2,"t"]],"ok":"edges"}\n'
+CREATE = b'{"kind":"document","op":"create","rights":"rw"}\n'
+CREATED = b'{"ok":"created","vertex":%d}\n'
+MADE = CREATED % 3
+READ = b'{"op":"read","over":3}\n'
+WRITE, DONE = b'{"op":"write","over":3,"text":"%s"}\n', b'{"ok":"done"}\n'
+BYE, PARTED = b'{"op":"bye"}\n', b'{"ok":"bye"}\n'
+# The words for a free port of the loopback.
+ANY_PORT = ("--listen", "127.0.0.1:0")
 
 
 class Server:
     """A server that runs, and where it listens."""
 
-    def __init__(self, process):
+    def __init__(self, process: Process):
         self.process = process
-        self.address = address_of(process.stdout.readline())
+        self.address = address_of(hear(process))
 
-    def client(self):
+    def client(self) -> Client:
         """A well-behaved client."""
         return Client(*self.address)
 
-    def connection(self):
+    def connection(self) -> socket.socket:
         """A connection over which bytes are sent."""
         one = socket.create_connection(self.address, 10.0)
         one.setsockopt(socket.IPPROTO_TCP, socket.TCP_NODELAY, 1)
         return one
 
-    def end(self):
-        """All that it writes after its first line, and its status; all its connections have to be over."""
+    def greet(self, name: str = "alice") -> None:
+        """A client says hello and bye."""
+        with self.client() as one:
+            same(one.hello(name), {"alice": 1, "bob": 2}[name], "a greeting")
+            one.bye()
+
+    def exchange(self, *pieces: bytes) -> bytes:
+        """Sends the pieces over a connection, each by itself, and reads all answers."""
+        with self.connection() as one:
+            for piece in pieces:
+                one.sendall(piece)
+            one.shutdown(socket.SHUT_WR)
+            return read_all(one)
+
+    def end(self) -> tuple[bytes, int]:
+        """What it writes after its first line, and its status, once all connections are over."""
+        assert self.process.stdout
         return self.process.stdout.read(), self.process.wait(SECONDS)
 
 
 @contextlib.contextmanager
-def running(program, *words, config=CONFIG, seconds=SECONDS):
-    """A program that serves a configuration. Its input stays open, and what it says on standard error is not shown. It is killed in
-    the end, or when its time is over."""
-    pipes = {"stdin": subprocess.PIPE, "stdout": subprocess.PIPE, "stderr": subprocess.DEVNULL}
-    with subprocess.Popen([str(program), "serve", *words], **pipes) as process:
-        limit = threading.Timer(seconds, process.kill)
-        limit.start()
-        try:
-            process.stdin.write(config)
-            process.stdin.flush()
-            yield process
-        finally:
-            limit.cancel()
-            process.kill()
+def running(
+    program: Path, *words: str, config: bytes = CONFIG, seconds: float = SECONDS, **how: Any
+) -> Iterator[Process]:
+    """A program that serves a configuration. Its input stays open; standard error is not shown."""
+    how = {"stderr": subprocess.DEVNULL, **how}
+    with started(program, "serve", *words, seconds=seconds, **how) as process:
+        tell(process, config)
+        yield process
 
 
 @contextlib.contextmanager
-def served(program, workers, connections, config=CONFIG, seconds=SECONDS):
-    """A server on a free port of the loopback."""
-    words = ["--listen", "127.0.0.1:0", "--workers", str(workers), "--connections", str(connections)]
-    with running(program, *words, config=config, seconds=seconds) as process:
-        yield Server(process)
+def served(
+    program: Path,
+    workers: int,
+    connections: int,
+    *words: str,
+    config: bytes = CONFIG,
+    seconds: float = SECONDS,
+    ends: tuple[bytes, int] | None = AGREED,
+) -> Iterator[Server]:
+    """A server on a free port of the loopback, which ends in this way behind the block."""
+    numbers = ("--workers", str(workers), "--connections", str(connections))
+    with running(program, *ANY_PORT, *numbers, *words, config=config, seconds=seconds) as process:
+        server = Server(process)
+        yield server
+        if ends:
+            same(server.end(), ends, "the end of the server")
 
 
-def read_all(one):
+def in_rounds(*dropped: int) -> tuple[bytes, int]:
+    """How a server in rounds ends, each of which but the last dropped so many entries."""
+    rounds = enumerate(dropped, 1)
+    lines = [b'{"dropped":%d,"round":%d}\n' % (count, number) for number, count in rounds]
+    return b"".join(lines) + AGREED[0], 0
+
+
+def read_all(one: socket.socket) -> bytes:
     """All bytes up to the end of the connection."""
-    pieces = []
-    while True:
-        piece = one.recv(65536)
-        if not piece:
-            return b"".join(pieces)
-        pieces.append(piece)
+    return b"".join(iter(lambda: one.recv(65536), b""))
 
 
-def read_line(one):
-    """The bytes up to the next line feed, or to the end of the connection; no byte more is taken."""
+def read_line(one: socket.socket) -> bytes:
+    """The bytes up to the next line feed, or to the end; no byte more is taken."""
     line = b""
-    while not line.endswith(b"\n"):
-        piece = one.recv(1)
-        if not piece:
-            return line
+    while not line.endswith(b"\n") and (piece := one.recv(1)):
         line += piece
     return line
 
 
-def is_silent(one, seconds=0.3):
+def is_silent(one: socket.socket, seconds: float = 0.3) -> bool:
     """Whether nothing comes for a while."""
     return not select.select([one], [], [], seconds)[0]
 
 
-def exchange(server, *pieces):
-    """Sends the pieces over a connection, each by itself, then that no more comes, and reads all answers."""
-    with server.connection() as one:
-        for piece in pieces:
-            one.sendall(piece)
-        one.shutdown(socket.SHUT_WR)
-        return read_all(one)
+def figure(process: Process, name: str) -> int:
+    """A figure of a process in bytes: `VmRSS`, its memory; `VmHWM`, the peak of that."""
+    return figure_in(Path(f"/proc/{process.pid}/status"), name)
 
 
-def greet(server, name="alice"):
-    """A client says hello and bye; returns whether it was answered."""
-    with server.client() as one:
-        serial = one.hello(name)
-        one.bye()
-    return serial in (1, 2)
+def figure_in(file: Path, name: str) -> int:
+    """A figure of the system, in bytes."""
+    rows = file.read_text().splitlines()
+    return next(int(row.split()[1]) << 10 for row in rows if row.startswith(name + ":"))
+
+
+def poured(server: Server, *pieces: bytes) -> bytes:
+    """Sends the pieces as fast as they are taken; all answers."""
+    with server.connection() as one, ThreadPoolExecutor() as pool:
+        sent = pool.submit(pour, one, pieces)
+        found = read_all(one)
+        sent.result(SECONDS)
+    return found
+
+
+def pour(one: socket.socket, pieces: Iterable[bytes]) -> None:
+    for piece in pieces:
+        one.sendall(piece)
+
+
+def denied(rule: str, cause: str, **more: str | int) -> dict[str, str | int]:
+    """The fields of a denial that are not None, as the client's exception has them."""
+    return {"rule": rule, "cause": cause, **more}
+
+
+def refusal_of(client: Client, name: str, *arguments: Any) -> Any:
+    """The fields of the exception that a client raises, or what the command returns."""
+    try:
+        return getattr(client, name)(*arguments)
+    except Denied as denial:
+        fields = {name: value for name, value in vars(denial).items() if value is not None}
+        same(fields.pop("answer")["denied"], fields["rule"])
+        return fields
+    except Full as full:
+        return full.what
+    except Fault as fault:
+        return fault.error

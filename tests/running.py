@@ -1,0 +1,87 @@
+"""How tests run a program: on an input, or while they talk to it. Every run has an end."""
+
+import contextlib
+import os
+import subprocess
+import threading
+from collections.abc import Iterator
+from pathlib import Path
+from typing import Any
+
+ROOT = Path(__file__).resolve().parents[1]
+# A program is killed after this many seconds.
+SECONDS = 60
+
+Process = subprocess.Popen[bytes]
+Word = str | bytes | Path
+
+
+def joined(*rows: bytes) -> bytes:
+    """Lines, each with its line feed."""
+    return b"".join(row + b"\n" for row in rows)
+
+
+def ran(
+    program: Path, *words: Word, given: bytes | None = b"", **how: Any
+) -> subprocess.CompletedProcess[bytes]:
+    """A run on an input."""
+    how = {"stdout": subprocess.PIPE, "stderr": subprocess.PIPE, "timeout": SECONDS, **how}
+    return subprocess.run([str(program), *words], input=given, **how)
+
+
+def asked(program: Path, *words: Word, given: bytes = b"", **how: Any) -> tuple[bytes, int]:
+    """What a run on an input writes, and its status."""
+    done = ran(program, *words, given=given, **how)
+    return done.stdout, done.returncode
+
+
+def example(name: str, program: Path, *words: str) -> subprocess.CompletedProcess[str]:
+    """A run of a program of examples/ with this program."""
+    how: dict[str, Any] = {"env": {**os.environ, "TGDOC": str(program)}, "text": True}
+    command = [str(ROOT / "examples" / name), *words]
+    return subprocess.run(command, capture_output=True, timeout=2 * SECONDS, **how)
+
+
+@contextlib.contextmanager
+def started(program: Path, *words: Word, seconds: float = SECONDS, **how: Any) -> Iterator[Process]:
+    """A program that runs while a test talks to it. It is killed in the end, or when its time is
+    over: a read from it then finds no more bytes."""
+    how = {"stdin": subprocess.PIPE, "stdout": subprocess.PIPE, **how}
+    with subprocess.Popen([str(program), *words], **how) as process:
+        limit = threading.Timer(seconds, process.kill)
+        limit.start()
+        try:
+            yield process
+        finally:
+            limit.cancel()
+            process.kill()
+
+
+def tell(process: Process, some: bytes) -> None:
+    """Sends these bytes at once."""
+    assert process.stdin
+    process.stdin.write(some)
+    process.stdin.flush()
+
+
+def hear(process: Process) -> bytes:
+    """The next line that is written."""
+    assert process.stdout
+    return process.stdout.readline()
+
+
+def rest_of(process: Process) -> tuple[bytes, int]:
+    """Ends the input; what is still written, and the status."""
+    assert process.stdin and process.stdout
+    process.stdin.close()
+    return process.stdout.read(), process.wait(SECONDS)
+
+
+@contextlib.contextmanager
+def unreadable() -> Iterator[int]:
+    """An input whose every read fails."""
+    folder = os.open("/", os.O_RDONLY)
+    try:
+        yield folder
+    finally:
+        os.close(folder)
