@@ -3,6 +3,7 @@
 from collections.abc import Callable, Iterator
 from pathlib import Path
 
+from theorem import lapses
 from theorem.compared import complaints, sizes
 from theorem.sources import Sources
 
@@ -21,3 +22,4 @@ def is_listed(crates: Path) -> bool:
 def tests() -> Iterator[tuple[str, Callable[[Path], bool]]]:
     """The tests with their names."""
     yield "theorem-rests-on-what-is-listed", is_listed
+    yield from lapses.tests()
