@@ -1,11 +1,12 @@
 """What docs/THEOREM.md lists, compared with what its promises rest on."""
 
+import re
 from collections.abc import Iterator
 
 from theorem import page as pages
 from theorem.imports import Place
 from theorem.page import Item
-from theorem.promises import HEADLINE, PROMISES, Promise, rests_on, size_of
+from theorem.promises import HEADLINE, PROMISES, Contract, Promise, rests_on, size_of
 from theorem.sources import Sources
 
 
@@ -63,6 +64,24 @@ def misnamed(sources: Sources, items: list[Item], promises: list[Promise]) -> It
             yield from selection.misnamed(sources)
 
 
+def miscited(sources: Sources, page: str, promises: list[Promise]) -> Iterator[str]:
+    """What the page says wrongly of contracts, and the functions that it does not name."""
+    for function, clause, file, definition in pages.cited(page):
+        contract = Contract(file, function, (clause,) if clause else ())
+        try:
+            names = {it.name for it in rests_on(sources, [contract])}
+        except FileNotFoundError:
+            yield f"there is no file {file}"
+        except ValueError as error:
+            yield str(error)
+        else:
+            if definition and definition not in names:
+                yield f"{file}, {function}: it does not rest on {definition}"
+    for begin in (it for promise in promises for it in promise.begins):
+        if not re.search(rf"`(?:\w+::)?{begin[1]}\b", page):
+            yield f"the page does not name {begin[1]}"
+
+
 def complaints(
     sources: Sources,
     page: str,
@@ -72,6 +91,7 @@ def complaints(
     """What is wrong with the lists and the numbers of a page."""
     items = pages.items(sources.crates, page)
     yield from misnamed(sources, items, promises)
+    yield from miscited(sources, page, promises)
     read: set[Place] = set()
     for promise in promises:
         own = [it for it in items if it.title == promise.title]

@@ -136,6 +136,8 @@ pub data Ran (turns : List Turn) : ℕ → Type 0 where
 
 PAGE = """# The theorem
 
+It is `Theorem`, of which `run`, clause `ran` (crates/tiny/src/run.rt; `Ran`), makes an end.
+
 ## What to read, in this order
 
 `Headline` rests on 9 definitions in 4 files, 22 lines without comments, and on 2 types and
@@ -276,6 +278,21 @@ LAPSES = [
         "a promise has another title",
         [("page", "*A run*", "*Runs*")],
         ["no promise has the title Runs", "A run: tiny/specs/Runs.antt is not listed"],
+    ),
+    Lapse(
+        "a contract does not rest on what is named with it",
+        [("page", "; `Ran`", "; `Sign`")],
+        ["tiny/src/run.rt, run: it does not rest on Sign"],
+    ),
+    Lapse(
+        "a contract is in another file",
+        [("page", "src/run.rt", "src/lines.rt")],
+        ["there is no file tiny/src/lines.rt"],
+    ),
+    Lapse(
+        "a contract has no name",
+        [("page", "`run`, clause `ran` (crates/tiny/src/run.rt; `Ran`),", "a run")],
+        ["the page does not name run"],
     ),
     Lapse(
         "a clause is no longer there",

@@ -16,6 +16,12 @@ NUMBERS = re.compile(
     r"and on (\d+) types and constants of the code"
 )
 
+# A function, a clause of its contract, its file, and a definition on which that rests.
+CITED = re.compile(
+    r"`(?:\w+::)?(\w+)`(?:, clause `(\w+)`)?(?:, whose contract is `\w+`)? "
+    r"\(crates/([\w/]+\.rt)(?:; (?:`(\w+)`|[\w/]+))?\)"
+)
+
 
 class Selection(NamedTuple):
     """What is to be read of a file: these definitions, all but these, or all."""
@@ -80,7 +86,13 @@ def items(crates: Path, page: str) -> list[Item]:
     return [Item(title, [*selections(crates, text)]) for title, text in found]
 
 
+def cited(page: str) -> list[tuple[str, str, str, str]]:
+    """The contracts that a page names: function, clause, file and definition, each of which but
+    the function and the file may be empty."""
+    return CITED.findall(" ".join(page.split()))
+
+
 def numbers(page: str) -> list[int]:
-    """What the page says of the headline: definitions, files, lines, and types of the code."""
-    found = NUMBERS.search(re.sub(r"\s+", " ", page))
+    """What a page says of the headline: definitions, files, lines, and types of the code."""
+    found = NUMBERS.search(" ".join(page.split()))
     return [int(it) for it in found.groups()] if found else []
