@@ -30,10 +30,11 @@ def listed_by(sources: Sources, items: list[Item]) -> set[Place]:
 
 
 def out_of_order(sources: Sources, items: list[Item], promise: Promise) -> Iterator[str]:
-    """What an item needs that comes in a later one."""
+    """What a file needs of one that is listed behind it."""
+    files = [selection for item in items for selection in item.selections]
     ranks: dict[Place, int] = {}
-    for rank, item in enumerate(items):
-        for place in listed_by(sources, [item]):
+    for rank, selection in enumerate(files):
+        for place in selection.places(sources):
             ranks.setdefault(place, rank)
     for place in rests_on(sources, promise.begins, promise.skipped):
         (own,) = as_listed({place})
@@ -101,7 +102,7 @@ def complaints(
             yield from differences(promise.title, files_of(needed) - files_of(read), listed)
         else:
             yield from differences("the numbered items", as_listed(needed), listed)
-            yield from sorted(out_of_order(sources, own, promise))
+            yield from sorted({*out_of_order(sources, own, promise)})
         read |= needed
     size, said = size_of(sources, rests_on(sources, [headline])), pages.numbers(page)
     if not said or any(it > most for it, most in zip(size, said)):

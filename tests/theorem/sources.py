@@ -70,8 +70,9 @@ class Sources:
         source = self.spec(file) if file.endswith(".antt") else self.code(file)
         own = source.symbols if isinstance(source, Source) else {}
         for word in found:
-            first = ">>=" if word == "do" else word.partition(".")[0]
-            imported = source.imports.of(word if word != "do" else first)
+            # (what `do` binds, >>= hands on)
+            word = ">>=" if word == "do" else word
+            first, imported = word.partition(".")[0], source.imports.of(word)
             if first in own:
                 yield self.defined(Place(file, own[first]))
             elif imported:
