@@ -99,11 +99,7 @@ def named_by(sources: Sources, contract: Contract) -> set[Place]:
     if lacking:
         raise ValueError(f"{contract.file}, {contract.function}: no clause {', '.join(lacking)}")
     chosen = contract.clauses or clauses
-    return {
-        place
-        for name in chosen
-        for place in sources.referred_to(contract.file, clauses[name])
-    }
+    return {place for name in chosen for place in sources.referred_to(contract.file, clauses[name])}
 
 
 def rests_on(

@@ -67,7 +67,7 @@ class Sources:
 
     def referred_to(self, file: str, found: Iterable[str]) -> Iterator[Place]:
         """What the words of a file refer to."""
-        source = self.spec(file) if file.endswith(".antt") else self.code(file)
+        source: Source | Code = self.spec(file) if file.endswith(".antt") else self.code(file)
         own = source.symbols if isinstance(source, Source) else {}
         for word in found:
             # (what `do` binds, >>= hands on)

@@ -17,7 +17,7 @@ def words(text: str) -> list[str]:
 
 def bound_by(tokens: list[str], at: int) -> list[str]:
     """The names of a bracket that binds some, such as `(x y : ℕ)`; none of any other."""
-    names = []
+    names: list[str] = []
     for word in tokens[at + 1 :]:
         if word == ":":
             return names
