@@ -60,11 +60,11 @@ module _ (start : State) where
 
 abbrev pub after : State → Turn → State
 after s (turn.Left word) = with_said s word
-after s turn.Right = with_said s (letters.alone letters.a)
+after s turn.Right = with_said s ((λ said. said) (letters.alone letters.a))
 
 -- the states lead from one to the next
 abbrev pub Leads : State → List Turn → State → Type 0
-Leads s [] t = t ≡ s
+Leads s [] t = (count : ℕ) → s.count ≡ count → t ≡ s
 Leads s (turn ∷ turns) t = Leads (after s turn) turns t
 """
 
@@ -181,7 +181,7 @@ LARGE = (
     "%d types and constants of the code, but the page says [%d, 4, %d, 2]"
 )
 LEADS = STEPS[STEPS.index("-- the states") :]
-COURSES = """use Rattle.std.specs.Prelude.{◌≡◌, List, [], ◌∷◌}
+COURSES = """use Rattle.std.specs.Prelude.{◌≡◌, ℕ, List, [], ◌∷◌}
 use Rattle.tiny.specs.declared.turn.Turn.{Turn}
 use Rattle.tiny.specs.States.{State}
 use Rattle.tiny.specs.Steps.{after}
