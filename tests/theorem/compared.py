@@ -1,0 +1,117 @@
+"""What docs/THEOREM.md lists, compared with what its promises rest on."""
+
+import re
+from collections.abc import Iterator
+
+from theorem import page as pages
+from theorem.imports import Place
+from theorem.page import Item
+from theorem.promises import HEADLINE, PROMISES, Contract, Promise, rests_on, size_of
+from theorem.sources import Sources
+
+
+def as_listed(places: set[Place]) -> set[Place]:
+    """The definitions, with the files of the code and the modules of libraries as one each."""
+    return {it if it.file.endswith(".antt") else Place(it.file, "") for it in places}
+
+
+def shown(place: Place) -> str:
+    """A definition, or a file, as a complaint says it."""
+    return f"{place.name} of {place.file}" if place.name else place.file
+
+
+def listed_by(sources: Sources, items: list[Item]) -> set[Place]:
+    """All that some items list."""
+    found: set[Place] = set()
+    for item in items:
+        for selection in item.selections:
+            found |= selection.places(sources)
+    return found
+
+
+def out_of_order(sources: Sources, items: list[Item], promise: Promise) -> Iterator[str]:
+    """What a file needs of one that is listed behind it."""
+    files = [selection for item in items for selection in item.selections]
+    ranks: dict[Place, int] = {}
+    for rank, selection in enumerate(files):
+        for place in selection.places(sources):
+            ranks.setdefault(place, rank)
+    for place in rests_on(sources, promise.begins, promise.skipped):
+        (own,) = as_listed({place})
+        for needed in as_listed(sources.names(place) - promise.skipped):
+            if own in ranks and needed in ranks and ranks[own] < ranks[needed]:
+                yield f"{shown(own)} needs {shown(needed)}, which comes later"
+
+
+def differences(where: str, needed: set[Place], listed: set[Place]) -> Iterator[str]:
+    """What is not listed, and what is listed and not needed."""
+    for it in sorted(needed - listed):
+        yield f"{where}: {shown(it)} is not listed"
+    for it in sorted(listed - needed):
+        yield f"{where}: {shown(it)} is listed without need"
+
+
+def files_of(places: set[Place]) -> set[Place]:
+    """Their files."""
+    return {Place(it.file, "") for it in places}
+
+
+def misnamed(sources: Sources, items: list[Item], promises: list[Promise]) -> Iterator[str]:
+    """What the items name that is not there."""
+    for item in items:
+        if item.title not in {it.title for it in promises}:
+            yield f"no promise has the title {item.title}"
+        for selection in item.selections:
+            yield from selection.misnamed(sources)
+
+
+def miscited(sources: Sources, page: str, promises: list[Promise]) -> Iterator[str]:
+    """What the page says wrongly of contracts, and the functions that it does not name."""
+    for function, clause, file, definition in pages.cited(page):
+        contract = Contract(file, function, (clause,) if clause else ())
+        try:
+            names = {it.name for it in rests_on(sources, [contract])}
+        except FileNotFoundError:
+            yield f"there is no file {file}"
+        except ValueError as error:
+            yield str(error)
+        else:
+            if definition and definition not in names:
+                yield f"{file}, {function}: it does not rest on {definition}"
+    for begin in (it for promise in promises for it in promise.begins):
+        if not re.search(rf"`(?:\w+::)?{begin[1]}\b", page):
+            yield f"the page does not name {begin[1]}"
+
+
+def complaints(
+    sources: Sources,
+    page: str,
+    promises: list[Promise] = PROMISES,
+    headline: Place = HEADLINE,
+) -> Iterator[str]:
+    """What is wrong with the lists and the numbers of a page."""
+    items = pages.items(sources.crates, page)
+    yield from misnamed(sources, items, promises)
+    yield from miscited(sources, page, promises)
+    read: set[Place] = set()
+    for promise in promises:
+        own = [it for it in items if it.title == promise.title]
+        needed, listed = rests_on(sources, promise.begins, promise.skipped), listed_by(sources, own)
+        if promise.title:
+            needed, listed = needed - read, files_of(listed)
+            yield from differences(promise.title, files_of(needed) - files_of(read), listed)
+        else:
+            yield from differences("the numbered items", as_listed(needed), listed)
+            yield from sorted({*out_of_order(sources, own, promise)})
+        read |= needed
+    size, said = size_of(sources, rests_on(sources, [headline])), pages.numbers(page)
+    if not said or any(it > most for it, most in zip(size, said)):
+        yield f"the headline rests on {size}, but the page says {said}"
+
+
+def sizes(sources: Sources) -> Iterator[str]:
+    """How much each promise needs."""
+    yield f"Headline: {size_of(sources, rests_on(sources, [HEADLINE]))}"
+    for it in PROMISES:
+        size = size_of(sources, rests_on(sources, it.begins, it.skipped))
+        yield f"{it.title or 'A vault'}: {size}"

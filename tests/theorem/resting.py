@@ -1,0 +1,25 @@
+"""Tests that docs/THEOREM.md lists what its promises rest on, by the sources: all, and no more."""
+
+from collections.abc import Callable, Iterator
+from pathlib import Path
+
+from theorem import lapses
+from theorem.compared import complaints, sizes
+from theorem.sources import Sources
+
+ROOT = Path(__file__).resolve().parents[2]
+
+
+def is_listed(crates: Path) -> bool:
+    """The page has what the promises rest on, and says how much the headline needs."""
+    page = (ROOT / "docs" / "THEOREM.md").read_text(encoding="utf-8")
+    sources = Sources(crates)
+    found = [*complaints(sources, page)]
+    print(*(f"  {line}" for line in [*sizes(sources), *found]), sep="\n")
+    return not found
+
+
+def tests() -> Iterator[tuple[str, Callable[[Path], bool]]]:
+    """The tests with their names."""
+    yield "theorem-rests-on-what-is-listed", is_listed
+    yield from lapses.tests()
