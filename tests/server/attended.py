@@ -494,8 +494,9 @@ def memory_refused_at_a_stop(program: Path) -> None:
             for _ in range(2_000):
                 one.sendall(LOOK * 1_000)
                 read_some(one, 1_000 * len(SEEN))
-        with contextlib.suppress(OSError, ValueError):
-            server.ask(op="stop", within=0)
+        told = server.status()
+        assert told == {"error": "no memory"} or "uptime" in told, told
+        same(server.ask(op="stop", within=0), {"ok": "stop"}, "the answer to a stop")
         ended = server.end()
     print(f"  {ended}")
     assert ended in (AGREED, (b'{"settled":"no memory"}\n', 1)), "another end"

@@ -4,7 +4,7 @@ use crate::desk::{Desk, milliseconds};
 use crate::door::tick;
 use crate::status::{Serving, status_line};
 use serde_json::Value;
-use std::alloc::{AllocError, Global};
+use std::alloc::Global;
 use std::io::{Read, Write};
 use std::os::unix::net::{UnixListener, UnixStream};
 use std::rt::Clock;
@@ -39,7 +39,8 @@ pub(crate) enum Request {
 }
 
 /// Serves one client of the socket after the other, each for at most five seconds, until the server has ended. The
-/// listener has to be one that does not wait (`set_nonblocking`).
+/// listener has to be one that does not wait (`set_nonblocking`). The room for a line is taken as it begins, so that a
+/// server that has no memory left can be stopped all the same.
 pub fn attend<R: Wait + Clock>(
     rt: &R,
     alloc: Global,
@@ -47,12 +48,16 @@ pub fn attend<R: Wait + Clock>(
     desk: &Desk,
     serving: Serving,
 ) {
+    let mut come = match Vec::with_capacity(alloc, LONGEST) {
+        Ok(room) => room,
+        Err(_) => Vec::new(alloc),
+    };
     for _ in rt.forever() {
         if desk.has_ended() {
             break;
         }
         match listener.accept() {
-            Ok((stream, _)) => serve_turn(rt, alloc, &stream, desk, serving),
+            Ok((stream, _)) => serve_turn(rt, alloc, &stream, desk, serving, &mut come),
             Err(_) => thread::sleep(rt, Duration::from_millis(REST)),
         }
     }
@@ -65,14 +70,15 @@ fn serve_turn<R: Wait + Clock>(
     stream: &UnixStream,
     desk: &Desk,
     serving: Serving,
+    come: &mut Vec<u8>,
 ) {
+    come.clear();
     if stream.set_read_timeout(Some(tick())).is_err()
         || stream.set_write_timeout(Some(tick())).is_err()
     {
         return;
     }
     let end = milliseconds(rt).saturating_add(TURN);
-    let mut come = Vec::new(alloc);
     for _ in rt.forever() {
         if desk.has_ended() || milliseconds(rt) >= end {
             break;
@@ -83,10 +89,7 @@ fn serve_turn<R: Wait + Clock>(
             Ok(0) => break,
             Ok(count) => {
                 let more = bytes.get(..count).unwrap_or(&[]);
-                let Some(answers) = answers_to(rt, alloc, desk, serving, &mut come, more) else {
-                    break;
-                };
-                if !send(rt, stream, answers.as_bytes(), end) {
+                if !answer_lines(rt, alloc, stream, desk, serving, come, more, end) {
                     break;
                 }
             }
@@ -96,28 +99,34 @@ fn serve_turn<R: Wait + Clock>(
     }
 }
 
-/// The answers to the lines that end in these bytes, which follow those that have come; none without memory.
-fn answers_to<C: Clock>(
+/// Answers the lines that end in these bytes, which follow those that have come; whether its turn goes on.
+fn answer_lines<C: Clock>(
     clock: &C,
     alloc: Global,
+    stream: &UnixStream,
     desk: &Desk,
     serving: Serving,
     come: &mut Vec<u8>,
     more: &[u8],
-) -> Option<String> {
-    let mut answers = String::new(alloc);
+    end: u64,
+) -> bool {
     for byte in more {
-        if *byte == b'\n' {
-            let line = answer_to(clock, alloc, desk, serving, come).ok()?;
-            answers.push_str(line.as_str()).ok()?;
-            come.clear();
-        } else if come.len() >= LONGEST {
-            return None;
-        } else {
-            come.push(*byte).ok()?;
+        if *byte != b'\n' {
+            if come.len() >= LONGEST || come.push(*byte).is_err() {
+                return false;
+            }
+            continue;
+        }
+        let was_sent = match answer_to(clock, alloc, desk, serving, come) {
+            Answer::Fixed(text) => send(clock, stream, text.as_bytes(), end),
+            Answer::Made(text) => send(clock, stream, text.as_bytes(), end),
+        };
+        come.clear();
+        if !was_sent {
+            return false;
         }
     }
-    Some(answers)
+    true
 }
 
 /// Sends all bytes before this time; whether that was done.
@@ -142,27 +151,44 @@ fn send<C: Clock>(clock: &C, stream: &UnixStream, bytes: &[u8], end: u64) -> boo
     false
 }
 
-/// Does what a line asks, and returns the line of the answer.
+/// The line of an answer.
+#[derive(Drop)]
+enum Answer {
+    Fixed(&'static str),
+    Made(String),
+}
+
+/// Does what a line asks, and returns the line of the answer. Only a status takes memory, and what is not written as
+/// `plain_request` has it.
 fn answer_to<C: Clock>(
     clock: &C,
     alloc: Global,
     desk: &Desk,
     serving: Serving,
     line: &[u8],
-) -> Result<String, AllocError> {
-    match request_in(alloc, line) {
-        Ok(Request::Status) => status_line(clock, alloc, desk, serving),
+) -> Answer {
+    let found = match plain_request(line) {
+        Some(request) => Ok(request),
+        None => request_in(alloc, line),
+    };
+    match found {
+        Ok(Request::Status) => match status_line(clock, alloc, desk, serving) {
+            Ok(text) => Answer::Made(text),
+            Err(_) => Answer::Fixed(NO_MEMORY),
+        },
         Ok(Request::Stop { within }) => {
             desk.stop(clock, within);
-            String::from_str(alloc, "{\"ok\":\"stop\"}\n")
+            Answer::Fixed("{\"ok\":\"stop\"}\n")
         }
         Ok(Request::EndRound { within }) => {
             desk.end_round(clock, within);
-            String::from_str(alloc, "{\"ok\":\"end round\"}\n")
+            Answer::Fixed("{\"ok\":\"end round\"}\n")
         }
-        Err(text) => String::from_str(alloc, text),
+        Err(text) => Answer::Fixed(text),
     }
 }
+
+const NO_MEMORY: &str = "{\"error\":\"no memory\"}\n";
 
 const NOT_JSON: &str = "{\"error\":\"not json\"}\n";
 
@@ -173,6 +199,77 @@ const UNKNOWN_FIELD: &str = "{\"error\":\"unknown field\"}\n";
 const BAD_FIELD: &str = "{\"error\":\"bad field\"}\n";
 
 const UNKNOWN_OP: &str = "{\"error\":\"unknown op\"}\n";
+
+/// The longest line that is read without memory.
+const PLAIN: usize = 64;
+
+/// What a line asks, if it is written plainly: `op` first, then `within`, with no escapes. Takes no memory.
+pub(crate) fn plain_request(line: &[u8]) -> Option<Request> {
+    let mut bytes = [0u8; PLAIN];
+    let count = without_blanks(line, &mut bytes)?;
+    let text = bytes.get(..count)?;
+    if text == b"{\"op\":\"status\"}".as_slice() {
+        return Some(Request::Status);
+    }
+    if let Some(rest) = text.strip_prefix(b"{\"op\":\"stop\"") {
+        let within = plain_within(rest)?;
+        return Some(Request::Stop { within });
+    }
+    let rest = text.strip_prefix(b"{\"op\":\"end round\"")?;
+    let within = plain_within(rest)?;
+    Some(Request::EndRound { within })
+}
+
+/// Copies a line without the blanks between its parts, and returns how long that is; none if it is too long, or if a
+/// blank is between two digits.
+fn without_blanks(line: &[u8], bytes: &mut [u8; PLAIN]) -> Option<usize> {
+    let mut count = 0usize;
+    let mut is_quoted = false;
+    let mut last = 0u8;
+    let mut is_apart = false;
+    for byte in line {
+        if *byte == b'"' {
+            is_quoted = !is_quoted;
+        }
+        if *byte == b' ' && !is_quoted {
+            is_apart = true;
+            continue;
+        }
+        if is_apart && last.is_ascii_digit() && byte.is_ascii_digit() {
+            return None;
+        }
+        *bytes.get_mut(count)? = *byte;
+        count = count.saturating_add(1);
+        last = *byte;
+        is_apart = false;
+    }
+    Some(count)
+}
+
+/// The seconds that the rest of a plain line names; ten if it names none.
+fn plain_within(rest: &[u8]) -> Option<u64> {
+    if rest == b"}".as_slice() {
+        return Some(USUAL_WITHIN);
+    }
+    let digits = rest.strip_prefix(b",\"within\":")?.strip_suffix(b"}")?;
+    if digits.is_empty() || digits.len() > 5 || (digits.len() > 1 && digits[0] == b'0') {
+        return None;
+    }
+    let mut seconds = 0u64;
+    for digit in digits {
+        if !digit.is_ascii_digit() {
+            return None;
+        }
+        seconds = seconds
+            .saturating_mul(10)
+            .saturating_add(u64::from(digit.saturating_sub(b'0')));
+    }
+    if seconds > MOST_WITHIN {
+        None
+    } else {
+        Some(seconds)
+    }
+}
 
 /// What a line asks, or the line of its refusal.
 pub(crate) fn request_in(alloc: Global, line: &[u8]) -> Result<Request, &'static str> {

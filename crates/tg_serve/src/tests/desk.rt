@@ -1,6 +1,6 @@
 //! What is told at the desk of a server, and what is asked there.
 
-use crate::attending::{Request, request_in};
+use crate::attending::{Request, plain_request, request_in};
 use crate::tally::{Tallied, Tally};
 
 /// Answers, and what they tell.
@@ -63,6 +63,35 @@ const REQUESTS: &[(&[u8], Request)] = &[
 fn requests_are_read(rt: HostRuntime) {
     for (line, wanted) in REQUESTS {
         assert!(rt; request_in(rt.alloc(), line) == Ok(*wanted));
+    }
+}
+
+/// Lines that are read without memory or, if nothing is said of them, left to be read with it.
+const PLAIN: &[(&[u8], Option<Request>)] = &[
+    (b"{\"op\":\"status\"}", Some(Request::Status)),
+    (b"{\"op\":\"stop\"}", Some(Request::Stop { within: 10 })),
+    (
+        b" {\"op\": \"stop\", \"within\": 0} ",
+        Some(Request::Stop { within: 0 }),
+    ),
+    (
+        b"{\"op\":\"end round\",\"within\":86400}",
+        Some(Request::EndRound { within: 86_400 }),
+    ),
+    (b"{\"within\":0,\"op\":\"stop\"}", None),
+    (b"{\"op\":\"stop\",\"within\":01}", None),
+    (b"{\"op\":\"stop\",\"within\":1 0}", None),
+    (b"{\"op\":\"stop\",\"within\":86401}", None),
+    (b"{\"op\":\"stop\",\"within\":}", None),
+    (b"{\"op\":\"endround\"}", None),
+    (b"{\"op\":\"stop\"", None),
+    (b"", None),
+];
+
+#[test]
+fn plain_requests_are_read_without_memory(rt: HostRuntime) {
+    for (line, wanted) in PLAIN {
+        assert!(rt; plain_request(line) == *wanted);
     }
 }
 
