@@ -14,6 +14,7 @@ import subprocess
 import tempfile
 import threading
 from collections.abc import Iterator
+from functools import partial
 from pathlib import Path
 from typing import Any
 
@@ -260,6 +261,8 @@ def starts(program: Path) -> None:
     """The command prints the address of its page, which is there; Ctrl-C ends it in silence."""
     command = ROOT / "examples" / "playground" / "playground"
     how: dict[str, Any] = {"env": {**os.environ, "TGDOC": str(program)}, "stderr": subprocess.PIPE}
+    # (a test that runs in the background may have been started with Ctrl-C ignored)
+    how["preexec_fn"] = partial(signal.signal, signal.SIGINT, signal.SIG_DFL)
     with started(command, "--port", "0", **how) as process:
         address = hear(process).decode()
         same(fetched(int(address.split(":")[2].partition("/")[0]), "/"), 200)
