@@ -116,6 +116,7 @@ SIZES = {
     ("tg_load/src/crowd.rt", "new", "Vec::with_capacity", "sessions.saturating_add(1)"): 1,
     ("tg_load/src/crowd.rt", "act_at_once", "threads.try_reserve", "1"): 1,
     ("tg_rights/src/columns.rt", "new", "Vec::with_capacity", "count"): 2,
+    ("tg_serve/src/attending.rt", "attend", "Vec::with_capacity", "LONGEST"): 1,
     ("tg_serve/src/client.rt", "new", "Vec::with_capacity", "room"): 1,
     ("tg_share/src/closing.rt", "close", "Vec::with_capacity", "ended.len()"): 1,
     ("tg_share/src/session.rt", "carry_out", "self.log.try_reserve", "1"): 1,
