@@ -76,7 +76,8 @@ class Report:
         self.stray: list[str] = []
         self.crate, self.lines, self.symbols, self.holes = crate, lines, symbols, holes
         said = lines_of(ran)
-        self.waits = waiting(said, symbols)
+        # (of a hole a report says that it is not proved if its caller cannot have one)
+        self.waits = waiting(said, symbols | holes)
         # (a function whose goals wait is looked at in its own line, and may be proved all the same
         # by what an earlier check kept)
         self.seen = symbols | self.waits | {it[1] for it in map(PROVES.match, said) if it}
