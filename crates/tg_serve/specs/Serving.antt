@@ -143,7 +143,7 @@ pub record IsCounted (operating : Operating) : Type 0 where
   pub memory : operating.memory ≡ None
   pub alone : IsAlone operating
 
--- these full rounds and one more can serve all connections, and each takes at least one
+-- these full rounds and one more can serve all connections, and there are fewer of them than connections
 pub record AreEnough (connections round full : ℕ) : Type 0 where
   pub enough : connections ≤ suc full * round
   pub used : 0 < full → full < connections
