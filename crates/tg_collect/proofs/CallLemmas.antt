@@ -4,7 +4,7 @@ use Rattle.tg_collect.proofs.Common.{still_lead, Acted, Adds, HeapFull, IfErr, O
 use Rattle.tg_heap.specs.declared.heap.HeapFull.TheVariants as full
 use Rattle.std.specs.FinSet as finset
 use Rattle.tg_marking.specs.Values as values
-use Rattle.tg_held.specs.Held as graph
+use Rattle.tg_collect.specs.Held as graph
 use Rattle.tg_graph.specs.Protection.{label}
 use Rattle.tg_collect.proofs.SlotLemmas.{seat_slot, put_slot}
 use Rattle.tg_collect.proofs.ShownLemmas.{held_at, vertex_found}

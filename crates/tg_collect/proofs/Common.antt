@@ -74,8 +74,8 @@ pub use Rattle.tg_marking.specs.Left.{Celled, free_one, held_cells, held_one, le
 pub use Rattle.tg_marking.specs.Runs.{IsLiveIn, IsLiveOrNew, Run, Sane}
 pub use Rattle.tg_marking.specs.Steps.{DropsEdge, Line, Places, PutsEdge, Reroots, Rewrites, Trims, ahead, blackens, elsewhere, finishes, frees, new_colour, put, scans, shade, shade_all, shades_target, skips, starts, starts_sweep, strips, takes, whitens}
 pub use Rattle.tg_marking.specs.Values.{AtRest, Body, HasRoot, IsRoot, IsTarget, Kept, Spot, Stage, as_kept, keeps, mark, mark_of, name, name_of, out, seen, edges_of}
-pub use Rattle.tg_held.proofs.HeldLemmas.{comes, contains-held, drops, gains, joins, says_edge, says_slot}
-pub use Rattle.tg_held.specs.Held.{Apart, entries, vertex_of}
+pub use Rattle.tg_collect.proofs.HeldLemmas.{comes, contains-held, drops, gains, joins, says_edge, says_slot}
+pub use Rattle.tg_collect.specs.Held.{Apart, entries, vertex_of}
 pub use Rattle.tg_collect.specs.Machine.{Adds, AreRoots, AreWithin, CursorFits, Counts, IsListed, Links, Puts, Rerooted, RootLists, SetsText, ShadesSeat, Steps, Whole, all_shaded, all_slots, assuming, bare, body, body_of, colour_ahead, has_passed, is_at, join, lists_of, other_slots, progress_dropped, progress_in, progress_of, progress_without, slot_of, slots_of, with_agent, with_principal, with_shaded, with_target, without_principal, zip}
 pub use Rattle.tg_collect.specs.Openings.{HasOpened, Opened, OpeningsCanBeStored, Opens, OpensEdges, OpensFirst, first_root, first_roots, first_serials, KeepsSize, OpensAll, rank}
 pub use Rattle.tg_collect.specs.Readings.{IsEdgeIn, IsHeldIn, IsParkedIn, IsRootAt, IsRootIn, agents, cycle_bound, free_slots, held, kept, kept_from, pending, pending_of, phase, phase_in, place, principals, root_serial, serial_at, serial_of, shown, slot_count, spot, triples, vertices}

@@ -7,7 +7,7 @@ use Rattle.tg_collect.proofs.StoreLemmas.{Holds, owner, owner_is, owner_within}
 use Rattle.tg_collect.proofs.SeatLemmas.{roots_move, stored_is}
 use Rattle.tg_marking.specs.Values as values
 use Rattle.tg_marking.specs.Steps as steps
-use Rattle.tg_held.specs.Held as graph
+use Rattle.tg_collect.specs.Held as graph
 
 -- Two splits of a list: one part of it stands between their places.
 splits : (a b c : List Edge) (x : Edge) (d : List Edge) → a ++ b ≡ c ++ x ∷ d → ((mid : List Edge) × (c ≡ a ++ mid) × (b ≡ mid ++ x ∷ d)) ⊎ ((mid : List Edge) × (d ≡ mid ++ b))

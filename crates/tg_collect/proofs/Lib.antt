@@ -11,6 +11,7 @@ mod EdgeLemmas
 mod EdgesLemmas
 mod FiguresLemmas
 mod FoundLemmas
+mod HeldLemmas
 mod InGraphLemmas
 mod LineLemmas
 mod OpeningEdges

@@ -5,7 +5,7 @@ use Rattle.std.specs.FinMap as finmap
 use Rattle.std.specs.FinSet as finset
 use Rattle.tg_slots.specs.Table as table
 use Rattle.tg_marking.specs.Values as values
-use Rattle.tg_held.specs.Held as graph
+use Rattle.tg_collect.specs.Held as graph
 use Rattle.tg_graph.proofs.OpeningsFitLemmas as fitting
 use Rattle.tg_graph.specs.Opening.{opening}
 use Rattle.tg_collect.proofs.SlotLemmas.{zip_size, at_free, root_listed, free_so}

@@ -5,7 +5,7 @@ use Rattle.tg_graph.specs.Protection.{label}
 use Rattle.std.proofs.lemmas.Bool.{cases_Bool}
 use Rattle.std.specs.FinMap as finmap
 use Rattle.std.specs.FinSet as finset
-use Rattle.tg_held.specs.Held as graph
+use Rattle.tg_collect.specs.Held as graph
 use Rattle.tg_collect.specs.Readings as readings
 use Rattle.tg_marking.specs.Values.{Stage}
 

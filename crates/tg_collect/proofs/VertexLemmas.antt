@@ -5,7 +5,7 @@ use Rattle.std.proofs.lemmas.Bool.{cases_Bool}
 use Rattle.std.specs.FinMap as finmap
 use Rattle.std.specs.FinSet as finset
 use Rattle.tg_marking.specs.Values as values
-use Rattle.tg_held.specs.Held as graph
+use Rattle.tg_collect.specs.Held as graph
 use Rattle.tg_collect.proofs.SlotLemmas.{as_spot, at_free, put_slot, zip_size, free_so}
 use Rattle.tg_collect.proofs.ShownLemmas.{held_at, held_set, from_size, kept_held, place_kept}
 use Rattle.tg_collect.proofs.StoreLemmas.{once_stored, holds, placed_mark, kept_name, edge_leads, edge_owned, owner_place}

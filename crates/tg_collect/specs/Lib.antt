@@ -1,5 +1,6 @@
 pub mod Machine
 pub mod PackedProgress
+pub mod Held
 pub mod Stored
 pub mod Readings
 pub mod Views

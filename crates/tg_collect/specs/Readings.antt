@@ -12,7 +12,7 @@ use Rattle.tg_slots.specs.Table as table
 use Rattle.tg_marking.specs.Values as values
 use Rattle.tg_marking.specs.Values.{Contains, Has, Colour, Grey, Black, Spot, Stage, Body, Kept, HasRoot}
 use Rattle.tg_marking.specs.Left.{total, free_one, parked_one, bound}
-use Rattle.tg_held.specs.Held as graph
+use Rattle.tg_collect.specs.Held as graph
 use Rattle.tg_collect.specs.declared.note.Phase.{Phase}
 use Rattle.tg_collect.specs.declared.note.Phase.TheVariants.{Idle, Mark, Sweep}
 use Rattle.tg_collect.specs.declared.machine.Root.{Root}

@@ -1,4 +1,5 @@
 //! Laws of the store, as functions without a body.
+ghost use Rattle.tg_collect.specs.Held.{Comes, Drops, Gains, Joins};
 ghost use Rattle.tg_collect.specs.Runs.{CallsAct, IsComplete, IsBounded};
 ghost use Rattle.tg_collect.specs.InGraph.{StoresAreInGraph, OpensInGraph, CollectsInGraph, ActsInGraph, ShadesInGraph};
 ghost use Rattle.tg_collect.specs.Openings.{OpeningsCanBeStored};
@@ -28,4 +29,14 @@ pub fn steps_in_the_graph()
 /// no fault.
 pub fn openings_can_be_stored()
     ensures { OpeningsCanBeStored }
+{}
+
+/// A law, at no cost: what a change of one slot does to the graph of what is held. An edge that comes, or gains rights,
+/// adds its triples; one that loses rights, or goes, takes them away; a vertex that comes, or whose text is replaced, is
+/// inserted.
+pub fn held_changes()
+    ensures gains { Gains }
+    ensures joins { Joins }
+    ensures drops { Drops }
+    ensures comes { Comes }
 {}

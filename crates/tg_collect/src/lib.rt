@@ -25,7 +25,9 @@ mod store;
 mod tests;
 
 pub use figures::Figure;
-pub use laws::{openings_can_be_stored, runs_are_complete_and_bounded, steps_in_the_graph};
+pub use laws::{
+    held_changes, openings_can_be_stored, runs_are_complete_and_bounded, steps_in_the_graph,
+};
 pub use note::{Note, Phase};
 pub use store::Store;
 pub use tg_heap::{HeapFull, Key};

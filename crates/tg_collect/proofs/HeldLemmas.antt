@@ -19,7 +19,7 @@ use Rattle.tg_graph.proofs.TriplesLemmas.{contains-edge, triple_cmp_total, same_
 use Rattle.tg_cells.specs.Lists.{Edge}
 use Rattle.tg_marking.specs.Values.{Kept}
 use Rattle.tg_marking.proofs.SpotLemmas.{at_within}
-use Rattle.tg_held.specs.Held.{vertex_of, entries, triples_from, triples, held, Apart, Gains, Joins, Drops, Comes}
+use Rattle.tg_collect.specs.Held.{vertex_of, entries, triples_from, triples, held, Apart, Gains, Joins, Drops, Comes}
 
 -- Whether edges, a slot, and slots say a triple.
 abbrev pub says_edge : List Edge → Triple → Bool
