@@ -27,6 +27,7 @@ demo: ## play lines, each with its answer (FILE=examples/share-and-free.jsonl un
 test: ## prove what is new or changed, try the planted bugs, test the programs (at first an hour, four cores)
 	tests/gate
 	tests/run
+	tests/wrong-bodies --turn
 
 # The proved program of many sessions at once, crates/tg_load/out/tg_load.
 load: ## prove and build tg_load, many sessions at once over one vault
