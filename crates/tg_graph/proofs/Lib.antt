@@ -27,6 +27,8 @@ mod AllowedIsMetLemmas
 mod AnswersAgreeLemmas
 mod AssumesAndLeavesLemmas
 mod ComeAndGoLemmas
+mod EachCommandLemmas
 mod EdgesOfLemmas
 mod SameEdgesLemmas
+mod SameReplyLemmas
 mod SearchingLemmas

@@ -12,9 +12,11 @@ use Rattle.tg_rights.specs.declared.limits.TheConstants.{MAX_CELLS, MAX_PRINCIPA
 use Rattle.tg_rights.specs.declared.command.Command.{Command}
 use Rattle.tg_rights.specs.Command.{rule_of}
 use Rattle.tg_rights.specs.declared.command.Command.TheVariants as command
+use Rattle.tg_rights.specs.declared.command.Rule.{Rule}
 use Rattle.tg_rights.specs.declared.command.Rule.TheVariants as rule
 use Rattle.tg_rights.specs.declared.outcome.Outcome.{Outcome}
 use Rattle.tg_rights.specs.declared.outcome.Reply.{Reply}
+use Rattle.tg_rights.specs.declared.outcome.Reply.TheVariants as reply
 use Rattle.tg_graph.specs.declared.config.Config.{Config}
 use Rattle.tg_graph.specs.declared.member.Member.{Member}
 use Rattle.tg_graph.specs.declared.vertex.Vertex.{Vertex}
@@ -24,7 +26,7 @@ use Rattle.tg_graph.specs.Protection.{IsEdge, IsGraph, IsSubject, IsVertex, Prot
 use Rattle.tg_graph.specs.Opening.{Edge, first_fault, has_twice, is_principal, principal_count, opening, same_pair}
 use Rattle.tg_graph.specs.Fullness.{Limits, Permitted, vertex_count, edge_count, edges_at}
 use Rattle.tg_graph.specs.Paths.{Agree, IsPart, IsRestriction}
-use Rattle.tg_graph.specs.Agreement.{IsRepliedAlike, KeepsViewers}
+use Rattle.tg_graph.specs.Agreement.{IsRepliedAlike, KeepsViewers, SameReply}
 use Rattle.tg_graph.specs.Rules.{Check, AllPass, Judged, Allowed, Applies, after, allowed_reply, checks, denial, edges_of, is_create, names_rights, next_graph, reply_of}
 use Rattle.tg_graph.specs.Terms.{Terms, terms}
 use Rattle.tg_graph.specs.declared.rules.Need.{Need}
@@ -222,3 +224,7 @@ abbrev pub TwiceIsTwoPlaces : Type 0
 TwiceIsTwoPlaces =
     ((es : List Edge) → (has_twice same_pair es ≡ true) ↔ OccursTwice same_pair es)
     × ((names : List (List ℕ)) → (has_twice same_name names ≡ true) ↔ OccursTwice same_name names)
+
+-- that two replies are the same goes both ways, and a denial is the same as itself alone
+abbrev pub DenialsAreTheSame : Type 0
+DenialsAreTheSame = (a b : Reply) → SameReply a b → SameReply b a × ((r : Rule) (why : Cause) → a ≡ reply.Denied r why → b ≡ reply.Denied r why)

@@ -5,6 +5,7 @@ pub mod Terms
 pub mod Rules
 pub mod Deciding
 pub mod Fullness
+pub mod EachCommand
 pub mod Paths
 pub mod Agreement
 pub mod Searching

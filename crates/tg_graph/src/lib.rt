@@ -1,7 +1,8 @@
 //! The take-grant rules over a plain graph that is never collected: the model of every other crate.
 #![tactic(auto)]
 
-ghost use Rattle.tg_graph.specs.Laws.{AgentsAreAssumedAndLeft, AllowedIsMet, AnswersAgree, DenialsAreFirst, CommandsKeepGraphs, EdgesAreCounted, EdgesAreListed, ExactlyOneOutcome, OpeningsAreAsListed, OpeningsAreSound, OpeningsFit, OutcomesAgree, PartsAgree, PartsStay, PrincipalsComeAndGo, RepliesAgree, RestrictionsAgree, RestrictionsPermit, RestrictionsReply, RestrictionsStay, TwiceIsTwoPlaces};
+ghost use Rattle.tg_graph.specs.Laws.{AgentsAreAssumedAndLeft, AllowedIsMet, AnswersAgree, DenialsAreFirst, CommandsKeepGraphs, DenialsAreTheSame, EdgesAreCounted, EdgesAreListed, ExactlyOneOutcome, OpeningsAreAsListed, OpeningsAreSound, OpeningsFit, OutcomesAgree, PartsAgree, PartsStay, PrincipalsComeAndGo, RepliesAgree, RestrictionsAgree, RestrictionsPermit, RestrictionsReply, RestrictionsStay, TwiceIsTwoPlaces};
+ghost use Rattle.tg_graph.specs.EachCommand.{EachIsAllowedSo, FullAtTheLimit};
 ghost use Rattle.tg_graph.specs.Parts.{PartsAreOneGraph};
 ghost use Rattle.tg_graph.specs.Rewriting.{DerivationsCarryOver};
 
@@ -60,6 +61,11 @@ pub fn answers_agree()
     ensures { AnswersAgree }
 {}
 
+/// Replies are the same both ways, and a denial is the same as itself alone.
+pub fn denials_are_the_same()
+    ensures { DenialsAreTheSame }
+{}
+
 /// An allowed command leaves a graph, and each subject a subject.
 pub fn commands_keep_graphs()
     ensures { CommandsKeepGraphs }
@@ -74,6 +80,17 @@ pub fn principals_come_and_go()
 /// always allowed, and is the only command that a retired actor may ask. Neither changes the graph.
 pub fn agents_are_assumed_and_left()
     ensures { AgentsAreAssumedAndLeft }
+{}
+
+/// When each of the other commands is allowed, said for each by itself: a take to who has take over whoever has the
+/// rights, a grant to who has the rights, and grant over whom it grants them to, and so on.
+pub fn each_is_allowed_so()
+    ensures { EachIsAllowedSo }
+{}
+
+/// A command may be refused as full only at the limit, and there it may.
+pub fn full_at_the_limit()
+    ensures { FullAtTheLimit }
 {}
 
 /// A part of a graph with all the edges of its vertices agrees with the graph for each of its subjects.

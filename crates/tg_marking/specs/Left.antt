@@ -29,6 +29,10 @@ slot_left size (Sweeping k) i o = parked_cells (Sweep k) i o
 abbrev pub bound : (size cells : ℕ) → ℕ
 bound size cells = size * size + 3 * size + cells + 3
 
+-- one slot and one cell: at most 8 steps; two slots and three cells: 16
+abbrev pub BoundInNumbers : Type 0
+BoundInNumbers = (bound 1 1 ≡ 8) × (bound 2 3 ≡ 16)
+
 abbrev pub phase_left : (size cells : ℕ) → Progress → ℕ
 phase_left size cells AtRest = bound size cells
 phase_left size cells (Marking None) = cells + 2 + size

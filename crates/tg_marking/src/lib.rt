@@ -7,7 +7,7 @@
 ghost use Rattle.tg_marking.specs.Invariant.{SessionsKeep};
 ghost use Rattle.tg_marking.specs.Collected.{LinesKeep};
 ghost use Rattle.tg_marking.specs.Runs.{IsComplete, Settles, StepsMutate};
-ghost use Rattle.tg_marking.specs.Left.{IsBounded, NeverRaises, IsCounted};
+ghost use Rattle.tg_marking.specs.Left.{BoundInNumbers, IsBounded, NeverRaises, IsCounted};
 
 /// A law: each line of the step table keeps the invariant, and does to each slot what callers see.
 pub fn lines_keep()
@@ -35,4 +35,5 @@ pub fn cycles_are_bounded()
     ensures lower { IsBounded }
     ensures no_higher { NeverRaises }
     ensures counted { IsCounted }
+    ensures numbers { BoundInNumbers }
 {}

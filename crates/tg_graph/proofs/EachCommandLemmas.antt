@@ -1,0 +1,247 @@
+-- When each command is allowed, and when it may be full.
+use Rattle.std.proofs.Common.{◌≡◌, ◌≢◌, ◌<◌, ◌≤◌, ◌⊎◌, ◌&&◌, ◌==◌, ℕ, ◌∷◌, [], List, Bool, true, false, cond, not, refl, sym, ap, inl, inr, Some, arith}
+use Rattle.std.proofs.lemmas.Bool.{eq-eqb, eqb-true, not-true}
+use Rattle.tg_rights.specs.Letters.{Letters, Right, read, write, take, grant, has, includes, read_alone, write_alone, take_alone, grant_alone}
+use Rattle.tg_rights.specs.declared.kind.Kind.{Kind}
+use Rattle.tg_rights.specs.declared.command.Command.{Command}
+use Rattle.tg_rights.specs.declared.command.Command.TheVariants as command
+use Rattle.tg_rights.proofs.LettersLemmas.{are_set_operations}
+use Rattle.tg_graph.specs.declared.rules.Need.{Need}
+use Rattle.tg_graph.specs.EachCommand.{Has, HasAll, IsAllowedSo, IsFullAtTheLimit, MayCreate, MayEnrol, MayGrant, MayLook, MayRemove, MayRetire, MayTake, MayUse}
+use Rattle.tg_graph.specs.Fullness.{Limits}
+use Rattle.tg_graph.specs.Laws.{AllMet}
+use Rattle.tg_graph.specs.Protection.{Protection, label}
+use Rattle.tg_graph.specs.Rules.{Allowed}
+use Rattle.tg_graph.specs.Terms.{need}
+use Rattle.tg_graph.proofs.AllowedIsMetLemmas.{allowed, meets}
+use Rattle.tg_graph.proofs.RollLemmas.{untrue}
+
+three_apart : (a b c : Bool) → (not a && not b && not c) ≡ true → (a ≡ false) × (b ≡ false) × (c ≡ false)
+three_apart false false false e = (refl, refl, refl)
+three_apart true b c e = absurd (cc e)
+three_apart false true c e = absurd (cc e)
+three_apart false false true e = absurd (cc e)
+
+apart_three : (a b c : Bool) → (a ≡ false) × (b ≡ false) × (c ≡ false) → (not a && not b && not c) ≡ true
+apart_three false false false e = refl
+apart_three true b c e = absurd (cc e.0)
+apart_three false true c e = absurd (cc e.1.0)
+apart_three false false true e = absurd (cc e.1.1)
+
+differ : (a b : ℕ) → (a == b) ≡ false → a ≢ b
+differ a b e is = absurd (cc (e, eq-eqb a b is))
+
+unequal : (a b : ℕ) → a ≢ b → (a == b) ≡ false
+unequal a b other = untrue (a == b) (λ e. other (eqb-true a b e))
+
+module _ (G : Protection) where
+  has_all : (from : ℕ) (α : Letters) (to : ℕ) → includes (label G from to) α ≡ true → HasAll G from α to
+  has_all from α to = (are_set_operations.inclusion (label G from to) α).0
+
+  is_met : (from : ℕ) (α : Letters) (to : ℕ) → HasAll G from α to → includes (label G from to) α ≡ true
+  is_met from α to = (are_set_operations.inclusion (label G from to) α).1
+
+  has_read : (from to : ℕ) → Has G from read to → includes (label G from to) read_alone ≡ true
+  has_read from to h = is_met from read_alone to by where
+    by : HasAll G from read_alone to
+    by read e = h
+    by write e = absurd (cc e)
+    by take e = absurd (cc e)
+    by grant e = absurd (cc e)
+
+  has_write : (from to : ℕ) → Has G from write to → includes (label G from to) write_alone ≡ true
+  has_write from to h = is_met from write_alone to by where
+    by : HasAll G from write_alone to
+    by read e = absurd (cc e)
+    by write e = h
+    by take e = absurd (cc e)
+    by grant e = absurd (cc e)
+
+  has_take : (from to : ℕ) → Has G from take to → includes (label G from to) take_alone ≡ true
+  has_take from to h = is_met from take_alone to by where
+    by : HasAll G from take_alone to
+    by read e = absurd (cc e)
+    by write e = absurd (cc e)
+    by take e = h
+    by grant e = absurd (cc e)
+
+  has_grant : (from to : ℕ) → Has G from grant to → includes (label G from to) grant_alone ≡ true
+  has_grant from to h = is_met from grant_alone to by where
+    by : HasAll G from grant_alone to
+    by read e = absurd (cc e)
+    by write e = absurd (cc e)
+    by take e = absurd (cc e)
+    by grant e = h
+
+module _ (G : Protection) (x : ℕ) where
+  apart_from : (y z : ℕ) → (not (x == y) && not (x == z) && not (y == z)) ≡ true → (x ≢ y) × (x ≢ z) × (y ≢ z)
+  apart_from y z e = let a = three_apart (x == y) (x == z) (y == z) e in (differ x y a.0, differ x z a.1.0, differ y z a.1.1)
+
+  all_apart : (y z : ℕ) → (x ≢ y) × (x ≢ z) × (y ≢ z) → (not (x == y) && not (x == z) && not (y == z)) ≡ true
+  all_apart y z a = apart_three (x == y) (x == z) (y == z) (unequal x y a.0, unequal x z a.1.0, unequal y z a.1.1)
+
+  may_take : (α : Letters) (y z : ℕ) → Allowed G x (command.Take α y z) → MayTake G x α y z
+  may_take α y z a =
+      let m = meets G x (command.Take α y z) a in
+      record { unretired = m.unretired refl; some = not-true _ m.named; apart = apart_from y z m.apart; over = has_all G x take_alone z m.met.0 take refl; there = has_all G z α y m.met.1.0 }
+
+  take_allowed : (α : Letters) (y z : ℕ) → MayTake G x α y z → Allowed G x (command.Take α y z)
+  take_allowed α y z m = allowed G x (command.Take α y z) (record {
+    unretired = λ _. m.unretired;
+    named = ap not m.some;
+    apart = all_apart y z m.apart;
+    met = (has_take G x z m.over, (is_met G z α y m.there, tt));
+    wants = tt;
+    principal = λ e. absurd (cc e);
+    name = tt;
+  })
+
+  may_grant : (α : Letters) (y z : ℕ) → Allowed G x (command.Grant α y z) → MayGrant G x α y z
+  may_grant α y z a =
+      let m = meets G x (command.Grant α y z) a in
+      record { unretired = m.unretired refl; some = not-true _ m.named; apart = apart_from y z m.apart; over = has_all G x grant_alone z m.met.0 grant refl; own = has_all G x α y m.met.1.0 }
+
+  grant_allowed : (α : Letters) (y z : ℕ) → MayGrant G x α y z → Allowed G x (command.Grant α y z)
+  grant_allowed α y z m = allowed G x (command.Grant α y z) (record {
+    unretired = λ _. m.unretired;
+    named = ap not m.some;
+    apart = all_apart y z m.apart;
+    met = (has_grant G x z m.over, (is_met G x α y m.own, tt));
+    wants = tt;
+    principal = λ e. absurd (cc e);
+    name = tt;
+  })
+
+  may_create : (k : Kind) (α : Letters) → Allowed G x (command.Create k α) → MayCreate G x α
+  may_create k α a = let m = meets G x (command.Create k α) a in record { unretired = m.unretired refl; some = not-true _ m.named }
+
+  create_allowed : (k : Kind) (α : Letters) → MayCreate G x α → Allowed G x (command.Create k α)
+  create_allowed k α m = allowed G x (command.Create k α) (record {
+    unretired = λ _. m.unretired;
+    named = ap not m.some;
+    apart = refl;
+    met = tt;
+    wants = tt;
+    principal = λ e. absurd (cc e);
+    name = tt;
+  })
+
+  may_remove : (α : Letters) (y : ℕ) → Allowed G x (command.Remove α y) → MayRemove G x α y
+  may_remove α y a =
+      let m = meets G x (command.Remove α y) a in
+      record { unretired = m.unretired refl; some = not-true _ m.named; apart = differ x y (not-true _ m.apart); own = has_all G x α y m.met.0 }
+
+  remove_allowed : (α : Letters) (y : ℕ) → MayRemove G x α y → Allowed G x (command.Remove α y)
+  remove_allowed α y m = allowed G x (command.Remove α y) (record {
+    unretired = λ _. m.unretired;
+    named = ap not m.some;
+    apart = ap not (unequal x y m.apart);
+    met = (is_met G x α y m.own, tt);
+    wants = tt;
+    principal = λ e. absurd (cc e);
+    name = tt;
+  })
+
+  may_read : (y : ℕ) → Allowed G x (command.Read y) → MayUse G x read y
+  may_read y a =
+      let m = meets G x (command.Read y) a in
+      record { unretired = m.unretired refl; apart = differ x y (not-true _ m.apart); own = has_all G x read_alone y m.met.0 read refl; document = m.wants }
+
+  read_allowed : (y : ℕ) → MayUse G x read y → Allowed G x (command.Read y)
+  read_allowed y m = allowed G x (command.Read y) (record {
+    unretired = λ _. m.unretired;
+    named = refl;
+    apart = ap not (unequal x y m.apart);
+    met = (has_read G x y m.own, tt);
+    wants = m.document;
+    principal = λ e. absurd (cc e);
+    name = tt;
+  })
+
+  may_write : (y : ℕ) (text : List ℕ) → Allowed G x (command.Write y text) → MayUse G x write y
+  may_write y text a =
+      let m = meets G x (command.Write y text) a in
+      record { unretired = m.unretired refl; apart = differ x y (not-true _ m.apart); own = has_all G x write_alone y m.met.0 write refl; document = m.wants }
+
+  write_allowed : (y : ℕ) (text : List ℕ) → MayUse G x write y → Allowed G x (command.Write y text)
+  write_allowed y text m = allowed G x (command.Write y text) (record {
+    unretired = λ _. m.unretired;
+    named = refl;
+    apart = ap not (unequal x y m.apart);
+    met = (has_write G x y m.own, tt);
+    wants = m.document;
+    principal = λ e. absurd (cc e);
+    name = tt;
+  })
+
+  may_look : (y : ℕ) → Allowed G x (command.Look y) → MayLook G x y
+  may_look y a = let m = meets G x (command.Look y) a in record { unretired = m.unretired refl; over = over (y == x) refl m.met } where
+    over : (b : Bool) → (y == x) ≡ b → AllMet G (cond b [] (need x take_alone y ∷ [])) → (x ≡ y) ⊎ Has G x take y
+    over true e h = inl (sym (eqb-true y x e))
+    over false e h = inr (has_all G x take_alone y h.0 take refl)
+
+  look_allowed : (y : ℕ) → MayLook G x y → Allowed G x (command.Look y)
+  look_allowed y m = allowed G x (command.Look y) (record {
+    unretired = λ _. m.unretired;
+    named = refl;
+    apart = refl;
+    met = met (y == x) refl m.over;
+    wants = tt;
+    principal = λ e. absurd (cc e);
+    name = tt;
+  }) where
+    met : (b : Bool) → (y == x) ≡ b → (x ≡ y) ⊎ Has G x take y → AllMet G (cond b [] (need x take_alone y ∷ []))
+    met true e over = tt
+    met false e (inl is) = absurd (cc (e, eq-eqb y x (sym is)))
+    met false e (inr h) = (has_take G x y h, tt)
+
+  may_enrol : (name : List ℕ) (α : Letters) → Allowed G x (command.Enrol name α) → MayEnrol G x name α
+  may_enrol name α a = let m = meets G x (command.Enrol name α) a in record { unretired = m.unretired refl; some = not-true _ m.named; free = m.name }
+
+  enrol_allowed : (name : List ℕ) (α : Letters) → MayEnrol G x name α → Allowed G x (command.Enrol name α)
+  enrol_allowed name α m = allowed G x (command.Enrol name α) (record {
+    unretired = λ _. m.unretired;
+    named = ap not m.some;
+    apart = refl;
+    met = tt;
+    wants = tt;
+    principal = λ e. absurd (cc e);
+    name = m.free;
+  })
+
+  may_retire : Allowed G x command.Retire → MayRetire G x
+  may_retire a = let m = meets G x command.Retire a in record { unretired = m.unretired refl; principal = m.principal refl }
+
+  retire_allowed : MayRetire G x → Allowed G x command.Retire
+  retire_allowed m = allowed G x command.Retire (record {
+    unretired = λ _. m.unretired;
+    named = refl;
+    apart = refl;
+    met = tt;
+    wants = tt;
+    principal = λ _. m.principal;
+    name = tt;
+  })
+
+  pub is_allowed_so : IsAllowedSo G x
+  is_allowed_so = record {
+    takes = λ α y z. (may_take α y z, take_allowed α y z);
+    grants = λ α y z. (may_grant α y z, grant_allowed α y z);
+    creates = λ k α. (may_create k α, create_allowed k α);
+    removes = λ α y. (may_remove α y, remove_allowed α y);
+    reads = λ y. (may_read y, read_allowed y);
+    writes = λ y text. (may_write y text, write_allowed y text);
+    looks = λ y. (may_look y, look_allowed y);
+    enrols = λ name α. (may_enrol name α, enrol_allowed name α);
+    retires = (may_retire, retire_allowed);
+  }
+
+pub full_at_the_limit : (limits : Limits) (G : Protection) (x : ℕ) (c : Command) → IsFullAtTheLimit limits G x c
+full_at_the_limit limits G x c = record {
+  serials = λ left full. absurd (omega (arith, left, full.1));
+  slots = λ left full. absurd (omega (arith, left, full.1.1));
+  cells = λ left full. absurd (omega (arith, left, full.1));
+  no_serial = λ create none. (create, none);
+  no_slot = λ create left all. (create, left, omega (arith, all));
+  no_cell = λ makes all. (makes, omega (arith, all));
+}
