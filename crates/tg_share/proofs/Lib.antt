@@ -2,3 +2,4 @@
 mod ReachedLemmas
 mod ClosingLemmas
 mod AnsweredLemmas
+mod EnteredLemmas

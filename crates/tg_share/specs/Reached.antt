@@ -53,6 +53,10 @@ pub record HasAnswered (e : Event) (a : Answer) : Type 0 where
 abbrev pub IsEnteredFor : Contents → Contents → ℕ → Type 0
 IsEnteredFor old new actor = option_map (λ e. e.actor) (slice_get new.history (length old.history)) ≡ Some actor
 
+-- an entry has one actor
+abbrev pub OneActor : Type 0
+OneActor = (v w : Contents) (a b : ℕ) → IsEnteredFor v w a → IsEnteredFor v w b → a ≡ b
+
 -- the vault, which events have led to, enters the command of the seat for this actor, and gives this reply
 pub record IsEntered (v : Contents) (seat actor : ℕ) (command : Command) (reply : Reply) : Type 0 where
   pub reached : IsReached v

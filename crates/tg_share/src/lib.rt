@@ -2,6 +2,8 @@
 //! lock is used up by its event, if it makes one.
 #![tactic(auto)]
 
+ghost use Rattle.tg_share.specs.Reached.{OneActor};
+
 mod closing;
 mod gate;
 mod hold;
@@ -13,3 +15,8 @@ pub use closing::Closed;
 pub use gate::{Gate, Open, Place};
 pub use locked::PARTS;
 pub use session::{Ended, Session, Shared, Worked};
+
+/// A law, at no cost: the entry that an event adds is one actor's.
+pub fn entries_have_one_actor()
+    ensures { OneActor }
+{}
