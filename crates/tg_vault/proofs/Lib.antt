@@ -10,6 +10,7 @@ pub mod DecidedLemmas
 pub mod CountLemmas
 pub mod EntryLemmas
 pub mod CollectLemmas
+mod FaultLemmas
 pub mod FitsLemmas
 pub mod CourseLemmas
 pub mod FreshLemmas

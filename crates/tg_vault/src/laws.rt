@@ -1,6 +1,6 @@
 //! Laws: each function is a theorem, its contract, and costs nothing when it is called.
 ghost use Rattle.tg_vault.specs.Course.{CoursesJoin};
-ghost use Rattle.tg_vault.specs.Laws.{CoursesHaveTheHeadline};
+ghost use Rattle.tg_vault.specs.Laws.{CoursesHaveTheHeadline, FaultsAreOrdered};
 
 use tg_collect::runs_are_complete_and_bounded;
 
@@ -15,4 +15,10 @@ pub fn courses_have_the_headline()
 /// One course after another is a course.
 pub fn courses_join()
     ensures { CoursesJoin }
+{}
+
+/// A command is not entered for exactly one cause: its seat is none, nobody sits there, the seat has a pending target, or
+/// else memory is lacking.
+pub fn faults_are_ordered()
+    ensures { FaultsAreOrdered }
 {}

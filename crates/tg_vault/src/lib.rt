@@ -14,7 +14,7 @@ mod vault;
 
 pub use entry::Entry;
 pub use event::{Answer, AskFault, Event, SeatFault};
-pub use laws::{courses_have_the_headline, courses_join};
+pub use laws::{courses_have_the_headline, courses_join, faults_are_ordered};
 pub use rebase::Rebased;
 pub use room::Room;
 pub use scene::{Scene, Sitting};
