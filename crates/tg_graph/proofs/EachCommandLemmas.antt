@@ -1,12 +1,11 @@
 -- When each command is allowed, and when it may be full.
-use Rattle.std.proofs.Common.{◌≡◌, ◌≢◌, ◌<◌, ◌≤◌, ◌⊎◌, ◌&&◌, ◌==◌, ℕ, ◌∷◌, [], List, Bool, true, false, cond, not, refl, sym, ap, inl, inr, Some, arith}
+use Rattle.std.proofs.Common.{◌≡◌, ◌≢◌, ◌⊎◌, ◌&&◌, ◌==◌, ℕ, ◌∷◌, [], List, Bool, true, false, cond, not, refl, sym, ap, inl, inr, arith}
 use Rattle.std.proofs.lemmas.Bool.{eq-eqb, eqb-true, not-true}
-use Rattle.tg_rights.specs.Letters.{Letters, Right, read, write, take, grant, has, includes, read_alone, write_alone, take_alone, grant_alone}
+use Rattle.tg_rights.specs.Letters.{Letters, read, write, take, grant, includes, read_alone, write_alone, take_alone, grant_alone}
 use Rattle.tg_rights.specs.declared.kind.Kind.{Kind}
 use Rattle.tg_rights.specs.declared.command.Command.{Command}
 use Rattle.tg_rights.specs.declared.command.Command.TheVariants as command
 use Rattle.tg_rights.proofs.LettersLemmas.{are_set_operations}
-use Rattle.tg_graph.specs.declared.rules.Need.{Need}
 use Rattle.tg_graph.specs.EachCommand.{Has, HasAll, IsAllowedSo, IsFullAtTheLimit, MayCreate, MayEnrol, MayGrant, MayLook, MayRemove, MayRetire, MayTake, MayUse}
 use Rattle.tg_graph.specs.Fullness.{Limits}
 use Rattle.tg_graph.specs.Laws.{AllMet}
@@ -25,8 +24,8 @@ three_apart false false true e = absurd (cc e)
 apart_three : (a b c : Bool) → (a ≡ false) × (b ≡ false) × (c ≡ false) → (not a && not b && not c) ≡ true
 apart_three false false false e = refl
 apart_three true b c e = absurd (cc e.0)
-apart_three false true c e = absurd (cc e.1.0)
-apart_three false false true e = absurd (cc e.1.1)
+apart_three false true c e = absurd (cc e.1)
+apart_three false false true e = absurd (cc e.2)
 
 differ : (a b : ℕ) → (a == b) ≡ false → a ≢ b
 differ a b e is = absurd (cc (e, eq-eqb a b is))
@@ -75,10 +74,10 @@ module _ (G : Protection) where
 
 module _ (G : Protection) (x : ℕ) where
   apart_from : (y z : ℕ) → (not (x == y) && not (x == z) && not (y == z)) ≡ true → (x ≢ y) × (x ≢ z) × (y ≢ z)
-  apart_from y z e = let a = three_apart (x == y) (x == z) (y == z) e in (differ x y a.0, differ x z a.1.0, differ y z a.1.1)
+  apart_from y z e = let a = three_apart (x == y) (x == z) (y == z) e in (differ x y a.0, differ x z a.1, differ y z a.2)
 
   all_apart : (y z : ℕ) → (x ≢ y) × (x ≢ z) × (y ≢ z) → (not (x == y) && not (x == z) && not (y == z)) ≡ true
-  all_apart y z a = apart_three (x == y) (x == z) (y == z) (unequal x y a.0, unequal x z a.1.0, unequal y z a.1.1)
+  all_apart y z a = apart_three (x == y) (x == z) (y == z) (unequal x y a.0, unequal x z a.1, unequal y z a.2)
 
   may_take : (α : Letters) (y z : ℕ) → Allowed G x (command.Take α y z) → MayTake G x α y z
   may_take α y z a =
@@ -239,7 +238,7 @@ module _ (G : Protection) (x : ℕ) where
 pub full_at_the_limit : (limits : Limits) (G : Protection) (x : ℕ) (c : Command) → IsFullAtTheLimit limits G x c
 full_at_the_limit limits G x c = record {
   serials = λ left full. absurd (omega (arith, left, full.1));
-  slots = λ left full. absurd (omega (arith, left, full.1.1));
+  slots = λ left full. absurd (omega (arith, left, full.2));
   cells = λ left full. absurd (omega (arith, left, full.1));
   no_serial = λ create none. (create, none);
   no_slot = λ create left all. (create, left, omega (arith, all));

@@ -6,7 +6,7 @@ use Rattle.tg_vault.specs.Laws.{FaultsAreOrdered, MeansOfItsSeat}
 use Rattle.tg_vault.specs.World.{World, IsAskFault, has_target, in_use, no_seat}
 
 -- the first fault of a seat, and that it is this one; for want of memory if there is none
-refusal : (a b c : Bool) → Option AskFault
+abbrev refusal : (a b c : Bool) → Option AskFault
 refusal a b c = cond a (Some NoSeat) (cond b (cond c (Some Busy) None) (Some NoActor))
 
 abbrev IsFirst : Option AskFault → AskFault → Type 0
@@ -20,15 +20,15 @@ means true b c NoSeat is = ((λ _. refl, λ _. refl), (λ e. absurd (cc e), λ h
 means true b c NoActor is = absurd (cc is)
 means true b c Busy is = absurd (cc is)
 means true b c OutOfMemory is = absurd (cc is)
-means false false c NoActor is = ((λ e. absurd (cc e), λ e. absurd (cc e)), (λ _. (refl, refl), λ _. refl), (λ e. absurd (cc e), λ h. absurd (cc h.1.0)), (λ e. absurd (cc e), λ h. absurd (cc h.1.0)))
+means false false c NoActor is = ((λ e. absurd (cc e), λ e. absurd (cc e)), (λ _. (refl, refl), λ _. refl), (λ e. absurd (cc e), λ h. absurd (cc h.1)), (λ e. absurd (cc e), λ h. absurd (cc h.1)))
 means false false c NoSeat is = absurd (cc is)
 means false false c Busy is = absurd (cc is)
 means false false c OutOfMemory is = absurd (cc is)
-means false true true Busy is = ((λ e. absurd (cc e), λ e. absurd (cc e)), (λ e. absurd (cc e), λ h. absurd (cc h.1)), (λ _. (refl, refl, refl), λ _. refl), (λ e. absurd (cc e), λ h. absurd (cc h.1.1)))
+means false true true Busy is = ((λ e. absurd (cc e), λ e. absurd (cc e)), (λ e. absurd (cc e), λ h. absurd (cc h.1)), (λ _. (refl, refl, refl), λ _. refl), (λ e. absurd (cc e), λ h. absurd (cc h.2)))
 means false true true NoSeat is = absurd (cc is)
 means false true true NoActor is = absurd (cc is)
 means false true true OutOfMemory is = absurd (cc is)
-means false true false OutOfMemory is = ((λ e. absurd (cc e), λ e. absurd (cc e)), (λ e. absurd (cc e), λ h. absurd (cc h.1)), (λ e. absurd (cc e), λ h. absurd (cc h.1.1)), (λ _. (refl, refl, refl), λ _. refl))
+means false true false OutOfMemory is = ((λ e. absurd (cc e), λ e. absurd (cc e)), (λ e. absurd (cc e), λ h. absurd (cc h.1)), (λ e. absurd (cc e), λ h. absurd (cc h.2)), (λ _. (refl, refl, refl), λ _. refl))
 means false true false NoSeat is = absurd (cc is)
 means false true false NoActor is = absurd (cc is)
 means false true false Busy is = absurd (cc is)
