@@ -1,11 +1,11 @@
 -- The index of the edges: what becomes of it when a cell is linked, freed or relabelled, and the search in a bucket.
 use Rattle.std.proofs.Common.{◌≡◌, ◌≢◌, ℕ, ◌+◌, ◌*◌, ◌<◌, ◌≤◌, List, [], ◌∷◌, ◌++◌, length, Option, Some, None, inl, inr, sym, ◌∙◌, subst, ap, refl, set, replicate, cond, ltb, Bool, true, false, eqb, eq-eqb, ◌&&◌, arith, length-set, length-append, get_or-set_same, get_or-set_other}
 use Rattle.std.proofs.lemmas.Bool.{cases_eq, ne_eqb, lt-ltb, le-ltb}
-use Rattle.tg_rights.specs.Membership.{Contains, Distinct}
+use Rattle.tg_lists.specs.Membership.{Contains, Distinct}
+use Rattle.tg_lists.proofs.MembershipLemmas.{contains_append, contains_apart, contains_around, contains_middle, contains_map, map_append, distinct_around, split_at}
+use Rattle.tg_lists.proofs.NestedLemmas.{added, in_front, grown, lost, kept}
 use Rattle.tg_rights.specs.Letters.{Letters}
-use Rattle.tg_rights.proofs.MembershipLemmas.{contains_append, contains_around, contains_middle, contains_map, map_append, distinct_around, split_at}
 use Rattle.tg_index.specs.Rows.{Rows, row, first_of, IsUnheld, AreRows}
-use Rattle.tg_index.proofs.ListsLemmas.{contains_apart, added, in_front, grown, lost, kept}
 use Rattle.tg_index.proofs.RowLemmas.{none_left, left, Walked, walk_step, at_cursor}
 use Rattle.tg_cells.specs.declared.pool.Cell.{Cell}
 use Rattle.tg_cells.specs.declared.key.Key.{Key}

@@ -3,9 +3,9 @@ use Rattle.std.proofs.Common.{◌≡◌, ◌≢◌, ℕ, ◌+◌, ◌-◌, ◌<�
 use Rattle.std.proofs.lemmas.List.{get_or_default, get_or_append_left, get_or_push}
 use Rattle.std.specs.Vec.{with_item}
 use Rattle.std.specs.declared.vec.Vec.{Vec}
-use Rattle.tg_rights.specs.Membership.{Contains, Distinct}
+use Rattle.tg_lists.specs.Membership.{Contains, Distinct}
+use Rattle.tg_lists.proofs.MembershipLemmas.{contains_map}
 use Rattle.tg_rights.specs.Letters.{Letters, is_none}
-use Rattle.tg_rights.proofs.MembershipLemmas.{contains_map}
 use Rattle.tg_index.specs.Rows.{Rows}
 use Rattle.tg_cells.specs.declared.pool.Cell.{Cell}
 use Rattle.tg_cells.specs.declared.cells.Cells.TheInside.{Inside}

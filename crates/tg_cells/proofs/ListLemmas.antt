@@ -3,10 +3,9 @@ use Rattle.std.proofs.Common.{◌≡◌, ◌≢◌, ℕ, ◌+◌, ◌-◌, ◌<�
 use Rattle.std.proofs.lemmas.Bool.{cases_eq, cases_lt}
 use Rattle.std.proofs.lemmas.List.{get_or_past}
 use Rattle.std.proofs.lemmas.List.Sums.{sum_by-set}
-use Rattle.tg_rights.specs.Membership.{Contains, Distinct}
+use Rattle.tg_lists.specs.Membership.{Contains, Distinct}
+use Rattle.tg_lists.proofs.MembershipLemmas.{contains_middle, contains_apart, contains_around, map_append, distinct_around}
 use Rattle.tg_rights.specs.Letters.{Letters, is_none}
-use Rattle.tg_rights.proofs.MembershipLemmas.{contains_middle, contains_around, map_append, distinct_around}
-use Rattle.tg_index.proofs.ListsLemmas.{contains_apart}
 use Rattle.tg_cells.specs.Lists.{Edge, CellLists, owned, cells, serials, Stands, HasNone, IsCells, IsFresh}
 
 -- No list is longer than all of them together, so none is longer than the number of cells.

@@ -4,7 +4,7 @@ use Rattle.std.proofs.lemmas.Bool.{ne_eqb, cond-true, cond-false}
 use Rattle.std.proofs.lemmas.List.{with_items_is}
 use Rattle.std.specs.Vec.{with_items}
 use Rattle.std.specs.declared.vec.Vec.{Vec}
-use Rattle.tg_rights.specs.Membership.{Contains}
+use Rattle.tg_lists.specs.Membership.{Contains}
 use Rattle.tg_index.specs.Rows.{Rows}
 use Rattle.tg_index.proofs.LinksLemmas.{head_own, head_other, heads_size}
 use Rattle.tg_cells.specs.declared.pool.Cell.{Cell}

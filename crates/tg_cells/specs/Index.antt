@@ -1,6 +1,6 @@
 -- the index of edges: each edge's cell is in the bucket of its owner and its serial
 use Rattle.std.specs.Prelude.{◌≡◌, ℕ, ◌+◌, ◌-◌, ◌*◌, ◌/◌, ◌%◌, ◌^◌, List, bit_and}
-use Rattle.tg_rights.specs.Membership.{Contains}
+use Rattle.tg_lists.specs.Membership.{Contains}
 use Rattle.tg_index.specs.Rows.{row}
 use Rattle.tg_cells.specs.declared.key.Key.{Key}
 use Rattle.tg_cells.specs.Lists.{Edge, owned}

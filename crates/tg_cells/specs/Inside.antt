@@ -2,8 +2,8 @@
 -- far, and an index of the edges
 use Rattle.std.specs.Prelude.{◌≡◌, ℕ, ◌+◌, ◌*◌, ◌<◌, ◌≤◌, List, length, map}
 use Rattle.std.proofs.Common.{get_or}
+use Rattle.tg_lists.specs.Membership.{Distinct}
 use Rattle.tg_rights.specs.declared.limits.TheConstants.{MAX_CELLS, MAX_SLOTS}
-use Rattle.tg_rights.specs.Membership.{Distinct}
 use Rattle.tg_cells.specs.declared.pool.Cell.{Cell}
 use Rattle.tg_cells.specs.declared.cells.Cells.TheInside.{Inside}
 use Rattle.tg_cells.specs.Lists.{Edge, CellLists, owned, IsCells}

@@ -5,7 +5,8 @@ ghost use Rattle.tg_cells.specs.Pool.{hop_of, pooled, rest_of};
 
 use std::alloc::{AllocError, Global};
 use std::marker::Model;
-use tg_rights::{Columns, Rights};
+use tg_lists::Columns;
+use tg_rights::Rights;
 
 /// A cell, and its neighbours in its list. A free cell has the number of owners as its owner.
 #[derive(Drop)]

@@ -19,11 +19,11 @@ pub use Rattle.std.specs.Ordering.{eq_by_cmp, is_lt, nat_cmp, MatchOrdering, is_
 pub use Rattle.std.specs.Prelude.{IfErr, OnErr, OnOk, ◌↔◌}
 pub use Rattle.std.specs.declared.cmp.Ordering.{Ordering}
 pub use Rattle.std.specs.declared.cmp.Ordering.TheVariants.{Equal, Greater, Less}
+pub use Rattle.tg_lists.proofs.MembershipLemmas.{contains_append, contains_left, contains_map, contains_middle, contains_right, map_append, same_by, split_at}
+pub use Rattle.tg_lists.specs.Membership.{Contains, Distinct}
 pub use Rattle.tg_rights.proofs.Bools.{and_both}
 pub use Rattle.tg_rights.proofs.LettersLemmas.{has_none, is_none-none, right_some, some_right}
-pub use Rattle.tg_rights.proofs.MembershipLemmas.{contains_append, contains_left, contains_map, contains_middle, contains_right, map_append, same_by, split_at}
 pub use Rattle.tg_rights.specs.Letters.{Letters, Right, grant, has, includes, is_none, joined, none, read, rights_where, take, without, write}
-pub use Rattle.tg_rights.specs.Membership.{Contains, Distinct}
 pub use Rattle.tg_rights.specs.declared.kind.Kind.{Kind}
 pub use Rattle.tg_rights.specs.declared.kind.Kind.TheVariants.{Subject}
 pub use Rattle.tg_rights.specs.declared.limits.TheConstants.{MAX_PRINCIPALS, SEATS}

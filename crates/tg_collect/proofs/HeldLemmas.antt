@@ -10,10 +10,10 @@ use Rattle.std.specs.FinMap as finmap
 use Rattle.std.specs.FinMap.{find, same_map, get-insert, get-from_entries, nat_cmp-IsAntisymmetric}
 use Rattle.std.specs.FinSet as finset
 use Rattle.std.specs.FinSet.{contains-from_list, contains-union, contains-difference}
+use Rattle.tg_lists.specs.Membership.{Contains, Distinct}
+use Rattle.tg_lists.proofs.MembershipLemmas.{distinct_around, map_append}
 use Rattle.tg_rights.specs.Letters.{Letters, has, joined, without}
 use Rattle.tg_rights.proofs.LettersLemmas.{has_joined, has_without, has_none}
-use Rattle.tg_rights.specs.Membership.{Contains, Distinct}
-use Rattle.tg_rights.proofs.MembershipLemmas.{distinct_around, map_append}
 use Rattle.tg_graph.specs.Triples.{Triple, Triples, triple_cmp, edge, edge_list}
 use Rattle.tg_graph.proofs.TriplesLemmas.{contains-edge, triple_cmp_total, same_triples}
 use Rattle.tg_cells.specs.Lists.{Edge}

@@ -5,7 +5,7 @@ use Rattle.std.specs.Prelude.{◌↔◌}
 use Rattle.std.specs.FinMap as finmap
 use Rattle.tg_graph.specs.Paths.{IsPart}
 use Rattle.tg_graph.specs.Triples.{Triple}
-use Rattle.tg_rights.specs.Membership.{Contains}
+use Rattle.tg_lists.specs.Membership.{Contains}
 use Rattle.tg_slots.specs.Table.{Mark, Has}
 use Rattle.tg_marking.specs.Values as values
 use Rattle.tg_marking.specs.Values.{White, Grey, Black, Edge, Spot, Stage, Body, Kept, as_kept, keeps, name_of, mark_of, seen}

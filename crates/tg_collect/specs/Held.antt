@@ -2,8 +2,8 @@
 use Rattle.std.specs.Prelude.{◌≡◌, ◌≢◌, ℕ, ◌<◌, List, [], ◌∷◌, ◌++◌, length, map, Option, Some, None, get_or, set, ◌⊎◌}
 use Rattle.std.specs.FinMap as finmap
 use Rattle.std.specs.FinSet as finset
+use Rattle.tg_lists.specs.Membership.{Distinct}
 use Rattle.tg_rights.specs.Letters.{Letters, joined, without, none}
-use Rattle.tg_rights.specs.Membership.{Distinct}
 use Rattle.tg_graph.specs.declared.vertex.Vertex.{Vertex}
 use Rattle.tg_graph.specs.Triples.{Triple, edge, edge_list}
 use Rattle.tg_graph.specs.Protection.{Protection}

@@ -3,9 +3,9 @@ ghost use Rattle.std.specs.Prelude.{◌≡◌, ◌≢◌, ℕ, ◌<◌, ◌≤�
 ghost use Rattle.std.specs.Bool.{OnFalse};
 ghost use Rattle.std.specs.Option.{option_map};
 ghost use Rattle.std.specs.FinMap as finmap;
+ghost use Rattle.tg_lists.specs.Membership.{Contains};
 ghost use Rattle.tg_rights.specs.declared.limits.TheConstants.{MAX_CELLS, MAX_PRINCIPALS, MAX_SLOTS, SEATS};
 ghost use Rattle.tg_rights.specs.Letters.{is_none, includes, none};
-ghost use Rattle.tg_rights.specs.Membership.{Contains};
 ghost use Rattle.tg_graph.specs.Protection.{label};
 ghost use Rattle.tg_graph.specs.Rules.{edges_of};
 ghost use Rattle.tg_heap.specs.Graph.{edges};

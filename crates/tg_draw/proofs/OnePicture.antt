@@ -1,6 +1,6 @@
 -- A vault has one picture under a label: its lists in order have exactly what the vault shows.
 use Rattle.std.proofs.Common.{◌≡◌, ◌∙◌, ℕ, ◌<◌, List, [], ◌∷◌, inl, inr, refl, sym, subst, arith}
-use Rattle.tg_rights.specs.Membership.{Contains}
+use Rattle.tg_lists.specs.Membership.{Contains}
 use Rattle.tg_graph.specs.Opening.{Edge}
 use Rattle.tg_graph.specs.Parts.{Before, Rises}
 use Rattle.tg_graph.proofs.ListedLemmas.{same_in_order}

@@ -13,12 +13,12 @@ use Rattle.std.specs.Map.{lookup}
 use Rattle.std.specs.BTreeMap as tree
 use Rattle.std.proofs.lemmas.Bool.{eqb-true, eq-eqb}
 use Rattle.std.proofs.lemmas.List.Sorted.{IsPermutation-map, IsPermutation-sym, length_permutation}
+use Rattle.tg_lists.specs.Membership.{Contains, Distinct}
+use Rattle.tg_lists.proofs.MembershipLemmas.{contains_map}
 use Rattle.tg_rights.specs.Letters.{Letters, has, is_none, none}
-use Rattle.tg_rights.specs.Membership.{Contains, Distinct}
 use Rattle.tg_rights.specs.declared.kind.Kind.TheVariants as kind
 use Rattle.tg_rights.specs.declared.limits.TheConstants.{MAX_PRINCIPALS}
 use Rattle.tg_rights.proofs.LettersLemmas.{is_none-none, right_some}
-use Rattle.tg_rights.proofs.MembershipLemmas.{contains_map}
 use Rattle.tg_graph.specs.declared.member.Member.{Member}
 use Rattle.tg_graph.specs.declared.parts.Parts.{Parts}
 use Rattle.tg_graph.specs.declared.vertex.Vertex.{Vertex}

@@ -7,8 +7,8 @@ use Rattle.std.specs.Cmp.{nat_cmp_total, unsigned_tied}
 use Rattle.std.specs.FinMap as map
 use Rattle.std.specs.FinSet as set
 use Rattle.std.proofs.lemmas.Bool.{eqb-true, eq-eqb, or_cases}
+use Rattle.tg_lists.specs.Membership.{Contains}
 use Rattle.tg_rights.specs.Letters.{Letters, is_none}
-use Rattle.tg_rights.specs.Membership.{Contains}
 use Rattle.tg_rights.specs.declared.kind.Kind.TheVariants as kind
 use Rattle.tg_rights.specs.declared.command.Command.{Command}
 use Rattle.tg_rights.specs.declared.outcome.Outcome.{Outcome}

@@ -4,8 +4,8 @@ use Rattle.std.specs.Ordering.{nat_cmp}
 use Rattle.std.specs.FinMap.Entries.{is_sorted}
 use Rattle.std.specs.FinMap as map
 use Rattle.std.specs.FinSet as set
+use Rattle.tg_lists.specs.Membership.{Contains}
 use Rattle.tg_rights.specs.Letters.{Letters, take, grant, has, joined as joined_rights, without, includes, is_none}
-use Rattle.tg_rights.specs.Membership.{Contains}
 use Rattle.tg_rights.specs.declared.kind.Kind.{Kind}
 use Rattle.tg_rights.specs.declared.kind.Kind.TheVariants as kind
 use Rattle.tg_rights.specs.declared.limits.TheConstants.{MAX_CELLS, MAX_PRINCIPALS, MAX_SLOTS}

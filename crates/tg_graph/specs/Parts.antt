@@ -1,7 +1,7 @@
 -- the lists that a graph is made of
 use Rattle.std.specs.Prelude.{◌≡◌, ◌≢◌, ◌<◌, ◌≤◌, ◌⊎◌, ◌↔◌, ℕ, false, true, List, [], ◌∷◌, length, map, Some}
+use Rattle.tg_lists.specs.Membership.{Contains, Distinct}
 use Rattle.tg_rights.specs.Letters.{Letters, is_none}
-use Rattle.tg_rights.specs.Membership.{Contains, Distinct}
 use Rattle.tg_rights.specs.declared.kind.Kind.{Kind}
 use Rattle.tg_rights.specs.declared.kind.Kind.TheVariants as kind
 use Rattle.tg_rights.specs.declared.limits.TheConstants.{MAX_PRINCIPALS}

@@ -1,7 +1,7 @@
 -- what contracts see of the heap: a labelled graph over slots
 use Rattle.std.specs.Prelude.{◌≡◌, ℕ, ◌<◌, List, [], ◌∷◌, length}
 use Rattle.tg_slots.specs.Table.{Table, Mark, Free, Has, mark, recoloured, IsSound}
-use Rattle.tg_rights.specs.Membership.{Contains}
+use Rattle.tg_lists.specs.Membership.{Contains}
 use Rattle.tg_cells.specs.declared.key.Key.{Key}
 use Rattle.tg_cells.specs.Lists.{Edge, CellLists, owned, IsCells}
 use Rattle.tg_slots.specs.declared.colour.Colour.{Colour}

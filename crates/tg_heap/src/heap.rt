@@ -1,8 +1,8 @@
 //! The heap: a table of slots and cells that belong to them.
 ghost use Rattle.std.specs.Prelude.{◌≡◌, ◌≢◌, ℕ, ◌<◌, ◌≤◌, ◌+◌, List, [], ◌∷◌, length, MatchResult, MatchOption, MatchBool, IfOk, IfSome, IsTrue, ◌↔◌, set, ◌⊎◌, Option, Some, None, true, false};
+ghost use Rattle.tg_lists.specs.Membership.{Contains};
 ghost use Rattle.tg_rights.specs.declared.limits.TheConstants.{MAX_CELLS, MAX_SLOTS};
 ghost use Rattle.tg_rights.specs.Letters.{is_none, includes};
-ghost use Rattle.tg_rights.specs.Membership.{Contains};
 ghost use Rattle.tg_slots.specs.Table.{Free, Has, slot, with_text, in_slot, fresh};
 ghost use Rattle.tg_slots.specs.declared.slots.Occupant.{Occupant};
 ghost use Rattle.tg_cells.specs.declared.key.TheConstants.Key.{FIXED};

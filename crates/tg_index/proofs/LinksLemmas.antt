@@ -2,8 +2,8 @@
 use Rattle.std.proofs.Common.{◌≡◌, ◌≢◌, ℕ, zero, suc, ◌+◌, ◌<◌, ◌≤◌, List, [], ◌∷◌, ◌++◌, length, Some, None, ◌⊎◌, inl, inr, sym, ◌∙◌, subst, ap, refl, set, get_or, cond, ltb, true, false, eqb, eq-eqb, arith, length-set, length-append, get_or-set_same, get_or-set_other}
 use Rattle.std.proofs.lemmas.Bool.{cases_lt, cases_Bool, ne_eqb, lt-ltb, le-ltb, cond-true, cond-false}
 use Rattle.std.proofs.lemmas.List.{get_or_append_left, get_or_push}
-use Rattle.tg_rights.specs.Membership.{Contains, Distinct}
-use Rattle.tg_rights.proofs.MembershipLemmas.{contains_left, contains_right}
+use Rattle.tg_lists.specs.Membership.{Contains, Distinct}
+use Rattle.tg_lists.proofs.MembershipLemmas.{contains_left, contains_right}
 use Rattle.tg_index.specs.declared.buckets.Link.{Link}
 use Rattle.tg_index.specs.Rows.{first_of}
 use Rattle.tg_index.specs.Links.{link_at, with_previous, with_next, walk, Links, first_link, written}

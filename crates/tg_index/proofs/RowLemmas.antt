@@ -1,44 +1,10 @@
--- Lists of numbers, and rows of them that are sound.
-use Rattle.std.proofs.Common.{◌≡◌, ◌≢◌, ℕ, zero, suc, ◌+◌, ◌<◌, ◌≤◌, List, [], ◌∷◌, ◌++◌, length, Option, Some, None, ◌⊎◌, inl, inr, sym, ◌∙◌, subst, ap, refl, set, cond, ltb, true, false, eqb, eq-eqb, arith, length-append, get_or-set_same, get_or-set_other, append_assoc}
+-- Walks over a row, and rows that are sound.
+use Rattle.std.proofs.Common.{◌≡◌, ◌≢◌, ℕ, zero, suc, ◌+◌, ◌<◌, ◌≤◌, List, [], ◌∷◌, ◌++◌, length, Option, Some, None, inl, inr, sym, ◌∙◌, subst, ap, refl, set, cond, ltb, true, false, eqb, eq-eqb, arith, get_or-set_same, get_or-set_other, append_assoc}
 use Rattle.std.proofs.lemmas.Bool.{cases_eq, cases_lt, ne_eqb, lt-ltb, le-ltb}
-use Rattle.tg_rights.specs.Membership.{Contains, Distinct}
-use Rattle.tg_rights.proofs.MembershipLemmas.{contains_around, contains_middle, distinct_around, split_at}
+use Rattle.tg_lists.specs.Membership.{Contains, Distinct}
+use Rattle.tg_lists.proofs.MembershipLemmas.{contains_middle, distinct_around}
+use Rattle.tg_lists.proofs.NestedLemmas.{added, lost}
 use Rattle.tg_index.specs.Rows.{Rows, row, first_of, IsUnheld, AreRows}
-use Rattle.tg_index.proofs.ListsLemmas.{added, lost}
-
--- A number is in a list or not.
-has : (ns : List ℕ) (m : ℕ) → Contains ns m ⊎ (Contains ns m → ⊥)
-has [] m = inr (λ h. h)
-has (n ∷ ns) m = elim (cases_eq m n) [
-  | inl e ↦ inl (inl e)
-  | inr o ↦ elim (has ns m) [ inl h ↦ inl (inr h) | inr lacks ↦ inr (λ h. elim h [ inl e ↦ o e | inr k ↦ lacks k ]) ]
-]
-
--- A list of numbers below m, each there once, has at most m of them.
-pub few : (m : ℕ) (ns : List ℕ) → Distinct ns → ((n : ℕ) → Contains ns n → n < m) → length ns ≤ m
-few zero [] d w = omega arith
-few zero (n ∷ ns) d w = absurd (let none = w n (inl refl) in omega arith)
-few (suc m) ns d w = elim (has ns m) [
-  | inl h ↦ (
-      let s = split_at ns m h in
-      let all : Distinct (s.before ++ m ∷ s.after) = subst (λ (l : List ℕ). Distinct l) s.is d in
-      let rest = distinct_around s.before s.after m all in
-      let fits = few m (s.before ++ s.after) rest.0 (λ n k.
-      let old : Contains ns n = subst (λ (l : List ℕ). Contains l n) (sym s.is) (contains_around s.before s.after m n k) in
-      let below = w n old in
-      let other : n ≢ m = λ e. rest.1 (subst (λ (x : ℕ). Contains (s.before ++ s.after) x) e k) in
-      omega arith) in
-      let is = ap length s.is in
-      omega (arith, is, length-append s.before (m ∷ s.after), length-append s.before s.after)
-      )
-  | inr lacks ↦ (
-      let fits = few m ns d (λ n k.
-      let below = w n k in
-      let other : n ≢ m = λ e. lacks (subst (λ (x : ℕ). Contains ns x) e k) in
-      omega arith) in
-      omega arith
-      )
-]
 
 -- The numbers of a list from one of them on.
 abbrev pub from : List ℕ → ℕ → List ℕ

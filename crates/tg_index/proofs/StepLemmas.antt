@@ -4,15 +4,15 @@ use Rattle.std.proofs.lemmas.Bool.{cases_lt}
 use Rattle.std.proofs.lemmas.List.{ext_get_or, get_or-map, get_or_default, get_or-replicate, get_or_past, length-replicate, length-map, with_items_is}
 use Rattle.std.specs.Vec.{with_items, with_item}
 use Rattle.std.specs.declared.vec.Vec.{Vec}
-use Rattle.tg_rights.specs.Membership.{Contains, Distinct}
-use Rattle.tg_rights.proofs.MembershipLemmas.{contains_left, contains_right, contains_middle}
+use Rattle.tg_lists.specs.Membership.{Contains, Distinct}
+use Rattle.tg_lists.proofs.MembershipLemmas.{contains_left, contains_right, contains_middle, few}
+use Rattle.tg_lists.proofs.NestedLemmas.{each_set}
 use Rattle.tg_index.specs.declared.buckets.Link.{Link}
 use Rattle.tg_index.specs.declared.buckets.Buckets.TheInside.{Inside}
 use Rattle.tg_index.specs.Rows.{Rows, row, first_of, IsUnheld}
 use Rattle.tg_index.specs.Links.{link_at, with_previous, with_next, walk, Links, first_link, written}
 use Rattle.tg_index.specs.Inside.{Shows, view_of, IsInside}
-use Rattle.tg_index.proofs.ListsLemmas.{each_set}
-use Rattle.tg_index.proofs.RowLemmas.{few, sound-put, sound-take, held_within}
+use Rattle.tg_index.proofs.RowLemmas.{sound-put, sound-take, held_within}
 use Rattle.tg_index.proofs.LinksLemmas.{walk_links, links_from, links_before, links_after, links_head, led, led-length, led_row, led_other, joined, joined-length, joined_other, head_after, links_out, head_moves, head_own, head_other, heads_size}
 
 -- What is shown is what the walks return.

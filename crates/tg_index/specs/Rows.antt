@@ -1,7 +1,7 @@
 -- what contracts see of the buckets: one row of numbers for each
 use Rattle.std.specs.Prelude.{◌≡◌, ℕ, ◌<◌, ◌≤◌, List, [], ◌∷◌, Option, Some, None}
 use Rattle.std.proofs.Common.{get_or}
-use Rattle.tg_rights.specs.Membership.{Contains, Distinct}
+use Rattle.tg_lists.specs.Membership.{Contains, Distinct}
 
 -- each bucket's numbers from the first, how many numbers were used so far, and how many there are
 pub record Rows : Type 0 where

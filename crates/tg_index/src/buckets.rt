@@ -1,7 +1,7 @@
 //! The buckets: arrays of numbers, and a row through them for each bucket.
 ghost use Rattle.std.specs.Prelude.{◌≡◌, ℕ, ◌+◌, ◌<◌, ◌≤◌, List, [], ◌∷◌, ◌++◌, length, IfOk, Some, None, cond, ltb, set};
 ghost use Rattle.std.specs.Vec.{vec_capacity};
-ghost use Rattle.tg_rights.specs.Membership.{Contains};
+ghost use Rattle.tg_lists.specs.Membership.{Contains};
 ghost use Rattle.tg_index.specs.Rows.{row, first_of, IsUnheld, IsHeld, AreRows};
 ghost use Rattle.tg_index.specs.Links.{with_previous, with_next, first_link, written};
 

@@ -3,7 +3,7 @@ use Rattle.std.proofs.Common.{◌≡◌, ◌≢◌, ℕ, ◌+◌, ◌<◌, ◌�
 use Rattle.std.proofs.lemmas.Bool.{lt-ltb, le-ltb}
 use Rattle.std.proofs.lemmas.Bool.Decides.{nat_tests}
 use Rattle.std.proofs.lemmas.List.{append-nil, set-get_or}
-use Rattle.tg_rights.proofs.MembershipLemmas.{contains_append, contains_middle}
+use Rattle.tg_lists.proofs.MembershipLemmas.{contains_append, contains_middle}
 use Rattle.tg_marking.specs.Values.{White, Grey, Black, Has, Edge, Contains, Distinct, Roots, HasTarget, Spot, Scan, Progress, AtRest, Marking, Sweeping, Body, spot, mark, mark_of, out, edges_of, name_of, IsRoot, IsTarget, seen, Kept, kept, Stage, Mark, Sweep, shown}
 use Rattle.tg_marking.specs.Steps.{put, shade, shade_all, Line, starts, scans, blackens, takes, shades_target, starts_sweep, skips, whitens, strips, frees, finishes}
 use Rattle.tg_marking.specs.Invariant.{Leads, IsScanned, Greys, Covered, Phased, Invariant, at_root, along, IsLive}

@@ -3,8 +3,7 @@ use Rattle.std.proofs.Common.{◌≡◌, ◌≢◌, ℕ, zero, suc, ◌+◌, ◌
 use Rattle.std.proofs.lemmas.Bool.{le-ltb}
 use Rattle.std.proofs.lemmas.Bool.Decides.{nat_tests}
 use Rattle.std.proofs.lemmas.List.{length-map}
-use Rattle.tg_rights.proofs.MembershipLemmas.{contains_map}
-use Rattle.tg_index.proofs.RowLemmas.{few}
+use Rattle.tg_lists.proofs.MembershipLemmas.{contains_map, few}
 use Rattle.tg_marking.specs.Values.{White, Grey, Has, Edge, Contains, Distinct, Kind, Roots, Spot, Progress, AtRest, Marking, Sweeping, Body, spot, mark, out, keeps, as_kept, kept, Sweep, shown}
 use Rattle.tg_marking.specs.Steps.{put, shade, shade_all, new_colour, Line, starts, scans, blackens, takes, shades_target, starts_sweep, skips, whitens, strips, frees, finishes, PutsEdge, Places, DropsEdge, Rewrites, Trims, ahead}
 use Rattle.tg_marking.specs.Invariant.{Invariant, Leads}

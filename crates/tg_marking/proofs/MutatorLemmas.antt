@@ -1,7 +1,7 @@
 -- The exact session steps are steps of a run.
 use Rattle.std.proofs.Common.{◌≡◌, ℕ, ◌<◌, ◌≤◌, List, [], ◌∷◌, ◌++◌, length, map, Option, Some, None, ◌⊎◌, inl, inr, sym, ◌∙◌, subst, ap, refl, arith}
 use Rattle.std.proofs.lemmas.Option.{same_Some}
-use Rattle.tg_rights.proofs.MembershipLemmas.{contains_map}
+use Rattle.tg_lists.proofs.MembershipLemmas.{contains_map}
 use Rattle.tg_marking.specs.Values.{Grey, Edge, Contains, Kind, Roots, HasRoot, Spot, Progress, AtRest, Stage, shown, Body, spot, IsRoot, seen, Kept, as_kept, kept}
 use Rattle.tg_marking.specs.Steps.{put, shade, new_colour, with_target, Reroots, PutsEdge, ShadesTarget, Places, DropsEdge, Rewrites}
 use Rattle.tg_marking.specs.Invariant.{Invariant, at_root}

@@ -2,7 +2,7 @@
 use Rattle.std.proofs.Common.{◌≡◌, ◌≢◌, ℕ, ◌<◌, ◌≤◌, List, [], ◌∷◌, ◌++◌, length, get_or, set, length-set, get_or-set_same, get_or-set_other, true, Option, Some, None, ◌⊎◌, inl, inr, sym, ◌∙◌, subst, ap, refl, arith}
 use Rattle.std.proofs.lemmas.Bool.Decides.{nat_tests}
 use Rattle.std.proofs.lemmas.List.{append_assoc, append_cancel_right}
-use Rattle.tg_rights.proofs.MembershipLemmas.{contains_append, contains_left, contains_right, contains_middle}
+use Rattle.tg_lists.proofs.MembershipLemmas.{contains_append, contains_left, contains_right, contains_middle}
 use Rattle.tg_marking.specs.Values.{Colour, White, Grey, Black, Has, Edge, Contains, Distinct, Kind, Scan, Spot, Progress, AtRest, Marking, Sweeping, Body, Roots, HasRoot, HasTarget, shown, spot, mark, mark_of, out, edges_of, name, name_of, IsRoot, IsTarget, keeps, seen, seen, Kept, as_kept, kept, Stage}
 use Rattle.tg_marking.specs.Steps.{put, shade, new_colour, with_target, Reroots, PutsEdge, ShadesTarget, Places, Trims, elsewhere, passed, ahead, DropsEdge, Rewrites}
 use Rattle.tg_marking.specs.Invariant.{Leads, IsScanned, Greys, Covered, ScanFits, Tricolour, Phased, Invariant}

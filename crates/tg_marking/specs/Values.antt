@@ -1,12 +1,12 @@
 -- the value of a store, and what is read off it
 use Rattle.std.specs.Prelude.{◌≡◌, ℕ, List, [], Option, Some, None, ◌⊎◌, Bool, true, false, cond, get_or, nat_lt}
+pub use Rattle.tg_lists.specs.Membership.{Contains, Distinct}
 pub use Rattle.tg_rights.specs.declared.kind.Kind.{Kind}
 pub use Rattle.tg_slots.specs.declared.colour.Colour.{Colour}
 pub use Rattle.tg_slots.specs.declared.colour.Colour.TheVariants.{White, Grey, Black}
 use Rattle.tg_slots.specs.Table as table
 pub use Rattle.tg_slots.specs.Table.{Free, Has}
 pub use Rattle.tg_cells.specs.Lists.{Edge}
-pub use Rattle.tg_rights.specs.Membership.{Contains, Distinct}
 
 -- what a slot holds
 pub record Spot : Type 0 where

@@ -8,8 +8,8 @@ use Rattle.std.specs.Ordering.{eq_by_cmp, nat_cmp}
 use Rattle.std.specs.BTreeMap as tree
 use Rattle.std.proofs.lemmas.Option.{same_Some}
 use Rattle.std.proofs.lemmas.Bool.{eqb-true, eq-eqb, or_left, or_right}
+use Rattle.tg_lists.specs.Membership.{Contains}
 use Rattle.tg_rights.specs.Letters.{Letters, Right, take, grant, has, includes, is_none}
-use Rattle.tg_rights.specs.Membership.{Contains}
 use Rattle.tg_rights.proofs.Bools.{or_cases}
 use Rattle.tg_rights.proofs.LettersLemmas.{are_set_operations, right_some, some_right}
 use Rattle.tg_graph.specs.declared.derivation.Goal.{Goal}

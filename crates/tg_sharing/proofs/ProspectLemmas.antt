@@ -3,10 +3,10 @@ use Rattle.std.proofs.Common.{◌≡◌, ◌≢◌, ℕ, ◌∷◌, [], ◌++◌
 use Rattle.std.specs.Prelude.{Option}
 use Rattle.std.specs.Map.{keys_of}
 use Rattle.std.specs.Option.{is_some, option_map}
+use Rattle.tg_lists.specs.Membership.{Contains}
+use Rattle.tg_lists.proofs.MembershipLemmas.{contains_append, contains_left, contains_right}
 use Rattle.tg_rights.specs.Letters.{Letters, Right, is_none}
-use Rattle.tg_rights.specs.Membership.{Contains}
 use Rattle.tg_rights.proofs.LettersLemmas.{right_some}
-use Rattle.tg_rights.proofs.MembershipLemmas.{contains_append, contains_left, contains_right}
 use Rattle.tg_graph.specs.declared.vertex.Vertex.{Vertex}
 use Rattle.tg_graph.specs.Derivations.{CanShare}
 use Rattle.tg_graph.specs.Protection.{IsEdge, IsGraph, IsVertex, Protection, kind_of, label, vertex}

@@ -1,7 +1,7 @@
 -- all that a vertex could ever come to have
 use Rattle.std.specs.Prelude.{◌≡◌, ◌≢◌, ◌<◌, ◌⊎◌, ◌↔◌, ℕ, true, List, length}
+use Rattle.tg_lists.specs.Membership.{Contains}
 use Rattle.tg_rights.specs.Letters.{Letters, Right}
-use Rattle.tg_rights.specs.Membership.{Contains}
 use Rattle.tg_graph.specs.Derivations.{CanShare, Derives}
 use Rattle.tg_graph.specs.declared.derivation.Goal.{Goal}
 use Rattle.tg_graph.specs.declared.derivation.Step.{Step}

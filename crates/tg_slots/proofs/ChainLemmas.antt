@@ -1,7 +1,7 @@
 -- Chains of links and the walks over them.
 use Rattle.std.proofs.Common.{◌≡◌, ◌≢◌, ℕ, zero, suc, ◌+◌, ◌<◌, ◌≤◌, List, [], ◌∷◌, length, inl, inr, sym, ◌∙◌, subst, ap, refl, set, get_or, arith, get_or-set_same, get_or-set_other, true, false, eqb, eq-eqb}
 use Rattle.std.proofs.lemmas.Bool.{ne_eqb}
-use Rattle.tg_rights.specs.Membership.{Contains}
+use Rattle.tg_lists.specs.Membership.{Contains}
 use Rattle.tg_slots.specs.Table.{indices}
 use Rattle.tg_slots.specs.Chain.{walk, Chain}
 

@@ -5,8 +5,8 @@ use Rattle.std.proofs.lemmas.Bool.{cases_lt}
 use Rattle.std.proofs.lemmas.List.{get_or_past, length-map, map-append, map-set}
 use Rattle.std.proofs.lemmas.List.Elements.{All-append, All-cons, All-nil, All-set}
 use Rattle.std.proofs.lemmas.Option.{get_or_from_slice_get, slice_get_within}
-use Rattle.tg_rights.specs.Columns.{HasLeft, HasRight, with_left, with_right}
-use Rattle.tg_rights.proofs.ColumnsLemmas.{both_changed, beside, left_changed, right_changed, seen, there, with_both_set, with_left_set, with_right_set}
+use Rattle.tg_lists.specs.Columns.{HasLeft, HasRight, with_left, with_right}
+use Rattle.tg_lists.proofs.ColumnsLemmas.{both_changed, beside, left_changed, right_changed, seen, there, with_both_set, with_left_set, with_right_set}
 use Rattle.tg_slots.specs.declared.colour.Colour.{Colour}
 use Rattle.tg_slots.specs.declared.colour.Colour.TheVariants.{White, Grey, Black}
 use Rattle.tg_slots.specs.declared.slots.Occupant.{Occupant}

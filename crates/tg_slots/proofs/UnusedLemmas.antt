@@ -1,8 +1,8 @@
 -- The slots that were used so far, followed by those that were not.
 use Rattle.std.proofs.Common.{◌≡◌, ℕ, zero, suc, ◌+◌, ◌-◌, ◌<◌, ◌≤◌, List, [], ◌∷◌, ◌++◌, length, None, inl, inr, sym, ◌∙◌, ap, refl, set, get_or, arith, length-set, length-append, append_assoc}
 use Rattle.std.proofs.lemmas.List.{set-append_left, get_or_append_left}
-use Rattle.tg_rights.specs.Membership.{Contains}
-use Rattle.tg_rights.proofs.MembershipLemmas.{contains_append}
+use Rattle.tg_lists.specs.Membership.{Contains}
+use Rattle.tg_lists.proofs.MembershipLemmas.{contains_append}
 use Rattle.tg_slots.specs.Linked.{Linked, Shelved, occupants}
 use Rattle.tg_slots.specs.Table.{indices}
 use Rattle.tg_slots.specs.Inside.{unused, filled, IsBehind}

@@ -1,7 +1,7 @@
 -- the table that linked slots represent
 use Rattle.std.specs.Prelude.{◌≡◌, ◌+◌, ◌-◌, ◌<◌, ◌≤◌, ℕ, zero, suc, length, List, [], ◌∷◌, ◌++◌, None, map, cond, eqb, ltb}
+use Rattle.tg_lists.specs.Membership.{Contains}
 use Rattle.tg_rights.specs.declared.limits.TheConstants.{MAX_SLOTS}
-use Rattle.tg_rights.specs.Membership.{Contains}
 use Rattle.tg_slots.specs.Linked.{Linked, occupants}
 use Rattle.tg_slots.specs.declared.slots.Slots.TheInside.{Inside}
 use Rattle.tg_slots.specs.Chain.{walk, Chain}

@@ -3,4 +3,4 @@ pub mod Linked
 pub mod Shelf
 pub mod Chain
 pub mod Inside
-pub use Rattle.tg_rights.specs.Membership
+pub use Rattle.tg_lists.specs.Membership

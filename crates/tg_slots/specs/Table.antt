@@ -1,7 +1,7 @@
 -- what contracts see of a table of slots
 use Rattle.std.specs.Prelude.{◌≡◌, ℕ, zero, suc, ◌<◌, List, [], ◌∷◌, length, Option, Some, None, sum_by}
 use Rattle.std.proofs.Common.{get_or, set}
-use Rattle.tg_rights.specs.Membership.{Contains, Distinct}
+use Rattle.tg_lists.specs.Membership.{Contains, Distinct}
 use Rattle.tg_slots.specs.declared.slots.Occupant.{Occupant}
 use Rattle.tg_slots.specs.declared.colour.Colour.{Colour}
 use Rattle.tg_slots.specs.declared.colour.Colour.TheVariants.{Grey}

@@ -2,7 +2,7 @@
 ghost use Rattle.std.specs.Prelude.{◌≡◌, ◌≢◌, ◌<◌, ◌≤◌, ◌++◌, ◌∷◌, [], IfOk, MatchOption, None, Some, length, set, true};
 ghost use Rattle.std.specs.List.{All};
 ghost use Rattle.std.specs.Option.{option_map};
-ghost use Rattle.tg_rights.specs.Columns.{HasRight};
+ghost use Rattle.tg_lists.specs.Columns.{HasRight};
 ghost use Rattle.tg_slots.specs.Table.{in_slot, with_text, coloured};
 ghost use Rattle.tg_slots.specs.Linked.{Shelved, at, occupant_at};
 ghost use Rattle.tg_slots.specs.Shelf.{Agrees, colour_of, is_taken, kind_of, leading, link_of, serial_of, shelved, telling, text_of, tint_of};
@@ -10,7 +10,8 @@ ghost use Rattle.tg_slots.specs.Shelf.{Agrees, colour_of, is_taken, kind_of, lea
 use crate::{Colour, Occupant};
 use std::alloc::{AllocError, Global};
 use std::marker::Model;
-use tg_rights::{Columns, Kind, Text};
+use tg_lists::Columns;
+use tg_rights::{Kind, Text};
 
 // Whether a slot is free, or the colour of its vertex.
 #[derive(Clone, Copy, Drop)]

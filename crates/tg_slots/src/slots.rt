@@ -1,6 +1,6 @@
 //! The table of slots, with the two lists through its link fields.
 ghost use Rattle.std.specs.Prelude.{◌≡◌, ◌≢◌, ◌<◌, ◌≤◌, [], ◌∷◌, length, MatchResult, MatchOption, IsTrue, ◌↔◌, set, ◌⊎◌, IfSome, IfOk, None, Some};
-ghost use Rattle.tg_rights.specs.Membership.{Contains};
+ghost use Rattle.tg_lists.specs.Membership.{Contains};
 ghost use Rattle.tg_rights.specs.declared.limits.TheConstants.{MAX_SLOTS};
 ghost use Rattle.tg_slots.specs.Table.{Table, Free, Has, slot, mark, coloured, recoloured, with_text, in_slot, IsSound, fresh};
 ghost use Rattle.tg_slots.specs.Inside.{IsInside, IsProvided, table};

@@ -2,8 +2,8 @@
 use Rattle.std.proofs.Common.{◌≡◌, ℕ, ◌+◌, ◌-◌, ◌<◌, ◌≤◌, ◌⊎◌, List, Bool, true, false, refl, sym, ap, subst, ◌∙◌, inl, inr, Some, None, arith}
 use Rattle.std.specs.Prelude.{◌↔◌, Option}
 use Rattle.std.specs.Option.{is_some, option_map}
+use Rattle.tg_lists.specs.Membership.{Contains}
 use Rattle.tg_rights.specs.Letters.{is_none}
-use Rattle.tg_rights.specs.Membership.{Contains}
 use Rattle.tg_rights.specs.declared.command.Command.{Command}
 use Rattle.tg_rights.specs.declared.outcome.Which.{Which}
 use Rattle.tg_rights.specs.declared.outcome.Which.TheVariants as which

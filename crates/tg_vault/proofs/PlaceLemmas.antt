@@ -2,7 +2,7 @@
 use Rattle.std.proofs.Common.{◌≡◌, ◌⊎◌, ℕ, zero, suc, List, [], ◌∷◌, ap, sym, refl, inl, inr, Some, None, is_some, set, true}
 use Rattle.std.specs.Prelude.{Option}
 use Rattle.std.specs.Option.{unwrap_or}
-use Rattle.tg_rights.specs.Membership.{Contains}
+use Rattle.tg_lists.specs.Membership.{Contains}
 use Rattle.tg_collect.specs.Stored.{Stored}
 use Rattle.tg_collect.specs.Readings.{place, serial_at}
 use Rattle.tg_vault.specs.World.{at_seat}

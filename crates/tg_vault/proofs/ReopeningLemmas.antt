@@ -6,9 +6,9 @@ use Rattle.std.specs.Ordering.{is_eq}
 use Rattle.std.specs.FinMap as map
 use Rattle.std.specs.FinSet as set
 use Rattle.std.proofs.lemmas.Bool.{and_from, and_parts}
+use Rattle.tg_lists.specs.Membership.{Contains, Distinct}
+use Rattle.tg_lists.proofs.MembershipLemmas.{contains_map}
 use Rattle.tg_rights.specs.Letters.{Letters, is_none}
-use Rattle.tg_rights.specs.Membership.{Contains, Distinct}
-use Rattle.tg_rights.proofs.MembershipLemmas.{contains_map}
 use Rattle.tg_rights.specs.declared.kind.Kind.{Kind}
 use Rattle.tg_rights.specs.declared.kind.Kind.TheVariants as kind
 use Rattle.tg_rights.specs.declared.limits.TheConstants.{MAX_PRINCIPALS}

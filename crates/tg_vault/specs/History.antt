@@ -1,6 +1,6 @@
 -- histories: the entries of commands that the rules permit, one after another, from the opening graph on
 use Rattle.std.specs.Prelude.{◌≡◌, ◌⊎◌, ℕ, List, [], ◌∷◌, ◌++◌, true}
-use Rattle.tg_rights.specs.Membership.{Contains}
+use Rattle.tg_lists.specs.Membership.{Contains}
 use Rattle.tg_rights.specs.declared.command.Command.TheVariants as command
 use Rattle.tg_rights.specs.declared.outcome.Outcome.TheVariants as outcome
 use Rattle.tg_graph.specs.Fullness.{Limits, Permitted}

@@ -1,7 +1,7 @@
 //! Who acts at a seat.
 ghost use Rattle.std.specs.Prelude.{◌≡◌, ◌<◌, Some, true, false};
 ghost use Rattle.std.specs.FinSet as set;
-ghost use Rattle.tg_rights.specs.Membership.{Contains};
+ghost use Rattle.tg_lists.specs.Membership.{Contains};
 ghost use Rattle.tg_rights.specs.declared.limits.TheConstants.{SEATS};
 ghost use Rattle.tg_collect.specs.Readings.{agent_of, principals};
 ghost use Rattle.tg_vault.specs.Acting.{IsHere, serial_in};

@@ -1,6 +1,6 @@
 use Rattle.std.proofs.Common.{ℕ, arith}
 use borrow.Author.Count.{below_more}
-use Rattle.tg_rights.specs.Membership.{Contains}
+use Rattle.tg_lists.specs.Membership.{Contains}
 use Rattle.tg_index.specs.Rows.{row}
 use Rattle.tg_index.proofs.RowLemmas.{held_within}
 use Rattle.tg_tests.proofs.index.is_unheld.Goals as goal

@@ -1,5 +1,5 @@
 use Rattle.std.proofs.Common.{ap}
-use Rattle.tg_rights.proofs.MembershipLemmas.{split_at}
+use Rattle.tg_lists.proofs.MembershipLemmas.{split_at}
 use Rattle.tg_index.specs.Rows.{Rows, row}
 use Rattle.tg_tests.proofs.index.take.Goals as goal
 

@@ -1,6 +1,6 @@
 use Rattle.std.proofs.Common.{ℕ, List, [], ◌∷◌, ◌++◌, map, take, ap, sym, ◌∙◌}
 use Rattle.std.proofs.lemmas.List.{take_all, take_more}
-use Rattle.tg_rights.proofs.MembershipLemmas.{map_append}
+use Rattle.tg_lists.proofs.MembershipLemmas.{map_append}
 use Rattle.tg_graph.specs.Parts.{Listed}
 use Rattle.tg_vault.proofs.rebase.serials_in.Goals as goal
 

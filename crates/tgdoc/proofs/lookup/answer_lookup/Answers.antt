@@ -1,6 +1,6 @@
 use Rattle.std.proofs.Common.{◌≡◌, ◌↔◌, ◌∙◌, sym, subst}
 use Rattle.std.proofs.lemmas.Result.{IfOk-weaker}
-use Rattle.tg_rights.specs.Membership.{Contains}
+use Rattle.tg_lists.specs.Membership.{Contains}
 use Rattle.tg_graph.specs.Derivations.{CanShare}
 use Rattle.tg_graph.specs.Protection.{IsVertex}
 use Rattle.tg_sharing.specs.Lookups.{IsListing, present}

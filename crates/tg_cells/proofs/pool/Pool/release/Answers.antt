@@ -1,6 +1,6 @@
 use Rattle.std.proofs.Common.{List, ap, arith, refl}
 use Rattle.std.proofs.lemmas.List.{length-map}
-use Rattle.tg_rights.proofs.ColumnsLemmas.{both_changed, with_left_length}
+use Rattle.tg_lists.proofs.ColumnsLemmas.{both_changed, with_left_length}
 use Rattle.tg_cells.specs.declared.pool.Cell.{Cell}
 use Rattle.tg_cells.specs.Pool.{whole}
 use Rattle.tg_cells.proofs.pool.Pool.release.Goals as goal

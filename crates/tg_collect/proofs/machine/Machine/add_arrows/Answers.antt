@@ -1,6 +1,6 @@
 use Rattle.std.proofs.Common.{◌++◌, ◌∷◌, [], append-nil, append_assoc, arith, ap, length, subst, sym, ◌∙◌, List}
-use Rattle.tg_rights.specs.Membership.{Contains}
-use Rattle.tg_rights.proofs.MembershipLemmas.{contains_middle}
+use Rattle.tg_lists.specs.Membership.{Contains}
+use Rattle.tg_lists.proofs.MembershipLemmas.{contains_middle}
 use Rattle.tg_cells.specs.Lists.{Edge}
 use Rattle.tg_heap.specs.Graph.{edges}
 use Rattle.tg_heap.specs.Marking.{remaining}

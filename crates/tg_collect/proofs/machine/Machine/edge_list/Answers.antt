@@ -1,5 +1,5 @@
 use Rattle.std.proofs.Common.{◌++◌, ◌∷◌, []}
-use Rattle.tg_rights.proofs.MembershipLemmas.{map_append}
+use Rattle.tg_lists.proofs.MembershipLemmas.{map_append}
 use Rattle.tg_collect.proofs.FiguresLemmas.{turn}
 use Rattle.tg_collect.proofs.machine.Machine.edge_list.Goals as goal
 

@@ -1,5 +1,5 @@
 use Rattle.std.proofs.Common.{sym, ap, List, ◌∙◌, subst, length}
-use Rattle.tg_rights.specs.Membership.{Contains}
+use Rattle.tg_lists.specs.Membership.{Contains}
 use Rattle.tg_slots.specs.Table.{Table}
 use Rattle.tg_slots.proofs.FreshLemmas.{nones_length}
 use Rattle.tg_cells.specs.Lists.{Edge}

@@ -1,5 +1,5 @@
 use Rattle.std.proofs.Common.{ℕ, List, length, ◌∙◌, ap, cond, eqb, set, arith}
-use Rattle.tg_rights.proofs.MembershipLemmas.{split_at}
+use Rattle.tg_lists.proofs.MembershipLemmas.{split_at}
 use Rattle.tg_index.specs.declared.buckets.Link.{Link}
 use Rattle.tg_index.specs.Rows.{row}
 use Rattle.tg_index.specs.Links.{with_previous, with_next}

@@ -1,7 +1,7 @@
 use Rattle.std.proofs.Common.{◌≡◌, ℕ, ◌⊎◌}
 use Rattle.std.specs.Map.{keys_of}
+use Rattle.tg_lists.specs.Membership.{Contains}
 use Rattle.tg_rights.specs.Letters.{Letters}
-use Rattle.tg_rights.specs.Membership.{Contains}
 use Rattle.tg_graph.specs.Protection.{IsEdge, label}
 use Rattle.tg_sharing.specs.Growing.{Continues}
 use Rattle.tg_sharing.specs.Prospects.{IsGathered}

@@ -1,6 +1,6 @@
 use Rattle.std.proofs.Common.{◌≡◌, ℕ, sym, subst, inl, inr, arith}
 use Rattle.std.specs.Map.{keys_of}
-use Rattle.tg_rights.specs.Membership.{Contains}
+use Rattle.tg_lists.specs.Membership.{Contains}
 use Rattle.tg_sharing.specs.Marking.{ArePairClosed, size}
 use Rattle.tg_sharing.proofs.LabelsLemmas.{Labels, edge_listed, entry_label}
 use Rattle.tg_sharing.proofs.MarkingLemmas.{Goes-refl, Goes-trans, pair_before}

@@ -1,6 +1,6 @@
 use Rattle.std.proofs.Common.{List, ap, arith, min, refl, vec_capacity}
-use Rattle.tg_rights.proofs.ColumnsLemmas.{right_length, right_read, right_set}
-use Rattle.tg_rights.proofs.columns.Columns.right_mut.Goals as goal
+use Rattle.tg_lists.proofs.ColumnsLemmas.{right_length, right_read, right_set}
+use Rattle.tg_lists.proofs.columns.Columns.right_mut.Goals as goal
 
 pub index_mut-requires : goal.index_mut-requires
 index_mut-requires g c = let within = rw (← c.self.view_is) at c.requires in let same = right_length c.self.inside.left.items c.self.inside.right.items c.self.invariant in omega arith

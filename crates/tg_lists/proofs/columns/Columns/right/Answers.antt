@@ -1,6 +1,6 @@
 use Rattle.std.proofs.Common.{arith}
-use Rattle.tg_rights.proofs.ColumnsLemmas.{right_length, right_read}
-use Rattle.tg_rights.proofs.columns.Columns.right.Goals as goal
+use Rattle.tg_lists.proofs.ColumnsLemmas.{right_length, right_read}
+use Rattle.tg_lists.proofs.columns.Columns.right.Goals as goal
 
 pub index-requires : goal.index-requires
 index-requires g c = let within = rw (← c.self.view_is) at c.requires in let same = right_length c.self.inside.left.items c.self.inside.right.items c.self.invariant in omega arith

@@ -1,15 +1,8 @@
--- Lists of which one gets an element in front, or loses one, and what is in them then.
+-- Lists in a list, of which one gets an element in front, or loses one, and what is in them then.
 use Rattle.std.proofs.Common.{◌≡◌, ◌≢◌, ℕ, ◌<◌, List, [], ◌∷◌, ◌++◌, length, ◌⊎◌, inl, inr, sym, ◌∙◌, subst, ap, refl, set, get_or, arith, length-set, get_or-set_same, get_or-set_other}
 use Rattle.std.proofs.lemmas.Bool.{cases_eq}
-use Rattle.tg_rights.specs.Membership.{Contains}
-use Rattle.tg_rights.proofs.MembershipLemmas.{contains_append, contains_left, contains_right, contains_around}
-
--- An element is the one in the middle, or one of the rest.
-pub contains_apart : {X : Type 0} (p r : List X) (y x : X) → Contains (p ++ y ∷ r) x → (x ≡ y) ⊎ Contains (p ++ r) x
-contains_apart p r y x h = elim (contains_append p (y ∷ r) x h) [
-  | inl a ↦ inr (contains_left p r x a)
-  | inr b ↦ elim b [ inl is ↦ inl is | inr c ↦ inr (contains_right p r x c) ]
-]
+use Rattle.tg_lists.specs.Membership.{Contains}
+use Rattle.tg_lists.proofs.MembershipLemmas.{contains_around, contains_apart}
 
 -- One of the lists has got an element in front.
 pub added : {X : Type 0} (lists : List (List X)) (b : ℕ) (x : X) (a : ℕ) (y : X) → b < length lists → Contains (get_or (set lists b (x ∷ get_or lists b [])) a []) y → ((a ≡ b) × (y ≡ x)) ⊎ Contains (get_or lists a []) y

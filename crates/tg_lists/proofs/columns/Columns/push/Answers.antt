@@ -1,6 +1,6 @@
 use Rattle.std.proofs.Common.{vec_capacity}
-use Rattle.tg_rights.proofs.ColumnsLemmas.{appended, both_room, left_length, room_grows}
-use Rattle.tg_rights.proofs.columns.Columns.push.Goals as goal
+use Rattle.tg_lists.proofs.ColumnsLemmas.{appended, both_room, left_length, room_grows}
+use Rattle.tg_lists.proofs.columns.Columns.push.Goals as goal
 
 pub append-requires : goal.append-requires
 append-requires g c =

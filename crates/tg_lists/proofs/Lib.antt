@@ -1,0 +1,3 @@
+pub mod ColumnsLemmas
+pub mod MembershipLemmas
+pub mod NestedLemmas
