@@ -2,7 +2,6 @@
 #![tactic(auto)]
 
 mod answering;
-mod failing;
 mod fault;
 mod input_lines;
 mod line_buffer;
@@ -17,7 +16,6 @@ mod wording;
 mod write_line;
 
 pub use answering::{Finished, Over, Responder, Said, Text, answer_lines, text_of_answer};
-pub use failing::{FailingReader, FailingWriter, Failure};
 pub use fault::TalkFault;
 pub use input_lines::{InputLines, Next};
 pub use line_buffer::{Found, LineBuffer, MOST_LINES};

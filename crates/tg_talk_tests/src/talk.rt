@@ -16,8 +16,9 @@ use std::marker::Brand;
 use std::rt::Clock;
 use std::sync::Wait;
 use std::sync::ledger::{Blank, Ledger};
+use tg_failing::{FailingReader, FailingWriter, Failure};
 use tg_share::{Ended, Open, PARTS, Shared};
-use tg_talk::{FailingReader, FailingWriter, Failure, TalkFault, Talked, Watched, buffered, talk};
+use tg_talk::{TalkFault, Talked, Watched, buffered, talk};
 use tg_vault::Vault;
 use tg_wire::read_config;
 

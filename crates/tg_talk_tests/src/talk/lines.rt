@@ -3,9 +3,8 @@ ghost use Rattle.std.specs.Prelude.{◌≡◌, false};
 ghost use Rattle.tg_talk.specs.Devices.{has_failed};
 
 use std::alloc::{AllocError, Global};
-use tg_talk::{
-    FailingReader, FailingWriter, Failure, Found, InputLines, LineBuffer, Next, Watched, send_line,
-};
+use tg_failing::{FailingReader, FailingWriter, Failure};
+use tg_talk::{Found, InputLines, LineBuffer, Next, Watched, send_line};
 
 pub const FAILURES: &[Failure] = &[Failure::Error, Failure::TakesNone];
 

@@ -6,7 +6,8 @@ use std::io;
 use std::io::{ErrorKind, Read, Write};
 use std::rt::Clock;
 use std::sync::Wait;
-use tg_talk::{FailingReader, FailingWriter, Failure, Steady};
+use tg_failing::{FailingReader, FailingWriter, Failure};
+use tg_talk::Steady;
 
 /// A device of single bytes, three calls of which are interrupted before each that is not.
 #[derive(Drop)]

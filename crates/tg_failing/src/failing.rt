@@ -1,11 +1,11 @@
-//! A reader and a writer that fail at a given call: for tests of what reads and writes lines.
+//! A reader and a writer of single bytes that fail at a given call.
 
 ghost use Rattle.std.specs.Prelude.{Some};
 
 use std::io;
 use std::io::{Read, Write};
 
-/// Returns one byte a read, and fails at the read after `reads` others. For tests.
+/// Returns one byte a read, and fails at the read after `reads` others.
 #[derive(Drop)]
 pub struct FailingReader<'a> {
     /// The bytes that are left.
@@ -36,7 +36,7 @@ pub enum Failure {
     TakesNone,
 }
 
-/// Takes one byte a write, and fails at the writes after `writes` others. For tests.
+/// Takes one byte a write, and fails at the writes after `writes` others.
 #[derive(Drop)]
 pub struct FailingWriter<'a> {
     /// The bytes that were taken, which a test can look at afterwards.
