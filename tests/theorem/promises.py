@@ -13,7 +13,7 @@ from theorem.imports import Place
 from theorem.sources import Sources
 
 HEADLINE = Place("tg_vault/specs/Headline.antt", "Headline")
-# By these a step of the vault only says more of its store.
+# By these a `VaultStep` says more of the store than the main theorem does.
 SKIPPED = frozenset(
     {
         Place("tg_vault/specs/StoreSteps.antt", "StoreStep"),

@@ -1,4 +1,4 @@
--- Courses with one more event, and the run that they make.
+-- Courses with one more event, what the headline says of them, and the run that they make.
 use Rattle.std.proofs.Common.{◌≡◌, ℕ, ◌+◌, ◌<◌, List, [], ◌∷◌, ◌++◌, length, take, get_or, length-append, refl, sym, ap, subst, ◌∙◌}
 use Rattle.std.proofs.lemmas.List.{take_more}
 use Rattle.tg_vault.specs.declared.event.Event.{Event}
@@ -6,7 +6,9 @@ use Rattle.tg_vault.specs.declared.event.Answer.{Answer}
 use Rattle.tg_graph.specs.Fullness.{Limits}
 use Rattle.tg_vault.specs.World.{Run}
 use Rattle.tg_vault.specs.Contents.{Contents, RunOf, Keeps, moment}
+use Rattle.tg_vault.specs.Fits.{Fits}
 use Rattle.tg_vault.specs.Course.{Course, VaultStep}
+use Rattle.tg_vault.specs.Headline.{EventCourse}
 
 pub keeps_on : (old mid new : Contents) → Keeps old mid → Keeps mid new → Keeps old new
 keeps_on old mid new first next = record { opening = next.opening ∙ first.opening; limits = next.limits ∙ first.limits; key = next.key ∙ first.key }
@@ -34,18 +36,39 @@ course_append u v w (e ∷ es) fs (a ∷ answers) more first then = (first.0, fi
 course_append u v w [] fs (a ∷ answers) more first then = absurd first
 course_append u v w (e ∷ es) fs [] more first then = absurd first
 
--- a course is a run of the world
-pub course_run : (v : Contents) (es : List Event) (answers : List Answer) (w : Contents) → Course v es answers w → RunOf v es answers w
-course_run v [] [] w same = ap moment same
-course_run v (e ∷ es) (a ∷ answers) w course =
+-- what the headline says of a course
+pub course_events : (v : Contents) (es : List Event) (answers : List Answer) (w : Contents) → Course v es answers w → EventCourse v es answers w
+course_events v [] [] w same = same
+course_events v (e ∷ es) (a ∷ answers) w course =
+    let goes : VaultStep v e a course.0 = course.1 in
+    (course.0, record { step = goes.step; keeps = goes.keeps; told = goes.told; fits = goes.fits }, course_events course.0 es answers w course.2)
+course_events v [] (a ∷ answers) w course = absurd course
+course_events v (e ∷ es) [] w course = absurd course
+
+-- by that alone it is a run of the world, which keeps what no event changes, and its end fits if its beginning does
+events_run : (v : Contents) (es : List Event) (answers : List Answer) (w : Contents) → EventCourse v es answers w → RunOf v es answers w
+events_run v [] [] w same = ap moment same
+events_run v (e ∷ es) (a ∷ answers) w course =
     let u : Contents = course.0 in
-    let rest : RunOf u es answers w = course_run u es answers w course.2 in
+    let rest : RunOf u es answers w = events_run u es answers w course.2 in
     (moment u, course.1.step, subst (λ (l : Limits). Run l (moment u) es answers (moment w)) course.1.keeps.limits rest)
-course_run v [] (a ∷ answers) w course = absurd course
-course_run v (e ∷ es) [] w course = absurd course
+events_run v [] (a ∷ answers) w course = absurd course
+events_run v (e ∷ es) [] w course = absurd course
+
+events_keep : (v : Contents) (es : List Event) (answers : List Answer) (w : Contents) → EventCourse v es answers w → Keeps v w
+events_keep v [] [] w same = record { opening = ap (λ (k : Contents). k.opening) same; limits = ap (λ (k : Contents). k.limits) same; key = ap (λ (k : Contents). k.store.key) same }
+events_keep v (e ∷ es) (a ∷ answers) w course = keeps_on v course.0 w course.1.keeps (events_keep course.0 es answers w course.2)
+events_keep v [] (a ∷ answers) w course = absurd course
+events_keep v (e ∷ es) [] w course = absurd course
+
+pub events_fit : (v : Contents) (es : List Event) (answers : List Answer) (w : Contents) → Fits v → EventCourse v es answers w → Fits w
+events_fit v [] [] w fits same = subst Fits (sym same) fits
+events_fit v (e ∷ es) (a ∷ answers) w fits course = events_fit course.0 es answers w course.1.fits course.2
+events_fit v [] (a ∷ answers) w fits course = absurd course
+events_fit v (e ∷ es) [] w fits course = absurd course
+
+pub course_run : (v : Contents) (es : List Event) (answers : List Answer) (w : Contents) → Course v es answers w → RunOf v es answers w
+course_run v es answers w course = events_run v es answers w (course_events v es answers w course)
 
 pub course_keeps : (v : Contents) (es : List Event) (answers : List Answer) (w : Contents) → Course v es answers w → Keeps v w
-course_keeps v [] [] w same = record { opening = ap (λ (k : Contents). k.opening) same; limits = ap (λ (k : Contents). k.limits) same; key = ap (λ (k : Contents). k.store.key) same }
-course_keeps v (e ∷ es) (a ∷ answers) w course = keeps_on v course.0 w course.1.keeps (course_keeps course.0 es answers w course.2)
-course_keeps v [] (a ∷ answers) w course = absurd course
-course_keeps v (e ∷ es) [] w course = absurd course
+course_keeps v es answers w course = events_keep v es answers w (course_events v es answers w course)

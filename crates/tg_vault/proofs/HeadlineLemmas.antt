@@ -10,15 +10,14 @@ use Rattle.tg_graph.specs.Fullness.{Limits, MayBeFull, Permitted}
 use Rattle.tg_graph.specs.Rules.{Allowed, Denied, next_graph}
 use Rattle.tg_vault.specs.declared.entry.Entry.{Entry}
 use Rattle.tg_vault.specs.History.{EntryRun}
-use Rattle.tg_vault.specs.Headline.{EachEntry, IsCarriedOutWhenAllowed, IsDenialNamed}
+use Rattle.tg_vault.specs.Headline.{EachEntry, EventCourse, IsCarriedOutWhenAllowed, IsDenialNamed}
 use Rattle.tg_vault.specs.Laws.{CoursesHaveTheHeadline}
 use Rattle.tg_vault.specs.Contents.{graph_now}
-use Rattle.tg_vault.specs.Course.{IsCoherent}
 use Rattle.tg_vault.specs.Fits.{Fits}
 use Rattle.tg_collect.specs.Runs as runs
 use Rattle.tg_vault.proofs.AddedLemmas.{runs_add}
-use Rattle.tg_vault.proofs.CourseLemmas.{course_run}
-use Rattle.tg_vault.proofs.CycleLemmas.{course_complete, course_bounded, course_coherent}
+use Rattle.tg_vault.proofs.CourseLemmas.{course_events, course_run, events_fit}
+use Rattle.tg_vault.proofs.CycleLemmas.{course_complete, course_bounded}
 use Rattle.tg_vault.proofs.FitsLemmas.{fits_are}
 use Rattle.tg_vault.proofs.DecidedLemmas.{not_both, judged_once}
 
@@ -73,14 +72,14 @@ each_denied limits = each IsDenialNamed limits (denied limits) []
 
 pub courses_have_the_headline : runs.IsComplete → runs.IsBounded → CoursesHaveTheHeadline
 courses_have_the_headline complete bounded old es answers new coherent course =
-    let end : IsCoherent new = course_coherent old es answers new coherent course in
-    let fits : Fits new = fits_are new end.ties end.store in (
+    let events : EventCourse old es answers new = course_events old es answers new course in
+    let fits : Fits new = events_fit old es answers new (fits_are old coherent.ties coherent.store) events in (
       record {
         run = course_run old es answers new course;
         added = runs_add old es answers new (course_run old es answers new course);
         carried_out = each_carried_out new.limits new.opening new.history (graph_now new) fits.legal.graphs;
         denied = each_denied new.limits new.opening new.history (graph_now new) fits.legal.graphs;
-        course = course;
+        course = events;
         kept = fits;
         complete = course_complete complete old es answers new coherent course;
       },

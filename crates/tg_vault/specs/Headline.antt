@@ -13,10 +13,10 @@ use Rattle.tg_graph.specs.Rules.{Allowed, Denied, next_graph}
 use Rattle.tg_vault.specs.declared.entry.Entry.{Entry}
 use Rattle.tg_vault.specs.declared.event.Event.{Event}
 use Rattle.tg_vault.specs.declared.event.Answer.{Answer}
-use Rattle.tg_vault.specs.Contents.{Contents, RunOf}
+use Rattle.tg_vault.specs.Contents.{Contents, Keeps, RunOf, StepOf}
 use Rattle.tg_vault.specs.Added.{AddsAsked}
 use Rattle.tg_vault.specs.Fits.{Fits}
-use Rattle.tg_vault.specs.Course.{Course}
+use Rattle.tg_vault.specs.StoreSteps.{StoreAnswer}
 use Rattle.tg_vault.specs.Cycles.{IsComplete}
 
 -- something holds of each entry, and of the graph that the entries before it leave, from which nothing is ever
@@ -37,6 +37,20 @@ pub record IsCarriedOutWhenAllowed (limits : Limits) (G : Protection) (e : Entry
 abbrev pub IsDenialNamed : Protection → Entry → Type 0
 IsDenialNamed G e = (rule : Rule) (cause : Cause) → (e.outcome ≡ outcome.Denied rule cause) ↔ Denied G e.actor e.command rule cause
 
+-- one event: its answer by the world, what the answer says of the store, and again a vault whose store fits the graph of
+-- the history
+pub record EventStep (old : Contents) (e : Event) (a : Answer) (new : Contents) : Type 0 where
+  pub step : StepOf old e a new
+  pub keeps : Keeps old new
+  pub told : StoreAnswer old e a new
+  pub fits : Fits new
+
+-- the events have these answers, one after another, with the contents in between
+abbrev pub EventCourse : Contents → List Event → List Answer → Contents → Type 0
+EventCourse old [] [] new = new ≡ old
+EventCourse old (e ∷ es) (a ∷ answers) new = (between : Contents) × EventStep old e a between × EventCourse between es answers new
+EventCourse old _ _ new = ⊥
+
 -- the four clauses of a run, whose answers are those of the world; what is kept is kept after each event on the way,
 -- too
 pub record Headline (old : Contents) (es : List Event) (answers : List Answer) (new : Contents) : Type 0 where
@@ -44,6 +58,6 @@ pub record Headline (old : Contents) (es : List Event) (answers : List Answer) (
   pub added : AddsAsked old answers new
   pub carried_out : EachEntry (IsCarriedOutWhenAllowed new.limits) new.opening new.history
   pub denied : EachEntry IsDenialNamed new.opening new.history
-  pub course : Course old es answers new
+  pub course : EventCourse old es answers new
   pub kept : Fits new
   pub complete : IsComplete old es answers new
