@@ -11,7 +11,7 @@ use Rattle.tg_graph.specs.Fullness.{Limits}
 use Rattle.tg_vault.specs.History.{graph_of}
 use Rattle.tg_vault.specs.World.{Moment, Step, Run}
 use Rattle.tg_vault.specs.Contents.{Contents, RunOf, moment}
-use Rattle.tg_vault.specs.Added.{asked_in, replies_from, AddsAsked}
+use Rattle.tg_vault.specs.Headline.{asked_in, replies_from, AddsAsked}
 
 -- what answers add to a moment
 pub record Adds (m : Moment) (answers : List Answer) (n : Moment) : Type 0 where

@@ -35,7 +35,8 @@ use Rattle.tg_collect.proofs.StoreLemmas.{edge_in, in_edge}
 use Rattle.tg_vault.specs.World.{new_agents, new_target, with_target}
 use Rattle.tg_vault.specs.declared.carry_out.State.{State}
 use Rattle.tg_vault.specs.Seen.{seen, seen_in, serials, set_of}
-use Rattle.tg_vault.specs.CarriedOut.{CarriedIn, EdgeMoves, IsUsedUp, Joined, Made, NoRoom, Stores, copies, denied, serial_of, settled}
+use Rattle.tg_vault.specs.Exact.{IsUsedUp}
+use Rattle.tg_vault.specs.CarriedOut.{CarriedIn, EdgeMoves, Joined, Made, NoRoom, Stores, copies, denied, serial_of, settled}
 use Rattle.tg_vault.proofs.EdgeLemmas.{edge_seen, edges_seen, joined_some, label_cut, label_seen, seen_edge}
 use Rattle.tg_vault.proofs.PlaceLemmas.{serial_is}
 use Rattle.tg_vault.proofs.SerialsLemmas.{serials_left, serials_pushed}

@@ -13,7 +13,7 @@ use Rattle.tg_collect.proofs.SeatLemmas.{acted_same}
 use Rattle.tg_collect.proofs.RunLemmas.{acted_parked, acted_slots, agents_set, collected_parked, collected_part, shaded_graph, shaded_others, shaded_pending, shaded_was}
 use Rattle.tg_vault.specs.History.{WasPrincipal}
 use Rattle.tg_vault.specs.Seen.{seen}
-use Rattle.tg_vault.specs.World.{at_seat, with_agents, with_pending, with_seats, with_used}
+use Rattle.tg_vault.specs.World.{at_seat}
 use Rattle.tg_vault.specs.Contents.{Contents, graph_now, held_now, moment}
 use Rattle.tg_vault.specs.Fits.{IsOfSeat, IsTied, Ties}
 use Rattle.tg_vault.specs.StoreSteps.{SessionStep}
@@ -114,7 +114,7 @@ module _ (v : Contents) (j : Ties v) (t : Stored) where
         still_held acted (shaded_graph v.store t seat answer shaded) (shaded_others v.store t seat answer shaded).0
         (one_fewer (pending v.store) (pending t) seat (shaded_pending v.store t seat answer shaded)) (same_fewer (agents v.store) (agents t) (shaded_others v.store t seat answer shaded).1) (shaded_others v.store t seat answer shaded).2
 
-    pub shaded_step : Acted v.store t None None → (answer ≡ pending_of v.store seat) × (moment (record v { store = t }) ≡ with_pending (moment v) (set (pending v.store) seat None))
+    pub shaded_step : Acted v.store t None None → (answer ≡ pending_of v.store seat) × (moment (record v { store = t }) ≡ record (moment v) { world = record (moment v).world { pending = set (pending v.store) seat None } })
     shaded_step acted = (
       shaded_was v.store t seat answer shaded,
       λ i. record {
@@ -136,7 +136,7 @@ module _ (v : Contents) (j : Ties v) (t : Stored) where
         still_joined (collected_part c (graph_now v).next (graph_now v).names (graph_now v).retired (graph_now v) j.part sv st) (λ x h. elim (collected_parked c sv x h) [ inl parked ↦ j.parked x parked | inr was ↦ of_graph v j sv x was ])
         (ap (λ rs. principals (record v.store { roots = rs })) c.roots) (same_fewer (pending v.store) (pending t) (ap (λ rs. pending (record v.store { roots = rs })) c.roots)) (same_fewer (agents v.store) (agents t) (ap (λ rs. agents (record v.store { roots = rs })) c.roots)) c.step.size c.cells (omega arith) c.free_cells.0
 
-    pub collected_step : (used : ℕ) × ((moment v).world.used ≡ used + count) × (moment (record v { store = t }) ≡ with_used (moment v) used)
+    pub collected_step : (used : ℕ) × ((moment v).world.used ≡ used + count) × (moment (record v { store = t }) ≡ record (moment v) { world = record (moment v).world { used = used } })
     collected_step = (
       v.limits.slots - free_slots t,
       (let all = st.slots 0 in let many = j.slots in let same = c.step.size in let moved = c.free_slots in omega arith),
@@ -168,7 +168,7 @@ module _ (v : Contents) (next : ℕ) (retired : List ℕ) (tied : IsTied v next 
     no_agent : (x : ℕ) → at_seat (agents t) seat ≡ Some x → ⊥
     no_agent x at = set_none (agents v.store) seat x (sym (ap (λ table. at_seat table seat) gone) ∙ at)
 
-  pub left_step : moment (record emptied { store = t }) ≡ with_agents (with_seats (moment v) (set v.seats seat None)) (set (agents v.store) seat None)
+  pub left_step : moment (record emptied { store = t }) ≡ record (moment v) { world = record (moment v).world { seats = set v.seats seat None; agents = set (agents v.store) seat None } }
   left_step = λ i. record {
     world = record {
       graph = graph_now v;

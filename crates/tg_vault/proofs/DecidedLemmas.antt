@@ -31,7 +31,8 @@ use Rattle.tg_vault.specs.History.{MayAsk, WasPrincipal}
 use Rattle.tg_vault.specs.World.{ExactSlots, World, acting, actor_at, at_seat}
 use Rattle.tg_vault.specs.Contents.{Contents, graph_now, held_now, moment}
 use Rattle.tg_vault.specs.Fits.{Ties}
-use Rattle.tg_vault.specs.CarriedOut.{Decided, IsUsedUp}
+use Rattle.tg_vault.specs.Exact.{IsUsedUp}
+use Rattle.tg_vault.specs.CarriedOut.{Decided}
 use Rattle.tg_vault.proofs.HistoryLemmas.{active_subject, assumed_subject, legal_keeps}
 use Rattle.tg_vault.proofs.SerialsLemmas.{is_listed, listed}
 use Rattle.tg_vault.proofs.PlaceLemmas.{seat_contains}

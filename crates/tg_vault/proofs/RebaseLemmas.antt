@@ -32,7 +32,7 @@ use Rattle.tg_vault.specs.declared.entry.Entry.{Entry}
 use Rattle.tg_vault.specs.declared.vault.Swept.{Swept}
 use Rattle.tg_vault.specs.History.{EntryRun, EntryStep, MayAsk}
 use Rattle.tg_vault.specs.Seen.{set_of}
-use Rattle.tg_vault.specs.World.{Moment, NobodySits, Run, with_used}
+use Rattle.tg_vault.specs.World.{Moment, NobodySits, Run}
 use Rattle.tg_vault.specs.Contents.{Contents, graph_now, held_now, moment}
 use Rattle.tg_vault.specs.Fits.{HasSlot, IsRoot, IsTied}
 use Rattle.tg_vault.specs.Course.{Course, IsCoherent}
@@ -47,6 +47,10 @@ use Rattle.tg_vault.proofs.HistoryLemmas.{IsLawful, active_subject, asks_subject
 use Rattle.tg_vault.proofs.ReopeningLemmas.{kept_retired, reopening_graph}
 use Rattle.tg_vault.proofs.RetiredLemmas.{leave_allowed, retired_alike, retired_leaves}
 use Rattle.tg_vault.proofs.SweptLemmas.{collects, noted}
+
+-- the moment with this number of slots in use
+abbrev with_used : Moment → ℕ → Moment
+with_used m used = record m { world = record m.world { used = used } }
 
 -- collector steps change nothing of the world but the number of slots in use
 collects_keep : (limits : Limits) (m : Moment) (notes : List Note) (n : Moment) → Run limits m (collects notes) (noted notes) n → (used : ℕ) × (n ≡ with_used m used)

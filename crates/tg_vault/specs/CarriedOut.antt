@@ -18,7 +18,7 @@ use Rattle.tg_graph.specs.Terms as effect
 use Rattle.tg_graph.specs.Terms.{Does, terms}
 use Rattle.tg_graph.specs.Protection.{Protection, label}
 use Rattle.tg_graph.specs.Rules.{Allowed, Denied, is_new, last_serial, next_graph, reply_of}
-use Rattle.tg_graph.specs.Fullness.{NewEdge, edges_at}
+use Rattle.tg_graph.specs.Fullness.{edges_at}
 use Rattle.tg_collect.specs.Stored.{Stored}
 use Rattle.tg_collect.specs.Readings.{IsEdgeIn, agents, pending, principals, free_slots}
 use Rattle.tg_collect.specs.Sessions.{EdgeStored, VertexStored, PrincipalStored, Acted}
@@ -26,12 +26,7 @@ use Rattle.tg_vault.specs.declared.carry_out.Answered.{Answered}
 use Rattle.tg_vault.specs.declared.carry_out.State.{State}
 use Rattle.tg_vault.specs.World.{agents_after, target_of, with_target, slots_taken}
 use Rattle.tg_vault.specs.Seen.{seen_in, serials}
-
--- the first of serials, slots and cells that an effect needs and that is used up
-abbrev pub IsUsedUp : Protection → (free_slots free_cells : ℕ) → Does → Which → Type 0
-IsUsedUp G free_slots free_cells d which.Serials = (is_new d ≡ true) × (last_serial < G.next)
-IsUsedUp G free_slots free_cells d which.Slots = (is_new d ≡ true) × (G.next ≤ last_serial) × (free_slots ≡ 0)
-IsUsedUp G free_slots free_cells d which.Cells = NewEdge G d × (is_new d ≡ true → free_slots ≢ 0) × (free_cells ≡ 0)
+use Rattle.tg_vault.specs.Exact.{IsUsedUp}
 
 -- how a command of x is decided: denied if the rules deny it, else full if something is used up, else allowed
 abbrev pub Decided : Protection → (free_slots free_cells : ℕ) → ℕ → Command → Outcome → Type 0

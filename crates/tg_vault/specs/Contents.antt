@@ -8,7 +8,7 @@ use Rattle.tg_graph.specs.Fullness.{Limits}
 use Rattle.tg_graph.specs.Opening as config
 use Rattle.tg_graph.specs.Codes.{protection_code}
 use Rattle.tg_collect.specs.Stored.{Stored}
-use Rattle.tg_collect.specs.Readings.{IsParkedIn, agent_of, agents, pending, pending_of, free_slots, phase}
+use Rattle.tg_collect.specs.Readings.{IsParkedIn, agent_of, agents, held, pending, pending_of, free_slots, phase}
 use Rattle.tg_collect.specs.contracts.store.Store as store
 use Rattle.tg_vault.specs.declared.entry.Entry.{Entry}
 use Rattle.tg_vault.specs.contracts.entry.Entry as entry
@@ -20,7 +20,6 @@ use Rattle.tg_graph.specs.declared.member.Member.{Member}
 use Rattle.tg_graph.specs.contracts.member.Member as member
 use Rattle.tg_vault.specs.History.{Legal, WasPrincipal, graph_of}
 use Rattle.tg_vault.specs.World.{Moment, Step, Run, at_seat}
-use Rattle.tg_vault.specs.Seen.{seen}
 
 -- the opening graph, the active principals, the numbers of slots and cells, who sits on each seat, what is stored, and
 -- the history. The graph of the history exists in definitions only
@@ -59,7 +58,7 @@ graph_now v = graph_of v.opening v.history
 
 -- what is held, as a graph with the next serial and the principals of the history
 abbrev pub held_now : Contents → Protection
-held_now v = seen v.store (graph_now v).next (graph_now v).names (graph_now v).retired
+held_now v = record (held v.store (graph_now v).next) { names = (graph_now v).names; retired = (graph_now v).retired }
 
 -- the world of the vault, with its entries
 abbrev pub moment : Contents → Moment

@@ -5,7 +5,8 @@ use Rattle.tg_vault.specs.declared.event.Answer.{Answer}
 use Rattle.tg_collect.specs.Views.{IsStore}
 use Rattle.tg_vault.specs.Contents.{Contents, StepOf, Keeps}
 use Rattle.tg_vault.specs.Fits.{Fits, Ties}
-use Rattle.tg_vault.specs.StoreSteps.{StoreStep, StoreAnswer}
+use Rattle.tg_vault.specs.Exact.{StoreAnswer}
+use Rattle.tg_vault.specs.StoreSteps.{StoreStep}
 
 -- a vault is coherent: what it keeps is tied to its store, and the store is a store
 pub record IsCoherent (v : Contents) : Type 0 where

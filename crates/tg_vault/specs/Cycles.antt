@@ -18,24 +18,14 @@ use Rattle.tg_vault.specs.Course.{Course}
 -- the phase after these answers: that of the latest note, or the one before any
 abbrev pub phase_after : Phase → List Answer → Phase
 phase_after phase [] = phase
-phase_after phase (answer.Hello x ∷ answers) = phase_after phase answers
-phase_after phase (answer.Bye ∷ answers) = phase_after phase answers
-phase_after phase (answer.Asked number reply ∷ answers) = phase_after phase answers
-phase_after phase (answer.Shaded target ∷ answers) = phase_after phase answers
 phase_after phase (answer.Noted note ∷ answers) = phase_after note.phase answers
-phase_after phase (answer.Seat fault ∷ answers) = phase_after phase answers
-phase_after phase (answer.Ask fault ∷ answers) = phase_after phase answers
+phase_after phase (_ ∷ answers) = phase_after phase answers
 
 -- the notes among the answers
 abbrev pub notes_in : List Answer → List Note
 notes_in [] = []
-notes_in (answer.Hello x ∷ answers) = notes_in answers
-notes_in (answer.Bye ∷ answers) = notes_in answers
-notes_in (answer.Asked number reply ∷ answers) = notes_in answers
-notes_in (answer.Shaded target ∷ answers) = notes_in answers
 notes_in (answer.Noted note ∷ answers) = note ∷ notes_in answers
-notes_in (answer.Seat fault ∷ answers) = notes_in answers
-notes_in (answer.Ask fault ∷ answers) = notes_in answers
+notes_in (_ ∷ answers) = notes_in answers
 
 -- how many cycles end
 abbrev pub ended_in : List Answer → ℕ

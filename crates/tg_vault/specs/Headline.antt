@@ -2,22 +2,40 @@
 -- rules allow it in the graph that is never collected, unless refused as full; every denial names its rule and missing
 -- rights; no vertex reachable from a principal or an unfinished step loses its slot; what is unreachable when a cycle
 -- starts has no slot when the next cycle ends. (A subject that a seat acts for counts as a principal there.)
-use Rattle.std.specs.Prelude.{◌≡◌, ◌↔◌, ◌⊎◌, List, [], ◌∷◌}
+use Rattle.std.specs.Prelude.{◌≡◌, ◌↔◌, ◌⊎◌, ℕ, ◌+◌, List, [], ◌∷◌, ◌++◌, length}
 use Rattle.tg_rights.specs.declared.command.Rule.{Rule}
 use Rattle.tg_rights.specs.declared.outcome.Cause.{Cause}
 use Rattle.tg_rights.specs.declared.outcome.Which.{Which}
 use Rattle.tg_rights.specs.declared.outcome.Outcome.TheVariants as outcome
+use Rattle.tg_rights.specs.declared.outcome.Reply.{Reply}
 use Rattle.tg_graph.specs.Protection.{Protection}
 use Rattle.tg_graph.specs.Fullness.{Limits, MayBeFull}
-use Rattle.tg_graph.specs.Rules.{Allowed, Denied, next_graph}
+use Rattle.tg_graph.specs.Rules.{Allowed, Denied, next_graph, reply_of}
 use Rattle.tg_vault.specs.declared.entry.Entry.{Entry}
 use Rattle.tg_vault.specs.declared.event.Event.{Event}
 use Rattle.tg_vault.specs.declared.event.Answer.{Answer}
-use Rattle.tg_vault.specs.Contents.{Contents, Keeps, RunOf, StepOf}
-use Rattle.tg_vault.specs.Added.{AddsAsked}
+use Rattle.tg_vault.specs.declared.event.Answer.TheVariants as answer
+use Rattle.tg_vault.specs.Contents.{Contents, Keeps, RunOf, StepOf, graph_now}
 use Rattle.tg_vault.specs.Fits.{Fits}
-use Rattle.tg_vault.specs.StoreSteps.{StoreAnswer}
+use Rattle.tg_vault.specs.Exact.{StoreAnswer}
 use Rattle.tg_vault.specs.Cycles.{IsComplete}
+
+-- the numbers and replies of the Asked answers, in order
+abbrev pub asked_in : List Answer → List (ℕ × Reply)
+asked_in [] = []
+asked_in (answer.Asked number reply ∷ answers) = (number, reply) ∷ asked_in answers
+asked_in (_ ∷ answers) = asked_in answers
+
+-- the entries' numbers, from a number on, and replies, from a graph on
+abbrev pub replies_from : Protection → ℕ → List Entry → List (ℕ × Reply)
+replies_from G number [] = []
+replies_from G number (e ∷ es) = (number, reply_of G e.actor e.command e.outcome) ∷ replies_from (next_graph G e.actor e.command e.outcome) (number + 1) es
+
+-- the entries added are those of the Asked answers, in order
+pub record AddsAsked (old : Contents) (answers : List Answer) (new : Contents) : Type 0 where
+  pub added : List Entry
+  pub history : new.history ≡ old.history ++ added
+  pub asked : asked_in answers ≡ replies_from (graph_now old) (length old.history) added
 
 -- something holds of each entry, and of the graph that the entries before it leave, from which nothing is ever
 -- collected

@@ -3,13 +3,12 @@ pub mod History
 pub mod World
 pub mod Seen
 pub mod Acting
-pub mod CarriedOut
 pub mod Contents
 pub mod Fits
 pub mod StoreSteps
 pub mod Exact
+pub mod CarriedOut
 pub mod Agreement
-pub mod Added
 pub mod Course
 pub mod Cycles
 pub mod Headline

@@ -86,27 +86,20 @@ module _ (w : World) (seat : ℕ) where
 
   -- out of memory comes after the seat's faults
   abbrev pub IsAskFault : AskFault → Type 0
-  IsAskFault ask_fault.NoSeat = ask_refusal ≡ Some ask_fault.NoSeat
-  IsAskFault ask_fault.NoActor = ask_refusal ≡ Some ask_fault.NoActor
-  IsAskFault ask_fault.Busy = ask_refusal ≡ Some ask_fault.Busy
   IsAskFault ask_fault.OutOfMemory = ask_refusal ≡ None
+  IsAskFault fault = ask_refusal ≡ Some fault
 
 -- the pending target that an effect leaves, even if the edge was there already
 abbrev pub new_target : Protection → Does → Option ℕ
 new_target G (effect.Joins from α to) = Some to
 new_target G (effect.Makes k α name) = Some G.next
-new_target G (effect.Drops α over) = None
-new_target G (effect.Rewrites over text) = None
-new_target G (effect.Tells over) = None
-new_target G (effect.Lists at) = None
-new_target G effect.Retires = None
 new_target G (effect.Acts agent) = agent
+new_target G _ = None
 
 -- the pending target that a command of x leaves
 abbrev pub target_of : Protection → ℕ → Command → Outcome → Option ℕ
 target_of G x c outcome.Allowed = new_target G (terms x c).does
-target_of G x c (outcome.Denied rule cause) = None
-target_of G x c (outcome.Full which) = None
+target_of G x c _ = None
 
 abbrev pub with_target : List (Option ℕ) → ℕ → Option ℕ → List (Option ℕ)
 with_target pending seat None = pending
@@ -114,26 +107,18 @@ with_target pending seat (Some target) = slice_set pending seat (Some target)
 
 -- for whom the seats act once an effect was carried out at one of them
 abbrev pub new_agents : List (Option ℕ) → (seat : ℕ) → Does → List (Option ℕ)
-new_agents agents seat (effect.Joins from α to) = agents
-new_agents agents seat (effect.Makes k α name) = agents
-new_agents agents seat (effect.Drops α over) = agents
-new_agents agents seat (effect.Rewrites over text) = agents
-new_agents agents seat (effect.Tells over) = agents
-new_agents agents seat (effect.Lists at) = agents
-new_agents agents seat effect.Retires = agents
 new_agents agents seat (effect.Acts agent) = slice_set agents seat agent
+new_agents agents seat _ = agents
 
 -- for whom the seats act after a command of x
 abbrev pub agents_after : List (Option ℕ) → (seat x : ℕ) → Command → Outcome → List (Option ℕ)
 agents_after agents seat x c outcome.Allowed = new_agents agents seat (terms x c).does
-agents_after agents seat x c (outcome.Denied rule cause) = agents
-agents_after agents seat x c (outcome.Full which) = agents
+agents_after agents seat x c _ = agents
 
 -- an allowed create or enrol takes a slot
 abbrev pub slots_taken : ℕ → Command → Outcome → ℕ
 slots_taken x c outcome.Allowed = cond (is_create x c) 1 0
-slots_taken x c (outcome.Denied rule cause) = 0
-slots_taken x c (outcome.Full which) = 0
+slots_taken x c _ = 0
 
 -- the world, and the entries, after an entry
 abbrev pub entered : Moment → Entry → Moment
@@ -146,18 +131,6 @@ entered m e = record {
   };
   history = m.history ++ e ∷ [];
 }
-
-abbrev pub with_seats : Moment → List (Option ℕ) → Moment
-with_seats m seats = record m { world = record m.world { seats = seats } }
-
-abbrev pub with_agents : Moment → List (Option ℕ) → Moment
-with_agents m agents = record m { world = record m.world { agents = agents } }
-
-abbrev pub with_pending : Moment → List (Option ℕ) → Moment
-with_pending m pending = record m { world = record m.world { pending = pending } }
-
-abbrev pub with_used : Moment → ℕ → Moment
-with_used m used = record m { world = record m.world { used = used } }
 
 -- full for slots exactly if the rules allow a create or an enrol, a serial is left for it and each slot is in use
 abbrev pub ExactSlots : Limits → World → ℕ → Command → Outcome → Type 0
@@ -175,23 +148,22 @@ pub record Enters (limits : Limits) (m : Moment) (seat actor : ℕ) (c : Command
 -- the event may have this answer, and lead from one moment to the next
 abbrev pub Step : Limits → Moment → Event → Answer → Moment → Type 0
 Step limits m (event.Hello seat name) (answer.Hello x) n =
-    (hello_fault m.world seat name ≡ None) × (named m.world.graph name ≡ Some x) × (n ≡ with_seats m (slice_set m.world.seats seat (Some x)))
+    (hello_fault m.world seat name ≡ None) × (named m.world.graph name ≡ Some x) × (n ≡ record m { world = record m.world { seats = slice_set m.world.seats seat (Some x) } })
 Step limits m (event.Hello seat name) (answer.Seat fault) n = (hello_fault m.world seat name ≡ Some fault) × (n ≡ m)
-Step limits m (event.Bye seat) answer.Bye n = (bye_fault m.world seat ≡ None) × (n ≡ with_agents (with_seats m (slice_set m.world.seats seat None)) (slice_set m.world.agents seat None))
+Step limits m (event.Bye seat) answer.Bye n = (bye_fault m.world seat ≡ None) × (n ≡ record m { world = record m.world { seats = slice_set m.world.seats seat None; agents = slice_set m.world.agents seat None } })
 Step limits m (event.Bye seat) (answer.Seat fault) n = (bye_fault m.world seat ≡ Some fault) × (n ≡ m)
 Step limits m (event.Ask seat c) (answer.Asked number reply) n =
     (ask_refusal m.world seat ≡ None) × (number ≡ length m.history)
     × ((actor : ℕ) × (actor_at m.world seat ≡ Some actor) × Enters limits m seat actor c reply n)
 Step limits m (event.Ask seat c) (answer.Ask fault) n = IsAskFault m.world seat fault × (n ≡ m)
 Step limits m (event.Shade seat) (answer.Shaded target) n =
-    (shade_fault m.world seat ≡ None) × (target ≡ at_seat m.world.pending seat) × (n ≡ with_pending m (slice_set m.world.pending seat None))
+    (shade_fault m.world seat ≡ None) × (target ≡ at_seat m.world.pending seat) × (n ≡ record m { world = record m.world { pending = slice_set m.world.pending seat None } })
 Step limits m (event.Shade seat) (answer.Seat fault) n = (shade_fault m.world seat ≡ Some fault) × (n ≡ m)
-Step limits m event.Collect (answer.Noted note) n = (used : ℕ) × (m.world.used ≡ used + note.freed) × (n ≡ with_used m used)
+Step limits m event.Collect (answer.Noted note) n = (used : ℕ) × (m.world.used ≡ used + note.freed) × (n ≡ record m { world = record m.world { used = used } })
 Step limits m _ _ n = ⊥
 
 -- the events may have these answers, one after another
 abbrev pub Run : Limits → Moment → List Event → List Answer → Moment → Type 0
 Run limits m [] [] n = n ≡ m
 Run limits m (e ∷ es) (a ∷ answers) n = (between : Moment) × Step limits m e a between × Run limits between es answers n
-Run limits m [] (a ∷ answers) n = ⊥
-Run limits m (e ∷ es) [] n = ⊥
+Run limits m _ _ n = ⊥

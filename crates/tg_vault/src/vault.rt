@@ -10,13 +10,12 @@ ghost use Rattle.tg_collect.specs.Sessions.{AgentLeft, Shaded};
 ghost use Rattle.tg_vault.specs.World.{actor_at, at_seat, bye_fault, shade_fault, ask_refusal, Enters, IsAskFault};
 ghost use Rattle.tg_vault.specs.Contents.{Contents, StepOf, IsFresh, RunOf, Keeps, IsVault, moment};
 ghost use Rattle.tg_vault.specs.Fits.{Fits, IsSmall};
-ghost use Rattle.tg_vault.specs.StoreSteps.{SessionStep, StoreAnswer, StoreStep};
-ghost use Rattle.tg_vault.specs.Added.{AddsAsked};
+ghost use Rattle.tg_vault.specs.StoreSteps.{SessionStep, StoreStep};
 ghost use Rattle.tg_vault.specs.Agreement.{SameForAgreeing};
-ghost use Rattle.tg_vault.specs.Exact.{IsExact};
+ghost use Rattle.tg_vault.specs.Exact.{IsExact, StoreAnswer};
 ghost use Rattle.tg_vault.specs.Course.{Course, IsCoherent, VaultStep};
 ghost use Rattle.tg_vault.specs.Cycles.{IsBounded, IsCycle};
-ghost use Rattle.tg_vault.specs.Headline.{Headline};
+ghost use Rattle.tg_vault.specs.Headline.{AddsAsked, Headline};
 
 use crate::acting::acting_at;
 use crate::carry_out::State;

@@ -1,5 +1,4 @@
 use Rattle.std.proofs.Common.{◌≡◌, ℕ, ◌+◌, subst}
-use Rattle.tg_vault.specs.World.{with_used}
 use Rattle.tg_vault.specs.Contents.{Contents, contents, moment}
 use Rattle.tg_vault.proofs.CollectLemmas.{collected_joins, collected_step}
 use Rattle.tg_vault.proofs.vault.Vault.collect.Goals as goal
@@ -13,5 +12,5 @@ invariant_of-self c = record {
 
 pub returns-clause-step : goal.returns-clause-step
 returns-clause-step c =
-    subst (λ (w : Contents). (used : ℕ) × ((moment w).world.used ≡ used + c.collect-note.result.freed) × (moment (record (contents c.self.inside) { store = c.collect-note.new.self }) ≡ with_used (moment w) used)) c.self.view_is
+    subst (λ (w : Contents). (used : ℕ) × ((moment w).world.used ≡ used + c.collect-note.result.freed) × (moment (record (contents c.self.inside) { store = c.collect-note.new.self }) ≡ record (moment w) { world = record (moment w).world { used = used } })) c.self.view_is
     (collected_step (contents c.self.inside) c.self.invariant.joins c.collect-note.new.self c.soundness.ensures.sound c.soundness-2.ensures.sound _ _ c.collect-note.ensures.collected)

@@ -2,7 +2,7 @@ use Rattle.std.proofs.Common.{◌≡◌, ℕ, ◌<◌, None, Some, set, subst, a
 use Rattle.std.proofs.lemmas.Grind.{common_steps}
 use Rattle.tg_rights.specs.declared.limits.TheConstants.{SEATS}
 use Rattle.tg_collect.specs.Readings.{pending, pending_of}
-use Rattle.tg_vault.specs.World.{World, at_seat, shade_fault, with_pending}
+use Rattle.tg_vault.specs.World.{World, at_seat, shade_fault}
 use Rattle.tg_vault.specs.Contents.{Contents, contents, moment}
 use Rattle.tg_vault.proofs.CollectLemmas.{shaded_joins, shaded_step}
 use Rattle.tg_vault.proofs.vault.Vault.shade.Goals as goal
@@ -20,6 +20,6 @@ invariant_of-self c = record {
 pub returns-clause-step : goal.returns-clause-step
 returns-clause-step c =
     let faultless = no_fault (moment c.args.self.now).world c.args.seat _ c.in_ok-principal_at.ensures.ok.0 c.in_ok-principal_at.ensures.ok.1 in
-    let went = subst (λ (w : Contents). (c.shade-target.result ≡ pending_of w.store c.args.seat) × (moment (record (contents c.self.inside) { store = c.shade-target.new.self }) ≡ with_pending (moment w) (set (pending w.store) c.args.seat None)))
+    let went = subst (λ (w : Contents). (c.shade-target.result ≡ pending_of w.store c.args.seat) × (moment (record (contents c.self.inside) { store = c.shade-target.new.self }) ≡ record (moment w) { world = record (moment w).world { pending = set (pending w.store) c.args.seat None } }))
     c.self.view_is (shaded_step (contents c.self.inside) c.self.invariant.joins c.shade-target.new.self c.args.seat c.shade-target.result c.shade-target.ensures.shaded c.shade-target.ensures.acted) in
     (faultless, went.0, went.1)
