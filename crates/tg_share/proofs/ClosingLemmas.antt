@@ -38,7 +38,7 @@ counted_where_agreed v logs (settled.NoMemory w back) law is agreed = absurd agr
 has_headline : CoursesHaveTheHeadline → (v : Contents) → IsReached v → HasHeadline v
 has_headline law v reached =
     let both = law reached.opened reached.events reached.answers v reached.coherent reached.course in
-    record { opened = reached.opened; events = reached.events; answers = reached.answers; empty = reached.empty; headline = both.0; bounded = both.1 }
+    record { reached = reached; headline = both.0; bounded = both.1 }
 
 pub closes : {L : Type 0} (ended : List (Ended L)) (logs : List SeatLog) (v : Contents) (s : Settled) (all : Bool) → CoursesHaveTheHeadline → AgreedCounts →
     logs ≡ logs_of ended → IsReached v → SettledAs v logs s → (all ≡ true → length v.history ≡ exchange_count ended) → IsSettled ended s all

@@ -25,12 +25,9 @@ pub record IsReached (v : Contents) : Type 0 where
 
 -- the headline of these events, and the bound on the steps of a cycle
 pub record HasHeadline (v : Contents) : Type 0 where
-  pub opened : Contents
-  pub events : List Event
-  pub answers : List Answer
-  pub empty : opened.history ≡ []
-  pub headline : Headline opened events answers v
-  pub bounded : IsBounded opened answers
+  pub reached : IsReached v
+  pub headline : Headline reached.opened reached.events reached.answers v
+  pub bounded : IsBounded reached.opened reached.answers
 
 -- some vault that events have led to has this room left
 pub record HasRoom (r : Room) : Type 0 where
