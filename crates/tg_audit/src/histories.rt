@@ -9,8 +9,9 @@ use tg_graph::{Graph, Step, rewriting_step};
 use tg_rights::Outcome;
 use tg_vault::{Entry, Vault};
 
-/// The step that changes edges as the entry did, if it changed any.
-fn entry_step(entry: &Entry) -> Option<Step>
+/// The step that changes edges as the entry did, if it changed any: take, grant, create or remove, as in `derivation`.
+/// Allocates nothing.
+pub fn entry_step(entry: &Entry) -> Option<Step>
     ensures { result ≡ entry_step entry.now }
 {
     match entry.outcome() {

@@ -12,7 +12,7 @@ mod replaying;
 mod settling;
 
 pub use derivations::check;
-pub use histories::{derivation, graph_of_history};
+pub use histories::{derivation, entry_step, graph_of_history};
 pub use logs::{Exchange, SeatLog, Settled};
 pub use replaying::replay;
 pub use settling::settle;

@@ -5,11 +5,9 @@ use std::alloc::{AllocError, Global};
 use std::rt::Clock;
 use std::sync::atomic::{AtomicBool, AtomicU64, Ordering};
 use std::sync::{Mutex, Wait};
-use tg_audit::derivation;
-use tg_graph::Step;
 use tg_share::Worked;
 use tg_talk::TalkFault;
-use tg_vault::{Room, Vault};
+use tg_vault::{Entry, Room};
 
 /// For how many milliseconds the talks of a round go on with lines that have come, once their clients are not waited for.
 const LAST_LINES: u64 = 1_000;
@@ -115,7 +113,7 @@ pub struct Desk {
     notices: Mutex<Vec<Notice>>,
     /// Notices that were lost.
     lost: AtomicU64,
-    histories: Mutex<Vec<Vec<Step>>>,
+    histories: Mutex<Vec<Vec<Entry>>>,
     /// Whether a history was lost for want of memory.
     lacks_history: AtomicBool,
 }
@@ -229,8 +227,8 @@ impl Desk {
         (taken, self.lost.swap(0, Ordering::SeqCst))
     }
 
-    /// Takes the histories of the rounds that were settled, the steps of each that changed edges.
-    pub fn take_histories<R: Wait>(&self, rt: &R, alloc: Global) -> Vec<Vec<Step>> {
+    /// Takes the histories of the rounds that were settled.
+    pub fn take_histories<R: Wait>(&self, rt: &R, alloc: Global) -> Vec<Vec<Entry>> {
         let mut histories = self.histories.lock(rt);
         std::mem::replace(&mut *histories, Vec::new(alloc))
     }
@@ -400,41 +398,29 @@ impl Desk {
         }
     }
 
-    /// A round was settled: what is to be known of it is kept until it is taken.
-    pub(crate) fn settle<R: Wait>(
-        &self,
-        rt: &R,
-        alloc: Global,
-        operating: Operating,
-        vault: &Vault,
-    ) {
-        if operating.notifies {
-            let taken = self.counts.connections.load(Ordering::SeqCst);
-            let before = self.counts.before.load(Ordering::SeqCst);
-            self.notify(
-                rt,
-                Notice::Settled {
-                    round: self.counts.round.load(Ordering::SeqCst),
-                    connections: taken.saturating_sub(before),
-                    entries: self.counts.entries.load(Ordering::SeqCst),
-                },
-            );
+    /// A round was settled: if notices are wanted, that of it is kept until it is taken.
+    pub(crate) fn settle<R: Wait>(&self, rt: &R, operating: Operating) {
+        if !operating.notifies {
+            return;
         }
-        if operating.keeps_history && self.keep_history(rt, alloc, vault).is_err() {
-            self.lacks_history.store(true, Ordering::SeqCst);
-        }
+        let taken = self.counts.connections.load(Ordering::SeqCst);
+        let before = self.counts.before.load(Ordering::SeqCst);
+        self.notify(
+            rt,
+            Notice::Settled {
+                round: self.counts.round.load(Ordering::SeqCst),
+                connections: taken.saturating_sub(before),
+                entries: self.counts.entries.load(Ordering::SeqCst),
+            },
+        );
     }
 
-    /// Keeps the steps of a round's history until they are taken.
-    fn keep_history<R: Wait>(
-        &self,
-        rt: &R,
-        alloc: Global,
-        vault: &Vault,
-    ) -> Result<(), AllocError> {
-        let steps = derivation(alloc, vault)?;
+    /// Keeps the history of a round that was settled until it is taken.
+    pub(crate) fn keep_history<R: Wait>(&self, rt: &R, history: Vec<Entry>) {
         let mut histories = self.histories.lock(rt);
-        Ok(histories.push(steps)?)
+        if histories.push(history).is_err() {
+            self.lacks_history.store(true, Ordering::SeqCst);
+        }
     }
 
     /// Who is served by each worker, if anybody is.

@@ -20,7 +20,7 @@ use std::sync::ledger::Blank;
 use std::thread::Threads;
 use tg_share::PARTS;
 use tg_talk::Watched;
-use tg_vault::{Rebased, Vault};
+use tg_vault::{Entry, Rebased, Vault};
 
 /// Serves this many connections in rounds of `round`, as `serve_operated` does, without bounds: a client may keep the
 /// server waiting for ever, and a round may take all memory.
@@ -106,7 +106,23 @@ pub fn serve_operated<R: Threads + Wait + Clock + Sync, W: Write>(
     let is_announced = announce(writer, listener);
     let size = at_least_one(round);
     let found = serve_rounds(&service, writer, is_announced, vault, connections, size);
-    conclude(writer, is_announced, found)
+    let served = conclude(writer, is_announced, &found);
+    keep_last(&service, found);
+    served
+}
+
+/// Leaves the history of the last round at the desk, if it was settled.
+fn keep_last<R: Wait>(service: &Service<'_, R>, found: Result<Vault, Unsettled>) {
+    if let Ok(last) = found {
+        keep(service, last.into_history());
+    }
+}
+
+/// Leaves the history of a round at the desk, if it is to be kept there; otherwise drops it.
+fn keep<R: Wait>(service: &Service<'_, R>, history: Vec<Entry>) {
+    if service.operating.keeps_history {
+        service.desk.keep_history(service.rt, history);
+    }
 }
 
 /// The number, or 1 in place of 0.
@@ -117,20 +133,17 @@ fn at_least_one(number: u64) -> u64
     if number == 0 { 1 } else { number }
 }
 
-/// Writes how the rounds ended. The vault of the last one is dropped.
+/// Writes how the rounds ended.
 pub(crate) fn conclude<W: Write>(
     writer: &mut Watched<W>,
     is_announced: bool,
-    found: Result<Vault, Unsettled>,
+    found: &Result<Vault, Unsettled>,
 ) -> Served
-    ensures { Concludes found is_announced result.settled (W.contents (device_of writer.old)) (has_failed writer.old) (W.contents (device_of writer.new)) (has_failed writer.new) }
+    ensures { Concludes found.now is_announced result.settled (W.contents (device_of writer.old)) (has_failed writer.old) (W.contents (device_of writer.new)) (has_failed writer.new) }
 {
     match found {
-        Ok(last) => {
-            drop(last);
-            agree(writer, is_announced)
-        }
-        Err(end) => tell(writer, is_announced, end),
+        Ok(_) => agree(writer, is_announced),
+        Err(end) => tell(writer, is_announced, *end),
     }
 }
 
@@ -159,9 +172,7 @@ fn serve_rounds<R: Threads + Wait + Clock + Sync, W: Write>(
         service.desk.begin_round(number);
         let settled = serve_round::<Brand, R>(service, &door, Blank::new(PARTS), vault)?;
         service.desk.conclude_round();
-        service
-            .desk
-            .settle(service.rt, service.alloc, service.operating, &settled);
+        service.desk.settle(service.rt, service.operating);
         left = left_after(service, &door, left, size);
         if is_last(service, left, connections, round) {
             return Ok(settled);
@@ -169,7 +180,7 @@ fn serve_rounds<R: Threads + Wait + Clock + Sync, W: Write>(
         let Some(next) = number.checked_add(1) else {
             return Ok(settled);
         };
-        vault = rebase(writer, is_announced, settled, number)?;
+        vault = rebase(service, writer, is_announced, settled, number)?;
         number = next;
     }
     unreachable!()
@@ -222,8 +233,10 @@ fn is_last<R>(service: &Service<'_, R>, left: u64, connections: u64, round: u64)
     left == 0 || (connections <= round && !goes_on)
 }
 
-/// Rebases the vault of a round, and writes how many entries that dropped; returns the vault of the next round.
-fn rebase<W: Write>(
+/// Rebases the vault of a round, and writes how many entries that dropped; returns the vault of the next round. Its
+/// history is left at the desk, also if the rebase fails.
+fn rebase<R: Wait, W: Write>(
+    service: &Service<'_, R>,
     writer: &mut Watched<W>,
     is_announced: bool,
     settled: Vault,
@@ -233,17 +246,19 @@ fn rebase<W: Write>(
     ensures ended { IfErr result EndsServer }
     ensures told { IfOk result (λ _. is_announced ≡ true → SendsOn (W.contents (device_of writer.old)) (has_failed writer.old) (W.contents (device_of writer.new)) (has_failed writer.new) (rebased_line (length settled.history) round)) }
 {
-    match settled.rebase() {
+    let (rebased, history) = settled.rebase_with_history();
+    match rebased {
         Rebased::Fresh { vault, dropped } => {
+            keep(service, history);
             tell_rebase(writer, is_announced, dropped, round);
             Ok(vault)
         }
         Rebased::Seated { vault, .. } => {
-            drop(vault);
+            keep(service, vault.into_history());
             Err(Unsettled::Seated)
         }
         Rebased::NoMemory { vault } => {
-            drop(vault);
+            keep(service, vault.into_history());
             Err(Unsettled::OutOfMemory)
         }
     }

@@ -5,9 +5,10 @@ use crate::vault::{ALICE, Case, Line, lines_are_answered, played};
 use std::alloc::{AllocError, Global};
 use std::io::Print;
 use std::process::Abort;
+use tg_audit::entry_step;
 use tg_graph::Graph;
 use tg_rights::{Kind, Which};
-use tg_vault::{Rebased, SeatFault, Vault};
+use tg_vault::{Entry, Rebased, SeatFault, Vault};
 
 /// Whether the vault began anew, and its history had this many entries, if there was memory.
 fn is_fresh(rebased: &Rebased, entries: u64) -> bool {
@@ -204,6 +205,55 @@ fn keeps_the_retired_that_are_held(rt: &impl Abort, alloc: Global) -> Result<(),
 #[test]
 fn a_rebase_keeps_the_retired_that_are_held(rt: HostRuntime) -> Result<(), AllocError> {
     keeps_the_retired_that_are_held(&rt, rt.alloc())
+}
+
+/// Whether these are the entries of that vault: two enrols, two retirements and a remove.
+fn are_of_two_who_retired(history: &[Entry]) -> bool {
+    let actors = history.iter().map(|entry| entry.actor());
+    actors.eq([1, 1, 3, 4, 1])
+}
+
+/// Who did a step that changed edges, by an entry.
+fn who_changed_edges(entry: &Entry) -> Option<u64> {
+    let step = entry_step(entry)?;
+    Some(step.actor)
+}
+
+/// Whether the two enrols and the remove changed edges, and the retirements did not.
+fn changed_edges(history: &[Entry]) -> bool {
+    let changes = history.iter().map(who_changed_edges);
+    changes.eq([Some(1), Some(1), None, None, Some(1)])
+}
+
+/// The vault hands its history over as it begins anew, and has none then.
+fn hands_its_history_over(rt: &impl Abort, alloc: Global) -> Result<(), AllocError> {
+    let vault = played(rt, alloc, &TWO_RETIRE)?;
+    let (rebased, history) = vault.rebase_with_history();
+    let anew = vault_with_memory(rebased)?;
+    assert!(rt; are_of_two_who_retired(&history));
+    assert!(rt; changed_edges(&history));
+    assert!(rt; anew.into_history().is_empty());
+    Ok(())
+}
+
+#[test]
+fn a_rebase_hands_its_history_over(rt: HostRuntime) -> Result<(), AllocError> {
+    hands_its_history_over(&rt, rt.alloc())
+}
+
+/// A vault with somebody on a seat hands nothing over, and has its entries still.
+fn keeps_its_history(rt: &impl Abort, alloc: Global) -> Result<(), AllocError> {
+    let used = opened(rt, alloc)?;
+    let (rebased, none) = used.rebase_with_history();
+    assert!(rt; none.is_empty());
+    let vault = vault_of(rebased);
+    assert!(rt; vault.into_history().len() == 4);
+    Ok(())
+}
+
+#[test]
+fn a_refused_rebase_keeps_its_history(rt: HostRuntime) -> Result<(), AllocError> {
+    keeps_its_history(&rt, rt.alloc())
 }
 
 /// Alice writes into a document of hers and enrols carol, who retires; then both leave.

@@ -73,3 +73,9 @@ abbrev pub Rebases : Contents → Rebased → Type 0
 Rebases v (rebased.Fresh w dropped) = NobodySits v.seats × (dropped ≡ length v.history) × IsRebased v w
 Rebases v (rebased.Seated w seat) = (w ≡ v) × IsLeastInUse v.seats seat
 Rebases v (rebased.NoMemory w) = NobodySits v.seats × ThreeCycles v w × (w.history ≡ v.history) × (w.opening ≡ v.opening)
+
+-- the entries that a rebase hands over: the whole history if the vault is fresh, otherwise none
+abbrev pub HandsOver : Contents → Rebased → List Entry → Type 0
+HandsOver v (rebased.Fresh w dropped) entries = entries ≡ v.history
+HandsOver v (rebased.Seated w seat) entries = entries ≡ []
+HandsOver v (rebased.NoMemory w) entries = entries ≡ []

@@ -5,10 +5,11 @@ ghost use Rattle.tg_graph.specs.Parts.{Listed, members_of};
 ghost use Rattle.tg_graph.specs.Protection.{has_retired};
 ghost use Rattle.tg_collect.specs.Readings.{phase};
 ghost use Rattle.tg_collect.specs.declared.note.Phase.TheVariants.{Idle};
-ghost use Rattle.tg_vault.specs.Rebase.{Rebases, ThreeCycles, reopening};
+ghost use Rattle.tg_vault.specs.Rebase.{HandsOver, Rebases, ThreeCycles, reopening};
 ghost use Rattle.tg_vault.specs.Seen.{set_of};
 ghost use Rattle.tg_vault.specs.World.{IsLeastInUse, NobodySits};
 
+use crate::entry::Entry;
 use crate::seats::first_in_use;
 use crate::vault::Vault;
 use std::alloc::{AllocError, Global};
@@ -43,10 +44,41 @@ impl Vault {
     pub fn rebase(self) -> Rebased
         ensures { Rebases self result }
     {
+        let (rebased, history) = self.rebase_with_history();
+        drop(history);
+        rebased
+    }
+
+    /// As `rebase`, with the history that it drops: all entries, in order, if the vault is fresh, and otherwise none. They
+    /// are moved, not copied, so that they can be kept without making the rebase longer.
+    pub fn rebase_with_history(self) -> (Rebased, Vec<Entry>)
+        ensures rebased { Rebases self result.0 }
+        ensures history { HandsOver self result.0 result.1.items }
+    {
+        let none = Vec::new(self.alloc);
         match self.first_taken() {
-            Some(seat) => Rebased::Seated { vault: self, seat },
-            None => self.begin_anew(),
+            Some(seat) => (Rebased::Seated { vault: self, seat }, none),
+            None => self.begin_anew(none),
         }
+    }
+
+    /// The entries of the history, in order. All else of the vault is dropped.
+    pub fn into_history(self) -> Vec<Entry>
+        ensures { result.items ≡ self.history }
+    {
+        let Vault {
+            alloc: _,
+            opening,
+            slots: _,
+            cells: _,
+            seats,
+            state,
+            history,
+        } = self;
+        drop(opening);
+        drop(seats);
+        drop(state);
+        history
     }
 
     /// The least seat that somebody has.
@@ -58,10 +90,12 @@ impl Vault {
         first_in_use(seats)
     }
 
-    /// The rebase of a vault with nobody on a seat.
-    fn begin_anew(self) -> Rebased
-        requires { NobodySits self.seats }
-        ensures { Rebases self result }
+    /// The rebase of a vault with nobody on a seat, and the history that it drops, or none.
+    fn begin_anew(self, none: Vec<Entry>) -> (Rebased, Vec<Entry>)
+        requires nobody { NobodySits self.seats }
+        requires none { none.items ≡ [] }
+        ensures rebased { Rebases self result.0 }
+        ensures history { HandsOver self result.0 result.1.items }
     {
         let mut vault = self;
         vault.soundness();
@@ -75,10 +109,10 @@ impl Vault {
         match vault.live_graph() {
             Ok(opening) => {
                 let dropped = vault.count();
-                vault.reopen(opening);
-                Rebased::Fresh { vault, dropped }
+                let history = vault.reopen(opening, none);
+                (Rebased::Fresh { vault, dropped }, history)
             }
-            Err(_) => Rebased::NoMemory { vault },
+            Err(_) => (Rebased::NoMemory { vault }, none),
         }
     }
 
@@ -113,17 +147,20 @@ impl Vault {
         Ok(graph)
     }
 
-    /// Puts the graph of what is held in the place of the opening graph, and drops the history. Allocates nothing.
-    fn reopen(&mut self, opening: Graph)
+    /// Puts the graph of what is held in the place of the opening graph, and this history without entries in the place of
+    /// the other, which it returns. Allocates nothing.
+    fn reopen(&mut self, opening: Graph, none: Vec<Entry>) -> Vec<Entry>
+        requires none { none.items ≡ [] }
         requires nobody { NobodySits self.old.seats }
         requires idle { phase self.old.store ≡ Idle }
         requires opening { opening ≡ reopening self.old }
-        ensures { self.new ≡ record self.old { opening = opening; history = [] } }
+        ensures fresh { self.new ≡ record self.old { opening = opening; history = [] } }
+        ensures history { result.items ≡ self.old.history }
     {
         self.state.store.soundness();
         keep_retired(&mut self.state.retired, &opening);
         self.opening = opening;
-        self.history = Vec::new(self.alloc);
+        std::mem::replace(&mut self.history, none)
     }
 }
 

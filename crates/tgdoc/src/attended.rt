@@ -9,9 +9,10 @@ use std::rt::Clock;
 use std::sync::Wait;
 use std::time::Duration;
 use std::{fs, io, thread};
-use tg_graph::Step;
+use tg_audit::entry_step;
 use tg_serve::{Departure, Desk, Notice, Serving, attend};
 use tg_talk::TalkFault;
+use tg_vault::Entry;
 use tg_wire::{LineRoom, write_step_in};
 
 /// How long nothing is looked for after nothing was there, in milliseconds.
@@ -110,8 +111,8 @@ pub(crate) fn keep_history<N: Wait + Clock + Files + Eprint>(
     let mut is_whole = append_or_say(rt, alloc, path, &[]);
     for _ in rt.forever() {
         let is_last = desk.has_ended();
-        for steps in desk.take_histories(rt, alloc) {
-            is_whole = is_whole && append_or_say(rt, alloc, path, &steps);
+        for history in desk.take_histories(rt, alloc) {
+            is_whole = is_whole && append_or_say(rt, alloc, path, &history);
         }
         if is_last {
             break;
@@ -125,9 +126,9 @@ pub(crate) fn keep_history<N: Wait + Clock + Files + Eprint>(
     is_whole
 }
 
-/// Appends the lines of the steps to the file; whether that was done. If not, standard error says why.
-fn append_or_say<N: Files + Eprint>(rt: &N, alloc: Global, path: &str, steps: &[Step]) -> bool {
-    match append(rt, alloc, path, steps) {
+/// Appends lines of the steps that changed edges to the file; whether that was done. If not, standard error says why.
+fn append_or_say<N: Files + Eprint>(rt: &N, alloc: Global, path: &str, history: &[Entry]) -> bool {
+    match append(rt, alloc, path, history) {
         Ok(()) => true,
         Err(error) => {
             let _ = eprintln!(rt; "tgdoc: {path}: {error}");
@@ -136,14 +137,16 @@ fn append_or_say<N: Files + Eprint>(rt: &N, alloc: Global, path: &str, steps: &[
     }
 }
 
-fn append<N: Files>(rt: &N, alloc: Global, path: &str, steps: &[Step]) -> io::Result<()> {
+fn append<N: Files>(rt: &N, alloc: Global, path: &str, history: &[Entry]) -> io::Result<()> {
     let file = OpenOptions::new().append(true).create(true).open(rt, path)?;
     let mut writer = BufWriter::new(alloc, file)?;
     let mut room = LineRoom::new(alloc);
-    for step in steps {
-        let line = write_step_in(&mut room, step)?;
-        writer.write_all(&line)?;
-        room.take_back(line);
+    for entry in history {
+        if let Some(step) = entry_step(entry) {
+            let line = write_step_in(&mut room, &step)?;
+            writer.write_all(&line)?;
+            room.take_back(line);
+        }
     }
     writer.flush()
 }

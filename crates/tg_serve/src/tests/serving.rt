@@ -281,7 +281,7 @@ const TOLD: &[(Unsettled, &[u8])] = &[
 fn told(alloc: Global, is_announced: bool, found: Result<Vault, Unsettled>) -> (Vec<u8>, bool) {
     let mut out = Vec::new(alloc);
     let mut writer = Watched::new(&mut out);
-    let served = conclude(&mut writer, is_announced, found);
+    let served = conclude(&mut writer, is_announced, &found);
     (out, served.settled)
 }
 

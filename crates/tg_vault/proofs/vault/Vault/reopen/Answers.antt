@@ -1,4 +1,5 @@
-use Rattle.std.proofs.Common.{◌≡◌, subst, sym, ap, ◌∙◌}
+use Rattle.std.proofs.Common.{◌≡◌, [], subst, sym, ap, ◌∙◌, Vec, Global}
+use Rattle.tg_vault.specs.declared.entry.Entry.{Entry}
 use Rattle.tg_vault.specs.Rebase.{reopening}
 use Rattle.tg_vault.specs.World.{NobodySits}
 use Rattle.tg_collect.specs.declared.note.Phase.TheVariants.{Idle}
@@ -7,11 +8,20 @@ use Rattle.tg_vault.specs.Contents.{Contents, contents}
 use Rattle.tg_vault.proofs.RebaseLemmas.{reopened_tied}
 use Rattle.tg_vault.proofs.vault.Vault.reopen.Goals as goal
 
+abbrev Entries : Type 0
+Entries = Vec Entry Global
+
 pub invariant_of-self : goal.invariant_of-self
 invariant_of-self c =
+    let none : c.replace.new.dest.items ≡ [] = ap (λ (h : Entries). h.items) c.replace.ensures.after ∙ c.requires.none in
     reopened_tied (contents c.self.inside) c.self.inside.state.next c.self.inside.state.retired.keys c.self.invariant c.soundness.ensures.sound
     (subst (λ (w : Contents). NobodySits w.seats) (sym c.self.view_is) c.requires.nobody) (subst (λ (w : Contents). phase w.store ≡ Idle) (sym c.self.view_is) c.requires.idle)
-    c.args.opening c.keep_retired.new.retired.keys c.new.result.items (c.requires.opening ∙ ap reopening (sym c.self.view_is)) c.keep_retired.ensures c.new.ensures.items
+    c.args.opening c.keep_retired.new.retired.keys c.replace.new.dest.items (c.requires.opening ∙ ap reopening (sym c.self.view_is)) c.keep_retired.ensures none
 
-pub returns : goal.returns
-returns c = λ i. record (c.self.view_is i) { opening = c.args.opening; history = c.new.ensures.items i }
+pub returns-clause-fresh : goal.returns-clause-fresh
+returns-clause-fresh c =
+    let none : c.replace.new.dest.items ≡ [] = ap (λ (h : Entries). h.items) c.replace.ensures.after ∙ c.requires.none in
+    λ i. record (c.self.view_is i) { opening = c.args.opening; history = none i }
+
+pub returns-clause-history : goal.returns-clause-history
+returns-clause-history c = ap (λ (h : Entries). h.items) c.replace.ensures.value ∙ ap (λ (w : Contents). w.history) c.self.view_is
