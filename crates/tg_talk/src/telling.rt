@@ -13,7 +13,7 @@ use std::sync::ledger::Ledger;
 use tg_rights::{Command, Word};
 use tg_share::{Gate, Session, Shared};
 use tg_vault::{Answer, AskFault, Event, SeatFault};
-use tg_wire::{Line, LineRoom, read_line, write_reply_in};
+use tg_wire::{Line, LineRoom, read_line_in, write_reply_in};
 
 /// The answer to a line of a session.
 #[derive(Drop)]
@@ -90,7 +90,7 @@ pub(crate) fn hear_stranger<'s, L: Ledger, R: Wait>(
     ensures told { LineTold None bytes.now (actor_of result.session) [] (text_of result.text) }
     ensures seat { IfSome result.session (λ s. (s.seat ≡ seat) × (s.log ≡ [])) }
 {
-    match read_line(alloc, bytes) {
+    match read_line_in(room, alloc, bytes) {
         Err(fault) => Greeted {
             session: None,
             text: Text::Refusal(fault),
@@ -117,7 +117,7 @@ pub(crate) fn hear_session<'s, L: Ledger, R: Wait + Clock, G: Gate>(
     ensures heard { Hears session.old bytes.now result session.new }
     ensures seat { session.new.seat ≡ session.old.seat }
 {
-    match read_line(alloc, bytes) {
+    match read_line_in(room, alloc, bytes) {
         Err(fault) => Heard::Answer(Text::Refusal(fault)),
         Ok(Line::Cycle) => Heard::Answer(Text::NotForASession),
         Ok(Line::Act(event)) => match event {

@@ -20,7 +20,7 @@ use Rattle.serde_json.specs.Data.{Data, object, Members, no_members, member, put
 use Rattle.serde_json.specs.Read.{read, of_json, of_members}
 use Rattle.serde_json.specs.Find.{get, get_member, as_array}
 use Rattle.serde_json.proofs.Views.{get_member-put, get_member-put_other}
-use Rattle.tg_wire.specs.Flat.{Spells, AreSpelled, member_lexemes, plain_data, put_all, flat_data, ReadsMembers}
+use Rattle.tg_wire.specs.Flat.{Spells, AreSpelled, member_lexemes, key_tokens, plain_data, put_all, flat_data, ReadsMembers, TakesObject}
 use Rattle.tg_wire.specs.Reading.{is_among, member_keys, knows_all}
 use Rattle.tg_wire.specs.Keys.{key_text, key_texts, is_listed_in_either}
 use Rattle.tg_wire.proofs.KeysLemmas.{among_either}
@@ -47,10 +47,6 @@ lexemes_more [] k t rest = refl
 lexemes_more (x ∷ ks) k t rest = ap (λ ls. lex.token (token.string x.0) ∷ lex.colon ∷ lex.token x.1 ∷ lex.comma ∷ ls) (lexemes_more ks k t rest)
 
 -- ---- from lexemes to tokens
-
-abbrev key_tokens : List (List ℕ × Token) → List Token
-key_tokens [] = []
-key_tokens (k ∷ ks) = token.key k.0 ∷ k.1 ∷ key_tokens ks
 
 -- key_texts and numbers
 abbrev AreScalars : List (List ℕ × Token) → Type 0
@@ -140,18 +136,30 @@ values_of (k ∷ ks) (m ∷ ms) found h =
 abbrev whole : Option (json.Json × List Token) → Option Data
 whole o = option_and_then of_json (option_and_then (λ p. json.if_last p.0 p.1) o)
 
+-- the line of these tokens
+tokens_read : (line : List ℕ) (ks : List (List ℕ × Token)) (ms : List Member) → AreSpelled ks ms → tokens line ≡ token.begin_object ∷ (key_tokens ks ++ token.end_object ∷ []) → read line ≡ Some (flat_data ms)
+tokens_read line ks ms spelled is =
+    let are = scalars ks ms spelled in
+    let j = json.object (members_of ks) in
+    let tokens_are : tokens line ≡ json_tokens j ++ [] = is ∙ ap (λ ts. token.begin_object ∷ ts) (sym (members_tokens_of ks are)) ∙ sym (append-nil (json_tokens j)) in
+    ap whole (ap (json.value 127) tokens_are ∙ value-json_tokens j 127 [] (omega (arith, depth_of ks))) ∙ ap (option_map object) (values_of ks ms no_members spelled)
+
+pub object_read : (line : List ℕ) (ms : List Member) → TakesObject (tokens line) ms → read line ≡ Some (flat_data ms)
+object_read line ms (inside, took, is) = tokens_read line took.keys ms took.spelled (is ∙ ap (λ ts. token.begin_object ∷ ts) took.are)
+
+pub key_tokens_more : (ks : List (List ℕ × Token)) (k : List ℕ) (t : Token) (rest : List Token) → key_tokens ks ++ token.key k ∷ t ∷ rest ≡ key_tokens (ks ++ (k, t) ∷ []) ++ rest
+key_tokens_more [] k t rest = refl
+key_tokens_more (x ∷ ks) k t rest = ap (λ ts. token.key x.0 ∷ x.1 ∷ ts) (key_tokens_more ks k t rest)
+
 -- the whole line, if its members are read and nothing follows
 pub line_read : (line : List ℕ) (from after : ℕ) (ms : List Member) → lex.lex lex.between line ≡ lex.token token.begin_object ∷ lex.lex lex.between (drop from line)
     → ReadsMembers line from after ms → lex.lex lex.between (drop after line) ≡ [] → read line ≡ Some (flat_data ms)
 line_read line from after ms opens found over =
     let ks = found.front ++ (found.key, found.value) ∷ [] in
     let are = scalars ks ms found.spelled in
-    let j = json.object (members_of ks) in
     let lexemes = found.lexemes ∙ ap (λ ls. member_lexemes found.front (lex.token (token.string found.key) ∷ lex.colon ∷ lex.token found.value ∷ lex.token token.end_object ∷ ls)) over in
-    let tokens_are : tokens line ≡ json_tokens j ++ [] =
-    object_tokens line _ opens ∙ ap (λ ls. token.begin_object ∷ punctuate lex.fresh ls) lexemes
-    ∙ ap (λ ts. token.begin_object ∷ ts) (members_tokens_at lex.fresh found.front found.key found.value refl are ∙ sym (members_tokens_of ks are)) ∙ sym (append-nil (json_tokens j)) in
-    ap whole (ap (json.value 127) tokens_are ∙ value-json_tokens j 127 [] (omega (arith, depth_of ks))) ∙ ap (option_map object) (values_of ks ms no_members found.spelled)
+    tokens_read line ks ms found.spelled (object_tokens line _ opens ∙ ap (λ ls. token.begin_object ∷ punctuate lex.fresh ls) lexemes
+    ∙ ap (λ ts. token.begin_object ∷ ts) (members_tokens_at lex.fresh found.front found.key found.value refl are))
 
 -- ---- what is found
 

@@ -1,4 +1,4 @@
--- a flat object: each of its members is a text without escapes or a whole number
+-- a flat object: each of its members is a text or a whole number
 use Rattle.std.specs.Prelude.{◌≡◌, ℕ, List, [], ◌∷◌, ◌++◌, Some, drop, ⊤}
 use Rattle.json.specs.Token as token
 use Rattle.json.specs.Token.{Token}
@@ -50,6 +50,21 @@ AreSpelled (k ∷ ks) (m ∷ ms) = (k.0 ≡ key_text m.key) × Spells k.1 m.valu
 abbrev pub member_lexemes : List (List ℕ × Token) → List Lexeme → List Lexeme
 member_lexemes [] rest = rest
 member_lexemes (k ∷ ks) rest = lex.token (token.string k.0) ∷ lex.colon ∷ lex.token k.1 ∷ lex.comma ∷ member_lexemes ks rest
+
+-- their tokens
+abbrev pub key_tokens : List (List ℕ × Token) → List Token
+key_tokens [] = []
+key_tokens (k ∷ ks) = token.key k.0 ∷ k.1 ∷ key_tokens ks
+
+-- the tokens of members up to the end of their object, after which others follow
+pub record TakesMembers (tokens after : List Token) (found : List Member) : Type 0 where
+  pub keys : List (List ℕ × Token)
+  pub spelled : AreSpelled keys found
+  pub are : tokens ≡ key_tokens keys ++ token.end_object ∷ after
+
+-- the tokens of an object, and no others
+abbrev pub TakesObject : List Token → List Member → Type 0
+TakesObject tokens found = (inside : List Token) × TakesMembers inside [] found × (tokens ≡ token.begin_object ∷ inside)
 
 -- the members from one place up to the closing brace before another
 pub record ReadsMembers (line : List ℕ) (from after : ℕ) (found : List Member) : Type 0 where

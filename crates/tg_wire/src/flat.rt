@@ -1,5 +1,5 @@
-//! A line's object in which each key is one that some line has, and each member a text without escapes or a whole
-//! number, as a list of its members.
+//! A line's object in which each key is one that some line has, and each member a text or a whole number, as a list of
+//! its members; and how it is read if no text has escapes.
 
 ghost use Rattle.std.specs.Prelude.{◌≡◌, ◌<◌, ◌≤◌, ◌∷◌, ◌++◌, [], Some, IfSome, OnSome, option_map, length, drop, if◌then◌else◌};
 ghost use Rattle.std.specs.Str.{bytes_eq};
@@ -27,8 +27,8 @@ pub(crate) enum Plain<'a> {
 /// A member: its key and its value.
 #[derive(Clone, Copy, Drop)]
 pub(crate) struct Member<'a> {
-    key: Key,
-    value: Plain<'a>,
+    pub(crate) key: Key,
+    pub(crate) value: Plain<'a>,
 }
 
 impl Default for Member<'_> {

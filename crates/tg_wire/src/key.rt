@@ -27,6 +27,27 @@ pub(crate) enum Key {
     Cells,
 }
 
+/// Each key.
+const KEYS: [Key; 17] = [
+    Key::Op,
+    Key::Seat,
+    Key::Actor,
+    Key::Agent,
+    Key::Over,
+    Key::From,
+    Key::To,
+    Key::At,
+    Key::Rights,
+    Key::Kind,
+    Key::Text,
+    Key::Name,
+    Key::Principals,
+    Key::Edges,
+    Key::Next,
+    Key::Slots,
+    Key::Cells,
+];
+
 impl Key {
     /// The key as lines have it, without quotes.
     #[inline(always)]
@@ -98,6 +119,18 @@ impl Key {
         } else {
             None
         }
+    }
+
+    /// The key of this word, if some line has it.
+    pub(crate) fn named(word: &str) -> Option<Key>
+        ensures { IfSome result (λ key. key_text key ≡ word.now) }
+    {
+        for key in KEYS {
+            if key.word() == word {
+                return Some(key);
+            }
+        }
+        None
     }
 
     /// Whether the word of the key begins these bytes, with a quote after it.

@@ -1,7 +1,8 @@
-//! Room for the lines of answers.
+//! Room for lines: for those of answers, and for the texts of one that is read.
 
 ghost use Rattle.std.specs.Prelude.{◌≡◌, [], IfOk};
 
+use json::Scratch;
 use std::alloc::{AllocError, Global};
 use std::mem;
 
@@ -10,11 +11,13 @@ const ROOM: usize = 128;
 
 /// Room in which lines are written, one after another: a line allocates only if it is longer than all lines before it
 /// in the same buffer. A new buffer begins at the start, after a line for which memory ran out, and when a line without
-/// room is taken back. It is empty between two lines.
+/// room is taken back. It is empty between two lines. Beside it is room for the texts of a line that is read, if they
+/// have escapes: it is taken at the first such line, and grows to the length of the longest.
 #[derive(Drop)]
 pub struct LineRoom {
     alloc: Global,
     bytes: Vec<u8>,
+    scratch: Option<Box<Scratch>>,
     ghost empty: { bytes.items ≡ [] },
 }
 
@@ -24,7 +27,17 @@ impl LineRoom {
         LineRoom {
             alloc,
             bytes: Vec::new(alloc),
+            scratch: None,
         }
+    }
+
+    /// Room for the texts of a line that is read.
+    pub(crate) fn scratch(&mut self) -> Result<&mut Scratch, AllocError> {
+        let scratch = match self.scratch.take() {
+            Some(kept) => kept,
+            None => Box::new(self.alloc, Scratch::new(self.alloc))?,
+        };
+        Ok(self.scratch.insert(scratch))
     }
 
     /// Lends the room for one line; there is none left until it comes back.

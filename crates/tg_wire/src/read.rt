@@ -8,11 +8,13 @@ ghost use Rattle.tg_wire.specs.Lines.{line_extras, line_in, line_of, line_of_jso
 ghost use Rattle.tg_wire.specs.Reading.{Answers, AnswersField, fields_of, or_else};
 ghost use Rattle.tg_wire.specs.declared.fault.WireFault.TheVariants.{NoOp, OutOfMemory};
 
+use crate::escaped::read_escaped;
 use crate::fault::WireFault;
 use crate::field;
 use crate::flat::{Flat, Members, read_flat};
 use crate::key::Key;
 use crate::line::Line;
+use crate::line_room::LineRoom;
 use crate::object::{LineObject, check_length, check_required, knows_all, tree};
 use crate::op::{Op, command_form, step_rule_named};
 use std::alloc::Global;
@@ -22,9 +24,17 @@ use tg_vault::Event;
 
 /// The value of an event line, or its first fault. `seat` is 0 if it is absent; `collect` and `cycle` do not use it,
 /// but if it is given it has to be a number there too.
+pub fn read_line(alloc: Global, bytes: &[u8]) -> Result<Line, WireFault>
+    ensures answered { Answers result (line_of bytes.now) }
+    ensures short { result ≡ Err OutOfMemory → length bytes.now ≤ LONGEST_LINE }
+{
+    read_line_in(&mut LineRoom::new(alloc), alloc, bytes)
+}
+
+/// As `read_line`, in room that is kept from line to line.
 #[inline(always)]
 #[tactic(auto, unfolding(crate::specs::Lines::line_of))]
-pub fn read_line(alloc: Global, bytes: &[u8]) -> Result<Line, WireFault>
+pub fn read_line_in(room: &mut LineRoom, alloc: Global, bytes: &[u8]) -> Result<Line, WireFault>
     ensures answered { Answers result (line_of bytes.now) }
     ensures short { result ≡ Err OutOfMemory → length bytes.now ≤ LONGEST_LINE }
 {
@@ -33,14 +43,19 @@ pub fn read_line(alloc: Global, bytes: &[u8]) -> Result<Line, WireFault>
     if read_flat(bytes, &mut members).is_some() {
         return line_of_object(alloc, &LineObject::Flat(Flat::new(members.as_slice())));
     }
-    line_of_tree(alloc, bytes)
+    line_of_other(room, alloc, bytes)
 }
 
-/// The same for a line that is not flat, and not too long.
+/// The same for a line that is not too long, and in which a text has escapes or something is not flat.
 #[inline(never)]
-fn line_of_tree(alloc: Global, bytes: &[u8]) -> Result<Line, WireFault>
+fn line_of_other(room: &mut LineRoom, alloc: Global, bytes: &[u8]) -> Result<Line, WireFault>
     ensures { Answers result (line_of_json bytes.now) }
 {
+    let scratch = room.scratch()?;
+    let mut members = Members::new();
+    if read_escaped(bytes, scratch, &mut members)?.is_some() {
+        return line_of_object(alloc, &LineObject::Flat(Flat::new(members.as_slice())));
+    }
     line_of_object(alloc, &tree(alloc, bytes)?)
 }
 

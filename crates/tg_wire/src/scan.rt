@@ -133,6 +133,16 @@ pub(crate) fn read_text<'a>(line: &'a str, quote: usize) -> Option<(&'a str, usi
     Some((&line[quote + 1..end], end + 1))
 }
 
+/// The whole number that the bytes are, if they are its digits and no others.
+pub(crate) fn number_in(bytes: &[u8]) -> Option<u64>
+    ensures { IfSome result (λ n. number_of bytes.now ≡ Some (unsigned n)) }
+{
+    if bytes.is_empty() || digits_end(bytes, 0) < bytes.len() {
+        return None;
+    }
+    whole(bytes)
+}
+
 /// The whole number at a place, if one is there, and the place after it.
 #[inline(always)]
 pub(crate) fn read_number(bytes: &[u8], at: usize) -> Option<(u64, usize)>

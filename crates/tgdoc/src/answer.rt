@@ -12,7 +12,7 @@ ghost use Rattle.tgdoc.specs.Running.{AnswersLine, RunnerSays, TellsSwept};
 use std::alloc::Global;
 use tg_talk::{Responder, Said, Text, text_of_answer};
 use tg_vault::{Event, Swept, Vault};
-use tg_wire::{Line, LineRoom, WireFault, read_line, write_swept_in};
+use tg_wire::{Line, LineRoom, WireFault, read_line_in, write_swept_in};
 
 /// Who answers the lines of a run: a vault, on which their events are carried out.
 #[derive(Drop)]
@@ -41,7 +41,7 @@ impl Responder for Runner {
 pub(crate) fn answer(alloc: Global, vault: &mut Vault, bytes: &[u8], room: &mut LineRoom) -> Text
     ensures { AnswersLine vault.old bytes.now vault.new (text_of result) (one_if (is_wrong result)) }
 {
-    match read_line(alloc, bytes) {
+    match read_line_in(room, alloc, bytes) {
         Ok(Line::Act(event)) => carry_out(vault, event, room),
         Ok(Line::Cycle) => sweep(vault, room),
         Err(fault) => Text::Refusal(fault),

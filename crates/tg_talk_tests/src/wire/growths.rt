@@ -108,6 +108,32 @@ fn growth_refused_in_read_line(rt: HostRuntime) {
     assert!(rt; matches!(&answered(&rt, the_enrol_is_read), Ok(true)));
 }
 
+/// Whether the command writes a quote, a backslash, a line feed, an accented e and a clef into the document 7.
+fn writes_what_was_escaped(command: &Command) -> bool {
+    match command {
+        Command::Write { over, text } => *over == 7 && text.get() == "\"\\\n\u{e9}\u{1d11e}",
+        _ => false,
+    }
+}
+
+fn the_write_is_read(alloc: Global) -> Result<bool, WireFault> {
+    let line = read_line(
+        alloc,
+        b"{\"op\":\"wr\\u0069te\",\"over\":7,\"text\":\"\\\"\\\\\\n\\u00e9\\ud834\\udd1e\"}",
+    )?;
+    match &line {
+        Line::Act(Event::Ask { seat, command }) => {
+            Ok(*seat == 0 && writes_what_was_escaped(command))
+        }
+        _ => Ok(false),
+    }
+}
+
+#[test]
+fn growth_refused_in_a_line_with_escapes(rt: HostRuntime) {
+    assert!(rt; matches!(&answered(&rt, the_write_is_read), Ok(true)));
+}
+
 /// Lines that are flat, each with its fault, if it has one: each kind of value, the least and the greatest number,
 /// spaces at every place, and as many members as there may be. None has a name or a text that its command keeps, but
 /// for an empty text.
