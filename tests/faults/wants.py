@@ -30,7 +30,7 @@ Size = tuple[str, str, str, str]
 
 # What says that memory ran out, if it is a value and not a type.
 WANT = re.compile(
-    r"\b(?:\w+::(?:OutOfMemory|NoMemory|NoRoom)|(?:Heard|Said)::Nothing)\b"
+    r"\b(?:\w+::(?:OutOfMemory|NoMemory|NoRoom)|Said::Nothing)\b"
     r"|(?<!: )\bAllocError\b(?!>)"
 )
 NONE = re.compile(r"\bNone\b")
@@ -74,9 +74,9 @@ LISTED = {
     ("tg_talk/src/write_line.rt", "buffered", "BufWriter::with_capacity", "AllocError"): 1,
     ("tg_talk/src/answering.rt", "text_of_answer", "write_answer_in", "WireFault::OutOfMemory"): 1,
     ("tg_talk/src/answering.rt", "answer", "Said::Nothing(then)", "TalkFault::OutOfMemory"): 1,
-    ("tg_talk/src/telling.rt", "ask", "write_reply_in", "Heard::Nothing"): 1,
+    ("tg_talk/src/telling.rt", "ask", "write_reply_in", "Said::Nothing"): 1,
     ("tg_talk/src/talking.rt", "talk", "InputLines::new", "TalkFault::OutOfMemory"): 1,
-    ("tg_talk/src/talking.rt", "respond", "Heard::Nothing", "Said::Nothing"): 1,
+    ("tg_talk/src/talking.rt", "respond", "Said::Nothing(_)", "Said::Nothing"): 1,
     ("tgdoc/src/answer.rt", "tell_swept", "write_swept_in", "WireFault::OutOfMemory"): 1,
     ("tgdoc/src/run.rt", "take_lines", "InputLines::new", "TalkFault::OutOfMemory"): 1,
     ("tgdoc/src/pictures.rt", "drawn", "draw_line", "WireFault::OutOfMemory"): 1,

@@ -51,6 +51,18 @@ def differences(where: str, needed: set[Place], listed: set[Place]) -> Iterator[
         yield f"{where}: {shown(it)} is listed without need"
 
 
+def misplaced(
+    sources: Sources, items: list[Item], last: int, headline: set[Place], needed: set[Place]
+) -> Iterator[str]:
+    """What the headline needs and the page lists behind the last item that it names for it, and
+    what is listed up to there and only other promises need."""
+    first, later = listed_by(sources, items[:last]), listed_by(sources, items[last:])
+    for it in sorted((headline & later) - first):
+        yield f"{shown(it)} is needed by the headline, but comes after item {last}"
+    for it in sorted((first & needed) - headline):
+        yield f"{shown(it)} comes up to item {last}, but the headline does not need it"
+
+
 def files_of(places: set[Place]) -> set[Place]:
     """Their files."""
     return {Place(it.file, "") for it in places}
@@ -91,6 +103,8 @@ def complaints(
 ) -> Iterator[str]:
     """What is wrong with the lists and the numbers of a page."""
     items = pages.items(sources.crates, page)
+    *said, last = pages.numbers(page) or [0]
+    of_headline = rests_on(sources, [headline])
     yield from misnamed(sources, items, promises)
     yield from miscited(sources, page, promises)
     read: set[Place] = set()
@@ -101,10 +115,12 @@ def complaints(
             needed, listed = needed - read, files_of(listed)
             yield from differences(promise.title, files_of(needed) - files_of(read), listed)
         else:
-            yield from differences("the numbered items", as_listed(needed), listed)
+            needed_here = as_listed(needed)
+            yield from differences("the numbered items", needed_here, listed)
+            yield from misplaced(sources, own, last, as_listed(of_headline), needed_here)
             yield from sorted({*out_of_order(sources, own, promise)})
         read |= needed
-    size, said = size_of(sources, rests_on(sources, [headline])), pages.numbers(page)
+    size = size_of(sources, of_headline)
     if not said or any(it > most for it, most in zip(size, said)):
         yield f"the headline rests on {size}, but the page says {said}"
 

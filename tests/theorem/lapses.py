@@ -39,7 +39,7 @@ said = []
 
 STATES = """-- what is said
 use Rattle.std.specs.Prelude.{ℕ}
-pub use Rattle.tiny.specs.Letters.{Letters, count, said}
+pub use Rattle.tiny.specs.Promise.Letters.{Letters, count, said}
 
 pub record State : Type 0 where
   pub said : Letters
@@ -50,9 +50,9 @@ STEPS = """-- what each turn does
 use Rattle.std.specs.Prelude.{ℕ, ◌+◌, ◌≡◌, List, [], ◌∷◌}
 use Rattle.tiny.specs.declared.turn.Turn.{Turn}
 use Rattle.tiny.specs.declared.turn.Turn.TheVariants as turn
-use Rattle.tiny.specs.Letters as letters
-use Rattle.tiny.specs.Letters.{◌<>◌}
-use Rattle.tiny.specs.States.{State, Letters, said, count}
+use Rattle.tiny.specs.Promise.Letters as letters
+use Rattle.tiny.specs.Promise.Letters.{◌<>◌}
+use Rattle.tiny.specs.Promise.States.{State, Letters, said, count}
 
 module _ (start : State) where
   abbrev pub with_said : Letters → State
@@ -71,11 +71,19 @@ Leads s (turn ∷ turns) t = Leads (after s turn) turns t
 THEOREM = """-- the theorem
 use Rattle.std.specs.Prelude.{List}
 use Rattle.tiny.specs.declared.turn.Turn.{Turn}
-use Rattle.tiny.specs.States.{State}
-use Rattle.tiny.specs.Steps.{Leads}
+use Rattle.tiny.specs.Promise.States.{State}
+use Rattle.tiny.specs.Promise.Steps.{Leads}
 
 pub record Theorem (start : State) (turns : List Turn) (end : State) : Type 0 where
   pub leads : Leads start turns end
+"""
+
+ENDS = """-- an end, of which the theorem does not speak
+use Rattle.std.specs.Prelude.{◌≡◌, []}
+use Rattle.tiny.specs.Promise.States.{State}
+
+abbrev pub Ends : State → Type 0
+Ends s = s.said ≡ []
 """
 
 TURN = """//! Turns.
@@ -102,7 +110,7 @@ struct Hidden {
 }
 
 impl Model for Word {
-    ghost use Rattle.tiny.specs.Letters.{Letters};
+    ghost use Rattle.tiny.specs.Promise.Letters.{Letters};
 
     ghost Value = { Letters };
 
@@ -112,8 +120,8 @@ impl Model for Word {
 
 RUN = """//! A run.
 ghost use Rattle.std.specs.Prelude.{List};
-ghost use Rattle.tiny.specs.Runs.{Ran};
-ghost use Rattle.tiny.specs.Theorem.{Theorem};
+ghost use Rattle.tiny.specs.Promise.Runs.{Ran};
+ghost use Rattle.tiny.specs.Promise.Theorem.{Theorem};
 
 /// Goes on.
 pub fn run(turns: Vec<Turn>) -> u64
@@ -127,8 +135,8 @@ pub fn run(turns: Vec<Turn>) -> u64
 RUNS = """-- what a run says
 use Rattle.std.specs.Prelude.{ℕ, List}
 use Rattle.tiny.specs.declared.turn.Turn.{Turn}
-use Rattle.tiny.specs.States.{State}
-use Rattle.tiny.specs.Theorem.{Theorem}
+use Rattle.tiny.specs.Promise.States.{State}
+use Rattle.tiny.specs.Promise.Theorem.{Theorem}
 
 pub data Ran (turns : List Turn) : ℕ → Type 0 where
   ran : {n : ℕ} (s t : State) → Theorem s turns t → Ran turns n
@@ -141,26 +149,39 @@ It is `Theorem`, of which `run`, clause `ran` (crates/tiny/src/run.rt; `Ran`), m
 ## What to read, in this order
 
 `Headline` rests on 9 definitions in 4 files, 22 lines without comments, and on 2 types and
-constants of the code.
+constants of the code: items 1 to 4.
+
+### The states
 
 1. **std Prelude**: the toolchain's.
 2. **tiny Letters** (not `count`, `said`), **word, turn, States**: *what* is said.
-3. **tiny Steps**
-   (`with_said`, `after`, `Leads`), **Theorem**.
+   - A letter is `a` or `b`.
 
-More files:
+### The steps
 
-- *A run*: **tiny Runs**.
+3. **tiny Steps**, of it: `after` is what a
+   turn does (`with_said`), and `Leads` says it of many.
+4. **tiny Theorem**.
 
-### Behind it
+   It is the theorem of **them** all.
+
+### The end
+
+5. **tiny Ends**: what `Ends` says.
+
+## Besides
+
+**A run.** A run has an end. Files:
+**tiny Runs**.
 """
 
 FILES = {
-    "specs/Letters.antt": LETTERS,
-    "specs/States.antt": STATES,
-    "specs/Steps.antt": STEPS,
-    "specs/Theorem.antt": THEOREM,
-    "specs/Runs.antt": RUNS,
+    "specs/Promise/Letters.antt": LETTERS,
+    "specs/Promise/States.antt": STATES,
+    "specs/Promise/Steps.antt": STEPS,
+    "specs/Promise/Theorem.antt": THEOREM,
+    "specs/Promise/Runs.antt": RUNS,
+    "specs/Promise/Ends.antt": ENDS,
     "src/lib.rt": "mod run;\nmod turn;\nmod word;\n",
     "src/run.rt": RUN,
     "src/turn.rt": TURN,
@@ -168,9 +189,9 @@ FILES = {
     "page": PAGE,
 }
 
-HEADLINE = Place("tiny/specs/Theorem.antt", "Theorem")
+HEADLINE = Place("tiny/specs/Promise/Theorem.antt", "Theorem")
 PROMISES = [
-    Promise("", (HEADLINE,)),
+    Promise("", (HEADLINE, Place("tiny/specs/Promise/Ends.antt", "Ends"))),
     Promise("A run", (Contract("tiny/src/run.rt", "run", ("ran",)),)),
 ]
 
@@ -180,11 +201,12 @@ LARGE = (
     "the headline rests on %d definitions in %d files, %d lines; "
     "%d types and constants of the code, but the page says [%d, 4, %d, 2]"
 )
+THE_THEOREM = "Theorem of tiny/specs/Promise/Theorem.antt"
 LEADS = STEPS[STEPS.index("-- the states") :]
 COURSES = """use Rattle.std.specs.Prelude.{◌≡◌, ℕ, List, [], ◌∷◌}
 use Rattle.tiny.specs.declared.turn.Turn.{Turn}
-use Rattle.tiny.specs.States.{State}
-use Rattle.tiny.specs.Steps.{after}
+use Rattle.tiny.specs.Promise.States.{State}
+use Rattle.tiny.specs.Promise.Steps.{after}
 
 """
 SIGNS = "use Rattle.std.specs.Prelude.{ℕ}\n\nabbrev pub Signs : Type 0\nSigns = ℕ\n"
@@ -204,29 +226,33 @@ LAPSES = [
     Lapse(
         "a definition moves to another file",
         [
-            ("specs/Steps.antt", LEADS, ""),
-            ("specs/Courses.antt", "", COURSES + LEADS),
-            ("specs/Theorem.antt", "Steps.{Leads}", "Courses.{Leads}"),
+            ("specs/Promise/Steps.antt", LEADS, ""),
+            ("specs/Promise/Courses.antt", "", COURSES + LEADS),
+            ("specs/Promise/Theorem.antt", "Steps.{Leads}", "Courses.{Leads}"),
         ],
         [
-            "tiny/specs/Steps.antt defines no Leads",
-            LACKS % "Leads of tiny/specs/Courses.antt",
+            "tiny/specs/Promise/Steps.antt defines no Leads",
+            LACKS % "Leads of tiny/specs/Promise/Courses.antt",
             LARGE % (9, 5, 22, 2, 9, 22),
         ],
     ),
     Lapse(
         "the theorem uses one more, which another file hands on, and whose name a field has too",
         [
-            ("specs/Theorem.antt", "Prelude.{List}", "Prelude.{◌≡◌, List}"),
-            ("specs/Theorem.antt", "States.{State}", "States.{State, said}"),
-            ("specs/Theorem.antt", "turns end\n", "turns end\n  pub silent : start.said ≡ said\n"),
+            ("specs/Promise/Theorem.antt", "Prelude.{List}", "Prelude.{◌≡◌, List}"),
+            ("specs/Promise/Theorem.antt", "States.{State}", "States.{State, said}"),
+            (
+                "specs/Promise/Theorem.antt",
+                "turns end\n",
+                "turns end\n  pub silent : start.said ≡ said\n",
+            ),
         ],
-        [LACKS % "said of tiny/specs/Letters.antt", LARGE % (10, 4, 25, 2, 9, 22)],
+        [LACKS % "said of tiny/specs/Promise/Letters.antt", LARGE % (10, 4, 25, 2, 9, 22)],
     ),
     Lapse(
         "the theorem no longer uses what is listed",
-        [("specs/Steps.antt", "letters.alone letters.a", "letters.a ∷ []")],
-        [SPARE % "alone of tiny/specs/Letters.antt"],
+        [("specs/Promise/Steps.antt", "letters.alone letters.a", "letters.a ∷ []")],
+        [SPARE % "alone of tiny/specs/Promise/Letters.antt"],
     ),
     Lapse(
         "a type of the code has a field of another type",
@@ -243,9 +269,9 @@ LAPSES = [
         [
             ("src/word.rt", "Letters.{Letters}", "Signs.{Signs}"),
             ("src/word.rt", "Value = { Letters }", "Value = { Signs }"),
-            ("specs/Signs.antt", "", SIGNS),
+            ("specs/Promise/Signs.antt", "", SIGNS),
         ],
-        [LACKS % "Signs of tiny/specs/Signs.antt", LARGE % (10, 5, 24, 2, 9, 22)],
+        [LACKS % "Signs of tiny/specs/Promise/Signs.antt", LARGE % (10, 5, 24, 2, 9, 22)],
     ),
     Lapse(
         "the page says less than is there",
@@ -253,15 +279,39 @@ LAPSES = [
         [LARGE % (9, 4, 22, 2, 8, 22)],
     ),
     Lapse(
-        "what is needed comes later",
-        [("page", "turn, States**", "turn**"), ("page", "\nMore", "4. **tiny States**.\n\nMore")],
+        "the page names another definition than the theorem needs",
+        [("page", "`after` is what", "`later` is what")],
         [
-            f"{name} needs State of tiny/specs/States.antt, which comes later"
+            "tiny/specs/Promise/Steps.antt defines no later",
+            LACKS % "after of tiny/specs/Promise/Steps.antt",
+        ],
+    ),
+    Lapse(
+        "the theorem needs an item more",
+        [("page", "items 1 to 4", "items 1 to 3")],
+        [f"{THE_THEOREM} is needed by the headline, but comes after item 3"],
+    ),
+    Lapse(
+        "the theorem needs an item less",
+        [("page", "items 1 to 4", "items 1 to 5")],
+        [
+            "Ends of tiny/specs/Promise/Ends.antt comes up to item 5, "
+            "but the headline does not need it"
+        ],
+    ),
+    Lapse(
+        "what is needed comes later",
+        [
+            ("page", "turn, States**", "turn**"),
+            ("page", "tiny Theorem**", "tiny Theorem, States**"),
+        ],
+        [
+            f"{name} needs State of tiny/specs/Promise/States.antt, which comes later"
             for name in (
-                "Leads of tiny/specs/Steps.antt",
-                "Theorem of tiny/specs/Theorem.antt",
-                "after of tiny/specs/Steps.antt",
-                "with_said of tiny/specs/Steps.antt",
+                "Leads of tiny/specs/Promise/Steps.antt",
+                THE_THEOREM,
+                "after of tiny/specs/Promise/Steps.antt",
+                "with_said of tiny/specs/Promise/Steps.antt",
             )
         ],
     ),
@@ -269,15 +319,15 @@ LAPSES = [
         "a promise lacks a file, and has one that is not needed",
         [("page", "**tiny Runs**", "**tiny States, Nowhere**")],
         [
-            "there is no file tiny/specs/Nowhere.antt",
-            "A run: tiny/specs/Runs.antt is not listed",
-            "A run: tiny/specs/States.antt is listed without need",
+            "there is no file tiny/specs/Promise/Nowhere.antt",
+            "A run: tiny/specs/Promise/Runs.antt is not listed",
+            "A run: tiny/specs/Promise/States.antt is listed without need",
         ],
     ),
     Lapse(
         "a promise has another title",
-        [("page", "*A run*", "*Runs*")],
-        ["no promise has the title Runs", "A run: tiny/specs/Runs.antt is not listed"],
+        [("page", "**A run.**", "**Runs.**")],
+        ["no promise has the title Runs", "A run: tiny/specs/Promise/Runs.antt is not listed"],
     ),
     Lapse(
         "a contract does not rest on what is named with it",
@@ -301,8 +351,8 @@ LAPSES = [
     ),
     Lapse(
         "a word is defined nowhere",
-        [("specs/Steps.antt", "(after s turn)", "(later s turn)")],
-        ["tiny/specs/Steps.antt: later"],
+        [("specs/Promise/Steps.antt", "(after s turn)", "(later s turn)")],
+        ["tiny/specs/Promise/Steps.antt: later"],
     ),
 ]
 

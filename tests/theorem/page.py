@@ -1,4 +1,8 @@
-"""What docs/THEOREM.md says has to be read: its items, with files and what to read of each."""
+"""What docs/THEOREM.md says has to be read: its items, with files and what to read of each.
+
+Items stand behind the heading `What to read`: those with a number, and paragraphs that begin with a
+title in bold. An item ends at the next one or at an empty line.
+"""
 
 import re
 from collections.abc import Iterator
@@ -8,12 +12,17 @@ from typing import NamedTuple
 from theorem.imports import Place
 from theorem.sources import Sources
 
-SECTION = re.compile(r"^## What to read.*?(?=^#)", re.M | re.S)
-ITEM = re.compile(r"^(?:\d+\.|- \*([^*]+)\*) ?(.*\n(?: +.*\n)*)", re.M)
-FILES = re.compile(r"\*\*(?:(\w+)\s+)?([^*]+)\*\*(?:\s+\((not\s+)?((?:`[^`]+`[,\s]*)+)\))?")
+SECTION = re.compile(r"^## What to read.*", re.M | re.S)
+ITEM = re.compile(r"^(?:\d+\.|\*\*([^*]+?)\.?\*\*) ?(.*\n(?:(?!\d+\.).+\n)*)", re.M)
+# Files of a crate, and what is to be read of the last: in a bracket, or named up to the next file.
+FILES = re.compile(
+    r"\*\*(?:(\w+)\s+)?([^*]+)\*\*"
+    r"(?:\s+\((not\s+)?((?:`[^`]+`[,\s]*)+)\)|,\s+of\s+it\b((?:(?!\*\*).)*))?",
+    re.S,
+)
 NUMBERS = re.compile(
     r"`Headline` rests on (\d+) definitions in (\d+) files, (\d+) lines without comments, "
-    r"and on (\d+) types and constants of the code"
+    r"and on (\d+) types and constants of the code: items 1 to (\d+)"
 )
 
 # A function, a clause of its contract, its file, and a definition on which that rests.
@@ -64,18 +73,18 @@ def file_of(crates: Path, crate: str, name: str) -> str:
     if not (crates / crate).is_dir():
         return f"{crate}.{name}"
     path = name.replace(".", "/")
-    return f"{crate}/specs/{path}.antt" if name[0].isupper() else f"{crate}/src/{path}.rt"
+    return f"{crate}/specs/Promise/{path}.antt" if name[0].isupper() else f"{crate}/src/{path}.rt"
 
 
 def selections(crates: Path, text: str) -> Iterator[Selection]:
     """The files of an item. A bracket belongs to the last file before it; a crate that is not
     named is the one before."""
     crate = ""
-    for named, files, is_without, listed in FILES.findall(text):
+    for named, files, is_without, bracket, told in FILES.findall(text):
         crate, (*before, last) = named or crate, [it.strip() for it in files.split(",")]
         for name in before:
             yield Selection(file_of(crates, crate, name), True, ())
-        names = tuple(re.findall(r"`([^`]+)`", listed))
+        names = tuple(re.findall(r"`([^`]+)`", bracket or told))
         yield Selection(file_of(crates, crate, last), bool(is_without) or not names, names)
 
 
@@ -93,6 +102,7 @@ def cited(page: str) -> list[tuple[str, str, str, str]]:
 
 
 def numbers(page: str) -> list[int]:
-    """What a page says of the headline: definitions, files, lines, and types of the code."""
+    """What a page says of the headline: definitions, files, lines, types of the code, and the
+    number of the last item that it needs."""
     found = NUMBERS.search(" ".join(page.split()))
     return [int(it) for it in found.groups()] if found else []

@@ -12,12 +12,12 @@ from typing import NamedTuple
 from theorem.imports import Place
 from theorem.sources import Sources
 
-HEADLINE = Place("tg_vault/specs/Headline.antt", "Headline")
+HEADLINE = Place("tg_vault/specs/Promise/Headline.antt", "Headline")
 # By these a `VaultStep` says more of the store than the main theorem does.
 SKIPPED = frozenset(
     {
-        Place("tg_vault/specs/StoreSteps.antt", "StoreStep"),
-        Place("tg_vault/specs/Course.antt", "IsCoherent"),
+        Place("tg_vault/specs/Promise/StoreSteps.antt", "StoreStep"),
+        Place("tg_vault/specs/Promise/Course.antt", "IsCoherent"),
     }
 )
 
@@ -103,21 +103,29 @@ def named_by(sources: Sources, contract: Contract) -> set[Place]:
     return {place for name in chosen for place in sources.referred_to(contract.file, clauses[name])}
 
 
+def closure(
+    sources: Sources, begins: Iterable[Place], skipped: frozenset[Place] = frozenset()
+) -> set[Place]:
+    """Some definitions, those that these name, and so on."""
+    found: set[Place] = set()
+    waiting = {*begins}
+    while waiting:
+        place = waiting.pop()
+        found.add(place)
+        waiting |= sources.names(place) - found - skipped
+    return found
+
+
 def rests_on(
     sources: Sources,
     begins: Iterable[Place | Contract],
     skipped: frozenset[Place] = frozenset(),
 ) -> set[Place]:
     """All on which something rests."""
-    found: set[Place] = set()
-    waiting: set[Place] = set()
+    named: set[Place] = set()
     for it in begins:
-        waiting |= named_by(sources, it) if isinstance(it, Contract) else {sources.defined(it)}
-    while waiting:
-        place = waiting.pop()
-        found.add(place)
-        waiting |= sources.names(place) - found - skipped
-    return found
+        named |= named_by(sources, it) if isinstance(it, Contract) else {sources.defined(it)}
+    return closure(sources, named, skipped)
 
 
 class Size(NamedTuple):
