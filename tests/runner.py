@@ -9,7 +9,7 @@ from pathlib import Path
 from typing import NamedTuple
 
 from checking import Tests, passes, same
-from planting import reading_tests, reports_tests
+from planting import reach_tests, reading_tests, reports_tests
 from running import ROOT, ran
 
 SOURCE = """//! A number and its echo.
@@ -195,8 +195,10 @@ BUGS = [
         f"{SPARE_OF}(echo_of number)",
         NOT_REFUSED,
     ),
-    # a constant; a function that nothing calls, and a trait's method, which need no control
+    # a constant; a contract; a function that nothing calls, and a trait's method, which need no
+    # control
     in_main("seven-is-eight", "const MOST: usize = 7;", "const MOST: usize = 8;", "refused: "),
+    in_main("most-is-to-be-eight", "{ result ≡ 7 }", "{ result ≡ 8 }", "refused: "),
     in_main("kept-is-nothing", "number;\n    kept_number", "0;\n    kept_number", "refused: "),
     in_main("rings-four-times", "        3", "        4", "refused: "),
     # it means the same, in a function that nothing calls
@@ -237,7 +239,7 @@ def said(line: str) -> tuple[str, str]:
 
 
 def edits_of_a_crate_are_told_apart(program: Path) -> None:
-    """Six bugs are refused; harmless ones, an absent text and a lost name count as failed."""
+    """Seven bugs are refused; harmless ones, an absent text and a lost name count as failed."""
     with tempfile.TemporaryDirectory() as folder:
         for path, text in (FILES | written(BUGS)).items():
             Path(folder, path).parent.mkdir(parents=True, exist_ok=True)
@@ -249,7 +251,7 @@ def edits_of_a_crate_are_told_apart(program: Path) -> None:
     if wrong:
         print(*lines, tried.stderr.decode(), sep="\n    ")
     same(wrong, [], "not as wanted")
-    same((lines[-1:], tried.returncode), (["6 passed, 5 failed"], 1))
+    same((lines[-1:], tried.returncode), (["7 passed, 5 failed"], 1))
 
 
 def names_pick_tests(program: Path) -> None:
@@ -266,6 +268,7 @@ def tests() -> Tests:
     """All tests by their names; they take the runner of planted bugs."""
     yield from reading_tests.tests()
     yield from reports_tests.tests()
+    yield from reach_tests.tests()
     yield "edits-of-a-crate-are-told-apart", edits_of_a_crate_are_told_apart
     yield "names-pick-tests", names_pick_tests
 

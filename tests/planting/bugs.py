@@ -1,4 +1,5 @@
-"""A planted bug, and what it changes: bodies of functions, their constants, or other lines."""
+"""A planted bug, and what it changes: bodies or contracts of functions, their constants, or other
+lines."""
 
 import os
 import re
@@ -94,8 +95,8 @@ def can_stand_twice(f: Function) -> bool:
 
 
 class Bug:
-    """A planted bug, and the functions whose bodies it changes, each with the bytes that it
-    replaces there, and the constants."""
+    """A planted bug, and the functions whose bodies or contracts it changes, each with the bytes
+    that it replaces there, and the constants."""
 
     def __init__(
         self, crate: Crate, name: str, texts: dict[str, str], why: str | None = None
@@ -105,6 +106,7 @@ class Bug:
         self.seconds = 0.0
         self.spans: dict[Function, list[Span]] = {}
         self.constants: dict[bytes, bytes] = {}
+        self.is_of_contract = False
 
     def verdict(self) -> Result:
         """What is reported of the bug."""
@@ -119,23 +121,27 @@ class Bug:
         return found
 
     def fits(self, source: Source) -> bool:
-        """Finds what the bug changes, and returns whether all of it lies in bodies of functions, or
-        in constants that they alone name."""
+        """Finds what the bug changes, and returns whether all of it lies in bodies of functions, in
+        contracts of functions that can be copied, or in constants that bodies alone name."""
         for it in self.lines(source):
-            if not self.is_in_a_body(source, it) and not self.is_a_constant(source, it):
+            if not self.is_in_a_function(source, it) and not self.is_a_constant(source, it):
                 return False
-        return self.can_be_copied() or len(self.spans) == 1 and not self.constants
+        if self.can_be_copied():
+            return True
+        return len(self.spans) == 1 and not self.constants and not self.is_of_contract
 
-    def is_in_a_body(self, source: Source, line: Line) -> bool:
-        """Whether the line's change lies in the body of a function, which is noted."""
+    def is_in_a_function(self, source: Source, line: Line) -> bool:
+        """Whether the line's change lies in the body of a function, or between its name and its
+        body, which is noted."""
         was, row = line.was, line.row
         same_end = len(os.path.commonprefix([was[::-1], row[::-1]]))
         first = line.at + len(os.path.commonprefix([was, row]))
         end = max(first, line.at + len(was) - same_end)
         inside = [f for f in source.functions if f.file == line.file and f.has_body]
-        found = [f for f in inside if f.opens < first and end < f.end]
+        found = [f for f in inside if f.named[1] < first and end < f.end]
         if len(found) != 1 or not can_be_edited(found[0]) or shape(was) != shape(row):
             return False
+        self.is_of_contract |= first <= found[0].opens
         span = Span(line.at, line.at + len(was), row)
         self.spans.setdefault(found[0], []).append(span)
         return True

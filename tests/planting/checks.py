@@ -18,6 +18,10 @@ from planting.turns import Turns
 
 FLAGS = ["--jobs", "1"]
 
+# What the toolchain's rule says of a check that was killed, and seconds until it is made again.
+KILLED = "was killed"
+PAUSE = 60
+
 
 class Ran(NamedTuple):
     """What a check said, its status, how many seconds each function's proof took, and the whole."""
@@ -144,10 +148,12 @@ class Checks:
             if self.has_kept():
                 linked(self.kept, f"{room}/kept")
             begun = time.monotonic()
-            for kept in (f"{room}/kept", None):
+            for kept, pause in ((f"{room}/kept", 0), (None, 0), (None, PAUSE)):
+                # Twice from nothing only if the check was killed, as when memory runs short.
+                threading.Event().wait(pause)
                 with self.counting:
                     self.count += 1
                 is_refused, is_settled, said = kit.tried(self.crate, name, texts, FLAGS, kept)
-                if is_settled:
+                if is_settled or (kept is None and KILLED not in said):
                     break
         return Judged(is_refused, said, time.monotonic() - begun)

@@ -91,11 +91,12 @@ class Copies:
 
     def placed(self, bugs: Collection[Bug]) -> dict[Bug, Function]:
         """Those of the bugs that can be made in the functions themselves, and these: each is the
-        only bug of the only function that it changes, to which none of the other functions may come
-        by calls."""
+        only bug of the only function that it changes, and changes its body alone, and none of the
+        other functions may come to it by calls."""
         times = Counter(f for it in bugs for f in it.spans)
         called = {f: self.called(bugs, f) for f in times}
-        own = {it: next(iter(it.spans)) for it in bugs if len(it.spans) == 1 and not it.constants}
+        single = [it for it in bugs if len(it.spans) == 1 and not it.constants]
+        own = {it: next(iter(it.spans)) for it in single if not it.is_of_contract}
 
         def is_called(f: Function) -> bool:
             return any(f in called[g] for g in times if g is not f)

@@ -70,6 +70,9 @@ class Planting:
         times = ", ".join(f"{it.name} {it.seconds:.0f}" for it in dearest)
         print(f"planted: dearest, in seconds: {times}")
         print(f"planted: {sum(it.checks.count for it in trials)} checks")
-        passed = sum(it.verdict().is_refused for it in bugs)
-        print(f"{passed} passed, {len(bugs) - passed} failed", flush=True)
-        return passed == len(bugs)
+        failed = [it for it in bugs if not it.verdict().is_refused]
+        for bug in failed:
+            # Once more, since of a long output often only the end is kept.
+            print(f"planted FAILED {bug.name}: {bug.verdict().said}")
+        print(f"{len(bugs) - len(failed)} passed, {len(failed)} failed", flush=True)
+        return not failed

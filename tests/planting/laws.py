@@ -8,25 +8,25 @@ from planting import kit
 from planting.bugs import Bug, can_be_edited
 from planting.copies import Copies
 from planting.kit import Function
-from planting.reach import Reach
+from planting.reach import Clause, Reach
 
 # A line of a constant.
 CONSTANT = re.compile(rb"\s*(?:pub(?:\([a-z]+\))? )?const (\w+):[^\n]*")
 
 
 class Asked(NamedTuple):
-    """A bug in definitions, the function that is asked for it, what the bug touches, and the files
-    of the function's proof if it is a law."""
+    """A bug in definitions, the clause that is asked for it, and what the bug touches."""
 
     bug: Bug
-    law: str
+    clause: Clause
     touched: set[str]
-    files: set[str] | None
 
 
-def are_apart(reach: Reach, one: Asked, other: Asked) -> bool:
-    """Whether the law of each is certain not to reach what the other touches."""
-    return reach.is_apart(one.law, other.touched) and reach.is_apart(other.law, one.touched)
+def are_apart(one: Asked, other: Asked) -> bool:
+    """Whether the clause of each is certain not to reach what the other touches, and the two touch
+    nothing in common."""
+    is_apart = one.clause.is_apart(other.touched) and other.clause.is_apart(one.touched)
+    return is_apart and not one.touched & other.touched
 
 
 class Laws:
@@ -67,10 +67,10 @@ class Laws:
         groups: list[list[Asked]] = []
         for bug in bugs:
             touched = reach.touched(bug.texts)
-            law = reach.nearest(touched)
-            if law:
-                own = Asked(bug, law, touched, reach.files.get(law))
-                fitting = (it for it in groups if all(are_apart(reach, own, them) for them in it))
+            clause = reach.nearest(touched)
+            if clause:
+                own = Asked(bug, clause, touched)
+                fitting = (it for it in groups if all(are_apart(own, them) for them in it))
                 room = next(fitting, None)
                 if room:
                     room.append(own)

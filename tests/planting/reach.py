@@ -1,10 +1,12 @@
-"""Which functions of a crate state something of a definition of its specs/, and which laws come to
-it: read by names from the texts.
+"""Which functions of a crate state something of a definition of its specs/, and which clauses of
+laws come to it: read by names from the texts.
 
-What names a definition reaches it and all that it reaches: another definition; a contract; a law
-also by its written proof and the files of lemmas that this imports. Names are compared as words, so
-that too much may be said to be reached, and nothing too little: what is no plain definition, such
-as an operator, and what the types of src/ name count as reached by every law.
+What names a definition reaches it and all that it reaches: another definition; a contract; a clause
+of a law also by its answer in the law's written proof, by the lemmas that this names in the files
+that the proof imports, and by those that they name. Names are compared as words, so that too much
+may be said to be reached, and nothing too little: what is no plain definition, such as an operator,
+and what the types of src/ name count as reached by every law, and what is no plain lemma by every
+law that imports its file.
 """
 
 import os
@@ -12,10 +14,16 @@ import re
 from collections.abc import Iterator
 from pathlib import Path
 
+# A line of a file, by the file's path in the crate and the line's number.
+Place = tuple[str, int]
 WORD = re.compile(r"[\w'-]+")
 # The head of a definition, with its name, and the lines that go on with what stands above them.
 HEAD = re.compile(r"(?:(?:abbrev|unfoldable|pub|record|data)\s+)+([^\s:({]+)|([^\s:({]+) :")
-GOES_ON = re.compile(r"$|[\s})]|--")
+GOES_ON = re.compile(r"$|[\s})]|--|unfolding\s")
+COMMENT = re.compile(r"(?:^|\s)--.*")
+# The head of a block of definitions that have parameters in common; they are indented by two.
+BLOCK = re.compile(r"module .* where$")
+IMPORT = re.compile(r"use (\S+)\.\{(.*)\}")
 ALIAS = re.compile(r"([\w'-]+) as ([\w'-]+)")
 # What names nothing in src/ by itself.
 IDLE = re.compile(r"//[^\n]*|\buse [^;]*;")
@@ -27,11 +35,16 @@ def read(file: str | Path) -> str:
 
 
 def named_lines(text: str) -> list[str | None]:
-    """The name of the definition to which each line of a file of specs/ belongs: "" of an import,
-    and None of what is no plain definition."""
+    """The name of the definition, or lemma, to which each line of a file of specs/ or proofs/
+    belongs: "" of an import, and None of what is no plain definition."""
     name: str | None = ""
     names: list[str | None] = []
+    is_in_block = False
     for row in text.split("\n"):
+        if not GOES_ON.match(row):
+            is_in_block = bool(BLOCK.match(row))
+        elif is_in_block and row.startswith("  "):
+            row = row[2:]
         if not GOES_ON.match(row):
             head = HEAD.match(row)
             own = head and (head[1] or head[2]) or row.split()[0]
@@ -47,6 +60,72 @@ def words_of(text: str, uses: str = "") -> set[str]:
     return words | {it for it, alias in ALIAS.findall(uses) if alias in words}
 
 
+def only_imports_more(old: str, new: str) -> bool:
+    """Whether the line imports what it did, and other names under no name of their own."""
+    was, now = IMPORT.fullmatch(old), IMPORT.fullmatch(new)
+    if not was or not now or was[1] != now[1]:
+        return False
+    names = {*was[2].split(", ")}, {*now[2].split(", ")}
+    return names[0] <= names[1] and not any(" as " in it for it in names[1] - names[0])
+
+
+def levels(words: set[str], named: dict[str, set[str]]) -> Iterator[set[str]]:
+    """The definitions that the words name, those that these name, and so on."""
+    found: set[str] = set()
+    left = words & named.keys()
+    while left:
+        yield left
+        found |= left
+        left = (set[str]().union(*(named[it] for it in left)) & named.keys()) - found
+
+
+class Text:
+    """A file of specs/ or proofs/: the words of each plain definition or lemma, by its name, those
+    of all else but imports (`others`), and the name of each line."""
+
+    def __init__(self, text: str) -> None:
+        rows, self.names = text.split("\n"), named_lines(text)
+        uses = "\n".join(row for row, name in zip(rows, self.names) if name == "")
+        self.words: dict[str, set[str]] = {}
+        self.others: set[str] = set()
+        for row, name in zip(rows, self.names):
+            words = words_of(COMMENT.sub("", row), uses)
+            if name is None:
+                self.others |= words
+            elif name:
+                self.words.setdefault(name, set()).update(words)
+
+    def lines(self, named: set[str]) -> set[int]:
+        """The numbers of the lines of these definitions, and of what is no plain one."""
+        return {at for at, it in enumerate(self.names, 1) if it is None or it in named}
+
+
+class Clause:
+    """A clause of a contract: its function, its name, if any, the words that it reaches by, the
+    size of the function's body, and, if it is a law's and rests on no other proofs of the crate,
+    all definitions that it reaches and the lines of its answer and of the lemmas that this rests
+    on."""
+
+    def __init__(self, function: str, name: str, text: str, size: int) -> None:
+        self.function, self.name, self.words, self.size = function, name, words_of(text), size
+        self.reached: set[str] | None = None
+        self.places: set[Place] | None = None
+
+    def is_apart(self, touched: set[str]) -> bool:
+        """Whether it is certain that the clause reaches none of these definitions."""
+        return self.reached is not None and not self.reached & touched
+
+
+def clauses_of(function: str, contract: str, size: int) -> list[Clause]:
+    """The clauses of a contract. What stands before the first belongs to each."""
+    before, *rest = re.split(r"\bensures\b", IDLE.sub("", contract))
+    found = []
+    for part in rest or [""]:
+        name = re.match(r"[*\s]*(\w*)", part)
+        found.append(Clause(function, name[1] if name else "", before + part, size))
+    return found
+
+
 class Reach:
     """What the functions of a crate reach. Each is given by its path, with the text of its contract
     and the size of its body."""
@@ -59,24 +138,23 @@ class Reach:
         laws: list[str],
         types: str,
     ) -> None:
-        self.folder, self.functions, self.laws = folder, functions, laws
+        self.folder, self.laws = folder, laws
+        self.clauses = [it for f, told in functions.items() for it in clauses_of(f, *told)]
         self.definitions: dict[str, set[str]] = {}
         self.everywhere = words_of(IDLE.sub("", types))
         self.imported = re.compile(rf"Rattle\.{crate}\.(proofs|specs\.contracts)\b\.?([\w.+-]*)")
-        for file in Path(folder, "specs").rglob("*.antt"):
-            self.note(read(file))
-        self.files = {law: self.files_of(law.replace("::", "/")) for law in laws}
-        self.reached = {law: self.reached_by(law) for law, files in self.files.items() if files}
-
-    def note(self, text: str) -> None:
-        """Notes the words of each definition of a file of specs/."""
-        rows, names = text.split("\n"), named_lines(text)
-        uses = "\n".join(row for row, name in zip(rows, names) if name == "")
-        for row, name in zip(rows, names):
-            if name is None:
-                self.everywhere |= words_of(row, uses)
-            elif name:
-                self.definitions.setdefault(name, set()).update(words_of(row, uses))
+        for path in Path(folder, "specs").rglob("*.antt"):
+            text = Text(read(path))
+            self.everywhere |= text.others
+            for name, words in text.words.items():
+                self.definitions.setdefault(name, set()).update(words)
+        files = {law: self.files_of(law.replace("::", "/")) for law in laws}
+        every = set[str]().union(*files.values())
+        texts = {file: Text(read(f"{folder}/{file}")) for file in every}
+        for clause in self.clauses:
+            own = files.get(clause.function)
+            if own:
+                self.note(clause, {file: texts[file] for file in own})
 
     def files_of(self, path: str) -> set[str]:
         """The files of a law's proof, and those of lemmas that they import; none if they rest on
@@ -98,46 +176,44 @@ class Reach:
                 left += lemmas[:1]
         return found
 
-    def levels(self, words: set[str]) -> Iterator[set[str]]:
-        """The definitions that the words name, those that these name, and so on."""
-        found: set[str] = set()
-        left = words & self.definitions.keys()
-        while left:
-            yield left
-            found |= left
-            named = set[str]().union(*(self.definitions[it] for it in left))
-            left = (named & self.definitions.keys()) - found
-
-    def reached_by(self, law: str) -> set[str]:
-        """All definitions that the law reaches."""
-        proof = "\n".join(read(f"{self.folder}/{it}") for it in self.files[law])
-        words = words_of(self.functions[law][0]) | words_of(proof, proof) | self.everywhere
-        return set[str]().union(*self.levels(words))
+    def note(self, clause: Clause, texts: dict[str, Text]) -> None:
+        """Notes what a law's clause reaches, by the files of its proof."""
+        folder = f"proofs/{clause.function.replace('::', '/')}/"
+        proofs = [text.words for it, text in texts.items() if it.startswith(folder)]
+        answers = set[str]().union(*proofs)
+        own = {f"returns-clause-{clause.name}"} & answers or answers
+        lemmas: dict[str, set[str]] = {}
+        for text in texts.values():
+            for name, words in text.words.items():
+                lemmas.setdefault(name, set()).update(words)
+        words = own.union(clause.words, self.everywhere, *(it.others for it in texts.values()))
+        found = set[str]().union(*levels(words, lemmas))
+        words = words.union(*(lemmas[it] for it in found))
+        clause.reached = set[str]().union(*levels(words, self.definitions))
+        clause.places = {(file, at) for file, it in texts.items() for at in it.lines(found)}
 
     def touched(self, texts: dict[str, str]) -> set[str]:
-        """The definitions in which the changed lines lie; none if any lies elsewhere."""
+        """The definitions in which the changed lines lie, and the places of imports that only gain
+        names; none if any lies elsewhere."""
         found: set[str] = set()
         for file, text in texts.items():
             was = read(f"{self.folder}/{file}")
             if not file.startswith("specs/") or was.count("\n") != text.count("\n"):
                 return set()
-            for old, new, name in zip(was.split("\n"), text.split("\n"), named_lines(was)):
-                if old != new and not name:
+            rows = zip(was.split("\n"), text.split("\n"), named_lines(was))
+            for at, (old, new, name) in enumerate(rows, 1):
+                if old != new and not name and not only_imports_more(old, new):
                     return set()
-                found |= {name} if old != new and name else set()
+                found |= {name or f"{file}:{at}"} if old != new else set()
         return found
 
-    def nearest(self, touched: set[str]) -> str | None:
-        """The law whose contract comes to any of these definitions by the fewest steps; if none
-        does, the function."""
-        ranked: list[tuple[bool, int, int, int, str]] = []
-        for f, (contract, size) in self.functions.items():
-            levels = enumerate(self.levels(words_of(contract)))
-            steps = next((at for at, level in levels if level & touched), None)
+    def nearest(self, touched: set[str]) -> Clause | None:
+        """The clause of a law that comes to any of these definitions by the fewest steps; if none
+        does, that of a function."""
+        ranked: list[tuple[bool, int, int, int]] = []
+        for number, it in enumerate(self.clauses):
+            ranks = enumerate(levels(it.words, self.definitions))
+            steps = next((at for at, level in ranks if level & touched), None)
             if steps is not None:
-                ranked.append((f not in self.laws, steps, size, len(ranked), f))
-        return min(ranked)[-1] if ranked else None
-
-    def is_apart(self, law: str, touched: set[str]) -> bool:
-        """Whether it is certain that the law reaches none of these definitions."""
-        return law in self.reached and not self.reached[law] & touched
+                ranked.append((it.function not in self.laws, steps, it.size, number))
+        return self.clauses[min(ranked)[-1]] if ranked else None

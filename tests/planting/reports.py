@@ -5,6 +5,7 @@ from collections.abc import Iterable, Mapping
 
 from planting import kit
 from planting.checks import Ran
+from planting.reach import Place
 
 # What a report says of a written proof that names what a bug took away, and what the toolchain's
 # rule says of such a bug.
@@ -132,9 +133,9 @@ class Report:
         return not {*UNTRIED.findall(line)} & self.seen
 
 
-def refusal(ran: Ran, texts: Mapping[str, str | None], own: set[str] | None = None) -> str | None:
+def refusal(ran: Ran, texts: Mapping[str, str | None], own: set[Place] | None = None) -> str | None:
     """What refuses the edited texts in a check that was asked for some functions, in one of its own
-    files if any are given, or None if that is not clear."""
+    lines if any are given, or None if that is not clear."""
     said = lines_of(ran)
     if ran.returncode != 1 or not said[-1].startswith("only=") or kit.is_stale(ran.stdout):
         return None
@@ -146,7 +147,7 @@ def refusal(ran: Ran, texts: Mapping[str, str | None], own: set[str] | None = No
     if own:
         if not all(it[1].startswith("proofs/") for it in errors if it):
             return None
-        told = [it for it, error in zip(told, errors) if error and error[1] in own]
+        told = [it for it, error in zip(told, errors) if error and (error[1], int(error[2])) in own]
     return next((it for it in told if not is_by_name(it)), None)
 
 

@@ -54,11 +54,12 @@ STRAY = [
 
 AT_LAW = "proofs/law/Answers.antt:5:3: error: `returns`: the two types differ"
 BY_NAME = "proofs/law/Answers.antt:5:3: error: `echo` is not in scope"
-# Reports of a check of one function, its status, the files that may refuse it, and what does.
-REFUSALS: list[tuple[list[str], int, set[str] | None, str | None]] = [
+# Reports of a check of one function, its status, the lines that may refuse it, and what does.
+REFUSALS: list[tuple[list[str], int, set[tuple[str, int]] | None, str | None]] = [
     ([AT_LAW, "only=1 proved=0"], 1, None, AT_LAW),
-    ([AT_LAW, "only=1 proved=0"], 1, {"proofs/law/Answers.antt"}, AT_LAW),
-    ([AT_LAW, "only=1 proved=0"], 1, {"proofs/other/Answers.antt"}, None),
+    ([AT_LAW, "only=1 proved=0"], 1, {("proofs/law/Answers.antt", 5)}, AT_LAW),
+    ([AT_LAW, "only=1 proved=0"], 1, {("proofs/law/Answers.antt", 6)}, None),
+    ([AT_LAW, "only=1 proved=0"], 1, {("proofs/other/Answers.antt", 5)}, None),
     ([BY_NAME, AT_LAW, "only=1 proved=0"], 1, None, AT_LAW),
     ([f"{NOTE} when", "only=1 proved=0"], 1, None, f"{NOTE} when"),
     # by a lost name alone; a text that cannot be read; another status; no end

@@ -85,10 +85,11 @@ class Trial:
     def by_laws(self, group: list[Asked]) -> None:
         """Tries bugs in definitions in one check of the functions that are asked for them."""
         texts, is_alone = self.laws.joined([it.bug for it in group]), len(group) == 1
-        done = self.checks.check(texts, [it.law for it in group], is_alone=True)
-        for bug, law, _, files in group:
-            is_proved = f"\nfn {self.crate.name}::{law}: not proved" not in done.stdout
-            fault = refusal(done, texts, None if is_alone else files)
+        asked = sorted({it.clause.function for it in group})
+        done = self.checks.check(texts, asked, is_alone=True)
+        for bug, clause, _ in group:
+            is_proved = f"\nfn {self.crate.name}::{clause.function}: not proved" not in done.stdout
+            fault = refusal(done, texts, None if is_alone else clause.places)
             bug.seconds += done.elapsed / len(group)
             if fault and (is_alone or not is_proved):
                 bug.result = Result(True, f"refused{', alone' * is_alone}: {fault[:160]}")
