@@ -2,10 +2,10 @@
 ghost use Rattle.std.specs.Prelude.{◌≡◌, ℕ, ◌+◌, ◌*◌, ◌<◌, ◌≤◌, List, [], ◌∷◌, ◌++◌, length, MatchOption, MatchBool, IfOk, Some, None, max, cond, ltb, eqb, ◌&&◌, set, false};
 ghost use Rattle.std.specs.Int.{IsPowerOfTwo};
 ghost use Rattle.tg_rights.specs.declared.limits.TheConstants.{MAX_CELLS, MAX_SLOTS};
-ghost use Rattle.tg_rights.specs.Letters.{is_none};
+ghost use Rattle.tg_rights.specs.Promise.Letters.{is_none};
 ghost use Rattle.tg_cells.specs.declared.key.TheConstants.Key.{FIXED};
-ghost use Rattle.tg_cells.specs.Lists.{CellLists, Edge, owned, first_cell, Stands, IsLinked, IsLinkedBy, HasNone, IsFresh, Found, IsCells};
-ghost use Rattle.tg_cells.specs.Chain.{IsProvided};
+ghost use Rattle.tg_cells.specs.Promise.Lists.{CellLists, Edge, owned, first_cell, Stands, IsLinked, IsLinkedBy, HasNone, IsUnowned, Found, IsCells};
+ghost use Rattle.tg_cells.specs.Inner.Chain.{cell_at};
 
 use crate::key::{Key, bucket_of};
 use crate::pool::{Cell, Pool};
@@ -21,7 +21,7 @@ pub struct Cells {
     cells: Pool,
     // The first cell of each owner's list, its newest.
     heads: Vec<u32>,
-    // The first free one of the cells that were used so far.
+    // The first free one of the cells that were used so far; if there is none, the number of all cells.
     free: u32,
     free_count: u32,
     // The number of all cells, which is no cell's number and ends each list.
@@ -33,8 +33,8 @@ pub struct Cells {
 }
 
 impl Model for Cells {
-    ghost use Rattle.tg_cells.specs.Lists.{CellLists};
-    ghost use Rattle.tg_cells.specs.Inside.{view_of, IsKept};
+    ghost use Rattle.tg_cells.specs.Promise.Lists.{CellLists};
+    ghost use Rattle.tg_cells.specs.Inner.Inside.{view_of, IsKept};
 
     ghost Value = { CellLists };
 
@@ -54,29 +54,16 @@ fn cell_or_none(cells: &Pool, number: u32) -> Option<u32>
     }
 }
 
-// The number of the first free cell; if none is free, the number of all cells. If none of the cells used so far is
-// free, the next one is appended to them.
-fn provide(cells: &mut Pool, free: u32, size: u32, owners: u32) -> u32
-    requires used { length cells.old.items ≤ size }
-    requires room { size ≤ cells.old.room }
-    ensures provided { IsProvided cells.old.items cells.new.items free size owners result }
-    ensures room { size ≤ cells.new.room }
+// The first free one of the cells used so far, once this free cell is used: the next one in their list. If the cell was
+// never used, there is none, which is said by `size`.
+fn free_after(cells: &Pool, number: u32, size: u32) -> u32
+    ensures { result ≡ cond (ltb number (length cells.now.items)) (cell_at cells.now.items number).next size }
 {
-    let used = cells.len() as u32;
-    if free < used {
-        return free;
+    if (number as usize) < cells.len() {
+        cells.hop(number).next
+    } else {
+        size
     }
-    if used < size {
-        cells.push(Cell {
-            owner: owners,
-            previous: size,
-            next: size,
-            target: 0,
-            serial: 0,
-            rights: Rights::empty(),
-        });
-    }
-    used
 }
 
 // If a list has lost its first cell, which had none before it, its head is the next one.
@@ -162,19 +149,18 @@ impl Cells {
         requires none { HasNone (owned self.old.lists owner) serial }
         requires some { is_none rights ≡ false }
         ensures { MatchBool result
-            ((e : Edge) × (IsFresh self.old.lists e.cell) × (e.target ≡ target) × (e.serial ≡ serial) × (e.rights ≡ rights) × (self.old.free ≡ self.new.free + 1)
+            ((e : Edge) × (IsUnowned self.old.lists e.cell) × (e.target ≡ target) × (e.serial ≡ serial) × (e.rights ≡ rights) × (self.old.free ≡ self.new.free + 1)
             × (self.new ≡ record self.old { lists = set self.old.lists owner (e ∷ owned self.old.lists owner); free = self.new.free }))
             ((self.old.free ≡ 0) × (self.new ≡ self.old)) }
     {
         let end = self.size;
-        let owners = self.heads.len() as u32;
-        let number = provide(&mut self.cells, self.free, end, owners);
-        self.free = number;
-        if number as usize >= self.cells.len() {
+        // The first free one of the cells used so far or, if there is none, the next one after them.
+        let number = self.free.min(self.cells.len() as u32);
+        if number >= end {
             return false;
         }
         let head = self.heads[owner as usize];
-        self.free = self.cells.hop(number).next;
+        self.free = free_after(&self.cells, number, end);
         self.free_count -= 1;
         let cell = Cell {
             owner,
@@ -199,7 +185,6 @@ impl Cells {
             → self.new ≡ record self.old { lists = set self.old.lists owner (p ++ r); free = self.old.free + 1 } }
     {
         let end = self.size;
-        let owners = self.heads.len() as u32;
         let previous = self.cells.rest(cell).previous;
         let next = self.cells.hop(cell).next;
         let serial = self.cells.rest(cell).serial;
@@ -209,7 +194,7 @@ impl Cells {
         set_head(&mut self.heads, owner, previous == end, next);
         self.cells.set_next(previous, next);
         self.cells.set_previous(next, previous);
-        self.cells.release(cell, owners, self.free);
+        self.cells.set_next(cell, self.free);
         self.free = cell;
         self.free_count += 1;
     }

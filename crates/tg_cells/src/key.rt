@@ -1,6 +1,6 @@
 //! The key that determines in which bucket of the index an edge lies.
 ghost use Rattle.std.specs.Prelude.{◌≡◌, ◌<◌, ◌≤◌};
-ghost use Rattle.tg_cells.specs.Index.{bucket_of};
+ghost use Rattle.tg_cells.specs.Inner.Index.{bucket_of};
 
 /// The key of an index. Any two numbers will do, and no answer depends on them. Odd numbers with well-mixed bits are
 /// meant to spread edges evenly, and numbers that nobody can guess, to keep anybody from choosing edges that all lie in
@@ -25,7 +25,7 @@ impl Key {
 // The bucket of an edge, among this many, a power of two. One owner's edges to a block of 64 serials, which differ only
 // in their lowest six bits, lie side by side in the heads, so that they share lines of the processor's cache, and among
 // 64 buckets or more no two of them lie in one. The key determines where each block begins, for each owner.
-#[tactic(auto, unfolding(crate::specs::Index::bucket_of))]
+#[tactic(auto, unfolding(crate::specs::Inner::Index::bucket_of))]
 pub(crate) fn bucket_of(key: Key, owner: u32, serial: u64, buckets: usize) -> usize
     requires { 1 ≤ buckets }
     ensures is { result ≡ bucket_of key buckets owner serial }

@@ -1,14 +1,15 @@
 //! The cells that were used so far, as they lie in memory.
-ghost use Rattle.std.specs.Prelude.{◌≡◌, ◌<◌, ◌≤◌, ◌++◌, ◌∷◌, ◌&&◌, [], IfOk, eqb, length, set};
-ghost use Rattle.tg_cells.specs.Chain.{Pooled, cell_at, with_next, with_previous};
-ghost use Rattle.tg_cells.specs.Pool.{hop_of, pooled, rest_of};
+ghost use Rattle.std.specs.Prelude.{◌≡◌, ◌<◌, ◌≤◌, ◌&&◌, [], IfOk, eqb, length, set};
+ghost use Rattle.tg_index.specs.Inner.Links.{written};
+ghost use Rattle.tg_cells.specs.Inner.Chain.{Pooled, cell_at, with_next, with_previous};
+ghost use Rattle.tg_cells.specs.Inner.Pool.{hop_of, pooled, rest_of};
 
 use std::alloc::{AllocError, Global};
 use std::marker::Model;
 use tg_lists::Columns;
 use tg_rights::Rights;
 
-/// A cell, and its neighbours in its list. A free cell has the number of owners as its owner.
+/// A cell, and its neighbours in its list.
 #[derive(Drop)]
 pub(crate) struct Cell {
     pub next: u32,
@@ -112,23 +113,19 @@ impl Pool {
         rest.serial == serial && rest.owner == owner
     }
 
-    /// Appends a cell.
-    pub fn push(&mut self, cell: Cell)
-        requires { length self.old.items < self.old.room }
-        ensures items { self.new.items ≡ self.old.items ++ cell ∷ [] }
+    /// Writes a cell in place of another, or as the next one, for which there is room.
+    pub fn write(&mut self, number: u32, cell: Cell)
+        requires used { number ≤ length self.old.items }
+        requires within { number < self.old.room }
+        ensures items { self.new.items ≡ written self.old.items number cell }
         ensures room { self.old.room ≤ self.new.room }
     {
         let (hop, rest) = cell.halves();
-        self.cells.push(hop, rest);
-    }
-
-    /// Writes a cell in place of another.
-    pub fn write(&mut self, number: u32, cell: Cell)
-        requires { number < length self.old.items }
-        ensures { self.new ≡ record self.old { items = set self.old.items number cell } }
-    {
-        let (hop, rest) = cell.halves();
-        self.cells.set(number as usize, hop, rest);
+        if (number as usize) < self.cells.len() {
+            self.cells.set(number as usize, hop, rest);
+        } else {
+            self.cells.push(hop, rest);
+        }
     }
 
     /// Links the cell of that number, if there is one, on to another.
@@ -148,16 +145,6 @@ impl Pool {
         if (number as usize) < self.cells.len() {
             self.cells.right_mut(number as usize).previous = previous;
         }
-    }
-
-    /// The cell goes to the free list, in front of the next one there.
-    pub fn release(&mut self, number: u32, owners: u32, next: u32)
-        requires { number < length self.old.items }
-        ensures { self.new ≡ record self.old { items = set self.old.items number (record (cell_at self.old.items number) { owner = owners; next = next }) } }
-    {
-        let target = self.cells.left(number as usize).target;
-        self.cells.set_left(number as usize, Hop { next, target });
-        self.cells.right_mut(number as usize).owner = owners;
     }
 
     /// Replaces the rights on the cell's edge.

@@ -1,11 +1,11 @@
 -- What the calls that add rights, take them and replace texts do to a store.
 use Rattle.std.proofs.Common.{◌≡◌, ◌≢◌, ℕ, ◌<◌, ◌+◌, List, [], ◌∷◌, ◌++◌, length, Some, None, Result, Ok, Err, ◌⊎◌, inl, inr, true, false, sym, ◌∙◌, subst, ap, refl, set, arith, ◌≤◌, eq-eqb}
-use Rattle.tg_collect.proofs.Common.{still_lead, Acted, Adds, HeapFull, IfErr, Occupant, OnErr, OnOk, RootLists, name_of, Apart, Dropped, Gone, HeapGraph, IsDropped, Protection, Rewrites, RightsRemoved, SetsText, Stayed, TextReplaced, at_within, body, cells, comes, difference-Relabels, drops, first_cell, is_none, is_none-none, label-relabelled, left_rewrites, none, progress_dropped, progress_of, progress_without, rewrites_keeps, same_Some, vertex_of, without, Contains, Edge, EdgeStored, Found, HasNone, IsAdded, IsEdgeIn, IsHeap, LedTo, Letters, Machine, Root, SEATS, Whole, as_kept, contains_map, edge, edges, fresh, gains, held, is_some, joined, relabelled, joins, kept_from, lists_of, pending_of, place, serial_at, slot, stored, with_target}
+use Rattle.tg_collect.proofs.Common.{still_lead, Acted, Adds, HeapFull, IfErr, Occupant, OnErr, OnOk, RootLists, spot_serial, Apart, Dropped, Gone, HeapGraph, IsDropped, Protection, RewritesEdge, RightsRemoved, SetsText, Stayed, TextReplaced, at_within, body, cells, comes, difference-Relabels, drops, first_cell, is_none, is_none-none, label-relabelled, left_rewrites, none, progress_dropped, progress_of, progress_without, rewrites_keeps, same_Some, vertex_of, without, Contains, Edge, EdgeStored, Found, HasNone, IsAdded, IsEdgeIn, IsHeap, LedTo, Letters, Machine, Root, SEATS, Whole, as_kept, contains_map, edge, edges, fresh, gains, held, is_some, joined, relabelled, joins, kept_from, lists_of, pending_of, place, serial_at, slot, stored, with_target}
 use Rattle.tg_heap.specs.declared.heap.HeapFull.TheVariants as full
 use Rattle.std.specs.FinSet as finset
-use Rattle.tg_marking.specs.Values as values
-use Rattle.tg_collect.specs.Held as graph
-use Rattle.tg_graph.specs.Protection.{label}
+use Rattle.tg_marking.specs.Promise.Values as values
+use Rattle.tg_collect.specs.Promise.Held as graph
+use Rattle.tg_graph.specs.Promise.Protection.{label}
 use Rattle.tg_collect.proofs.SlotLemmas.{seat_slot, put_slot}
 use Rattle.tg_collect.proofs.ShownLemmas.{held_at, vertex_found}
 use Rattle.tg_collect.proofs.StoreLemmas.{edge_in, edge_label, edge_owned, edge_visible, found_contains, holds, Holds, in_edge, owner, serial_is, owner_is, owner_within, once_stored, owner_place}
@@ -178,7 +178,7 @@ module _ {m : Machine} {id : ℕ} (w : Whole m) (h : Holds m id) (text : List �
   abbrev after : Machine
   after = record m { heap = retold }
 
-  abbrev step : Rewrites (body m) id text (body after)
+  abbrev step : RewritesEdge (body m) id text (body after)
   step = record { owner = owner h; at = owner_is h; is = put_slot m.heap (lists_of m.roots) id (Some (record h.occupant { text = text })) m.heap.table.free }
 
   same : progress_of after ≡ progress_of m
@@ -188,7 +188,7 @@ module _ {m : Machine} {id : ℕ} (w : Whole m) (h : Holds m id) (text : List �
   same_left = rw same (left_rewrites (body m) (body after) (progress_of m) id m.heap.cell_count text step)
 
   text_put : Replaced m after id (record (owner h) { text = text })
-  text_put = replaced w retold m.progress id (record (owner h) { text = text }) step.is (owner_within h) (λ r. sym (ap name_of (owner_is h))) refl refl (rw same (rewrites_keeps (body m) (body after) (progress_of m) id text step w.kept)) ((same_lists m.heap retold.table m.progress).1 w.cursor)
+  text_put = replaced w retold m.progress id (record (owner h) { text = text }) step.is (owner_within h) (λ r. sym (ap spot_serial (owner_is h))) refl refl (rw same (rewrites_keeps (body m) (body after) (progress_of m) id text step w.kept)) ((same_lists m.heap retold.table m.progress).1 w.cursor)
       (ap values.shown same) (let l = same_left in omega (arith, l))
 
   text_replaced : TextReplaced (stored m) (stored after) (serial_at (stored m) id) text h.occupant.text

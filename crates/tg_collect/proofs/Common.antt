@@ -20,10 +20,10 @@ pub use Rattle.std.specs.Prelude.{IfErr, OnErr, OnOk, ◌↔◌}
 pub use Rattle.std.specs.declared.cmp.Ordering.{Ordering}
 pub use Rattle.std.specs.declared.cmp.Ordering.TheVariants.{Equal, Greater, Less}
 pub use Rattle.tg_lists.proofs.MembershipLemmas.{contains_append, contains_left, contains_map, contains_middle, contains_right, map_append, same_by, split_at}
-pub use Rattle.tg_lists.specs.Membership.{Contains, Distinct}
+pub use Rattle.tg_lists.specs.Promise.Membership.{Contains, Distinct}
 pub use Rattle.tg_rights.proofs.Bools.{and_both}
 pub use Rattle.tg_rights.proofs.LettersLemmas.{has_none, is_none-none, right_some, some_right}
-pub use Rattle.tg_rights.specs.Letters.{Letters, Right, grant, has, includes, is_none, joined, none, read, rights_where, take, without, write}
+pub use Rattle.tg_rights.specs.Promise.Letters.{Letters, Right, grant, has, includes, is_none, joined, none, read, rights_where, take, without, write}
 pub use Rattle.tg_rights.specs.declared.kind.Kind.{Kind}
 pub use Rattle.tg_rights.specs.declared.kind.Kind.TheVariants.{Subject}
 pub use Rattle.tg_rights.specs.declared.limits.TheConstants.{MAX_PRINCIPALS, SEATS}
@@ -31,7 +31,7 @@ pub use Rattle.tg_graph.proofs.CommandsKeepGraphsLemmas.{principals_are_few}
 pub use Rattle.tg_graph.proofs.EdgesAreCountedLemmas.{edge_count-sums, edge_count-union, keys_occur_once, keys_apart, sorted_rises}
 pub use Rattle.tg_graph.proofs.LabelLemmas.{contains-label, difference-Relabels, union-Relabels}
 pub use Rattle.tg_graph.proofs.LawsLemmas.{edge_list, subjects-first}
-pub use Rattle.tg_graph.specs.Laws.{IsEdgeList}
+pub use Rattle.tg_graph.specs.Promise.Laws.{IsEdgeList}
 pub use Rattle.tg_graph.proofs.EdgesAreListedLemmas.{vertex_listed}
 pub use Rattle.tg_graph.proofs.ListedLemmas.{mapped, ones, permuted, rises_append, rises_by, rises_map, same_in_order, serials_distinct, sum_among, ends_tied, placed, serial_tied}
 pub use Rattle.tg_graph.proofs.OpeningLemmas.{subjects-has, subjects-within}
@@ -40,27 +40,24 @@ pub use Rattle.tg_graph.proofs.PartsStayLemmas.{label-relabelled}
 pub use Rattle.tg_graph.proofs.RollLemmas.{any_is, contains_filter, is_any, filter_contains, untrue}
 pub use Rattle.tg_graph.proofs.ProtectionLemmas.{edge_from, edge_to}
 pub use Rattle.tg_graph.proofs.TriplesLemmas.{same_triples}
-pub use Rattle.tg_graph.specs.Fullness.{edge_count, edges_at, vertex_count}
-pub use Rattle.tg_graph.specs.Names.{IsRoll}
-pub use Rattle.tg_graph.specs.Opening.{principal_count, subjects}
-pub use Rattle.tg_graph.specs.Parts.{Listed, Rises}
-pub use Rattle.tg_graph.specs.Paths.{IsPart, Live}
-pub use Rattle.tg_graph.specs.Protection.{IsEdge, IsGraph, Protection, kind_of, vertex}
-pub use Rattle.tg_graph.specs.Rules.{with_text}
-pub use Rattle.tg_graph.specs.Triples.{Triple, Triples, edge}
+pub use Rattle.tg_graph.specs.Promise.Fullness.{edge_count, edges_at, vertex_count}
+pub use Rattle.tg_graph.specs.Promise.Protection.{IsRoll, IsPart, Live, IsEdge, IsGraph, Protection, kind_of, vertex, Triple, Triples, edge}
+pub use Rattle.tg_graph.specs.Promise.Opening.{principal_count, subjects}
+pub use Rattle.tg_graph.specs.Promise.Parts.{Listed, Rises}
+pub use Rattle.tg_graph.specs.Promise.Rules.{with_text}
 pub use Rattle.tg_graph.specs.declared.member.Member.{Member}
 pub use Rattle.tg_graph.specs.declared.vertex.Vertex.{Vertex}
 pub use Rattle.tg_slots.proofs.FreshLemmas.{indices_length, nones_free, nones_length}
-pub use Rattle.tg_slots.specs.Table.{Free, Has, Table, coloured, fresh, if_free, in_slot, indices, slot}
+pub use Rattle.tg_slots.specs.Promise.Table.{Free, Has, Table, coloured, fresh, if_free, in_slot, indices, slot}
 pub use Rattle.tg_slots.specs.declared.colour.Colour.{Colour}
 pub use Rattle.tg_slots.specs.declared.colour.Colour.TheVariants.{Black, Grey, White}
 pub use Rattle.tg_slots.specs.declared.slots.Occupant.{Occupant}
-pub use Rattle.tg_cells.specs.Lists.{Edge, Found, HasNone, IsLinkedBy, Stands, cells, first_cell, serials}
+pub use Rattle.tg_cells.specs.Promise.Lists.{Edge, Found, HasNone, IsLinkedBy, Stands, cells, first_cell, edge_serials}
 pub use Rattle.tg_heap.proofs.CursorLemmas.{passed, remaining_split, split_whole}
-pub use Rattle.tg_heap.specs.Calls.{IsAdded, IsDropped, relabelled}
+pub use Rattle.tg_heap.specs.Promise.Calls.{IsAdded, IsDropped, relabelled}
 pub use Rattle.tg_heap.proofs.JoinLemmas.{first_is}
-pub use Rattle.tg_heap.specs.Graph.{HeapGraph, IsHeap, edges, mark_at, painted, shaded}
-pub use Rattle.tg_heap.specs.Marking.{remaining}
+pub use Rattle.tg_heap.specs.Promise.Graph.{HeapGraph, IsHeap, edges, mark_at, painted, shaded}
+pub use Rattle.tg_heap.specs.Inner.Marking.{remaining}
 pub use Rattle.tg_heap.specs.declared.heap.Dropped.{Dropped}
 pub use Rattle.tg_heap.specs.declared.heap.Dropped.TheVariants.{Gone, Kept as Stayed}
 pub use Rattle.tg_heap.specs.declared.heap.HeapFull.{HeapFull}
@@ -69,20 +66,22 @@ pub use Rattle.tg_marking.proofs.SessionLemmas.{blank_keeps, drops_keeps, idle_s
 pub use Rattle.tg_marking.proofs.MutatorLemmas.{still_lead}
 pub use Rattle.tg_marking.proofs.KeepLemmas.{turns_name, line_collected, line_keeps}
 pub use Rattle.tg_marking.proofs.SpotLemmas.{at_within, contains_mapped, held_keeps, keeps_grey, kept_is, kept_name, put_each, shade_each, shade_kept, shade_name, shade_size}
-pub use Rattle.tg_marking.specs.Invariant.{Closed, Invariant, IsLive, IsScanned, Phased, along, at_root}
-pub use Rattle.tg_marking.specs.Left.{Celled, free_one, held_cells, held_one, left, parked_cells, total}
-pub use Rattle.tg_marking.specs.Runs.{IsLiveIn, IsLiveOrNew, Run, Sane}
-pub use Rattle.tg_marking.specs.Steps.{DropsEdge, Line, Places, PutsEdge, Reroots, Rewrites, Trims, ahead, blackens, elsewhere, finishes, frees, new_colour, put, scans, shade, shade_all, shades_target, skips, starts, starts_sweep, strips, takes, whitens}
-pub use Rattle.tg_marking.specs.Values.{AtRest, Body, HasRoot, IsRoot, IsTarget, Kept, Spot, Stage, as_kept, keeps, mark, mark_of, name, name_of, out, seen, edges_of}
+pub use Rattle.tg_marking.specs.Promise.Invariant.{Closed, Invariant, IsLive, IsScanned, Phased, along, at_root}
+pub use Rattle.tg_marking.specs.Promise.Left.{Celled, held_cells, held_one, left, parked_cells}
+pub use Rattle.tg_marking.specs.Promise.Values.{free_one, total, AtRest, Body, HasRoot, IsRootSlot, IsTarget, Kept, Spot, Stage, as_kept, keeps, slot_mark, spot_mark, slot_serial, spot_serial, out, seen, spot_edges}
+pub use Rattle.tg_marking.specs.Promise.Runs.{IsLiveIn, IsLiveOrNew, BodyRun, Sane}
+pub use Rattle.tg_marking.specs.Promise.Steps.{DropsEdge, Line, Places, PutsEdge, Reroots, RewritesEdge, Trims, ahead, blackens, elsewhere, finishes, frees, new_colour, put, scans, shade, shade_all, shades_target, skips, starts, starts_sweep, strips, takes, whitens}
 pub use Rattle.tg_collect.proofs.HeldLemmas.{comes, contains-held, drops, gains, joins, says_edge, says_slot}
-pub use Rattle.tg_collect.specs.Held.{Apart, entries, vertex_of}
-pub use Rattle.tg_collect.specs.Machine.{Adds, AreRoots, AreWithin, CursorFits, Counts, IsListed, Links, Puts, Rerooted, RootLists, SetsText, ShadesSeat, Steps, Whole, all_shaded, all_slots, assuming, bare, body, body_of, colour_ahead, has_passed, is_at, join, lists_of, other_slots, progress_dropped, progress_in, progress_of, progress_without, slot_of, slots_of, with_agent, with_principal, with_shaded, with_target, without_principal, zip}
-pub use Rattle.tg_collect.specs.Openings.{HasOpened, Opened, OpeningsCanBeStored, Opens, OpensEdges, OpensFirst, first_root, first_roots, first_serials, KeepsSize, OpensAll, rank}
-pub use Rattle.tg_collect.specs.Readings.{IsEdgeIn, IsHeldIn, IsParkedIn, IsRootAt, IsRootIn, agents, cycle_bound, free_slots, held, kept, kept_from, pending, pending_of, phase, phase_in, place, principals, root_serial, serial_at, serial_of, shown, slot_count, spot, triples, vertices}
-pub use Rattle.tg_collect.specs.Runs.{CallsAct, IsBounded, IsComplete, StoreRun, acts, goes, start}
-pub use Rattle.tg_collect.specs.Sessions.{Acted, Assumed, Changed, EdgeStored, LedTo, AgentLeft, PrincipalStored, Retired, RightsRemoved, Shaded, TargetShaded, TextReplaced, VertexStored}
-pub use Rattle.tg_collect.specs.Stored.{Stored, stored}
-pub use Rattle.tg_collect.specs.Views.{Collected, IsStore, most_marks}
+pub use Rattle.tg_collect.specs.Promise.Held.{Apart, entries, vertex_of}
+pub use Rattle.tg_collect.specs.Promise.Stored.{IsListed, RootLists, all_slots, assuming, bare, slot_of, slots_of, with_agent, with_principal, with_target, without_principal, Stored}
+pub use Rattle.tg_collect.specs.Inner.Machine.{Adds, AreRoots, AreWithin, CursorFits, Counts, LinksTo, Puts, Rerooted, SetsText, ShadesSeat, Steps, Whole, all_shaded, body, body_of, colour_ahead, has_passed, is_at, join, lists_of, other_slots, progress_dropped, progress_in, progress_of, progress_without, with_shaded, zip}
+pub use Rattle.tg_collect.specs.Promise.Openings.{Opened, OpeningsCanBeStored, Opens, first_serials}
+pub use Rattle.tg_collect.specs.Inner.Openings.{HasOpened, OpensEdges, OpensFirst, first_root, first_roots, KeepsSize, OpensAll, rank}
+pub use Rattle.tg_collect.specs.Promise.Readings.{IsEdgeIn, IsHeldIn, IsParkedIn, IsRootAt, IsRootIn, agents, cycle_bound, free_slots, held, kept, kept_from, pending, pending_of, phase, phase_in, place, principals, root_serial, serial_at, kept_serial, shown_body, slot_count, spot_at, triples, vertices}
+pub use Rattle.tg_collect.specs.Promise.Runs.{CallsAct, StoresAreBounded, StoresAreComplete, StoreRun, acts, goes, start}
+pub use Rattle.tg_collect.specs.Promise.Sessions.{Acted, Assumed, SlotChanged, EdgeStored, LedTo, AgentLeft, PrincipalStored, Retired, RightsRemoved, Shaded, TargetShaded, TextReplaced, VertexStored}
+pub use Rattle.tg_collect.specs.Inner.Stored.{stored}
+pub use Rattle.tg_collect.specs.Promise.Views.{Collected, IsStore, most_marks}
 pub use Rattle.tg_collect.specs.declared.machine.Machine.{Machine}
 pub use Rattle.tg_collect.specs.declared.machine.Progress.{Progress}
 pub use Rattle.tg_collect.specs.declared.machine.Progress.TheVariants.{Idle, Marking, Sweeping}

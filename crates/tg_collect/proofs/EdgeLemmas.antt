@@ -1,13 +1,13 @@
 -- A held slot gets other edges, or another text.
 use Rattle.std.proofs.Common.{◌≡◌, ◌≢◌, ℕ, ◌<◌, List, [], ◌∷◌, ◌++◌, length, append_assoc, Option, Some, None, ◌⊎◌, inl, inr, cond, eq-eqb, sym, ◌∙◌, subst, ap, refl, set, get_or-set_same, get_or-set_other, ◌≤◌, arith, append-nil}
-use Rattle.tg_collect.proofs.Common.{trims_stage, HasRoot, bare, cases_eq, Contains, Distinct, Edge, first_cell, HeapGraph, edges, remaining, Progress, Marking, progress_in, CursorFits, Letters, Found, IsHeap, Spot, Body, as_kept, name, name_of, put, put_each, at_within, Machine, lists_of, body, AtRest, progress_of, Whole, Stored, stored, kept_from, held, ne_eqb, cells, passed, split_whole, remaining_split, Trims, elsewhere, ahead, DropsEdge, PutsEdge, IsTarget, Invariant, puts_keeps, drops_keeps, left_puts, left_drops, is_at, progress_without, place, relabelled, body_of, held_keeps, left, shown, Idle, Sweeping}
+use Rattle.tg_collect.proofs.Common.{trims_stage, HasRoot, bare, cases_eq, Contains, Distinct, Edge, first_cell, HeapGraph, edges, remaining, Progress, Marking, progress_in, CursorFits, Letters, Found, IsHeap, Spot, Body, as_kept, slot_serial, spot_serial, put, put_each, at_within, Machine, lists_of, body, AtRest, progress_of, Whole, Stored, stored, kept_from, held, ne_eqb, cells, passed, split_whole, remaining_split, Trims, elsewhere, ahead, DropsEdge, PutsEdge, IsTarget, Invariant, puts_keeps, drops_keeps, left_puts, left_drops, is_at, progress_without, place, relabelled, body_of, held_keeps, left, shown_body, Idle, Sweeping}
 use Rattle.tg_collect.proofs.SlotLemmas.{put_list}
 use Rattle.tg_collect.proofs.ShownLemmas.{held_set, place_kept}
 use Rattle.tg_collect.proofs.StoreLemmas.{Holds, owner, owner_is, owner_within}
 use Rattle.tg_collect.proofs.SeatLemmas.{roots_move, stored_is}
-use Rattle.tg_marking.specs.Values as values
-use Rattle.tg_marking.specs.Steps as steps
-use Rattle.tg_collect.specs.Held as graph
+use Rattle.tg_marking.specs.Promise.Values as values
+use Rattle.tg_marking.specs.Promise.Steps as steps
+use Rattle.tg_collect.specs.Promise.Held as graph
 
 -- Two splits of a list: one part of it stands between their places.
 splits : (a b c : List Edge) (x : Edge) (d : List Edge) → a ++ b ≡ c ++ x ∷ d → ((mid : List Edge) × (c ≡ a ++ mid) × (b ≡ mid ++ x ∷ d)) ⊎ ((mid : List Edge) × (d ≡ mid ++ b))
@@ -88,7 +88,7 @@ pub record Replaced (m n : Machine) (i : ℕ) (s : Spot) : Type 0 where
   pub is : stored n ≡ record (stored m) { slots = set (stored m).slots i (Some s); free_cells = n.heap.free_cells; left = (stored n).left }
 
 -- From the invariant, the cursor and the measure.
-pub replaced : {m : Machine} (w : Whole m) (g : HeapGraph) (q : Progress) (i : ℕ) (s : Spot) → body_of g (lists_of m.roots) ≡ put (body m) i (Some s) → i < length (body m).slots → (HasRoot (bare (lists_of m.roots)) i → Some s.serial ≡ name (body m) i)
+pub replaced : {m : Machine} (w : Whole m) (g : HeapGraph) (q : Progress) (i : ℕ) (s : Spot) → body_of g (lists_of m.roots) ≡ put (body m) i (Some s) → i < length (body m).slots → (HasRoot (bare (lists_of m.roots)) i → Some s.serial ≡ slot_serial (body m) i)
     → g.cell_count ≡ m.heap.cell_count → g.key ≡ m.heap.key → Invariant (body_of g (lists_of m.roots)) (progress_in g q) → CursorFits g q → values.shown (progress_in g q) ≡ values.shown (progress_of m)
     → left g.cell_count (body_of g (lists_of m.roots)) (progress_in g q) ≤ (stored m).left → Replaced m (record m { heap = g; progress = q }) i s
 replaced {m = m} w g q i s shows inside named count key holds cursor stage less = record {
@@ -96,8 +96,8 @@ replaced {m = m} w g q i s shows inside named count key holds cursor stage less 
   left = less;
   is = stored_is m g q m.roots (lists_of m.roots) (set (stored m).slots i (Some s)) (ap (λ (b : Body). b.slots) shows) stage count key refl;
 } where
-  names : (j : ℕ) → HasRoot (bare (lists_of m.roots)) j → name (body_of g (lists_of m.roots)) j ≡ name (body m) j
-  names j r = ap (λ (b : Body). name b j) shows ∙ put_each (λ j x. HasRoot (bare (lists_of m.roots)) j → name_of x ≡ name (body m) j) (body m) i (Some s) inside named (λ j n r. refl) j r
+  names : (j : ℕ) → HasRoot (bare (lists_of m.roots)) j → slot_serial (body_of g (lists_of m.roots)) j ≡ slot_serial (body m) j
+  names j r = ap (λ (b : Body). slot_serial b j) shows ∙ put_each (λ j x. HasRoot (bare (lists_of m.roots)) j → spot_serial x ≡ slot_serial (body m) j) (body m) i (Some s) inside named (λ j n r. refl) j r
 
 -- A held slot has other edges, or another text; its vertex stays.
 module _ {m : Machine} {id : ℕ} (w : Whole m) (h : Holds m id) where
@@ -106,7 +106,7 @@ module _ {m : Machine} {id : ℕ} (w : Whole m) (h : Holds m id) where
       → (next : ℕ) → held (stored n) next ≡ graph.held (set (kept_from (stored m).stage 0 (stored m).slots) id (Some (record (as_kept (owner h)) { edges = es; text = text }))) next
   graph_after n es text c next = ap (λ (v : Stored). held v next) c.is
       ∙ ap (λ os. graph.held os next) (held_set (stored m).stage id (stored m).slots _
-      ∙ ap (set (kept_from (stored m).stage 0 (stored m).slots) id) (rw (held_keeps (shown (stored m)) (stored m).stage id (as_kept (owner h)) h.shows (owner h) (owner_is h)) refl))
+      ∙ ap (set (kept_from (stored m).stage 0 (stored m).slots) id) (rw (held_keeps (shown_body (stored m)) (stored m).stage id (as_kept (owner h)) h.shows (owner h) (owner_is h)) refl))
 
 -- A held slot of a sound heap has other edges.
 module _ {m : Machine} {id : ℕ} (ok : IsHeap m.heap) (w : Whole m) (h : Holds m id) where
@@ -136,7 +136,7 @@ module _ {m : Machine} {id : ℕ} (ok : IsHeap m.heap) (w : Whole m) (h : Holds 
         target = rooted;
         is = shows (e ∷ edges m.heap id) k;
       } in
-      replaced w g m.progress id (record (owner h) { edges = e ∷ edges m.heap id }) (shows (e ∷ edges m.heap id) k) (owner_within h) (λ r. sym (ap name_of (owner_is h))) refl refl
+      replaced w g m.progress id (record (owner h) { edges = e ∷ edges m.heap id }) (shows (e ∷ edges m.heap id) k) (owner_within h) (λ r. sym (ap spot_serial (owner_is h))) refl refl
       (rw p.0 (puts_keeps (body m) (body_of g (lists_of m.roots)) (progress_of m) id e step w.kept)) p.1 (ap values.shown p.0) (rw p.0 (left_puts (body m) (body_of g (lists_of m.roots)) (progress_of m) id m.heap.cell_count e step))
 
   -- An edge gives way to others to the same vertex.
@@ -150,7 +150,7 @@ module _ {m : Machine} {id : ℕ} (ok : IsHeap m.heap) (w : Whole m) (h : Holds 
       let t = trims m.heap id k within before e news after m.progress was (ok.cells.cell_once id) (once es k ok') w.cursor in
       let step : DropsEdge (body m) (progress_of m) id before e news after (body_of g (lists_of m.roots)) (progress_in g q) =
       record { owner = owner h; at = owner_is h; edges = was; alike = alike; stage = t.0; is = shows es k } in
-      replaced w g q id (record (owner h) { edges = es }) (shows es k) (owner_within h) (λ r. sym (ap name_of (owner_is h))) refl refl (drops_keeps (body m) (body_of g (lists_of m.roots)) (progress_of m) (progress_in g q) id before e news after step w.kept) t.1
+      replaced w g q id (record (owner h) { edges = es }) (shows es k) (owner_within h) (λ r. sym (ap spot_serial (owner_is h))) refl refl (drops_keeps (body m) (body_of g (lists_of m.roots)) (progress_of m) (progress_in g q) id before e news after step w.kept) t.1
       (trims_stage id before e news after (progress_of m) (progress_in g q) t.0) (left_drops (body m) (body_of g (lists_of m.roots)) (progress_of m) (progress_in g q) id before e news after m.heap.cell_count step few)
 
 -- An edge gets another label.

@@ -1,10 +1,10 @@
 -- How many vertices and edges the graph of what is held has, and which edges a held vertex has in it.
 use Rattle.std.proofs.Common.{◌≡◌, ◌≢◌, ℕ, zero, suc, List, [], ◌∷◌, length, map, Option, Some, None, true, false, sym, ◌∙◌, subst, ap, refl, arith, sum_by, ◌<◌, cond, T, ◌+◌}
-use Rattle.tg_collect.proofs.Common.{length-map, sum_by-append, is_none, place, Contains, Distinct, contains_map, Edge, Kept, total, Stored, kept, vertices, held, Letters, edges, IsHeap, name_of, Root, Machine, lists_of, body, progress_of, Whole, stored, shown, spot, root_serial, serial_of, IsHeldIn, IsParkedIn, IsStore, ◌↔◌, IsPermutation, IsNonDecreasingBy, IsPermutation-sym, IsPermutation-map, ones, permuted, rises_by, same_in_order, serials_distinct, vertex_count, edge_count, edge_list, keys_occur_once, serials, held_one, held_cells, parked_cells, Closed, left_most, counted, IsRootAt, left_some, keys_apart, sorted_rises, edges_of, IsEdgeList, option_to_list, Rises, vertex_listed}
+use Rattle.tg_collect.proofs.Common.{length-map, sum_by-append, is_none, place, Contains, Distinct, contains_map, Edge, Kept, total, Stored, kept, vertices, held, Letters, edges, IsHeap, spot_serial, Root, Machine, lists_of, body, progress_of, Whole, stored, shown_body, spot_at, root_serial, kept_serial, IsHeldIn, IsParkedIn, IsStore, ◌↔◌, IsPermutation, IsNonDecreasingBy, IsPermutation-sym, IsPermutation-map, ones, permuted, rises_by, same_in_order, serials_distinct, vertex_count, edge_count, edge_list, keys_occur_once, edge_serials, held_one, held_cells, parked_cells, Closed, left_most, counted, IsRootAt, left_some, keys_apart, sorted_rises, spot_edges, IsEdgeList, option_to_list, Rises, vertex_listed}
 use Rattle.std.specs.FinMap as finmap
-use Rattle.tg_marking.specs.Values as values
-use Rattle.tg_graph.specs.Protection.{label}
-use Rattle.tg_graph.specs.Rules as graph
+use Rattle.tg_marking.specs.Promise.Values as values
+use Rattle.tg_graph.specs.Promise.Protection.{label}
+use Rattle.tg_graph.specs.Promise.Rules as graph
 use Rattle.tg_collect.proofs.FoundLemmas.{alone, chosen, gathered, gathered_from, gathered_rises, gathered_to, optional, rises_distinct}
 use Rattle.tg_collect.proofs.SlotLemmas.{contains_mapped, total_none, out_all, cells_so, celled, kept_within}
 use Rattle.tg_collect.proofs.ShownLemmas.{Once, held_kept, kept_held, same_sum, same_length, keys_contains, place_kept}
@@ -17,7 +17,7 @@ Pairs = List (ℕ × Letters)
 abbrev pub pairs_of : List Edge → Pairs
 pairs_of es = map (λ (e : Edge). (e.serial, e.rights)) es
 
-keys_pairs : (es : List Edge) → map (λ (e : ℕ × Letters). e.0) (pairs_of es) ≡ serials es
+keys_pairs : (es : List Edge) → map (λ (e : ℕ × Letters). e.0) (pairs_of es) ≡ edge_serials es
 keys_pairs [] = refl
 keys_pairs (e ∷ es) = ap (λ (l : List ℕ). e.serial ∷ l) (keys_pairs es)
 
@@ -39,7 +39,7 @@ sum_places v g f z e (suc n) =
     let last = by (kept v n) refl in
     omega (arith, a, r, last)
   where
-    by : (o : Option Kept) → kept v n ≡ o → sum_by g (option_to_list (serial_of o)) ≡ f o
+    by : (o : Option Kept) → kept v n ≡ o → sum_by g (option_to_list (kept_serial o)) ≡ f o
     by None is = sym z
     by (Some k) is = let one = e n k is in omega (arith, one)
 
@@ -56,7 +56,7 @@ module _ (v : Stored) (once : Once v) where
   from_keys : (x : ℕ) → Contains (finmap.keys (vertices v)) x → Contains all x
   from_keys x h =
       let r = held_kept v x (keys_contains (vertices v) x h) in
-      gathered_to (λ i. option_to_list (place v i)) (length v.slots) r.0 x (kept_within (shown v) v.stage r.0 r.1 r.2) (chosen (place v r.0) x (ap serial_of r.2 ∙ ap (λ (y : ℕ). Some y) r.3))
+      gathered_to (λ i. option_to_list (place v i)) (length v.slots) r.0 x (kept_within (shown_body v) v.stage r.0 r.1 r.2) (chosen (place v r.0) x (ap kept_serial r.2 ∙ ap (λ (y : ℕ). Some y) r.3))
 
   apart : Distinct all
   apart = rises_distinct all (gathered_rises (λ i. option_to_list (place v i)) (λ x y. x ≢ y) (λ i. alone _ (place v i))
@@ -75,7 +75,7 @@ module _ (v : Stored) (once : Once v) where
 
   -- ---- the edges of the graph
 
-  module _ (closed : Closed (kept v) (IsRootAt v)) (serials_once : (i : ℕ) → Distinct (serials (edges_of (spot v i)))) (labelled : (i : ℕ) (e : Edge) → Contains (edges_of (spot v i)) e → is_none e.rights ≡ false) where
+  module _ (closed : Closed (kept v) (IsRootAt v)) (serials_once : (i : ℕ) → Distinct (edge_serials (spot_edges (spot_at v i)))) (labelled : (i : ℕ) (e : Edge) → Contains (spot_edges (spot_at v i)) e → is_none e.rights ≡ false) where
     list_of : (next x : ℕ) → IsEdgeList (held v next) x
     list_of next x = edge_list (held v next) x (λ y e. let t = edge_in v next x y e in (ends v closed once (record { from = x; right = t.0; to = y }) t.1).1)
 
@@ -84,11 +84,11 @@ module _ (v : Stored) (once : Once v) where
       abbrev listed : Pairs
       listed = graph.edges_of (held v next) k.serial
 
-      pub slot_edges : edges_of (spot v i) ≡ k.edges
-      slot_edges = let o = kept_is v.stage i (spot v i) k is in ap edges_of o.1 ∙ ap (λ (t : Kept). t.edges) o.3
+      pub slot_edges : spot_edges (spot_at v i) ≡ k.edges
+      slot_edges = let o = kept_is v.stage i (spot_at v i) k is in ap spot_edges o.1 ∙ ap (λ (t : Kept). t.edges) o.3
 
-      distinct_here : Distinct (serials k.edges)
-      distinct_here = subst (λ (l : List Edge). Distinct (serials l)) slot_edges (serials_once i)
+      distinct_here : Distinct (edge_serials k.edges)
+      distinct_here = subst (λ (l : List Edge). Distinct (edge_serials l)) slot_edges (serials_once i)
 
       pub label_here : (e : Edge) → Contains k.edges e → label (held v next) k.serial e.serial ≡ e.rights
       label_here e c = label_edge v next i k once is e distinct_here c
@@ -132,22 +132,22 @@ module _ (v : Stored) (once : Once v) where
 
 -- Each machine's value is a store.
 module _ (m : Machine) (ok : IsHeap m.heap) (w : Whole m) where
-  out_is : (i : ℕ) → edges_of (spot (stored m) i) ≡ edges m.heap i
+  out_is : (i : ℕ) → spot_edges (spot_at (stored m) i) ≡ edges m.heap i
   out_is i = out_all m.heap (lists_of m.roots) ok i
 
-  serials_so : (i : ℕ) → Distinct (serials (edges_of (spot (stored m) i)))
+  serials_so : (i : ℕ) → Distinct (edge_serials (spot_edges (spot_at (stored m) i)))
   serials_so = (celled m.heap (lists_of m.roots) ok).once
 
-  labelled_so : (i : ℕ) (e : Edge) → Contains (edges_of (spot (stored m) i)) e → is_none e.rights ≡ false
+  labelled_so : (i : ℕ) (e : Edge) → Contains (spot_edges (spot_at (stored m) i)) e → is_none e.rights ≡ false
   labelled_so i e c = ok.cells.labelled i e (subst (λ (l : List Edge). Contains l e) (out_is i) c)
 
-  cells_all : (next : ℕ) → (stored m).free_cells + edge_count (held (stored m) next) + total (λ i. parked_cells (stored m).stage i (spot (stored m) i)) (length (stored m).slots) ≡ (stored m).cells
-  cells_all next = let a = counted.cells (shown (stored m)) (stored m).stage in let b = cells_so m.heap (lists_of m.roots) ok in let c = edges_counted (stored m) (once_stored m w) (closed_so m w) serials_so labelled_so next in omega (arith, a, b, c)
+  cells_all : (next : ℕ) → (stored m).free_cells + edge_count (held (stored m) next) + total (λ i. parked_cells (stored m).stage i (spot_at (stored m) i)) (length (stored m).slots) ≡ (stored m).cells
+  cells_all next = let a = counted.cells (shown_body (stored m)) (stored m).stage in let b = cells_so m.heap (lists_of m.roots) ok in let c = edges_counted (stored m) (once_stored m w) (closed_so m w) serials_so labelled_so next in omega (arith, a, b, c)
 
-  none_parked : ((x : ℕ) → IsParkedIn (stored m) x → ⊥) → total (λ i. parked_cells (stored m).stage i (spot (stored m) i)) (length (stored m).slots) ≡ 0
-  none_parked none = total_none (λ i. parked_cells (stored m).stage i (spot (stored m) i)) (length (stored m).slots) (λ i. elim (spot (stored m) i) as (λ o. spot (stored m) i ≡ o → parked_cells (stored m).stage i o ≡ 0) [
+  none_parked : ((x : ℕ) → IsParkedIn (stored m) x → ⊥) → total (λ i. parked_cells (stored m).stage i (spot_at (stored m) i)) (length (stored m).slots) ≡ 0
+  none_parked none = total_none (λ i. parked_cells (stored m).stage i (spot_at (stored m) i)) (length (stored m).slots) (λ i. elim (spot_at (stored m) i) as (λ o. spot_at (stored m) i ≡ o → parked_cells (stored m).stage i o ≡ 0) [
     | None ↦ λ e. refl
-    | Some s ↦ λ e. elim (values.keeps (stored m).stage i s.colour) as (λ b. values.keeps (stored m).stage i s.colour ≡ b → cond b 0 (length s.edges) ≡ 0) [ true ↦ λ k. refl | false ↦ λ k. absurd (none s.serial (i, (s, e, k), ap name_of e)) ] refl
+    | Some s ↦ λ e. elim (values.keeps (stored m).stage i s.colour) as (λ b. values.keeps (stored m).stage i s.colour ≡ b → cond b 0 (length s.edges) ≡ 0) [ true ↦ λ k. refl | false ↦ λ k. absurd (none s.serial (i, (s, e, k), ap spot_serial e)) ] refl
   ] refl)
 
   placed : (i x : ℕ) → place (stored m) i ≡ Some x → IsHeldIn (stored m) x
@@ -168,11 +168,11 @@ module _ (m : Machine) (ok : IsHeap m.heap) (w : Whole m) where
     roots_held = λ x r. (let q = root_in (stored m) x r in placed q.0.slot x (named_so m w q.0 q.1 ∙ ap (λ (y : ℕ). Some y) q.2));
     apart = apart_so (stored m) w.kept.once;
     placed = placed;
-    has_place = λ x h. (let k = held_kept (stored m) x h in (k.0, ap serial_of k.2 ∙ ap (λ (y : ℕ). Some y) k.3));
+    has_place = λ x h. (let k = held_kept (stored m) x h in (k.0, ap kept_serial k.2 ∙ ap (λ (y : ℕ). Some y) k.3));
     seats = length-map m.roots.targets.items (λ o. root_serial o) ∙ w.roots.seats;
     few = (let z = length-map m.roots.principals (λ (r : Root). r.serial) in let f = w.roots.few in omega (arith, z, f));
     agents = length-map m.roots.agents.items (λ o. root_serial o) ∙ w.roots.agents;
-    slots = λ next. (let a = counted.slots (shown (stored m)) (stored m).stage in let b = vertices_counted (stored m) (once_stored m w) next in omega (arith, a, b));
+    slots = λ next. (let a = counted.slots (shown_body (stored m)) (stored m).stage in let b = vertices_counted (stored m) (once_stored m w) next in omega (arith, a, b));
     few_edges = λ next. (let c = cells_all next in omega (arith, c));
     all_cells = λ none next. (let c = cells_all next in let z = none_parked none in omega (arith, c, z));
     some_left = left_some (body m) (progress_of m) m.heap.cell_count;

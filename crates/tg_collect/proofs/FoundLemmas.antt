@@ -1,10 +1,10 @@
 -- Lists that are gathered number by number, and then sorted.
 use Rattle.std.proofs.Common.{◌≡◌, ◌≢◌, ℕ, zero, suc, ◌<◌, ◌≤◌, List, [], ◌∷◌, ◌++◌, length, Option, Some, None, inl, inr, Bool, true, false, refl, sym, ◌∙◌, subst, ap, arith, get_or, map}
-use Rattle.tg_collect.proofs.Common.{get_or-map, length-map, apart_from_distinct, at_within, cases_eq, Contains, contains_append, contains_left, contains_right, Distinct, eq_by_cmp, eq_by_cmp_equiv, Equal, Greater, is_eq, is_lt, IsDistinct-IsPermutation, IsPermutation, IsPermutation-sym, IsSortedBy, IsSortedByKey, IsStore, IsTotalOrder, Less, Machine, MatchOrdering, name_of, nat_cmp, nat_cmp_total, on_total, option_to_list, Ordering, ordering_reverse, permuted, placed, ranks, ranks_by, recursion_from_All, Rises, rises_append, serial_tied, sorted_far, stored, untrue}
+use Rattle.tg_collect.proofs.Common.{get_or-map, length-map, apart_from_distinct, at_within, cases_eq, Contains, contains_append, contains_left, contains_right, Distinct, eq_by_cmp, eq_by_cmp_equiv, Equal, Greater, is_eq, is_lt, IsDistinct-IsPermutation, IsPermutation, IsPermutation-sym, IsSortedBy, IsSortedByKey, IsStore, IsTotalOrder, Less, Machine, MatchOrdering, spot_serial, nat_cmp, nat_cmp_total, on_total, option_to_list, Ordering, ordering_reverse, permuted, placed, ranks, ranks_by, recursion_from_All, Rises, rises_append, serial_tied, sorted_far, stored, untrue}
 use Rattle.std.specs.List.{IsDistinct}
 use Rattle.tg_collect.proofs.SlotLemmas.{at_index, zip_size}
-use Rattle.tg_collect.specs.Parts.{AreFound}
-use Rattle.tg_collect.specs.Readings.{name}
+use Rattle.tg_collect.specs.Inner.Parts.{AreFound}
+use Rattle.tg_collect.specs.Promise.Readings.{serial_in_slot}
 
 -- What the numbers below n give, one after the other.
 abbrev pub gathered : {X : Type 0} → (ℕ → List X) → ℕ → List X
@@ -72,14 +72,14 @@ less Greater apart up = absurd (cc)
 
 -- What the slots of a store give, each with the serial of its slot, sorted by an order of which no two are equal.
 module _ (m : Machine) (s : IsStore (stored m)) where
-  named_within : (i x : ℕ) → name (stored m) i ≡ Some x → i < length m.heap.table.slots
+  named_within : (i x : ℕ) → serial_in_slot (stored m) i ≡ Some x → i < length m.heap.table.slots
   named_within i x is =
-      let low = at_within (map name_of (stored m).slots) i x (get_or-map name_of (stored m).slots i None ∙ is) in
-      let same = length-map (stored m).slots name_of in
+      let low = at_within (map spot_serial (stored m).slots) i x (get_or-map spot_serial (stored m).slots i None ∙ is) in
+      let same = length-map (stored m).slots spot_serial in
       let size = zip_size m.heap.table.slots m.heap.lists in
       omega (arith, low, same, size)
 
-  module _ {X : Type 0} (given : ℕ → List X) (serial : X → ℕ) (named : (i : ℕ) (x : X) → Contains (given i) x → name (stored m) i ≡ Some (serial x)) (compare : X → X → Ordering) (total : IsTotalOrder compare)
+  module _ {X : Type 0} (given : ℕ → List X) (serial : X → ℕ) (named : (i : ℕ) (x : X) → Contains (given i) x → serial_in_slot (stored m) i ≡ Some (serial x)) (compare : X → X → Ordering) (total : IsTotalOrder compare)
       (tied : (x y : X) → is_eq (compare x y) ≡ true → serial x ≡ serial y) (within : (i : ℕ) → Rises (λ x y. is_eq (compare x y) ≡ false) (given i)) (before : X → X → Type 0) (earlier : (x y : X) → compare x y ≡ Less → before x y) where
     apart : (n : ℕ) → Rises (λ x y. is_eq (compare x y) ≡ false) (gathered given n)
     apart = gathered_rises given _ within (λ i j x y low h k. untrue _ (λ t.
@@ -100,7 +100,7 @@ module _ (m : Machine) (s : IsStore (stored m)) where
       distinct = IsDistinct-IsPermutation (eq_by_cmp compare) (eq_by_cmp_equiv total).symm (gathered given n) ys moved (apart_distinct (eq_by_cmp compare) (gathered given n) (apart n))
 
   -- At most one for each slot.
-  pub found_sorted : {X : Type 0} (at : ℕ → Option X) (serial : X → ℕ) → ((i : ℕ) (x : X) → at i ≡ Some x → name (stored m) i ≡ Some (serial x)) → (n : ℕ) → length m.heap.table.slots ≤ n → (ys : List X) →
+  pub found_sorted : {X : Type 0} (at : ℕ → Option X) (serial : X → ℕ) → ((i : ℕ) (x : X) → at i ≡ Some x → serial_in_slot (stored m) i ≡ Some (serial x)) → (n : ℕ) → length m.heap.table.slots ≤ n → (ys : List X) →
       IsPermutation (gathered (λ i. option_to_list (at i)) n) ys → IsSortedByKey serial nat_cmp ys → AreFound (λ i. option_to_list (at i)) (λ x y. serial x < serial y) ys
   found_sorted {X} at serial named = gathered_sorted (λ i. option_to_list (at i)) serial (λ i x h. named i x (optional (at i) x h)) (λ x y. nat_cmp (serial x) (serial y)) (on_total serial nat_cmp_total)
       (λ x y. (serial_tied (serial x) (serial y)).0) (λ i. alone _ (at i)) (λ x y. serial x < serial y) (λ x y. nat_less (serial x) (serial y))

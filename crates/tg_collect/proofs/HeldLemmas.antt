@@ -10,16 +10,16 @@ use Rattle.std.specs.FinMap as finmap
 use Rattle.std.specs.FinMap.{find, same_map, get-insert, get-from_entries, nat_cmp-IsAntisymmetric}
 use Rattle.std.specs.FinSet as finset
 use Rattle.std.specs.FinSet.{contains-from_list, contains-union, contains-difference}
-use Rattle.tg_lists.specs.Membership.{Contains, Distinct}
+use Rattle.tg_lists.specs.Promise.Membership.{Contains, Distinct}
 use Rattle.tg_lists.proofs.MembershipLemmas.{distinct_around, map_append}
-use Rattle.tg_rights.specs.Letters.{Letters, has, joined, without}
+use Rattle.tg_rights.specs.Promise.Letters.{Letters, has, joined, without}
 use Rattle.tg_rights.proofs.LettersLemmas.{has_joined, has_without, has_none}
-use Rattle.tg_graph.specs.Triples.{Triple, Triples, triple_cmp, edge, edge_list}
+use Rattle.tg_graph.specs.Promise.Protection.{Triple, Triples, triple_cmp, edge, edge_list}
 use Rattle.tg_graph.proofs.TriplesLemmas.{contains-edge, triple_cmp_total, same_triples}
-use Rattle.tg_cells.specs.Lists.{Edge}
-use Rattle.tg_marking.specs.Values.{Kept}
+use Rattle.tg_cells.specs.Promise.Lists.{Edge}
+use Rattle.tg_marking.specs.Promise.Values.{Kept}
 use Rattle.tg_marking.proofs.SpotLemmas.{at_within}
-use Rattle.tg_collect.specs.Held.{vertex_of, entries, triples_from, triples, held, Apart, Gains, Joins, Drops, Comes}
+use Rattle.tg_collect.specs.Promise.Held.{vertex_of, entries, triples_from, triples, held, Apart, Gains, Joins, Drops, Comes}
 
 -- Whether edges, a slot, and slots say a triple.
 abbrev pub says_edge : List Edge → Triple → Bool

@@ -15,6 +15,7 @@ mod HeldLemmas
 mod InGraphLemmas
 mod LineLemmas
 mod OpeningEdges
+mod MarksLemmas
 mod PartsLemmas
 mod PrincipalLemmas
 mod RootLemmas

@@ -1,14 +1,14 @@
 -- Each step of the machine is a line of the table.
 use Rattle.std.proofs.Common.{◌≡◌, ◌+◌, ◌<◌, ◌≤◌, List, [], ◌∷◌, ◌++◌, length, Option, Some, None, Bool, true, false, sym, ◌∙◌, subst, ap, refl, arith, ◌≢◌, ◌⊎◌, inl, inr, ℕ, get_or-set_other, filter, is_some}
-use Rattle.tg_collect.proofs.Common.{turns_name, Contains, Grey, Has, Edge, first_cell, HeapGraph, edges, mark_at, IsHeap, remaining, Spot, Body, mark, Machine, RootLists, lists_of, body_of, body, progress_in, progress_of, CursorFits, Whole, mark_of, put, IsListed, stored, same_Some, passed, split_whole, remaining_split, shade_all, Line, starts, scans, blackens, shades_target, whitens, strips, frees, IsScanned, Phased, shade_each, line_keeps, line_collected, bounded, Steps, all_shaded, shown, all_slots, slots_of, phase_in, Collected, most_marks, Counts, AreRoots, HasRoot, Invariant, Root, bare, IsLinkedBy}
-use Rattle.tg_marking.specs.Values as values
+use Rattle.tg_collect.proofs.Common.{turns_name, Contains, Grey, Has, Edge, first_cell, HeapGraph, edges, mark_at, IsHeap, remaining, Spot, Body, slot_mark, Machine, RootLists, lists_of, body_of, body, progress_in, progress_of, CursorFits, Whole, spot_mark, put, IsListed, stored, same_Some, passed, split_whole, remaining_split, shade_all, Line, starts, scans, blackens, shades_target, whitens, strips, frees, IsScanned, Phased, shade_each, line_keeps, line_collected, bounded, Steps, all_shaded, shown_body, all_slots, slots_of, phase_in, Collected, most_marks, Counts, AreRoots, HasRoot, Invariant, Root, bare, IsLinkedBy}
+use Rattle.tg_marking.specs.Promise.Values as values
 use Rattle.tg_collect.specs.declared.machine.Progress.TheVariants as course
 use Rattle.tg_collect.specs.declared.machine.Progress as declared
-use Rattle.tg_marking.specs.Collected as marking
+use Rattle.tg_marking.specs.Promise.Collected as marking
 use Rattle.tg_collect.specs.declared.note.Phase.TheVariants as phases
-use Rattle.tg_marking.specs.Values.{name, spot, Progress}
+use Rattle.tg_marking.specs.Promise.Values.{slot_serial, spot, Progress}
 use Rattle.tg_marking.proofs.SpotLemmas.{kept_name}
-use Rattle.tg_collect.specs.Views.{ChangesMarks}
+use Rattle.tg_collect.specs.Promise.Views.{ChangesMarks}
 use Rattle.tg_collect.proofs.SlotLemmas.{mark_so, listed_root, celled, free_so, all_same}
 use Rattle.tg_collect.proofs.ShownLemmas.{held_same}
 
@@ -60,7 +60,7 @@ whole_steps m n freed ended s w = record { kept = kept; cursor = s.cursor; roots
   kept = line_keeps (body m) (body n) (progress_of m) (progress_of n) freed ended s.line w.kept
 
   -- a root is held then, by a slot that named it before
-  named : (r : Root) → IsListed (lists_of m.roots) r → name (body n) r.slot ≡ Some r.serial
+  named : (r : Root) → IsListed (lists_of m.roots) r → slot_serial (body n) r.slot ≡ Some r.serial
   named r h =
       let k = kept.closed.roots r.slot (subst (λ (q : RootLists). HasRoot (bare q) r.slot) (sym same) (listed_root (lists_of m.roots) r h)) in
       let now = kept_name (stored n).stage r.slot (spot (body n) r.slot) k.0 k.1 in
@@ -72,16 +72,16 @@ line_frees : (b b' : Body) (p p' : Progress) (n : ℕ) (e : Bool) → Line b p b
 line_frees b b' p p' n e l = grind arith
 
 -- Which marks a line changes: that of one slot, or at the start those of the roots.
-one_mark : (b : Body) (k : ℕ) (o : Option Spot) → ChangesMarks (mark b) (mark (put b k o)) 1
-one_mark b k o = record { slots = k ∷ []; count = omega arith; others = λ i n. ap mark_of (get_or-set_other b.slots k i o None (λ e. n (inl e))) }
+one_mark : (b : Body) (k : ℕ) (o : Option Spot) → ChangesMarks (slot_mark b) (slot_mark (put b k o)) 1
+one_mark b k o = record { slots = k ∷ []; count = omega arith; others = λ i n. ap spot_mark (get_or-set_other b.slots k i o None (λ e. n (inl e))) }
 
-root_marks : (b : Body) (rs : List (Option ℕ)) → ChangesMarks (mark b) (mark (shade_all b rs)) (length (filter (λ o. is_some o) rs))
+root_marks : (b : Body) (rs : List (Option ℕ)) → ChangesMarks (slot_mark b) (slot_mark (shade_all b rs)) (length (filter (λ o. is_some o) rs))
 root_marks b [] = record { slots = []; count = omega arith; others = λ i n. refl }
 root_marks b (None ∷ rs) = root_marks b rs
 root_marks b (Some i ∷ rs) = let old = root_marks b rs in let l = old.count in record {
   slots = i ∷ old.slots;
   count = omega (arith, l);
-  others = shade_each (λ j o. (Contains (i ∷ old.slots) j → ⊥) → mark_of o ≡ mark b j) (shade_all b rs) i (λ s e w m. absurd (m (inl refl))) (λ j m. old.others j (λ h. m (inr h)));
+  others = shade_each (λ j o. (Contains (i ∷ old.slots) j → ⊥) → spot_mark o ≡ slot_mark b j) (shade_all b rs) i (λ s e w m. absurd (m (inl refl))) (λ j m. old.others j (λ h. m (inr h)));
 }
 
 some_others : (ps : List Root) (os : List (Option Root)) → length (filter (λ o. is_some o) (all_slots ps ++ slots_of os)) ≡ length ps + length (filter (λ o. is_some o) os)
@@ -90,9 +90,9 @@ some_others [] (None ∷ os) = some_others [] os
 some_others [] (Some r ∷ os) = let rest = some_others [] os in omega (arith, rest)
 some_others (p ∷ ps) os = let rest = some_others ps os in omega (arith, rest)
 
-line_marks : (b b' : Body) (p p' : Progress) (n : ℕ) (e : Bool) (rs : RootLists) → b.roots ≡ bare rs → Line b p b' p' n e → ChangesMarks (mark b) (mark b') (most_marks rs (phase_in (values.shown p)))
+line_marks : (b b' : Body) (p p' : Progress) (n : ℕ) (e : Bool) (rs : RootLists) → b.roots ≡ bare rs → Line b p b' p' n e → ChangesMarks (slot_mark b) (slot_mark b') (most_marks rs (phase_in (values.shown p)))
 line_marks b _ _ _ _ _ rs is starts =
-    subst (λ (most : ℕ). ChangesMarks (mark b) (mark (shade_all b b.roots.others)) most) (ap (λ (q : values.Roots). length (filter (λ o. is_some o) q.others)) is ∙ some_others rs.principals rs.agents) (root_marks b b.roots.others)
+    subst (λ (most : ℕ). ChangesMarks (slot_mark b) (slot_mark (shade_all b b.roots.others)) most) (ap (λ (q : values.Roots). length (filter (λ o. is_some o) q.others)) is ∙ some_others rs.principals rs.agents) (root_marks b b.roots.others)
 line_marks b _ _ _ _ _ rs is (scans i e r) = root_marks b (Some e.target ∷ [])
 line_marks b _ _ _ _ _ rs is (shades_target k i l r w least) = root_marks b (Some i ∷ [])
 line_marks b _ _ _ _ _ rs is (blackens i s at) = one_mark b i _
@@ -121,7 +121,7 @@ collected m n freed ended s ok ok' w = record {
   marks = line_marks (body m) (body n) (progress_of m) (progress_of n) freed ended (lists_of m.roots) refl s.line;
   left = line_left m n freed ended s.line s.counts.cells ok w;
 } where
-  step : marking.Collected (shown (stored m)) (stored m).stage (shown (stored n)) (stored n).stage ended
+  step : marking.BodyCollected (shown_body (stored m)) (stored m).stage (shown_body (stored n)) (stored n).stage ended
   step = line_collected (body m) (body n) (progress_of m) (progress_of n) freed ended s.line w.kept
 
   freed_so : ((phase_in (values.shown (progress_of m)) ≡ phases.Sweep) ⊎ (freed ≡ 0)) × (freed ≤ 1)

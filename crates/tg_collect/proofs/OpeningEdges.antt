@@ -5,7 +5,7 @@ use Rattle.std.proofs.lemmas.Bool.Decides.{nat_tests}
 use Rattle.std.specs.FinMap as finmap
 use Rattle.std.specs.FinSet as finset
 use Rattle.tg_rights.proofs.LettersLemmas.{has_none}
-use Rattle.tg_graph.specs.Protection.{label}
+use Rattle.tg_graph.specs.Promise.Protection.{label}
 use Rattle.tg_collect.proofs.ShownLemmas.{held_at}
 use Rattle.tg_collect.proofs.StoreLemmas.{Holds, edge_label, found_contains, holds, label_is, owner, placed_mark, serial_is}
 use Rattle.tg_collect.proofs.EdgeLemmas.{edge_put, graph_after}

@@ -1,13 +1,13 @@
 -- A machine that holds the first principals, before any cycle.
 use Rattle.std.proofs.Common.{◌≡◌, ◌≢◌, ℕ, zero, suc, ◌+◌, ◌<◌, List, [], ◌∷◌, ◌++◌, length, map, replicate, Option, Some, None, ◌⊎◌, inl, inr, Ok, true, sym, ◌∙◌, subst, ap, refl, arith, add-one, get_or, set, length-set, length-append}
-use Rattle.tg_collect.proofs.Common.{cases_eq, MAX_PRINCIPALS, SEATS, Contains, contains_left, contains_right, length-replicate, map_append, Subject, Protection, subjects-within, principal_count, principals_are_few, Table, Free, Has, White, Grey, indices, fresh, nones_length, nones_free, indices_length, IsHeap, Spot, AtRest, IsScanned, mark, new_colour, blank_keeps, Root, Idle, Machine, RootLists, IsListed, lists_of, with_principal, body, progress_in, progress_of, Whole, Puts, Rerooted, Stored, stored, kept_from, spot, place, root_serial, vertices, triples, IsParkedIn, first_serials, Opens, OpeningsCanBeStored, first_root, first_roots, HasOpened, OpensFirst, KeepsSize}
+use Rattle.tg_collect.proofs.Common.{cases_eq, MAX_PRINCIPALS, SEATS, Contains, contains_left, contains_right, length-replicate, map_append, Subject, Protection, subjects-within, principal_count, principals_are_few, Table, Free, Has, White, Grey, indices, fresh, nones_length, nones_free, indices_length, IsHeap, Spot, AtRest, IsScanned, slot_mark, new_colour, blank_keeps, Root, Idle, Machine, RootLists, IsListed, lists_of, with_principal, body, progress_in, progress_of, Whole, Puts, Rerooted, Stored, stored, kept_from, spot_at, place, root_serial, vertices, triples, IsParkedIn, first_serials, Opens, OpeningsCanBeStored, first_root, first_roots, HasOpened, OpensFirst, KeepsSize}
 use Rattle.std.specs.FinMap as finmap
 use Rattle.std.specs.FinSet as finset
-use Rattle.tg_slots.specs.Table as table
-use Rattle.tg_marking.specs.Values as values
-use Rattle.tg_collect.specs.Held as graph
+use Rattle.tg_slots.specs.Promise.Table as table
+use Rattle.tg_marking.specs.Promise.Values as values
+use Rattle.tg_collect.specs.Promise.Held as graph
 use Rattle.tg_graph.proofs.OpeningsFitLemmas as fitting
-use Rattle.tg_graph.specs.Opening.{opening}
+use Rattle.tg_graph.specs.Promise.Opening.{opening}
 use Rattle.tg_collect.proofs.SlotLemmas.{zip_size, at_free, root_listed, free_so}
 use Rattle.tg_collect.proofs.StoreLemmas.{named_so, no_black}
 use Rattle.tg_collect.proofs.RootLemmas.{principal_added}
@@ -53,10 +53,10 @@ module _ (m : Machine) (count : ℕ) (o : HasOpened m count) where
   pub principal_at : (i : ℕ) → i < count → place (stored m) i ≡ Some (i + 1)
   principal_at i b = named_so m o.whole (first_root i) (inr (inl (subst (λ (r : RootLists). Contains r.principals (first_root i)) (sym o.roots) (first_listed count i b))))
 
-  not_grey : (i : ℕ) → mark (body m) i ≢ Has Grey
+  not_grey : (i : ℕ) → slot_mark (body m) i ≢ Has Grey
   not_grey i e = elim (o.whole.kept.greys.known i e) [ inl w ↦ subst (λ (l : List ℕ). Contains l i) o.grey w | inr s ↦ subst (λ (p : values.Progress). IsScanned p i) at_rest s ]
 
-  pub marks_opened : (i : ℕ) → (mark (body m) i ≡ Free) ⊎ (mark (body m) i ≡ Has White)
+  pub marks_opened : (i : ℕ) → (slot_mark (body m) i ≡ Free) ⊎ (slot_mark (body m) i ≡ Has White)
   marks_opened i = let black = no_black (body m) (progress_of m) o.whole.kept.phase (ap values.shown at_rest) i in let grey = not_grey i in grind arith
 
   pub opened_opens : (slots cells : ℕ) → IsHeap m.heap → length m.heap.table.slots ≡ slots → m.heap.cell_count ≡ cells → Opens (stored m) count slots cells
@@ -103,7 +103,7 @@ blank_first m slots is idle roots = record {
   };
   triples = ap (λ ts. finset.from_list ts) (none_kept (stored m).stage 0 (stored m).slots none).1;
 } where
-  none : (i : ℕ) → spot (stored m) i ≡ None
+  none : (i : ℕ) → spot_at (stored m) i ≡ None
   none i = at_free m.heap (lists_of m.roots) i (ap (λ (t : Table). table.mark t i) is ∙ nones_free slots i)
 
   nobody : (q : Root) → IsListed (lists_of m.roots) q → ⊥

@@ -1,7 +1,7 @@
 -- Roots come and go, and nothing else changes.
 use Rattle.std.proofs.Common.{◌≡◌, ℕ, ◌<◌, ◌≤◌, [], ◌∷◌, length, Some, None, ◌⊎◌, inl, inr, Bool, not, ◌==◌, sym, ◌∙◌, subst, ap, refl, arith, get_or, get_or-set_same, length-set, length-append}
 use Rattle.tg_collect.proofs.Common.{MAX_PRINCIPALS, SEATS, Contains, contains_append, contains_filter, count_by-le-length, length-filter, IsTarget, AreRoots, Invariant, Reroots, reroots_keeps, same_roots, idle_stays, AtRest, Machine, Root, RootLists, Roots, IsListed, Rerooted, lists_of, bare, body, progress_of, slot_of, Whole, stored, assuming, with_agent, with_principal, with_target, without_principal, pending_of, place, Assumed, AgentLeft, Retired, Stored, get_or-map, Acted, principals, contains_map, contains_mapped}
-use Rattle.tg_marking.specs.Values as values
+use Rattle.tg_marking.specs.Promise.Values as values
 use Rattle.tg_collect.proofs.SlotLemmas.{contains_seat, listed_root, seat_contains, seat_slot, roots_by}
 use Rattle.tg_collect.proofs.ShownLemmas.{place_kept}
 use Rattle.tg_collect.proofs.StoreLemmas.{idle_seat}

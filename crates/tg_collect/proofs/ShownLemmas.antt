@@ -1,13 +1,13 @@
 -- What the graph of what is held says of the slots, and back.
 use Rattle.std.proofs.Common.{◌≡◌, ℕ, zero, suc, ◌+◌, List, [], ◌∷◌, length, Option, Some, None, true, false, eqb-true, eq-eqb, sym, ◌∙◌, ap, refl, arith, get_or, set, sum_by, inl, inr}
 use Rattle.tg_collect.proofs.Common.{Any-from_list_any, any_is, is_any, list_any_at, ext_get_or, get_or_default, at_within, says_slot, is_some, nat_cmp, Right, has, is_none, Contains, some_right, Triple, Edge, Spot, Kept, seen, vertex_of, Stored, kept_from, place, held, vertices, triples, IsHeldIn, IsEdgeIn, Distinct, eq_by_cmp, nat_cmp_total, unsigned_tied, find, get-from_entries, ones, sum_among, and_both, Vertex, entries, says_edge, contains-held, Member, Protection, contains_key-keys}
-use Rattle.tg_graph.specs.Protection.{label}
+use Rattle.tg_graph.specs.Promise.Protection.{label}
 use Rattle.std.proofs.lemmas.Bool.{cases_Bool}
 use Rattle.std.specs.FinMap as finmap
 use Rattle.std.specs.FinSet as finset
-use Rattle.tg_collect.specs.Held as graph
-use Rattle.tg_collect.specs.Readings as readings
-use Rattle.tg_marking.specs.Values.{Stage}
+use Rattle.tg_collect.specs.Promise.Held as graph
+use Rattle.tg_collect.specs.Promise.Readings as readings
+use Rattle.tg_marking.specs.Promise.Values.{Stage}
 
 -- What is held at an index, and after a slot was set.
 from_at : (p : Stage) (k j i : ℕ) (os : List (Option Spot)) → j ≡ k + i → get_or (kept_from p k os) i None ≡ seen p j (get_or os i None)

@@ -1,10 +1,10 @@
 -- What each change of the heap is in one list of slots.
 use Rattle.std.proofs.Common.{◌≡◌, ◌≢◌, zero, suc, List, [], ◌∷◌, length, Option, Some, None, sym, ◌∙◌, ap, refl, arith, get_or, set, ◌+◌, ◌<◌, drop, inl, inr, subst, length-set, map, cond, drop-cons, length-append, sum_by, ℕ}
-use Rattle.tg_collect.proofs.Common.{Occupant, Colour, White, Table, Free, Has, slot, Edge, HeapGraph, edges, mark_at, shaded, Spot, mark, put, shade, RootLists, bare, body_of, length-map, Contains, Body, stored, HasRoot, at_within, Root, Machine, IsListed, lists_of, slot_of, slots_of, body, Whole, new_colour, Progress, progress_in, sum_by-cons, Distinct, IsHeap, total, get_or_default, get_or-map, same_Some, contains_left, contains_right, contains_append, contains_map, coloured, if_free, painted, out, IsRoot, free_one, Celled, join, zip, all_slots, all_shaded, with_shaded, AreWithin, other_slots, has_passed, colour_ahead, Roots, shade_all}
+use Rattle.tg_collect.proofs.Common.{Occupant, Colour, White, Table, Free, Has, slot, Edge, HeapGraph, edges, mark_at, shaded, Spot, slot_mark, put, shade, RootLists, bare, body_of, length-map, Contains, Body, stored, HasRoot, at_within, Root, Machine, IsListed, lists_of, slot_of, slots_of, body, Whole, new_colour, Progress, progress_in, sum_by-cons, Distinct, IsHeap, total, get_or_default, get_or-map, same_Some, contains_left, contains_right, contains_append, contains_map, coloured, if_free, painted, out, IsRootSlot, free_one, Celled, join, zip, all_slots, all_shaded, with_shaded, AreWithin, other_slots, has_passed, colour_ahead, Roots, shade_all}
 pub use Rattle.tg_marking.proofs.SpotLemmas.{contains_mapped, kept_within}
 use Rattle.tg_graph.proofs.ListedLemmas.{placed}
-use Rattle.tg_marking.specs.Values as values
-use Rattle.tg_marking.specs.Values.{spot}
+use Rattle.tg_marking.specs.Promise.Values as values
+use Rattle.tg_marking.specs.Promise.Values.{spot}
 
 pub zip_at : (os : List (Option Occupant)) (ls : List (List Edge)) (i : ℕ) → get_or (zip os ls) i None ≡ join (get_or os i None) (get_or ls i [])
 zip_at [] ls i = refl
@@ -47,7 +47,7 @@ occupied h i m = grind arith
 pub coloured_so : (h : HeapGraph) (i : ℕ) (c : Colour) → mark_at h i ≡ Has c → (o : Occupant) × (slot h.table i ≡ Some o) × (o.colour ≡ c)
 coloured_so h i c m = grind arith
 
-pub mark_so : (h : HeapGraph) (rs : RootLists) (i : ℕ) → mark (body_of h rs) i ≡ mark_at h i
+pub mark_so : (h : HeapGraph) (rs : RootLists) (i : ℕ) → slot_mark (body_of h rs) i ≡ mark_at h i
 mark_so h rs i = let z = zip_at h.table.slots h.lists i in grind arith
 
 -- A vertex that was put or replaced, a list that was replaced, and a colour.
@@ -116,7 +116,7 @@ listed_root rs r (inr (inl h)) = inr (contains_left (all_slots rs.principals) (s
 listed_root rs r (inr (inr h)) = inr (contains_right (all_slots rs.principals) (slots_of rs.agents) (Some r.slot) (contains_map slot_of rs.agents (Some r) h))
 
 -- A root's slot is one of the table's.
-pub root_within : (m : Machine) (i : ℕ) → Whole m → IsRoot (body m) i → i < length m.heap.table.slots
+pub root_within : (m : Machine) (i : ℕ) → Whole m → IsRootSlot (body m) i → i < length m.heap.table.slots
 root_within m i w r = let k = w.kept.closed.roots i r in rw zip_size at (kept_within (body m) (stored m).stage i k.0 k.1)
 
 pub seat_root : (m : Machine) (seat : ℕ) (o : Option Root) (r : Root) → Whole m → seat < length m.roots.targets.items → o ≡ get_or m.roots.targets.items seat o → o ≡ Some r
@@ -124,10 +124,10 @@ pub seat_root : (m : Machine) (seat : ℕ) (o : Option Root) (r : Root) → Whol
 seat_root m seat o r w l at is = let slot = seat_slot m.roots.targets.items seat r (at_seat m.roots.targets.items seat o r l at is) in (slot, root_within m r.slot w (inl (seat, slot)))
 
 -- A seat's target is not white if its root is not.
-pub not_white : (m : Machine) (k i : ℕ) → get_or (body m).roots.targets k None ≡ Some i → ((r : Root) → get_or m.roots.targets.items k None ≡ Some r → mark_at m.heap r.slot ≢ Has White) → mark (body m) i ≢ Has White
+pub not_white : (m : Machine) (k i : ℕ) → get_or (body m).roots.targets k None ≡ Some i → ((r : Root) → get_or m.roots.targets.items k None ≡ Some r → mark_at m.heap r.slot ≢ Has White) → slot_mark (body m) i ≢ Has White
 not_white m k i t n w =
     let r = slot_seat m.roots.targets.items k i t in
-    n r.0 r.1 (sym (mark_so m.heap (lists_of m.roots) r.0.slot) ∙ subst (λ (j : ℕ). mark (body m) j ≡ Has White) (sym r.2) w)
+    n r.0 r.1 (sym (mark_so m.heap (lists_of m.roots) r.0.slot) ∙ subst (λ (j : ℕ). slot_mark (body m) j ≡ Has White) (sym r.2) w)
 
 -- Shading leaves the free list, and the number of slots.
 pub all_same : (xs : List (Option ℕ)) (t : Table) → ((all_shaded xs t).free ≡ t.free) × (length (all_shaded xs t).slots ≡ length t.slots)

@@ -1,26 +1,24 @@
 -- What each store has.
 use Rattle.std.proofs.Common.{◌≡◌, ◌≢◌, ℕ, ◌<◌, ◌≤◌, List, [], ◌∷◌, map, Option, Some, None, inl, inr, Bool, true, false, sym, ◌∙◌, subst, ap, refl, length, MatchOption, arith, get_or, ◌++◌}
-use Rattle.tg_collect.proofs.Common.{has_none, kept_name, rights_where, Contains, contains_map, Has, Grey, Black, Triple, Spot, Body, Kept, as_kept, mark, Root, Machine, IsListed, lists_of, body, Whole, Stored, stored, kept, place, root_serial, triples, serial_of, IsHeldIn, IsParkedIn, spot, is_some, Letters, Right, has, is_none, Distinct, contains_middle, vertex_of, Free, slot, Occupant, Edge, HasNone, Found, edges, mark_at, IsHeap, pending_of, IsEdgeIn, held, name, at_within, some_right, shown, IsStore, unwrap_or, option_map, get_or-map, same_Some, none, includes, read, write, take, grant, same_by, split_at, right_some, IsEdge, Live, leads_on, contains-label, in_slot, Closed, Phased, IsLive, at_root, along, IsLiveIn, IsRootIn, IsRootAt, serial_at, principals}
+use Rattle.tg_collect.proofs.Common.{has_none, kept_name, rights_where, Contains, contains_map, Has, Grey, Black, Triple, Spot, Body, Kept, as_kept, slot_mark, Root, Machine, IsListed, lists_of, body, Whole, Stored, stored, kept, place, root_serial, triples, kept_serial, IsHeldIn, IsParkedIn, spot_at, is_some, Letters, Right, has, is_none, Distinct, contains_middle, vertex_of, Free, slot, Occupant, Edge, HasNone, Found, edges, mark_at, IsHeap, pending_of, IsEdgeIn, held, slot_serial, at_within, some_right, shown_body, IsStore, unwrap_or, option_map, get_or-map, same_Some, none, includes, read, write, take, grant, same_by, split_at, right_some, IsEdge, Live, leads_on, contains-label, in_slot, Closed, Phased, IsLive, at_root, along, IsLiveIn, IsRootIn, IsRootAt, serial_at, principals}
 use Rattle.std.specs.FinSet as finset
-use Rattle.tg_marking.specs.Values as values
+use Rattle.tg_marking.specs.Promise.Values as values
 pub use Rattle.tg_marking.proofs.SpotLemmas.{kept_is, kept_name}
 use Rattle.tg_marking.proofs.SpotLemmas.{kept_edges}
-use Rattle.tg_collect.specs.Readings as readings
+use Rattle.tg_collect.specs.Promise.Readings as readings
 use Rattle.std.specs.FinMap as finmap
-use Rattle.tg_rights.specs.Letters as right
-use Rattle.tg_slots.specs.Table as table
-use Rattle.tg_graph.specs.Protection.{label}
-use Rattle.tg_graph.specs.Paths.{Leads}
-use Rattle.tg_marking.specs.Left.{parked_one}
-use Rattle.tg_marking.specs.Values.{Progress, edges_of}
+use Rattle.tg_rights.specs.Promise.Letters as right
+use Rattle.tg_slots.specs.Promise.Table as table
+use Rattle.tg_graph.specs.Promise.Protection.{label, Leads}
+use Rattle.tg_marking.specs.Promise.Values.{parked_one, Progress, spot_edges}
 use Rattle.tg_collect.specs.declared.note.Phase.TheVariants as phases
 use Rattle.tg_collect.proofs.SlotLemmas.{at_index, listed_root, zip_at, as_spot, root_listed, contains_mapped, total_none, at_slot}
 use Rattle.tg_graph.proofs.ListedLemmas.{placed}
 use Rattle.tg_collect.proofs.ShownLemmas.{Once, triple_owned, held_at, held_kept, kept_held, place_kept, vertex_found, says_triple, edge_shown, shown_edge}
 
 -- What is held has the slot's serial, and is the slot's vertex.
-pub once_so : (v : Stored) → ((i j x : ℕ) → readings.name v i ≡ Some x → readings.name v j ≡ Some x → i ≡ j) → Once v
-once_so v once i j k t e f s = once i j k.serial (kept_name v.stage i (spot v i) k e) (kept_name v.stage j (spot v j) t f ∙ ap (λ (x : ℕ). Some x) (sym s))
+pub once_so : (v : Stored) → ((i j x : ℕ) → readings.serial_in_slot v i ≡ Some x → readings.serial_in_slot v j ≡ Some x → i ≡ j) → Once v
+once_so v once i j k t e f s = once i j k.serial (kept_name v.stage i (spot_at v i) k e) (kept_name v.stage j (spot_at v j) t f ∙ ap (λ (x : ℕ). Some x) (sym s))
 
 pub root_in : (v : Stored) (x : ℕ) → IsRootIn v x → (r : Root) × IsListed v.roots r × (r.serial ≡ x)
 root_in v x h =
@@ -41,16 +39,16 @@ closed_so m w = w.kept.closed
 pub named_so : (m : Machine) → Whole m → (r : Root) → IsListed (lists_of m.roots) r → place (stored m) r.slot ≡ Some r.serial
 named_so m w r h =
     let k = w.kept.closed.roots r.slot (listed_root (lists_of m.roots) r h) in
-    ap serial_of k.1 ∙ sym (kept_name (stored m).stage r.slot _ k.0 k.1) ∙ w.roots.named r h
+    ap kept_serial k.1 ∙ sym (kept_name (stored m).stage r.slot _ k.0 k.1) ∙ w.roots.named r h
 
 -- An element of a store is found by its place.
 pub once_stored : (m : Machine) → Whole m → Once (stored m)
 once_stored m w = once_so (stored m) w.kept.once
 
-pub no_black : (b : Body) (p : Progress) → Phased b p → values.shown p ≡ values.Idle → (i : ℕ) → mark b i ≢ Has Black
+pub no_black : (b : Body) (p : Progress) → Phased b p → values.shown p ≡ values.Idle → (i : ℕ) → slot_mark b i ≢ Has Black
 no_black b p f e = grind arith
 
-pub swept_so : (b : Body) (p : Progress) (k : ℕ) → Phased b p → values.shown p ≡ values.Sweep k → ((i : ℕ) → i < k → mark b i ≢ Has Black) × ((i : ℕ) → k ≤ i → mark b i ≢ Has Grey)
+pub swept_so : (b : Body) (p : Progress) (k : ℕ) → Phased b p → values.shown p ≡ values.Sweep k → ((i : ℕ) → i < k → slot_mark b i ≢ Has Black) × ((i : ℕ) → k ≤ i → slot_mark b i ≢ Has Grey)
 swept_so b p k f e = grind arith
 
 -- The ends of a triple are held, and two.
@@ -65,11 +63,11 @@ ends v closed once t h =
     )
 
 -- What is held is not parked.
-pub apart_so : (v : Stored) → ((i j x : ℕ) → readings.name v i ≡ Some x → readings.name v j ≡ Some x → i ≡ j) → (x : ℕ) → IsHeldIn v x → IsParkedIn v x → ⊥
+pub apart_so : (v : Stored) → ((i j x : ℕ) → readings.serial_in_slot v i ≡ Some x → readings.serial_in_slot v j ≡ Some x → i ≡ j) → (x : ℕ) → IsHeldIn v x → IsParkedIn v x → ⊥
 apart_so v once x h (j, (s, at, dark), named) =
     let r = held_kept v x h in
     let here = once r.0 j x in
-    let name_here = kept_name v.stage r.0 (spot v r.0) r.1 r.2 in grind arith
+    let name_here = kept_name v.stage r.0 (spot_at v r.0) r.1 r.2 in grind arith
 
 -- What the readers of a store answer.
 -- A slot where something is held, with its vertex and its edges.
@@ -92,10 +90,10 @@ module _ {m : Machine} {i : ℕ} (h : Holds m i) where
   owner_within = at_within (body m).slots i owner owner_is
 
   pub serial_is : serial_at (stored m) i ≡ h.occupant.serial
-  serial_is = ap (λ k. unwrap_or (serial_of k) 0) h.shows
+  serial_is = ap (λ k. unwrap_or (kept_serial k) 0) h.shows
 
   pub owner_place : place (stored m) i ≡ Some (serial_at (stored m) i)
-  owner_place = ap serial_of h.shows ∙ ap (λ (x : ℕ). Some x) (sym serial_is)
+  owner_place = ap kept_serial h.shows ∙ ap (λ (x : ℕ). Some x) (sym serial_is)
 
 module _ (m : Machine) (i : ℕ) (e : is_some (place (stored m) i) ≡ true) where
   pub placed_within : i < length m.heap.table.slots
@@ -174,7 +172,7 @@ module _ {m : Machine} {id : ℕ} (w : Whole m) (h : Holds m id) where
   edge_visible ok e c = rw (serial_is h) (edge_shown (stored m) id (as_kept (owner h)) e h.shows c (ok.cells.labelled id e c))
 
   pub edge_leads : (e : Edge) → Contains (edges m.heap id) e → place (stored m) e.target ≡ Some e.serial
-  edge_leads e c = let l = (closed_so m w).edges id (as_kept (owner h)) e h.shows c in ap serial_of l.1 ∙ ap (λ (x : ℕ). Some x) l.2
+  edge_leads e c = let l = (closed_so m w).edges id (as_kept (owner h)) e h.shows c in ap kept_serial l.1 ∙ ap (λ (x : ℕ). Some x) l.2
 
 -- An edge that is looked up, as the label of what is held.
 pub edge_looked_up : (m : Machine) (id y : ℕ) (r : Option (ℕ × Letters)) → IsHeap m.heap → Whole m → is_some (place (stored m) id) ≡ true
@@ -199,14 +197,14 @@ pub idle_unparked : (v : Stored) → readings.phase v ≡ phases.Idle → (x : �
 idle_unparked v idle x (i, (s, at, dark), named) = grind arith
 
 pub idle_none_parked : (v : Stored) → readings.phase v ≡ phases.Idle → readings.parked_count v ≡ 0
-idle_none_parked v idle = total_none (λ i. parked_one v.stage i (spot v i)) (readings.slot_count v) (λ i. grind arith)
+idle_none_parked v idle = total_none (λ i. parked_one v.stage i (spot_at v i)) (readings.slot_count v) (λ i. grind arith)
 
 -- The seats, and the principals by their serials.
 pub seat_shown : (m : Machine) (seat : ℕ) → pending_of (stored m) seat ≡ root_serial (get_or m.roots.targets.items seat None)
 seat_shown m seat = get_or-map (λ o. root_serial o) m.roots.targets.items seat None
 
 pub idle_seat : (m : Machine) (seat : ℕ) → pending_of (stored m) seat ≡ None → get_or m.roots.targets.items seat None ≡ None
-idle_seat m seat e = let shown = seat_shown m seat in grind arith
+idle_seat m seat e = let shown_body = seat_shown m seat in grind arith
 
 pub principal_found : (m : Machine) (k : ℕ) (d : Root) → Whole m → k < length m.roots.principals → (x : ℕ) → (get_or m.roots.principals k d).serial ≡ x
     → Contains (principals (stored m)) x × (place (stored m) (get_or m.roots.principals k d).slot ≡ Some x)
@@ -232,7 +230,7 @@ unnamed m x none = (
   λ h. (let k = held_kept (stored m) x h in named k.0 (kept_name (stored m).stage k.0 (values.spot (body m) k.0) k.1 k.2 ∙ ap (λ (y : ℕ). Some y) k.3)),
   λ p. named p.0 p.2,
 ) where
-  named : (j : ℕ) → name (body m) j ≡ Some x → ⊥
+  named : (j : ℕ) → slot_serial (body m) j ≡ Some x → ⊥
   named j e = let z = zip_at m.heap.table.slots m.heap.lists j in let within = at_within m.heap.table.slots j in grind (arith, none j)
 
 -- Paths of the plain graph are paths of a store's slots, and back.
@@ -247,7 +245,7 @@ module _ (v : Stored) (s : IsStore v) where
   once = once_so v s.once
 
   abbrev LiveAt : ℕ → Type 0
-  LiveAt x = IsLiveIn (shown v) v.stage x
+  LiveAt x = IsLiveIn (shown_body v) v.stage x
 
   pub root_live : (x : ℕ) → IsRootIn v x → LiveAt x
   root_live x r = let q = root_in v x r in let k = place_kept v q.0.slot x (s.named q.0 q.1 ∙ ap (λ (y : ℕ). Some y) q.2) in (q.0.slot, k.0, at_root q.0.slot (listed_root v.roots q.0 q.1), k.1, k.2)
@@ -258,22 +256,22 @@ module _ (v : Stored) (s : IsStore v) where
       let e = shown_edge v x z (edge_in v next x z p.0) in
       let here : l.0 ≡ e.0 = once l.0 e.0 l.1 e.1 l.3 e.3 (l.4 ∙ sym e.5) in
       let there = s.closed.edges e.0 e.1 e.2 e.3 e.4 in
-      leads_live next z zs y (e.2.target, there.0, along e.0 e.1 e.2 (subst (IsLive (shown v) v.stage) here l.2) e.3 e.4, there.1, there.2 ∙ e.6) p.1
+      leads_live next z zs y (e.2.target, there.0, along e.0 e.1 e.2 (subst (IsLive (shown_body v) v.stage) here l.2) e.3 e.4, there.1, there.2 ∙ e.6) p.1
 
   pub live_slots : (next x : ℕ) → Live (held v next) (IsRootIn v) x → LiveAt x
   live_slots next x l = leads_live next l.0 l.2.0 x (root_live l.0 l.1) l.2.1.1
 
-  slot_live : (next i : ℕ) (k : Kept) → IsLive (shown v) v.stage i → kept v i ≡ Some k → Live (held v next) (IsRootIn v) k.serial
+  slot_live : (next i : ℕ) (k : Kept) → IsLive (shown_body v) v.stage i → kept v i ≡ Some k → Live (held v next) (IsRootIn v) k.serial
   slot_live next i k (at_root _ r) h =
       let q = root_listed v.roots i r in
-      let same : q.0.serial ≡ k.serial = same_Some q.0.serial k.serial (sym (s.named q.0 q.1) ∙ ap (place v) q.2 ∙ ap serial_of h) in
+      let same : q.0.serial ≡ k.serial = same_Some q.0.serial k.serial (sym (s.named q.0 q.1) ∙ ap (place v) q.2 ∙ ap kept_serial h) in
       let root : IsRootIn v k.serial = subst (IsRootIn v) same (in_root v q.0 q.1) in
       (k.serial, root, ([], (s.roots_held k.serial root, refl)))
   slot_live next _ k (along i t e r is c) h =
       let l = slot_live next i t r is in
       let there = s.closed.edges i t e is c in
       let to : e.serial ≡ k.serial = sym there.2 ∙ ap (λ (z : Kept). z.serial) (same_Some there.0 k (sym there.1 ∙ h)) in
-      let mine : Contains (edges_of (spot v i)) e = rw (kept_edges v.stage i (spot v i) t is) c in
+      let mine : Contains (spot_edges (spot_at v i)) e = rw (kept_edges v.stage i (spot_at v i) t is) c in
       let step : IsEdge (held v next) t.serial k.serial = in_edge v next t.serial k.serial (subst (IsEdgeIn v t.serial) to (edge_shown v i t e is c (s.labelled i e mine))) in
       (l.0, l.1, (l.2.0 ++ k.serial ∷ [], (l.2.1.0, leads_on (held v next) l.2.0 l.0 t.serial k.serial l.2.1.1 step)))
 

@@ -1,11 +1,11 @@
 -- A vertex comes into a free slot, alone or with an edge to it.
 use Rattle.std.proofs.Common.{◌≡◌, ◌≢◌, ℕ, ◌<◌, ◌≤◌, List, [], length, Option, Some, None, Ok, inl, inr, true, sym, ◌∙◌, subst, ap, refl, arith, set, get_or-set_other}
-use Rattle.tg_collect.proofs.Common.{Table, IsAdded, kept_name, is_some, unwrap_or, same_Some, SEATS, Letters, Kind, Contains, Occupant, slot, Free, mark_at, IsHeap, edges, HasNone, Spot, as_kept, name, name_of, seen, keeps, new_colour, new_keeps, put, Places, places_keeps, left_places, Invariant, comes, edge, Machine, lists_of, with_target, body, progress_of, Whole, Puts, Links, Stored, stored, kept, kept_from, spot, held, place, serial_of, serial_at, pending_of, IsHeldIn, IsParkedIn, VertexStored}
+use Rattle.tg_collect.proofs.Common.{Table, IsAdded, kept_name, is_some, unwrap_or, same_Some, SEATS, Letters, Kind, Contains, Occupant, slot, Free, mark_at, IsHeap, edges, HasNone, Spot, as_kept, slot_serial, spot_serial, seen, keeps, new_colour, new_keeps, put, Places, places_keeps, left_places, Invariant, comes, edge, Machine, lists_of, with_target, body, progress_of, Whole, Puts, LinksTo, Stored, stored, kept, kept_from, spot_at, held, place, kept_serial, serial_at, pending_of, IsHeldIn, IsParkedIn, VertexStored}
 use Rattle.std.proofs.lemmas.Bool.{cases_Bool}
 use Rattle.std.specs.FinMap as finmap
 use Rattle.std.specs.FinSet as finset
-use Rattle.tg_marking.specs.Values as values
-use Rattle.tg_collect.specs.Held as graph
+use Rattle.tg_marking.specs.Promise.Values as values
+use Rattle.tg_collect.specs.Promise.Held as graph
 use Rattle.tg_collect.proofs.SlotLemmas.{as_spot, at_free, put_slot, zip_size, free_so}
 use Rattle.tg_collect.proofs.ShownLemmas.{held_at, held_set, from_size, kept_held, place_kept}
 use Rattle.tg_collect.proofs.StoreLemmas.{once_stored, holds, placed_mark, kept_name, edge_leads, edge_owned, owner_place}
@@ -14,22 +14,22 @@ use Rattle.tg_collect.proofs.CallLemmas.{occupant_serial, Linked, added}
 use Rattle.tg_collect.proofs.EdgeLemmas.{Replaced, replaced}
 
 -- A serial that is neither held nor parked is in no slot.
-no_name : (m : Machine) (serial : ℕ) → Whole m → (IsHeldIn (stored m) serial → ⊥) → (IsParkedIn (stored m) serial → ⊥) → (j : ℕ) → name (body m) j ≢ Some serial
+no_name : (m : Machine) (serial : ℕ) → Whole m → (IsHeldIn (stored m) serial → ⊥) → (IsParkedIn (stored m) serial → ⊥) → (j : ℕ) → slot_serial (body m) j ≢ Some serial
 no_name m serial w unheld unparked j e = by (values.spot (body m) j) refl e where
-  by : (o : Option Spot) → values.spot (body m) j ≡ o → name_of o ≡ Some serial → ⊥
+  by : (o : Option Spot) → values.spot (body m) j ≡ o → spot_serial o ≡ Some serial → ⊥
   by None is e = cc
   by (Some s) is e = elim (cases_Bool (keeps (stored m).stage j s.colour)) [
     | inl k ↦ unheld (subst (IsHeldIn (stored m)) (same_Some s.serial serial e) (kept_held (stored m) j (as_kept s) (once_stored m w) (ap (seen (stored m).stage j) is ∙ rw k refl)))
-    | inr k ↦ unparked (j, (s, is, k), ap name_of is ∙ e)
+    | inr k ↦ unparked (j, (s, is, k), ap spot_serial is ∙ e)
   ]
 
 -- What it does to a store: the vertex is held, and no other slot changes.
 pub record Came (m n : Machine) (i serial : ℕ) (kind : Kind) (text : List ℕ) : Type 0 where
   pub whole : Whole n
   pub within : i < length (stored m).slots
-  pub free : spot (stored m) i ≡ None
+  pub free : spot_at (stored m) i ≡ None
   pub here : place (stored n) i ≡ Some serial
-  pub other : (j : ℕ) → j ≢ i → spot (stored n) j ≡ spot (stored m) j
+  pub other : (j : ℕ) → j ≢ i → spot_at (stored n) j ≡ spot_at (stored m) j
   pub graph : (next : ℕ) → held (stored n) next ≡ record (held (stored m) next) { vertices = finmap.insert (held (stored m) next).vertices serial (record { kind = kind; text = text }) }
   pub left : (stored n).left ≤ (stored m).left
   pub is : stored n ≡ record (stored m) { slots = set (stored m).slots i (Some (record { serial = serial; kind = kind; text = text; edges = []; colour = new_colour (stored m).stage i })); left = (stored n).left }
@@ -48,7 +48,7 @@ module _ (m : Machine) (i serial : ℕ) (kind : Kind) (text rest : List ℕ) (ok
   shows : body n ≡ put (body m) i (Some (as_spot occupant []))
   shows = put_slot m.heap (lists_of m.roots) i (Some occupant) rest ∙ ap (λ es. put (body m) i (Some (as_spot occupant es))) (ok.free_bare i free)
 
-  empty : spot (stored m) i ≡ None
+  empty : spot_at (stored m) i ≡ None
   empty = at_free m.heap (lists_of m.roots) i free
 
   inside : i < length (stored m).slots
@@ -57,7 +57,7 @@ module _ (m : Machine) (i serial : ℕ) (kind : Kind) (text rest : List ℕ) (ok
   step : Places (body m) (progress_of m) i serial kind text (body n)
   step = record { free = empty; inside = inside; new = no_name m serial w unheld unparked; is = shows }
 
-  kept_now : Invariant (body n) (progress_of m) × (values.kept (body n) (stored m).stage i ≡ Some (as_kept vertex))
+  kept_now : Invariant (body n) (progress_of m) × (values.kept_in (body n) (stored m).stage i ≡ Some (as_kept vertex))
   kept_now = places_keeps (body m) (body n) (progress_of m) i serial kind text step w.kept
 
   same : progress_of n ≡ progress_of m
@@ -65,7 +65,7 @@ module _ (m : Machine) (i serial : ℕ) (kind : Kind) (text rest : List ℕ) (ok
 
   came_put : Replaced m n i (as_spot occupant [])
   came_put = replaced w n.heap m.progress i (as_spot occupant []) shows inside
-      (λ r. absurd (let k = w.kept.closed.roots i r in let none : values.kept (body m) (stored m).stage i ≡ None = ap (seen (stored m).stage i) empty in let held = k.1 in cc))
+      (λ r. absurd (let k = w.kept.closed.roots i r in let none : values.kept_in (body m) (stored m).stage i ≡ None = ap (seen (stored m).stage i) empty in let held = k.1 in cc))
       refl refl (rw same kept_now.0) ((same_lists m.heap n.heap.table m.progress).1 w.cursor) (ap values.shown same) (rw same (left_places (body m) (body n) (progress_of m) i serial m.heap.cell_count kind text step))
 
   is : stored n ≡ record (stored m) { slots = set (stored m).slots i (Some vertex); left = (stored n).left }
@@ -76,12 +76,12 @@ module _ (m : Machine) (i serial : ℕ) (kind : Kind) (text rest : List ℕ) (ok
     whole = came_put.whole;
     within = inside;
     free = empty;
-    here = ap serial_of (ap (λ (p : values.Progress). values.kept (body n) (values.shown p) i) same ∙ kept_now.1);
-    other = λ j o. ap (λ (v : Stored). spot v j) is ∙ get_or-set_other (stored m).slots i j _ None o;
+    here = ap kept_serial (ap (λ (p : values.Progress). values.kept_in (body n) (values.shown p) i) same ∙ kept_now.1);
+    other = λ j o. ap (λ (v : Stored). spot_at v j) is ∙ get_or-set_other (stored m).slots i j _ None o;
     graph = λ next. ap (λ (v : Stored). held v next) is
         ∙ ap (λ os. graph.held os next) (held_set (stored m).stage i (stored m).slots (Some vertex) ∙ ap (set (kept_from (stored m).stage 0 (stored m).slots) i) (rw (new_keeps (stored m).stage i) refl))
         ∙ comes (kept_from (stored m).stage 0 (stored m).slots) i next (as_kept vertex) (let z = from_size (stored m).stage 0 (stored m).slots in let y = inside in omega (arith, z, y))
-        (λ j k o e s. no_name m serial w unheld unparked j (kept_name (stored m).stage j (spot (stored m) j) k (sym (held_at (stored m) j) ∙ e) ∙ ap (λ (y : ℕ). Some y) s))
+        (λ j k o e s. no_name m serial w unheld unparked j (kept_name (stored m).stage j (spot_at (stored m) j) k (sym (held_at (stored m) j) ∙ e) ∙ ap (λ (y : ℕ). Some y) s))
         (inl (held_at (stored m) i ∙ ap (seen (stored m).stage i) empty, refl));
     left = came_put.left;
     is = is;
@@ -102,7 +102,7 @@ module _ (m n : Machine) (id i serial : ℕ) (kind : Kind) (text : List ℕ) (ok
   apart e = let k = holds m id source in let none : kept (stored m) id ≡ None = ap (kept (stored m)) e ∙ ap (seen (stored m).stage i) c.free in let is = k.shows in cc
 
   place_same : place (stored n) id ≡ place (stored m) id
-  place_same = (λ z. serial_of (seen (ap (λ (v : Stored). v.stage) c.is z) id (c.other id apart z)))
+  place_same = (λ z. kept_serial (seen (ap (λ (v : Stored). v.stage) c.is z) id (c.other id apart z)))
 
   -- What the edge to the new vertex requires.
   pub still_owner : mark_at n.heap id ≢ Free
@@ -120,7 +120,7 @@ module _ (m n : Machine) (id i serial : ℕ) (kind : Kind) (text : List ℕ) (ok
   pub still_none : (o : Occupant) → slot n.heap.table i ≡ Some o → HasNone (edges n.heap id) o.serial
   still_none o is = rw (serial_here o is) bare
 
-  pub vertex_called : (k : Machine) (seat : ℕ) (rights : Letters) → IsHeap n.heap → IsHeap k.heap → pending_of (stored m) seat ≡ None → seat < SEATS → Links n seat id (record { serial = serial; slot = i }) rights k
+  pub vertex_called : (k : Machine) (seat : ℕ) (rights : Letters) → IsHeap n.heap → IsHeap k.heap → pending_of (stored m) seat ≡ None → seat < SEATS → LinksTo n seat id (record { serial = serial; slot = i }) rights k
       → Whole k × VertexStored (stored m) (stored k) seat (serial_at (stored m) id) serial kind text rights
   vertex_called k seat rights ok1 ok' idle l (o, is, new, roots, shape) = (
     e.whole,

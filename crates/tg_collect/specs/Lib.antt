@@ -1,12 +1,2 @@
-pub mod Machine
-pub mod PackedProgress
-pub mod Held
-pub mod Stored
-pub mod Readings
-pub mod Views
-pub mod Parts
-pub mod Figures
-pub mod Sessions
-pub mod Runs
-pub mod InGraph
-pub mod Openings
+pub mod Promise
+pub mod Inner

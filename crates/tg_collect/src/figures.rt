@@ -1,14 +1,15 @@
 //! What the slots show, in lists.
 ghost use Rattle.std.specs.Prelude.{◌≡◌, ◌<◌, ◌++◌, length, IfOk, OnOk};
 ghost use Rattle.std.specs.Option.{option_to_list};
-ghost use Rattle.tg_graph.specs.Parts.{Before};
-ghost use Rattle.tg_heap.specs.Graph.{HeapGraph};
-ghost use Rattle.tg_marking.specs.Values.{keeps, shown};
-ghost use Rattle.tg_collect.specs.Figures.{Shows, arrows, arrows_from, figure, source_at};
-ghost use Rattle.tg_collect.specs.Machine.{progress_in};
-ghost use Rattle.tg_collect.specs.Parts.{AreFound};
-ghost use Rattle.tg_collect.specs.Stored.{stored};
-ghost use Rattle.tg_collect.specs.Views.{IsStore};
+ghost use Rattle.tg_graph.specs.Promise.Parts.{Before};
+ghost use Rattle.tg_heap.specs.Promise.Graph.{HeapGraph};
+ghost use Rattle.tg_marking.specs.Promise.Values.{keeps, shown};
+ghost use Rattle.tg_collect.specs.Promise.Figures.{Shows, figure};
+ghost use Rattle.tg_collect.specs.Inner.Figures.{arrows, arrows_from, source_at};
+ghost use Rattle.tg_collect.specs.Inner.Machine.{progress_in};
+ghost use Rattle.tg_collect.specs.Inner.Parts.{AreFound};
+ghost use Rattle.tg_collect.specs.Inner.Stored.{stored};
+ghost use Rattle.tg_collect.specs.Promise.Views.{IsStore};
 
 use crate::machine::{Machine, Progress};
 use crate::store::Store;

@@ -1,15 +1,16 @@
 //! Laws of the store, as functions without a body.
-ghost use Rattle.tg_collect.specs.Held.{Comes, Drops, Gains, Joins};
-ghost use Rattle.tg_collect.specs.Runs.{CallsAct, IsComplete, IsBounded};
-ghost use Rattle.tg_collect.specs.InGraph.{StoresAreInGraph, OpensInGraph, CollectsInGraph, ActsInGraph, ShadesInGraph};
-ghost use Rattle.tg_collect.specs.Openings.{OpeningsCanBeStored};
+ghost use Rattle.tg_collect.specs.Promise.Held.{Comes, Drops, Gains, Joins};
+ghost use Rattle.tg_collect.specs.Promise.Runs.{CallsAct, StoresAreComplete, StoresAreBounded};
+ghost use Rattle.tg_collect.specs.Promise.InGraph.{StoresAreInGraph, OpensInGraph, CollectsInGraph, ActsInGraph, ShadesInGraph};
+ghost use Rattle.tg_collect.specs.Promise.Openings.{OpeningsCanBeStored};
+ghost use Rattle.tg_collect.specs.Promise.Views.{OneMarkAStep};
 
 /// A law, at no cost: what a session call does is a step of a run if its new serial is new and its target live or new;
 /// and by what the store promises of its steps, every run is complete and bounded.
 pub fn runs_are_complete_and_bounded()
     ensures acts { CallsAct }
-    ensures complete { IsComplete }
-    ensures bounded { IsBounded }
+    ensures complete { StoresAreComplete }
+    ensures bounded { StoresAreBounded }
 {}
 
 /// A law, at no cost: what a store has, also once it was opened, and what its collector steps and its session steps do,
@@ -39,4 +40,9 @@ pub fn held_changes()
     ensures joins { Joins }
     ensures drops { Drops }
     ensures comes { Comes }
+{}
+
+/// A law, at no cost: a collector step that begins no cycle changes the mark of one slot at most.
+pub fn one_mark_a_step()
+    ensures { OneMarkAStep }
 {}

@@ -2,9 +2,10 @@
 ghost use Rattle.std.specs.Prelude.{◌≡◌, ◌<◌, ◌≤◌, [], ◌∷◌, length, MatchOption, ◌+◌, get_or, false, true, cond, None, Some};
 ghost use Rattle.std.specs.Bool.{OnTrue};
 ghost use Rattle.tg_rights.specs.declared.limits.TheConstants.{MAX_SLOTS};
-ghost use Rattle.tg_slots.specs.Table.{Free, Has};
-ghost use Rattle.tg_heap.specs.Graph.{mark_at};
-ghost use Rattle.tg_collect.specs.Machine.{Whole, Steps, phase_of, ShadesFirst, NoneWhite, AreWithin, other_slots, slot_of, with_shaded};
+ghost use Rattle.tg_slots.specs.Promise.Table.{Free, Has};
+ghost use Rattle.tg_heap.specs.Promise.Graph.{mark_at};
+ghost use Rattle.tg_collect.specs.Promise.Stored.{slot_of};
+ghost use Rattle.tg_collect.specs.Inner.Machine.{Whole, Steps, phase_of, ShadesFirst, NoneWhite, AreWithin, other_slots, with_shaded};
 
 use crate::note::{Note, Phase};
 use crate::packed_progress::PackedProgress;

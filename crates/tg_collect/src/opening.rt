@@ -1,9 +1,10 @@
 //! The machine of an opening graph.
 ghost use Rattle.std.specs.Prelude.{◌≡◌, ◌<◌, ◌≤◌, ◌+◌, length, replicate, None, IfOk};
 ghost use Rattle.tg_rights.specs.declared.limits.TheConstants.{MAX_CELLS, MAX_PRINCIPALS, MAX_SLOTS, SEATS};
-ghost use Rattle.tg_collect.specs.Machine.{Whole};
-ghost use Rattle.tg_collect.specs.Stored.{stored};
-ghost use Rattle.tg_collect.specs.Openings.{IsOpening, Opened, OpensFirst, OpensAll, OpensEdges, KeepsSize, rank};
+ghost use Rattle.tg_collect.specs.Inner.Machine.{Whole};
+ghost use Rattle.tg_collect.specs.Inner.Stored.{stored};
+ghost use Rattle.tg_collect.specs.Promise.Openings.{IsOpening, Opened};
+ghost use Rattle.tg_collect.specs.Inner.Openings.{OpensFirst, OpensAll, OpensEdges, KeepsSize, rank};
 
 use crate::machine::{Machine, Progress, Root, Roots};
 use crate::packed_progress::PackedProgress;

@@ -22,7 +22,7 @@ pub(crate) struct PackedProgress {
 
 impl Model for PackedProgress {
     ghost use Rattle.tg_collect.specs.declared.machine.Progress.{Progress};
-    ghost use Rattle.tg_collect.specs.PackedProgress.{unpacked};
+    ghost use Rattle.tg_collect.specs.Inner.PackedProgress.{unpacked};
 
     ghost Value = { Progress };
 

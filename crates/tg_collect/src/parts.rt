@@ -1,10 +1,11 @@
 //! What is held, in lists.
 ghost use Rattle.std.specs.Prelude.{◌≡◌, ◌<◌, length, map, IfOk};
 ghost use Rattle.std.specs.Option.{option_to_list};
-ghost use Rattle.tg_heap.specs.Graph.{edges};
-ghost use Rattle.tg_collect.specs.Parts.{AreFound, ListsHeld, listed};
-ghost use Rattle.tg_collect.specs.Stored.{stored};
-ghost use Rattle.tg_collect.specs.Views.{IsStore};
+ghost use Rattle.tg_heap.specs.Promise.Graph.{edges};
+ghost use Rattle.tg_collect.specs.Promise.Parts.{ListsHeld};
+ghost use Rattle.tg_collect.specs.Inner.Parts.{AreFound, listed_at};
+ghost use Rattle.tg_collect.specs.Inner.Stored.{stored};
+ghost use Rattle.tg_collect.specs.Promise.Views.{IsStore};
 
 use crate::figures::add_found;
 use crate::machine::Machine;
@@ -32,7 +33,7 @@ impl Machine {
     /// The vertices that are held, by rising serial, with copies of their texts.
     fn vertices(&self, alloc: Global) -> Result<Vec<(u64, Kind, Text)>, AllocError>
         requires { IsStore (stored self.now) }
-        ensures { IfOk result (λ found. AreFound (λ i. option_to_list (listed (stored self.now) i)) (λ a b. a.0 < b.0) found.items) }
+        ensures { IfOk result (λ found. AreFound (λ i. option_to_list (listed_at (stored self.now) i)) (λ a b. a.0 < b.0) found.items) }
     {
         let mut found = Vec::new(alloc);
         for id in 0..self.heap.len() {
@@ -46,7 +47,7 @@ impl Machine {
     /// The vertex that is held in a slot, with a copy of its text; none if the slot is free or parked.
     fn vertex_at(&self, alloc: Global, id: u32) -> Result<Option<(u64, Kind, Text)>, AllocError>
         requires { id < length self.now.heap.table.slots }
-        ensures { IfOk result (λ found. found ≡ listed (stored self.now) id) }
+        ensures { IfOk result (λ found. found ≡ listed_at (stored self.now) id) }
     {
         match self.figure_at(id) {
             None => Ok(None),

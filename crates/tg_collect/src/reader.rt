@@ -1,8 +1,8 @@
 //! The store as the rules read it: a vertex is kept in its slot.
 ghost use Rattle.std.specs.Prelude.{◌≡◌, MatchOption, Some};
-ghost use Rattle.tg_rights.specs.Letters.{none};
-ghost use Rattle.tg_graph.specs.Protection.{kind_of, label};
-ghost use Rattle.tg_collect.specs.Readings.{held, place};
+ghost use Rattle.tg_rights.specs.Promise.Letters.{none};
+ghost use Rattle.tg_graph.specs.Promise.Protection.{kind_of, label};
+ghost use Rattle.tg_collect.specs.Promise.Readings.{held, place};
 
 use crate::store::Store;
 use tg_graph::{Reader, Spot};
@@ -10,7 +10,7 @@ use tg_rights::{Kind, Rights};
 
 impl Reader for Store {
     ghost use Rattle.std.specs.Prelude.{◌≡◌, Some};
-    ghost use Rattle.tg_collect.specs.Readings.{held, place};
+    ghost use Rattle.tg_collect.specs.Promise.Readings.{held, place};
 
     type Place = u32;
 

@@ -1,12 +1,13 @@
 //! The session steps of the machine.
 ghost use Rattle.std.specs.Prelude.{◌≡◌, ◌≢◌, ◌<◌, length, false, true, None, Some};
 ghost use Rattle.tg_rights.specs.declared.limits.TheConstants.{MAX_PRINCIPALS};
-ghost use Rattle.tg_rights.specs.Letters.{includes, is_none};
-ghost use Rattle.tg_slots.specs.Table.{Free, slot};
+ghost use Rattle.tg_rights.specs.Promise.Letters.{includes, is_none};
+ghost use Rattle.tg_slots.specs.Promise.Table.{Free, slot};
 ghost use Rattle.tg_slots.specs.declared.slots.Occupant.{Occupant};
-ghost use Rattle.tg_cells.specs.Lists.{HasNone, Found};
-ghost use Rattle.tg_heap.specs.Graph.{edges, mark_at};
-ghost use Rattle.tg_collect.specs.Machine.{Whole, Adds, Links, Removes, Puts, SetsText, ShadesSeat, Rerooted, assuming, lists_of, with_agent, with_principal, without_principal, progress_without, has_passed, colour_ahead};
+ghost use Rattle.tg_cells.specs.Promise.Lists.{HasNone, Found};
+ghost use Rattle.tg_heap.specs.Promise.Graph.{edges, mark_at};
+ghost use Rattle.tg_collect.specs.Promise.Stored.{assuming, with_agent, with_principal, without_principal};
+ghost use Rattle.tg_collect.specs.Inner.Machine.{Whole, Adds, LinksTo, Removes, Puts, SetsText, ShadesSeat, Rerooted, lists_of, progress_without, has_passed, colour_ahead};
 
 use crate::machine::{Machine, Progress, Root, Scan};
 use crate::packed_progress::PackedProgress;
@@ -63,7 +64,7 @@ impl Machine {
         requires some { is_none rights ≡ false }
         requires none { (o : Occupant) → slot self.old.heap.table target.slot ≡ Some o → HasNone (edges self.old.heap id) o.serial }
         requires room { self.old.heap.free_cells ≢ 0 }
-        ensures step { Links self.old seat id target rights self.new }
+        ensures step { LinksTo self.old seat id target rights self.new }
     {
         self.heap.add_edge(id, target.slot, rights);
         self.roots.targets[seat] = Some(target);

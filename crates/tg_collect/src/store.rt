@@ -3,17 +3,17 @@ ghost use Rattle.std.specs.Prelude.{◌≡◌, ◌≢◌, ℕ, ◌<◌, ◌≤�
 ghost use Rattle.std.specs.Bool.{OnFalse};
 ghost use Rattle.std.specs.Option.{option_map};
 ghost use Rattle.std.specs.FinMap as finmap;
-ghost use Rattle.tg_lists.specs.Membership.{Contains};
+ghost use Rattle.tg_lists.specs.Promise.Membership.{Contains};
 ghost use Rattle.tg_rights.specs.declared.limits.TheConstants.{MAX_CELLS, MAX_PRINCIPALS, MAX_SLOTS, SEATS};
-ghost use Rattle.tg_rights.specs.Letters.{is_none, includes, none};
-ghost use Rattle.tg_graph.specs.Protection.{label};
-ghost use Rattle.tg_graph.specs.Rules.{edges_of};
-ghost use Rattle.tg_heap.specs.Graph.{edges};
-ghost use Rattle.tg_collect.specs.Readings.{IsHeldIn, IsParkedIn, IsEdgeIn, held, vertices, principals, place, serial_at, pending_of, agent_of, free_slots, slot_count, phase};
-ghost use Rattle.tg_collect.specs.Stored.{FIXED};
-ghost use Rattle.tg_collect.specs.Views.{IsStore, Collected};
-ghost use Rattle.tg_collect.specs.Sessions.{Shaded, EdgeStored, VertexStored, PrincipalStored, Retired, Assumed, AgentLeft, RightsRemoved, TextReplaced, Acted};
-ghost use Rattle.tg_collect.specs.Openings.{IsOpening, Opened};
+ghost use Rattle.tg_rights.specs.Promise.Letters.{is_none, includes, none};
+ghost use Rattle.tg_graph.specs.Promise.Protection.{label};
+ghost use Rattle.tg_graph.specs.Promise.Rules.{edges_of};
+ghost use Rattle.tg_heap.specs.Promise.Graph.{edges};
+ghost use Rattle.tg_collect.specs.Promise.Readings.{IsHeldIn, IsParkedIn, IsEdgeIn, held, vertices, principals, place, serial_at, pending_of, agent_of, free_slots, slot_count, phase};
+ghost use Rattle.tg_collect.specs.Promise.Stored.{FIXED};
+ghost use Rattle.tg_collect.specs.Promise.Views.{IsStore, Collected};
+ghost use Rattle.tg_collect.specs.Promise.Sessions.{Shaded, EdgeStored, VertexStored, PrincipalStored, Retired, Assumed, AgentLeft, RightsRemoved, TextReplaced, Acted};
+ghost use Rattle.tg_collect.specs.Promise.Openings.{IsOpening, Opened};
 
 use crate::machine::{Machine, Root};
 use crate::note::{Note, Phase};
@@ -34,8 +34,9 @@ pub struct Store {
 }
 
 impl Model for Store {
-    ghost use Rattle.tg_collect.specs.Machine.{Whole};
-    ghost use Rattle.tg_collect.specs.Stored.{Stored, stored};
+    ghost use Rattle.tg_collect.specs.Inner.Machine.{Whole};
+    ghost use Rattle.tg_collect.specs.Promise.Stored.{Stored};
+    ghost use Rattle.tg_collect.specs.Inner.Stored.{stored};
     ghost use Rattle.std.specs.Coded.{codes};
 
     ghost Value = { Stored };

@@ -2,10 +2,10 @@
 //! a test if a call's condition is not met.
 ghost use Rattle.std.specs.Prelude.{◌≡◌, ◌<◌, Some, None, false, length, IfOk};
 ghost use Rattle.std.specs.Bool.{OnFalse};
-ghost use Rattle.tg_collect.specs.Openings.{Fitted};
-ghost use Rattle.tg_collect.specs.Stored.{stored};
-ghost use Rattle.tg_collect.specs.Readings.{IsHeldIn, IsParkedIn, pending_of, place, principals};
-ghost use Rattle.tg_rights.specs.Letters.{is_none};
+ghost use Rattle.tg_collect.specs.Promise.Openings.{Fitted};
+ghost use Rattle.tg_collect.specs.Inner.Stored.{stored};
+ghost use Rattle.tg_collect.specs.Promise.Readings.{IsHeldIn, IsParkedIn, pending_of, place, principals};
+ghost use Rattle.tg_rights.specs.Promise.Letters.{is_none};
 ghost use Rattle.tg_rights.specs.declared.limits.TheConstants.{SEATS};
 
 use crate::acts::Act::{

@@ -8,11 +8,10 @@ use Rattle.tg_rights.specs.declared.command.Command.{Command}
 use Rattle.tg_rights.specs.declared.outcome.Cause.{Cause}
 use Rattle.tg_rights.specs.declared.outcome.Cause.TheVariants as cause
 use Rattle.tg_graph.specs.declared.rules.Need.{Need}
-use Rattle.tg_graph.specs.Protection.{Protection, has_retired, kind_of}
-use Rattle.tg_graph.specs.Terms.{terms}
-use Rattle.tg_graph.specs.Rules.{AllPass, Allowed, Check, checks, first_failure, is_met, is_of_kind, lack, misfit, missing, not_of_kind, unless}
-use Rattle.tg_graph.specs.Laws.{AllMet, IsAsWanted, Meets}
-use Rattle.tg_graph.specs.Names.{has_serial}
+use Rattle.tg_graph.specs.Promise.Protection.{Protection, has_retired, kind_of, has_serial}
+use Rattle.tg_graph.specs.Promise.Terms.{terms}
+use Rattle.tg_graph.specs.Promise.Rules.{AllPass, Allowed, Check, checks, first_failure, is_met, is_of_kind, lack, misfit, missing, not_of_kind, unless}
+use Rattle.tg_graph.specs.Promise.Laws.{AllMet, IsAsWanted, Meets}
 use Rattle.tg_graph.proofs.RollLemmas.{may_be_named, member_finds, member_found, not_crowded, not_taken}
 
 pub unless_passes : (b : Bool) (why : Cause) → unless b why ≡ None → b ≡ true

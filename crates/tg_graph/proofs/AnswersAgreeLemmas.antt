@@ -3,17 +3,16 @@ use Rattle.std.proofs.Common.{◌≡◌, ℕ, ◌+◌, ◌<◌, ◌≤◌, true,
 use Rattle.std.specs.Ordering.{nat_cmp}
 use Rattle.std.specs.FinSet as set
 use Rattle.tg_rights.specs.declared.command.Command.{Command}
-use Rattle.tg_graph.specs.Terms as effect
-use Rattle.tg_graph.specs.Terms.{Does, terms}
+use Rattle.tg_graph.specs.Promise.Terms as effect
+use Rattle.tg_graph.specs.Promise.Terms.{Does, terms}
 use Rattle.tg_rights.specs.declared.outcome.Which.TheVariants as which
 use Rattle.tg_rights.specs.declared.outcome.Outcome.{Outcome}
 use Rattle.tg_rights.specs.declared.outcome.Outcome.TheVariants as outcome
 use Rattle.tg_rights.specs.declared.outcome.Reply.{Reply}
 use Rattle.tg_rights.specs.declared.outcome.Reply.TheVariants as reply
-use Rattle.tg_graph.specs.Protection.{Protection, IsGraph, vertex}
-use Rattle.tg_graph.specs.Paths.{Agree, Reaches}
-use Rattle.tg_graph.specs.Agreement.{SameReply, IsRepliedAlike, KeepsViewers}
-use Rattle.tg_graph.specs.Rules.{Judged, PlainlyDecided, Applies, answered, done, next_graph, reply_of, is_create, is_new, last_serial}
+use Rattle.tg_graph.specs.Promise.Protection.{Protection, IsGraph, vertex, Agree, Reaches}
+use Rattle.tg_graph.specs.Promise.Agreement.{SameReply, IsRepliedAlike, KeepsViewers}
+use Rattle.tg_graph.specs.Promise.Rules.{Judged, PlainlyDecided, Applies, answered, done, next_graph, reply_of, is_create, is_new, last_serial}
 use Rattle.tg_graph.proofs.OutcomesAgreeLemmas.{Judged-agrees, itself, reaches_on}
 use Rattle.tg_graph.proofs.ProtectionLemmas.{Entitled, entitled}
 use Rattle.tg_graph.proofs.ExactlyOneOutcomeLemmas.{verdict-Judged}

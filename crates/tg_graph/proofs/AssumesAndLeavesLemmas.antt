@@ -1,15 +1,15 @@
 -- Who may act for an agent, and that a leave is always allowed.
 use Rattle.std.proofs.Common.{◌≡◌, ◌≢◌, ℕ, ◌==◌, ◌∷◌, true, false, not, ◌||◌, refl, ap, Some}
 use Rattle.std.proofs.lemmas.Bool.{and_from, and_parts, eq-eqb, eqb-true, not-true}
-use Rattle.tg_rights.specs.Command.{rule_of}
+use Rattle.tg_rights.specs.Promise.Command.{rule_of}
 use Rattle.tg_rights.specs.declared.command.Command.{Command}
 use Rattle.tg_rights.specs.declared.command.Command.TheVariants as command
 use Rattle.tg_rights.specs.declared.command.Rule.TheVariants as rule
 use Rattle.tg_rights.specs.declared.outcome.Cause.TheVariants as cause
-use Rattle.tg_graph.specs.Laws.{AssumesAndLeaves, MayAssume}
-use Rattle.tg_graph.specs.Protection.{Protection, has_retired}
-use Rattle.tg_graph.specs.Rules.{Allowed, denial, first_failure, is_for_retired, later_checks, unless}
-use Rattle.tg_graph.specs.Terms.{terms}
+use Rattle.tg_graph.specs.Promise.Laws.{AssumesAndLeaves, MayAssume}
+use Rattle.tg_graph.specs.Promise.Protection.{Protection, has_retired}
+use Rattle.tg_graph.specs.Promise.Rules.{Allowed, denial, first_failure, is_for_retired, later_checks, unless}
+use Rattle.tg_graph.specs.Promise.Terms.{terms}
 use Rattle.tg_graph.proofs.AllowedIsMetLemmas.{allowed, meets}
 use Rattle.tg_graph.proofs.DecidingLemmas.{only_leave}
 use Rattle.tg_graph.proofs.RollLemmas.{untrue}

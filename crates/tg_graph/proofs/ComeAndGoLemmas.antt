@@ -4,18 +4,17 @@ use Rattle.std.specs.Prelude.{Option}
 use Rattle.std.specs.Cmp.{nat_cmp_total, unsigned_tied}
 use Rattle.std.specs.FinSet as set
 use Rattle.std.proofs.lemmas.Bool.{eqb-true, eq-eqb, not-true, or_cases, or_left, or_right}
-use Rattle.tg_lists.specs.Membership.{Contains, Distinct}
+use Rattle.tg_lists.specs.Promise.Membership.{Contains, Distinct}
 use Rattle.tg_lists.proofs.MembershipLemmas.{contains_append, contains_left, contains_right}
-use Rattle.tg_rights.specs.Command.{rule_of}
+use Rattle.tg_rights.specs.Promise.Command.{rule_of}
 use Rattle.tg_rights.specs.declared.command.Command.{Command}
 use Rattle.tg_rights.specs.declared.command.Command.TheVariants as command
 use Rattle.tg_rights.specs.declared.command.Rule.TheVariants as rule
 use Rattle.tg_graph.specs.declared.member.Member.{Member}
 use Rattle.tg_graph.specs.declared.vertex.Vertex.{Vertex}
-use Rattle.tg_graph.specs.Laws.{ComeAndGo}
-use Rattle.tg_graph.specs.Names.{same_name, serial_of}
-use Rattle.tg_graph.specs.Protection.{Protection, IsGraph, vertex}
-use Rattle.tg_graph.specs.Rules.{after, with_text}
+use Rattle.tg_graph.specs.Promise.Laws.{ComeAndGo}
+use Rattle.tg_graph.specs.Promise.Protection.{same_name, serial_of, Protection, IsGraph, vertex}
+use Rattle.tg_graph.specs.Promise.Rules.{after, with_text}
 use Rattle.tg_graph.proofs.PartsStayLemmas.{with_text-retired}
 use Rattle.tg_graph.proofs.RollLemmas.{contains_filter, filter_contains, is-same_name, names_contain, same_name-is, untrue}
 

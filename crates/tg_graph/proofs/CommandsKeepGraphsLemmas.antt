@@ -7,15 +7,15 @@ use Rattle.std.proofs.lemmas.Bool.{eqb-true, eq-eqb, leb-true, and_parts, not-fa
 use Rattle.tg_rights.specs.declared.kind.Kind.TheVariants as kind
 use Rattle.tg_rights.specs.declared.command.Command.{Command}
 use Rattle.std.specs.Prelude.{Option}
-use Rattle.tg_graph.specs.Terms as effect
-use Rattle.tg_graph.specs.Terms.{Does, terms}
+use Rattle.tg_graph.specs.Promise.Terms as effect
+use Rattle.tg_graph.specs.Promise.Terms.{Does, terms}
 use Rattle.tg_rights.specs.declared.limits.TheConstants.{MAX_PRINCIPALS}
 use Rattle.tg_graph.specs.declared.config.Config.{Config}
 use Rattle.tg_graph.specs.declared.config.OpenFault.TheVariants as fault
 use Rattle.tg_graph.specs.declared.vertex.Vertex.{Vertex}
-use Rattle.tg_graph.specs.Opening.{first_fault, is_principal, principal_count, opening, faults}
-use Rattle.tg_graph.specs.Protection.{Protection, IsGraph, IsSubject, IsVertex, vertex, kind_of}
-use Rattle.tg_graph.specs.Rules.{Allowed, after, done, with_text}
+use Rattle.tg_graph.specs.Promise.Opening.{first_fault, is_principal, principal_count, opening, faults}
+use Rattle.tg_graph.specs.Promise.Protection.{Protection, IsGraph, IsSubject, IsVertex, vertex, kind_of}
+use Rattle.tg_graph.specs.Promise.Rules.{Allowed, after, done, with_text}
 use Rattle.tg_graph.proofs.LabelLemmas.{union-IsGraph, difference-IsGraph}
 use Rattle.tg_graph.proofs.VertexLemmas.{IsVertex-from_kind, with_text-IsGraph, new-IsGraph, retired-IsGraph}
 use Rattle.tg_graph.proofs.OpeningLemmas.{none_at, subjects_kind}

@@ -1,12 +1,12 @@
 -- The terms of each command are consistent, and one command is for those who have retired.
 use Rattle.std.proofs.Common.{◌≡◌, ℕ, ◌∷◌, [], Bool, true, false, cond, ◌==◌, refl, sym, inl, inr}
 use Rattle.std.proofs.lemmas.Bool.{not-true, and_parts, eqb-true, eq-eqb}
-use Rattle.tg_rights.specs.Letters.{take_alone}
+use Rattle.tg_rights.specs.Promise.Letters.{take_alone}
 use Rattle.tg_rights.specs.declared.command.Command.{Command}
 use Rattle.tg_rights.specs.declared.command.Command.TheVariants as command
-use Rattle.tg_graph.specs.Terms.{terms, need}
-use Rattle.tg_graph.specs.Rules.{is_for_retired}
-use Rattle.tg_graph.specs.Deciding.{Follows, AskSome}
+use Rattle.tg_graph.specs.Promise.Terms.{terms, need}
+use Rattle.tg_graph.specs.Promise.Rules.{is_for_retired}
+use Rattle.tg_graph.specs.Inner.Deciding.{NeedsFollow, AskSome}
 use Rattle.tg_graph.proofs.SoundTerms.{IsNear, IsSound}
 
 flip : (x y : ℕ) → (x == y) ≡ false → (y == x) ≡ false
@@ -17,8 +17,8 @@ flip x y e = either _ refl where
 
 look_sound : (x at : ℕ) → IsSound x (terms x (command.Look at))
 look_sound x at = record { follows = follows; some = λ _. some; wants = tt; covers = near } where
-  follows : Follows x (cond (at == x) [] (need x take_alone at ∷ []))
-  follows = elim (at == x) as (λ b. Follows x (cond b [] (need x take_alone at ∷ []))) [ true ↦ tt | false ↦ refl ]
+  follows : NeedsFollow x (cond (at == x) [] (need x take_alone at ∷ []))
+  follows = elim (at == x) as (λ b. NeedsFollow x (cond b [] (need x take_alone at ∷ []))) [ true ↦ tt | false ↦ refl ]
 
   some : AskSome (cond (at == x) [] (need x take_alone at ∷ []))
   some = elim (at == x) as (λ b. AskSome (cond b [] (need x take_alone at ∷ []))) [ true ↦ tt | false ↦ (refl, tt) ]

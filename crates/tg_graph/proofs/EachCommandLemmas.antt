@@ -1,17 +1,20 @@
 -- When each command is allowed, and when it may be full.
-use Rattle.std.proofs.Common.{◌≡◌, ◌≢◌, ◌⊎◌, ◌&&◌, ◌==◌, ℕ, ◌∷◌, [], List, Bool, true, false, cond, not, refl, sym, ap, inl, inr, arith}
+use Rattle.std.proofs.Common.{◌≡◌, ◌≢◌, ◌<◌, ◌≤◌, ◌⊎◌, ◌&&◌, ◌==◌, ℕ, ◌∷◌, [], List, Bool, true, false, cond, not, refl, sym, ap, inl, inr, arith}
 use Rattle.std.proofs.lemmas.Bool.{eq-eqb, eqb-true, not-true}
-use Rattle.tg_rights.specs.Letters.{Letters, read, write, take, grant, includes, read_alone, write_alone, take_alone, grant_alone}
+use Rattle.tg_rights.specs.Promise.Letters.{Letters, read, write, take, grant, includes, read_alone, write_alone, take_alone, grant_alone}
 use Rattle.tg_rights.specs.declared.kind.Kind.{Kind}
 use Rattle.tg_rights.specs.declared.command.Command.{Command}
 use Rattle.tg_rights.specs.declared.command.Command.TheVariants as command
+use Rattle.tg_rights.specs.declared.outcome.Which.{Which}
+use Rattle.tg_rights.specs.declared.outcome.Which.TheVariants as which
 use Rattle.tg_rights.proofs.LettersLemmas.{are_set_operations}
-use Rattle.tg_graph.specs.EachCommand.{Has, HasAll, IsAllowedSo, IsFullAtTheLimit, MayCreate, MayEnrol, MayGrant, MayLook, MayRemove, MayRetire, MayTake, MayUse}
-use Rattle.tg_graph.specs.Fullness.{Limits}
-use Rattle.tg_graph.specs.Laws.{AllMet}
-use Rattle.tg_graph.specs.Protection.{Protection, label}
-use Rattle.tg_graph.specs.Rules.{Allowed}
-use Rattle.tg_graph.specs.Terms.{need}
+use Rattle.tg_graph.specs.Promise.EachCommand.{HasOver, HasAllOver, IsAllowedSo, IsFullAtTheLimit, MayCreate, MayEnrol, MayGrant, MayLook, MayRemove, MayRetire, MayTake, MayUse}
+use Rattle.tg_graph.specs.Promise.Fullness.{Limits, MayBeFull, NewEdge}
+use Rattle.tg_graph.specs.Promise.Laws.{AllMet}
+use Rattle.tg_graph.specs.Promise.Protection.{Protection, label}
+use Rattle.tg_graph.specs.Promise.Rules.{Allowed, is_create, is_new, last_serial}
+use Rattle.tg_graph.specs.Promise.Terms.{Does, need, terms}
+use Rattle.tg_graph.specs.Promise.Terms as effect
 use Rattle.tg_graph.proofs.AllowedIsMetLemmas.{allowed, meets}
 use Rattle.tg_graph.proofs.RollLemmas.{untrue}
 
@@ -34,39 +37,39 @@ unequal : (a b : ℕ) → a ≢ b → (a == b) ≡ false
 unequal a b other = untrue (a == b) (λ e. other (eqb-true a b e))
 
 module _ (G : Protection) where
-  has_all : (from : ℕ) (α : Letters) (to : ℕ) → includes (label G from to) α ≡ true → HasAll G from α to
+  has_all : (from : ℕ) (α : Letters) (to : ℕ) → includes (label G from to) α ≡ true → HasAllOver G from α to
   has_all from α to = (are_set_operations.inclusion (label G from to) α).0
 
-  is_met : (from : ℕ) (α : Letters) (to : ℕ) → HasAll G from α to → includes (label G from to) α ≡ true
+  is_met : (from : ℕ) (α : Letters) (to : ℕ) → HasAllOver G from α to → includes (label G from to) α ≡ true
   is_met from α to = (are_set_operations.inclusion (label G from to) α).1
 
-  has_read : (from to : ℕ) → Has G from read to → includes (label G from to) read_alone ≡ true
+  has_read : (from to : ℕ) → HasOver G from read to → includes (label G from to) read_alone ≡ true
   has_read from to h = is_met from read_alone to by where
-    by : HasAll G from read_alone to
+    by : HasAllOver G from read_alone to
     by read e = h
     by write e = absurd (cc e)
     by take e = absurd (cc e)
     by grant e = absurd (cc e)
 
-  has_write : (from to : ℕ) → Has G from write to → includes (label G from to) write_alone ≡ true
+  has_write : (from to : ℕ) → HasOver G from write to → includes (label G from to) write_alone ≡ true
   has_write from to h = is_met from write_alone to by where
-    by : HasAll G from write_alone to
+    by : HasAllOver G from write_alone to
     by read e = absurd (cc e)
     by write e = h
     by take e = absurd (cc e)
     by grant e = absurd (cc e)
 
-  has_take : (from to : ℕ) → Has G from take to → includes (label G from to) take_alone ≡ true
+  has_take : (from to : ℕ) → HasOver G from take to → includes (label G from to) take_alone ≡ true
   has_take from to h = is_met from take_alone to by where
-    by : HasAll G from take_alone to
+    by : HasAllOver G from take_alone to
     by read e = absurd (cc e)
     by write e = absurd (cc e)
     by take e = h
     by grant e = absurd (cc e)
 
-  has_grant : (from to : ℕ) → Has G from grant to → includes (label G from to) grant_alone ≡ true
+  has_grant : (from to : ℕ) → HasOver G from grant to → includes (label G from to) grant_alone ≡ true
   has_grant from to h = is_met from grant_alone to by where
-    by : HasAll G from grant_alone to
+    by : HasAllOver G from grant_alone to
     by read e = absurd (cc e)
     by write e = absurd (cc e)
     by take e = absurd (cc e)
@@ -175,7 +178,7 @@ module _ (G : Protection) (x : ℕ) where
 
   may_look : (y : ℕ) → Allowed G x (command.Look y) → MayLook G x y
   may_look y a = let m = meets G x (command.Look y) a in record { unretired = m.unretired refl; over = over (y == x) refl m.met } where
-    over : (b : Bool) → (y == x) ≡ b → AllMet G (cond b [] (need x take_alone y ∷ [])) → (x ≡ y) ⊎ Has G x take y
+    over : (b : Bool) → (y == x) ≡ b → AllMet G (cond b [] (need x take_alone y ∷ [])) → (x ≡ y) ⊎ HasOver G x take y
     over true e h = inl (sym (eqb-true y x e))
     over false e h = inr (has_all G x take_alone y h.0 take refl)
 
@@ -189,7 +192,7 @@ module _ (G : Protection) (x : ℕ) where
     principal = λ e. absurd (cc e);
     name = tt;
   }) where
-    met : (b : Bool) → (y == x) ≡ b → (x ≡ y) ⊎ Has G x take y → AllMet G (cond b [] (need x take_alone y ∷ []))
+    met : (b : Bool) → (y == x) ≡ b → (x ≡ y) ⊎ HasOver G x take y → AllMet G (cond b [] (need x take_alone y ∷ []))
     met true e over = tt
     met false e (inl is) = absurd (cc (e, eq-eqb y x (sym is)))
     met false e (inr h) = (has_take G x y h, tt)
@@ -235,6 +238,21 @@ module _ (G : Protection) (x : ℕ) where
     retires = (may_retire, retire_allowed);
   }
 
+new_edge : (G : Protection) (d : Does) → is_new d ≡ true → NewEdge G d → G.next ≤ last_serial
+new_edge G (effect.Joins from α to) new there = absurd (cc new)
+new_edge G (effect.Makes k α name) new there = there
+new_edge G (effect.Drops α over) new there = absurd there
+new_edge G (effect.Rewrites over text) new there = absurd there
+new_edge G (effect.Tells over) new there = absurd there
+new_edge G (effect.Lists at) new there = absurd there
+new_edge G effect.Retires new there = absurd there
+new_edge G (effect.Acts agent) new there = absurd there
+
+serials_first : (limits : Limits) (G : Protection) (x : ℕ) (c : Command) → is_create x c ≡ true → last_serial < G.next → (w : Which) → MayBeFull limits G x c w → w ≡ which.Serials
+serials_first limits G x c create none which.Serials full = refl
+serials_first limits G x c create none which.Slots full = absurd (let left = full.1 in omega (arith, left, none))
+serials_first limits G x c create none which.Cells full = absurd (let left = new_edge G (terms x c).does create full.0 in omega (arith, left, none))
+
 pub full_at_the_limit : (limits : Limits) (G : Protection) (x : ℕ) (c : Command) → IsFullAtTheLimit limits G x c
 full_at_the_limit limits G x c = record {
   serials = λ left full. absurd (omega (arith, left, full.1));
@@ -243,4 +261,6 @@ full_at_the_limit limits G x c = record {
   no_serial = λ create none. (create, none);
   no_slot = λ create left all. (create, left, omega (arith, all));
   no_cell = λ makes all. (makes, omega (arith, all));
+  first = λ create none. serials_first limits G x c create none;
+  last = refl;
 }

@@ -8,9 +8,9 @@ use Rattle.std.specs.FinMap as map
 use Rattle.std.specs.FinMap.Entries.{below_all, same_entries}
 use Rattle.std.proofs.lemmas.Bool.{eqb-true}
 use Rattle.tg_graph.specs.declared.vertex.Vertex.{Vertex}
-use Rattle.tg_graph.specs.Protection.{Protection, IsGraph, IsVertex, label}
-use Rattle.tg_graph.specs.Fullness.{edge_count, vertex_count}
-use Rattle.tg_graph.specs.Rules.{labelled, edges_of}
+use Rattle.tg_graph.specs.Promise.Protection.{Protection, IsGraph, IsVertex, label}
+use Rattle.tg_graph.specs.Promise.Fullness.{edge_count, vertex_count}
+use Rattle.tg_graph.specs.Promise.Rules.{labelled, edges_of}
 use Rattle.tg_graph.proofs.VertexLemmas.{IsVertex-insert, next_is_free}
 
 abbrev Entries : Type 0

@@ -28,6 +28,7 @@ mod AnswersAgreeLemmas
 mod AssumesAndLeavesLemmas
 mod ComeAndGoLemmas
 mod EachCommandLemmas
+mod EachDoesLemmas
 mod EdgesOfLemmas
 mod SameEdgesLemmas
 mod SameReplyLemmas

@@ -14,14 +14,15 @@ use Rattle.std.proofs.lemmas.List.Sorted.{Contains-permutation}
 use Rattle.std.proofs.lemmas.List.Sums.{sum_by-append, sum_by-cons}
 use Rattle.std.proofs.lemmas.Map.Keys.{IsDistinct-IsPermutation}
 use Rattle.std.proofs.lemmas.Map.Made.{AllPairs-from_IsDistinct, IsDistinct-from_AllPairs}
-use Rattle.tg_lists.specs.Membership.{Contains, Distinct}
+use Rattle.tg_lists.specs.Promise.Membership.{Contains, Distinct}
 use Rattle.tg_lists.proofs.MembershipLemmas.{contains_append, contains_left, contains_map, contains_middle, contains_right, map_append, split_at}
 use Rattle.tg_graph.specs.declared.member.Member.{Member}
-use Rattle.tg_graph.specs.Names.{Rise}
-use Rattle.tg_graph.specs.Opening.{Edge}
-use Rattle.tg_graph.specs.Parts.{Before, Rises, members_of}
+use Rattle.tg_graph.specs.Promise.Protection.{Rise}
+use Rattle.tg_graph.specs.Promise.Opening.{ListedEdge}
+use Rattle.tg_graph.specs.Promise.Parts.{Before, Rises}
+use Rattle.tg_graph.specs.Inner.Parts.{members_of}
 use Rattle.tg_graph.proofs.RollLemmas.{untrue}
-use Rattle.tg_graph.specs.Views.{pair_cmp}
+use Rattle.tg_graph.specs.Promise.Views.{pair_cmp}
 use Rattle.tg_graph.proofs.ViewsLemmas.{pair_tied}
 
 pub mapped : {X Y : Type 0} (f : X → Y) (xs : List X) (y : Y) → Contains (map f xs) y → (x : X) × Contains xs x × (y ≡ f x)
@@ -104,14 +105,14 @@ ends_tied q k = (
 pub serial_later : (v w : ℕ) → v < w → nat_cmp w v ≡ Greater
 serial_later v w low = sym (nat_cmp_is w v Greater low)
 
-pub edge_later : (e f : Edge) → Before e f → pair_cmp (f.0, f.2) (e.0, e.2) ≡ Greater
+pub edge_later : (e f : ListedEdge) → Before e f → pair_cmp (f.0, f.2) (e.0, e.2) ≡ Greater
 edge_later e f (inl low) = ap (λ o. ordering_then o (nat_cmp f.2 e.2)) (serial_later e.0 f.0 low)
 edge_later e f (inr tie) = ap (λ o. ordering_then o (nat_cmp f.2 e.2)) (sym (nat_cmp_is f.0 e.0 Equal (sym tie.0))) ∙ serial_later e.2 f.2 tie.1
 
 pub serials_apart : (v w : ℕ) → v < w → v ≢ w
 serials_apart v w low is = absurd (omega (arith, low, is))
 
-pub edges_apart : (e f : Edge) → Before e f → ◌≡◌ {A = ℕ × ℕ} (e.0, e.2) (f.0, f.2) → ⊥
+pub edges_apart : (e f : ListedEdge) → Before e f → ◌≡◌ {A = ℕ × ℕ} (e.0, e.2) (f.0, f.2) → ⊥
 edges_apart e f (inl low) is = serials_apart e.0 f.0 low (ap (λ (p : ℕ × ℕ). p.0) is)
 edges_apart e f (inr tie) is = serials_apart e.2 f.2 tie.1 (ap (λ (p : ℕ × ℕ). p.1) is)
 

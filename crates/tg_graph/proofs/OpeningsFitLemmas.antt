@@ -7,17 +7,16 @@ use Rattle.std.specs.FinMap as map
 use Rattle.std.specs.FinSet as set
 use Rattle.std.specs.List.{list_all}
 use Rattle.std.proofs.lemmas.Bool.{and_parts, not-false, leb-true, ltb-false}
-use Rattle.tg_rights.specs.Letters.{Letters, joined, is_none}
+use Rattle.tg_rights.specs.Promise.Letters.{Letters, joined, is_none}
 use Rattle.tg_rights.specs.declared.kind.Kind.TheVariants as kind
 use Rattle.tg_rights.specs.declared.limits.TheConstants.{MAX_CELLS, MAX_SLOTS}
 use Rattle.tg_graph.specs.declared.config.OpenFault.TheVariants as fault
 use Rattle.tg_graph.specs.declared.member.Member.{Member}
 use Rattle.tg_graph.specs.declared.vertex.Vertex.{Vertex}
-use Rattle.tg_graph.specs.Triples.{Triples, edge}
-use Rattle.tg_graph.specs.Protection.{Protection, label}
-use Rattle.tg_graph.specs.Fullness.{vertex_count, edge_count, edges_at}
-use Rattle.tg_graph.specs.Laws.{OpeningsFit}
-use Rattle.tg_graph.specs.Opening.{Edge, faults, first_members, is_principal, principal_count, opening, subjects, with_edges}
+use Rattle.tg_graph.specs.Promise.Protection.{Triples, edge, Protection, label}
+use Rattle.tg_graph.specs.Promise.Fullness.{vertex_count, edge_count, edges_at}
+use Rattle.tg_graph.specs.Promise.Laws.{OpeningsFit}
+use Rattle.tg_graph.specs.Promise.Opening.{ListedEdge, faults, first_members, is_principal, principal_count, opening, subjects, with_edges}
 use Rattle.tg_graph.proofs.OpeningLemmas.{none_at, ends-sound, subjects-within, subjects-has}
 use Rattle.tg_graph.proofs.EdgesAreCountedLemmas.{edge_count-union, edge_count-bare}
 
@@ -47,7 +46,7 @@ at_most_one l = by (is_none l) where
   by false = omega arith
 
 -- each edge of a list adds at most one
-with_edges-count : (count next : ℕ) (ms : List Member) (rs : set.FinSet nat_cmp) (T : Triples) (es : List Edge) → list_all (λ e. is_principal count e.0 && is_principal count e.2) es ≡ true →
+with_edges-count : (count next : ℕ) (ms : List Member) (rs : set.FinSet nat_cmp) (T : Triples) (es : List ListedEdge) → list_all (λ e. is_principal count e.0 && is_principal count e.2) es ≡ true →
     edge_count (record { vertices = subjects count; next = next; triples = with_edges T es; names = ms; retired = rs }) ≤ edge_count (record { vertices = subjects count; next = next; triples = T; names = ms; retired = rs }) + length es
 with_edges-count count next ms rs T [] ends = omega arith
 with_edges-count count next ms rs T (e ∷ es) ends =

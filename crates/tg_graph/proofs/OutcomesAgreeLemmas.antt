@@ -2,21 +2,20 @@
 use Rattle.std.proofs.Common.{◌≡◌, ℕ, ◌∷◌, [], ◌++◌, List, true, false, cond, not, ◌||◌, refl, sym, ap, subst, ◌∙◌, Some, None, inl, inr}
 use Rattle.std.specs.Prelude.{Option}
 use Rattle.std.specs.Option.{option_map}
-use Rattle.tg_rights.specs.Letters.{Letters, without, includes}
+use Rattle.tg_rights.specs.Promise.Letters.{Letters, without, includes}
 use Rattle.tg_rights.specs.declared.kind.Kind.{Kind}
 use Rattle.tg_rights.specs.declared.kind.Kind.TheVariants as kind
 use Rattle.tg_rights.specs.declared.command.Command.{Command}
 use Rattle.tg_rights.specs.declared.outcome.Cause.TheVariants as cause
 use Rattle.tg_rights.specs.declared.outcome.Outcome.{Outcome}
 use Rattle.tg_graph.specs.declared.rules.Need.{Need}
-use Rattle.tg_graph.specs.Protection.{Protection, IsEdge, label}
-use Rattle.tg_graph.specs.Names.{has_serial, is_crowded, is_taken}
+use Rattle.tg_graph.specs.Promise.Protection.{Protection, IsEdge, label, has_serial, is_crowded, is_taken, Agree, Leads, Reaches}
 use Rattle.tg_graph.specs.declared.member.Member.{Member}
-use Rattle.tg_graph.specs.Terms.{Terms, terms}
-use Rattle.tg_graph.specs.Rules.{Check, Judged, checks, first_failure, later_checks, is_met, is_of_kind, lack, misfit, missing, not_of_kind, unless}
-use Rattle.tg_graph.specs.Deciding.{AskSome, Follows, LeadTo}
+use Rattle.tg_graph.specs.Promise.Terms.{Terms, terms}
+use Rattle.tg_graph.specs.Promise.Rules.{Check, Judged, checks, first_failure, later_checks, is_met, is_of_kind, lack, misfit, missing, not_of_kind, unless}
+use Rattle.tg_graph.specs.Promise.Deciding.{LeadTo}
+use Rattle.tg_graph.specs.Inner.Deciding.{AskSome, NeedsFollow}
 use Rattle.tg_graph.proofs.SoundTerms.{IsSound, WantedNear}
-use Rattle.tg_graph.specs.Paths.{Agree, Leads, Reaches}
 use Rattle.tg_graph.proofs.ExactlyOneOutcomeLemmas.{outcome_by, verdict, Judged-verdict, verdict-Judged}
 use Rattle.tg_graph.proofs.AllowedIsMetLemmas.{unless_passes}
 use Rattle.tg_graph.proofs.DecidingLemmas.{sound}
@@ -70,7 +69,7 @@ module _ (G H : Protection) (x : ℕ) (agree : Agree G H x) where
       elim (is_met G n) as (λ b. is_met G n ≡ b → cond b later (Some (lack G n)) ≡ cond b later' (Some (lack G n))) [ true ↦ λ e. same e | false ↦ λ e. refl ] refl
       ∙ ap (λ l. judged_need n l later') (read_alike n.from n.to from)
 
-  same_missing : (ns : List Need) → Follows x ns → AskSome ns → missing G ns ≡ missing H ns
+  same_missing : (ns : List Need) → NeedsFollow x ns → AskSome ns → missing G ns ≡ missing H ns
   same_missing [] follows some = refl
   same_missing (n ∷ []) follows some = same_need n None None (subst (Reaches G x) (sym follows) itself) (λ _. refl)
   same_missing (n ∷ m ∷ []) follows some =

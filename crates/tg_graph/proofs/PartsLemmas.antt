@@ -13,21 +13,21 @@ use Rattle.std.specs.Map.{lookup}
 use Rattle.std.specs.BTreeMap as tree
 use Rattle.std.proofs.lemmas.Bool.{eqb-true, eq-eqb}
 use Rattle.std.proofs.lemmas.List.Sorted.{IsPermutation-map, IsPermutation-sym, length_permutation}
-use Rattle.tg_lists.specs.Membership.{Contains, Distinct}
+use Rattle.tg_lists.specs.Promise.Membership.{Contains, Distinct}
 use Rattle.tg_lists.proofs.MembershipLemmas.{contains_map}
-use Rattle.tg_rights.specs.Letters.{Letters, has, is_none, none}
+use Rattle.tg_rights.specs.Promise.Letters.{Letters, has, is_none, none}
 use Rattle.tg_rights.specs.declared.kind.Kind.TheVariants as kind
 use Rattle.tg_rights.specs.declared.limits.TheConstants.{MAX_PRINCIPALS}
 use Rattle.tg_rights.proofs.LettersLemmas.{is_none-none, right_some}
 use Rattle.tg_graph.specs.declared.member.Member.{Member}
 use Rattle.tg_graph.specs.declared.parts.Parts.{Parts}
 use Rattle.tg_graph.specs.declared.vertex.Vertex.{Vertex}
-use Rattle.tg_graph.specs.Names.{same_name}
-use Rattle.tg_graph.specs.Opening.{Edge}
-use Rattle.tg_graph.specs.Parts.{AreParts, Before, HasVertex, Listed, Lists, PartsAreOneGraph, Rises, label_entry, member_of, members_of, vertex_entry, vertex_of}
-use Rattle.tg_graph.specs.Protection.{IsEdge, IsGraph, IsVertex, Protection, has_retired, label, vertex}
-use Rattle.tg_graph.specs.Triples.{Triple}
-use Rattle.tg_graph.specs.Views.{protection_of, label_at, pair_cmp}
+use Rattle.tg_graph.specs.Promise.Protection.{same_name, IsEdge, IsGraph, IsVertex, Protection, has_retired, label, vertex, Triple}
+use Rattle.tg_graph.specs.Promise.Opening.{ListedEdge}
+use Rattle.tg_graph.specs.Promise.Parts.{AreParts, Before, HasVertex, Listed, Lists, PartsAreOneGraph, Rises}
+use Rattle.tg_graph.specs.Inner.Parts.{label_entry, member_of, members_of, vertex_entry, listed_vertex}
+use Rattle.tg_graph.specs.Promise.Views.{label_at, pair_cmp}
+use Rattle.tg_graph.specs.Inner.Views.{protection_of}
 use Rattle.tg_graph.proofs.LabelLemmas.{Labels, contains-label}
 use Rattle.tg_graph.proofs.ListedLemmas.{edge_later, edges_apart, ends_tied, entries_longer, found_listed, listed_found, mapped, members_length, members_rise, permuted, rise_rises, same_in_order, serial_later, serial_tied, serials_apart, serials_distinct, still_distinct}
 use Rattle.tg_graph.proofs.RollLemmas.{any_is, is-same_name, is_any, same_name-is, untrue}
@@ -38,14 +38,14 @@ use Rattle.tg_graph.proofs.ViewsLemmas.{label-shown, vertex-shown}
 -- ---- one more entry of a map
 
 pub vertices_longer : (listed given left rest : List Listed) (x : Listed) (es : Entries) → Rises (λ v w. v.0 < w.0) listed → given ++ left ≡ listed → left ≡ x ∷ rest → es ≡ map vertex_entry given →
-    tree.insert_entry nat_cmp es x.0 (vertex_of x) ≡ map vertex_entry (given ++ x ∷ [])
+    tree.insert_entry nat_cmp es x.0 (listed_vertex x) ≡ map vertex_entry (given ++ x ∷ [])
 vertices_longer listed given left rest x es rises all steps are =
     let split : listed ≡ given ++ x ∷ rest = sym all ∙ ap (λ (l : List Listed). given ++ l) steps in
-    ap (λ (l : Entries). tree.insert_entry nat_cmp l x.0 (vertex_of x)) are
-    ∙ entries_longer nat_cmp (λ (v w : Listed). v.0 < w.0) (λ (v : Listed). v.0) vertex_of (λ v w low. serial_later v.0 w.0 low) given rest x (subst (Rises (λ (v w : Listed). v.0 < w.0)) split rises)
+    ap (λ (l : Entries). tree.insert_entry nat_cmp l x.0 (listed_vertex x)) are
+    ∙ entries_longer nat_cmp (λ (v w : Listed). v.0 < w.0) (λ (v : Listed). v.0) listed_vertex (λ v w low. serial_later v.0 w.0 low) given rest x (subst (Rises (λ (v w : Listed). v.0 < w.0)) split rises)
 
-pub labels_longer : (xs zs : List Edge) (x : Edge) → Rises Before (xs ++ x ∷ zs) → tree.insert_entry pair_cmp (map label_entry xs) (x.0, x.2) x.1 ≡ map label_entry (xs ++ x ∷ [])
-labels_longer xs zs x rises = entries_longer pair_cmp Before (λ (e : Edge). (e.0, e.2)) (λ (e : Edge). e.1) edge_later xs zs x rises
+pub labels_longer : (xs zs : List ListedEdge) (x : ListedEdge) → Rises Before (xs ++ x ∷ zs) → tree.insert_entry pair_cmp (map label_entry xs) (x.0, x.2) x.1 ≡ map label_entry (xs ++ x ∷ [])
+labels_longer xs zs x rises = entries_longer pair_cmp Before (λ (e : ListedEdge). (e.0, e.2)) (λ (e : ListedEdge). e.1) edge_later xs zs x rises
 
 -- ---- what lists make
 
@@ -61,13 +61,13 @@ module _ (p : Parts) (ok : AreParts p) (vs : Entries) (es : Labels) (ms : List M
 
   found : (v : ℕ) (e : Vertex) → vertex G v ≡ Some e → Contains p.vertices.items (v, e.kind, e.text)
   found v e is =
-      let one = found_listed nat_cmp (λ (x y : Listed). x.0 < y.0) (λ (x : Listed). x.0) vertex_of serial_tied p.vertices.items v e (sym (vertex_at v) ∙ is) in
+      let one = found_listed nat_cmp (λ (x y : Listed). x.0 < y.0) (λ (x : Listed). x.0) listed_vertex serial_tied p.vertices.items v e (sym (vertex_at v) ∙ is) in
       subst (Contains p.vertices.items) (λ i. (one.2 i, (one.3 i).kind, (one.3 i).text)) one.1
 
-  there : (x : Listed) → Contains p.vertices.items x → vertex G x.0 ≡ Some (vertex_of x)
+  there : (x : Listed) → Contains p.vertices.items x → vertex G x.0 ≡ Some (listed_vertex x)
   there x h =
       vertex_at x.0
-      ∙ listed_found nat_cmp (λ (x y : Listed). x.0 < y.0) (λ (x : Listed). x.0) vertex_of serial_tied (λ x y low. serials_apart x.0 y.0 low) p.vertices.items x ok.vertices h
+      ∙ listed_found nat_cmp (λ (x y : Listed). x.0 < y.0) (λ (x : Listed). x.0) listed_vertex serial_tied (λ x y low. serials_apart x.0 y.0 low) p.vertices.items x ok.vertices h
 
   has_vertex : (v : ℕ) → IsVertex G v → HasVertex p v
   has_vertex v h = by (vertex G v) refl h where
@@ -81,17 +81,17 @@ module _ (p : Parts) (ok : AreParts p) (vs : Entries) (es : Labels) (ms : List M
   label_is : (x y : ℕ) → label G x y ≡ unwrap_or (lookup (tree.is_at (pair_cmp (x, y))) (map label_entry p.edges.items)) none
   label_is x y = label-shown G es x y refl ∙ ap (λ (l : Labels). label_at l x y) labels_are
 
-  labelled : (e : Edge) → Contains p.edges.items e → label G e.0 e.2 ≡ e.1
+  labelled : (e : ListedEdge) → Contains p.edges.items e → label G e.0 e.2 ≡ e.1
   labelled e h =
       label_is e.0 e.2
-      ∙ ap (λ o. unwrap_or o none) (listed_found pair_cmp Before (λ (e : Edge). (e.0, e.2)) (λ (e : Edge). e.1) ends_tied edges_apart p.edges.items e ok.edges h)
+      ∙ ap (λ o. unwrap_or o none) (listed_found pair_cmp Before (λ (e : ListedEdge). (e.0, e.2)) (λ (e : ListedEdge). e.1) ends_tied edges_apart p.edges.items e ok.edges h)
 
   edge_listed : (x y : ℕ) → IsEdge G x y → Contains p.edges.items (x, label G x y, y)
   edge_listed x y some = by (lookup (tree.is_at (pair_cmp (x, y))) (map label_entry p.edges.items)) refl where
     by : (o : Option Letters) → lookup (tree.is_at (pair_cmp (x, y))) (map label_entry p.edges.items) ≡ o → Contains p.edges.items (x, label G x y, y)
     by None is = absurd (cc (sym some, ap is_none (label_is x y ∙ ap (λ o. unwrap_or o none) is)))
     by (Some l) is =
-        let one = found_listed pair_cmp Before (λ (e : Edge). (e.0, e.2)) (λ (e : Edge). e.1) ends_tied p.edges.items (x, y) l is in
+        let one = found_listed pair_cmp Before (λ (e : ListedEdge). (e.0, e.2)) (λ (e : ListedEdge). e.1) ends_tied p.edges.items (x, y) l is in
         let here : label G x y ≡ l = label_is x y ∙ ap (λ o. unwrap_or o none) is in
         subst (Contains p.edges.items) (λ i. ((one.2 i).0, (one.3 ∙ sym here) i, (one.2 i).1)) one.1
 

@@ -7,18 +7,15 @@ use Rattle.std.specs.Cmp.{nat_cmp_total, unsigned_tied}
 use Rattle.std.specs.FinMap as map
 use Rattle.std.specs.FinSet as set
 use Rattle.std.proofs.lemmas.Bool.{eqb-true, eq-eqb, and_parts, or_cases, or_left, or_right}
-use Rattle.tg_rights.specs.Letters.{Letters, Right, read, write, take, grant, none, rights_where, joined, without, is_none}
+use Rattle.tg_rights.specs.Promise.Letters.{Letters, Right, read, write, take, grant, none, rights_where, joined, without, is_none}
 use Rattle.tg_rights.specs.declared.kind.Kind.{Kind}
 use Rattle.tg_rights.specs.declared.kind.Kind.TheVariants as kind
 use Rattle.tg_rights.specs.declared.command.Command.{Command}
-use Rattle.tg_graph.specs.Terms as effect
-use Rattle.tg_graph.specs.Terms.{Does, terms}
+use Rattle.tg_graph.specs.Promise.Terms as effect
+use Rattle.tg_graph.specs.Promise.Terms.{Does, terms}
 use Rattle.tg_graph.specs.declared.vertex.Vertex.{Vertex}
-use Rattle.tg_graph.specs.Triples.{Triples, edge}
-use Rattle.tg_graph.specs.Names.{with_member, without_member}
-use Rattle.tg_graph.specs.Protection.{Protection, IsGraph, IsVertex, IsSubject, IsEdge, has_retired, vertex, label}
-use Rattle.tg_graph.specs.Rules.{Allowed, after, done, with_text}
-use Rattle.tg_graph.specs.Paths.{Agree, IsPart, Leads, Reaches}
+use Rattle.tg_graph.specs.Promise.Protection.{Triples, edge, with_member, without_member, Protection, IsGraph, IsVertex, IsSubject, IsEdge, has_retired, vertex, label, Agree, IsPart, Leads, Reaches}
+use Rattle.tg_graph.specs.Promise.Rules.{Allowed, after, done, with_text}
 use Rattle.tg_graph.proofs.LabelLemmas.{Relabels, union-Relabels, difference-Relabels}
 use Rattle.tg_graph.proofs.VertexLemmas.{IsDocument, IsVertex-from_kind, IsVertex-insert, with_text-document}
 use Rattle.tg_graph.proofs.ProtectionLemmas.{Entitled, entitled}

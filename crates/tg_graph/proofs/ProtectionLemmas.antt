@@ -3,18 +3,18 @@
 use Rattle.std.proofs.Common.{◌≡◌, ◌≢◌, ℕ, ◌∷◌, [], List, Bool, true, false, not, sym, ap, subst, ◌∙◌, ◌&&◌, ◌||◌, inl, inr, Some, None, arith}
 use Rattle.std.proofs.lemmas.Bool.{not-true, eq-eqb}
 use Rattle.std.specs.FinSet as set
-use Rattle.tg_rights.specs.Letters.{Letters, Right, read, write, take, grant, has, is_none, includes}
+use Rattle.tg_rights.specs.Promise.Letters.{Letters, Right, read, write, take, grant, has, is_none, includes}
 use Rattle.tg_rights.specs.declared.command.Command.{Command}
 use Rattle.tg_graph.specs.declared.rules.Need.{Need}
-use Rattle.tg_graph.specs.Terms as effect
-use Rattle.tg_graph.specs.Protection.{Protection, IsGraph, IsSubject, IsVertex, IsEdge, label}
-use Rattle.tg_graph.specs.Terms.{Does, Terms, terms}
-use Rattle.tg_graph.specs.Rules.{Allowed, is_met, missing, names_rights}
-use Rattle.tg_graph.specs.Deciding.{AskSome, Follows, IsSubjectIfNamed, LeadTo}
+use Rattle.tg_graph.specs.Promise.Terms as effect
+use Rattle.tg_graph.specs.Promise.Protection.{Protection, IsGraph, IsSubject, IsVertex, IsEdge, label, IsMember, MayBeNamed}
+use Rattle.tg_graph.specs.Promise.Terms.{Does, Terms, terms}
+use Rattle.tg_graph.specs.Promise.Rules.{Allowed, is_met, missing, names_rights}
+use Rattle.tg_graph.specs.Promise.Deciding.{LeadTo}
+use Rattle.tg_graph.specs.Inner.Deciding.{AskSome, NeedsFollow, IsSubjectIfNamed}
 use Rattle.tg_graph.proofs.SoundTerms.{Covers, IsNear, IsSound, WantedNear}
 use Rattle.tg_graph.proofs.VertexLemmas.{IsDocument}
-use Rattle.tg_graph.specs.Names.{IsMember, MayBeNamed}
-use Rattle.tg_graph.specs.Laws.{AllMet, IsAsWanted, Meets}
+use Rattle.tg_graph.specs.Promise.Laws.{AllMet, IsAsWanted, Meets}
 use Rattle.tg_graph.proofs.AllowedIsMetLemmas.{meets, need_met, none_missing}
 use Rattle.tg_graph.proofs.DecidingLemmas.{sound}
 use Rattle.tg_rights.proofs.LettersLemmas.{some_right}
@@ -45,7 +45,7 @@ module _ (G : Protection) (Known : ℕ → Type 0) (step : (v z : ℕ) → Known
   goes : (n : Need) → Known n.from → is_none n.rights ≡ false → is_met G n ≡ true → Known n.to
   goes n k some met = step n.from n.to k (includes_some (label G n.from n.to) n.rights met some)
 
-  pub led : (ns : List Need) → Follows x ns → AskSome ns → missing G ns ≡ None → (v : ℕ) → LeadTo ns v → Known v
+  pub led : (ns : List Need) → NeedsFollow x ns → AskSome ns → missing G ns ≡ None → (v : ℕ) → LeadTo ns v → Known v
   led [] follows some met v h = absurd h
   led (n ∷ []) follows some met v (inl is) = subst Known (sym is) (goes n (subst Known (sym follows) x_known) some.0 (need_met G n [] met).0)
   led (n ∷ []) follows some met v (inr h) = absurd h

@@ -3,11 +3,10 @@ use Rattle.std.proofs.Common.{◌≡◌, ℕ, [], false, refl, ap}
 use Rattle.std.specs.Option.{option_map_or}
 use Rattle.tg_rights.specs.declared.command.Command.{Command}
 use Rattle.tg_rights.specs.declared.outcome.Reply.TheVariants as reply
-use Rattle.tg_graph.specs.Terms as effect
-use Rattle.tg_graph.specs.Protection.{Protection, IsGraph}
-use Rattle.tg_graph.specs.Terms.{Does, terms}
-use Rattle.tg_graph.specs.Rules.{Allowed, allowed_reply, answered, is_create, is_new}
-use Rattle.tg_graph.specs.Paths.{Agree, Reaches}
+use Rattle.tg_graph.specs.Promise.Terms as effect
+use Rattle.tg_graph.specs.Promise.Protection.{Protection, IsGraph, Agree, Reaches}
+use Rattle.tg_graph.specs.Promise.Terms.{Does, terms}
+use Rattle.tg_graph.specs.Promise.Rules.{Allowed, allowed_reply, answered, is_create, is_new}
 use Rattle.tg_graph.proofs.OutcomesAgreeLemmas.{itself, read_alike, reaches_on}
 use Rattle.tg_graph.proofs.ProtectionLemmas.{Entitled, entitled}
 use Rattle.tg_graph.proofs.SameEdgesLemmas.{same_edges}

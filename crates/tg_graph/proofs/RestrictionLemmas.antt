@@ -7,8 +7,8 @@ use Rattle.std.specs.Cmp.{nat_cmp_total, unsigned_tied}
 use Rattle.std.specs.FinMap as map
 use Rattle.std.specs.FinSet as set
 use Rattle.std.proofs.lemmas.Bool.{eqb-true, eq-eqb, or_cases}
-use Rattle.tg_lists.specs.Membership.{Contains}
-use Rattle.tg_rights.specs.Letters.{Letters, is_none}
+use Rattle.tg_lists.specs.Promise.Membership.{Contains}
+use Rattle.tg_rights.specs.Promise.Letters.{Letters, is_none}
 use Rattle.tg_rights.specs.declared.kind.Kind.TheVariants as kind
 use Rattle.tg_rights.specs.declared.command.Command.{Command}
 use Rattle.tg_rights.specs.declared.outcome.Outcome.{Outcome}
@@ -17,12 +17,11 @@ use Rattle.tg_rights.specs.declared.outcome.Reply.TheVariants as reply
 use Rattle.tg_rights.specs.declared.outcome.Which.{Which}
 use Rattle.tg_rights.specs.declared.outcome.Which.TheVariants as which
 use Rattle.tg_graph.specs.declared.vertex.Vertex.{Vertex}
-use Rattle.tg_graph.specs.Terms as effect
-use Rattle.tg_graph.specs.Terms.{Does, terms}
-use Rattle.tg_graph.specs.Protection.{Protection, IsEdge, IsGraph, IsSubject, IsVertex, has_retired, label, vertex}
-use Rattle.tg_graph.specs.Rules.{Allowed, Judged, after, answered, done, edges_of, last_serial, next_graph, reply_of, with_text}
-use Rattle.tg_graph.specs.Fullness.{Limits, MayBeFull, NewEdge, Permitted, edge_count, vertex_count}
-use Rattle.tg_graph.specs.Paths.{Agree, IsRestriction}
+use Rattle.tg_graph.specs.Promise.Terms as effect
+use Rattle.tg_graph.specs.Promise.Terms.{Does, terms}
+use Rattle.tg_graph.specs.Promise.Protection.{Protection, IsEdge, IsGraph, IsSubject, IsVertex, has_retired, label, vertex, Agree, IsRestriction}
+use Rattle.tg_graph.specs.Promise.Rules.{Allowed, Judged, after, answered, done, edges_of, last_serial, next_graph, reply_of, with_text}
+use Rattle.tg_graph.specs.Promise.Fullness.{Limits, MayBeFull, NewEdge, Permitted, edge_count, vertex_count}
 use Rattle.tg_graph.proofs.EdgesAreCountedLemmas.{keys_occur_once}
 use Rattle.tg_graph.proofs.EdgesAreListedLemmas.{vertex_listed}
 use Rattle.tg_graph.proofs.ListedLemmas.{ones, sum_among}

@@ -7,7 +7,7 @@ use Rattle.std.specs.Cmp.{nat_cmp_total, unsigned_tied}
 use Rattle.std.specs.FinMap as map
 use Rattle.std.specs.FinSet as set
 use Rattle.std.proofs.lemmas.Bool.{eqb-true}
-use Rattle.tg_rights.specs.Letters.{Letters, includes, rights_where}
+use Rattle.tg_rights.specs.Promise.Letters.{Letters, includes, rights_where}
 use Rattle.tg_rights.specs.declared.kind.Kind.{Kind}
 use Rattle.tg_rights.specs.declared.kind.Kind.TheVariants as kind
 use Rattle.tg_rights.specs.declared.command.Command.{Command}
@@ -15,14 +15,12 @@ use Rattle.tg_rights.specs.declared.command.Command.TheVariants as command
 use Rattle.tg_graph.specs.declared.derivation.Step.{Step}
 use Rattle.tg_graph.specs.declared.rules.Need.{Need}
 use Rattle.tg_graph.specs.declared.vertex.Vertex.{Vertex}
-use Rattle.tg_graph.specs.Names.{MayBeNamed}
-use Rattle.tg_graph.specs.Triples.{edge}
-use Rattle.tg_graph.specs.Protection.{Protection, kind_of, label, vertex}
-use Rattle.tg_graph.specs.Rules.{Allowed, after, is_create, last_serial, names_rights, with_text}
-use Rattle.tg_graph.specs.Terms.{terms}
-use Rattle.tg_graph.specs.Laws.{AllMet, IsAsWanted}
-use Rattle.tg_graph.specs.Derivations.{CarriesOut, Derives}
-use Rattle.tg_graph.specs.Rewriting.{HasRightsOf, rewriting, rewriting_step, rewriting_steps}
+use Rattle.tg_graph.specs.Promise.Protection.{MayBeNamed, edge, Protection, kind_of, label, vertex}
+use Rattle.tg_graph.specs.Promise.Rules.{Allowed, after, is_create, last_serial, names_rights, with_text}
+use Rattle.tg_graph.specs.Promise.Terms.{terms}
+use Rattle.tg_graph.specs.Promise.Laws.{AllMet, IsAsWanted}
+use Rattle.tg_graph.specs.Promise.Derivations.{CarriesOut, Derives}
+use Rattle.tg_graph.specs.Promise.Rewriting.{HasRightsOf, rewriting, rewriting_step, rewriting_steps}
 use Rattle.tg_graph.proofs.AllowedIsMetLemmas.{allowed, meets}
 
 -- the kind of each vertex once there is one more, or another in its place

@@ -9,15 +9,15 @@ use Rattle.std.specs.Cmp.Lexicographic.{same_text, nat_list_eq_equiv}
 use Rattle.std.specs.FinMap as map
 use Rattle.std.specs.FinSet as set
 use Rattle.std.proofs.lemmas.Bool.{eqb-true, eq-eqb, leb-false, lt-leb, or_cases, or_left, or_right, not-true}
-use Rattle.tg_lists.specs.Membership.{Contains, Distinct}
+use Rattle.tg_lists.specs.Promise.Membership.{Contains, Distinct}
 use Rattle.tg_lists.proofs.MembershipLemmas.{contains_append}
 use Rattle.tg_rights.specs.declared.kind.Kind.{Kind}
 use Rattle.tg_rights.specs.declared.kind.Kind.TheVariants as kind
 use Rattle.tg_rights.specs.declared.limits.TheConstants.{MAX_PRINCIPALS}
 use Rattle.tg_graph.specs.declared.member.Member.{Member}
 use Rattle.tg_graph.specs.declared.vertex.Vertex.{Vertex}
-use Rattle.tg_graph.specs.Deciding.{IsSubjectIfNamed}
-use Rattle.tg_graph.specs.Names.{IsMember, IsRoll, MayBeNamed, Rise, has_name, has_serial, is_crowded, is_taken, same_name, with_member, without_member}
+use Rattle.tg_graph.specs.Inner.Deciding.{IsSubjectIfNamed}
+use Rattle.tg_graph.specs.Promise.Protection.{IsMember, IsRoll, MayBeNamed, Rise, has_name, has_serial, is_crowded, is_taken, same_name, with_member, without_member}
 
 -- the tests find exactly the principals
 pub any_is : {X : Type 0} (p : X → Bool) (xs : List X) → list_any p xs ≡ true → (x : X) × Contains xs x × (p x ≡ true)

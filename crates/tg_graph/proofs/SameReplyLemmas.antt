@@ -4,8 +4,8 @@ use Rattle.tg_rights.specs.declared.command.Rule.{Rule}
 use Rattle.tg_rights.specs.declared.outcome.Cause.{Cause}
 use Rattle.tg_rights.specs.declared.outcome.Reply.{Reply}
 use Rattle.tg_rights.specs.declared.outcome.Reply.TheVariants.{Done, Created, Text, Edges, Denied, Full}
-use Rattle.tg_graph.specs.Agreement.{SameReply}
-use Rattle.tg_graph.specs.Laws.{DenialsAreTheSame}
+use Rattle.tg_graph.specs.Promise.Agreement.{SameReply}
+use Rattle.tg_graph.specs.Promise.Laws.{DenialsAreTheSame}
 
 turned : (a b : Reply) → SameReply a b → SameReply b a
 turned Done b is = subst (λ b. SameReply b Done) is refl

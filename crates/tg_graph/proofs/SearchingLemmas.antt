@@ -2,14 +2,13 @@
 use Rattle.std.proofs.Common.{◌≡◌, ℕ, ◌+◌, ◌≤◌, ◌∷◌, [], ◌++◌, List, Bool, true, false, cond, length, refl, sym, ap, subst, ◌∙◌, ◌⊎◌, inl, inr, ◌==◌, arith, length-append}
 use Rattle.std.specs.FinMap as map
 use Rattle.std.proofs.lemmas.Bool.{eqb-true, eq-eqb, or_cases, or_left, or_right}
-use Rattle.tg_lists.specs.Membership.{Contains}
+use Rattle.tg_lists.specs.Promise.Membership.{Contains}
 use Rattle.tg_lists.proofs.MembershipLemmas.{contains_append, contains_left, contains_right}
-use Rattle.tg_rights.specs.Letters.{Letters}
+use Rattle.tg_rights.specs.Promise.Letters.{Letters}
 use Rattle.tg_graph.specs.declared.search.Search.{Search}
-use Rattle.tg_graph.specs.Protection.{Protection, IsGraph, IsVertex, IsEdge, label}
-use Rattle.tg_graph.specs.Paths.{Leads, Reaches}
-use Rattle.tg_graph.specs.Rules.{edges_of}
-use Rattle.tg_graph.specs.Searching.{has_seen, Starts, Adds, IsSearching, unseen, work_left}
+use Rattle.tg_graph.specs.Promise.Protection.{Protection, IsGraph, IsVertex, IsEdge, label, Leads, Reaches}
+use Rattle.tg_graph.specs.Promise.Rules.{edges_of}
+use Rattle.tg_graph.specs.Inner.Searching.{has_seen, Starts, Visits, IsSearching, unseen, work_left}
 use Rattle.tg_graph.proofs.ProtectionLemmas.{edge_to}
 use Rattle.tg_graph.proofs.EdgesAreListedLemmas.{vertex_listed, edge_listed, listed_edge}
 use Rattle.tg_graph.proofs.OutcomesAgreeLemmas.{leads_on}
@@ -68,7 +67,7 @@ spreads_from G s t v searching from seen popped = record {
   at : has_seen s v ≡ true
   at = searching.listed v (subst (λ (l : List ℕ). Contains l v) (sym popped) (contains_right t.left.items (v ∷ []) v (inl refl)))
 
-module _ (G : Protection) (g : IsGraph G) (s0 s t : Search) (v : ℕ) (es rest : List (ℕ × Letters)) (e : ℕ × Letters) (spreading : Spreading G s0 s v es (e ∷ rest)) (from : t.from ≡ s.from) (adds : Adds s t e.0) where
+module _ (G : Protection) (g : IsGraph G) (s0 s t : Search) (v : ℕ) (es rest : List (ℕ × Letters)) (e : ℕ × Letters) (spreading : Spreading G s0 s v es (e ∷ rest)) (from : t.from ≡ s.from) (adds : Visits s t e.0) where
   more : (q : ℕ) → has_seen s q ≡ true → has_seen t q ≡ true
   more q h = adds.seen q ∙ or_right (q == e.0) (has_seen s q) h
 

@@ -3,10 +3,11 @@ use Rattle.std.specs.Prelude.{◌≡◌, ℕ, true, false, List, [], ◌∷◌, 
 use Rattle.tg_rights.specs.declared.kind.Kind.{Kind}
 use Rattle.tg_rights.specs.declared.kind.Kind.TheVariants as kind
 use Rattle.tg_graph.specs.declared.rules.Need.{Need}
-use Rattle.tg_graph.specs.Terms as effect
-use Rattle.tg_graph.specs.Terms.{Does, Terms, need}
-use Rattle.tg_graph.specs.Rules.{names_rights}
-use Rattle.tg_graph.specs.Deciding.{AskSome, Follows, IsSubjectIfNamed, LeadTo}
+use Rattle.tg_graph.specs.Promise.Terms as effect
+use Rattle.tg_graph.specs.Promise.Terms.{Does, Terms, need}
+use Rattle.tg_graph.specs.Promise.Rules.{names_rights}
+use Rattle.tg_graph.specs.Promise.Deciding.{LeadTo}
+use Rattle.tg_graph.specs.Inner.Deciding.{AskSome, NeedsFollow, IsSubjectIfNamed}
 
 -- a vertex that a command of x may work on: x, or one that the needs lead to
 abbrev pub IsNear : ℕ → List Need → ℕ → Type 0
@@ -31,7 +32,7 @@ Covers x t (effect.Acts (Some agent)) = t.wants ≡ Some (agent, kind.Subject)
 
 -- the terms of a command of x are consistent
 pub record IsSound (x : ℕ) (t : Terms) : Type 0 where
-  pub follows : Follows x t.needs
+  pub follows : NeedsFollow x t.needs
   pub some : names_rights t.names ≡ true → AskSome t.needs
   pub wants : WantedNear t.needs t.wants
   pub covers : Covers x t t.does

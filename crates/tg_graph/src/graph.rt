@@ -2,16 +2,13 @@
 ghost use Rattle.std.specs.Prelude.{◌≡◌, ◌≢◌, ◌≤◌, ◌+◌, ◌<◌, ◌↔◌, true, [], None, IsTrue, MatchBool, OnOk, OnErr, IfOk, IfErr, MatchOption, ⊤};
 ghost use Rattle.std.specs.FinMap as map;
 ghost use Rattle.std.specs.FinSet as set;
-ghost use Rattle.tg_graph.specs.Agreement.{IsRepliedAlike, KeepsViewers};
-ghost use Rattle.tg_graph.specs.Paths.{Agree, Reaches};
-ghost use Rattle.tg_graph.specs.Deciding.{IsSubjectIfNamed};
-ghost use Rattle.tg_graph.specs.Names.{MayBeNamed, with_member, without_member};
-ghost use Rattle.tg_graph.specs.Protection.{Protection, IsGraph, IsSubject, IsVertex, has_retired, kind_of, label, named, vertex};
-ghost use Rattle.tg_graph.specs.Rules.{Judged, PlainlyDecided, Applies, text_of, with_text, Allowed, takes_memory, after, allowed_reply, edges_of, last_serial, is_create};
-ghost use Rattle.tg_graph.specs.Searching.{IsSearching, work_left};
-ghost use Rattle.tg_graph.specs.Opening.{first_fault, first_members, opening, principal_count, subjects, IsRefusal};
-ghost use Rattle.tg_graph.specs.Triples.{edge};
-ghost use Rattle.tg_rights.specs.Letters.{none};
+ghost use Rattle.tg_graph.specs.Promise.Agreement.{IsRepliedAlike, KeepsViewers};
+ghost use Rattle.tg_graph.specs.Promise.Protection.{Agree, Reaches, MayBeNamed, with_member, without_member, Protection, IsGraph, IsSubject, IsVertex, has_retired, kind_of, label, named, vertex, edge};
+ghost use Rattle.tg_graph.specs.Inner.Deciding.{IsSubjectIfNamed};
+ghost use Rattle.tg_graph.specs.Promise.Rules.{Judged, PlainlyDecided, Applies, text_of, with_text, Allowed, takes_memory, after, allowed_reply, edges_of, last_serial, is_create};
+ghost use Rattle.tg_graph.specs.Inner.Searching.{IsSearching, work_left};
+ghost use Rattle.tg_graph.specs.Promise.Opening.{first_fault, first_members, opening, principal_count, subjects, IsRefusal};
+ghost use Rattle.tg_rights.specs.Promise.Letters.{none};
 ghost use Rattle.tg_rights.specs.declared.outcome.Outcome.TheVariants as outcome;
 
 use crate::config::{Config, OpenFault, first_fault};
@@ -44,12 +41,12 @@ pub struct Graph {
 }
 
 impl Model for Graph {
-    ghost use Rattle.tg_graph.specs.Protection.{Protection, IsGraph};
-    ghost use Rattle.tg_graph.specs.Views.{protection_of};
+    ghost use Rattle.tg_graph.specs.Promise.Protection.{Protection, IsGraph};
+    ghost use Rattle.tg_graph.specs.Inner.Views.{protection_of};
 
     ghost Value = { Protection };
 
-    ghost use Rattle.tg_graph.specs.Codes.{protection_code};
+    ghost use Rattle.tg_graph.specs.Inner.Codes.{protection_code};
 
     ghost coded = { protection_code };
 

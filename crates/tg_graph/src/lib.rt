@@ -1,10 +1,10 @@
 //! The take-grant rules over a plain graph that is never collected: the model of every other crate.
 #![tactic(auto)]
 
-ghost use Rattle.tg_graph.specs.Laws.{AgentsAreAssumedAndLeft, AllowedIsMet, AnswersAgree, DenialsAreFirst, CommandsKeepGraphs, DenialsAreTheSame, EdgesAreCounted, EdgesAreListed, ExactlyOneOutcome, OpeningsAreAsListed, OpeningsAreSound, OpeningsFit, OutcomesAgree, PartsAgree, PartsStay, PrincipalsComeAndGo, RepliesAgree, RestrictionsAgree, RestrictionsPermit, RestrictionsReply, RestrictionsStay, TwiceIsTwoPlaces};
-ghost use Rattle.tg_graph.specs.EachCommand.{EachIsAllowedSo, FullAtTheLimit};
-ghost use Rattle.tg_graph.specs.Parts.{PartsAreOneGraph};
-ghost use Rattle.tg_graph.specs.Rewriting.{DerivationsCarryOver};
+ghost use Rattle.tg_graph.specs.Promise.Laws.{AgentsAreAssumedAndLeft, AllowedIsMet, AnswersAgree, AnswersStayAlike, DenialsAreFirst, CommandsKeepGraphs, DenialsAreTheSame, EdgesAreCounted, EdgesAreListed, ExactlyOneOutcome, OpeningsAreAsListed, OpeningsAreSound, OpeningsFit, OutcomesAgree, PartsAgree, PartsStay, PrincipalsComeAndGo, RefusalsAreFaults, RepliesAgree, RestrictionsAgree, RestrictionsPermit, RestrictionsReply, RestrictionsStay, RightsAreOverOthers, TwiceIsTwoPlaces};
+ghost use Rattle.tg_graph.specs.Promise.EachCommand.{EachDoesSo, EachIsAllowedSo, FullAtTheLimit};
+ghost use Rattle.tg_graph.specs.Promise.Parts.{PartsAreOneGraph};
+ghost use Rattle.tg_graph.specs.Promise.Rewriting.{DerivationsCarryOver};
 
 mod config;
 mod derivation;
@@ -61,6 +61,11 @@ pub fn answers_agree()
     ensures { AnswersAgree }
 {}
 
+/// The next command of one of the subjects for whom two graphs agree has the same reply in both as well.
+pub fn answers_stay_alike()
+    ensures { AnswersStayAlike }
+{}
+
 /// Replies are the same both ways, and a denial is the same as itself alone.
 pub fn denials_are_the_same()
     ensures { DenialsAreTheSame }
@@ -69,6 +74,16 @@ pub fn denials_are_the_same()
 /// An allowed command leaves a graph, and each subject a subject.
 pub fn commands_keep_graphs()
     ensures { CommandsKeepGraphs }
+{}
+
+/// No vertex has a right over itself.
+pub fn rights_are_over_others()
+    ensures { RightsAreOverOthers }
+{}
+
+/// A configuration is refused for what is wrong in it, or for want of memory.
+pub fn refusals_are_faults()
+    ensures { RefusalsAreFaults }
 {}
 
 /// A name finds the principal who has it; only an enrol makes a principal, and only a retire takes one out.
@@ -88,7 +103,13 @@ pub fn each_is_allowed_so()
     ensures { EachIsAllowedSo }
 {}
 
-/// A command may be refused as full only at the limit, and there it may.
+/// What each command that changes rights does, and what it replies, right by right: who has them over whom afterwards. A
+/// denial for missing rights names such as are missing.
+pub fn each_does_so()
+    ensures { EachDoesSo }
+{}
+
+/// A command may be refused as full only at the limit, and there it may; for serials alone if these are used up.
 pub fn full_at_the_limit()
     ensures { FullAtTheLimit }
 {}

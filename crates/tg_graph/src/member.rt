@@ -1,6 +1,6 @@
 //! The active principals.
 ghost use Rattle.std.specs.Prelude.{◌≡◌};
-ghost use Rattle.tg_graph.specs.Names.{has_name, has_serial, serial_of};
+ghost use Rattle.tg_graph.specs.Promise.Protection.{has_name, has_serial, serial_of};
 
 use tg_rights::Name;
 

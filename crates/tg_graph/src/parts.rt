@@ -2,9 +2,10 @@
 ghost use Rattle.std.specs.Prelude.{◌≡◌, ◌<◌, ℕ, map, IfOk};
 ghost use Rattle.std.specs.List.{list_any};
 ghost use Rattle.std.specs.Ordering.{eq_by_cmp, nat_cmp};
-ghost use Rattle.tg_graph.specs.Parts.{AreParts, Before, Lists, Rises, label_entry, vertex_entry};
-ghost use Rattle.tg_graph.specs.Protection.{IsGraph};
-ghost use Rattle.tg_graph.specs.Views.{AreLabels};
+ghost use Rattle.tg_graph.specs.Promise.Parts.{AreParts, Before, Lists, Rises};
+ghost use Rattle.tg_graph.specs.Inner.Parts.{label_entry, vertex_entry};
+ghost use Rattle.tg_graph.specs.Promise.Protection.{IsGraph};
+ghost use Rattle.tg_graph.specs.Promise.Views.{AreLabels};
 
 use crate::graph::Graph;
 use crate::roll::Roll;

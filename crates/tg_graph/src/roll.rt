@@ -2,10 +2,10 @@
 ghost use Rattle.std.specs.Prelude.{◌≡◌, ◌<◌, ◌≤◌, [], ◌∷◌, ◌++◌, length, IfOk, true};
 ghost use Rattle.std.specs.List.{list_all};
 ghost use Rattle.std.specs.List.Sorted.{IsNonDecreasingBy, IsPermutation};
-ghost use Rattle.tg_graph.specs.Names.{MayBeNamed, with_member, without_member};
-ghost use Rattle.tg_graph.specs.Opening.{first_members};
-ghost use Rattle.tg_graph.specs.Parts.{members_of};
-ghost use Rattle.tg_rights.specs.Name.{is_name};
+ghost use Rattle.tg_graph.specs.Promise.Protection.{MayBeNamed, with_member, without_member};
+ghost use Rattle.tg_graph.specs.Promise.Opening.{first_members};
+ghost use Rattle.tg_graph.specs.Inner.Parts.{members_of};
+ghost use Rattle.tg_rights.specs.Promise.Name.{is_name};
 ghost use Rattle.tg_rights.specs.declared.limits.TheConstants.{MAX_PRINCIPALS};
 
 use crate::member::Member;

@@ -1,10 +1,10 @@
 -- A cursor in a list without repeated cells: it names the first edge that is left.
 use Rattle.std.proofs.Common.{◌≡◌, ◌≢◌, ℕ, List, [], ◌∷◌, ◌++◌, Option, Some, None, sym, subst, ap, refl, cond, true, false, eqb, eq-eqb, append-nil, map}
 use Rattle.std.proofs.lemmas.Bool.{ne_eqb}
-use Rattle.tg_lists.specs.Membership.{Contains, Distinct}
+use Rattle.tg_lists.specs.Promise.Membership.{Contains, Distinct}
 use Rattle.tg_lists.proofs.MembershipLemmas.{contains_middle, contains_map}
-use Rattle.tg_cells.specs.Lists.{Edge, first_cell}
-use Rattle.tg_heap.specs.Marking.{remaining}
+use Rattle.tg_cells.specs.Promise.Lists.{Edge, first_cell}
+use Rattle.tg_heap.specs.Inner.Marking.{remaining}
 
 abbrev pub cells : List Edge → List ℕ
 cells es = map (λ e. e.cell) es

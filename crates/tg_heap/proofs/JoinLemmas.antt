@@ -1,14 +1,14 @@
 -- What keeps slots and cells joined.
-use Rattle.std.proofs.Common.{◌≡◌, ◌≢◌, ℕ, ◌<◌, List, [], ◌∷◌, ◌++◌, length, Option, Some, None, inl, inr, sym, ◌∙◌, subst, ap, refl, set, Bool, true, false, ◌&&◌, not, length-set, get_or-set_same, get_or-set_other}
-use Rattle.std.proofs.lemmas.Bool.{cases_eq, cases_lt}
-use Rattle.std.proofs.lemmas.List.{get_or_past}
-use Rattle.tg_lists.specs.Membership.{Contains}
-use Rattle.tg_lists.proofs.MembershipLemmas.{contains_append, contains_left, contains_right, contains_middle, contains_around}
-use Rattle.tg_rights.specs.Letters.{Letters, none, is_none}
-use Rattle.tg_slots.specs.Table.{Table, Free, mark, in_slot}
+use Rattle.std.proofs.Common.{◌≡◌, ◌≢◌, ℕ, ◌<◌, List, [], ◌∷◌, ◌++◌, length, Option, Some, None, inl, inr, sym, ◌∙◌, subst, ap, refl, set, true, false, length-set, get_or-set_same, get_or-set_other}
+use Rattle.std.proofs.lemmas.Bool.{cases_eq}
+use Rattle.tg_lists.specs.Promise.Membership.{Contains}
+use Rattle.tg_rights.specs.Promise.Letters.{Letters, none, is_none}
+use Rattle.tg_lists.proofs.MembershipLemmas.{contains_middle, contains_around}
+use Rattle.tg_slots.specs.Promise.Table.{Table, Free, mark, in_slot}
 use Rattle.tg_slots.specs.declared.slots.Occupant.{Occupant}
-use Rattle.tg_cells.specs.Lists.{Edge, CellLists, owned, Found, Stands}
-use Rattle.tg_heap.specs.Graph.{Joins}
+use Rattle.tg_cells.specs.Promise.Lists.{Edge, CellLists, owned, Found, Stands}
+use Rattle.tg_cells.proofs.ListLemmas.{contains_apart, held_within}
+use Rattle.tg_heap.specs.Inner.Graph.{AreJoined}
 pub use Rattle.tg_cells.proofs.WalkLemmas.{First, first_is}
 
 -- A cell that was found is in its owner's list, between these edges.
@@ -28,28 +28,22 @@ pub within_around : (n : ℕ) (p r : List Edge) (e : Edge) → Within n (p ++ e 
 within_around n p r e w x h = w x (contains_around p r e x h)
 
 pub within_label : (n : ℕ) (p r : List Edge) (e : Edge) (a : Letters) → Within n (p ++ e ∷ r) → Within n (p ++ record e { rights = a } ∷ r)
-within_label n p r e a w x h = elim (contains_append p (record e { rights = a } ∷ r) x h) [
-  | inl l ↦ w x (contains_left p (e ∷ r) x l)
-  | inr m ↦ elim m [
-    | inl is ↦ subst (λ (y : Edge). y.target < n) (sym is) (w e (contains_middle p r e))
-    | inr l ↦ w x (contains_right p (e ∷ r) x (inr l))
-  ]
+within_label n p r e a w x h = elim (contains_apart p r (record e { rights = a }) x h) [
+  | inl is ↦ subst (λ (y : Edge). y.target < n) (sym is) (w e (contains_middle p r e))
+  | inr rest ↦ w x (contains_around p r e x rest)
 ]
 
 -- A slot that owns an edge is occupied, and one of the table.
-pub owner_occupied : (t : Table) (c : CellLists) (i : ℕ) (p r : List Edge) (e : Edge) → Joins t c → owned c.lists i ≡ p ++ e ∷ r → mark t i ≢ Free
+pub owner_occupied : (t : Table) (c : CellLists) (i : ℕ) (p r : List Edge) (e : Edge) → AreJoined t c → owned c.lists i ≡ p ++ e ∷ r → mark t i ≢ Free
 owner_occupied t c i p r e j is f =
     let none : p ++ e ∷ r ≡ [] = sym is ∙ j.free_bare i f in
     subst (λ (l : List Edge). Contains l e) none (contains_middle p r e)
 
-pub owner_within : (t : Table) (c : CellLists) (i : ℕ) (p r : List Edge) (e : Edge) → Joins t c → owned c.lists i ≡ p ++ e ∷ r → i < length c.lists
-owner_within t c i p r e j is = elim (cases_lt i (length c.lists)) [
-  | inl w ↦ w
-  | inr past ↦ absurd (subst (λ (l : List Edge). Contains l e) (sym is ∙ get_or_past c.lists i [] past) (contains_middle p r e))
-]
+pub owner_within : (t : Table) (c : CellLists) (i : ℕ) (p r : List Edge) (e : Edge) → AreJoined t c → owned c.lists i ≡ p ++ e ∷ r → i < length c.lists
+owner_within t c i p r e j is = held_within c.lists i e (subst (λ (l : List Edge). Contains l e) (sym is) (contains_middle p r e))
 
 -- One occupied slot's edges changed.
-pub joins_set : (t : Table) (c d : CellLists) (i : ℕ) (es : List Edge) → d.lists ≡ set c.lists i es → mark t i ≢ Free → i < length c.lists → Within (length t.slots) es → Joins t c → Joins t d
+pub joins_set : (t : Table) (c d : CellLists) (i : ℕ) (es : List Edge) → d.lists ≡ set c.lists i es → mark t i ≢ Free → i < length c.lists → Within (length t.slots) es → AreJoined t c → AreJoined t d
 joins_set t c d i es is occupied within w j = record {
   owners = ap length is ∙ length-set c.lists i es ∙ j.owners;
   targets = λ k e h. elim (cases_eq k i) [
@@ -63,26 +57,17 @@ joins_set t c d i es is occupied within w j = record {
 }
 
 -- The edge of a cell is gone, or has another label.
-pub joins_unlink : (t : Table) (c d : CellLists) (i : ℕ) (p r : List Edge) (e : Edge) → owned c.lists i ≡ p ++ e ∷ r → d.lists ≡ set c.lists i (p ++ r) → Joins t c → Joins t d
+pub joins_unlink : (t : Table) (c d : CellLists) (i : ℕ) (p r : List Edge) (e : Edge) → owned c.lists i ≡ p ++ e ∷ r → d.lists ≡ set c.lists i (p ++ r) → AreJoined t c → AreJoined t d
 joins_unlink t c d i p r e is new j =
     joins_set t c d i (p ++ r) new (owner_occupied t c i p r e j is) (owner_within t c i p r e j is)
     (within_around (length t.slots) p r e (subst (λ (l : List Edge). Within (length t.slots) l) is (j.targets i))) j
 
-pub joins_label : (t : Table) (c d : CellLists) (i : ℕ) (p r : List Edge) (e : Edge) (a : Letters) → owned c.lists i ≡ p ++ e ∷ r → d.lists ≡ set c.lists i (p ++ record e { rights = a } ∷ r) → Joins t c → Joins t d
+pub joins_label : (t : Table) (c d : CellLists) (i : ℕ) (p r : List Edge) (e : Edge) (a : Letters) → owned c.lists i ≡ p ++ e ∷ r → d.lists ≡ set c.lists i (p ++ record e { rights = a } ∷ r) → AreJoined t c → AreJoined t d
 joins_label t c d i p r e a is new j =
     joins_set t c d i (p ++ record e { rights = a } ∷ r) new (owner_occupied t c i p r e j is) (owner_within t c i p r e j is)
     (within_label (length t.slots) p r e a (subst (λ (l : List Edge). Within (length t.slots) l) is (j.targets i))) j
 
--- A label is empty if the test says so.
-pub none_true : (l : Letters) → is_none l ≡ true → l ≡ none
-none_true l e = tested l.read l.write l.take l.grant e where
-  tested : (r w t g : Bool) → not r && not w && not t && not g ≡ true → record { read = r; write = w; take = t; grant = g } ≡ none
-  tested true w t g e = absurd (cc)
-  tested false true t g e = absurd (cc)
-  tested false false true g e = absurd (cc)
-  tested false false false true e = absurd (cc)
-  tested false false false false e = refl
-
+-- A label is not empty if the test says so.
 pub none_false : (l : Letters) → is_none l ≡ false → l ≢ none
 none_false l e is = let test : is_none l ≡ true = ap is_none is in absurd (cc)
 

@@ -1,7 +1,6 @@
-pub mod Graph
-pub mod Calls
-pub mod Marking
-pub use Rattle.tg_lists.specs.Membership
-pub use Rattle.tg_rights.specs.Letters
-pub use Rattle.tg_slots.specs.Table
-pub use Rattle.tg_cells.specs.Lists
+pub mod Promise
+pub mod Inner
+pub use Rattle.tg_lists.specs.Promise.Membership
+pub use Rattle.tg_rights.specs.Promise.Letters
+pub use Rattle.tg_slots.specs.Promise.Table
+pub use Rattle.tg_cells.specs.Promise.Lists

@@ -1,14 +1,14 @@
 //! The heap: a table of slots and cells that belong to them.
 ghost use Rattle.std.specs.Prelude.{◌≡◌, ◌≢◌, ℕ, ◌<◌, ◌≤◌, ◌+◌, List, [], ◌∷◌, length, MatchResult, MatchOption, MatchBool, IfOk, IfSome, IsTrue, ◌↔◌, set, ◌⊎◌, Option, Some, None, true, false};
-ghost use Rattle.tg_lists.specs.Membership.{Contains};
+ghost use Rattle.tg_lists.specs.Promise.Membership.{Contains};
 ghost use Rattle.tg_rights.specs.declared.limits.TheConstants.{MAX_CELLS, MAX_SLOTS};
-ghost use Rattle.tg_rights.specs.Letters.{is_none, includes};
-ghost use Rattle.tg_slots.specs.Table.{Free, Has, slot, with_text, in_slot, fresh};
+ghost use Rattle.tg_rights.specs.Promise.Letters.{is_none, includes};
+ghost use Rattle.tg_slots.specs.Promise.Table.{Free, Has, slot, with_slot_text, in_slot, fresh};
 ghost use Rattle.tg_slots.specs.declared.slots.Occupant.{Occupant};
 ghost use Rattle.tg_cells.specs.declared.key.TheConstants.Key.{FIXED};
-ghost use Rattle.tg_cells.specs.Lists.{Edge, first_cell, Stands, IsLinked, HasNone, Found};
-ghost use Rattle.tg_heap.specs.Graph.{HeapGraph, edges, mark_at, shaded, painted, IsHeap};
-ghost use Rattle.tg_heap.specs.Calls.{IsAdded, IsDropped};
+ghost use Rattle.tg_cells.specs.Promise.Lists.{Edge, first_cell, Stands, IsLinked, HasNone, Found};
+ghost use Rattle.tg_heap.specs.Promise.Graph.{HeapGraph, edges, mark_at, shaded, painted, IsHeap};
+ghost use Rattle.tg_heap.specs.Promise.Calls.{IsAdded, IsDropped};
 
 use std::alloc::{AllocError, Global};
 use std::marker::Model;
@@ -39,13 +39,14 @@ pub struct Heap {
 }
 
 impl Model for Heap {
-    ghost use Rattle.tg_heap.specs.Graph.{HeapGraph, Joins, heap_of};
+    ghost use Rattle.tg_heap.specs.Promise.Graph.{HeapGraph};
+    ghost use Rattle.tg_heap.specs.Inner.Graph.{AreJoined, heap_of};
 
     ghost Value = { HeapGraph };
 
     ghost view = { λ h. heap_of h.slots h.cells };
 
-    ghost invariant = { λ h. Joins h.slots h.cells };
+    ghost invariant = { λ h. AreJoined h.slots h.cells };
 }
 
 impl Heap {
@@ -153,7 +154,7 @@ impl Heap {
     /// Replaces the text of a vertex, and returns the old one.
     pub fn set_text(&mut self, id: u32, text: Text) -> Text
         requires { mark_at self.old id ≢ Free }
-        ensures slots { self.new ≡ record self.old { table = record self.old.table { slots = set self.old.table.slots id (with_text text (slot self.old.table id)) } } }
+        ensures slots { self.new ≡ record self.old { table = record self.old.table { slots = set self.old.table.slots id (with_slot_text text (slot self.old.table id)) } } }
         ensures old { IfSome (slot self.old.table id) (λ o. result ≡ o.text) }
     {
         self.slots.set_text(id, text)

@@ -1,18 +1,18 @@
 -- Rows over linked numbers, and what becomes of them when links change.
-use Rattle.std.proofs.Common.{◌≡◌, ◌≢◌, ℕ, zero, suc, ◌+◌, ◌<◌, ◌≤◌, List, [], ◌∷◌, ◌++◌, length, Some, None, ◌⊎◌, inl, inr, sym, ◌∙◌, subst, ap, refl, set, get_or, cond, ltb, true, false, eqb, eq-eqb, arith, length-set, length-append, get_or-set_same, get_or-set_other}
-use Rattle.std.proofs.lemmas.Bool.{cases_lt, cases_Bool, ne_eqb, lt-ltb, le-ltb, cond-true, cond-false}
-use Rattle.std.proofs.lemmas.List.{get_or_append_left, get_or_push}
-use Rattle.tg_lists.specs.Membership.{Contains, Distinct}
+use Rattle.std.proofs.Common.{◌≡◌, ◌≢◌, ℕ, zero, suc, ◌+◌, ◌<◌, ◌≤◌, List, [], ◌∷◌, ◌++◌, length, map, Some, None, ◌⊎◌, inl, inr, sym, ◌∙◌, subst, ap, refl, set, get_or, cond, ltb, true, false, eqb, eq-eqb, arith, length-set, length-append, get_or-set_same, get_or-set_other}
+use Rattle.std.proofs.lemmas.Bool.{cases_lt, cases_Bool, ne_eqb, lt-ltb, le-ltb, ltb-false, ltb-true, cond_both, cond-true, cond-false}
+use Rattle.std.proofs.lemmas.List.{get_or_append_left, get_or_push, length-map, map-append, map-set}
+use Rattle.tg_lists.specs.Promise.Membership.{Contains, Distinct}
 use Rattle.tg_lists.proofs.MembershipLemmas.{contains_left, contains_right}
 use Rattle.tg_index.specs.declared.buckets.Link.{Link}
-use Rattle.tg_index.specs.Rows.{first_of}
-use Rattle.tg_index.specs.Links.{link_at, with_previous, with_next, walk, Links, first_link, written}
+use Rattle.tg_index.specs.Promise.Rows.{first_of}
+use Rattle.tg_index.specs.Inner.Links.{link_at, with_previous, with_next, walk, Links, first_link, written}
 
 -- A link that was written, and another.
-at_same : (ls : List Link) (n : ℕ) (l : Link) → n < length ls → link_at (set ls n l) n ≡ l
+pub at_same : (ls : List Link) (n : ℕ) (l : Link) → n < length ls → link_at (set ls n l) n ≡ l
 at_same ls n l w = get_or-set_same ls n l _ w
 
-at_other : (ls : List Link) (n m : ℕ) (l : Link) → m ≢ n → link_at (set ls n l) m ≡ link_at ls m
+pub at_other : (ls : List Link) (n m : ℕ) (l : Link) → m ≢ n → link_at (set ls n l) m ≡ link_at ls m
 at_other ls n m l o = get_or-set_other ls n m l _ o
 
 -- A row that is not longer than the fuel is what the walk returns.
@@ -90,44 +90,44 @@ links_head end ls before head (n ∷ ns) size c =
     let test : ltb head (length ls) ≡ true = lt-ltb head (length ls) (omega arith) in
     rw test (ap (λ (k : ℕ). Some k) is)
 
--- The links after one was written, or the next one was appended.
-written-length : (ls : List Link) (n : ℕ) (l : Link) → n ≤ length ls → length (written ls n l) ≡ cond (ltb n (length ls)) (length ls) (length ls + 1)
-written-length ls n l w = elim (cases_lt n (length ls)) [
-  | inl less ↦ (let test : ltb n (length ls) ≡ true = lt-ltb n (length ls) less in rw test (length-set ls n l))
-  | inr past ↦ (let test : ltb n (length ls) ≡ false = le-ltb n (length ls) past in rw test (length-append ls (l ∷ [])))
-]
+-- An element was written, or the next one was appended: there are no fewer, and that one is among them.
+pub record Holds (m k n : ℕ) : Type 0 where
+  pub more : m ≤ k
+  pub within : n < k
 
--- They are no fewer, and that one is among them.
-record Holds (ls ms : List Link) (n : ℕ) : Type 0 where
-  more : length ls ≤ length ms
-  within : n < length ms
+module _ {X : Type 0} where
+  pub written_length : (xs : List X) (n : ℕ) (x : X) → n ≤ length xs → length (written xs n x) ≡ cond (ltb n (length xs)) (length xs) (length xs + 1)
+  written_length xs n x w = elim (cases_lt n (length xs)) [
+    | inl less ↦ (let test : ltb n (length xs) ≡ true = lt-ltb n (length xs) less in rw test (length-set xs n x))
+    | inr past ↦ (let test : ltb n (length xs) ≡ false = le-ltb n (length xs) past in rw test (length-append xs (x ∷ [])))
+  ]
 
-written_holds : (ls : List Link) (n : ℕ) (l : Link) → n ≤ length ls → Holds ls (written ls n l) n
-written_holds ls n l w =
-    let size = written-length ls n l w in
-    elim (cases_lt n (length ls)) [
-      | inl less ↦ (let test : ltb n (length ls) ≡ true = lt-ltb n (length ls) less in let now : length (written ls n l) ≡ length ls = size ∙ cond-true (ltb n (length ls)) (length ls) (length ls + 1) test in record { more = omega arith; within = omega arith })
-      | inr past ↦ (let test : ltb n (length ls) ≡ false = le-ltb n (length ls) past in let now : length (written ls n l) ≡ length ls + 1 = size ∙ cond-false (ltb n (length ls)) (length ls) (length ls + 1) test in record { more = omega arith; within = omega arith })
+  pub written_holds : (xs : List X) (n : ℕ) (x : X) → n ≤ length xs → Holds (length xs) (length (written xs n x)) n
+  written_holds xs n x w = cond_both (ltb n (length xs)) (set xs n x) (xs ++ x ∷ []) (λ (l : List X). Holds (length xs) (length l) n)
+      (λ e. let size = length-set xs n x in let less = ltb-true n (length xs) e in record { more = omega arith; within = omega arith })
+      (λ e. let size = length-append xs (x ∷ []) in record { more = omega arith; within = omega arith })
+
+  pub written_same : (xs : List X) (n : ℕ) (x d : X) → n ≤ length xs → get_or (written xs n x) n d ≡ x
+  written_same xs n x d w = cond_both (ltb n (length xs)) (set xs n x) (xs ++ x ∷ []) (λ (l : List X). get_or l n d ≡ x)
+      (λ e. get_or-set_same xs n x d (ltb-true n (length xs) e)) (λ e. get_or_push xs x d n (let past = ltb-false n (length xs) e in omega arith))
+
+  pub written_other : (xs : List X) (n : ℕ) (x : X) (m : ℕ) (d : X) → m < length xs → m ≢ n → get_or (written xs n x) m d ≡ get_or xs m d
+  written_other xs n x m d w o = cond_both (ltb n (length xs)) (set xs n x) (xs ++ x ∷ []) (λ (l : List X). get_or l m d ≡ get_or xs m d) (λ e. get_or-set_other xs n m x d o) (λ e. get_or_append_left xs (x ∷ []) d m w)
+
+pub map_written : {X Y : Type 0} (f : X → Y) (xs : List X) (n : ℕ) (x : X) → map f (written xs n x) ≡ written (map f xs) n (f x)
+map_written f xs n x =
+    let size = length-map xs f in
+    elim (cases_lt n (length xs)) [
+      | inl less ↦ (let old : ltb n (length xs) ≡ true = lt-ltb n (length xs) less in let new : ltb n (length (map f xs)) ≡ true = lt-ltb n (length (map f xs)) (omega arith) in rw (old, new) (map-set f xs n x))
+      | inr past ↦ (let old : ltb n (length xs) ≡ false = le-ltb n (length xs) past in let new : ltb n (length (map f xs)) ≡ false = le-ltb n (length (map f xs)) (omega arith) in rw (old, new) (map-append f xs (x ∷ [])))
     ]
-
-written_same : (ls : List Link) (n : ℕ) (l : Link) → n ≤ length ls → link_at (written ls n l) n ≡ l
-written_same ls n l w = elim (cases_lt n (length ls)) [
-  | inl less ↦ (let test : ltb n (length ls) ≡ true = lt-ltb n (length ls) less in rw test (get_or-set_same ls n l _ less))
-  | inr past ↦ (let test : ltb n (length ls) ≡ false = le-ltb n (length ls) past in rw test (get_or_push ls l _ n (omega arith)))
-]
-
-written_other : (ls : List Link) (n : ℕ) (l : Link) (m : ℕ) → m < length ls → m ≢ n → link_at (written ls n l) m ≡ link_at ls m
-written_other ls n l m w o = elim (cases_lt n (length ls)) [
-  | inl less ↦ (let test : ltb n (length ls) ≡ true = lt-ltb n (length ls) less in rw test (get_or-set_other ls n m l _ o))
-  | inr past ↦ (let test : ltb n (length ls) ≡ false = le-ltb n (length ls) past in rw test (get_or_append_left ls (l ∷ []) _ m w))
-]
 
 -- The links after number n was put in front of the row that began at `head`.
 abbrev pub led : List Link → ℕ → ℕ → ℕ → List Link
 led ls n head end = with_previous (written ls n (first_link head end)) head n
 
 pub led-length : (ls : List Link) (n head end : ℕ) → n ≤ length ls → length (led ls n head end) ≡ cond (ltb n (length ls)) (length ls) (length ls + 1)
-led-length ls n head end w = length-set (written ls n (first_link head end)) head _ ∙ written-length ls n (first_link head end) w
+led-length ls n head end w = length-set (written ls n (first_link head end)) head _ ∙ written_length ls n (first_link head end) w
 
 pub led_row : (end : ℕ) (ls : List Link) (n head : ℕ) (ns : List ℕ) → length ls ≤ end → n ≤ length ls → n < end → Distinct ns → (Contains ns n → ⊥) → Links end ls end head ns → Links end (led ls n head end) end n (n ∷ ns)
 led_row end ls n head ns size fits below once lacks c =
@@ -135,12 +135,12 @@ led_row end ls n head ns size fits below once lacks c =
     let within = holds.within in
     let grown : length (led ls n head end) ≡ length (written ls n (first_link head end)) = length-set (written ls n (first_link head end)) head _ in
     let old : Links end (written ls n (first_link head end)) end head ns = links_same end ls (written ls n (first_link head end)) end head ns holds.more
-    (λ m w h. written_other ls n (first_link head end) m w (λ same. lacks (subst (λ (k : ℕ). Contains ns k) same h))) c in
+    (λ m w h. written_other ls n (first_link head end) m _ w (λ same. lacks (subst (λ (k : ℕ). Contains ns k) same h))) c in
     let other : n ≢ head = elim (links_after end ls end head ns c) [
       | inl is ↦ λ same. omega arith
       | inr there ↦ λ same. lacks (subst (λ (k : ℕ). Contains ns k) (sym same) there)
     ] in
-    let now : link_at (led ls n head end) n ≡ first_link head end = at_other (written ls n (first_link head end)) head n _ other ∙ written_same ls n (first_link head end) fits in (
+    let now : link_at (led ls n head end) n ≡ first_link head end = at_other (written ls n (first_link head end)) head n _ other ∙ written_same ls n (first_link head end) _ fits in (
       refl,
       omega arith,
       ap (λ (l : Link). l.previous) now,
@@ -153,7 +153,7 @@ led_other end ls n head before first ns fits not_n not_head c =
     let more = (written_holds ls n (first_link head end) fits).more in
     let size : length (led ls n head end) ≡ length (written ls n (first_link head end)) = length-set (written ls n (first_link head end)) head _ in
     links_same end ls (led ls n head end) before first ns (omega arith)
-    (λ m w h. at_other (written ls n (first_link head end)) head m _ (not_head m w h) ∙ written_other ls n (first_link head end) m w (not_n m w h)) c
+    (λ m w h. at_other (written ls n (first_link head end)) head m _ (not_head m w h) ∙ written_other ls n (first_link head end) m _ w (not_n m w h)) c
 
 -- The links after a number with neighbours a and b has left its row.
 abbrev pub joined : List Link → ℕ → ℕ → List Link
@@ -167,6 +167,13 @@ pub joined_other : (end : ℕ) (ls : List Link) (a b before head : ℕ) (ns : Li
 joined_other end ls a b before head ns not_a not_b c =
     let size = joined-length ls a b in
     links_same end ls (joined ls a b) before head ns (omega arith) (λ m w h. at_other (with_next ls a b) b m _ (not_b m w h) ∙ at_other ls a m _ (not_a m w h)) c
+
+-- The links, and the heads, after a number has left its row.
+abbrev pub out : List Link → ℕ → List Link
+out ls n = joined ls (link_at ls n).previous (link_at ls n).next
+
+abbrev pub heads_out : List ℕ → List Link → ℕ → ℕ → ℕ → List ℕ
+heads_out hs ls b n end = cond (eqb (link_at ls n).previous end) (set hs b (link_at ls n).next) hs
 
 -- The first of the numbers before one and after it.
 abbrev pub head_after : List ℕ → ℕ → ℕ → ℕ
@@ -224,13 +231,7 @@ head_own hs i a b end w = elim (cases_Bool (eqb a end)) [
 ]
 
 pub head_other : (hs : List ℕ) (i a b end j : ℕ) → j ≢ i → get_or (cond (eqb a end) (set hs i b) hs) j end ≡ get_or hs j end
-head_other hs i a b end j o = elim (cases_Bool (eqb a end)) [
-  | inl on ↦ rw on (get_or-set_other hs i j b end o)
-  | inr off ↦ rw off refl
-]
+head_other hs i a b end j o = cond_both (eqb a end) (set hs i b) hs (λ (l : List ℕ). get_or l j end ≡ get_or hs j end) (λ e. get_or-set_other hs i j b end o) (λ e. refl)
 
 pub heads_size : (hs : List ℕ) (i a b end : ℕ) → length (cond (eqb a end) (set hs i b) hs) ≡ length hs
-heads_size hs i a b end = elim (cases_Bool (eqb a end)) [
-  | inl on ↦ rw on (length-set hs i b)
-  | inr off ↦ rw off refl
-]
+heads_size hs i a b end = cond_both (eqb a end) (set hs i b) hs (λ (l : List ℕ). length l ≡ length hs) (λ e. length-set hs i b) (λ e. refl)

@@ -1,10 +1,10 @@
--- Walks over a row, and rows that are sound.
-use Rattle.std.proofs.Common.{◌≡◌, ◌≢◌, ℕ, zero, suc, ◌+◌, ◌<◌, ◌≤◌, List, [], ◌∷◌, ◌++◌, length, Option, Some, None, inl, inr, sym, ◌∙◌, subst, ap, refl, set, cond, ltb, true, false, eqb, eq-eqb, arith, get_or-set_same, get_or-set_other, append_assoc}
+-- Lists of numbers, and rows of them that are sound.
+use Rattle.std.proofs.Common.{◌≡◌, ◌≢◌, ℕ, zero, suc, ◌+◌, ◌<◌, ◌≤◌, List, [], ◌∷◌, ◌++◌, length, Option, Some, None, inl, inr, sym, ◌∙◌, subst, ap, refl, set, get_or, cond, ltb, true, false, eqb, eq-eqb, arith, get_or-set_same, get_or-set_other, append_assoc}
 use Rattle.std.proofs.lemmas.Bool.{cases_eq, cases_lt, ne_eqb, lt-ltb, le-ltb}
-use Rattle.tg_lists.specs.Membership.{Contains, Distinct}
+use Rattle.tg_lists.specs.Promise.Membership.{Contains, Distinct}
 use Rattle.tg_lists.proofs.MembershipLemmas.{contains_middle, distinct_around}
 use Rattle.tg_lists.proofs.NestedLemmas.{added, lost}
-use Rattle.tg_index.specs.Rows.{Rows, row, first_of, IsUnheld, AreRows}
+use Rattle.tg_index.specs.Promise.Rows.{Rows, row, first_of, IsUnheld, AreRows}
 
 -- The numbers of a list from one of them on.
 abbrev pub from : List ℕ → ℕ → List ℕ
@@ -108,8 +108,16 @@ sound-take v b n p r w is k = record {
   room = k.room;
 }
 
--- A row with a number in it is one of the rows.
-pub held_within : (lists : List (List ℕ)) (b n : ℕ) → Contains (row lists b) n → b < length lists
-held_within [] b n h = absurd h
-held_within (l ∷ lists) zero n h = omega arith
-held_within (l ∷ lists) (suc b) n h = let rest = held_within lists b n h in omega arith
+-- A number that has left its row is in none.
+pub taken_unheld : (v : Rows) (b n : ℕ) (p r : List ℕ) → b < length v.lists → row v.lists b ≡ p ++ n ∷ r → AreRows v → IsUnheld (set v.lists b (p ++ r)) n
+taken_unheld v b n p r w is k a h =
+    let held : Contains (row v.lists b) n = subst (λ (l : List ℕ). Contains l n) (sym is) (contains_middle p r n) in
+    let at : a ≡ b = k.one_row a b n (lost v.lists b n p r a n w is h) held in
+    let all : row (set v.lists b (p ++ r)) a ≡ p ++ r = ap (λ (c : ℕ). row (set v.lists b (p ++ r)) c) at ∙ row_same v.lists b (p ++ r) w in
+    (distinct_around p r n (subst (λ (l : List ℕ). Distinct l) is (k.once b))).1 (subst (λ (l : List ℕ). Contains l n) all h)
+
+-- A list with an element in it is one of the lists.
+pub held_within : {X : Type 0} (lists : List (List X)) (b : ℕ) (x : X) → Contains (get_or lists b []) x → b < length lists
+held_within [] b x h = absurd h
+held_within (l ∷ lists) zero x h = omega arith
+held_within (l ∷ lists) (suc b) x h = let rest = held_within lists b x h in omega arith

@@ -1,9 +1,9 @@
 //! The buckets: arrays of numbers, and a row through them for each bucket.
 ghost use Rattle.std.specs.Prelude.{◌≡◌, ℕ, ◌+◌, ◌<◌, ◌≤◌, List, [], ◌∷◌, ◌++◌, length, IfOk, Some, None, cond, ltb, set};
 ghost use Rattle.std.specs.Vec.{vec_capacity};
-ghost use Rattle.tg_lists.specs.Membership.{Contains};
-ghost use Rattle.tg_index.specs.Rows.{row, first_of, IsUnheld, IsHeld, AreRows};
-ghost use Rattle.tg_index.specs.Links.{with_previous, with_next, first_link, written};
+ghost use Rattle.tg_lists.specs.Promise.Membership.{Contains};
+ghost use Rattle.tg_index.specs.Promise.Rows.{row, first_of, IsUnheld, IsHeld, AreRows};
+ghost use Rattle.tg_index.specs.Inner.Links.{with_previous, with_next, first_link, written};
 
 use std::alloc::{AllocError, Global};
 use std::marker::Model;
@@ -28,11 +28,11 @@ pub struct Buckets {
 }
 
 impl Model for Buckets {
-    ghost use Rattle.tg_index.specs.Rows.{Rows};
+    ghost use Rattle.tg_index.specs.Promise.Rows.{Rows};
 
     ghost Value = { Rows };
 
-    ghost use Rattle.tg_index.specs.Inside.{view_of, IsInside};
+    ghost use Rattle.tg_index.specs.Inner.Inside.{view_of, IsInside};
 
     ghost view = { view_of };
 

@@ -6,7 +6,7 @@ use Rattle.std.proofs.lemmas.Option.{get_or_from_slice_get, slice_get-map, slice
 use Rattle.std.proofs.lemmas.Slice.Zip.{firsts-zip, length-zip, seconds-zip}
 use Rattle.std.specs.List.{slice_get, zip}
 use Rattle.std.specs.Option.{option_map}
-use Rattle.tg_lists.specs.Columns.{HasLeft, HasRight, with_left, with_right}
+use Rattle.tg_lists.specs.Promise.Columns.{HasLeft, HasRight, with_left, with_right}
 
 -- With room for one more pair, both arrays have room for it; and the room grows with theirs.
 pub both_room : (n m a b : ℕ) → n ≡ m → n < min a b → (n < a) × (m < b)

@@ -1,7 +1,8 @@
 -- Lists in a list, of which one gets an element in front, or loses one, and what is in them then.
-use Rattle.std.proofs.Common.{◌≡◌, ◌≢◌, ℕ, ◌<◌, List, [], ◌∷◌, ◌++◌, length, ◌⊎◌, inl, inr, sym, ◌∙◌, subst, ap, refl, set, get_or, arith, length-set, get_or-set_same, get_or-set_other}
-use Rattle.std.proofs.lemmas.Bool.{cases_eq}
-use Rattle.tg_lists.specs.Membership.{Contains}
+use Rattle.std.proofs.Common.{◌≡◌, ◌≢◌, ℕ, zero, suc, ◌<◌, List, [], ◌∷◌, ◌++◌, length, ◌⊎◌, inl, inr, sym, ◌∙◌, subst, ap, refl, set, get_or, arith, length-set, get_or-set_same, get_or-set_other, replicate}
+use Rattle.std.proofs.lemmas.Bool.{cases_eq, cases_lt}
+use Rattle.std.proofs.lemmas.List.{get_or-replicate, get_or_past, length-replicate}
+use Rattle.tg_lists.specs.Promise.Membership.{Contains}
 use Rattle.tg_lists.proofs.MembershipLemmas.{contains_around, contains_apart}
 
 -- One of the lists has got an element in front.
@@ -48,6 +49,17 @@ kept lists b x p r a y w is other h = elim (cases_eq a b) [
   | inr o ↦ subst (λ (l : List _). Contains l y) (sym (get_or-set_other lists b a (p ++ r) [] o)) h
 ]
 
+-- One of the lists has another element in place of one, and no other list has changed.
+pub swapped : {X : Type 0} (lists now : List (List X)) (b : ℕ) (p r : List X) (x y : X) (a : ℕ) (z : X) → get_or lists b [] ≡ p ++ x ∷ r → get_or now b [] ≡ p ++ y ∷ r → (a ≢ b → get_or now a [] ≡ get_or lists a [])
+    → Contains (get_or lists a []) z → ((a ≡ b) × (z ≡ x)) ⊎ Contains (get_or now a []) z
+swapped lists now b p r x y a z was is others h = elim (cases_eq a b) [
+  | inl e ↦ elim (contains_apart p r x z (subst (λ (l : List _). Contains l z) (ap (λ (c : ℕ). get_or lists c []) e ∙ was) h)) [
+    | inl same ↦ inl (e, same)
+    | inr rest ↦ inr (subst (λ (l : List _). Contains l z) (sym (ap (λ (c : ℕ). get_or now c []) e ∙ is)) (contains_around p r y z rest))
+  ]
+  | inr o ↦ inr (subst (λ (l : List _). Contains l z) (sym (others o)) h)
+]
+
 -- What holds of each list and its head still does if one list was replaced and no other head changed.
 pub each_set : {X : Type 0} (P : ℕ → ℕ → List X → Type 0) (end : ℕ) (hs gs : List ℕ) (lists : List (List X)) (b : ℕ) (xs : List X) → b < length lists → P b (get_or gs b end) xs → ((a : ℕ) → a ≢ b → get_or gs a end ≡ get_or hs a end)
     → ((a : ℕ) → a < length lists → a ≢ b → P a (get_or hs a end) (get_or lists a [])) → (a : ℕ) → a < length (set lists b xs) → P a (get_or gs a end) (get_or (set lists b xs) a [])
@@ -60,3 +72,18 @@ each_set P end hs gs lists b xs within now heads others a w = elim (cases_eq a b
       (subst (λ (h : ℕ). P a h (get_or lists a [])) (sym (heads a o)) (others a (omega arith) o))
       )
 ]
+
+-- Each of several empty lists is empty.
+pub empty_at : {X : Type 0} (n i : ℕ) → get_or {A = List X} (replicate n []) i [] ≡ []
+empty_at {X = X} n i = elim (cases_lt i n) [
+  | inl w ↦ get_or-replicate n i [] [] w
+  | inr past ↦ get_or_past (replicate n []) i [] (let size = length-replicate {A = List X} n [] in omega arith)
+]
+
+-- What a write keeps of the element that it replaces, it keeps of each.
+pub get_or_kept : {A B : Type 0} (f : A → B) (xs : List A) (n : ℕ) (x d : A) (m : ℕ) → f x ≡ f (get_or xs n d) → f (get_or (set xs n x) m d) ≡ f (get_or xs m d)
+get_or_kept f [] n x d m same = refl
+get_or_kept f (y ∷ xs) zero x d zero same = same
+get_or_kept f (y ∷ xs) zero x d (suc m) same = refl
+get_or_kept f (y ∷ xs) (suc n) x d zero same = refl
+get_or_kept f (y ∷ xs) (suc n) x d (suc m) same = get_or_kept f xs n x d m same

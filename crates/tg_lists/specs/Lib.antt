@@ -1,3 +1,2 @@
-pub mod Columns
-pub mod ColumnsLent
-pub mod Membership
+pub mod Promise
+pub mod Inner

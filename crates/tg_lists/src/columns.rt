@@ -2,7 +2,7 @@
 ghost use Rattle.std.specs.Prelude.{◌≡◌, ◌<◌, ◌≤◌, ◌++◌, ◌∷◌, [], IfOk, length, set};
 ghost use Rattle.std.specs.Borrow.{sem};
 ghost use Rattle.std.specs.Vec.{vec_capacity};
-ghost use Rattle.tg_lists.specs.Columns.{HasLeft, HasRight, with_left};
+ghost use Rattle.tg_lists.specs.Promise.Columns.{HasLeft, HasRight, with_left};
 
 use std::alloc::{AllocError, Global};
 use std::marker::Model;
@@ -19,7 +19,8 @@ impl<L, R> Model for Columns<L, R> {
     ghost use Rattle.std.specs.Prelude.{◌≡◌, length, min};
     ghost use Rattle.std.specs.List.{zip};
     ghost use Rattle.std.specs.Vec.{vec_capacity};
-    ghost use Rattle.tg_lists.specs.Columns.{Pairs, pairs_code};
+    ghost use Rattle.tg_lists.specs.Promise.Columns.{Pairs};
+    ghost use Rattle.tg_lists.specs.Inner.Columns.{pairs_code};
 
     ghost Value = { Pairs L R };
 
@@ -42,7 +43,7 @@ fn append<T: Drop>(items: &mut Vec<T>, item: T)
 }
 
 impl<L: Drop, R: Drop> Columns<L, R> {
-    ghost use Rattle.tg_lists.specs.ColumnsLent.{lends_right};
+    ghost use Rattle.tg_lists.specs.Promise.ColumnsLent.{lends_right};
 
     /// No pairs, with room for that many. The only error is that an allocation failed.
     pub fn new(alloc: Global, count: usize) -> Result<Columns<L, R>, AllocError>

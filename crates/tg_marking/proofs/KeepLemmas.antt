@@ -4,24 +4,24 @@ use Rattle.std.proofs.lemmas.Bool.{lt-ltb, le-ltb}
 use Rattle.std.proofs.lemmas.Bool.Decides.{nat_tests}
 use Rattle.std.proofs.lemmas.List.{append-nil, set-get_or}
 use Rattle.tg_lists.proofs.MembershipLemmas.{contains_append, contains_middle}
-use Rattle.tg_marking.specs.Values.{White, Grey, Black, Has, Edge, Contains, Distinct, Roots, HasTarget, Spot, Scan, Progress, AtRest, Marking, Sweeping, Body, spot, mark, mark_of, out, edges_of, name_of, IsRoot, IsTarget, seen, Kept, kept, Stage, Mark, Sweep, shown}
-use Rattle.tg_marking.specs.Steps.{put, shade, shade_all, Line, starts, scans, blackens, takes, shades_target, starts_sweep, skips, whitens, strips, frees, finishes}
-use Rattle.tg_marking.specs.Invariant.{Leads, IsScanned, Greys, Covered, Phased, Invariant, at_root, along, IsLive}
-use Rattle.tg_marking.specs.Collected.{IsCalled, Turns, stays, greys as turns_grey, blackens as turns_black, whitens as turns_white, strips as loses_edge, frees as turns_free, Stays, Follows, begins, marks, parks, sweeps, passes, ends, Collected, without_grey}
+use Rattle.tg_marking.specs.Promise.Values.{White, Grey, Black, Has, Edge, Contains, Distinct, Roots, HasTarget, Spot, Scan, Progress, AtRest, Marking, Sweeping, Body, spot, slot_mark, spot_mark, out, spot_edges, spot_serial, IsRootSlot, IsTarget, seen, Kept, kept_in, Stage, Mark, Sweep, shown}
+use Rattle.tg_marking.specs.Promise.Steps.{put, shade, shade_all, Line, starts, scans, blackens, takes, shades_target, starts_sweep, skips, whitens, strips, frees, finishes}
+use Rattle.tg_marking.specs.Promise.Invariant.{LeadsToHeld, IsScanned, Greys, Covered, Phased, Invariant, at_root, along, IsLive}
+use Rattle.tg_marking.specs.Promise.Collected.{IsCalled, SlotTurns, stays, greys as turns_grey, blackens as turns_black, whitens as turns_white, strips as loses_edge, frees as turns_free, Stays, Follows, begins, marks, parks, sweeps, passes, ends, BodyCollected, without_grey}
 use Rattle.tg_marking.proofs.SpotLemmas.{at_within, mark_is, kept_edges, put_each, shade_each, shade_done, shade_roots, shade_size, shade_marks, same_root, closed_same, shade_greys, shade_tricolour, put_greys}
 
 abbrev Keeps : Body → Progress → Body → Progress → Bool → Type 0
-Keeps b p b' p' e = Invariant b' p' × Collected (without_grey b) (shown p) (without_grey b') (shown p') e
+Keeps b p b' p' e = Invariant b' p' × BodyCollected (without_grey b) (shown p) (without_grey b') (shown p') e
 
-pub turns_name : (b : Body) (g : Stage) (i x : ℕ) (o o' : Option Spot) → Turns (IsCalled b) g i o o' → name_of o' ≡ Some x → name_of o ≡ Some x
+pub turns_name : (b : Body) (g : Stage) (i x : ℕ) (o o' : Option Spot) → SlotTurns (IsCalled b) g i o o' → spot_serial o' ≡ Some x → spot_serial o ≡ Some x
 turns_name b g i x o o' t e = grind arith
 
 -- A line that leaves what is held, which all do but the one that starts the sweep.
 keeps_by : (b b' : Body) (p p' : Progress) (e : Bool) → Stays (shown p) (shown p') → Follows (length b.slots) (shown p) (shown p') e → b'.roots ≡ b.roots → length b'.slots ≡ length b.slots
-    → ((i : ℕ) → Turns (IsCalled b) (shown p) i (spot b i) (spot b' i)) → ((i : ℕ) → kept b' (shown p') i ≡ kept b (shown p) i) → Greys b' (IsScanned p') → Phased b' p' → Invariant b p → Keeps b p b' p' e
+    → ((i : ℕ) → SlotTurns (IsCalled b) (shown p) i (spot b i) (spot b' i)) → ((i : ℕ) → kept_in b' (shown p') i ≡ kept_in b (shown p) i) → Greys b' (IsScanned p') → Phased b' p' → Invariant b p → Keeps b p b' p' e
 keeps_by b b' p p' e stay follows roots size turns held greys phase g = (
   record {
-    closed = closed_same (kept b (shown p)) (kept b' (shown p')) (IsRoot b) (IsRoot b') held (λ i r. same_root b b' i roots r) g.closed;
+    closed = closed_same (kept_in b (shown p)) (kept_in b' (shown p')) (IsRootSlot b) (IsRootSlot b') held (λ i r. same_root b b' i roots r) g.closed;
     once = λ i j x h k. g.once i j x (turns_name b (shown p) i x (spot b i) (spot b' i) (turns i) h) (turns_name b (shown p) j x (spot b j) (spot b' j) (turns j) k);
     greys = greys;
     phase = phase;
@@ -57,7 +57,7 @@ shades_all b (Some i ∷ rs) Called Scanned called =
       greys = λ g. shade_greys c i Scanned (k.greys g);
     }
 
-all_dark : (b : Body) (rs : List (Option ℕ)) (i : ℕ) → Contains rs (Some i) → mark (shade_all b rs) i ≢ Has White
+all_dark : (b : Body) (rs : List (Option ℕ)) (i : ℕ) → Contains rs (Some i) → slot_mark (shade_all b rs) i ≢ Has White
 all_dark b [] i c w = absurd c
 all_dark b (None ∷ rs) i c w = let rest = all_dark b rs i in grind arith
 all_dark b (Some j ∷ rs) i c w =
@@ -71,35 +71,35 @@ shades_keep b c p t stay marking same follows grey k phase g = keeps_by b c p (M
     (λ j. let old = k.slots j in let like = same j in grind arith) (k.greys grey) phase g
 
 -- The lines of the sweep, which change the slot that it is at, and move on or not.
-swept_keeps : (b : Body) (k m : ℕ) (o : Option Spot) → k < length b.slots → k ≤ m → m ≤ k + 1 → Follows (length b.slots) (Sweep k) (Sweep m) false → Turns (IsCalled b) (Sweep k) k (spot b k) o
-    → seen (Sweep m) k o ≡ kept b (Sweep k) k → mark_of o ≢ Has Black → mark_of o ≢ Has Grey → Invariant b (Sweeping k) → Keeps b (Sweeping k) (put b k o) (Sweeping m) false
+swept_keeps : (b : Body) (k m : ℕ) (o : Option Spot) → k < length b.slots → k ≤ m → m ≤ k + 1 → Follows (length b.slots) (Sweep k) (Sweep m) false → SlotTurns (IsCalled b) (Sweep k) k (spot b k) o
+    → seen (Sweep m) k o ≡ kept_in b (Sweep k) k → spot_mark o ≢ Has Black → spot_mark o ≢ Has Grey → Invariant b (Sweeping k) → Keeps b (Sweeping k) (put b k o) (Sweeping m) false
 swept_keeps b k m o within low high follows turns held black grey g = keeps_by b (put b k o) (Sweeping k) (Sweeping m) false tt follows refl (length-set b.slots k o)
-    (put_each (λ j q. Turns (IsCalled b) (Sweep k) j (spot b j) q) b k o within turns (λ j n. stays (spot b j)))
-    (put_each (λ j q. seen (Sweep m) j q ≡ kept b (Sweep k) j) b k o within held (λ j n. grind (arith, nat_tests)))
+    (put_each (λ j q. SlotTurns (IsCalled b) (Sweep k) j (spot b j) q) b k o within turns (λ j n. stays (spot b j)))
+    (put_each (λ j q. seen (Sweep m) j q ≡ kept_in b (Sweep k) j) b k o within held (λ j n. grind (arith, nat_tests)))
     (put_greys b k o (λ j. ⊥) (λ j. ⊥) within grey (λ w. g.phase.1 k (omega arith) (g.greys.waits k w)) (λ j n x. x) (λ j x. absurd x) g.greys) (
-      put_each (λ i q. i < m → mark_of q ≢ Has Black) b k o within (λ h. black) (λ i n h. g.phase.0 i (omega (arith, h, n, high))),
-      put_each (λ i q. m ≤ i → mark_of q ≢ Has Grey) b k o within (λ h. grey) (λ i n h. g.phase.1 i (omega (arith, h, n, low))),
+      put_each (λ i q. i < m → spot_mark q ≢ Has Black) b k o within (λ h. black) (λ i n h. g.phase.0 i (omega (arith, h, n, high))),
+      put_each (λ i q. m ≤ i → spot_mark q ≢ Has Grey) b k o within (λ h. grey) (λ i n h. g.phase.1 i (omega (arith, h, n, low))),
     ) g
 
 -- The step into the sweep: what is held afterwards was black, and what is black stays held.
-module _ (b : Body) (g : Invariant b (Marking None)) (l : b.grey ≡ []) (t : (i : ℕ) → IsTarget b i → mark b i ≡ Has White → ⊥) where
-  not_grey : (i : ℕ) → mark b i ≢ Has Grey
+module _ (b : Body) (g : Invariant b (Marking None)) (l : b.grey ≡ []) (t : (i : ℕ) → IsTarget b i → slot_mark b i ≡ Has White → ⊥) where
+  not_grey : (i : ℕ) → slot_mark b i ≢ Has Grey
   not_grey i d = elim (g.greys.known i d) [ inl w ↦ subst (λ (xs : List ℕ). Contains xs i) l w | inr bad ↦ bad ]
 
-  was_black : (i : ℕ) (k : Kept) → kept b (Sweep 0) i ≡ Some k → (kept b Mark i ≡ Some k) × (mark b i ≡ Has Black)
+  was_black : (i : ℕ) (k : Kept) → kept_in b (Sweep 0) i ≡ Some k → (kept_in b Mark i ≡ Some k) × (slot_mark b i ≡ Has Black)
   was_black i k h = let n = not_grey i in grind (arith, nat_tests)
 
-  held_black : (i : ℕ) (k : Kept) → kept b Mark i ≡ Some k → Covered b i → (mark b i ≡ Has Black) × (kept b (Sweep 0) i ≡ Some k)
+  held_black : (i : ℕ) (k : Kept) → kept_in b Mark i ≡ Some k → Covered b i → (slot_mark b i ≡ Has Black) × (kept_in b (Sweep 0) i ≡ Some k)
   held_black i k h c = let n = not_grey i in let w = t i in grind arith
 
   -- What a black slot's edges lead to is black, and stays held.
-  next_black : (i : ℕ) (k : Kept) (e : Edge) → mark b i ≡ Has Black → kept b Mark i ≡ Some k → Contains k.edges e → (mark b e.target ≡ Has Black) × Leads (kept b (Sweep 0)) i e
+  next_black : (i : ℕ) (k : Kept) (e : Edge) → slot_mark b i ≡ Has Black → kept_in b Mark i ≡ Some k → Contains k.edges e → (slot_mark b e.target ≡ Has Black) × LeadsToHeld (kept_in b (Sweep 0)) i e
   next_black i k e d h o =
       let there = g.closed.edges i k e h o in
       let black = held_black e.target there.0 there.1 (g.phase.black i e d (subst (λ (es : List Edge). Contains es e) (sym (kept_edges Mark i (spot b i) k h)) o)) in
       (black.0, (there.0, black.1, there.2, there.3))
 
-  live_black : (i : ℕ) → IsLive b Mark i → mark b i ≡ Has Black
+  live_black : (i : ℕ) → IsLive b Mark i → slot_mark b i ≡ Has Black
   live_black i (at_root _ r) = let k = g.closed.roots i r in (held_black i k.0 k.1 (g.phase.roots i r)).0
   live_black _ (along i k e r h o) = (next_black i k e (live_black i r) h o).0
 
@@ -142,7 +142,7 @@ lines b _ _ _ _ _ starts g =
     }) g
 lines b _ _ _ _ _ (scans i e r) g =
     let s = mark_is (spot b i) Grey (g.greys.scanned i refl).0 in
-    let mine : Contains s.0.edges e = subst (λ (es : List Edge). Contains es e) (sym g.phase.scanned.all ∙ ap edges_of s.1) (contains_middle g.phase.scanned.passed r e) in
+    let mine : Contains s.0.edges e = subst (λ (es : List Edge). Contains es e) (sym g.phase.scanned.all ∙ ap spot_edges s.1) (contains_middle g.phase.scanned.passed r e) in
     let m = shade_tricolour b e.target (Some (record { slot = i; rest = e ∷ r })) g.phase in
     shades_keep b (shade b e.target) (Marking (Some (record { slot = i; rest = e ∷ r }))) (Some (record { slot = i; rest = r })) tt (λ k e. cc) (λ j o. refl) marks g.greys
     (shades_all b (Some e.target ∷ []) (IsCalled b) (λ j. j ≡ i) (λ j m. inr (i, s.0, e, s.1, s.2, mine, grind arith)))
@@ -159,20 +159,20 @@ lines b _ _ _ _ _ (blackens i s is) g =
     let black : Option Spot = Some (record s { colour = Black }) in
     let within = at_within b.slots i s is in
     let passed : (e : Edge) → Contains s.edges e → Contains g.phase.scanned.passed e
-    = λ e. subst (λ (es : List Edge). Contains es e) (sym (ap edges_of is) ∙ g.phase.scanned.all ∙ append-nil g.phase.scanned.passed) in
-    let white = put_each (λ j o. mark_of o ≡ Has White → mark b j ≡ Has White) b i black within (λ w. absurd (cc)) (λ j n w. w) in
+    = λ e. subst (λ (es : List Edge). Contains es e) (sym (ap spot_edges is) ∙ g.phase.scanned.all ∙ append-nil g.phase.scanned.passed) in
+    let white = put_each (λ j o. spot_mark o ≡ Has White → slot_mark b j ≡ Has White) b i black within (λ w. absurd (cc)) (λ j n w. w) in
     keeps_by b (put b i black) (Marking (Some (record { slot = i; rest = [] }))) (Marking None) false tt marks refl (length-set b.slots i _)
-    (put_each (λ j o. Turns (IsCalled b) Mark j (spot b j) o) b i black within (rw is (turns_black s (let m = (g.greys.scanned i refl).0 in let k = ap mark_of is in cc) refl)) (λ j n. stays (spot b j)))
-    (put_each (λ j o. seen Mark j o ≡ kept b Mark j) b i black within (rw is refl) (λ j n. refl))
+    (put_each (λ j o. SlotTurns (IsCalled b) Mark j (spot b j) o) b i black within (rw is (turns_black s (let m = (g.greys.scanned i refl).0 in let k = ap spot_mark is in cc) refl)) (λ j n. stays (spot b j)))
+    (put_each (λ j o. seen Mark j o ≡ kept_in b Mark j) b i black within (rw is refl) (λ j n. refl))
     (put_greys b i black (λ j. j ≡ i) (λ j. ⊥) within (λ e. cc) (g.greys.scanned i refl).1 (λ j n e. n e) (λ j x. absurd x) g.greys)
     (record {
       roots = λ j r w. g.phase.roots j r (white j w);
-      black = λ j e d o w. put_each (λ j q. mark_of q ≡ Has Black → Contains (edges_of q) e → Covered b e.target) b i black within (λ d o. g.phase.scanned.behind e (passed e o)) (λ j n d o. g.phase.black j e d o) j d o (white e.target w);
+      black = λ j e d o w. put_each (λ j q. spot_mark q ≡ Has Black → Contains (spot_edges q) e → Covered b e.target) b i black within (λ d o. g.phase.scanned.behind e (passed e o)) (λ j n d o. g.phase.black j e d o) j d o (white e.target w);
       scanned = tt;
     }) g
 lines b _ _ _ _ _ (takes i rest l) g =
     let all : Distinct (i ∷ rest) = subst (λ (xs : List ℕ). Distinct xs) l g.greys.once in
-    let waits : (j : ℕ) → Contains (i ∷ rest) j → mark b j ≡ Has Grey = λ j w. g.greys.waits j (subst (λ (xs : List ℕ). Contains xs j) (sym l) w) in
+    let waits : (j : ℕ) → Contains (i ∷ rest) j → slot_mark b j ≡ Has Grey = λ j w. g.greys.waits j (subst (λ (xs : List ℕ). Contains xs j) (sym l) w) in
     keeps_by b (record b { grey = rest }) (Marking None) (Marking (Some (record { slot = i; rest = out b i }))) false tt marks refl refl (λ j. stays (spot b j)) (λ j. refl)
     (record {
       waits = λ j w. waits j (inr w);
@@ -202,5 +202,5 @@ lines b _ _ _ _ _ (finishes k l) g = keeps_by b b (Sweeping k) AtRest true tt (e
 pub line_keeps : (b b' : Body) (p p' : Progress) (n : ℕ) (e : Bool) → Line b p b' p' n e → Invariant b p → Invariant b' p'
 line_keeps b b' p p' n e l g = (lines b b' p p' n e l g).0
 
-pub line_collected : (b b' : Body) (p p' : Progress) (n : ℕ) (e : Bool) → Line b p b' p' n e → Invariant b p → Collected (without_grey b) (shown p) (without_grey b') (shown p') e
+pub line_collected : (b b' : Body) (p p' : Progress) (n : ℕ) (e : Bool) → Line b p b' p' n e → Invariant b p → BodyCollected (without_grey b) (shown p) (without_grey b') (shown p') e
 line_collected b b' p p' n e l g = (lines b b' p p' n e l g).1

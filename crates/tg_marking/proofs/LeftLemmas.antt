@@ -4,10 +4,10 @@ use Rattle.std.proofs.lemmas.Bool.{le-ltb}
 use Rattle.std.proofs.lemmas.Bool.Decides.{nat_tests}
 use Rattle.std.proofs.lemmas.List.{length-map}
 use Rattle.tg_lists.proofs.MembershipLemmas.{contains_map, few}
-use Rattle.tg_marking.specs.Values.{White, Grey, Has, Edge, Contains, Distinct, Kind, Roots, Spot, Progress, AtRest, Marking, Sweeping, Body, spot, mark, out, keeps, as_kept, kept, Sweep, shown}
-use Rattle.tg_marking.specs.Steps.{put, shade, shade_all, new_colour, Line, starts, scans, blackens, takes, shades_target, starts_sweep, skips, whitens, strips, frees, finishes, PutsEdge, Places, DropsEdge, Rewrites, Trims, ahead}
-use Rattle.tg_marking.specs.Invariant.{Invariant, Leads}
-use Rattle.tg_marking.specs.Left.{total, weight, slot_left, phase_left, parked_cells, bound, left, Celled, IsBounded, free_one, held_one, parked_one, held_cells, IsCounted, NeverRaises}
+use Rattle.tg_marking.specs.Promise.Values.{White, Grey, Has, Edge, Contains, Distinct, Kind, Roots, Spot, Progress, AtRest, Marking, Sweeping, Body, spot, slot_mark, out, keeps, as_kept, kept_in, Sweep, shown, total, free_one, parked_one}
+use Rattle.tg_marking.specs.Promise.Steps.{put, shade, shade_all, new_colour, Line, starts, scans, blackens, takes, shades_target, starts_sweep, skips, whitens, strips, frees, finishes, PutsEdge, Places, DropsEdge, RewritesEdge, Trims, ahead}
+use Rattle.tg_marking.specs.Promise.Invariant.{Invariant, LeadsToHeld}
+use Rattle.tg_marking.specs.Promise.Left.{weight, slot_left, phase_left, parked_cells, bound, left, Celled, LinesAreBounded, held_one, held_cells, AreSlotsCounted, NeverRaises}
 use Rattle.tg_marking.proofs.SpotLemmas.{at_within, contains_mapped, mark_is, put_each, kept_within, held_keeps, shade_each, shade_done, shade_size, shade_marks}
 use Rattle.tg_marking.proofs.KeepLemmas.{line_collected}
 
@@ -35,11 +35,11 @@ distinct_by f g (x ∷ xs) h d = (
   distinct_by f g xs (λ y z a b. h y z (inr a) (inr b)) d.1,
 )
 
-out_few : (b : Body) (p : Progress) (i : ℕ) → Invariant b p → mark b i ≡ Has Grey → Distinct (map (λ (e : Edge). e.serial) (out b i)) → length (out b i) < length b.slots
+out_few : (b : Body) (p : Progress) (i : ℕ) → Invariant b p → slot_mark b i ≡ Has Grey → Distinct (map (λ (e : Edge). e.serial) (out b i)) → length (out b i) < length b.slots
 out_few b p i g grey once =
     let s = mark_is (spot b i) Grey grey in
-    let held : kept b (shown p) i ≡ Some (as_kept s.0) = (let at = s.1 in let c = s.2 in grind arith) in
-    let leads : (e : Edge) → Contains (out b i) e → Leads (kept b (shown p)) i e = λ e o. g.closed.edges i (as_kept s.0) e held (rw s.1 at o) in
+    let held : kept_in b (shown p) i ≡ Some (as_kept s.0) = (let at = s.1 in let c = s.2 in grind arith) in
+    let leads : (e : Edge) → Contains (out b i) e → LeadsToHeld (kept_in b (shown p)) i e = λ e o. g.closed.edges i (as_kept s.0) e held (rw s.1 at o) in
     let apart = distinct_by (λ (e : Edge). e.serial) (λ (e : Edge). e.target) (out b i)
     (λ x y c d same. let a = leads x c in let z = leads y d in grind arith) once in
     let all = few (length b.slots) (i ∷ map (λ (e : Edge). e.target) (out b i))
@@ -73,8 +73,8 @@ left_put b p p' i cells d o within less others = left_one b (put b i o) p p' i c
 shade_left : (b : Body) (p : Progress) (size i j : ℕ) → slot_left size p j (spot (shade b i) j) ≤ slot_left size p j (spot b j)
 shade_left b p size i = shade_each (λ j o. slot_left size p j o ≤ slot_left size p j (spot b j)) b i (λ s e c. grind arith) (λ j. omega arith)
 
-weights_most : (b : Body) (size : ℕ) → total (λ i. weight size (mark b i)) size ≤ size * (size + 2)
-weights_most b size = omega (arith, total_le (λ i. weight size (mark b i)) (λ i. size + 2) size (λ i. grind arith), total_same size (size + 2))
+weights_most : (b : Body) (size : ℕ) → total (λ i. weight size (slot_mark b i)) size ≤ size * (size + 2)
+weights_most b size = omega (arith, total_le (λ i. weight size (slot_mark b i)) (λ i. size + 2) size (λ i. grind arith), total_same size (size + 2))
 
 parked_few : (b : Body) (p : Progress) (cells : ℕ) → Celled b cells → total (λ i. parked_cells (shown p) i (spot b i)) (length b.slots) ≤ cells
 parked_few b p cells h = omega (arith, total_le (λ i. parked_cells (shown p) i (spot b i)) (λ i. length (out b i)) (length b.slots) (λ i. grind arith), h.few)
@@ -117,7 +117,7 @@ left_most b (Sweeping k) cells g h = omega (arith, parked_few b (Sweeping k) cel
 pub left_some : (b : Body) (p : Progress) (cells : ℕ) → 1 ≤ left cells b p
 left_some b p cells = grind arith
 
-pub bounded : IsBounded
+pub bounded : LinesAreBounded
 bounded = record { lower = λ b b' p p' n cells l g h. omega (arith, line_less b b' p p' n cells false l refl g h); most = left_most; some = left_some }
 
 -- What session steps leave of a cycle: a vertex that is held may change, and one may lose edges.
@@ -141,7 +141,7 @@ left_places b b' p i serial cells kind text s = rw s.is (omega (
   left_put b p p i cells 0 (Some (record { serial = serial; kind = kind; text = text; edges = []; colour = new_colour (shown p) i })) s.inside (rw s.free (grind arith)) (λ j n. omega arith),
 ))
 
-pub left_rewrites : (b b' : Body) (p : Progress) (i cells : ℕ) (text : List ℕ) → Rewrites b i text b' → left cells b' p ≡ left cells b p
+pub left_rewrites : (b b' : Body) (p : Progress) (i cells : ℕ) (text : List ℕ) → RewritesEdge b i text b' → left cells b' p ≡ left cells b p
 left_rewrites b b' p i cells text s = rw (s.is, length-set b.slots i (Some new)) (ap (λ f. phase_left (length b.slots) cells p + total f (length b.slots)) (λ t j. still j t)) where
   new : Spot
   new = record s.owner { text = text }
@@ -167,11 +167,11 @@ left_drops b b' p p' i before e news after cells s one = rw s.is (by p p' s.stag
 pub never_raises : NeverRaises
 never_raises = record { roots = same_roots; shades = left_shade; puts_edge = left_puts; places = left_places; drops_edge = left_drops; rewrites = left_rewrites }
 
-pub counted : IsCounted
+pub counted : AreSlotsCounted
 counted = record {
   slots = λ b g.
-      let used = total_two (λ i. free_one (spot b i)) (λ i. held_one (kept b g i)) (λ i. free_one (spot b i) + held_one (kept b g i)) (length b.slots) (λ i. refl) in
-      let all = total_two (λ i. free_one (spot b i) + held_one (kept b g i)) (λ i. parked_one g i (spot b i)) (λ i. 1) (length b.slots) (λ i. grind arith) in
+      let used = total_two (λ i. free_one (spot b i)) (λ i. held_one (kept_in b g i)) (λ i. free_one (spot b i) + held_one (kept_in b g i)) (length b.slots) (λ i. refl) in
+      let all = total_two (λ i. free_one (spot b i) + held_one (kept_in b g i)) (λ i. parked_one g i (spot b i)) (λ i. 1) (length b.slots) (λ i. grind arith) in
       omega (arith, used, all, total_same (length b.slots) 1);
-  cells = λ b g. total_two (λ i. held_cells (kept b g i)) (λ i. parked_cells g i (spot b i)) (λ i. length (out b i)) (length b.slots) (λ i. grind arith);
+  cells = λ b g. total_two (λ i. held_cells (kept_in b g i)) (λ i. parked_cells g i (spot b i)) (λ i. length (out b i)) (length b.slots) (λ i. grind arith);
 }

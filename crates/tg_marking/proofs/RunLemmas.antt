@@ -1,15 +1,15 @@
 -- What was not live has no slot once two cycles have ended; without sessions three cycles leave what is live.
 use Rattle.std.proofs.Common.{◌≡◌, ◌≢◌, ℕ, zero, suc, ◌-◌, ◌≤◌, Bool, true, false, cond, Option, Some, ◌⊎◌, inl, inr, sym, ◌∙◌, subst, refl, arith, length, ◌+◌}
 use Rattle.std.proofs.lemmas.Bool.Decides.{nat_tests}
-use Rattle.tg_marking.specs.Values.{Colour, White, Grey, Black, Edge, Contains, Roots, HasRoot, Spot, Stage, Idle, Mark, Sweep, Body, spot, IsRoot, keeps, Kept, as_kept, kept}
-use Rattle.tg_marking.specs.Invariant.{at_root, along, IsLive}
-use Rattle.tg_marking.specs.Collected.{IsCalled, Turns, stays, greys, blackens, whitens, strips, frees, Stays, Follows, begins, marks, parks, ends as ended, Parks, Collected}
-use Rattle.tg_marking.specs.Runs.{Sane, IsLiveIn, IsLiveOrNew, Mutated, RunOf, begin, acts, goes, ends, IsComplete, Settles}
+use Rattle.tg_marking.specs.Promise.Values.{Colour, White, Grey, Black, Edge, Contains, Roots, HasRoot, Spot, Stage, Idle, Mark, Sweep, Body, spot, IsRootSlot, keeps, Kept, as_kept, kept_in}
+use Rattle.tg_marking.specs.Promise.Invariant.{at_root, along, IsLive}
+use Rattle.tg_marking.specs.Promise.Collected.{IsCalled, SlotTurns, stays, greys, blackens, whitens, strips, frees, Stays, Follows, begins, marks, parks, ends as ended, Parks, BodyCollected}
+use Rattle.tg_marking.specs.Promise.Runs.{Sane, IsLiveIn, IsLiveOrNew, Mutated, BodyRunOf, begin, acts, goes, ends, CyclesAreComplete, Settles}
 
 -- Roots are good, and edges of good ones lead to good ones.
 record Fence (good : ℕ → Type 0) (b : Body) (p : Stage) : Type 0 where
-  roots : (i : ℕ) (k : Kept) → IsRoot b i → kept b p i ≡ Some k → good k.serial
-  edges : (i : ℕ) (k : Kept) (e : Edge) → kept b p i ≡ Some k → good k.serial → Contains k.edges e → good e.serial
+  roots : (i : ℕ) (k : Kept) → IsRootSlot b i → kept_in b p i ≡ Some k → good k.serial
+  edges : (i : ℕ) (k : Kept) (e : Edge) → kept_in b p i ≡ Some k → good k.serial → Contains k.edges e → good e.serial
 
 abbrev Coloured : (ℕ → Type 0) → Colour → Body → Type 0
 Coloured good c b = (i : ℕ) (s : Spot) → spot b i ≡ Some s → s.colour ≡ c → good s.serial
@@ -29,7 +29,7 @@ HowFar good n b g = (i : ℕ) (s : Spot) → spot b i ≡ Some s → Due n g i s
 abbrev Far : (ℕ → Type 0) → ℕ → Body → Stage → Type 0
 Far good n b p = Fence good b p × HowFar good n b p
 
-live_keeps : (good : ℕ → Type 0) (b : Body) (p : Stage) → Sane b p → Fence good b p → (i : ℕ) (k : Kept) → IsLive b p i → kept b p i ≡ Some k → good k.serial
+live_keeps : (good : ℕ → Type 0) (b : Body) (p : Stage) → Sane b p → Fence good b p → (i : ℕ) (k : Kept) → IsLive b p i → kept_in b p i ≡ Some k → good k.serial
 live_keeps good b p g f i k (at_root _ r) h = f.roots i k r h
 live_keeps good b p g f _ k (along i t e r is o) h =
     let there = g.closed.edges i t e is o in
@@ -70,16 +70,16 @@ module _ (good : ℕ → Type 0) (next : ℕ) (fresh : (x : ℕ) → next ≤ x 
   )
 
 -- Collector steps.
-module _ (b b' : Body) (p p' : Stage) (e : Bool) (g : Sane b p) (g' : Sane b' p') (c : Collected b p b' p' e) where
+module _ (b b' : Body) (p p' : Stage) (e : Bool) (g : Sane b p) (g' : Sane b' p') (c : BodyCollected b p b' p' e) where
   stays_or : Stays p p' ⊎ Parks b b' p p'
   stays_or = let f = c.phases in let w = c.parks in grind arith
 
   -- What is held afterwards was held.
-  pub held_back : (i : ℕ) (k : Kept) → kept b' p' i ≡ Some k → kept b p i ≡ Some k
+  pub held_back : (i : ℕ) (k : Kept) → kept_in b' p' i ≡ Some k → kept_in b p i ≡ Some k
   held_back i k h = elim stays_or [ inl y ↦ sym (c.held y i) ∙ h | inr w ↦ (w.stays i k h).0 ]
 
   -- What is live stays so, with its edges.
-  live_same : (i : ℕ) → IsLive b p i → kept b' p' i ≡ kept b p i
+  live_same : (i : ℕ) → IsLive b p i → kept_in b' p' i ≡ kept_in b p i
   live_same i l = elim stays_or [ inl y ↦ c.held y i | inr w ↦ w.black i (w.unreached i l) ]
 
   live_stays : (i : ℕ) → IsLive b p i → IsLive b' p' i
@@ -87,7 +87,7 @@ module _ (b b' : Body) (p p' : Stage) (e : Bool) (g : Sane b p) (g' : Sane b' p'
   live_stays _ (along i k x l h o) = along i k x (live_stays i l) (live_same i l ∙ h) o
 
   -- Outside the sweep each occupied slot is held.
-  occupied : ((k : ℕ) → p ≢ Sweep k) → (i : ℕ) (s : Spot) → spot b i ≡ Some s → kept b p i ≡ Some (as_kept s)
+  occupied : ((k : ℕ) → p ≢ Sweep k) → (i : ℕ) (s : Spot) → spot b i ≡ Some s → kept_in b p i ≡ Some (as_kept s)
   occupied m i s is = grind arith
 
   module _ (good : ℕ → Type 0) (f : Fence good b p) where
@@ -104,7 +104,7 @@ module _ (b b' : Body) (p p' : Stage) (e : Bool) (g : Sane b p) (g' : Sane b' p'
     slot_goes : (P : Colour → Type 0) → Coloured good Grey b → ((i : ℕ) (s : Spot) → spot b i ≡ Some s → P s.colour → good s.serial) → (P White → Coloured good Black b)
         → (i : ℕ) (s : Spot) → spot b' i ≡ Some s → P s.colour → good s.serial
     slot_goes P grey h black i s is w = by (spot b i) (spot b' i) refl is (c.turns i) where
-      by : (o o' : Option Spot) → spot b i ≡ o → o' ≡ Some s → Turns (IsCalled b) p i o o' → good s.serial
+      by : (o o' : Option Spot) → spot b i ≡ o → o' ≡ Some s → SlotTurns (IsCalled b) p i o o' → good s.serial
       by _ _ e e' (stays o) = h i s (e ∙ e') w
       by _ _ e e' (greys t v m l) = let old = called_good grey m i t e l in grind arith
       by _ _ e e' (blackens t v m) = let old = grey i t e v in grind arith
@@ -138,8 +138,8 @@ module _ (b b' : Body) (p p' : Stage) (e : Bool) (g : Sane b p) (g' : Sane b' p'
 
 -- Along a run: what each step keeps, by the cycles that have ended.
 run_keeps : (Session : Body → Stage → Body → Type 0) (Q : ℕ → Body → Stage → Type 0) → ((c d : Body) (q : Stage) (n : ℕ) → Session c q d → Sane c q → Q n c q → Q n d q)
-    → ((c d : Body) (q r : Stage) (e : Bool) (n : ℕ) → Collected c q d r e → Sane c q → Sane d r → Q n c q → Q (cond e (suc n) n) d r)
-    → (b : Body) (p : Stage) (m : ℕ) (c : Body) (q : Stage) (n : ℕ) → Sane b p → Q m b p → RunOf Session b p c q n → Sane c q × Q (m + n) c q
+    → ((c d : Body) (q r : Stage) (e : Bool) (n : ℕ) → BodyCollected c q d r e → Sane c q → Sane d r → Q n c q → Q (cond e (suc n) n) d r)
+    → (b : Body) (p : Stage) (m : ℕ) (c : Body) (q : Stage) (n : ℕ) → Sane b p → Q m b p → BodyRunOf Session b p c q n → Sane c q × Q (m + n) c q
 run_keeps S Q s t b p m _ _ _ g k begin = (g, subst (λ (x : ℕ). Q x b p) (let e : m ≡ m + 0 = omega arith in e) k)
 run_keeps S Q s t b p m _ _ _ g k (acts c d q n w a h) = let old = run_keeps S Q s t b p m c q n g k w in (h, s c d q (m + n) a old.0 old.1)
 run_keeps S Q s t b p m _ _ _ g k (goes c d q r n w a h) = let old = run_keeps S Q s t b p m c q n g k w in (h, t c d q r false (m + n) a old.0 h old.1)
@@ -155,7 +155,7 @@ live_fence b p g = record {
       (e.target, there.0, along i k e (subst (IsLive b p) here l.2) h o, there.1, there.2);
 }
 
-pub complete : IsComplete
+pub complete : CyclesAreComplete
 complete b c q next n g below r two i s is =
     let last = run_keeps (λ c q d. Mutated c q d next) (Far good) (λ c d q n a k far. far_acts good next (λ x l. inr l) c d q k a far.0 n far.1)
     (λ c d q r e n a k k' far. far_goes c d q r e k k' a good far.0 n far.1) b Idle 1 c q n g (fence, λ i s is d. absurd d) r in
@@ -180,7 +180,7 @@ settles b c p q g w i s is =
     StaysLive : ℕ → Body → Stage → Type 0
     StaysLive n c q = Far (IsLiveIn b p) n c q × ((x : ℕ) → IsLiveIn b p x → IsLiveIn c q x)
 
-    goes : (c d : Body) (q r : Stage) (e : Bool) (n : ℕ) → Collected c q d r e → Sane c q → Sane d r → StaysLive n c q → StaysLive (cond e (suc n) n) d r
+    goes : (c d : Body) (q r : Stage) (e : Bool) (n : ℕ) → BodyCollected c q d r e → Sane c q → Sane d r → StaysLive n c q → StaysLive (cond e (suc n) n) d r
     goes c d q r e n a k k' (far, still) = (
       far_goes c d q r e k k' a (IsLiveIn b p) far.0 n far.1,
       λ x l. let old = still x l in (old.0, old.1, live_stays c d q r e k k' a old.0 old.2, live_same c d q r e k k' a old.0 old.2 ∙ old.3, old.4),

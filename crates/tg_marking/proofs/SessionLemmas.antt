@@ -3,9 +3,9 @@ use Rattle.std.proofs.Common.{◌≡◌, ◌≢◌, ℕ, ◌<◌, ◌≤◌, Lis
 use Rattle.std.proofs.lemmas.Bool.Decides.{nat_tests}
 use Rattle.std.proofs.lemmas.List.{append_assoc, append_cancel_right}
 use Rattle.tg_lists.proofs.MembershipLemmas.{contains_append, contains_left, contains_right, contains_middle}
-use Rattle.tg_marking.specs.Values.{Colour, White, Grey, Black, Has, Edge, Contains, Distinct, Kind, Scan, Spot, Progress, AtRest, Marking, Sweeping, Body, Roots, HasRoot, HasTarget, shown, spot, mark, mark_of, out, edges_of, name, name_of, IsRoot, IsTarget, keeps, seen, seen, Kept, as_kept, kept, Stage}
-use Rattle.tg_marking.specs.Steps.{put, shade, new_colour, with_target, Reroots, PutsEdge, ShadesTarget, Places, Trims, elsewhere, passed, ahead, DropsEdge, Rewrites}
-use Rattle.tg_marking.specs.Invariant.{Leads, IsScanned, Greys, Covered, ScanFits, Tricolour, Phased, Invariant}
+use Rattle.tg_marking.specs.Promise.Values.{Colour, White, Grey, Black, Has, Edge, Contains, Distinct, Kind, Scan, Spot, Progress, AtRest, Marking, Sweeping, Body, Roots, HasRoot, HasTarget, shown, spot, slot_mark, spot_mark, out, spot_edges, slot_serial, spot_serial, IsRootSlot, IsTarget, keeps, seen, seen, Kept, as_kept, kept_in, Stage}
+use Rattle.tg_marking.specs.Promise.Steps.{put, shade, new_colour, with_seat_target, Reroots, PutsEdge, ShadesTarget, Places, Trims, elsewhere, passed, ahead, DropsEdge, RewritesEdge}
+use Rattle.tg_marking.specs.Promise.Invariant.{LeadsToHeld, IsScanned, Greys, Covered, ScanFits, Tricolour, Phased, Invariant}
 use Rattle.tg_marking.proofs.SpotLemmas.{at_within, seen_is, kept_edges, held_keeps, new_is, put_each, shade_done, shade_marks, shade_name, shade_roots, shade_kept, black_before, same_root, closed_same, closed_moves, shade_greys, shade_tricolour}
 
 -- What a step but a shade does to a slot: it stays, its edges or text change, or a vertex comes into the new slot. Each
@@ -15,9 +15,9 @@ Like es x = (d : Edge) × Contains es d × (d.target ≡ x.target) × (d.serial 
 
 data Moves (b : Body) (p : Progress) (new n : ℕ) : Option Spot → Option Spot → Type 0 where
   rests : (o : Option Spot) → Moves b p new n o o
-  regards : (s : Spot) (es : List Edge) (text : List ℕ) → ((x : Edge) → Contains es x → Like s.edges x ⊎ (Leads (kept b (shown p)) n x × (IsTarget b x.target ⊎ (p ≡ AtRest))))
+  regards : (s : Spot) (es : List Edge) (text : List ℕ) → ((x : Edge) → Contains es x → Like s.edges x ⊎ (LeadsToHeld (kept_in b (shown p)) n x × (IsTarget b x.target ⊎ (p ≡ AtRest))))
       → Moves b p new n (Some s) (Some (record s { edges = es; text = text }))
-  arrives : (s : Spot) → n ≡ new → ((j : ℕ) → name b j ≢ Some s.serial) → s.edges ≡ [] → s.colour ≡ new_colour (shown p) n → Moves b p new n None (Some s)
+  arrives : (s : Spot) → n ≡ new → ((j : ℕ) → slot_serial b j ≢ Some s.serial) → s.edges ≡ [] → s.colour ≡ new_colour (shown p) n → Moves b p new n None (Some s)
 
 -- What it does to the scan: what is passed of the slot's edges afterwards is like what was, or leads to a target.
 abbrev Goes : Body → (es es' rest rest' : List Edge) → Type 0
@@ -40,8 +40,8 @@ changed b os rs = record { slots = os; grey = b.grey; roots = rs }
 record Moved (b : Body) (p p' : Progress) (os : List (Option Spot)) (rs : Roots) : Type 0 where
   new : ℕ
   slots : (n : ℕ) → Moves b p new n (spot b n) (get_or os n None)
-  comes : (i : ℕ) → HasRoot rs i → IsRoot b i ⊎ ((HasTarget rs i ⊎ (p ≡ AtRest)) × (k : Kept) × (kept b (shown p) i ≡ Some k))
-  stays : (i : ℕ) → mark b i ≡ Has White → IsTarget b i → HasTarget rs i
+  comes : (i : ℕ) → HasRoot rs i → IsRootSlot b i ⊎ ((HasTarget rs i ⊎ (p ≡ AtRest)) × (k : Kept) × (kept_in b (shown p) i ≡ Some k))
+  stays : (i : ℕ) → slot_mark b i ≡ Has White → IsTarget b i → HasTarget rs i
   scan : ScanMoves b (changed b os rs) p p'
 
 module _ (b : Body) (p p' : Progress) (os : List (Option Spot)) (rs : Roots) (m : Moved b p p' os rs) (g : Invariant b p) where
@@ -49,16 +49,16 @@ module _ (b : Body) (p p' : Progress) (os : List (Option Spot)) (rs : Roots) (m 
   b' = changed b os rs
 
   -- Marks and names.
-  marked : (c : Colour) (n : ℕ) (o o' : Option Spot) → Moves b p m.new n o o' → mark_of o' ≡ Has c → (mark_of o ≡ Has c) ⊎ ((o ≡ None) × ((c ≡ White) ⊎ ((k : ℕ) × (p ≡ Sweeping k) × (k ≤ n) × (c ≡ Black))))
+  marked : (c : Colour) (n : ℕ) (o o' : Option Spot) → Moves b p m.new n o o' → spot_mark o' ≡ Has c → (spot_mark o ≡ Has c) ⊎ ((o ≡ None) × ((c ≡ White) ⊎ ((k : ℕ) × (p ≡ Sweeping k) × (k ≤ n) × (c ≡ Black))))
   marked c n o o' t d = let u = new_is (shown p) n in grind arith
 
-  mark_stays : (c : Colour) (n : ℕ) (o o' : Option Spot) → Moves b p m.new n o o' → mark_of o ≡ Has c → mark_of o' ≡ Has c
+  mark_stays : (c : Colour) (n : ℕ) (o o' : Option Spot) → Moves b p m.new n o o' → spot_mark o ≡ Has c → spot_mark o' ≡ Has c
   mark_stays c n o o' t d = grind arith
 
-  grey_before : (n : ℕ) → mark b' n ≡ Has Grey → mark b n ≡ Has Grey
+  grey_before : (n : ℕ) → slot_mark b' n ≡ Has Grey → slot_mark b n ≡ Has Grey
   grey_before n d = let u = marked Grey n _ _ (m.slots n) d in grind arith
 
-  named : (n x : ℕ) (o o' : Option Spot) → Moves b p m.new n o o' → name_of o' ≡ Some x → (name_of o ≡ Some x) ⊎ ((n ≡ m.new) × ((j : ℕ) → name b j ≢ Some x))
+  named : (n x : ℕ) (o o' : Option Spot) → Moves b p m.new n o o' → spot_serial o' ≡ Some x → (spot_serial o ≡ Some x) ⊎ ((n ≡ m.new) × ((j : ℕ) → slot_serial b j ≢ Some x))
   named n x o o' t e = grind arith
 
   -- What is held, and what its edges lead to.
@@ -69,7 +69,7 @@ module _ (b : Body) (p p' : Progress) (os : List (Option Spot)) (rs : Roots) (m 
   forward n o o' move t h = let a = seen_same n o in let c = seen_same n o' in grind arith
 
   backward : (n : ℕ) (o o' : Option Spot) → Moves b p m.new n o o' → spot b n ≡ o → (t' : Kept) (x : Edge) → seen (shown p') n o' ≡ Some t' → Contains t'.edges x
-      → ((t : Kept) × (d : Edge) × (kept b (shown p) n ≡ Some t) × Contains t.edges d × (d.target ≡ x.target) × (d.serial ≡ x.serial)) ⊎ Leads (kept b' (shown p')) n x
+      → ((t : Kept) × (d : Edge) × (kept_in b (shown p) n ≡ Some t) × Contains t.edges d × (d.target ≡ x.target) × (d.serial ≡ x.serial)) ⊎ LeadsToHeld (kept_in b' (shown p')) n x
   backward n _ _ (rests o) at t' x h c = inl (t', x, ap (seen (shown p) n) at ∙ sym (seen_same n o) ∙ h, c, refl, refl)
   backward n _ _ (regards s es text like) at t' x h c =
       let r = seen_is (shown p) n (record s { edges = es; text = text }) t' (sym (seen_same n (Some (record s { edges = es; text = text }))) ∙ h) in
@@ -80,21 +80,21 @@ module _ (b : Body) (p p' : Progress) (os : List (Option Spot)) (rs : Roots) (m 
   backward n _ _ (arrives s is fresh bare colour) at t' x h c = absurd (subst (λ (es : List Edge). Contains es x) (sym (kept_edges (shown p') n (Some s) t' h) ∙ bare) c)
 
   -- What is held and covered stays covered.
-  covered : (j : ℕ) (k : Kept) → kept b (shown p) j ≡ Some k → Covered b j → Covered b' j
+  covered : (j : ℕ) (k : Kept) → kept_in b (shown p) j ≡ Some k → Covered b j → Covered b' j
   covered j k h c = let u = marked White j _ _ (m.slots j) in let s = m.stays j in grind arith
 
   aimed : (j : ℕ) → IsTarget b j → Covered b' j
   aimed j t = let k = g.closed.roots j (inl t) in let c = covered j k.0 k.1 in grind arith
 
   module _ (c : Option Scan) (is : p ≡ Marking c) (f : Tricolour b c) where
-    led : (n : ℕ) (o : Option Spot) → spot b n ≡ o → (d : Edge) → Contains (edges_of o) d → Covered b d.target → Covered b' d.target
+    led : (n : ℕ) (o : Option Spot) → spot b n ≡ o → (d : Edge) → Contains (spot_edges o) d → Covered b d.target → Covered b' d.target
     led n None at d o = absurd o
     led n (Some s) at d o = let l = g.closed.edges n (as_kept s) d (rw (is, at) refl) o in covered d.target l.0 l.1
 
-    blackened : (n : ℕ) (o o' : Option Spot) → Moves b p m.new n o o' → spot b n ≡ o → (x : Edge) → mark_of o' ≡ Has Black → Contains (edges_of o') x → Covered b' x.target
-    blackened n _ _ (rests o) at x d c = led n o at x c (f.black n x (ap mark_of at ∙ d) (subst (λ (q : Option Spot). Contains (edges_of q) x) (sym at) c))
+    blackened : (n : ℕ) (o o' : Option Spot) → Moves b p m.new n o o' → spot b n ≡ o → (x : Edge) → spot_mark o' ≡ Has Black → Contains (spot_edges o') x → Covered b' x.target
+    blackened n _ _ (rests o) at x d c = led n o at x c (f.black n x (ap spot_mark at ∙ d) (subst (λ (q : Option Spot). Contains (spot_edges q) x) (sym at) c))
     blackened n _ _ (regards s es text like) at x d c = elim (like x c) [
-      | inl (y, o, e, serial) ↦ subst (Covered b') e (led n (Some s) at y o (f.black n y (ap mark_of at ∙ d) (subst (λ (q : Option Spot). Contains (edges_of q) y) (sym at) o)))
+      | inl (y, o, e, serial) ↦ subst (Covered b') e (led n (Some s) at y o (f.black n y (ap spot_mark at ∙ d) (subst (λ (q : Option Spot). Contains (spot_edges q) y) (sym at) o)))
       | inr (l, inl t) ↦ aimed x.target t
       | inr (l, inr rest) ↦ absurd (cc)
     ]
@@ -130,7 +130,7 @@ module _ (b : Body) (p p' : Progress) (os : List (Option Spot)) (rs : Roots) (m 
 
   moved : Invariant b' p'
   moved = record {
-    closed = closed_moves (kept b (shown p)) (kept b' (shown p')) (IsRoot b) (IsRoot b') (λ n t h. forward n _ _ (m.slots n) t h) (λ n t' x h c. backward n _ _ (m.slots n) refl t' x h c)
+    closed = closed_moves (kept_in b (shown p)) (kept_in b' (shown p')) (IsRootSlot b) (IsRootSlot b') (λ n t h. forward n _ _ (m.slots n) t h) (λ n t' x h c. backward n _ _ (m.slots n) refl t' x h c)
         (λ i r. elim (m.comes i r) [ inl old ↦ inl old | inr (_, k, h) ↦ (let n = forward i _ _ (m.slots i) k h in inr (n.0, n.1)) ]) g.closed;
     once = λ a c x h l. let u = named a x _ _ (m.slots a) h in let v = named c x _ _ (m.slots c) l in let w = g.once a c x in grind arith;
     greys = subst (Greys b') (sym (same_phase b b' p p' m.scan).1) (record {
@@ -153,16 +153,16 @@ reroots_keeps b b' p rs s g = rw s.is (moved b p p b.slots rs (record {
 }) g)
 
 -- A target whose place was not set stays one; so does any if the place had none.
-target_stays : (r : Roots) (k : ℕ) (v : Option ℕ) (i : ℕ) → (t : HasTarget r i) → t.0 ≢ k → HasTarget (with_target r k v) i
+target_stays : (r : Roots) (k : ℕ) (v : Option ℕ) (i : ℕ) → (t : HasTarget r i) → t.0 ≢ k → HasTarget (with_seat_target r k v) i
 target_stays r k v i (j, e) n = (j, get_or-set_other r.targets k j v None n ∙ e)
 
-pub idle_stays : (r : Roots) (k : ℕ) (v : Option ℕ) (i : ℕ) → get_or r.targets k None ≡ None → HasTarget r i → HasTarget (with_target r k v) i
+pub idle_stays : (r : Roots) (k : ℕ) (v : Option ℕ) (i : ℕ) → get_or r.targets k None ≡ None → HasTarget r i → HasTarget (with_seat_target r k v) i
 idle_stays r k v i none t = target_stays r k v i t (let h = t.1 in grind arith)
 
 -- A held slot is shaded.
-shade_keeps : (b : Body) (p : Progress) (i : ℕ) (k : Kept) → kept b (shown p) i ≡ Some k → Invariant b p → Invariant (shade b i) p
+shade_keeps : (b : Body) (p : Progress) (i : ℕ) (k : Kept) → kept_in b (shown p) i ≡ Some k → Invariant b p → Invariant (shade b i) p
 shade_keeps b p i k held g = record {
-  closed = closed_same (kept b (shown p)) (kept (shade b i) (shown p)) (IsRoot b) (IsRoot (shade b i)) (shade_kept b (shown p) i white) (λ j r. same_root b (shade b i) j (shade_roots b i) r) g.closed;
+  closed = closed_same (kept_in b (shown p)) (kept_in (shade b i) (shown p)) (IsRootSlot b) (IsRootSlot (shade b i)) (shade_kept b (shown p) i white) (λ j r. same_root b (shade b i) j (shade_roots b i) r) g.closed;
   once = λ a c x h l. g.once a c x (sym (shade_name b i a) ∙ h) (sym (shade_name b i c) ∙ l);
   greys = shade_greys b i (IsScanned p) g.greys;
   phase = by p white g.phase;
@@ -179,7 +179,7 @@ shade_keeps b p i k held g = record {
   )
 
 -- A root after a seat's target was cleared was one before.
-pub cleared_root : (r : Roots) (seat i : ℕ) → HasRoot (with_target r seat None) i → HasRoot r i
+pub cleared_root : (r : Roots) (seat i : ℕ) → HasRoot (with_seat_target r seat None) i → HasRoot r i
 cleared_root r seat i (inl (n, e)) = inl (n, let w = at_within (set r.targets seat None) n i e in grind (arith, get_or-set_same, get_or-set_other, length-set))
 cleared_root r seat i (inr c) = inr c
 
@@ -187,7 +187,7 @@ cleared_root r seat i (inr c) = inr c
 pub shades_keeps : (b b' : Body) (p : Progress) (seat i : ℕ) → ShadesTarget b seat i b' → Invariant b p → Invariant b' p
 shades_keeps b b' p seat i s g =
     let k = g.closed.roots i (inl (seat, s.was)) in
-    reroots_keeps (shade b i) b' p (with_target b.roots seat None) (record {
+    reroots_keeps (shade b i) b' p (with_seat_target b.roots seat None) (record {
       comes = λ j r. inl (subst (λ (q : Roots). HasRoot q j) (sym (shade_roots b i)) (cleared_root b.roots seat j r));
       stays = λ j w t. let u : HasTarget b.roots j = subst (λ (q : Roots). HasTarget q j) (shade_roots b i) t in target_stays b.roots seat None j u (let at = u.1 in let was = s.was in let done = shade_done b i in grind arith);
       is = s.is;
@@ -210,15 +210,15 @@ puts_keeps b b' p i new s g = rw s.is (put_keeps b p p i (Some s.owner) (Some (r
     within : i < length b.slots
     within = at_within b.slots i s.owner s.at
 
-    like : (x : Edge) → Contains (new ∷ s.owner.edges) x → Like s.owner.edges x ⊎ (Leads (kept b (shown p)) i x × (IsTarget b x.target ⊎ (p ≡ AtRest)))
-    like x (inl is) = inr (subst (λ (e : Edge). Leads (kept b (shown p)) i e × (IsTarget b e.target ⊎ (p ≡ AtRest))) (sym is) ((s.there.0, s.there.1, s.there.2, s.apart), s.target))
+    like : (x : Edge) → Contains (new ∷ s.owner.edges) x → Like s.owner.edges x ⊎ (LeadsToHeld (kept_in b (shown p)) i x × (IsTarget b x.target ⊎ (p ≡ AtRest)))
+    like x (inl is) = inr (subst (λ (e : Edge). LeadsToHeld (kept_in b (shown p)) i e × (IsTarget b e.target ⊎ (p ≡ AtRest))) (sym is) ((s.there.0, s.there.1, s.there.2, s.apart), s.target))
     like x (inr c) = inl (x, c, refl, refl)
 
     scan : (c : Scan) → p ≡ Marking (Some c) → Goes b (out b c.slot) (out (put b i (Some (record s.owner { edges = new ∷ s.owner.edges }))) c.slot) c.rest c.rest
-    scan c is = put_each (λ n o. Goes b (out b n) (edges_of o) c.rest c.rest) b i _ within
+    scan c is = put_each (λ n o. Goes b (out b n) (spot_edges o) c.rest c.rest) b i _ within
         (λ done e. (
           new ∷ done,
-          ap (λ (l : List Edge). new ∷ l) (ap edges_of (sym s.at) ∙ e),
+          ap (λ (l : List Edge). new ∷ l) (ap spot_edges (sym s.at) ∙ e),
           λ x o. elim o [
             | inl first ↦ inr (subst (λ (y : Edge). IsTarget b y.target) (sym first) (elim s.target [ inl t ↦ t | inr rest ↦ absurd (cc) ]))
             | inr old ↦ inl (x, old, refl, refl)
@@ -246,13 +246,13 @@ drops_keeps b b' p p' i before e news after s g = rw s.is (put_keeps b p p' i (S
     owner = record s.owner { edges = before ++ (news ++ after) }
 
     old_edges : out b i ≡ before ++ e ∷ after
-    old_edges = ap edges_of s.at ∙ s.edges
+    old_edges = ap spot_edges s.at ∙ s.edges
 
     new_edges : out (put b i (Some owner)) i ≡ before ++ (news ++ after)
-    new_edges = ap edges_of (get_or-set_same b.slots i (Some owner) None (at_within b.slots i s.owner s.at))
+    new_edges = ap spot_edges (get_or-set_same b.slots i (Some owner) None (at_within b.slots i s.owner s.at))
 
     scan : (q q' : Progress) → Trims i before e news after q q' → ScanMoves b (put b i (Some owner)) q q'
-    scan _ _ (elsewhere q n) = keeps_on q (λ c is. same_edges b _ _ c.rest (ap edges_of (get_or-set_other b.slots i c.slot (Some owner) None (λ x. n c is (sym x)))))
+    scan _ _ (elsewhere q n) = keeps_on q (λ c is. same_edges b _ _ c.rest (ap spot_edges (get_or-set_other b.slots i c.slot (Some owner) None (λ x. n c is (sym x)))))
     scan _ _ (passed rest mid a) = goes_on i rest rest (λ done w. (
       before ++ (news ++ mid),
       new_edges ∙ ap (λ (l : List Edge). before ++ (news ++ l)) a ∙ ap (λ (l : List Edge). before ++ l) (sym (append_assoc news mid rest)) ∙ sym (append_assoc before (news ++ mid) rest),
@@ -266,28 +266,28 @@ drops_keeps b b' p p' i before e news after s g = rw s.is (put_keeps b p p' i (S
     ))
 
 -- A text is replaced.
-pub rewrites_keeps : (b b' : Body) (p : Progress) (i : ℕ) (text : List ℕ) → Rewrites b i text b' → Invariant b p → Invariant b' p
+pub rewrites_keeps : (b b' : Body) (p : Progress) (i : ℕ) (text : List ℕ) → RewritesEdge b i text b' → Invariant b p → Invariant b' p
 rewrites_keeps b b' p i text s g =
     let within = at_within b.slots i s.owner s.at in
     rw s.is (put_keeps b p p i (Some s.owner) (Some (record s.owner { text = text })) s.at within (regards s.owner s.owner.edges text (λ x c. inl (x, c, refl, refl)))
-    (keeps_on p (λ c is. put_each (λ n o. Goes b (out b n) (edges_of o) c.rest c.rest) b i _ within (same_edges b _ _ c.rest (ap edges_of (sym s.at))) (λ n o. same_edges b _ _ c.rest refl) c.slot)) g)
+    (keeps_on p (λ c is. put_each (λ n o. Goes b (out b n) (spot_edges o) c.rest c.rest) b i _ within (same_edges b _ _ c.rest (ap spot_edges (sym s.at))) (λ n o. same_edges b _ _ c.rest refl) c.slot)) g)
 
 -- A vertex without edges comes into a free slot, where it is held.
 pub new_keeps : (g : Stage) (i : ℕ) → keeps g i (new_colour g i) ≡ true
 new_keeps g i = let u = new_is g i in grind arith
 
 pub places_keeps : (b b' : Body) (p : Progress) (i serial : ℕ) (kind : Kind) (text : List ℕ) → Places b p i serial kind text b' → Invariant b p
-    → Invariant b' p × (kept b' (shown p) i ≡ Some (record { serial = serial; kind = kind; text = text; edges = [] }))
+    → Invariant b' p × (kept_in b' (shown p) i ≡ Some (record { serial = serial; kind = kind; text = text; edges = [] }))
 places_keeps b b' p i serial kind text s g = rw s.is (
   put_keeps b p p i None (Some vertex) s.free s.inside (arrives vertex refl s.new refl refl)
-      (keeps_on p (λ c is. put_each (λ n o. Goes b (out b n) (edges_of o) c.rest c.rest) b i _ s.inside (same_edges b _ _ c.rest (ap edges_of (sym s.free))) (λ n o. same_edges b _ _ c.rest refl) c.slot)) g,
+      (keeps_on p (λ c is. put_each (λ n o. Goes b (out b n) (spot_edges o) c.rest c.rest) b i _ s.inside (same_edges b _ _ c.rest (ap spot_edges (sym s.free))) (λ n o. same_edges b _ _ c.rest refl) c.slot)) g,
   ap (seen (shown p) i) (get_or-set_same b.slots i (Some vertex) None s.inside) ∙ rw (new_keeps (shown p) i) refl,
 ) where
   vertex : Spot
   vertex = record { serial = serial; kind = kind; text = text; edges = []; colour = new_colour (shown p) i }
 
 -- Nothing is there.
-pub blank_keeps : (b : Body) → ((i : ℕ) → spot b i ≡ None) → b.grey ≡ [] → ((i : ℕ) → IsRoot b i → ⊥) → Invariant b AtRest
+pub blank_keeps : (b : Body) → ((i : ℕ) → spot b i ≡ None) → b.grey ≡ [] → ((i : ℕ) → IsRootSlot b i → ⊥) → Invariant b AtRest
 blank_keeps b none grey bare = record {
   closed = record { roots = λ i r. absurd (bare i r); edges = λ i k e h o. let u = none i in grind arith };
   once = λ i j x h l. let u = none i in grind arith;

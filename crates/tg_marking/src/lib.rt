@@ -4,10 +4,10 @@
 //! The collector is the one of Dijkstra, Lamport, Martin, Scholten and Steffens (1978), with a list of grey slots.
 #![tactic(auto)]
 
-ghost use Rattle.tg_marking.specs.Invariant.{SessionsKeep};
-ghost use Rattle.tg_marking.specs.Collected.{LinesKeep};
-ghost use Rattle.tg_marking.specs.Runs.{IsComplete, Settles, StepsMutate};
-ghost use Rattle.tg_marking.specs.Left.{BoundInNumbers, IsBounded, NeverRaises, IsCounted};
+ghost use Rattle.tg_marking.specs.Promise.Invariant.{SessionsKeep};
+ghost use Rattle.tg_marking.specs.Promise.Collected.{LinesKeep};
+ghost use Rattle.tg_marking.specs.Promise.Runs.{CyclesAreComplete, Settles, StepsMutate};
+ghost use Rattle.tg_marking.specs.Promise.Left.{BoundInNumbers, LinesAreBounded, NeverRaises, AreSlotsCounted};
 
 /// A law: each line of the step table keeps the invariant, and does to each slot what callers see.
 pub fn lines_keep()
@@ -24,7 +24,7 @@ pub fn sessions_keep()
 /// store with the invariant, are among those that may come, if what becomes a root or the end of an edge put at rest is
 /// live or new, and what is placed is new.
 pub fn runs_are_complete()
-    ensures complete { IsComplete }
+    ensures complete { CyclesAreComplete }
     ensures settles { Settles }
     ensures mutates { StepsMutate }
 {}
@@ -32,8 +32,8 @@ pub fn runs_are_complete()
 /// A law: each collector step lowers the number of steps that a cycle may still take, unless it ends the cycle, and no
 /// session step raises it; free slots, held ones and parked ones are all slots.
 pub fn cycles_are_bounded()
-    ensures lower { IsBounded }
+    ensures lower { LinesAreBounded }
     ensures no_higher { NeverRaises }
-    ensures counted { IsCounted }
+    ensures counted { AreSlotsCounted }
     ensures numbers { BoundInNumbers }
 {}

@@ -3,7 +3,7 @@ use Rattle.std.proofs.Common.{◌≡◌, ℕ, List, [], ◌∷◌, Bool, true, r
 use Rattle.std.proofs.lemmas.Bool.{and_parts, false≢true}
 use Rattle.std.proofs.lemmas.Bool.Decides.{nat_tests}
 use Rattle.std.specs.Cmp.Lexicographic.{pointwise}
-use Rattle.tg_rights.specs.Letters.{Letters, number}
+use Rattle.tg_rights.specs.Promise.Letters.{Letters, number}
 use Rattle.tg_rights.specs.declared.command.Command.{Command}
 use Rattle.tg_rights.specs.declared.command.Command.TheVariants as command
 use Rattle.tg_rights.specs.declared.outcome.Cause.{Cause}

@@ -1,7 +1,7 @@
 -- The operations on sets of letters, right by right.
 use Rattle.std.proofs.Common.{◌≡◌, Bool, true, false, not, ◌&&◌, ◌||◌, refl, sym, ap, ◌∙◌}
 use Rattle.std.proofs.lemmas.Bool.{and_from}
-use Rattle.tg_rights.specs.Letters.{Letters, Right, read, write, take, grant, has, none, joined, without, includes, is_none, AreSetOperations}
+use Rattle.tg_rights.specs.Promise.Letters.{Letters, Right, read, write, take, grant, has, none, joined, without, includes, is_none, AreSetOperations}
 use Rattle.tg_rights.proofs.Bools.{and_both}
 use Rattle.tg_rights.proofs.BitsLemmas.{letters-number}
 

@@ -1,7 +1,7 @@
 -- Rights are read back from their letters.
 use Rattle.std.proofs.Common.{◌≡◌, Bool, true, false, Some, refl}
-use Rattle.tg_rights.specs.Letters.{Letters}
-use Rattle.tg_rights.specs.Written.{rights_of, rights_text}
+use Rattle.tg_rights.specs.Promise.Letters.{Letters}
+use Rattle.tg_rights.specs.Promise.Written.{rights_of, rights_text}
 
 read_back : (r w t g : Bool) → rights_of (rights_text (record { read = r; write = w; take = t; grant = g })) ≡ Some (record { read = r; write = w; take = t; grant = g })
 read_back false false false false = refl

@@ -2,7 +2,7 @@
 ghost use Rattle.std.specs.Prelude.{◌≡◌, ◌&&◌, ◌↔◌, true, nat_le, IsOk, IfOk, IfErr, IsTrue};
 ghost use Rattle.std.specs.List.{list_all};
 ghost use Rattle.std.specs.String.{string_bytes};
-ghost use Rattle.tg_rights.specs.Name.{is_name};
+ghost use Rattle.tg_rights.specs.Promise.Name.{is_name};
 
 use std::alloc::{AllocError, Global};
 use std::marker::Model;
@@ -19,7 +19,7 @@ pub struct Name {
 impl Model for Name {
     ghost use Rattle.std.specs.Prelude.{List, ℕ, IsTrue};
     ghost use Rattle.std.specs.String.{string_bytes};
-    ghost use Rattle.tg_rights.specs.Name.{is_name};
+    ghost use Rattle.tg_rights.specs.Promise.Name.{is_name};
 
     ghost Value = { List ℕ };
 

@@ -3,7 +3,7 @@ ghost use Rattle.std.specs.Prelude.{◌≡◌, ◌==◌, Some, count_by};
 ghost use Rattle.std.specs.Fmt.{padded};
 ghost use Rattle.std.specs.List.{list_all};
 ghost use Rattle.std.specs.Result.{result_ok};
-ghost use Rattle.tg_rights.specs.Written as texts;
+ghost use Rattle.tg_rights.specs.Promise.Written as texts;
 
 use crate::rights::Rights;
 use std::error::Error;

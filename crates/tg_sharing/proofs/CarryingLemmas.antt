@@ -2,9 +2,9 @@
 use Rattle.std.proofs.Common.{◌≡◌, ◌≢◌, ℕ, ◌≤◌, true, false, refl, ap, inl, inr, Some, None, arith}
 use Rattle.std.specs.Prelude.{Option}
 use Rattle.std.specs.Option.{is_some}
-use Rattle.tg_graph.specs.Protection.{Protection, IsGraph}
-use Rattle.tg_sharing.specs.Fetching.{IsDrawn, IsUnmarked}
-use Rattle.tg_sharing.specs.Marking.{WasBridged, is_bridged, is_spanned, span_of}
+use Rattle.tg_graph.specs.Promise.Protection.{Protection, IsGraph}
+use Rattle.tg_sharing.specs.Inner.Fetching.{IsDrawn, IsUnmarked}
+use Rattle.tg_sharing.specs.Inner.Marking.{WasBridged, is_bridged, is_spanned, span_of}
 use Rattle.tg_sharing.specs.declared.marks.Marks.{Marks}
 use Rattle.tg_sharing.specs.declared.marks.Span.{Span}
 use Rattle.tg_sharing.proofs.GrowingLemmas.{actor_low}

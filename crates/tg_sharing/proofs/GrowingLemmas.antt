@@ -5,7 +5,7 @@ use Rattle.std.specs.Cmp.{nat_cmp_total, unsigned_tied}
 use Rattle.std.specs.FinMap as map
 use Rattle.std.specs.FinSet as set
 use Rattle.std.proofs.lemmas.Bool.{eqb-true, eq-eqb, or_left, or_right, and_from}
-use Rattle.tg_rights.specs.Letters.{Letters, Right, read, write, take, grant, has, is_none, take_alone, grant_alone}
+use Rattle.tg_rights.specs.Promise.Letters.{Letters, Right, read, write, take, grant, has, is_none, take_alone, grant_alone}
 use Rattle.tg_rights.specs.declared.kind.Kind.{Kind}
 use Rattle.tg_rights.specs.declared.kind.Kind.TheVariants as kind
 use Rattle.tg_rights.specs.declared.command.Command.{Command}
@@ -17,20 +17,19 @@ use Rattle.tg_rights.specs.declared.outcome.Reply.{Reply}
 use Rattle.tg_rights.specs.declared.outcome.Reply.TheVariants as reply
 use Rattle.tg_rights.proofs.LettersLemmas.{are_set_operations, some_right, right_some}
 use Rattle.tg_graph.specs.declared.derivation.Step.{Step}
-use Rattle.tg_graph.specs.Triples.{Triple, edge}
-use Rattle.tg_graph.specs.Derivations.{CarriesOut, Derives}
-use Rattle.tg_graph.specs.Protection.{Protection, IsEdge, IsGraph, IsSubject, has_retired, kind_of, label, vertex}
-use Rattle.tg_graph.specs.Rules.{Allowed, Applies, PlainlyDecided, after, done, is_create, last_serial, next_graph, reply_of}
-use Rattle.tg_graph.specs.Terms as effect
-use Rattle.tg_graph.specs.Laws.{AllowedIsMet}
+use Rattle.tg_graph.specs.Promise.Protection.{Triple, edge, Protection, IsEdge, IsGraph, IsSubject, has_retired, kind_of, label, vertex}
+use Rattle.tg_graph.specs.Promise.Derivations.{CarriesOut, Derives}
+use Rattle.tg_graph.specs.Promise.Rules.{Allowed, Applies, PlainlyDecided, after, done, is_create, last_serial, next_graph, reply_of}
+use Rattle.tg_graph.specs.Promise.Terms as effect
+use Rattle.tg_graph.specs.Promise.Laws.{AllowedIsMet}
 use Rattle.tg_graph.proofs.LabelLemmas.{contains-label}
 use Rattle.tg_graph.proofs.ProtectionLemmas.{edge_from, edge_to}
 use Rattle.tg_graph.proofs.TriplesLemmas.{contains-edge, triple_cmp_total}
 use Rattle.tg_graph.proofs.VertexLemmas.{IsVertex-from_kind}
-use Rattle.tg_sharing.specs.Spans.{Has, IsActor}
-use Rattle.tg_sharing.specs.Growing.{Continues, Draws, Gives, Keeps, Makes, both}
-use Rattle.tg_sharing.specs.Paths.{Holds}
-use Rattle.tg_sharing.specs.Fetching.{IsEnvoy}
+use Rattle.tg_sharing.specs.Promise.Spans.{Has, IsActor}
+use Rattle.tg_sharing.specs.Inner.Growing.{Continues, TakesFrom, Gives, KeepsAll, Makes, take_and_grant}
+use Rattle.tg_sharing.specs.Inner.Paths.{Holds}
+use Rattle.tg_sharing.specs.Inner.Fetching.{IsEnvoy}
 use Rattle.tg_sharing.specs.declared.builder.Derivation.{Derivation}
 
 -- right by right
@@ -56,11 +55,11 @@ grant_held G x y h = holds_all G x grant_alone y by where
   by take e = absurd (cc e)
   by grant e = h
 
-pub both_take : (G : Protection) (x y : ℕ) → Holds G x both y → Holds G x take_alone y
-both_take G x y h = take_held G x y (holds_right G x both y h take refl)
+pub both_take : (G : Protection) (x y : ℕ) → Holds G x take_and_grant y → Holds G x take_alone y
+both_take G x y h = take_held G x y (holds_right G x take_and_grant y h take refl)
 
-pub both_grant : (G : Protection) (x y : ℕ) → Holds G x both y → Holds G x grant_alone y
-both_grant G x y h = grant_held G x y (holds_right G x both y h grant refl)
+pub both_grant : (G : Protection) (x y : ℕ) → Holds G x take_and_grant y → Holds G x grant_alone y
+both_grant G x y h = grant_held G x y (holds_right G x take_and_grant y h grant refl)
 
 -- who has some rights has an edge
 pub held_edge : (G : Protection) (x : ℕ) (α : Letters) (y : ℕ) → is_none α ≡ false → Holds G x α y → IsEdge G x y
@@ -84,19 +83,19 @@ pub actor_low : (G : Protection) → IsGraph G → (v : ℕ) → IsActor G v →
 actor_low G g v act = g.below_next v (IsVertex-from_kind G v kind.Subject act.0)
 
 -- what is kept
-pub Keeps-refl : (G : Protection) → Keeps G G
+pub Keeps-refl : (G : Protection) → KeepsAll G G
 Keeps-refl G = record { rights = λ x r y h. h; actors = λ v h. h; next = omega arith }
 
-pub Keeps-trans : (G H K : Protection) → Keeps G H → Keeps H K → Keeps G K
+pub Keeps-trans : (G H K : Protection) → KeepsAll G H → KeepsAll H K → KeepsAll G K
 Keeps-trans G H K a b = record { rights = λ x r y h. b.rights x r y (a.rights x r y h); actors = λ v h. b.actors v (a.actors v h); next = omega (arith, a.next, b.next) }
 
-pub keeps_holds : (G H : Protection) → Keeps G H → (x : ℕ) (α : Letters) (y : ℕ) → Holds G x α y → Holds H x α y
+pub keeps_holds : (G H : Protection) → KeepsAll G H → (x : ℕ) (α : Letters) (y : ℕ) → Holds G x α y → Holds H x α y
 keeps_holds G H k x α y h = holds_all H x α y (λ r e. k.rights x r y (holds_right G x α y h r e))
 
-pub keeps_draws : (G H : Protection) → Keeps G H → (x y : ℕ) → Draws G x y → Draws H x y
+pub keeps_draws : (G H : Protection) → KeepsAll G H → (x y : ℕ) → TakesFrom G x y → TakesFrom H x y
 keeps_draws G H k x y d = elim d [ inl is ↦ inl is | inr h ↦ inr (keeps_holds G H k x take_alone y h) ]
 
-pub keeps_gives : (G H : Protection) → Keeps G H → (x y : ℕ) → Gives G x y → Gives H x y
+pub keeps_gives : (G H : Protection) → KeepsAll G H → (x y : ℕ) → Gives G x y → Gives H x y
 keeps_gives G H k x y d = elim d [ inl is ↦ inl is | inr h ↦ inr (keeps_holds G H k x grant_alone y h) ]
 
 pub Continues-refl : (d : Derivation) → Continues d d
@@ -151,7 +150,7 @@ module _ (G : Protection) (x : ℕ) (l : Letters) (y : ℕ) where
       sym (contains-label grown t) ∙ set.contains-union triple_cmp_total G.triples (edge x l y) t
       ∙ or_right _ _ (contains-edge x y l t ∙ and_from _ _ (eq-eqb x x refl) (and_from _ _ (eq-eqb y y refl) h))
 
-  pub grown_Keeps : Keeps G grown
+  pub grown_Keeps : KeepsAll G grown
   grown_Keeps = record { rights = grown_keeps; actors = λ v h. h; next = omega arith }
 
   pub grown_holds : Holds grown x l y
@@ -202,7 +201,7 @@ module _ (law : AllowedIsMet) (G : Protection) (g : IsGraph G) (x : ℕ) (act : 
 
 -- a step that was carried out continues a derivation
 pub stepped : (d e : Derivation) (s : Step) → IsSubject d.graph s.actor → Allowed d.graph s.actor s.command → (is_create s.actor s.command ≡ true → d.graph.next ≤ last_serial) →
-    e.graph ≡ after d.graph s.actor s.command → e.steps.items ≡ d.steps.items ++ s ∷ [] → Keeps d.graph e.graph → Continues d e
+    e.graph ≡ after d.graph s.actor s.command → e.steps.items ≡ d.steps.items ++ s ∷ [] → KeepsAll d.graph e.graph → Continues d e
 stepped d e s subject a room is more keeps = record {
   keeps = keeps;
   derived = λ G h. subst (λ (l : List Step). Derives G l e.graph) (sym more) (derives_more d.steps.items s G d.graph e.graph h (record { subject = subject; allowed = a; room = room; result = is }));
@@ -232,7 +231,7 @@ module _ (G : Protection) (g : IsGraph G) (x : ℕ) (k : Kind) (α : Letters) wh
   same_has : (a : ℕ) (r : Right) (b : ℕ) → Has (grown G x α G.next) a r b → Has made a r b
   same_has a r b h = let t : Triple = record { from = a; right = r; to = b } in sym (contains-label made t) ∙ contains-label (grown G x α G.next) t ∙ h
 
-  pub made_Keeps : Keeps G made
+  pub made_Keeps : KeepsAll G made
   made_Keeps = record {
     rights = λ a r b h. same_has a r b (grown_keeps G x α G.next a r b h);
     actors = λ v act. (made_kind v (actor_low G g v act) ∙ act.0, act.1);
@@ -247,14 +246,14 @@ module _ (law : AllowedIsMet) (d e : Derivation) (g : IsGraph d.graph) (x : ℕ)
   pub took : (y z : ℕ) → Holds d.graph x take_alone z → Holds d.graph z α y → x ≢ y → e.graph ≡ after d.graph x (command.Take α y z) →
       e.steps.items ≡ d.steps.items ++ record { actor = x; command = command.Take α y z } ∷ [] → Continues d e × Holds e.graph x α y
   took y z t h apart is more = (
-    stepped d e (record { actor = x; command = command.Take α y z }) act.0 (take_allowed law d.graph g x act α some y z t h apart) (λ f. absurd (cc f)) is more (subst (Keeps d.graph) (sym is) (grown_Keeps d.graph x α y)),
+    stepped d e (record { actor = x; command = command.Take α y z }) act.0 (take_allowed law d.graph g x act α some y z t h apart) (λ f. absurd (cc f)) is more (subst (KeepsAll d.graph) (sym is) (grown_Keeps d.graph x α y)),
     subst (λ (H : Protection). Holds H x α y) (sym is) (grown_holds d.graph x α y),
   )
 
   pub granted : (y z : ℕ) → Holds d.graph x grant_alone z → Holds d.graph x α y → z ≢ y → e.graph ≡ after d.graph x (command.Grant α y z) →
       e.steps.items ≡ d.steps.items ++ record { actor = x; command = command.Grant α y z } ∷ [] → Continues d e × Holds e.graph z α y
   granted y z t h apart is more = (
-    stepped d e (record { actor = x; command = command.Grant α y z }) act.0 (grant_allowed law d.graph g x act α some y z t h apart) (λ f. absurd (cc f)) is more (subst (Keeps d.graph) (sym is) (grown_Keeps d.graph z α y)),
+    stepped d e (record { actor = x; command = command.Grant α y z }) act.0 (grant_allowed law d.graph g x act α some y z t h apart) (λ f. absurd (cc f)) is more (subst (KeepsAll d.graph) (sym is) (grown_Keeps d.graph z α y)),
     subst (λ (H : Protection). Holds H z α y) (sym is) (grown_holds d.graph z α y),
   )
 
@@ -266,37 +265,37 @@ same_or_not x y = by (x == y) refl where
   by false e = inr (λ is. absurd (cc (e, eq-eqb x y is)))
 
 -- what was gained over another vertex can be drawn from
-pub draws_gained : (G : Protection) (x y : ℕ) → (x ≢ y → Holds G x take_alone y) → Draws G x y
+pub draws_gained : (G : Protection) (x y : ℕ) → (x ≢ y → Holds G x take_alone y) → TakesFrom G x y
 draws_gained G x y f = elim (same_or_not x y) [ inl is ↦ inl is | inr apart ↦ inr (f apart) ]
 
 pub gives_gained : (G : Protection) (x y : ℕ) → (x ≢ y → Holds G x grant_alone y) → Gives G x y
 gives_gained G x y f = elim (same_or_not x y) [ inl is ↦ inl is | inr apart ↦ inr (f apart) ]
 
 -- a create that was carried out
-pub created_step : AllowedIsMet → (d e : Derivation) → IsGraph d.graph → (x : ℕ) → IsActor d.graph x → (k : Kind) → d.graph.next ≤ last_serial → e.graph ≡ after d.graph x (command.Create k both) →
-    e.steps.items ≡ d.steps.items ++ record { actor = x; command = command.Create k both } ∷ [] → Continues d e × Makes d e x k d.graph.next
+pub created_step : AllowedIsMet → (d e : Derivation) → IsGraph d.graph → (x : ℕ) → IsActor d.graph x → (k : Kind) → d.graph.next ≤ last_serial → e.graph ≡ after d.graph x (command.Create k take_and_grant) →
+    e.steps.items ≡ d.steps.items ++ record { actor = x; command = command.Create k take_and_grant } ∷ [] → Continues d e × Makes d e x k d.graph.next
 created_step law d e g x act k room is more = (
-  stepped d e (record { actor = x; command = command.Create k both }) act.0 (create_allowed law d.graph g x act both refl k) (λ _. room) is more (subst (Keeps d.graph) (sym is) (made_Keeps d.graph g x k both)),
+  stepped d e (record { actor = x; command = command.Create k take_and_grant }) act.0 (create_allowed law d.graph g x act take_and_grant refl k) (λ _. room) is more (subst (KeepsAll d.graph) (sym is) (made_Keeps d.graph g x k take_and_grant)),
   record {
     fresh = refl;
     low = let next : e.graph.next ≡ d.graph.next + 1 = ap (λ (H : Protection). H.next) is in omega (arith, next);
-    held = subst (λ (H : Protection). Holds H x both d.graph.next) (sym is) (made_holds d.graph g x k both);
-    actor = λ f. subst (λ (H : Protection). IsActor H d.graph.next) (sym is) (made_actor d.graph g x k both f);
+    held = subst (λ (H : Protection). Holds H x take_and_grant d.graph.next) (sym is) (made_holds d.graph g x k take_and_grant);
+    actor = λ f. subst (λ (H : Protection). IsActor H d.graph.next) (sym is) (made_actor d.graph g x k take_and_grant f);
   },
 )
 
 -- no step was carried out
 pub same_graph : (d e : Derivation) → e.graph ≡ d.graph → e.steps.items ≡ d.steps.items → Continues d e
 same_graph d e is same = record {
-  keeps = subst (Keeps d.graph) (sym is) (Keeps-refl d.graph);
+  keeps = subst (KeepsAll d.graph) (sym is) (Keeps-refl d.graph);
   derived = λ G h. subst (λ (l : List Step). Derives G l e.graph) (sym same) (subst (λ (H : Protection). Derives G d.steps.items H) (sym is) h);
 }
 
 -- edges of the first graph, later
-pub grant_later : (G W : Protection) → Keeps G W → (x y : ℕ) → Has G x grant y → Holds W x grant_alone y
+pub grant_later : (G W : Protection) → KeepsAll G W → (x y : ℕ) → Has G x grant y → Holds W x grant_alone y
 grant_later G W k x y h = keeps_holds G W k x grant_alone y (grant_held G x y h)
 
-pub take_later : (G W : Protection) → Keeps G W → (x y : ℕ) → Has G x take y → Holds W x take_alone y
+pub take_later : (G W : Protection) → KeepsAll G W → (x y : ℕ) → Has G x take y → Holds W x take_alone y
 take_later G W k x y h = keeps_holds G W k x take_alone y (take_held G x y h)
 
 pub edge_low : (G : Protection) → IsGraph G → (x : ℕ) (r : Right) (y : ℕ) → Has G x r y → y < G.next
@@ -305,5 +304,5 @@ edge_low G g x r y h = g.below_next y (edge_to G g x y (right_some (label G x y)
 pub edge_high : (G : Protection) → IsGraph G → (x : ℕ) (r : Right) (y : ℕ) → Has G x r y → x < G.next
 edge_high G g x r y h = g.below_next x (edge_from G g x y (right_some (label G x y) r h))
 
-pub keeps_envoy : (G H : Protection) → Keeps G H → (α : Letters) (to envoy : ℕ) → IsEnvoy G α to envoy → IsEnvoy H α to envoy
+pub keeps_envoy : (G H : Protection) → KeepsAll G H → (α : Letters) (to envoy : ℕ) → IsEnvoy G α to envoy → IsEnvoy H α to envoy
 keeps_envoy G H k α to envoy h = record { actor = k.actors envoy h.actor; ready = keeps_holds G H k envoy α to h.ready }

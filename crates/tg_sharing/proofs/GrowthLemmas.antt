@@ -7,22 +7,21 @@ use Rattle.std.specs.Ordering.{nat_cmp, eq_by_cmp}
 use Rattle.std.specs.FinMap as map
 use Rattle.std.specs.FinSet as set
 use Rattle.std.proofs.lemmas.Bool.{eqb-true, eq-eqb, or_cases, and_parts}
-use Rattle.tg_rights.specs.Letters.{Letters, Right, take, grant, has, includes, take_alone, grant_alone}
+use Rattle.tg_rights.specs.Promise.Letters.{Letters, Right, take, grant, has, includes, take_alone, grant_alone}
 use Rattle.tg_rights.specs.declared.kind.Kind.{Kind}
 use Rattle.tg_rights.specs.declared.kind.Kind.TheVariants as kind
 use Rattle.tg_rights.specs.declared.command.Command.{Command}
 use Rattle.tg_rights.specs.declared.command.Command.TheVariants as command
 use Rattle.tg_rights.proofs.LettersLemmas.{are_set_operations}
 use Rattle.tg_graph.specs.declared.vertex.Vertex.{Vertex}
-use Rattle.tg_graph.specs.Triples.{Triple, edge}
-use Rattle.tg_graph.specs.Protection.{Protection, IsSubject, kind_of, label, vertex}
-use Rattle.tg_graph.specs.Rules.{Allowed, after, done, with_text}
-use Rattle.tg_graph.specs.Terms.{terms}
-use Rattle.tg_graph.specs.Terms as effect
-use Rattle.tg_graph.specs.Laws.{AllowedIsMet}
+use Rattle.tg_graph.specs.Promise.Protection.{Triple, edge, Protection, IsSubject, kind_of, label, vertex}
+use Rattle.tg_graph.specs.Promise.Rules.{Allowed, after, done, with_text}
+use Rattle.tg_graph.specs.Promise.Terms.{terms}
+use Rattle.tg_graph.specs.Promise.Terms as effect
+use Rattle.tg_graph.specs.Promise.Laws.{AllowedIsMet}
 use Rattle.tg_graph.proofs.LabelLemmas.{contains-label}
 use Rattle.tg_graph.proofs.TriplesLemmas.{contains-edge, triple_cmp_total}
-use Rattle.tg_sharing.specs.Spans.{Has, IsActor}
+use Rattle.tg_sharing.specs.Promise.Spans.{Has, IsActor}
 
 module _ (G : Protection) (x : ℕ) where
   -- where an edge of the next graph comes from: it was there, x took it, x granted it, or x made its end

@@ -8,11 +8,11 @@ use Rattle.std.specs.Ordering.{is_eq}
 use Rattle.std.specs.BTreeMap as tree
 use Rattle.std.proofs.lemmas.Bool.{eqb-true}
 use Rattle.std.proofs.lemmas.List.Elements.{All-head, All-tail}
-use Rattle.tg_lists.specs.Membership.{Contains}
-use Rattle.tg_rights.specs.Letters.{Letters, is_none, none}
+use Rattle.tg_lists.specs.Promise.Membership.{Contains}
+use Rattle.tg_rights.specs.Promise.Letters.{Letters, is_none, none}
 use Rattle.tg_rights.proofs.Bools.{and_both}
-use Rattle.tg_graph.specs.Protection.{IsEdge, Protection, label}
-use Rattle.tg_graph.specs.Views.{AreLabels, label_at, pair_cmp}
+use Rattle.tg_graph.specs.Promise.Protection.{IsEdge, Protection, label}
+use Rattle.tg_graph.specs.Promise.Views.{AreLabels, label_at, pair_cmp}
 use Rattle.tg_graph.proofs.ViewsLemmas.{pair_tied}
 
 abbrev pub Labels : Type 0

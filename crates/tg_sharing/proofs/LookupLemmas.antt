@@ -8,20 +8,21 @@ use Rattle.std.specs.Ordering.{eq_by_cmp, nat_cmp}
 use Rattle.std.specs.BTreeMap as tree
 use Rattle.std.proofs.lemmas.Option.{same_Some}
 use Rattle.std.proofs.lemmas.Bool.{eqb-true, eq-eqb, or_left, or_right}
-use Rattle.tg_lists.specs.Membership.{Contains}
-use Rattle.tg_rights.specs.Letters.{Letters, Right, take, grant, has, includes, is_none}
+use Rattle.tg_lists.specs.Promise.Membership.{Contains}
+use Rattle.tg_rights.specs.Promise.Letters.{Letters, Right, take, grant, has, includes, is_none}
 use Rattle.tg_rights.proofs.Bools.{or_cases}
 use Rattle.tg_rights.proofs.LettersLemmas.{are_set_operations, right_some, some_right}
 use Rattle.tg_graph.specs.declared.derivation.Goal.{Goal}
 use Rattle.tg_graph.specs.declared.derivation.Step.{Step}
-use Rattle.tg_graph.specs.Derivations.{CanShare, Derives, IsShared}
-use Rattle.tg_graph.specs.Laws.{CommandsKeepGraphs}
-use Rattle.tg_graph.specs.Protection.{IsEdge, IsGraph, IsVertex, Protection, label}
-use Rattle.tg_sharing.specs.Fetching.{alone}
-use Rattle.tg_sharing.specs.Laws.{WithheldForEver}
-use Rattle.tg_sharing.specs.Lookups.{AreEnds, AreListed, RunsOut, holder_goal, holder_of, is_unknown, present, target_goal, target_of}
-use Rattle.tg_sharing.specs.Prospects.{AreCould, AreLabelsOf, IsCould, IsProspect}
-use Rattle.tg_sharing.specs.Spans.{AreClosed, Has}
+use Rattle.tg_graph.specs.Promise.Derivations.{CanShare, Derives, IsShared}
+use Rattle.tg_graph.specs.Promise.Laws.{CommandsKeepGraphs}
+use Rattle.tg_graph.specs.Promise.Protection.{IsEdge, IsGraph, IsVertex, Protection, label}
+use Rattle.tg_sharing.specs.Promise.Fetching.{alone}
+use Rattle.tg_sharing.specs.Promise.Laws.{WithheldForEver}
+use Rattle.tg_sharing.specs.Promise.Lookups.{AreListed, RunsOut, holder_goal, present, target_goal}
+use Rattle.tg_sharing.specs.Inner.Lookups.{AreEnds, holder_of, is_unknown, target_found}
+use Rattle.tg_sharing.specs.Promise.Prospects.{AreCould, AreLabelsOf, IsCould, IsProspect}
+use Rattle.tg_sharing.specs.Promise.Spans.{AreClosed, Has}
 use Rattle.tg_sharing.specs.declared.prospect.Could.{Could}
 use Rattle.tg_sharing.specs.declared.prospect.Could.TheVariants as could
 use Rattle.tg_sharing.specs.declared.prospect.Prospect.{Prospect}
@@ -208,7 +209,7 @@ has_or_not H x r y = by (has (label H x y) r) where
   by true = inl refl
   by false = inr (λ e. absurd (cc e))
 
-target_told : (G : Protection) (α : Letters) (from v w : ℕ) (l β : Letters) → target_of G α from w l ≡ Some (v, β) → (includes l α ≡ true) × (v ≡ w) × (β ≡ present G (target_goal α from w))
+target_told : (G : Protection) (α : Letters) (from v w : ℕ) (l β : Letters) → target_found G α from w l ≡ Some (v, β) → (includes l α ≡ true) × (v ≡ w) × (β ≡ present G (target_goal α from w))
 target_told G α from v w l β is = by (includes l α) refl is where
   listed : ℕ × Letters
   listed = (w, present G (target_goal α from w))
@@ -230,10 +231,10 @@ module _ (keep : CommandsKeepGraphs) (G : Protection) (g : IsGraph G) (α : Lett
   an_edge : (y : ℕ) → includes (label is.reached from y) α ≡ true → IsEdge is.reached from y
   an_edge y all = let r = some_right α some in right_some (label is.reached from y) r.0 ((are_set_operations.inclusion (label is.reached from y) α).0 all r.0 r.1)
 
-  pub targets_listed : (list : List (ℕ × Letters)) → list ≡ filter_map (λ q. target_of G α from q.0 q.1) p.labels.items → AreListed G (target_goal α from) list
+  pub targets_listed : (list : List (ℕ × Letters)) → list ≡ filter_map (λ q. target_found G α from q.0 q.1) p.labels.items → AreListed G (target_goal α from) list
   targets_listed list kept v β = (
     (λ h.
-        let one = kept_from (λ (q : ℕ × Letters). target_of G α from q.0 q.1) p.labels.items (v, β) (subst (λ (l : List (ℕ × Letters)). Contains l (v, β)) kept h) in
+        let one = kept_from (λ (q : ℕ × Letters). target_found G α from q.0 q.1) p.labels.items (v, β) (subst (λ (l : List (ℕ × Letters)). Contains l (v, β)) kept h) in
         let told = target_told G α from v one.0.0 one.0.1 β one.2 in
         let listed = (is.labels one.0.0 one.0.1).0 one.1 in
         let shared : includes (label is.reached from one.0.0) α ≡ true = ap (λ (l : Letters). includes l α) (sym listed.2) ∙ told.0 in (
@@ -245,6 +246,6 @@ module _ (keep : CommandsKeepGraphs) (G : Protection) (g : IsGraph G) (α : Lett
         let shared = reached_all v all.0 all.1 in
         let l = label is.reached from v in
         subst (λ (k : List (ℕ × Letters)). Contains k (v, β)) (sym kept)
-        (from_kept (λ (q : ℕ × Letters). target_of G α from q.0 q.1) p.labels.items (v, l) (v, β) ((is.labels v l).1 (all.0, an_edge v shared, refl))
+        (from_kept (λ (q : ℕ × Letters). target_found G α from q.0 q.1) p.labels.items (v, l) (v, β) ((is.labels v l).1 (all.0, an_edge v shared, refl))
         (ap (λ (b : Bool). cond b (Some (v, present G (target_goal α from v))) None) shared ∙ ap (λ (k : Letters). Some (v, k)) (sym all.2)))),
   )

@@ -3,11 +3,11 @@ use Rattle.std.proofs.Common.{◌≡◌, ℕ, ◌<◌, ◌≤◌, ◌+◌, Bool,
 use Rattle.std.specs.Prelude.{Option}
 use Rattle.std.specs.Option.{is_some}
 use Rattle.std.proofs.lemmas.Bool.{eqb-true, eq-eqb}
-use Rattle.tg_rights.specs.Letters.{Right, take, grant}
+use Rattle.tg_rights.specs.Promise.Letters.{Right, take, grant}
 use Rattle.tg_rights.proofs.LettersLemmas.{right_some}
-use Rattle.tg_graph.specs.Protection.{Protection, label}
-use Rattle.tg_sharing.specs.Spans.{AreClosed, Has, IsActor}
-use Rattle.tg_sharing.specs.Marking.{AreEdgesClosed, AddsBridge, AddsSpan, AreGrantClosed, AreMarks, ArePairClosed, AreSettled, AreTakeClosed, Extends, Goes, IsBridge, IsNone, IsSpan, WasBridged, WasSpanned, bridge_of, is_bridged, is_spanned, size, span_of}
+use Rattle.tg_graph.specs.Promise.Protection.{Protection, label}
+use Rattle.tg_sharing.specs.Promise.Spans.{AreClosed, Has, IsActor}
+use Rattle.tg_sharing.specs.Inner.Marking.{AreEdgesClosed, AddsBridge, AddsSpan, AreGrantClosed, AreMarks, ArePairClosed, AreSettled, AreTakeClosed, Extends, Goes, IsBridge, IsNone, IsSpan, WasBridged, WasSpanned, bridge_of, is_bridged, is_spanned, size, span_of}
 use Rattle.tg_sharing.specs.declared.marks.Bridge.{Bridge}
 use Rattle.tg_sharing.specs.declared.marks.BridgeWay.{BridgeWay}
 use Rattle.tg_sharing.specs.declared.marks.BridgeWay.TheVariants as bridge

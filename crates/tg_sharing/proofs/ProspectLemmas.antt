@@ -3,19 +3,20 @@ use Rattle.std.proofs.Common.{◌≡◌, ◌≢◌, ℕ, ◌∷◌, [], ◌++◌
 use Rattle.std.specs.Prelude.{Option}
 use Rattle.std.specs.Map.{keys_of}
 use Rattle.std.specs.Option.{is_some, option_map}
-use Rattle.tg_lists.specs.Membership.{Contains}
+use Rattle.tg_lists.specs.Promise.Membership.{Contains}
 use Rattle.tg_lists.proofs.MembershipLemmas.{contains_append, contains_left, contains_right}
-use Rattle.tg_rights.specs.Letters.{Letters, Right, is_none}
+use Rattle.tg_rights.specs.Promise.Letters.{Letters, Right, is_none}
 use Rattle.tg_rights.proofs.LettersLemmas.{right_some}
 use Rattle.tg_graph.specs.declared.vertex.Vertex.{Vertex}
-use Rattle.tg_graph.specs.Derivations.{CanShare}
-use Rattle.tg_graph.specs.Protection.{IsEdge, IsGraph, IsVertex, Protection, kind_of, label, vertex}
-use Rattle.tg_sharing.specs.Fetching.{alone}
-use Rattle.tg_sharing.specs.Growing.{Keeps}
-use Rattle.tg_sharing.specs.Laws.{WithheldForEver}
-use Rattle.tg_sharing.specs.Marking.{is_bridged, is_spanned}
-use Rattle.tg_sharing.specs.Prospects.{AreCould, IsCould, IsGathered}
-use Rattle.tg_sharing.specs.Spans.{AreClosed, Has}
+use Rattle.tg_graph.specs.Promise.Derivations.{CanShare}
+use Rattle.tg_graph.specs.Promise.Protection.{IsEdge, IsGraph, IsVertex, Protection, kind_of, label, vertex}
+use Rattle.tg_sharing.specs.Promise.Fetching.{alone}
+use Rattle.tg_sharing.specs.Inner.Growing.{KeepsAll}
+use Rattle.tg_sharing.specs.Promise.Laws.{WithheldForEver}
+use Rattle.tg_sharing.specs.Inner.Marking.{is_bridged, is_spanned}
+use Rattle.tg_sharing.specs.Promise.Prospects.{AreCould, IsCould}
+use Rattle.tg_sharing.specs.Inner.Prospects.{IsGathered}
+use Rattle.tg_sharing.specs.Promise.Spans.{AreClosed, Has}
 use Rattle.tg_sharing.specs.declared.marks.Marks.{Marks}
 use Rattle.tg_sharing.specs.declared.prospect.Could.{Could}
 use Rattle.tg_sharing.proofs.LabelsLemmas.{Labels}
@@ -65,7 +66,7 @@ module _ (G H : Protection) (from x y : ℕ) (l : Letters) (found : List (ℕ ×
   ]
 
 -- what the vertex lacks in the end, it never has
-pub never_gathered : WithheldForEver → (G W : Protection) (m : Marks) (from : ℕ) → IsGraph G → IsVertex G from → m.from ≡ from → AreClosed G from (is_spanned m) (is_bridged m) → Keeps G W →
+pub never_gathered : WithheldForEver → (G W : Protection) (m : Marks) (from : ℕ) → IsGraph G → IsVertex G from → m.from ≡ from → AreClosed G from (is_spanned m) (is_bridged m) → KeepsAll G W →
     ((u y : ℕ) → IsEdge G u y → IsGathered G W m u y) →
     (y : ℕ) (r : Right) → IsVertex G y → y ≢ from → (Has W from r y → ⊥) → CanShare G (record { from = from; to = y; rights = alone r }) → ⊥
 never_gathered law G W m from g there own closed keeps gathered y r v apart lacks =

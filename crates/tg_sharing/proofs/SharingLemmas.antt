@@ -1,17 +1,18 @@
 -- Why an answer is right.
 use Rattle.std.proofs.Common.{◌≡◌, ℕ, ◌∷◌, [], List, true, false, refl, sym, subst, ◌∙◌, inl, inr}
-use Rattle.tg_rights.specs.Letters.{Letters, Right, read, write, take, grant, has, includes, is_none}
+use Rattle.tg_rights.specs.Promise.Letters.{Letters, Right, read, write, take, grant, has, includes, is_none}
 use Rattle.tg_rights.proofs.LettersLemmas.{are_set_operations, right_some}
 use Rattle.tg_graph.specs.declared.derivation.Goal.{Goal}
 use Rattle.tg_graph.specs.declared.derivation.Step.{Step}
-use Rattle.tg_graph.specs.Derivations.{CanShare, Derives, IsShared}
-use Rattle.tg_graph.specs.Laws.{CommandsKeepGraphs}
-use Rattle.tg_graph.specs.Protection.{Protection, IsGraph, IsVertex, label}
-use Rattle.tg_sharing.specs.Fetching.{AreFound, IsFound, IsLacking, alone}
-use Rattle.tg_sharing.specs.Laws.{WithheldForEver}
-use Rattle.tg_sharing.specs.Marking.{is_bridged, is_spanned}
-use Rattle.tg_sharing.specs.Paths.{Holds}
-use Rattle.tg_sharing.specs.Spans.{AreClosed, Has}
+use Rattle.tg_graph.specs.Promise.Derivations.{CanShare, Derives, IsShared}
+use Rattle.tg_graph.specs.Promise.Laws.{CommandsKeepGraphs}
+use Rattle.tg_graph.specs.Promise.Protection.{Protection, IsGraph, IsVertex, label}
+use Rattle.tg_sharing.specs.Promise.Fetching.{alone}
+use Rattle.tg_sharing.specs.Inner.Fetching.{AreFetched, IsFetched, IsLacking}
+use Rattle.tg_sharing.specs.Promise.Laws.{WithheldForEver}
+use Rattle.tg_sharing.specs.Inner.Marking.{is_bridged, is_spanned}
+use Rattle.tg_sharing.specs.Inner.Paths.{Holds}
+use Rattle.tg_sharing.specs.Promise.Spans.{AreClosed, Has}
 use Rattle.tg_sharing.specs.declared.marks.Marks.{Marks}
 use Rattle.tg_sharing.specs.declared.sharing.Found.{Found}
 use Rattle.tg_sharing.specs.declared.sharing.Found.TheVariants as found
@@ -72,18 +73,18 @@ never_shared law G goal m r g from to own closed lacking =
     (λ u either h. lacking.1 u (alone_held G u r goal.to h, elim either [ inl is ↦ inl (is ∙ sym own) | inr p ↦ inr p ]))
 
 -- right by right, the goal is met
-pub all_shared : (G H : Protection) (m : Marks) (goal : Goal) → AreFound G H m goal found.Here → IsShared H goal
+pub all_shared : (G H : Protection) (m : Marks) (goal : Goal) → AreFetched G H m goal found.Here → IsShared H goal
 all_shared G H m goal here = (are_set_operations.inclusion (label H goal.from goal.to) goal.rights).1
     (λ r h. holds_right H goal.from (alone r) goal.to (here r (includes_alone goal.rights r h)) r (alone_has r))
 
 -- one right was found here
-pub one_found : (G W : Protection) (m : Marks) (α β : Letters) (goal : Goal) (f : Found) → IsFound G W m α goal f → f ≡ found.Here → α ≡ β → includes goal.rights β ≡ true → Holds W goal.from β goal.to
+pub one_found : (G W : Protection) (m : Marks) (α β : Letters) (goal : Goal) (f : Found) → IsFetched G W m α goal f → f ≡ found.Here → α ≡ β → includes goal.rights β ≡ true → Holds W goal.from β goal.to
 one_found G W m α β goal f h is same =
-    subst (λ (l : Letters). includes goal.rights l ≡ true → Holds W goal.from l goal.to) same (subst (λ (q : Found). IsFound G W m α goal q) is h)
+    subst (λ (l : Letters). includes goal.rights l ≡ true → Holds W goal.from l goal.to) same (subst (λ (q : Found). IsFetched G W m α goal q) is h)
 
 -- and if all were found at once, each is there
-pub all_found : (G W : Protection) (m : Marks) (goal : Goal) (f : Found) → IsFound G W m goal.rights goal f → f ≡ found.Here → AreFound G W m goal found.Here
+pub all_found : (G W : Protection) (m : Marks) (goal : Goal) (f : Found) → IsFetched G W m goal.rights goal f → f ≡ found.Here → AreFetched G W m goal found.Here
 all_found G W m goal f h is r e =
     let whole : includes goal.rights goal.rights ≡ true = (are_set_operations.inclusion goal.rights goal.rights).1 (λ s k. k) in
-    let held : Holds W goal.from goal.rights goal.to = subst (λ (q : Found). IsFound G W m goal.rights goal q) is h whole in
+    let held : Holds W goal.from goal.rights goal.to = subst (λ (q : Found). IsFetched G W m goal.rights goal q) is h whole in
     holds_all W goal.from (alone r) goal.to (λ s k. holds_right W goal.from goal.rights goal.to held s ((are_set_operations.inclusion goal.rights (alone r)).0 e s k))

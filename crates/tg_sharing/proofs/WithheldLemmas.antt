@@ -1,18 +1,18 @@
 -- What is withheld from all that is spanned stays so, step by step.
 use Rattle.std.proofs.Common.{◌≡◌, ℕ, ◌<◌, ◌∷◌, [], List, Bool, true, false, cond, refl, sym, ap, subst, ◌∙◌, ◌⊎◌, inl, inr, ◌==◌, arith}
 use Rattle.std.proofs.lemmas.Bool.{eqb-true, eq-eqb}
-use Rattle.tg_rights.specs.Letters.{Right, take, grant, has, includes}
+use Rattle.tg_rights.specs.Promise.Letters.{Right, take, grant, has, includes}
 use Rattle.tg_rights.specs.declared.kind.Kind.TheVariants as kind
 use Rattle.tg_rights.proofs.LettersLemmas.{are_set_operations, right_some}
 use Rattle.tg_graph.specs.declared.derivation.Goal.{Goal}
 use Rattle.tg_graph.specs.declared.derivation.Step.{Step}
-use Rattle.tg_graph.specs.Derivations.{Derives, IsShared}
-use Rattle.tg_graph.specs.Laws.{AllowedIsMet, CommandsKeepGraphs}
-use Rattle.tg_graph.specs.Protection.{Protection, IsGraph, label}
+use Rattle.tg_graph.specs.Promise.Derivations.{Derives, IsShared}
+use Rattle.tg_graph.specs.Promise.Laws.{AllowedIsMet, CommandsKeepGraphs}
+use Rattle.tg_graph.specs.Promise.Protection.{Protection, IsGraph, label}
 use Rattle.tg_graph.proofs.ProtectionLemmas.{edge_from, edge_to}
 use Rattle.tg_graph.proofs.VertexLemmas.{IsVertex-from_kind}
-use Rattle.tg_sharing.specs.Laws.{WithheldForEver}
-use Rattle.tg_sharing.specs.Spans.{AreClosed, Has, IsActor, IsWithheld}
+use Rattle.tg_sharing.specs.Promise.Laws.{WithheldForEver}
+use Rattle.tg_sharing.specs.Promise.Spans.{AreClosed, Has, IsActor, IsWithheld}
 use Rattle.tg_sharing.proofs.GrowthLemmas.{Grows, Source, grown}
 use Rattle.tg_sharing.proofs.GrowthLemmas as growth
 

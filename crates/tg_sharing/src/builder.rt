@@ -1,11 +1,11 @@
 //! Derivations that grow, step by step.
 ghost use Rattle.std.specs.Prelude.{◌≡◌, ◌≢◌, ◌<◌, ◌++◌, ◌∷◌, [], ℕ, true, false, IfOk, OnOk, MatchOption};
-ghost use Rattle.tg_rights.specs.Letters.{is_none, grant_alone, take_alone};
-ghost use Rattle.tg_graph.specs.Protection.{IsGraph, IsSubject};
-ghost use Rattle.tg_graph.specs.Rules.{Allowed, after, is_create, last_serial};
-ghost use Rattle.tg_sharing.specs.Spans.{IsActor};
-ghost use Rattle.tg_sharing.specs.Growing.{Continues, Draws, Gives, Keeps, Makes, both};
-ghost use Rattle.tg_sharing.specs.Paths.{Holds, TakePath, path_end};
+ghost use Rattle.tg_rights.specs.Promise.Letters.{is_none, grant_alone, take_alone};
+ghost use Rattle.tg_graph.specs.Promise.Protection.{IsGraph, IsSubject};
+ghost use Rattle.tg_graph.specs.Promise.Rules.{Allowed, after, is_create, last_serial};
+ghost use Rattle.tg_sharing.specs.Promise.Spans.{IsActor};
+ghost use Rattle.tg_sharing.specs.Inner.Growing.{Continues, TakesFrom, Gives, KeepsAll, Makes, take_and_grant};
+ghost use Rattle.tg_sharing.specs.Inner.Paths.{Holds, TakePath, path_end};
 
 use std::alloc::{AllocError, Global};
 use std::collections::VecDeque;
@@ -28,7 +28,7 @@ pub(crate) struct Load {
 
 /// Take and grant.
 pub(crate) fn both() -> Rights
-    ensures { result ≡ both }
+    ensures { result ≡ take_and_grant }
 {
     Rights::take().union(Rights::grant())
 }
@@ -68,7 +68,7 @@ impl Derivation {
         from: u64,
     ) -> Result<(), AllocError>
         requires actor { IsActor self.old.graph actor }
-        requires draws { Draws self.old.graph actor from }
+        requires draws { TakesFrom self.old.graph actor from }
         requires held { Holds self.old.graph from rights over }
         requires some { is_none rights ≡ false }
         ensures continues { OnOk result (Continues self.old self.new) }
@@ -152,10 +152,10 @@ impl Derivation {
         mut path: VecDeque<u64>,
     ) -> Result<(), AllocError>
         requires actor { IsActor graph.now actor }
-        requires keeps { Keeps graph.now self.old.graph }
+        requires keeps { KeepsAll graph.now self.old.graph }
         requires path { TakePath graph.now actor path.items }
         ensures continues { OnOk result (Continues self.old self.new) }
-        ensures drawn { OnOk result (Draws self.new.graph actor (path_end actor path.items)) }
+        ensures drawn { OnOk result (TakesFrom self.new.graph actor (path_end actor path.items)) }
     {
         let _ = graph;
         let mut at = actor;
@@ -169,7 +169,7 @@ impl Derivation {
     /// As `gain`, of take.
     pub(crate) fn gain_take(&mut self, actor: u64, over: u64, from: u64) -> Result<(), AllocError>
         requires actor { IsActor self.old.graph actor }
-        requires draws { Draws self.old.graph actor from }
+        requires draws { TakesFrom self.old.graph actor from }
         requires held { Holds self.old.graph from take_alone over }
         ensures continues { OnOk result (Continues self.old self.new) }
         ensures gained { OnOk result (actor ≢ over → Holds self.new.graph actor take_alone over) }
@@ -180,7 +180,7 @@ impl Derivation {
     /// As `gain`, of grant.
     pub(crate) fn gain_grant(&mut self, actor: u64, over: u64, from: u64) -> Result<(), AllocError>
         requires actor { IsActor self.old.graph actor }
-        requires draws { Draws self.old.graph actor from }
+        requires draws { TakesFrom self.old.graph actor from }
         requires held { Holds self.old.graph from grant_alone over }
         ensures continues { OnOk result (Continues self.old self.new) }
         ensures gained { OnOk result (actor ≢ over → Holds self.new.graph actor grant_alone over) }
@@ -223,7 +223,7 @@ impl Derivation {
     ) -> Result<Option<u64>, AllocError>
         requires giver { IsActor self.old.graph giver }
         requires taker { IsActor self.old.graph taker }
-        requires draws { Draws self.old.graph giver by }
+        requires draws { TakesFrom self.old.graph giver by }
         requires gives { Gives self.old.graph taker by }
         requires held { Holds self.old.graph giver load.now.rights load.now.over }
         requires some { is_none load.now.rights ≡ false }
@@ -257,7 +257,7 @@ impl Derivation {
         requires giver { IsActor self.old.graph giver }
         requires taker { IsActor self.old.graph taker }
         requires gives { Gives self.old.graph giver by }
-        requires draws { Draws self.old.graph taker by }
+        requires draws { TakesFrom self.old.graph taker by }
         requires held { Holds self.old.graph giver load.now.rights load.now.over }
         requires some { is_none load.now.rights ≡ false }
         requires apart { taker ≢ load.now.over }

@@ -1,12 +1,12 @@
 //! How a load goes from actor to actor, over the bridges that the marks tell of.
 ghost use Rattle.std.specs.Prelude.{◌≡◌, ◌<◌, true, false, IfOk, OnOk, MatchOption};
-ghost use Rattle.tg_rights.specs.Letters.{is_none, take, grant};
-ghost use Rattle.tg_graph.specs.Rules.{last_serial};
-ghost use Rattle.tg_sharing.specs.Fetching.{IsBrought, IsDrawn, IsOnTheWay, IsPassed, IsUnmarked};
-ghost use Rattle.tg_sharing.specs.Growing.{Continues, Keeps};
-ghost use Rattle.tg_sharing.specs.Marking.{AreMarks, is_bridged, is_spanned};
-ghost use Rattle.tg_sharing.specs.Paths.{Holds};
-ghost use Rattle.tg_sharing.specs.Spans.{Has, IsActor};
+ghost use Rattle.tg_rights.specs.Promise.Letters.{is_none, take, grant};
+ghost use Rattle.tg_graph.specs.Promise.Rules.{last_serial};
+ghost use Rattle.tg_sharing.specs.Inner.Fetching.{IsBrought, IsDrawn, IsOnTheWay, IsPassed, IsUnmarked};
+ghost use Rattle.tg_sharing.specs.Inner.Growing.{Continues, KeepsAll};
+ghost use Rattle.tg_sharing.specs.Inner.Marking.{AreMarks, is_bridged, is_spanned};
+ghost use Rattle.tg_sharing.specs.Inner.Paths.{Holds};
+ghost use Rattle.tg_sharing.specs.Promise.Spans.{Has, IsActor};
 
 use crate::builder::{Derivation, Load};
 use crate::marks::{BridgeWay, Marks};
@@ -40,7 +40,7 @@ impl Derivation {
         marks: &Marks,
         vertex: u64,
     ) -> Result<u64, AllocError>
-        requires keeps { Keeps graph.now self.old.graph }
+        requires keeps { KeepsAll graph.now self.old.graph }
         requires marks { AreMarks graph.now marks.now }
         requires spanned { is_spanned marks.now vertex ≡ true }
         ensures continues { OnOk result (Continues self.old self.new) }
@@ -135,7 +135,7 @@ impl Derivation {
         first: u64,
         load: &Load,
     ) -> Result<Option<End>, AllocError>
-        requires keeps { Keeps graph.now self.old.graph }
+        requires keeps { KeepsAll graph.now self.old.graph }
         requires marks { AreMarks graph.now marks.now }
         requires first { IsActor graph.now first }
         requires bridged { is_bridged marks.now first ≡ true }

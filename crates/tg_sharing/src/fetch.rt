@@ -1,13 +1,13 @@
 //! How the goal's own vertex comes to have rights that a spanned vertex has. They go from hand to hand themselves, or, where
 //! a vertex on the way may be the one over which they are, an envoy goes: a new subject that has them.
 ghost use Rattle.std.specs.Prelude.{◌≡◌, ◌≢◌, ◌<◌, ◌≤◌, true, false, IfOk, OnOk, MatchOption};
-ghost use Rattle.tg_rights.specs.Letters.{is_none, grant};
-ghost use Rattle.tg_graph.specs.Rules.{last_serial};
-ghost use Rattle.tg_sharing.specs.Fetching.{IsBrought, IsEnvoy, IsSource, IsUnmarked};
-ghost use Rattle.tg_sharing.specs.Growing.{Continues, Draws, Keeps, both};
-ghost use Rattle.tg_sharing.specs.Marking.{AreMarks, is_bridged, is_spanned};
-ghost use Rattle.tg_sharing.specs.Paths.{Holds};
-ghost use Rattle.tg_sharing.specs.Spans.{Has, IsActor};
+ghost use Rattle.tg_rights.specs.Promise.Letters.{is_none, grant};
+ghost use Rattle.tg_graph.specs.Promise.Rules.{last_serial};
+ghost use Rattle.tg_sharing.specs.Inner.Fetching.{IsBrought, IsEnvoy, IsSource, IsUnmarked};
+ghost use Rattle.tg_sharing.specs.Inner.Growing.{Continues, TakesFrom, KeepsAll, take_and_grant};
+ghost use Rattle.tg_sharing.specs.Inner.Marking.{AreMarks, is_bridged, is_spanned};
+ghost use Rattle.tg_sharing.specs.Inner.Paths.{Holds};
+ghost use Rattle.tg_sharing.specs.Promise.Spans.{Has, IsActor};
 
 use crate::builder::{Derivation, Load, both};
 use crate::carry::End;
@@ -25,7 +25,7 @@ impl Derivation {
         end: End,
         load: &Load,
     ) -> Result<Option<u64>, AllocError>
-        requires keeps { Keeps graph.now self.old.graph }
+        requires keeps { KeepsAll graph.now self.old.graph }
         requires brought { IsBrought graph.now self.old.graph marks.now load.now end }
         requires some { is_none load.now.rights ≡ false }
         requires apart { marks.now.from ≢ load.now.over }
@@ -54,10 +54,10 @@ impl Derivation {
         rights: Rights,
         goal: &Goal,
     ) -> Result<(), AllocError>
-        requires keeps { Keeps graph.now self.old.graph }
+        requires keeps { KeepsAll graph.now self.old.graph }
         requires holder { IsActor graph.now holder }
-        requires draws { Draws self.old.graph holder at }
-        requires held { Holds self.old.graph holder both envoy }
+        requires draws { TakesFrom self.old.graph holder at }
+        requires held { Holds self.old.graph holder take_and_grant envoy }
         requires fresh { graph.now.next ≤ envoy }
         requires edge { Has graph.now at grant goal.now.from }
         requires envoy { IsEnvoy self.old.graph rights goal.now.to envoy }
@@ -87,9 +87,9 @@ impl Derivation {
         rights: Rights,
         goal: &Goal,
     ) -> Result<Option<u64>, AllocError>
-        requires keeps { Keeps graph.now self.old.graph }
+        requires keeps { KeepsAll graph.now self.old.graph }
         requires own { marks.now.from ≡ goal.now.from }
-        requires brought { IsBrought graph.now self.old.graph marks.now (record { rights = both; over = envoy }) end }
+        requires brought { IsBrought graph.now self.old.graph marks.now (record { rights = take_and_grant; over = envoy }) end }
         requires fresh { graph.now.next ≤ envoy }
         requires envoy { IsEnvoy self.old.graph rights goal.now.to envoy }
         requires some { is_none rights ≡ false }
@@ -125,8 +125,8 @@ impl Derivation {
     ) -> Result<(), AllocError>
         requires maker { IsActor self.old.graph maker }
         requires envoy { IsActor self.old.graph envoy }
-        requires held { Holds self.old.graph maker both envoy }
-        requires draws { Draws self.old.graph maker source }
+        requires held { Holds self.old.graph maker take_and_grant envoy }
+        requires draws { TakesFrom self.old.graph maker source }
         requires ready { Holds self.old.graph source rights to }
         requires some { is_none rights ≡ false }
         requires source { source ≢ envoy }
@@ -158,7 +158,7 @@ impl Derivation {
         requires source { IsSource graph.now self.old.graph marks.now goal.now rights source }
         requires first { IsActor graph.now first }
         requires bridged { is_bridged marks.now first ≡ true }
-        requires draws { Draws self.old.graph first source }
+        requires draws { TakesFrom self.old.graph first source }
         ensures continues { OnOk result (Continues self.old self.new) }
         ensures met { IfOk result (λ o. MatchOption o (last_serial < self.new.graph.next) (λ _. Holds self.new.graph goal.now.from rights goal.now.to)) }
     {
@@ -191,7 +191,7 @@ impl Derivation {
         requires source { IsSource graph.now self.old.graph marks.now goal.now rights source }
         requires first { IsActor graph.now first }
         requires bridged { is_bridged marks.now first ≡ true }
-        requires draws { Draws self.old.graph first source }
+        requires draws { TakesFrom self.old.graph first source }
         requires unmarked { IsUnmarked graph.now marks.now goal.now.to }
         ensures continues { OnOk result (Continues self.old self.new) }
         ensures met { IfOk result (λ o. MatchOption o (last_serial < self.new.graph.next) (λ _. Holds self.new.graph goal.now.from rights goal.now.to)) }

@@ -1,9 +1,9 @@
 //! Marks that follow from others along edges.
 ghost use Rattle.std.specs.Prelude.{◌≡◌, ◌<◌, ◌^◌, ◌||◌, true, false, IsTrue, OnOk, IfOk};
-ghost use Rattle.tg_graph.specs.Protection.{label as rights_over};
-ghost use Rattle.tg_rights.specs.Letters.{has, take, grant};
-ghost use Rattle.tg_sharing.specs.Spans.{AreClosed, Has};
-ghost use Rattle.tg_sharing.specs.Marking.{AreEdgesClosed, AreGrantClosed, AreMarks, ArePairClosed, AreTakeClosed, Goes, IsFollowed, IsKnown, is_bridged, is_spanned, marked, size};
+ghost use Rattle.tg_graph.specs.Promise.Protection.{label as rights_over};
+ghost use Rattle.tg_rights.specs.Promise.Letters.{has, take, grant};
+ghost use Rattle.tg_sharing.specs.Promise.Spans.{AreClosed, Has};
+ghost use Rattle.tg_sharing.specs.Inner.Marking.{AreEdgesClosed, AreGrantClosed, AreMarks, ArePairClosed, AreTakeClosed, Goes, IsFollowed, IsKnown, is_bridged, is_spanned, marked, size};
 
 use crate::marks::{BridgeWay, Marked, Marks, SpanWay};
 use crate::search::edges_from;

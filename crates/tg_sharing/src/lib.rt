@@ -12,7 +12,7 @@
 //! vertices, and `sharing` answers, `prospect` and `lookup` of many vertices at once.
 #![tactic(auto)]
 
-ghost use Rattle.tg_sharing.specs.Laws.{WithheldForEver};
+ghost use Rattle.tg_sharing.specs.Promise.Laws.{WithheldForEver};
 
 mod builder;
 mod carry;

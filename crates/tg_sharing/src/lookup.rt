@@ -1,10 +1,11 @@
 //! All vertices that could ever come to have rights over one, and all over which one could ever come to have them.
 ghost use Rattle.std.specs.Prelude.{◌≡◌, IfOk, false};
 ghost use Rattle.std.specs.List.{filter_map, list_any};
-ghost use Rattle.tg_rights.specs.Letters.{is_none};
-ghost use Rattle.tg_graph.specs.Protection.{IsVertex};
-ghost use Rattle.tg_sharing.specs.Lookups.{AreEnds, AreMany, IsListing, holder_goal, holder_of, is_unknown, present, target_goal, target_of};
-ghost use Rattle.tg_sharing.specs.Prospects.{IsTooMuch};
+ghost use Rattle.tg_rights.specs.Promise.Letters.{is_none};
+ghost use Rattle.tg_graph.specs.Promise.Protection.{IsVertex};
+ghost use Rattle.tg_sharing.specs.Promise.Lookups.{AreMany, IsListing, holder_goal, present, target_goal};
+ghost use Rattle.tg_sharing.specs.Inner.Lookups.{AreEnds, holder_of, is_unknown, target_found};
+ghost use Rattle.tg_sharing.specs.Promise.Prospects.{IsTooMuch};
 
 use crate::prospect::{Could, what_could, who_could};
 use crate::withheld_for_ever;
@@ -162,7 +163,7 @@ fn targets(
     rights: Rights,
     found: &[(u64, Rights)],
 ) -> Result<Vec<(u64, Rights)>, AllocError>
-    ensures { IfOk result (λ list. list.items ≡ filter_map (λ p. target_of graph.now rights from p.0 p.1) found.now) }
+    ensures { IfOk result (λ list. list.items ≡ filter_map (λ p. target_found graph.now rights from p.0 p.1) found.now) }
 {
     found
         .iter()
@@ -178,7 +179,7 @@ fn target(
     over: u64,
     label: Rights,
 ) -> Option<(u64, Rights)>
-    ensures { result ≡ target_of graph.now rights from over label }
+    ensures { result ≡ target_found graph.now rights from over label }
 {
     if label.contains(rights) {
         Some((over, present(graph, from, over, rights)))

@@ -1,7 +1,7 @@
 //! Marks: which vertices are spanned and which are bridged, and why.
 ghost use Rattle.std.specs.Prelude.{◌≡◌, ◌<◌, ◌+◌, true, false, None, Some, IsTrue, ◌↔◌, OnOk, IfOk};
-ghost use Rattle.tg_sharing.specs.Spans.{IsActor};
-ghost use Rattle.tg_sharing.specs.Marking.{AreMarks, Goes, IsBridge, IsNone, IsPathTo, IsSpan, AddsBridge, AddsSpan, size, is_bridged, is_spanned, span_of, bridge_of, marked};
+ghost use Rattle.tg_sharing.specs.Promise.Spans.{IsActor};
+ghost use Rattle.tg_sharing.specs.Inner.Marking.{AreMarks, Goes, IsBridge, IsNone, IsPathTo, IsSpan, AddsBridge, AddsSpan, size, is_bridged, is_spanned, span_of, bridge_of, marked};
 
 use std::alloc::{AllocError, Global};
 use std::collections::{HashMap, VecDeque};

@@ -1,10 +1,11 @@
 //! All that a vertex could ever come to have, and which vertices could ever come to have some rights.
 ghost use Rattle.std.specs.Prelude.{◌≡◌, ◌<◌, ◌⊎◌, ℕ, false, IfOk, OnOk, IsTrue, MatchOption, vec_len};
-ghost use Rattle.tg_graph.specs.Protection.{IsEdge, IsVertex, label as rights_over};
-ghost use Rattle.tg_graph.specs.Rules.{last_serial};
-ghost use Rattle.tg_sharing.specs.Growing.{Continues, Keeps};
-ghost use Rattle.tg_sharing.specs.Marking.{AreMarks};
-ghost use Rattle.tg_sharing.specs.Prospects.{AreCould, AreLabelsOf, IsCould, IsGathered, IsProspect, IsTooMuch};
+ghost use Rattle.tg_graph.specs.Promise.Protection.{IsEdge, IsVertex, label as rights_over};
+ghost use Rattle.tg_graph.specs.Promise.Rules.{last_serial};
+ghost use Rattle.tg_sharing.specs.Inner.Growing.{Continues, KeepsAll};
+ghost use Rattle.tg_sharing.specs.Inner.Marking.{AreMarks};
+ghost use Rattle.tg_sharing.specs.Promise.Prospects.{AreCould, AreLabelsOf, IsCould, IsProspect, IsTooMuch};
+ghost use Rattle.tg_sharing.specs.Inner.Prospects.{IsGathered};
 
 use crate::builder::Derivation;
 use crate::marks::Marks;
@@ -34,7 +35,7 @@ impl Derivation {
         over: u64,
         label: Rights,
     ) -> Result<bool, AllocError>
-        requires keeps { Keeps graph.now self.old.graph }
+        requires keeps { KeepsAll graph.now self.old.graph }
         requires marks { AreMarks graph.now marks.now }
         requires label { label ≡ rights_over graph.now source over }
         ensures continues { OnOk result (Continues self.old self.new) }
@@ -67,7 +68,7 @@ impl Derivation {
         marks: &Marks,
         most: usize,
     ) -> Result<bool, AllocError>
-        requires keeps { Keeps graph.now self.old.graph }
+        requires keeps { KeepsAll graph.now self.old.graph }
         requires marks { AreMarks graph.now marks.now }
         ensures continues { OnOk result (Continues self.old self.new) }
         ensures gathered { IfOk result (λ known. IsTrue known → (u y : ℕ) → IsEdge graph.now u y → IsGathered graph.now self.new.graph marks.now u y) }

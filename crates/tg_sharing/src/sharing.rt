@@ -1,12 +1,13 @@
 //! Whether rights can be shared, and by which steps.
 ghost use Rattle.std.specs.Prelude.{IsTrue, ◌↔◌, ◌≡◌, ◌≢◌, ℕ, true, false, IfOk, OnOk, MatchOption};
-ghost use Rattle.tg_rights.specs.Letters.{Right, is_none};
-ghost use Rattle.tg_graph.specs.Protection.{IsVertex};
-ghost use Rattle.tg_sharing.specs.Answers.{IsAnswer};
-ghost use Rattle.tg_sharing.specs.Fetching.{AreFound, IsFound, IsHolder, IsLacking, alone};
-ghost use Rattle.tg_sharing.specs.Growing.{Continues, Keeps};
-ghost use Rattle.tg_sharing.specs.Marking.{AreMarks, is_bridged, is_spanned};
-ghost use Rattle.tg_sharing.specs.Spans.{AreClosed};
+ghost use Rattle.tg_rights.specs.Promise.Letters.{Right, is_none};
+ghost use Rattle.tg_graph.specs.Promise.Protection.{IsVertex};
+ghost use Rattle.tg_sharing.specs.Promise.Answers.{IsAnswer};
+ghost use Rattle.tg_sharing.specs.Promise.Fetching.{alone};
+ghost use Rattle.tg_sharing.specs.Inner.Fetching.{AreFetched, IsFetched, IsHolder, IsLacking};
+ghost use Rattle.tg_sharing.specs.Inner.Growing.{Continues, KeepsAll};
+ghost use Rattle.tg_sharing.specs.Inner.Marking.{AreMarks, is_bridged, is_spanned};
+ghost use Rattle.tg_sharing.specs.Promise.Spans.{AreClosed};
 
 use crate::builder::Derivation;
 use crate::marks::Marks;
@@ -87,13 +88,13 @@ impl Derivation {
         right: Rights,
         goal: &Goal,
     ) -> Result<Found, AllocError>
-        requires keeps { Keeps graph.now self.old.graph }
+        requires keeps { KeepsAll graph.now self.old.graph }
         requires marks { AreMarks graph.now marks.now }
         requires own { marks.now.from ≡ goal.now.from }
         requires some { is_none right ≡ false }
         requires apart { goal.now.from ≢ goal.now.to }
         ensures continues { OnOk result (Continues self.old self.new) }
-        ensures found { IfOk result (IsFound graph.now self.new.graph marks.now right goal.now) }
+        ensures found { IfOk result (IsFetched graph.now self.new.graph marks.now right goal.now) }
     {
         if !goal.rights.contains(right) {
             return Ok(Found::Here);
@@ -118,12 +119,12 @@ impl Derivation {
         marks: &Marks,
         goal: &Goal,
     ) -> Result<Found, AllocError>
-        requires keeps { Keeps graph.now self.old.graph }
+        requires keeps { KeepsAll graph.now self.old.graph }
         requires marks { AreMarks graph.now marks.now }
         requires own { marks.now.from ≡ goal.now.from }
         requires apart { goal.now.from ≢ goal.now.to }
         ensures continues { OnOk result (Continues self.old self.new) }
-        ensures found { IfOk result (AreFound graph.now self.new.graph marks.now goal.now) }
+        ensures found { IfOk result (AreFetched graph.now self.new.graph marks.now goal.now) }
     {
         match self.share(alloc, graph, marks, Rights::read(), goal)? {
             Found::Nobody => return Ok(Found::Nobody),
@@ -156,13 +157,13 @@ impl Derivation {
         marks: &Marks,
         goal: &Goal,
     ) -> Result<Found, AllocError>
-        requires keeps { Keeps graph.now self.old.graph }
+        requires keeps { KeepsAll graph.now self.old.graph }
         requires marks { AreMarks graph.now marks.now }
         requires own { marks.now.from ≡ goal.now.from }
         requires some { is_none goal.now.rights ≡ false }
         requires apart { goal.now.from ≢ goal.now.to }
         ensures continues { OnOk result (Continues self.old self.new) }
-        ensures found { IfOk result (AreFound graph.now self.new.graph marks.now goal.now) }
+        ensures found { IfOk result (AreFetched graph.now self.new.graph marks.now goal.now) }
     {
         match self.share(alloc, graph, marks, goal.rights, goal)? {
             Found::Nobody => self.share_each(alloc, graph, marks, goal),

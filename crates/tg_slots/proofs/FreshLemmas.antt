@@ -1,12 +1,9 @@
--- A table of free slots, and the links that it is made of.
-use Rattle.std.proofs.Common.{◌≡◌, ℕ, zero, suc, ◌+◌, ◌<◌, ◌≤◌, List, ◌∷◌, length, Option, None, inl, inr, sym, ◌∙◌, ap, refl, arith, get_or, sum_by}
+-- A table of free slots.
+use Rattle.std.proofs.Common.{◌≡◌, ℕ, zero, suc, ◌+◌, ◌<◌, ◌≤◌, length, None, inl, inr, sym, ◌∙◌, refl, arith, get_or, sum_by}
 use Rattle.std.proofs.lemmas.List.Sums.{sum_by-cons}
 use Rattle.std.proofs.lemmas.Bool.{cases_eq}
-use Rattle.tg_lists.specs.Membership.{Contains, Distinct}
-use Rattle.tg_slots.specs.declared.slots.Occupant.{Occupant}
-use Rattle.tg_slots.specs.Table.{Free, mark_of, IsSound, if_free, nones, indices, fresh}
-use Rattle.tg_slots.specs.Inside.{links, unused}
-use Rattle.tg_slots.specs.Linked.{occupants}
+use Rattle.tg_lists.specs.Promise.Membership.{Contains, Distinct}
+use Rattle.tg_slots.specs.Promise.Table.{Free, mark_of, IsSound, if_free, nones, indices, fresh}
 
 pub nones_length : (n : ℕ) → length (nones n) ≡ n
 nones_length zero = refl
@@ -54,21 +51,3 @@ fresh_sound n =
       listed_grey = λ i h. absurd h;
       grey_once = tt;
     }
-
-pub indices_get_or : (i n j d : ℕ) → j < n → get_or (indices i n) j d ≡ i + j
-indices_get_or i zero j d w = absurd (omega arith)
-indices_get_or i (suc n) zero d w = omega arith
-indices_get_or i (suc n) (suc j) d w = let rest = indices_get_or (suc i) n j d (omega arith) in omega (arith, rest)
-
--- Slots that were never used are free, and lead to the next ones.
-pub unused_length : (i n : ℕ) → length (unused i n) ≡ n
-unused_length i zero = refl
-unused_length i (suc n) = let r = unused_length (suc i) n in omega (arith, r)
-
-pub unused_slots : (i n : ℕ) → occupants (unused i n) ≡ nones n
-unused_slots i zero = refl
-unused_slots i (suc n) = ap (λ (l : List (Option Occupant)). None ∷ l) (unused_slots (suc i) n)
-
-pub unused_links : (i n : ℕ) → links (unused i n) ≡ indices (suc i) n
-unused_links i zero = refl
-unused_links i (suc n) = ap (λ (l : List ℕ). suc i ∷ l) (unused_links (suc i) n)

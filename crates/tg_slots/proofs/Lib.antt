@@ -3,5 +3,4 @@ pub mod ShelfLemmas
 pub mod FreshLemmas
 pub mod ChainLemmas
 pub mod InsideLemmas
-pub mod UnusedLemmas
 pub mod StepLemmas

@@ -1,11 +1,11 @@
 -- Tints beside forms as one list of slots: what is read of it, and what each write leaves.
 use Rattle.std.proofs.Common.{◌≡◌, ◌≢◌, ℕ, ◌<◌, ◌≤◌, List, [], ◌∷◌, ◌++◌, length, inl, inr, Some, None, true, sym, ◌∙◌, subst, ap, refl, set, arith}
 use Rattle.std.specs.List.{All, slice_get}
-use Rattle.std.proofs.lemmas.Bool.{cases_lt}
+use Rattle.std.proofs.lemmas.Bool.{cases_lt, cond_above, cond_below}
 use Rattle.std.proofs.lemmas.List.{get_or_past, length-map, map-append, map-set}
 use Rattle.std.proofs.lemmas.List.Elements.{All-append, All-cons, All-nil, All-set}
 use Rattle.std.proofs.lemmas.Option.{get_or_from_slice_get, slice_get_within}
-use Rattle.tg_lists.specs.Columns.{HasLeft, HasRight, with_left, with_right}
+use Rattle.tg_lists.specs.Promise.Columns.{HasLeft, HasRight, with_left, with_right}
 use Rattle.tg_lists.proofs.ColumnsLemmas.{both_changed, beside, left_changed, right_changed, seen, there, with_both_set, with_left_set, with_right_set}
 use Rattle.tg_slots.specs.declared.colour.Colour.{Colour}
 use Rattle.tg_slots.specs.declared.colour.Colour.TheVariants.{White, Grey, Black}
@@ -14,17 +14,17 @@ use Rattle.tg_slots.specs.declared.shelf.Tint.{Tint}
 use Rattle.tg_slots.specs.declared.shelf.Tint.TheVariants as tint
 use Rattle.tg_slots.specs.declared.shelf.Form.{Form}
 use Rattle.tg_slots.specs.declared.shelf.Form.TheVariants as form
-use Rattle.tg_slots.specs.Table.{coloured, in_slot, with_text}
-use Rattle.tg_slots.specs.Linked.{Linked, at, blank, occupant_at}
-use Rattle.tg_slots.specs.Shelf.{Agrees, all_linked, colour_of, is_coloured, is_taken, kind_of, leading, link_of, linked, serial_of, telling, text_of, tint_of}
+use Rattle.tg_slots.specs.Promise.Table.{coloured, in_slot, with_slot_text}
+use Rattle.tg_slots.specs.Inner.Linked.{Linked, at, blank, occupant_at, written}
+use Rattle.tg_slots.specs.Inner.Shelf.{IsMatched, all_linked, colour_of, is_coloured, is_filled, form_kind, leading, link_of, linked, form_serial, telling, form_text, tint_of}
 
 -- A slot of two halves.
 abbrev slot_of : Tint × Form → Linked
 slot_of p = linked p.0 p.1
 
 -- The halves of a slot agree.
-agree_at : (ps : List (Tint × Form)) (i : ℕ) (p : Tint × Form) → All Agrees ps → slice_get ps i ≡ Some p → Agrees p
-agree_at ps i p k here = subst Agrees (get_or_from_slice_get ps i p p here) (k i p (slice_get_within ps i p here))
+agree_at : (ps : List (Tint × Form)) (i : ℕ) (p : Tint × Form) → All IsMatched ps → slice_get ps i ≡ Some p → IsMatched p
+agree_at ps i p k here = subst IsMatched (get_or_from_slice_get ps i p p here) (k i p (slice_get_within ps i p here))
 
 -- Past the last slot there is none, and a slot with a vertex is not past it.
 pub past : (ps : List (Tint × Form)) (i : ℕ) → length ps ≤ i → (length (all_linked ps) ≤ i) × (at (all_linked ps) i ≡ blank)
@@ -37,7 +37,7 @@ left_at : (ps : List (Tint × Form)) (i : ℕ) → occupant_at (all_linked ps) i
 left_at ps i some = let pair = there ps i (some_within ps i some) in (pair.0.0, record { other = pair.0.1; here = pair.1 })
 
 -- The colour in a slot is that of its tint.
-one_colour : (t : Tint) (f : Form) → is_coloured t ≡ is_taken f → colour_of t ≡ in_slot (λ o. o.colour) (linked t f).occupant
+one_colour : (t : Tint) (f : Form) → is_coloured t ≡ is_filled f → colour_of t ≡ in_slot (λ o. o.colour) (linked t f).occupant
 one_colour tint.Free (form.Free link) k = refl
 one_colour tint.Free (form.Taken kind link serial text) k = absurd (cc)
 one_colour tint.White (form.Free link) k = absurd (cc)
@@ -47,7 +47,7 @@ one_colour tint.Grey (form.Taken kind link serial text) k = refl
 one_colour tint.Black (form.Free link) k = absurd (cc)
 one_colour tint.Black (form.Taken kind link serial text) k = refl
 
-pub colour_read : (ps : List (Tint × Form)) (i : ℕ) (t : Tint) → All Agrees ps → HasLeft ps i t → colour_of t ≡ in_slot (λ o. o.colour) (occupant_at (all_linked ps) i)
+pub colour_read : (ps : List (Tint × Form)) (i : ℕ) (t : Tint) → All IsMatched ps → HasLeft ps i t → colour_of t ≡ in_slot (λ o. o.colour) (occupant_at (all_linked ps) i)
 colour_read ps i t k h =
     one_colour t h.other (agree_at ps i (t, h.other) k h.here)
     ∙ ap (λ (e : Linked). in_slot (λ o. o.colour) e.occupant) (sym (seen slot_of ps i (t, h.other) blank h.here))
@@ -55,9 +55,9 @@ colour_read ps i t k h =
 -- What a form holds is what the slot of its index holds.
 pub record Holds (es : List Linked) (i : ℕ) (f : Form) : Type 0 where
   pub within : i < length es
-  pub serial : serial_of f ≡ in_slot (λ o. o.serial) (occupant_at es i)
-  pub kind : kind_of f ≡ in_slot (λ o. o.kind) (occupant_at es i)
-  pub text : text_of f ≡ in_slot (λ o. o.text) (occupant_at es i)
+  pub serial : form_serial f ≡ in_slot (λ o. o.serial) (occupant_at es i)
+  pub kind : form_kind f ≡ in_slot (λ o. o.kind) (occupant_at es i)
+  pub text : form_text f ≡ in_slot (λ o. o.text) (occupant_at es i)
   pub link : link_of f ≡ (at es i).link
 
 held : (es : List Linked) (i : ℕ) (t : Tint) (f : Form) → i < length es → at es i ≡ linked t f → Holds es i f
@@ -84,68 +84,68 @@ read_form ps i f h =
 
 -- Pairs that agree, and the list that they are.
 pub record Becomes (ps : List (Tint × Form)) (es : List Linked) : Type 0 where
-  pub agree : All Agrees ps
+  pub agree : All IsMatched ps
   pub is : all_linked ps ≡ es
 
--- A free slot is appended, or written.
-pub appended : (ps : List (Tint × Form)) (link : ℕ) → All Agrees ps → Becomes (ps ++ (tint.Free, form.Free link) ∷ []) (all_linked ps ++ record { occupant = None; link = link } ∷ [])
-appended ps link k = record {
-  agree = All-append Agrees ps ((tint.Free, form.Free link) ∷ []) k (All-cons Agrees (tint.Free, form.Free link) [] refl (All-nil Agrees));
-  is = map-append slot_of ps ((tint.Free, form.Free link) ∷ []);
-}
+-- A free slot is written.
+pub freed : (ps : List (Tint × Form)) (i link : ℕ) → All IsMatched ps → Becomes (set ps i (tint.Free, form.Free link)) (set (all_linked ps) i (record { occupant = None; link = link }))
+freed ps i link k = record { agree = All-set IsMatched ps i (tint.Free, form.Free link) refl k; is = map-set slot_of ps i (tint.Free, form.Free link) }
 
-pub freed : (ps : List (Tint × Form)) (i link : ℕ) → All Agrees ps → Becomes (set ps i (tint.Free, form.Free link)) (set (all_linked ps) i (record { occupant = None; link = link }))
-freed ps i link k = record { agree = All-set Agrees ps i (tint.Free, form.Free link) refl k; is = map-set slot_of ps i (tint.Free, form.Free link) }
-
--- A vertex is written, with the link that was there.
-filled_one : (o : Occupant) (link : ℕ) → (is_coloured (tint_of o.colour) ≡ true) × (linked (tint_of o.colour) (form.Taken o.kind link o.serial o.text) ≡ record { occupant = Some o; link = link })
-filled_one o link = by o.colour where
+-- A vertex is written, in a slot or in the next one.
+filled_one : (o : Occupant) → (is_coloured (tint_of o.colour) ≡ true) × (linked (tint_of o.colour) (form.Taken o.kind 0 o.serial o.text) ≡ record { occupant = Some o; link = 0 })
+filled_one o = by o.colour where
   by : (c : Colour) → (is_coloured (tint_of c) ≡ true)
-      × (linked (tint_of c) (form.Taken o.kind link o.serial o.text) ≡ record { occupant = Some (record { serial = o.serial; kind = o.kind; colour = c; text = o.text }); link = link })
+      × (linked (tint_of c) (form.Taken o.kind 0 o.serial o.text) ≡ record { occupant = Some (record { serial = o.serial; kind = o.kind; colour = c; text = o.text }); link = 0 })
   by White = (refl, refl)
   by Grey = (refl, refl)
   by Black = (refl, refl)
 
-pub filled_slot : (ps : List (Tint × Form)) (i : ℕ) (o : Occupant) (f : Form) → All Agrees ps → HasRight ps i f
-    → Becomes (set ps i (tint_of o.colour, form.Taken o.kind (link_of f) o.serial o.text)) (set (all_linked ps) i (record { occupant = Some o; link = (at (all_linked ps) i).link }))
-filled_slot ps i o f k h =
-    let new = filled_one o (link_of f) in
-    let whole : Tint × Form = (tint_of o.colour, form.Taken o.kind (link_of f) o.serial o.text) in
-    record {
-      agree = All-set Agrees ps i whole new.0 k;
-      is = map-set slot_of ps i whole ∙ ap (set (all_linked ps) i) (new.1 ∙ ap (λ (n : ℕ). record { occupant = Some o; link = n }) (read_form ps i f h).link);
-    }
+-- The halves of a slot with a vertex that is in no list.
+abbrev pub filling : Occupant → Tint × Form
+filling o = (tint_of o.colour, form.Taken o.kind 0 o.serial o.text)
+
+pub filled_slot : (ps : List (Tint × Form)) (i : ℕ) (o : Occupant) → All IsMatched ps → i < length ps → Becomes (set ps i (filling o)) (written (all_linked ps) i (record { occupant = Some o; link = 0 }))
+filled_slot ps i o k within = record {
+  agree = All-set IsMatched ps i (filling o) (filled_one o).0 k;
+  is = map-set slot_of ps i (filling o) ∙ ap (set (all_linked ps) i) (filled_one o).1 ∙ cond_below i (length (all_linked ps)) _ _ (omega (arith, within, length-map ps slot_of));
+}
+
+pub filled_next : (ps : List (Tint × Form)) (i : ℕ) (o : Occupant) → All IsMatched ps → length ps ≤ i → Becomes (ps ++ filling o ∷ []) (written (all_linked ps) i (record { occupant = Some o; link = 0 }))
+filled_next ps i o k past = record {
+  agree = All-append IsMatched ps (filling o ∷ []) k (All-cons IsMatched (filling o) [] (filled_one o).0 (All-nil IsMatched));
+  is = map-append slot_of ps (filling o ∷ []) ∙ cond_above i (length (all_linked ps)) _ _ _ (omega (arith, past, length-map ps slot_of)) (ap (λ (e : Linked). all_linked ps ++ e ∷ []) (filled_one o).1);
+}
 
 -- A tint is written.
-tinted : (c : Colour) (t : Tint) (f : Form) → is_taken f ≡ true → (is_coloured (tint_of c) ≡ is_taken f) × (linked (tint_of c) f ≡ record { occupant = coloured c (linked t f).occupant; link = (linked t f).link })
+tinted : (c : Colour) (t : Tint) (f : Form) → is_filled f ≡ true → (is_coloured (tint_of c) ≡ is_filled f) × (linked (tint_of c) f ≡ record { occupant = coloured c (linked t f).occupant; link = (linked t f).link })
 tinted White t (form.Taken kind link serial text) k = (refl, refl)
 tinted Grey t (form.Taken kind link serial text) k = (refl, refl)
 tinted Black t (form.Taken kind link serial text) k = (refl, refl)
 tinted c t (form.Free link) k = absurd (cc)
 
-has_form : (t : Tint) (f : Form) → (linked t f).occupant ≢ None → is_taken f ≡ true
+has_form : (t : Tint) (f : Form) → (linked t f).occupant ≢ None → is_filled f ≡ true
 has_form t (form.Free link) k = absurd (k refl)
 has_form t (form.Taken kind link serial text) k = refl
 
-taken_at : (ps : List (Tint × Form)) (i : ℕ) (t : Tint) (f : Form) → slice_get ps i ≡ Some (t, f) → occupant_at (all_linked ps) i ≢ None → is_taken f ≡ true
+taken_at : (ps : List (Tint × Form)) (i : ℕ) (t : Tint) (f : Form) → slice_get ps i ≡ Some (t, f) → occupant_at (all_linked ps) i ≢ None → is_filled f ≡ true
 taken_at ps i t f here some = has_form t f (λ none. some (ap (λ (e : Linked). e.occupant) (seen slot_of ps i (t, f) blank here) ∙ none))
 
-pub painted : (ps : List (Tint × Form)) (i : ℕ) (c : Colour) → All Agrees ps → occupant_at (all_linked ps) i ≢ None
+pub painted : (ps : List (Tint × Form)) (i : ℕ) (c : Colour) → All IsMatched ps → occupant_at (all_linked ps) i ≢ None
     → Becomes (with_left ps i (tint_of c)) (set (all_linked ps) i (record { occupant = coloured c (occupant_at (all_linked ps) i); link = (at (all_linked ps) i).link }))
 painted ps i c k some =
     let h = left_at ps i some in
     let new = tinted c h.0 h.1.other (taken_at ps i h.0 h.1.other h.1.here some) in
     record {
-      agree = subst (All Agrees) (sym (with_left_set ps i h.0 (tint_of c) h.1)) (All-set Agrees ps i (tint_of c, h.1.other) new.0 k);
+      agree = subst (All IsMatched) (sym (with_left_set ps i h.0 (tint_of c) h.1)) (All-set IsMatched ps i (tint_of c, h.1.other) new.0 k);
       is = left_changed slot_of (λ (e : Linked). record { occupant = coloured c e.occupant; link = e.link }) ps i h.0 (tint_of c) blank h.1 new.1;
     }
 
 -- A tint is written, and a form that leads elsewhere.
-led : (t : Tint) (f : Form) (next : ℕ) → (is_taken (leading f next) ≡ is_taken f) × (linked t (leading f next) ≡ record { occupant = (linked t f).occupant; link = next })
+led : (t : Tint) (f : Form) (next : ℕ) → (is_filled (leading f next) ≡ is_filled f) × (linked t (leading f next) ≡ record { occupant = (linked t f).occupant; link = next })
 led t (form.Free link) next = (refl, refl)
 led t (form.Taken kind link serial text) next = (refl, refl)
 
-pub moved : (ps : List (Tint × Form)) (i : ℕ) (c : Colour) (next : ℕ) (f : Form) → All Agrees ps → occupant_at (all_linked ps) i ≢ None → HasRight (with_left ps i (tint_of c)) i f
+pub moved : (ps : List (Tint × Form)) (i : ℕ) (c : Colour) (next : ℕ) (f : Form) → All IsMatched ps → occupant_at (all_linked ps) i ≢ None → HasRight (with_left ps i (tint_of c)) i f
     → Becomes (with_right (with_left ps i (tint_of c)) i (leading f next)) (set (all_linked ps) i (record { occupant = coloured c (occupant_at (all_linked ps) i); link = next }))
 moved ps i c next f k some h' =
     let h = left_at ps i some in
@@ -153,29 +153,29 @@ moved ps i c next f k some h' =
     let new = led t f next in
     let dyed = tinted c t (leading f next) (new.0 ∙ taken_at ps i t f (beside ps i t (tint_of c) f h.1 h') some) in
     record {
-      agree = subst (All Agrees) (sym (with_both_set ps i (tint_of c) (leading f next))) (All-set Agrees ps i (tint_of c, leading f next) dyed.0 k);
+      agree = subst (All IsMatched) (sym (with_both_set ps i (tint_of c) (leading f next))) (All-set IsMatched ps i (tint_of c, leading f next) dyed.0 k);
       is = both_changed slot_of (λ (e : Linked). record { occupant = coloured c e.occupant; link = next }) ps i t (tint_of c) f (leading f next) blank h.1 h'
           (dyed.1 ∙ ap (λ (e : Linked). record { occupant = coloured c e.occupant; link = e.link }) new.1);
     }
 
-told : (t : Tint) (f : Form) (new : List ℕ) → (is_taken (telling f new) ≡ is_taken f) × (linked t (telling f new) ≡ record { occupant = with_text new (linked t f).occupant; link = (linked t f).link })
+told : (t : Tint) (f : Form) (new : List ℕ) → (is_filled (telling f new) ≡ is_filled f) × (linked t (telling f new) ≡ record { occupant = with_slot_text new (linked t f).occupant; link = (linked t f).link })
 told t (form.Free link) new = (refl, refl)
 told t (form.Taken kind link serial text) new = (refl, refl)
 
 -- A text is replaced: there was one, and the vertex has the new one.
 pub record Tells (ps : List (Tint × Form)) (i : ℕ) (new : List ℕ) (f : Form) : Type 0 where
-  pub taken : is_taken f ≡ true
-  pub text : in_slot (λ o. o.text) (occupant_at (all_linked ps) i) ≡ text_of f
-  pub becomes : Becomes (with_right ps i (telling f new)) (set (all_linked ps) i (record { occupant = with_text new (occupant_at (all_linked ps) i); link = (at (all_linked ps) i).link }))
+  pub taken : is_filled f ≡ true
+  pub text : in_slot (λ o. o.text) (occupant_at (all_linked ps) i) ≡ form_text f
+  pub becomes : Becomes (with_right ps i (telling f new)) (set (all_linked ps) i (record { occupant = with_slot_text new (occupant_at (all_linked ps) i); link = (at (all_linked ps) i).link }))
 
-pub tells : (ps : List (Tint × Form)) (i : ℕ) (new : List ℕ) (f : Form) → All Agrees ps → occupant_at (all_linked ps) i ≢ None → HasRight ps i f → Tells ps i new f
+pub tells : (ps : List (Tint × Form)) (i : ℕ) (new : List ℕ) (f : Form) → All IsMatched ps → occupant_at (all_linked ps) i ≢ None → HasRight ps i f → Tells ps i new f
 tells ps i new f k some h =
     let n = told h.other f new in
     record {
       taken = taken_at ps i h.other f h.here some;
       text = sym (read_form ps i f h).text;
       becomes = record {
-        agree = subst (All Agrees) (sym (with_right_set ps i f (telling f new) h)) (All-set Agrees ps i (h.other, telling f new) (agree_at ps i (h.other, f) k h.here ∙ sym n.0) k);
-        is = right_changed slot_of (λ (e : Linked). record { occupant = with_text new e.occupant; link = e.link }) ps i f (telling f new) blank h n.1;
+        agree = subst (All IsMatched) (sym (with_right_set ps i f (telling f new) h)) (All-set IsMatched ps i (h.other, telling f new) (agree_at ps i (h.other, f) k h.here ∙ sym n.0) k);
+        is = right_changed slot_of (λ (e : Linked). record { occupant = with_slot_text new e.occupant; link = e.link }) ps i f (telling f new) blank h n.1;
       };
     }

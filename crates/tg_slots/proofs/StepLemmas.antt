@@ -1,61 +1,34 @@
 -- What each call does to linked slots: the invariant holds of them, and the table that they show is the one promised.
-use Rattle.std.proofs.Common.{◌≡◌, ◌≢◌, ℕ, zero, suc, ◌+◌, ◌-◌, ◌<◌, ◌≤◌, List, [], ◌∷◌, ◌++◌, length, Option, Some, None, ◌⊎◌, inl, inr, sym, ◌∙◌, subst, ap, refl, set, get_or, arith, length-set, length-append, eqb, ltb, true, false, eq-eqb, Bor, IfSome, MatchOption}
+use Rattle.std.proofs.Common.{◌≡◌, ◌≢◌, ℕ, suc, ◌+◌, ◌-◌, ◌<◌, ◌≤◌, List, [], ◌∷◌, ◌++◌, length, Option, Some, None, ◌⊎◌, inl, inr, sym, ◌∙◌, subst, ap, refl, set, get_or, min, arith, length-set, length-append, ltb, Bor, IfSome, MatchOption}
 use Rattle.std.specs.Option.{option_map}
-use Rattle.std.proofs.lemmas.Bool.{cases_eq, cases_lt, ne_eqb, lt-ltb, le-ltb}
-use Rattle.std.proofs.Math.Seq.{map-set_same}
-use Rattle.tg_lists.specs.Membership.{Contains}
-use Rattle.tg_slots.specs.Linked.{Linked, Shelved, at, occupant_at, occupants}
+use Rattle.std.proofs.lemmas.Bool.{cases_lt, cond_both, ltb-false, ltb-true}
+use Rattle.std.proofs.lemmas.List.{get_or_past, length-map, map-append, map-set, set-get_or}
+use Rattle.tg_lists.specs.Promise.Membership.{Contains, Distinct}
+use Rattle.tg_lists.proofs.MembershipLemmas.{contains_left}
+use Rattle.tg_slots.specs.Inner.Linked.{Linked, Shelved, at, blank, occupant_at, occupants, written}
 use Rattle.tg_slots.specs.declared.slots.Occupant.{Occupant}
 use Rattle.tg_slots.specs.declared.slots.Slots.TheInside.{Inside}
 use Rattle.tg_slots.specs.declared.colour.Colour.{Colour}
 use Rattle.tg_slots.specs.declared.colour.Colour.TheVariants.{White, Grey, Black}
-use Rattle.tg_slots.specs.Table.{Table, mark, mark_of, Has, Free, IsSound, in_slot, slot, coloured, recoloured, with_text, fresh, indices}
-use Rattle.tg_slots.specs.Chain.{Chain}
-use Rattle.tg_slots.specs.Inside.{links, unused, filled, all, table, IsBehind, IsInside, IsProvided}
+use Rattle.tg_slots.specs.Promise.Table.{Table, mark, mark_of, Has, Free, IsSound, in_slot, slot, coloured, recoloured, with_slot_text, fresh, indices, nones}
+use Rattle.tg_slots.specs.Inner.Chain.{IndexChain}
+use Rattle.tg_slots.specs.Inner.Inside.{links, table, Shows, IsInside}
 use Rattle.tg_slots.proofs.TableLemmas.{within_table, sound-push_grey, sound-pop_grey, sound-take_free, sound-give_back, sound-painted, sound-set_text, grey_one}
-use Rattle.tg_slots.proofs.FreshLemmas.{indices_length, indices_get_or, fresh_sound, unused_length, unused_slots, unused_links}
-use Rattle.tg_slots.proofs.ChainLemmas.{chain_set, chain_push, chain_first, chain_up}
-use Rattle.tg_slots.proofs.InsideLemmas.{Shows, Rests, shows_table, shows_inside, length_map, links_set, occupants_set, link_read, occupant_read}
-use Rattle.tg_slots.proofs.UnusedLemmas.{used_within, read_all, unused_free, written, behind_taken, filled_more, behind_more}
+use Rattle.tg_slots.proofs.FreshLemmas.{fresh_sound, indices_length}
+use Rattle.tg_slots.proofs.ChainLemmas.{chain_set, chain_more, chain_push, chain_first, chain_past}
+use Rattle.tg_slots.proofs.InsideLemmas.{shows_table, slot_read, link_read, slots_set, slots_more}
 
 pub record Leaves (s : Inside) (t : Table) : Type 0 where
   pub kept : IsInside s
   pub shows : table s ≡ t
 
-leaves : (end : ℕ) (s : Inside) (t : Table) → Shows end s t → s.free_count ≡ length t.free → end ≤ 65536 → Rests s.entries s.size t.free → Leaves s t
-leaves end s t k count most rests = record { kept = shows_inside end s t k count most rests; shows = shows_table end s t k }
-
--- As many slots were used as before.
-rests : (s : Inside) (v : Shelved) → length v.items ≡ length s.entries.items → s.size ≤ v.room → IsInside s → Rests v s.size (table s).free
-rests s v same room k = record { used = (let used = k.used in omega arith); room = room; behind = subst (λ (n : ℕ). IsBehind n s.size (table s).free) (sym same) k.behind }
-
--- An occupied slot is one of those that were used so far.
-pub taken_within : (s : Inside) (i : ℕ) → mark (table s) i ≢ Free → i < length s.entries.items
-taken_within s i taken = elim (cases_lt i (length s.entries.items)) [ inl w ↦ w | inr past ↦ absurd (taken (ap mark_of (unused_free s.entries.items i s.size past))) ]
-
-pub entry_within : (s : Inside) (i : ℕ) (c : Colour) → mark (table s) i ≡ Has c → i < length s.entries.items
-entry_within s i c w = taken_within s i (λ f. absurd (cc))
-
--- What was read of a slot that was used is what the table has there.
-pub slot_read : (s : Inside) (i : ℕ) (old : Linked) → i < length s.entries.items → old ≡ get_or s.entries.items i old → old.occupant ≡ slot (table s) i
-slot_read s i old within read = occupant_read (all s) i old (used_within s.entries.items i s.size within) (read ∙ read_all s.entries.items i s.size old within)
-
--- The slots that were used, with free ones behind them, are those of the table.
-pub at_read : (es : List Linked) (i : ℕ) → i < length es → at es i ≡ get_or es i (at es i)
-at_read [] i within = absurd (omega (arith, within))
-at_read (e ∷ es) zero within = refl
-at_read (e ∷ es) (suc i) within = at_read es i (omega (arith, within))
-
-at_past : (es : List Linked) (i : ℕ) → length es ≤ i → occupant_at es i ≡ None
-at_past [] i past = refl
-at_past (e ∷ es) zero past = absurd (omega (arith, past))
-at_past (e ∷ es) (suc i) past = at_past es i (omega (arith, past))
-
-pub slot_at : (s : Inside) (i : ℕ) → occupant_at s.entries.items i ≡ slot (table s) i
-slot_at s i = elim (cases_lt i (length s.entries.items)) [
-  | inl w ↦ slot_read s i (at s.entries.items i) w (at_read s.entries.items i w)
-  | inr past ↦ at_past s.entries.items i past ∙ sym (unused_free s.entries.items i s.size past)
-]
+leaves : (s : Inside) (t : Table) → Shows s.size s.entries.items s.free s.grey t → s.free_count ≡ length t.free → s.size ≤ 65536 → s.size ≤ s.entries.room → Leaves s t
+leaves s t k count most room =
+    let is : table s ≡ t = shows_table s.size s.entries.items s.free s.grey t k in
+    record {
+      kept = record { shown = subst (λ (u : Table). Shows s.size s.entries.items s.free s.grey u) (sym is) k; count = count ∙ ap (λ (u : Table). length u.free) (sym is); size = most; room = room };
+      shows = is;
+    }
 
 -- What is read of a slot, in the words of the table.
 pub colour_shown : (o : Option Occupant) → MatchOption (in_slot (λ o. o.colour) o) (mark_of o ≡ Free) (λ c. mark_of o ≡ Has c)
@@ -71,10 +44,6 @@ pub old_text : (o : Option Occupant) (old : List ℕ) → in_slot (λ o. o.text)
 old_text None old e = tt
 old_text (Some o) old e = let same : o.text ≡ old = cc in sym same
 
--- A slot of some colour has a vertex.
-pub some_at : (s : Inside) (i : ℕ) (c : Colour) → mark (table s) i ≡ Has c → occupant_at s.entries.items i ≢ None
-some_at s i c w none = let free : mark (table s) i ≡ Free = ap mark_of (sym (slot_at s i) ∙ none) in cc
-
 -- A slot of one mark is not in the list of the other.
 not_free : (t : Table) (i : ℕ) (c : Colour) → IsSound t → mark t i ≡ Has c → Contains t.free i → ⊥
 not_free t i c s w h = let f = (s.listed_free i h).1 in absurd (cc)
@@ -89,114 +58,210 @@ black_out t i s b h = let f = (s.listed_grey i h).1 in absurd (cc)
 pub pale : (c : Colour) → (c ≡ White) ⊎ (c ≡ Black) → grey_one (Has c) ≡ 0
 pale c h = elim h [ inl w ↦ ap (λ (k : Colour). grey_one (Has k)) w | inr b ↦ ap (λ (k : Colour). grey_one (Has k)) b ]
 
--- All that changed is an entry's vertex.
-record Repaints (es es' : List Linked) (i : ℕ) (o : Option Occupant) : Type 0 where
-  size : length es' ≡ length es
-  links : links es' ≡ links es
-  slots : occupants es' ≡ set (occupants es) i o
+free_out : (t : Table) (i : ℕ) → IsSound t → Contains t.free i → Contains t.grey i → ⊥
+free_out t i s h l = let f = (s.listed_free i h).1 in let g = (s.listed_grey i l).1 in absurd (cc)
 
-repaints : (es es' : List Linked) (i : ℕ) (old new : Linked) (o : Option Occupant) → old ≡ get_or es i old → new.link ≡ old.link → new.occupant ≡ o → es' ≡ set es i new → Repaints es es' i o
-repaints es es' i old new o read link is ev = record {
-  size = ap length ev ∙ length-set es i new;
-  links = ap links ev ∙ map-set_same (λ (x : Linked). x.link) es i new old (link ∙ ap (λ (x : Linked). x.link) read);
-  slots = ap occupants ev ∙ occupants_set es i new ∙ ap (set (occupants es) i) is;
-}
+-- A free slot was taken for a vertex.
+pub record Took (size : ℕ) (es : List Linked) (grey : ℕ) (t : Table) (next id : ℕ) (o : Occupant) : Type 0 where
+  pub rest : List ℕ
+  pub is : t.free ≡ id ∷ rest
+  pub shows : Shows size es next grey (record t { slots = set t.slots id (Some o); free = rest })
 
--- One of the slots that were used is written, in the room that there was.
+module _ (size : ℕ) (es : List Linked) (free grey : ℕ) (t : Table) (k : Shows size es free grey t) where
+  -- What was read of a slot is what the table has there, and an occupied one was used.
+  pub slot_at : (i : ℕ) → occupant_at es i ≡ slot t i
+  slot_at i = slot_read es (size - length es) i ∙ ap (λ (l : List (Option Occupant)). get_or l i None) k.slots
+
+  pub taken_within : (i : ℕ) → mark t i ≢ Free → i < length es
+  taken_within i taken = elim (cases_lt i (length es)) [
+    | inl w ↦ w
+    | inr past ↦ absurd (taken (ap mark_of (sym (slot_at i) ∙ ap (λ (e : Linked). e.occupant) (get_or_past es i blank past))))
+  ]
+
+  pub entry_within : (i : ℕ) (c : Colour) → mark t i ≡ Has c → i < length es
+  entry_within i c w = taken_within i (λ f. absurd (cc))
+
+  pub some_at : (i : ℕ) (c : Colour) → mark t i ≡ Has c → occupant_at es i ≢ None
+  some_at i c w none = let free : mark t i ≡ Free = ap mark_of (sym (slot_at i) ∙ none) in cc
+
+  -- A slot that was used is written: its vertex, as many slots as before, and chains in which it is not.
+  slots_then : (i : ℕ) (e : Linked) → i < length es → occupants (set es i e) ++ nones (size - length (set es i e)) ≡ set t.slots i e.occupant
+  slots_then i e w = slots_set size es i e w ∙ ap (λ (l : List (Option Occupant)). set l i e.occupant) k.slots
+
+  used_then : (i : ℕ) (e : Linked) → length (set es i e) ≤ size
+  used_then i e = let used = k.used in omega (arith, used, length-set es i e)
+
+  listed_then : (l rest : List ℕ) (i : ℕ) (e : Linked) → l ≡ rest ++ indices (length es) (size - length es) → l ≡ rest ++ indices (length (set es i e)) (size - length (set es i e))
+  listed_then l rest i e is = is ∙ ap (λ (n : ℕ). rest ++ indices n (size - n)) (sym (length-set es i e))
+
+  chain_then : (i : ℕ) (e : Linked) (head : ℕ) (l : List ℕ) → (Contains l i → ⊥) → IndexChain size (links es) head l → IndexChain size (links (set es i e)) head l
+  chain_then i e head l out c = subst (λ (ls : List ℕ). IndexChain size ls head l) (sym (map-set (λ (x : Linked). x.link) es i e)) (chain_set size (links es) i e.link head l out c)
+
+  front_then : (i : ℕ) (o : Option Occupant) (head : ℕ) (l : List ℕ) → i < length es → (Contains l i → ⊥) → IndexChain size (links es) head l → IndexChain size (links (set es i (record { occupant = o; link = head }))) i (i ∷ l)
+  front_then i o head l w out c =
+      subst (λ (ls : List ℕ). IndexChain size ls i (i ∷ l)) (sym (map-set (λ (x : Linked). x.link) es i (record { occupant = o; link = head })))
+      (chain_push size (links es) i head l (omega (arith, w, length-map es (λ (x : Linked). x.link))) out c)
+
+  not_rest : (i : ℕ) (c : Colour) → mark t i ≡ Has c → Contains k.rest i → ⊥
+  not_rest i c w h = not_free t i c k.sound w (subst (λ (l : List ℕ). Contains l i) (sym k.listed) (contains_left k.rest (indices (length es) (size - length es)) i h))
+
+  -- A vertex changes, and no link does.
+  pub repainted : (f : Option Occupant → Option Occupant) (i : ℕ) → i < length es → IsSound (record t { slots = set t.slots i (f (slot t i)) })
+      → Shows size (set es i (record { occupant = f (occupant_at es i); link = (at es i).link })) free grey (record t { slots = set t.slots i (f (slot t i)) })
+  repainted f i w sound =
+      let e : Linked = record { occupant = f (occupant_at es i); link = (at es i).link } in
+      let same : links (set es i e) ≡ links es = map-set (λ (x : Linked). x.link) es i e ∙ ap (set (links es) i) (sym (link_read es i size w)) ∙ set-get_or (links es) i size in
+      record {
+        used = used_then i e;
+        slots = slots_then i e w ∙ ap (λ (o : Option Occupant). set t.slots i (f o)) (slot_at i);
+        rest = k.rest;
+        listed = listed_then t.free k.rest i e k.listed;
+        free = subst (λ (l : List ℕ). IndexChain size l free k.rest) (sym same) k.free;
+        grey = subst (λ (l : List ℕ). IndexChain size l grey t.grey) (sym same) k.grey;
+        sound = sound;
+      }
+
+  -- A white slot turns grey, in front of the grey list.
+  pub greyed : (i : ℕ) → mark t i ≡ Has White → Shows size (set es i (record { occupant = coloured Grey (occupant_at es i); link = grey })) free i (record t { slots = recoloured t i Grey; grey = i ∷ t.grey })
+  greyed i w =
+      let e : Linked = record { occupant = coloured Grey (occupant_at es i); link = grey } in
+      let within = entry_within i White w in
+      record {
+        used = used_then i e;
+        slots = slots_then i e within ∙ ap (λ (o : Option Occupant). set t.slots i (coloured Grey o)) (slot_at i);
+        rest = k.rest;
+        listed = listed_then t.free k.rest i e k.listed;
+        free = chain_then i e free k.rest (not_rest i White w) k.free;
+        grey = front_then i (coloured Grey (occupant_at es i)) grey t.grey within (not_grey t i k.sound w) k.grey;
+        sound = sound-push_grey t i k.sound w;
+      }
+
+  -- A white slot is freed, in front of the free list.
+  pub freed : (i : ℕ) → mark t i ≡ Has White → Shows size (set es i (record { occupant = None; link = free })) i grey (record t { slots = set t.slots i None; free = i ∷ t.free })
+  freed i w =
+      let e : Linked = record { occupant = None; link = free } in
+      let within = entry_within i White w in
+      record {
+        used = used_then i e;
+        slots = slots_then i e within;
+        rest = i ∷ k.rest;
+        listed = ap (λ (l : List ℕ). i ∷ l) (listed_then t.free k.rest i e k.listed);
+        free = front_then i None free k.rest within (not_rest i White w) k.free;
+        grey = chain_then i e grey t.grey (not_grey t i k.sound w) k.grey;
+        sound = sound-give_back t i k.sound w;
+      }
+
+  -- The first free one of the slots that were used is taken.
+  took_used : (o : Occupant) → free < length es → grey_one (Has o.colour) ≡ 0 → Took size (set es free (record { occupant = Some o; link = 0 })) grey t (get_or (links es) free size) free o
+  took_used o w pale =
+      let e : Linked = record { occupant = Some o; link = 0 } in
+      let f = chain_first size (links es) free k.rest (let used = k.used in omega arith) k.free in
+      let is : t.free ≡ free ∷ (f.rest ++ indices (length es) (size - length es)) = k.listed ∙ ap (λ (l : List ℕ). l ++ indices (length es) (size - length es)) f.is in
+      let once : Distinct (free ∷ (f.rest ++ indices (length es) (size - length es))) = subst (λ (l : List ℕ). Distinct l) is k.sound.free_once in
+      let first : Contains t.free free = subst (λ (l : List ℕ). Contains l free) (sym is) (inl refl) in
+      record {
+        rest = f.rest ++ indices (length es) (size - length es);
+        is = is;
+        shows = record {
+          used = used_then free e;
+          slots = slots_then free e w;
+          rest = f.rest;
+          listed = listed_then (f.rest ++ indices (length es) (size - length es)) f.rest free e refl;
+          free = chain_then free e (get_or (links es) free size) f.rest (λ h. once.0 (contains_left f.rest (indices (length es) (size - length es)) free h)) f.chain;
+          grey = chain_then free e grey t.grey (free_out t free k.sound first) k.grey;
+          sound = sound-take_free t free (f.rest ++ indices (length es) (size - length es)) o k.sound is pale;
+        };
+      }
+
+  -- The first one that was never used is taken, since all that were used are.
+  took_next : (o : Occupant) → length es ≤ free → length es < size → grey_one (Has o.colour) ≡ 0 → Took size (es ++ record { occupant = Some o; link = 0 } ∷ []) grey t size (length es) o
+  took_next o past w pale =
+      let e : Linked = record { occupant = Some o; link = 0 } in
+      let empty : k.rest ≡ [] = chain_past size (links es) free k.rest (omega (arith, past, length-map es (λ (x : Linked). x.link))) k.free in
+      let long : length (es ++ e ∷ []) ≡ suc (length es) = omega (arith, length-append es (e ∷ [])) in
+      let left : size - length es ≡ suc (size - suc (length es)) = omega arith in
+      let is : t.free ≡ length es ∷ indices (suc (length es)) (size - suc (length es)) = k.listed ∙ ap (λ (l : List ℕ). l ++ indices (length es) (size - length es)) empty ∙ ap (indices (length es)) left in
+      record {
+        rest = indices (suc (length es)) (size - suc (length es));
+        is = is;
+        shows = record {
+          used = omega arith;
+          slots = slots_more size es e w ∙ ap (λ (l : List (Option Occupant)). set l (length es) (Some o)) k.slots;
+          rest = [];
+          listed = ap (λ (n : ℕ). indices n (size - n)) (sym long);
+          free = refl;
+          grey = subst (λ (l : List ℕ). IndexChain size l grey t.grey) (sym (map-append (λ (x : Linked). x.link) es (e ∷ []))) (chain_more size (links es) 0 grey t.grey k.grey);
+          sound = sound-take_free t (length es) (indices (suc (length es)) (size - suc (length es))) o k.sound is pale;
+        };
+      }
+
+  pub took : (o : Occupant) (id next : ℕ) → id ≡ min free (length es) → id < size → next ≡ get_or (links es) id size → grey_one (Has o.colour) ≡ 0 → Took size (written es id (record { occupant = Some o; link = 0 })) grey t next id o
+  took o id next at below on pale =
+      let e : Linked = record { occupant = Some o; link = 0 } in
+      cond_both (ltb id (length es)) (set es id e) (es ++ e ∷ []) (λ (l : List Linked). Took size l grey t next id o)
+      (λ test.
+      let less = ltb-true id (length es) test in
+      let same : free ≡ id = omega arith in
+      subst (λ (n : ℕ). Took size (set es id e) grey t n id o) (sym on) (subst (λ (i : ℕ). Took size (set es i e) grey t (get_or (links es) i size) i o) same (took_used o (omega arith) pale)))
+      (λ test.
+      let past = ltb-false id (length es) test in
+      let same : length es ≡ id = omega arith in
+      let end : get_or (links es) id size ≡ size = get_or_past (links es) id size (omega (arith, same, length-map es (λ (x : Linked). x.link))) in
+      subst (λ (n : ℕ). Took size (es ++ e ∷ []) grey t n id o) (sym (on ∙ end)) (subst (λ (i : ℕ). Took size (es ++ e ∷ []) grey t size i o) same (took_next o (omega arith) (omega arith) pale)))
+
+  -- There is a free one if that index is one of a slot; else there is none.
+  pub some_free : (id : ℕ) → id ≡ min free (length es) → id < size → 1 ≤ length t.free
+  some_free id at below =
+      let listed = ap length k.listed in
+      let used = k.used in
+      by k.rest k.free (omega (arith, listed, length-append k.rest (indices (length es) (size - length es)), indices_length (length es) (size - length es))) where
+        by : (rest : List ℕ) → IndexChain size (links es) free rest → length t.free ≡ length rest + (size - length es) → 1 ≤ length t.free
+        by [] c all = let end : free ≡ size = c in omega arith
+        by (j ∷ rest) c all = omega arith
+
+  pub full : size ≤ min free (length es) → t.free ≡ []
+  full past =
+      let empty : k.rest ≡ [] = chain_past size (links es) free k.rest (omega (arith, past, length-map es (λ (x : Linked). x.link))) k.free in
+      let none : size - length es ≡ 0 = omega arith in
+      k.listed ∙ ap (λ (l : List ℕ). l ++ indices (length es) (size - length es)) empty ∙ ap (indices (length es)) none
+
+-- The same from the steps of the code, one after another: one of the slots that were used is written, in the room that
+-- there was.
 abbrev pub Writes : Inside → Shelved → ℕ → Linked → Type 0
 Writes s v i new = v ≡ record s.entries { items = set s.entries.items i new }
 
--- The slot of an index, as it was among those that were used and among all.
-met : (s : Inside) (i : ℕ) → i < length s.entries.items → at s.entries.items i ≡ get_or (all s) i (at s.entries.items i)
-met s i within = at_read s.entries.items i within ∙ read_all s.entries.items i s.size (at s.entries.items i) within
+module _ (s : Inside) (v : Shelved) (i : ℕ) (k : IsInside s) where
+  written_so : (e : Linked) (t : Table) (free grey count : ℕ) → Writes s v i e → Shows s.size (set s.entries.items i e) free grey t → count ≡ length t.free → Leaves (record { entries = v; free = free; grey = grey; free_count = count; size = s.size }) t
+  written_so e t free grey count is shows counted =
+      leaves (record { entries = v; free = free; grey = grey; free_count = count; size = s.size }) t (subst (λ (u : Shelved). Shows s.size u.items free grey t) (sym is) shows) counted k.size
+      (let room = k.room in let same = ap (λ (u : Shelved). u.room) is in omega arith)
 
--- A black slot turns white, or a grey one out of the list black.
-pub leaves-paint : (s : Inside) (v : Shelved) (i : ℕ) (c d : Colour) → IsInside s → mark (table s) i ≡ Has c → (Contains (table s).grey i → ⊥)
-    → Writes s v i (record { occupant = coloured d (occupant_at s.entries.items i); link = (at s.entries.items i).link }) → Leaves (record s { entries = v }) (record (table s) { slots = recoloured (table s) i d })
-leaves-paint s v i c d k w out is =
-    let within : i < length s.entries.items = entry_within s i c w in
-    let old = at s.entries.items i in
-    let new : Linked = record { occupant = coloured d old.occupant; link = old.link } in
-    let done = written s.entries v s.size i new within (ap (λ (u : Shelved). u.items) is) in
-    let vertex : coloured d old.occupant ≡ coloured d (slot (table s) i) = ap (coloured d) (slot_at s i) in
-    let r = repaints (all s) (filled v.items s.size) i old new (coloured d (slot (table s) i)) (met s i within) refl vertex done.all in
-    leaves (length (all s)) (record s { entries = v }) (record (table s) { slots = recoloured (table s) i d }) (record {
-      size = r.size;
-      slots = r.slots;
-      free = subst (λ (l : List ℕ). Chain (length (all s)) l s.free (table s).free) (sym r.links) k.free_ends;
-      grey = subst (λ (l : List ℕ). Chain (length (all s)) l s.grey (table s).grey) (sym r.links) k.grey_ends;
-      sound = sound-painted (table s) i c d k.sound w out;
-    }) k.count k.size (rests s v done.same (rw is k.room) k)
+  -- A black slot turns white, or a grey one out of the list black.
+  pub leaves-paint : (c d : Colour) → mark (table s) i ≡ Has c → (Contains (table s).grey i → ⊥)
+      → Writes s v i (record { occupant = coloured d (occupant_at s.entries.items i); link = (at s.entries.items i).link }) → Leaves (record s { entries = v }) (record (table s) { slots = recoloured (table s) i d })
+  leaves-paint c d w out is =
+      written_so (record { occupant = coloured d (occupant_at s.entries.items i); link = (at s.entries.items i).link }) (record (table s) { slots = recoloured (table s) i d }) s.free s.grey s.free_count is
+      (repainted s.size s.entries.items s.free s.grey (table s) k.shown (coloured d) i (entry_within s.size s.entries.items s.free s.grey (table s) k.shown i c w) (sound-painted (table s) i c d k.shown.sound w out)) k.count
 
--- The text of a vertex is replaced.
-pub leaves-set_text : (s : Inside) (v : Shelved) (i : ℕ) (x : List ℕ) → IsInside s → mark (table s) i ≢ Free
-    → Writes s v i (record { occupant = with_text x (occupant_at s.entries.items i); link = (at s.entries.items i).link })
-    → Leaves (record s { entries = v }) (record (table s) { slots = set (table s).slots i (with_text x (slot (table s) i)) })
-leaves-set_text s v i x k taken is =
-    let within : i < length s.entries.items = taken_within s i taken in
-    let old = at s.entries.items i in
-    let new : Linked = record { occupant = with_text x old.occupant; link = old.link } in
-    let done = written s.entries v s.size i new within (ap (λ (u : Shelved). u.items) is) in
-    let vertex : with_text x old.occupant ≡ with_text x (slot (table s) i) = ap (with_text x) (slot_at s i) in
-    let r = repaints (all s) (filled v.items s.size) i old new (with_text x (slot (table s) i)) (met s i within) refl vertex done.all in
-    leaves (length (all s)) (record s { entries = v }) (record (table s) { slots = set (table s).slots i (with_text x (slot (table s) i)) }) (record {
-      size = r.size;
-      slots = r.slots;
-      free = subst (λ (l : List ℕ). Chain (length (all s)) l s.free (table s).free) (sym r.links) k.free_ends;
-      grey = subst (λ (l : List ℕ). Chain (length (all s)) l s.grey (table s).grey) (sym r.links) k.grey_ends;
-      sound = sound-set_text (table s) i x k.sound (within_table (table s) i taken);
-    }) k.count k.size (rests s v done.same (rw is k.room) k)
+  -- The text of a vertex is replaced.
+  pub leaves-set_text : (x : List ℕ) → mark (table s) i ≢ Free → Writes s v i (record { occupant = with_slot_text x (occupant_at s.entries.items i); link = (at s.entries.items i).link })
+      → Leaves (record s { entries = v }) (record (table s) { slots = set (table s).slots i (with_slot_text x (slot (table s) i)) })
+  leaves-set_text x taken is =
+      written_so (record { occupant = with_slot_text x (occupant_at s.entries.items i); link = (at s.entries.items i).link }) (record (table s) { slots = set (table s).slots i (with_slot_text x (slot (table s) i)) }) s.free s.grey s.free_count is
+      (repainted s.size s.entries.items s.free s.grey (table s) k.shown (with_slot_text x) i (taken_within s.size s.entries.items s.free s.grey (table s) k.shown i taken) (sound-set_text (table s) i x k.shown.sound (within_table (table s) i taken))) k.count
 
--- A white slot turns grey, in front of the grey list.
-pub leaves-push_grey : (s : Inside) (v : Shelved) (i : ℕ) → IsInside s → mark (table s) i ≡ Has White → Writes s v i (record { occupant = coloured Grey (occupant_at s.entries.items i); link = s.grey })
-    → Leaves (record s { entries = v; grey = i }) (record (table s) { slots = recoloured (table s) i Grey; grey = i ∷ (table s).grey })
-leaves-push_grey s v i k w is =
-    let used : i < length s.entries.items = entry_within s i White w in
-    let within : i < length (all s) = used_within s.entries.items i s.size used in
-    let old = at s.entries.items i in
-    let new : Linked = record { occupant = coloured Grey old.occupant; link = s.grey } in
-    let done = written s.entries v s.size i new used (ap (λ (u : Shelved). u.items) is) in
-    let vertex : coloured Grey old.occupant ≡ coloured Grey (slot (table s) i) = ap (coloured Grey) (slot_at s i) in
-    let changed : links (filled v.items s.size) ≡ set (links (all s)) i s.grey = ap links done.all ∙ links_set (all s) i new in
-    leaves (length (all s)) (record s { entries = v; grey = i }) (record (table s) { slots = recoloured (table s) i Grey; grey = i ∷ (table s).grey }) (record {
-      size = ap length done.all ∙ length-set (all s) i new;
-      slots = ap occupants done.all ∙ occupants_set (all s) i new ∙ ap (set (occupants (all s)) i) vertex;
-      free = subst (λ (l : List ℕ). Chain (length (all s)) l s.free (table s).free) (sym changed)
-          (chain_set (length (all s)) (links (all s)) i s.grey s.free (table s).free (not_free (table s) i White k.sound w) k.free_ends);
-      grey = subst (λ (l : List ℕ). Chain (length (all s)) l i (i ∷ (table s).grey)) (sym changed)
-          (chain_push (length (all s)) (links (all s)) i s.grey (table s).grey (omega (arith, within, length_map (λ (e : Linked). e.link) (all s))) within (not_grey (table s) i k.sound w) k.grey_ends);
-      sound = sound-push_grey (table s) i k.sound w;
-    }) k.count k.size (rests s v done.same (rw is k.room) k)
+  -- A white slot turns grey, in front of the grey list, or is freed, in front of the free list.
+  pub leaves-push_grey : mark (table s) i ≡ Has White → Writes s v i (record { occupant = coloured Grey (occupant_at s.entries.items i); link = s.grey })
+      → Leaves (record s { entries = v; grey = i }) (record (table s) { slots = recoloured (table s) i Grey; grey = i ∷ (table s).grey })
+  leaves-push_grey w is =
+      written_so (record { occupant = coloured Grey (occupant_at s.entries.items i); link = s.grey }) (record (table s) { slots = recoloured (table s) i Grey; grey = i ∷ (table s).grey }) s.free i s.free_count is
+      (greyed s.size s.entries.items s.free s.grey (table s) k.shown i w) k.count
 
--- A white slot is freed, in front of the free list.
-pub leaves-give_back : (s : Inside) (v : Shelved) (i : ℕ) → IsInside s → mark (table s) i ≡ Has White → Writes s v i (record { occupant = None; link = s.free })
-    → Leaves (record { entries = v; free = i; grey = s.grey; free_count = s.free_count + 1; size = s.size }) (record (table s) { slots = set (table s).slots i None; free = i ∷ (table s).free })
-leaves-give_back s v i k w is =
-    let used : i < length s.entries.items = entry_within s i White w in
-    let within : i < length (all s) = used_within s.entries.items i s.size used in
-    let new : Linked = record { occupant = None; link = s.free } in
-    let done = written s.entries v s.size i new used (ap (λ (u : Shelved). u.items) is) in
-    let changed : links (filled v.items s.size) ≡ set (links (all s)) i s.free = ap links done.all ∙ links_set (all s) i new in
-    let count = k.count in
-    let rest = rests s v done.same (rw is k.room) k in
-    let same = done.same in
-    leaves (length (all s)) (record { entries = v; free = i; grey = s.grey; free_count = s.free_count + 1; size = s.size }) (record (table s) { slots = set (table s).slots i None; free = i ∷ (table s).free }) (record {
-      size = ap length done.all ∙ length-set (all s) i new;
-      slots = ap occupants done.all ∙ occupants_set (all s) i new;
-      free = subst (λ (l : List ℕ). Chain (length (all s)) l i (i ∷ (table s).free)) (sym changed)
-          (chain_push (length (all s)) (links (all s)) i s.free (table s).free (omega (arith, within, length_map (λ (e : Linked). e.link) (all s))) within (not_free (table s) i White k.sound w) k.free_ends);
-      grey = subst (λ (l : List ℕ). Chain (length (all s)) l s.grey (table s).grey) (sym changed)
-          (chain_set (length (all s)) (links (all s)) i s.free s.grey (table s).grey (not_grey (table s) i k.sound w) k.grey_ends);
-      sound = sound-give_back (table s) i k.sound w;
-    }) (omega (arith, count)) k.size (record {
-      used = rest.used;
-      room = rest.room;
-      behind = record {
-        before = i ∷ rest.behind.before;
-        is = ap (λ (l : List ℕ). i ∷ l) rest.behind.is;
-        within = λ j h. elim h [ inl here ↦ omega (arith, here, used, same) | inr there ↦ rest.behind.within j there ];
-      };
-    })
+  pub leaves-give_back : mark (table s) i ≡ Has White → Writes s v i (record { occupant = None; link = s.free })
+      → Leaves (record { entries = v; free = i; grey = s.grey; free_count = s.free_count + 1; size = s.size }) (record (table s) { slots = set (table s).slots i None; free = i ∷ (table s).free })
+  leaves-give_back w is =
+      written_so (record { occupant = None; link = s.free }) (record (table s) { slots = set (table s).slots i None; free = i ∷ (table s).free }) i s.grey (s.free_count + 1) is
+      (freed s.size s.entries.items s.free s.grey (table s) k.shown i w) (let count = k.count in omega (arith, count))
 
 -- The first of the grey list is taken out of it.
 pub record Pops (s after : Inside) : Type 0 where
@@ -205,153 +270,57 @@ pub record Pops (s after : Inside) : Type 0 where
 
 pub pops : (s : Inside) → IsInside s → s.grey < length s.entries.items → Pops s (record s { grey = (at s.entries.items s.grey).link })
 pops s k used =
-    let old = at s.entries.items s.grey in
-    let within : s.grey < length (all s) = used_within s.entries.items s.grey s.size used in
-    let f = chain_first (length (all s)) (links (all s)) s.grey (table s).grey within k.grey_ends in
-    let a = leaves (length (all s)) (record s { grey = old.link }) (record (table s) { grey = f.rest }) (record {
-      size = refl;
-      slots = refl;
-      free = k.free_ends;
-      grey = subst (λ (i : ℕ). Chain (length (all s)) (links (all s)) i f.rest) (link_read (all s) s.grey old within (met s s.grey used)) f.chain;
-      sound = sound-pop_grey (table s) s.grey f.rest k.sound f.is;
-    }) k.count k.size (record { used = k.used; room = k.room; behind = k.behind }) in
+    let f = chain_first s.size (links s.entries.items) s.grey (table s).grey (let fits = k.shown.used in omega arith) k.shown.grey in
+    let a = leaves (record s { grey = (at s.entries.items s.grey).link }) (record (table s) { grey = f.rest }) (record {
+      used = k.shown.used;
+      slots = k.shown.slots;
+      rest = k.shown.rest;
+      listed = k.shown.listed;
+      free = k.shown.free;
+      grey = subst (λ (i : ℕ). IndexChain s.size (links s.entries.items) i f.rest) (link_read s.entries.items s.grey s.size used) f.chain;
+      sound = sound-pop_grey (table s) s.grey f.rest k.shown.sound f.is;
+    }) k.count k.size k.room in
     record {
       kept = a.kept;
       was = ap (λ (l : List ℕ). record (table s) { grey = l }) f.is ∙ ap (λ (t : Table). record t { grey = s.grey ∷ t.grey }) (sym a.shows);
     }
 
--- A head past the slots that were used ends the grey list, since each grey one was.
 pub none_grey : (s : Inside) → IsInside s → length s.entries.items ≤ s.grey → (table s).grey ≡ []
-none_grey s k past = none (table s).grey k.grey_ends (λ j h. entry_within s j Grey (k.sound.listed_grey j h).1) where
-  none : (l : List ℕ) → Chain (length (all s)) (links (all s)) s.grey l → ((j : ℕ) → Contains l j → j < length s.entries.items) → l ≡ []
-  none [] chain used = refl
-  none (j ∷ l) chain used = absurd (let first : s.grey ≡ j = chain.0 in let within = used j (inl refl) in omega arith)
-
--- No slot is free if the head of the free list is past the slots that were used, and is not the next one.
-none_free : (s : Inside) → IsInside s → length s.entries.items ≤ s.free → (s.free ≡ length s.entries.items → s.size ≤ s.free) → (table s).free ≡ []
-none_free s k past last = none (table s).free k.free_ends k.behind.before k.behind.is k.behind.within where
-  unlike : (n : ℕ) (l : List ℕ) → s.size - length s.entries.items ≡ n → s.free ∷ l ≡ indices (length s.entries.items) n → ⊥
-  unlike zero l count is = absurd (cc)
-  unlike (suc n) l count is = let same : s.free ≡ length s.entries.items = cc in absurd (let end = last same in omega arith)
-
-  none : (l : List ℕ) → Chain (length (all s)) (links (all s)) s.free l → (before : List ℕ) → l ≡ before ++ indices (length s.entries.items) (s.size - length s.entries.items)
-      → ((i : ℕ) → Contains before i → i < length s.entries.items) → l ≡ []
-  none [] chain before is within = refl
-  none (j ∷ l) chain [] is within = absurd (unlike (s.size - length s.entries.items) l refl (ap (λ (i : ℕ). i ∷ l) chain.0 ∙ is))
-  none (j ∷ l) chain (b ∷ bs) is within = absurd (let first : j ≡ b = cc in let here = chain.0 in let used = within b (inl refl) in omega arith)
-
--- The first free slot is among those that were used, if there is one: the fields show what they showed.
-pub record Provided (s : Inside) (w : Shelved) : Type 0 where
-  pub kept : IsInside (record s { entries = w })
-  pub shows : table (record s { entries = w }) ≡ table s
-  pub full : length w.items ≤ s.free → (table s).free ≡ []
-
-pub provides : (s : Inside) (w : Shelved) → IsInside s → IsProvided s.entries.items w.items s.free s.size → s.size ≤ w.room → Provided s w
-provides s w k p room = elim (cases_lt s.free s.size) [
-  | inl within ↦ elim (cases_eq s.free (length s.entries.items)) [ inl next ↦ added within next | inr other ↦ stays (kept within other) (λ same. absurd (other same)) ]
-  | inr past ↦ stays (beyond past) (λ same. past)
-] where
-  kept : s.free < s.size → s.free ≢ length s.entries.items → w.items ≡ s.entries.items
-  kept within other =
-      let first : ltb s.free s.size ≡ true = lt-ltb s.free s.size within in
-      let second : eqb s.free (length s.entries.items) ≡ false = ne_eqb s.free (length s.entries.items) other in
-      rw second at (rw first at p.made)
-
-  beyond : s.size ≤ s.free → w.items ≡ s.entries.items
-  beyond past = let first : ltb s.free s.size ≡ false = le-ltb s.free s.size past in rw first at p.made
-
-  left : filled w.items s.size ≡ all s → Rests w s.size (table s).free → Leaves (record s { entries = w }) (table s)
-  left e r = leaves (length (all s)) (record s { entries = w }) (table s) (record {
-    size = ap length e;
-    slots = ap occupants e;
-    free = subst (λ (l : List Linked). Chain (length (all s)) (links l) s.free (table s).free) (sym e) k.free_ends;
-    grey = subst (λ (l : List Linked). Chain (length (all s)) (links l) s.grey (table s).grey) (sym e) k.grey_ends;
-    sound = k.sound;
-  }) k.count k.size r
-
-  stays : w.items ≡ s.entries.items → (s.free ≡ length s.entries.items → s.size ≤ s.free) → Provided s w
-  stays e last =
-      let a = left (ap (λ (l : List Linked). filled l s.size) e) (rests s w (ap length e) room k) in
-      record { kept = a.kept; shows = a.shows; full = λ past. none_free s k (let size = ap length e in omega arith) last }
-
-  added : s.free < s.size → s.free ≡ length s.entries.items → Provided s w
-  added within next =
-      let first : ltb s.free s.size ≡ true = lt-ltb s.free s.size within in
-      let second : eqb s.free (length s.entries.items) ≡ true = eq-eqb s.free (length s.entries.items) next in
-      let made : w.items ≡ s.entries.items ++ record { occupant = None; link = s.free + 1 } ∷ [] = rw second at (rw first at p.made) in
-      let is : w.items ≡ s.entries.items ++ record { occupant = None; link = length s.entries.items + 1 } ∷ [] = made ∙ ap (λ (n : ℕ). s.entries.items ++ record { occupant = None; link = n + 1 } ∷ []) next in
-      let used : length s.entries.items < s.size = omega arith in
-      let long : length w.items ≡ length s.entries.items + 1 = ap length is ∙ length-append s.entries.items _ in
-      let a = left (ap (λ (l : List Linked). filled l s.size) is ∙ filled_more s.entries.items s.size used) (record {
-        used = omega arith;
-        room = room;
-        behind = subst (λ (n : ℕ). IsBehind n s.size (table s).free) (sym long) (behind_more (length s.entries.items) s.size (table s).free used k.behind);
-      }) in
-      record { kept = a.kept; shows = a.shows; full = λ past. absurd (omega arith) }
-
--- A free one among the slots that were used is counted.
-pub some_free : (s : Inside) → IsInside s → s.free < length s.entries.items → 1 ≤ s.free_count
-some_free s k used =
-    let f = chain_first (length (all s)) (links (all s)) s.free (table s).free (used_within s.entries.items s.free s.size used) k.free_ends in
-    let some = ap length f.is in
-    let count = k.count in
-    omega arith
+none_grey s k past = chain_past s.size (links s.entries.items) s.grey (table s).grey (omega (arith, past, length-map s.entries.items (λ (x : Linked). x.link))) k.shown.grey
 
 -- The first free slot is taken for a vertex that is not grey.
-pub record Takes (s after : Inside) (o : Occupant) : Type 0 where
+pub record Takes (s after : Inside) (id : ℕ) (o : Occupant) : Type 0 where
   pub kept : IsInside after
-  pub free : (table s).free ≡ s.free ∷ (table after).free
+  pub free : (table s).free ≡ id ∷ (table after).free
   pub grey : (table after).grey ≡ (table s).grey
-  pub slots : (table after).slots ≡ set (table s).slots s.free (Some o)
+  pub slots : (table after).slots ≡ set (table s).slots id (Some o)
 
-pub takes : (s : Inside) (v : Shelved) (o : Occupant) → IsInside s → s.free < length s.entries.items → grey_one (Has o.colour) ≡ 0
-    → Writes s v s.free (record { occupant = Some o; link = (at s.entries.items s.free).link })
-    → Takes s (record { entries = v; free = (at s.entries.items s.free).link; grey = s.grey; free_count = s.free_count - 1; size = s.size }) o
-takes s v o k used pale is =
-    let old = at s.entries.items s.free in
-    let within : s.free < length (all s) = used_within s.entries.items s.free s.size used in
-    let done = written s.entries v s.size s.free (record { occupant = Some o; link = old.link }) used (ap (λ (u : Shelved). u.items) is) in
-    let f = chain_first (length (all s)) (links (all s)) s.free (table s).free within k.free_ends in
-    let r = repaints (all s) (filled v.items s.size) s.free old (record { occupant = Some o; link = old.link }) (Some o) (met s s.free used) refl refl done.all in
+pub takes : (s : Inside) (v : Shelved) (id next : ℕ) (o : Occupant) → IsInside s → id ≡ min s.free (length s.entries.items) → id < s.size → next ≡ get_or (links s.entries.items) id s.size → grey_one (Has o.colour) ≡ 0
+    → v.items ≡ written s.entries.items id (record { occupant = Some o; link = 0 }) → s.entries.room ≤ v.room → Takes s (record { entries = v; free = next; grey = s.grey; free_count = s.free_count - 1; size = s.size }) id o
+takes s v id next o k at below on pale is room =
+    let a = took s.size s.entries.items s.free s.grey (table s) k.shown o id next at below on pale in
     let count = k.count in
-    let fewer = ap length f.is in
-    let rest = rests s v done.same (rw is k.room) k in
-    let same = done.same in
-    let a = leaves (length (all s)) (record { entries = v; free = old.link; grey = s.grey; free_count = s.free_count - 1; size = s.size }) (record (table s) { slots = set (table s).slots s.free (Some o); free = f.rest }) (record {
-      size = r.size;
-      slots = r.slots;
-      free = subst (λ (l : List ℕ). Chain (length (all s)) l old.link f.rest) (sym r.links)
-          (subst (λ (i : ℕ). Chain (length (all s)) (links (all s)) i f.rest) (link_read (all s) s.free old within (met s s.free used)) f.chain);
-      grey = subst (λ (l : List ℕ). Chain (length (all s)) l s.grey (table s).grey) (sym r.links) k.grey_ends;
-      sound = sound-take_free (table s) s.free f.rest o k.sound f.is pale;
-    }) (omega (arith, count, fewer)) k.size (record { used = rest.used; room = rest.room; behind = behind_taken (length v.items) s.size s.free (table s).free f.rest rest.behind f.is (omega arith) }) in
+    let fewer = ap length a.is in
+    let was = k.room in
+    let left = leaves (record { entries = v; free = next; grey = s.grey; free_count = s.free_count - 1; size = s.size }) (record (table s) { slots = set (table s).slots id (Some o); free = a.rest })
+    (subst (λ (l : List Linked). Shows s.size l next s.grey (record (table s) { slots = set (table s).slots id (Some o); free = a.rest })) (sym is) a.shows) (omega (arith, count, fewer)) k.size (omega arith) in
     record {
-      kept = a.kept;
-      free = f.is ∙ ap (λ (t : Table). s.free ∷ t.free) (sym a.shows);
-      grey = ap (λ (t : Table). t.grey) a.shows;
-      slots = ap (λ (t : Table). t.slots) a.shows;
+      kept = left.kept;
+      free = a.is ∙ ap (λ (t : Table). id ∷ t.free) (sym left.shows);
+      grey = ap (λ (t : Table). t.grey) left.shows;
+      slots = ap (λ (t : Table). t.slots) left.shows;
     }
 
 -- Slots that were never used so far.
-pub leaves-new : (s : Inside) → s.entries.items ≡ [] → s.free ≡ 0 → s.grey ≡ s.size → s.free_count ≡ s.size → s.size ≤ 65536 → s.size ≤ s.entries.room → Leaves s (fresh s.size)
+pub leaves-new : (s : Inside) → s.entries.items ≡ [] → s.free ≡ s.size → s.grey ≡ s.size → s.free_count ≡ s.size → s.size ≤ 65536 → s.size ≤ s.entries.room → Leaves s (fresh s.size)
 leaves-new s none free grey count most room =
     let less : s.size - 0 ≡ s.size = omega arith in
-    let is : all s ≡ unused 0 s.size = ap (λ (l : List Linked). filled l s.size) none ∙ ap (unused 0) less in
-    let ups : links (all s) ≡ indices 1 s.size = ap links is ∙ unused_links 0 s.size in
-    let used : length s.entries.items ≡ 0 = ap length none in
-    leaves s.size s (fresh s.size) (record {
-      size = ap length is ∙ unused_length 0 s.size;
-      slots = ap occupants is ∙ unused_slots 0 s.size;
-      free = subst (λ (i : ℕ). Chain s.size (links (all s)) i (indices 0 s.size)) (sym free)
-          (chain_up s.size (links (all s)) 0 s.size (omega arith) (λ j w. ap (λ (l : List ℕ). get_or l j s.size) ups ∙ indices_get_or 1 s.size j s.size w ∙ omega arith));
+    leaves s (fresh s.size) (subst (λ (l : List Linked). Shows s.size l s.free s.grey (fresh s.size)) (sym none) (record {
+      used = omega arith;
+      slots = ap nones less;
+      rest = [];
+      listed = ap (indices 0) (sym less);
+      free = free;
       grey = grey;
       sound = fresh_sound s.size;
-    }) (count ∙ sym (indices_length 0 s.size)) most (record {
-      used = omega arith;
-      room = room;
-      behind = record {
-        before = [];
-        is = sym (ap (λ (n : ℕ). indices n (s.size - n)) used ∙ ap (indices 0) less);
-        within = λ j h. absurd h;
-      };
-    })
+    })) (count ∙ sym (indices_length 0 s.size)) most room

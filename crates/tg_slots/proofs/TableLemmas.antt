@@ -3,11 +3,11 @@ use Rattle.std.proofs.Common.{◌≡◌, ◌≢◌, ℕ, zero, suc, ◌<◌, ◌
 use Rattle.std.proofs.lemmas.Bool.{cases_eq, cases_lt}
 use Rattle.std.proofs.lemmas.List.{get_or_past}
 use Rattle.std.proofs.lemmas.List.Sums.{sum_by-set, sum_by-cons}
-use Rattle.tg_lists.specs.Membership.{Contains, Distinct}
+use Rattle.tg_lists.specs.Promise.Membership.{Contains, Distinct}
 use Rattle.tg_slots.specs.declared.slots.Occupant.{Occupant}
 use Rattle.tg_slots.specs.declared.colour.Colour.{Colour}
 use Rattle.tg_slots.specs.declared.colour.Colour.TheVariants.{White, Grey, Black}
-use Rattle.tg_slots.specs.Table.{Mark, Table, Free, Has, mark, mark_of, slot, coloured, recoloured, with_text, if_free, IsSound}
+use Rattle.tg_slots.specs.Promise.Table.{Mark, Table, Free, Has, mark, mark_of, slot, coloured, recoloured, with_slot_text, if_free, IsSound}
 
 -- one for a grey slot
 abbrev pub grey_one : Mark → ℕ
@@ -201,26 +201,26 @@ sound-give_back t i s w =
       grey_once = s.grey_once;
     }
 
-mark_text : (x : List ℕ) (o : Option Occupant) → mark_of (with_text x o) ≡ mark_of o
+mark_text : (x : List ℕ) (o : Option Occupant) → mark_of (with_slot_text x o) ≡ mark_of o
 mark_text x None = refl
 mark_text x (Some o) = refl
 
-if_free-text : (x : List ℕ) (o : Option Occupant) → if_free (with_text x o) ≡ if_free o
+if_free-text : (x : List ℕ) (o : Option Occupant) → if_free (with_slot_text x o) ≡ if_free o
 if_free-text x None = refl
 if_free-text x (Some o) = refl
 
 -- A text is replaced, and no mark changes.
-pub sound-set_text : (t : Table) (i : ℕ) (x : List ℕ) → IsSound t → i < length t.slots → IsSound (record t { slots = set t.slots i (with_text x (slot t i)) })
+pub sound-set_text : (t : Table) (i : ℕ) (x : List ℕ) → IsSound t → i < length t.slots → IsSound (record t { slots = set t.slots i (with_slot_text x (slot t i)) })
 sound-set_text t i x s within =
-    let new : List (Option Occupant) = set t.slots i (with_text x (slot t i)) in
-    let size : length (set t.slots i (with_text x (slot t i))) ≡ length t.slots = length-set t.slots i _ in
-    let here : mark_of (get_or (set t.slots i (with_text x (slot t i))) i None) ≡ mark t i = mark_here t.slots i _ within ∙ mark_text x (slot t i) in
-    let same = λ (j : ℕ). let m : mark_of (get_or (set t.slots i (with_text x (slot t i))) j None) ≡ mark t j =
+    let new : List (Option Occupant) = set t.slots i (with_slot_text x (slot t i)) in
+    let size : length (set t.slots i (with_slot_text x (slot t i))) ≡ length t.slots = length-set t.slots i _ in
+    let here : mark_of (get_or (set t.slots i (with_slot_text x (slot t i))) i None) ≡ mark t i = mark_here t.slots i _ within ∙ mark_text x (slot t i) in
+    let same = λ (j : ℕ). let m : mark_of (get_or (set t.slots i (with_slot_text x (slot t i))) j None) ≡ mark t j =
     elim (cases_eq j i) [
-      | inl e ↦ subst (λ (k : ℕ). mark_of (get_or (set t.slots i (with_text x (slot t i))) k None) ≡ mark t k) (sym e) here
+      | inl e ↦ subst (λ (k : ℕ). mark_of (get_or (set t.slots i (with_slot_text x (slot t i))) k None) ≡ mark t k) (sym e) here
       | inr n ↦ mark_there t.slots i j _ n
     ] in m in
-    let change = sum_by-set if_free t.slots i (with_text x (slot t i)) None within in
+    let change = sum_by-set if_free t.slots i (with_slot_text x (slot t i)) None within in
     let count = s.free_count in
     record {
       free_listed = λ j l f. s.free_listed j (omega arith) (sym (same j) ∙ f);

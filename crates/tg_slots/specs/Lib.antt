@@ -1,6 +1,3 @@
-pub mod Table
-pub mod Linked
-pub mod Shelf
-pub mod Chain
-pub mod Inside
-pub use Rattle.tg_lists.specs.Membership
+pub mod Promise
+pub mod Inner
+pub use Rattle.tg_lists.specs.Promise.Membership

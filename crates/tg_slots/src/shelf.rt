@@ -1,11 +1,11 @@
 //! The slots that were used so far, as they lie in memory.
-ghost use Rattle.std.specs.Prelude.{◌≡◌, ◌≢◌, ◌<◌, ◌≤◌, ◌++◌, ◌∷◌, [], IfOk, MatchOption, None, Some, length, set, true};
+ghost use Rattle.std.specs.Prelude.{◌≡◌, ◌≢◌, ◌<◌, ◌≤◌, [], IfOk, MatchOption, None, Some, length, set, true};
 ghost use Rattle.std.specs.List.{All};
 ghost use Rattle.std.specs.Option.{option_map};
-ghost use Rattle.tg_lists.specs.Columns.{HasRight};
-ghost use Rattle.tg_slots.specs.Table.{in_slot, with_text, coloured};
-ghost use Rattle.tg_slots.specs.Linked.{Shelved, at, occupant_at};
-ghost use Rattle.tg_slots.specs.Shelf.{Agrees, colour_of, is_taken, kind_of, leading, link_of, serial_of, shelved, telling, text_of, tint_of};
+ghost use Rattle.tg_lists.specs.Promise.Columns.{HasRight};
+ghost use Rattle.tg_slots.specs.Promise.Table.{in_slot, with_slot_text, coloured};
+ghost use Rattle.tg_slots.specs.Inner.Linked.{Shelved, at, occupant_at, written};
+ghost use Rattle.tg_slots.specs.Inner.Shelf.{IsMatched, colour_of, is_filled, form_kind, leading, link_of, form_serial, shelved, telling, form_text, tint_of};
 
 use crate::{Colour, Occupant};
 use std::alloc::{AllocError, Global};
@@ -50,7 +50,7 @@ impl Model for Shelf {
 
     ghost view = { shelved };
 
-    ghost invariant = { λ s. All Agrees s.slots.items };
+    ghost invariant = { λ s. All IsMatched s.slots.items };
 }
 
 impl Tint {
@@ -96,7 +96,7 @@ impl Form {
     }
 
     fn serial(&self) -> Option<u64>
-        ensures { result ≡ serial_of self.now }
+        ensures { result ≡ form_serial self.now }
     {
         match self {
             Form::Free { .. } => None,
@@ -105,7 +105,7 @@ impl Form {
     }
 
     fn kind(&self) -> Option<Kind>
-        ensures { result ≡ kind_of self.now }
+        ensures { result ≡ form_kind self.now }
     {
         match self {
             Form::Free { .. } => None,
@@ -114,7 +114,7 @@ impl Form {
     }
 
     fn text(&self) -> Option<&Text>
-        ensures { option_map (λ t. t.now) result ≡ text_of self.now }
+        ensures { option_map (λ t. t.now) result ≡ form_text self.now }
     {
         match self {
             Form::Free { .. } => None,
@@ -123,9 +123,9 @@ impl Form {
     }
 
     fn set_text(&mut self, new: Text) -> Text
-        requires { is_taken self.old ≡ true }
+        requires { is_filled self.old ≡ true }
         ensures form { self.new ≡ telling self.old new }
-        ensures old { text_of self.old ≡ Some result }
+        ensures old { form_text self.old ≡ Some result }
     {
         match self {
             Form::Free { .. } => unreachable!(),
@@ -213,15 +213,6 @@ impl Shelf {
         }
     }
 
-    /// Appends a free slot that leads to the next one.
-    pub fn push_free(&mut self, link: u32)
-        requires { length self.old.items < self.old.room }
-        ensures items { self.new.items ≡ self.old.items ++ record { occupant = None; link = link } ∷ [] }
-        ensures room { self.old.room ≤ self.new.room }
-    {
-        self.slots.push(Tint::Free, Form::Free { link });
-    }
-
     /// Makes a slot free; it then leads to the next one.
     pub fn free(&mut self, id: u32, link: u32)
         requires { id < length self.old.items }
@@ -230,18 +221,26 @@ impl Shelf {
         self.slots.set(id as usize, Tint::Free, Form::Free { link });
     }
 
-    /// Puts a vertex into a slot.
+    /// Puts a vertex into a slot, or into the next one, for which there is room. The slot is then in no list, so it does
+    /// not matter where it leads.
     pub fn fill(&mut self, id: u32, occupant: Occupant)
-        requires { id < length self.old.items }
-        ensures { self.new ≡ record self.old { items = set self.old.items id (record { occupant = Some occupant; link = (at self.old.items id).link }) } }
+        requires used { id ≤ length self.old.items }
+        requires within { id < self.old.room }
+        ensures items { self.new.items ≡ written self.old.items id (record { occupant = Some occupant; link = 0 }) }
+        ensures room { self.old.room ≤ self.new.room }
     {
+        let tint = Tint::of(occupant.colour);
         let form = Form::Taken {
             kind: occupant.kind,
-            link: self.slots.right(id as usize).link(),
+            link: 0,
             serial: occupant.serial,
             text: occupant.text,
         };
-        self.slots.set(id as usize, Tint::of(occupant.colour), form);
+        if (id as usize) < self.slots.len() {
+            self.slots.set(id as usize, tint, form);
+        } else {
+            self.slots.push(tint, form);
+        }
     }
 
     /// Gives the vertex in a slot a colour.
@@ -264,7 +263,7 @@ impl Shelf {
     /// Replaces the text of the vertex in a slot, and returns the old one.
     pub fn set_text(&mut self, id: u32, new: Text) -> Text
         requires { occupant_at self.old.items id ≢ None }
-        ensures slot { self.new ≡ record self.old { items = set self.old.items id (record { occupant = with_text new (occupant_at self.old.items id); link = (at self.old.items id).link }) } }
+        ensures slot { self.new ≡ record self.old { items = set self.old.items id (record { occupant = with_slot_text new (occupant_at self.old.items id); link = (at self.old.items id).link }) } }
         ensures old { in_slot (λ o. o.text) (occupant_at self.old.items id) ≡ Some result }
     {
         self.slots.right_mut(id as usize).set_text(new)

@@ -1,9 +1,9 @@
 //! The table of slots, with the two lists through its link fields.
-ghost use Rattle.std.specs.Prelude.{◌≡◌, ◌≢◌, ◌<◌, ◌≤◌, [], ◌∷◌, length, MatchResult, MatchOption, IsTrue, ◌↔◌, set, ◌⊎◌, IfSome, IfOk, None, Some};
-ghost use Rattle.tg_lists.specs.Membership.{Contains};
+ghost use Rattle.std.specs.Prelude.{◌≡◌, ◌≢◌, ◌<◌, ◌≤◌, [], ◌∷◌, length, MatchResult, MatchOption, IsTrue, ◌↔◌, set, ◌⊎◌, IfSome, IfOk, None, Some, get_or};
+ghost use Rattle.tg_lists.specs.Promise.Membership.{Contains};
 ghost use Rattle.tg_rights.specs.declared.limits.TheConstants.{MAX_SLOTS};
-ghost use Rattle.tg_slots.specs.Table.{Table, Free, Has, slot, mark, coloured, recoloured, with_text, in_slot, IsSound, fresh};
-ghost use Rattle.tg_slots.specs.Inside.{IsInside, IsProvided, table};
+ghost use Rattle.tg_slots.specs.Promise.Table.{Table, Free, Has, slot, mark, coloured, recoloured, with_slot_text, in_slot, IsSound, fresh};
+ghost use Rattle.tg_slots.specs.Inner.Inside.{IsInside, links, table};
 
 use crate::Colour;
 use crate::shelf::Shelf;
@@ -23,9 +23,10 @@ pub struct Occupant {
 /// Slots by index, the list of free ones and the list of waiting grey ones.
 #[derive(Drop)]
 pub struct Slots {
-    // The slots that were used so far, with room for all: a slot that was never used is not written. It would be free,
-    // and lead to the next one.
+    // The slots that were used so far, with room for all: a slot that was never used is not written. It is free, behind
+    // the free ones of those that were used.
     entries: Shelf,
+    // The first free one of the slots that were used so far, and the first waiting grey one.
     free: u32,
     grey: u32,
     free_count: u32,
@@ -41,15 +42,13 @@ impl Model for Slots {
     ghost invariant = { IsInside };
 }
 
-// Appends the slot of this index to those that were used so far, if it is the next one.
-fn provide(entries: &mut Shelf, id: u32, size: u32)
-    requires used { length entries.old.items ≤ size }
-    requires room { size ≤ entries.old.room }
-    ensures provided { IsProvided entries.old.items entries.new.items id size }
-    ensures room { size ≤ entries.new.room }
+// Where a slot leads; one that was never used leads nowhere, which is said by `size`.
+fn next_of(entries: &Shelf, id: u32, size: u32) -> u32
+    ensures { result ≡ get_or (links entries.now.items) id size }
 {
-    if id < size && id as usize == entries.len() {
-        entries.push_free(id + 1);
+    match entries.link(id) {
+        Some(next) => next,
+        None => size,
     }
 }
 
@@ -64,7 +63,7 @@ impl Slots {
         let entries = Shelf::new(alloc, count)?;
         Ok(Slots {
             entries,
-            free: 0,
+            free: count,
             grey: count,
             free_count: count,
             size: count,
@@ -148,12 +147,12 @@ impl Slots {
             × (self.new.slots ≡ set self.old.slots id (Some (record { serial = serial; kind = kind; colour = colour; text = text }))))
             (λ back. (back ≡ text) × (self.old.free ≡ []) × (self.new ≡ self.old)) }
     {
-        let id = self.free;
-        provide(&mut self.entries, id, self.size);
-        let Some(next) = self.entries.link(id) else {
+        // The first free one of the slots used so far or, if there is none, the next one after them.
+        let id = self.free.min(self.entries.len() as u32);
+        if id >= self.size {
             return Err(text);
-        };
-        self.free = next;
+        }
+        self.free = next_of(&self.entries, id, self.size);
         self.free_count -= 1;
         let vertex = Occupant {
             serial,
@@ -214,7 +213,7 @@ impl Slots {
     /// Replaces the text of a vertex, and returns the old one.
     pub fn set_text(&mut self, id: u32, text: Text) -> Text
         requires { mark self.old id ≢ Free }
-        ensures slots { self.new ≡ record self.old { slots = set self.old.slots id (with_text text (slot self.old id)) } }
+        ensures slots { self.new ≡ record self.old { slots = set self.old.slots id (with_slot_text text (slot self.old id)) } }
         ensures old { IfSome (slot self.old id) (λ o. result ≡ o.text) }
     {
         self.entries.set_text(id, text)

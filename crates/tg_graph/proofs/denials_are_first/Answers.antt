@@ -1,5 +1,5 @@
-use Rattle.tg_graph.specs.Rules.{checks}
-use Rattle.tg_graph.specs.Terms.{terms}
+use Rattle.tg_graph.specs.Promise.Rules.{checks}
+use Rattle.tg_graph.specs.Promise.Terms.{terms}
 use Rattle.tg_graph.proofs.AllowedIsMetLemmas.{first_of, is_first}
 use Rattle.tg_graph.proofs.denials_are_first.Goals as goal
 

@@ -1,5 +1,5 @@
 use Rattle.std.proofs.Common.{◌≢◌, ℕ, ◌<◌, Some}
-use Rattle.tg_slots.specs.Table.{slot, in_slot}
+use Rattle.tg_slots.specs.Promise.Table.{slot, in_slot}
 use Rattle.tg_collect.proofs.tests.has.Given as goal
 
 -- None of the slots so far has the serial.

@@ -1,6 +1,6 @@
 use Rattle.std.proofs.Common.{ap, ◌∙◌}
-use Rattle.tg_rights.specs.Letters.{is_none}
-use Rattle.tg_collect.specs.Readings.{serial_at}
+use Rattle.tg_rights.specs.Promise.Letters.{is_none}
+use Rattle.tg_collect.specs.Promise.Readings.{serial_at}
 use Rattle.tg_collect.proofs.StoreLemmas.{edge_in}
 use Rattle.tg_collect.proofs.tests.remove.Goals as goal
 

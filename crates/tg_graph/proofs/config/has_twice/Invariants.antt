@@ -1,5 +1,5 @@
 use Rattle.std.proofs.Common.{◌≡◌, length}
-use Rattle.tg_graph.specs.Opening.{has_twice}
+use Rattle.tg_graph.specs.Promise.Opening.{has_twice}
 use Rattle.tg_graph.proofs.config.has_twice.Given as goal
 
 abbrev pub invariant-loop-left : goal.invariant-loop-left

@@ -2,7 +2,7 @@ use Rattle.std.proofs.Common.{◌≡◌, ◌∷◌, ◌≤◌, ◌+◌, List, dr
 use Rattle.std.proofs.Math.ListN.{drop_of_length-le}
 use Rattle.std.proofs.lemmas.List.{drop_more}
 use Rattle.tg_graph.specs.declared.member.Member.{Member}
-use Rattle.tg_graph.specs.Names.{same_name, serial_of}
+use Rattle.tg_graph.specs.Promise.Protection.{same_name, serial_of}
 use Rattle.tg_graph.proofs.member.serial_of.Goals as goal
 
 pub returns-then-eq : goal.returns-then-eq

@@ -1,5 +1,5 @@
 use Rattle.std.proofs.Common.{◌≡◌, drop}
-use Rattle.tg_graph.specs.Names.{serial_of}
+use Rattle.tg_graph.specs.Promise.Protection.{serial_of}
 use Rattle.tg_graph.proofs.member.serial_of.Given as goal
 
 abbrev pub invariant-loop-member : goal.invariant-loop-member

@@ -1,5 +1,5 @@
 use Rattle.std.proofs.Common.{◌≡◌, map, take}
-use Rattle.tg_graph.specs.Parts.{label_entry}
+use Rattle.tg_graph.specs.Inner.Parts.{label_entry}
 use Rattle.tg_graph.proofs.parts.labels_of.Given as goal
 
 abbrev pub invariant-loop-edge : goal.invariant-loop-edge

@@ -1,6 +1,7 @@
 use Rattle.std.proofs.Common.{◌≡◌, ◌∷◌, length, map, sym, ap, ◌∙◌, arith}
 use Rattle.std.specs.Vec.Iter.{into_iter_items}
-use Rattle.tg_graph.specs.Parts.{Listed, vertex_entry}
+use Rattle.tg_graph.specs.Promise.Parts.{Listed}
+use Rattle.tg_graph.specs.Inner.Parts.{vertex_entry}
 use Rattle.tg_graph.proofs.PartsLemmas.{vertices_longer}
 use Rattle.tg_graph.proofs.ListedLemmas.{all_given, one_more}
 use Rattle.tg_graph.proofs.parts.vertices_of.Goals as goal

@@ -1,6 +1,6 @@
 use Rattle.std.proofs.Common.{◌≡◌, ◌++◌, length, map}
 use Rattle.std.specs.Vec.Iter.{into_iter_items, into_iter_len}
-use Rattle.tg_graph.specs.Parts.{vertex_entry}
+use Rattle.tg_graph.specs.Inner.Parts.{vertex_entry}
 use Rattle.tg_graph.proofs.parts.vertices_of.Given as goal
 
 -- the vertices so far, and those that are left

@@ -2,9 +2,9 @@ use Rattle.std.proofs.Common.{◌≡◌, ℕ, List, [], true, refl, ap, sym, sub
 use Rattle.std.specs.List.{list_any}
 use Rattle.std.specs.Map.{keys_of}
 use Rattle.std.specs.Ordering.{eq_by_cmp, nat_cmp}
-use Rattle.tg_lists.specs.Membership.{Contains}
-use Rattle.tg_rights.specs.Letters.{is_none}
-use Rattle.tg_graph.specs.Protection.{IsEdge, IsVertex, label}
+use Rattle.tg_lists.specs.Promise.Membership.{Contains}
+use Rattle.tg_rights.specs.Promise.Letters.{is_none}
+use Rattle.tg_graph.specs.Promise.Protection.{IsEdge, IsVertex, label}
 use Rattle.tg_graph.proofs.ProtectionLemmas.{edge_from, edge_to}
 use Rattle.tg_sharing.proofs.LabelsLemmas.{Labels, edge_listed, entry_label}
 use Rattle.tg_sharing.proofs.LookupLemmas.{comes_in, contains_in, in_contains, put_in, stays_in}

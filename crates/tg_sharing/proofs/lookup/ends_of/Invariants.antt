@@ -2,9 +2,9 @@ use Rattle.std.proofs.Common.{◌≡◌, ℕ, true, ◌⊎◌}
 use Rattle.std.specs.List.{list_any}
 use Rattle.std.specs.Map.{keys_of}
 use Rattle.std.specs.Ordering.{eq_by_cmp, nat_cmp}
-use Rattle.tg_lists.specs.Membership.{Contains}
-use Rattle.tg_rights.specs.Letters.{Letters}
-use Rattle.tg_graph.specs.Protection.{IsEdge, IsVertex, label}
+use Rattle.tg_lists.specs.Promise.Membership.{Contains}
+use Rattle.tg_rights.specs.Promise.Letters.{Letters}
+use Rattle.tg_graph.specs.Promise.Protection.{IsEdge, IsVertex, label}
 use Rattle.tg_sharing.proofs.lookup.ends_of.Given as goal
 
 -- what is in the set is a vertex, and each edge is still to come or has its ends there

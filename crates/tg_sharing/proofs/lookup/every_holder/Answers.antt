@@ -1,8 +1,8 @@
 use Rattle.std.proofs.Common.{ap, ◌∙◌, subst, sym, List, ℕ}
 use Rattle.std.specs.Prelude.{filter_map}
 use Rattle.std.specs.List.{list_any}
-use Rattle.tg_sharing.specs.Lookups.{holder_of, is_unknown}
-use Rattle.tg_sharing.specs.Prospects.{AreCould}
+use Rattle.tg_sharing.specs.Inner.Lookups.{holder_of, is_unknown}
+use Rattle.tg_sharing.specs.Promise.Prospects.{AreCould}
 use Rattle.tg_sharing.specs.declared.prospect.Could.{Could}
 use Rattle.tg_sharing.proofs.LookupLemmas.{holders_listed, unknown_runs_out}
 use Rattle.tg_sharing.proofs.lookup.every_holder.Goals as goal

@@ -1,7 +1,7 @@
 use Rattle.std.proofs.Common.{List, ap, sym, subst, ◌∙◌}
-use Rattle.tg_rights.specs.Letters.{includes}
+use Rattle.tg_rights.specs.Promise.Letters.{includes}
 use Rattle.tg_graph.specs.declared.derivation.Step.{Step}
-use Rattle.tg_graph.specs.Derivations.{Derives}
+use Rattle.tg_graph.specs.Promise.Derivations.{Derives}
 use Rattle.tg_sharing.proofs.plain.plain_steps.Goals as goal
 
 pub returns-then-contains : goal.returns-then-contains

@@ -1,9 +1,9 @@
 use Rattle.std.proofs.Common.{◌≡◌, ℕ, List, refl, ap, sym, subst, ◌∙◌, inl, inr}
 use Rattle.std.specs.Map.{keys_of}
 use Rattle.std.specs.Option.{is_some}
-use Rattle.tg_lists.specs.Membership.{Contains}
-use Rattle.tg_rights.specs.Letters.{Letters}
-use Rattle.tg_graph.specs.Protection.{label}
+use Rattle.tg_lists.specs.Promise.Membership.{Contains}
+use Rattle.tg_rights.specs.Promise.Letters.{Letters}
+use Rattle.tg_graph.specs.Promise.Protection.{label}
 use Rattle.tg_sharing.proofs.LabelsLemmas.{Labels, edge_listed, entry_label}
 use Rattle.tg_sharing.proofs.ProspectLemmas.{AreEdgesOf, AreToCome, come_more, edges_more, kind_vertex}
 use Rattle.tg_sharing.proofs.prospect.labels_of.Goals as goal

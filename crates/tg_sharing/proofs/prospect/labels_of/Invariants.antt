@@ -1,8 +1,8 @@
 use Rattle.std.proofs.Common.{◌≡◌, ℕ, ◌⊎◌}
 use Rattle.std.specs.Map.{keys_of}
-use Rattle.tg_lists.specs.Membership.{Contains}
-use Rattle.tg_rights.specs.Letters.{Letters}
-use Rattle.tg_graph.specs.Protection.{IsEdge, IsVertex, label}
+use Rattle.tg_lists.specs.Promise.Membership.{Contains}
+use Rattle.tg_rights.specs.Promise.Letters.{Letters}
+use Rattle.tg_graph.specs.Promise.Protection.{IsEdge, IsVertex, label}
 use Rattle.tg_sharing.proofs.prospect.labels_of.Given as goal
 
 -- what is listed is an edge, and each edge is still to come or listed

@@ -1,8 +1,8 @@
 use Rattle.std.proofs.Common.{◌≡◌, List, sym, subst, ◌∙◌, inl, inr, arith}
 use Rattle.tg_graph.specs.declared.derivation.Step.{Step}
-use Rattle.tg_graph.specs.Derivations.{Derives}
-use Rattle.tg_graph.specs.Protection.{Protection}
-use Rattle.tg_sharing.specs.Growing.{Keeps}
+use Rattle.tg_graph.specs.Promise.Derivations.{Derives}
+use Rattle.tg_graph.specs.Promise.Protection.{Protection}
+use Rattle.tg_sharing.specs.Inner.Growing.{KeepsAll}
 use Rattle.tg_sharing.proofs.ProspectLemmas.{never_gathered}
 use Rattle.tg_sharing.proofs.prospect.what_could.Goals as goal
 
@@ -33,5 +33,5 @@ returns c =
       derived = step.derived G begun;
       labels = c.in_ok-labels.ensures;
       whole = never_gathered c.withheld_for_ever.ensures G e.graph c.in_ok-marks.marks from c.soundness.ensures c.requires c.in_ok-marks.ensures.from c.in_ok-marks.ensures.closed
-          (subst (λ (H : Protection). Keeps H e.graph) same step.keeps) (c.in_ok-gather_all.ensures.gathered c.if-not-branch.false);
+          (subst (λ (H : Protection). KeepsAll H e.graph) same step.keeps) (c.in_ok-gather_all.ensures.gathered c.if-not-branch.false);
     }

@@ -1,5 +1,5 @@
 use Rattle.std.proofs.Common.{subst}
-use Rattle.tg_sharing.specs.Answers.{IsAnswer}
+use Rattle.tg_sharing.specs.Promise.Answers.{IsAnswer}
 use Rattle.tg_sharing.specs.declared.sharing.Answer.{Answer}
 use Rattle.tg_sharing.proofs.prospect.whether.Goals as goal
 

@@ -1,7 +1,7 @@
 use Rattle.std.proofs.Common.{◌∷◌, [], ◌++◌, ℕ, List, get_or, take, ap, subst, sym, ◌∙◌}
 use Rattle.std.specs.Option.{is_some}
 use Rattle.std.proofs.lemmas.List.{take_more}
-use Rattle.tg_sharing.specs.Prospects.{AreCould}
+use Rattle.tg_sharing.specs.Promise.Prospects.{AreCould}
 use Rattle.tg_sharing.specs.declared.prospect.Could.{Could}
 use Rattle.tg_sharing.proofs.ProspectLemmas.{could_more, could_skip, kind_vertex, vertex_kind}
 use Rattle.tg_sharing.proofs.prospect.who_could.Goals as goal

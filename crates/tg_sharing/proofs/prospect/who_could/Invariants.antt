@@ -1,5 +1,5 @@
 use Rattle.std.proofs.Common.{take}
-use Rattle.tg_sharing.specs.Prospects.{AreCould}
+use Rattle.tg_sharing.specs.Promise.Prospects.{AreCould}
 use Rattle.tg_sharing.proofs.prospect.who_could.Given as goal
 
 -- each vertex so far is listed

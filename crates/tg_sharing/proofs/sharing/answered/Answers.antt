@@ -1,6 +1,6 @@
 use Rattle.std.proofs.Common.{List, refl, sym, subst, ◌∙◌}
 use Rattle.tg_graph.specs.declared.derivation.Step.{Step}
-use Rattle.tg_graph.specs.Derivations.{Derives}
+use Rattle.tg_graph.specs.Promise.Derivations.{Derives}
 use Rattle.tg_sharing.proofs.SharingLemmas.{never_itself, never_shared, nothing_shared}
 use Rattle.tg_sharing.proofs.sharing.answered.Goals as goal
 

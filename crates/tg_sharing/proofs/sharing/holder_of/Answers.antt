@@ -1,6 +1,6 @@
 use Rattle.std.proofs.Common.{sym, subst}
 use Rattle.std.specs.Map.{keys_of}
-use Rattle.tg_lists.specs.Membership.{Contains}
+use Rattle.tg_lists.specs.Promise.Membership.{Contains}
 use Rattle.tg_sharing.proofs.GrowingLemmas.{held_edge}
 use Rattle.tg_sharing.proofs.LabelsLemmas.{Labels, edge_listed}
 use Rattle.tg_sharing.proofs.sharing.holder_of.Goals as goal

@@ -1,7 +1,7 @@
 use Rattle.std.proofs.Common.{ℕ}
 use Rattle.std.specs.Map.{keys_of}
-use Rattle.tg_lists.specs.Membership.{Contains}
-use Rattle.tg_sharing.specs.Fetching.{IsHolder}
+use Rattle.tg_lists.specs.Promise.Membership.{Contains}
+use Rattle.tg_sharing.specs.Inner.Fetching.{IsHolder}
 use Rattle.tg_sharing.proofs.sharing.holder_of.Given as goal
 
 -- each holder is still to come

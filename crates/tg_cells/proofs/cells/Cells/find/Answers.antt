@@ -1,7 +1,7 @@
 use Rattle.std.proofs.Common.{◌≡◌, ◌<◌, ◌∙◌, ℕ, Option, None, length, subst, sym, ap}
-use Rattle.tg_index.specs.Rows.{row}
+use Rattle.tg_index.specs.Promise.Rows.{row}
 use Rattle.tg_index.proofs.RowLemmas.{left}
-use Rattle.tg_cells.specs.Index.{bucket_of}
+use Rattle.tg_cells.specs.Inner.Index.{bucket_of}
 use Rattle.tg_cells.proofs.IndexLemmas.{Seeks, seeks_start, seeks_held, seeks_within, seeks_found, seeks_on, seeks_end}
 use Rattle.tg_cells.proofs.cells.Cells.find.Goals as goal
 

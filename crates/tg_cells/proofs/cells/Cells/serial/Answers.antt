@@ -1,11 +1,11 @@
 use Rattle.std.proofs.Common.{◌∙◌, ap}
 use Rattle.tg_cells.specs.declared.pool.Rest.{Rest}
-use Rattle.tg_cells.specs.Lists.{Edge}
+use Rattle.tg_cells.specs.Promise.Lists.{Edge}
 use Rattle.tg_cells.proofs.InsideLemmas.{linked_within, read_cell}
 use Rattle.tg_cells.proofs.cells.Cells.serial.Goals as goal
 
 pub rest-requires : goal.rest-requires
-rest-requires c = let l = c.requires in linked_within c.self.inside c.args.self.now c.args.cell l.owner l.before l.after l.edge c.self.view_is c.self.invariant.inside l.stands
+rest-requires c = let l = c.requires in linked_within c.self.inside c.args.self.now c.self.view_is c.self.invariant.inside c.args.cell l.owner l.before l.after l.edge l.stands
 
 pub returns : goal.returns
-returns c = λ i p e r st. ap (λ (x : Rest). x.serial) c.rest.ensures ∙ ap (λ (x : Edge). x.serial) (read_cell c.self.inside c.args.self.now c.args.cell i p r e c.self.view_is c.self.invariant.inside st)
+returns c = λ i p e r st. ap (λ (x : Rest). x.serial) c.rest.ensures ∙ ap (λ (x : Edge). x.serial) (read_cell c.self.inside c.args.self.now c.self.view_is c.self.invariant.inside c.args.cell i p r e st)

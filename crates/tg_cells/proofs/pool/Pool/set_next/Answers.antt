@@ -1,7 +1,7 @@
 use Rattle.std.proofs.Common.{List, ap, refl}
 use Rattle.tg_lists.proofs.ColumnsLemmas.{left_changed}
 use Rattle.tg_cells.specs.declared.pool.Cell.{Cell}
-use Rattle.tg_cells.specs.Pool.{whole}
+use Rattle.tg_cells.specs.Inner.Pool.{whole}
 use Rattle.tg_cells.proofs.pool.Pool.set_next.Goals as goal
 
 pub returns-then-number-len : goal.returns-then-number-len

@@ -1,11 +1,11 @@
 use Rattle.std.proofs.Common.{◌++◌, ◌∷◌, [], append-nil, append_assoc, arith, ap, length, subst, sym, ◌∙◌, List}
-use Rattle.tg_lists.specs.Membership.{Contains}
+use Rattle.tg_lists.specs.Promise.Membership.{Contains}
 use Rattle.tg_lists.proofs.MembershipLemmas.{contains_middle}
-use Rattle.tg_cells.specs.Lists.{Edge}
-use Rattle.tg_heap.specs.Graph.{edges}
-use Rattle.tg_heap.specs.Marking.{remaining}
-use Rattle.tg_collect.specs.Machine.{lists_of}
-use Rattle.tg_collect.specs.Stored.{stored}
+use Rattle.tg_cells.specs.Promise.Lists.{Edge}
+use Rattle.tg_heap.specs.Promise.Graph.{edges}
+use Rattle.tg_heap.specs.Inner.Marking.{remaining}
+use Rattle.tg_collect.specs.Inner.Machine.{lists_of}
+use Rattle.tg_collect.specs.Inner.Stored.{stored}
 use Rattle.tg_collect.proofs.SlotLemmas.{out_all}
 use Rattle.tg_collect.proofs.FiguresLemmas.{arrows_more, left_is, name_shown, none_left, turn}
 use Rattle.tg_collect.proofs.machine.Machine.add_arrows.Goals as goal

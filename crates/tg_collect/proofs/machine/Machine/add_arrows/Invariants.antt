@@ -1,10 +1,10 @@
 use Rattle.std.proofs.Common.{◌≡◌, ◌++◌, List, length, map}
 use Rattle.std.specs.List.{filter}
-use Rattle.tg_cells.specs.Lists.{Edge, first_cell}
-use Rattle.tg_heap.specs.Graph.{edges}
-use Rattle.tg_heap.specs.Marking.{remaining}
-use Rattle.tg_collect.specs.Figures.{edge_from, is_there}
-use Rattle.tg_collect.specs.Stored.{stored}
+use Rattle.tg_cells.specs.Promise.Lists.{Edge, first_cell}
+use Rattle.tg_heap.specs.Promise.Graph.{edges}
+use Rattle.tg_heap.specs.Inner.Marking.{remaining}
+use Rattle.tg_collect.specs.Inner.Figures.{edge_from, is_there}
+use Rattle.tg_collect.specs.Inner.Stored.{stored}
 use Rattle.tg_collect.proofs.machine.Machine.add_arrows.Given as goal
 
 -- The edges before the cursor were added.

@@ -1,6 +1,6 @@
 use Rattle.std.proofs.Common.{◌≡◌}
-use Rattle.tg_collect.specs.Figures.{arrows}
-use Rattle.tg_collect.specs.Stored.{stored}
+use Rattle.tg_collect.specs.Inner.Figures.{arrows}
+use Rattle.tg_collect.specs.Inner.Stored.{stored}
 use Rattle.tg_collect.proofs.FoundLemmas.{gathered}
 use Rattle.tg_collect.proofs.machine.Machine.arrows.Given as goal
 

@@ -1,5 +1,5 @@
 use Rattle.std.proofs.Common.{◌∙◌, ap, length}
-use Rattle.tg_slots.specs.Table.{Table}
+use Rattle.tg_slots.specs.Promise.Table.{Table}
 use Rattle.tg_slots.proofs.FreshLemmas.{nones_length}
 use Rattle.tg_collect.proofs.OpeningLemmas.{blank_first}
 use Rattle.tg_collect.proofs.machine.Machine.blank.Goals as goal

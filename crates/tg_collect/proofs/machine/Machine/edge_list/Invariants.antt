@@ -1,6 +1,6 @@
 use Rattle.std.proofs.Common.{◌≡◌, ◌-◌, ◌++◌, List, length, map}
-use Rattle.tg_cells.specs.Lists.{Edge, first_cell}
-use Rattle.tg_heap.specs.Graph.{edges}
+use Rattle.tg_cells.specs.Promise.Lists.{Edge, first_cell}
+use Rattle.tg_heap.specs.Promise.Graph.{edges}
 use Rattle.tg_collect.proofs.machine.Machine.edge_list.Given as goal
 
 -- The edges before the cursor are in the list.

@@ -1,8 +1,8 @@
 use Rattle.std.proofs.Common.{◌≡◌, ap, sym}
-use Rattle.tg_slots.specs.Table.{in_slot}
-use Rattle.tg_collect.specs.Figures.{figure_in}
-use Rattle.tg_collect.specs.Machine.{lists_of}
-use Rattle.tg_collect.specs.Stored.{stored}
+use Rattle.tg_slots.specs.Promise.Table.{in_slot}
+use Rattle.tg_collect.specs.Promise.Figures.{figure_in}
+use Rattle.tg_collect.specs.Inner.Machine.{lists_of}
+use Rattle.tg_collect.specs.Inner.Stored.{stored}
 use Rattle.tg_collect.proofs.SlotLemmas.{at_free, at_slot, coloured_so}
 use Rattle.tg_collect.proofs.machine.Machine.figure_at.Goals as goal
 

@@ -1,7 +1,7 @@
 use Rattle.std.proofs.Common.{arith, rules}
 use Rattle.std.proofs.lemmas.List.Sorted.{answers_always}
-use Rattle.tg_collect.specs.Figures.{figure}
-use Rattle.tg_collect.specs.Stored.{stored}
+use Rattle.tg_collect.specs.Promise.Figures.{figure}
+use Rattle.tg_collect.specs.Inner.Stored.{stored}
 use Rattle.tg_collect.proofs.FiguresLemmas.{figure_named}
 use Rattle.tg_collect.proofs.FoundLemmas.{found_sorted}
 use Rattle.tg_collect.proofs.machine.Machine.figures.Goals as goal

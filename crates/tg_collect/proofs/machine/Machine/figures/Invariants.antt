@@ -1,7 +1,7 @@
 use Rattle.std.proofs.Common.{◌≡◌}
 use Rattle.std.specs.Option.{option_to_list}
-use Rattle.tg_collect.specs.Figures.{figure}
-use Rattle.tg_collect.specs.Stored.{stored}
+use Rattle.tg_collect.specs.Promise.Figures.{figure}
+use Rattle.tg_collect.specs.Inner.Stored.{stored}
 use Rattle.tg_collect.proofs.FoundLemmas.{gathered}
 use Rattle.tg_collect.proofs.machine.Machine.figures.Given as goal
 

@@ -1,6 +1,6 @@
 use Rattle.std.proofs.Common.{ℕ, ◌∙◌, subst}
-use Rattle.tg_collect.specs.Stored.{stored}
-use Rattle.tg_collect.specs.Openings.{Opened}
+use Rattle.tg_collect.specs.Inner.Stored.{stored}
+use Rattle.tg_collect.specs.Promise.Openings.{Opened}
 use Rattle.tg_collect.proofs.OpeningEdges.{no_edges_yet}
 use Rattle.tg_collect.proofs.machine.Machine.open.Goals as goal
 

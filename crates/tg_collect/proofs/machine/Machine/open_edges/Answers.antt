@@ -1,6 +1,6 @@
 use Rattle.std.proofs.Common.{◌+◌, ap, arith, length}
 use Rattle.tg_collect.specs.declared.machine.Roots.{Roots}
-use Rattle.tg_collect.specs.Openings.{rank}
+use Rattle.tg_collect.specs.Inner.Openings.{rank}
 use Rattle.tg_collect.proofs.OpeningLemmas.{count_is}
 use Rattle.tg_collect.proofs.OpeningEdges.{row_done, rows_done}
 use Rattle.tg_collect.proofs.machine.Machine.open_edges.Goals as goal

@@ -1,5 +1,5 @@
 use Rattle.std.proofs.Common.{◌≡◌, ◌+◌}
-use Rattle.tg_collect.specs.Openings.{OpensEdges, KeepsSize, rank}
+use Rattle.tg_collect.specs.Inner.Openings.{OpensEdges, KeepsSize, rank}
 use Rattle.tg_collect.proofs.machine.Machine.open_edges.Given as goal
 
 -- The pairs of the principals so far are done, and the pairs of this one.

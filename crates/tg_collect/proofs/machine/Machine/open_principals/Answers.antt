@@ -1,6 +1,6 @@
 use Rattle.std.proofs.Common.{◌≡◌, ◌+◌, ◌∙◌, sym, subst, ap, arith}
 use Rattle.std.specs.Option.{is_some}
-use Rattle.tg_collect.specs.Openings.{OpensFirst}
+use Rattle.tg_collect.specs.Inner.Openings.{OpensFirst}
 use Rattle.tg_collect.proofs.OpeningEdges.{kind_low, kind_high}
 use Rattle.tg_collect.proofs.machine.Machine.open_principals.Goals as goal
 

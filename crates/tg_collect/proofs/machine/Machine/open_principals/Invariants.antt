@@ -1,6 +1,6 @@
 use Rattle.std.proofs.Common.{◌≡◌, ◌≤◌, ◌-◌, ℕ}
-use Rattle.tg_graph.specs.Opening.{subjects}
-use Rattle.tg_collect.specs.Openings.{OpensFirst, KeepsSize}
+use Rattle.tg_graph.specs.Promise.Opening.{subjects}
+use Rattle.tg_collect.specs.Inner.Openings.{OpensFirst, KeepsSize}
 use Rattle.tg_collect.proofs.machine.Machine.open_principals.Given as goal
 
 -- So many principals are there.

@@ -1,5 +1,5 @@
 use Rattle.std.proofs.Common.{◌≤◌, length}
-use Rattle.tg_collect.specs.Machine.{other_slots}
+use Rattle.tg_collect.specs.Inner.Machine.{other_slots}
 use Rattle.tg_collect.proofs.SlotLemmas.{ShadedFrom}
 use Rattle.tg_collect.proofs.machine.Machine.shade_others.Given as goal
 

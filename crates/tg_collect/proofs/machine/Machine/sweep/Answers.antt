@@ -1,5 +1,5 @@
 use Rattle.std.proofs.Common.{◌∙◌, ap}
-use Rattle.tg_slots.specs.Table.{Has}
+use Rattle.tg_slots.specs.Promise.Table.{Has}
 use Rattle.tg_collect.proofs.LineLemmas.{sweep_dark}
 use Rattle.tg_collect.proofs.machine.Machine.sweep.Goals as goal
 

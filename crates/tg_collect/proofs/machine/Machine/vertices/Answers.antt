@@ -1,7 +1,7 @@
 use Rattle.std.proofs.Common.{arith, rules}
 use Rattle.std.proofs.lemmas.List.Sorted.{answers_always}
-use Rattle.tg_collect.specs.Parts.{listed}
-use Rattle.tg_collect.specs.Stored.{stored}
+use Rattle.tg_collect.specs.Inner.Parts.{listed_at}
+use Rattle.tg_collect.specs.Inner.Stored.{stored}
 use Rattle.tg_collect.proofs.FoundLemmas.{found_sorted}
 use Rattle.tg_collect.proofs.PartsLemmas.{listed_named}
 use Rattle.tg_collect.proofs.machine.Machine.vertices.Goals as goal
@@ -10,6 +10,6 @@ pub returns : goal.returns
 returns c =
     let m = c.args.self.now in
     let found = c.sort_unstable_by_key.new.self.items in
-    found_sorted m c.requires (listed (stored m)) (λ x. x.0) (listed_named (stored m)) c.loop-id.id (omega arith) found
+    found_sorted m c.requires (listed_at (stored m)) (λ x. x.0) (listed_named (stored m)) c.loop-id.id (omega arith) found
     (rw c.loop-id.invariant at c.sort_unstable_by_key.ensures.permutation)
     (c.sort_unstable_by_key.ensures.sorted (λ x. x.0) (answers_always _ _ _ (λ f a r g h. search rules)))

@@ -1,8 +1,8 @@
 use Rattle.std.proofs.Common.{sym}
-use Rattle.tg_collect.specs.Machine.{Whole}
-use Rattle.tg_collect.specs.Stored.{stored}
-use Rattle.tg_collect.specs.Readings.{serial_at}
-use Rattle.tg_collect.specs.Sessions.{Assumed}
+use Rattle.tg_collect.specs.Inner.Machine.{Whole}
+use Rattle.tg_collect.specs.Inner.Stored.{stored}
+use Rattle.tg_collect.specs.Promise.Readings.{serial_at}
+use Rattle.tg_collect.specs.Promise.Sessions.{Assumed}
 use Rattle.tg_collect.proofs.CallLemmas.{placed_serial}
 use Rattle.tg_collect.proofs.RootLemmas.{acted_assumed, agent_assumed}
 use Rattle.tg_collect.proofs.store.Store.assume.Goals as goal

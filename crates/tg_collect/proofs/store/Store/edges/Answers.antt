@@ -1,8 +1,8 @@
 use Rattle.std.proofs.Common.{ℕ, rules}
-use Rattle.tg_rights.specs.Letters.{Letters}
+use Rattle.tg_rights.specs.Promise.Letters.{Letters}
 use Rattle.std.proofs.lemmas.List.Sorted.{IsNonDecreasingBy-from_sort_by_key}
-use Rattle.tg_marking.specs.Values.{as_kept}
-use Rattle.tg_collect.specs.Stored.{stored}
+use Rattle.tg_marking.specs.Promise.Values.{as_kept}
+use Rattle.tg_collect.specs.Inner.Stored.{stored}
 use Rattle.tg_collect.proofs.StoreLemmas.{holds, placed_within, once_stored, owner, serial_is}
 use Rattle.tg_collect.proofs.EdgesLemmas.{edges_listed, is_store}
 use Rattle.tg_collect.proofs.store.Store.edges.Goals as goal

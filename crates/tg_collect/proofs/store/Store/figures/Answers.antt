@@ -1,5 +1,5 @@
 use Rattle.std.proofs.Common.{true}
-use Rattle.tg_collect.specs.Stored.{stored}
+use Rattle.tg_collect.specs.Inner.Stored.{stored}
 use Rattle.tg_collect.proofs.FiguresLemmas.{given, taken}
 use Rattle.tg_collect.proofs.FoundLemmas.{chosen, optional}
 use Rattle.tg_collect.proofs.store.Store.figures.Goals as goal

@@ -1,5 +1,5 @@
 use Rattle.std.proofs.Common.{◌∙◌, sym}
-use Rattle.tg_collect.specs.Machine.{lists_of}
+use Rattle.tg_collect.specs.Inner.Machine.{lists_of}
 use Rattle.tg_collect.proofs.SlotLemmas.{free_so}
 use Rattle.tg_collect.proofs.store.Store.free_slots.Goals as goal
 

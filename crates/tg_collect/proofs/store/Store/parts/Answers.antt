@@ -1,4 +1,4 @@
-use Rattle.tg_collect.specs.Stored.{stored}
+use Rattle.tg_collect.specs.Inner.Stored.{stored}
 use Rattle.tg_collect.proofs.PartsLemmas.{lists_held}
 use Rattle.tg_collect.proofs.store.Store.parts.Goals as goal
 

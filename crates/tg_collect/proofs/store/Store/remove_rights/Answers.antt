@@ -1,7 +1,7 @@
-use Rattle.tg_collect.specs.Machine.{Whole}
-use Rattle.tg_collect.specs.Stored.{stored}
-use Rattle.tg_collect.specs.Readings.{serial_at}
-use Rattle.tg_collect.specs.Sessions.{RightsRemoved}
+use Rattle.tg_collect.specs.Inner.Machine.{Whole}
+use Rattle.tg_collect.specs.Inner.Stored.{stored}
+use Rattle.tg_collect.specs.Promise.Readings.{serial_at}
+use Rattle.tg_collect.specs.Promise.Sessions.{RightsRemoved}
 use Rattle.tg_collect.proofs.SeatLemmas.{acted_removed}
 use Rattle.tg_collect.proofs.StoreLemmas.{holds, found_edge}
 use Rattle.tg_collect.proofs.CallLemmas.{removed}

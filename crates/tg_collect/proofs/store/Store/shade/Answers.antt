@@ -1,6 +1,6 @@
-use Rattle.tg_collect.specs.Machine.{Whole}
-use Rattle.tg_collect.specs.Stored.{stored}
-use Rattle.tg_collect.specs.Sessions.{Shaded}
+use Rattle.tg_collect.specs.Inner.Machine.{Whole}
+use Rattle.tg_collect.specs.Inner.Stored.{stored}
+use Rattle.tg_collect.specs.Promise.Sessions.{Shaded}
 use Rattle.tg_collect.proofs.SeatLemmas.{acted_shaded, shade_called}
 use Rattle.tg_collect.proofs.store.Store.shade.Goals as goal
 

@@ -1,7 +1,7 @@
 use Rattle.std.proofs.Common.{subst, ◌≤◌, arith}
-use Rattle.tg_collect.specs.Stored.{Stored}
-use Rattle.tg_collect.specs.Readings.{slot_count}
-use Rattle.tg_collect.specs.Views.{IsStore}
+use Rattle.tg_collect.specs.Promise.Stored.{Stored}
+use Rattle.tg_collect.specs.Promise.Readings.{slot_count}
+use Rattle.tg_collect.specs.Promise.Views.{IsStore}
 use Rattle.tg_collect.proofs.SlotLemmas.{zip_size}
 use Rattle.tg_collect.proofs.EdgesLemmas.{is_store}
 use Rattle.tg_collect.proofs.store.Store.soundness.Goals as goal

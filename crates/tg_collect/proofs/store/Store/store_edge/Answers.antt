@@ -1,8 +1,8 @@
 use Rattle.std.proofs.Common.{ap, subst, sym, ℕ, ◌≢◌, arith}
-use Rattle.tg_slots.specs.Table.{Free}
-use Rattle.tg_heap.specs.Graph.{mark_at}
+use Rattle.tg_slots.specs.Promise.Table.{Free}
+use Rattle.tg_heap.specs.Promise.Graph.{mark_at}
 use Rattle.tg_collect.specs.declared.machine.Root.{Root}
-use Rattle.tg_collect.specs.Machine.{Adds}
+use Rattle.tg_collect.specs.Inner.Machine.{Adds}
 use Rattle.tg_collect.proofs.CallLemmas.{AddCalled, add_called}
 use Rattle.tg_collect.proofs.StoreLemmas.{placed_mark}
 use Rattle.tg_collect.proofs.store.Store.store_edge.Goals as goal

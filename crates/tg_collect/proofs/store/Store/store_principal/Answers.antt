@@ -1,8 +1,8 @@
 use Rattle.std.proofs.Common.{sym}
-use Rattle.tg_collect.specs.Machine.{Whole}
-use Rattle.tg_collect.specs.Stored.{stored}
-use Rattle.tg_collect.specs.Readings.{serial_at}
-use Rattle.tg_collect.specs.Sessions.{PrincipalStored}
+use Rattle.tg_collect.specs.Inner.Machine.{Whole}
+use Rattle.tg_collect.specs.Inner.Stored.{stored}
+use Rattle.tg_collect.specs.Promise.Readings.{serial_at}
+use Rattle.tg_collect.specs.Promise.Sessions.{PrincipalStored}
 use Rattle.tg_collect.proofs.PrincipalLemmas.{acted_principal, principal_stored}
 use Rattle.tg_collect.proofs.store.Store.store_principal.Goals as goal
 

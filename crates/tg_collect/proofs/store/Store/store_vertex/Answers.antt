@@ -1,8 +1,8 @@
 use Rattle.std.proofs.Common.{arith}
-use Rattle.tg_collect.specs.Machine.{Whole, lists_of}
-use Rattle.tg_collect.specs.Stored.{stored}
-use Rattle.tg_collect.specs.Readings.{serial_at}
-use Rattle.tg_collect.specs.Sessions.{VertexStored}
+use Rattle.tg_collect.specs.Inner.Machine.{Whole, lists_of}
+use Rattle.tg_collect.specs.Inner.Stored.{stored}
+use Rattle.tg_collect.specs.Promise.Readings.{serial_at}
+use Rattle.tg_collect.specs.Promise.Sessions.{VertexStored}
 use Rattle.tg_collect.proofs.SeatLemmas.{acted_vertex}
 use Rattle.tg_collect.proofs.SlotLemmas.{free_so}
 use Rattle.tg_collect.proofs.VertexLemmas.{vertex_called, still_owner, still_none}

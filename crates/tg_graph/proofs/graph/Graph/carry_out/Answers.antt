@@ -1,8 +1,7 @@
 use Rattle.std.proofs.Common.{◌≢◌, sym, subst}
 use Rattle.tg_rights.specs.declared.kind.Kind.TheVariants as kind
-use Rattle.tg_graph.specs.Deciding.{IsSubjectIfNamed}
-use Rattle.tg_graph.specs.Names.{MayBeNamed}
-use Rattle.tg_graph.specs.Protection.{IsGraph, IsVertex}
+use Rattle.tg_graph.specs.Inner.Deciding.{IsSubjectIfNamed}
+use Rattle.tg_graph.specs.Promise.Protection.{MayBeNamed, IsGraph, IsVertex}
 use Rattle.tg_graph.proofs.VertexLemmas.{IsVertex-from_kind}
 use Rattle.tg_graph.proofs.CommandsKeepGraphsLemmas.{Granted, granted}
 use Rattle.tg_graph.proofs.graph.Graph.carry_out.Goals as goal

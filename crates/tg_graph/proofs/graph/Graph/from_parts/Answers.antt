@@ -1,7 +1,8 @@
 use Rattle.std.proofs.Common.{◌∙◌, ap, map, subst, sym}
 use Rattle.std.specs.List.{list_any}
 use Rattle.std.specs.Ordering.{eq_by_cmp, nat_cmp}
-use Rattle.tg_graph.specs.Parts.{Before, Rises, label_entry}
+use Rattle.tg_graph.specs.Promise.Parts.{Before, Rises}
+use Rattle.tg_graph.specs.Inner.Parts.{label_entry}
 use Rattle.tg_graph.proofs.PartsLemmas.{made_IsGraph, made_lists}
 use Rattle.tg_graph.proofs.graph.Graph.from_parts.Goals as goal
 

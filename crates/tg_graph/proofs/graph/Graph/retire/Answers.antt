@@ -1,8 +1,7 @@
 use Rattle.std.proofs.Common.{◌≡◌, ap, sym, ◌∙◌, subst}
 use Rattle.std.specs.FinSet as set
-use Rattle.tg_graph.specs.Names.{without_member}
-use Rattle.tg_graph.specs.Protection.{IsGraph}
-use Rattle.tg_graph.specs.Views.{protection_of}
+use Rattle.tg_graph.specs.Promise.Protection.{without_member, IsGraph}
+use Rattle.tg_graph.specs.Inner.Views.{protection_of}
 use Rattle.tg_graph.proofs.VertexLemmas.{retired-IsGraph, retired-shown}
 use Rattle.tg_graph.proofs.graph.Graph.retire.Goals as goal
 

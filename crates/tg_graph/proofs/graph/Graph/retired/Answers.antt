@@ -1,7 +1,7 @@
 use Rattle.std.proofs.Common.{ap, sym, ◌∙◌}
 use Rattle.std.specs.Cmp.{nat_cmp_total}
 use Rattle.std.specs.FinSet as set
-use Rattle.tg_graph.specs.Protection.{Protection, has_retired}
+use Rattle.tg_graph.specs.Promise.Protection.{Protection, has_retired}
 use Rattle.tg_graph.proofs.graph.Graph.retired.Goals as goal
 
 pub returns : goal.returns

@@ -5,10 +5,10 @@ use Rattle.std.specs.List.{list_all}
 use Rattle.std.specs.Ordering.{nat_cmp}
 use Rattle.tg_rights.specs.declared.kind.Kind.TheVariants as kind
 use Rattle.tg_rights.specs.declared.limits.TheConstants.{MAX_PRINCIPALS}
-use Rattle.tg_rights.specs.Name.{is_name}
-use Rattle.tg_graph.specs.Protection.{Protection, IsGraph}
-use Rattle.tg_graph.specs.Opening.{first_members, principal_count, subjects}
-use Rattle.tg_graph.specs.Views.{protection_of}
+use Rattle.tg_rights.specs.Promise.Name.{is_name}
+use Rattle.tg_graph.specs.Promise.Protection.{Protection, IsGraph}
+use Rattle.tg_graph.specs.Promise.Opening.{first_members, principal_count, subjects}
+use Rattle.tg_graph.specs.Inner.Views.{protection_of}
 use Rattle.tg_graph.proofs.VertexLemmas.{insert-shown}
 use Rattle.tg_graph.proofs.OpeningLemmas.{is_small, names-sound, opened-IsGraph, opened-IsRoll, principals-few, subjects-next, no_triples}
 use Rattle.tg_graph.proofs.graph.Graph.with_principals.Goals as goal

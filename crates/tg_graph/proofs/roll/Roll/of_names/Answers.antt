@@ -2,7 +2,7 @@ use Rattle.std.proofs.Common.{◌≡◌, ◌≤◌, [], ◌∷◌, ◌++◌, len
 use Rattle.std.proofs.Math.ListN.{drop_of_length-le}
 use Rattle.std.proofs.lemmas.List.{drop_more}
 use Rattle.tg_graph.specs.declared.member.Member.{Member}
-use Rattle.tg_graph.specs.Opening.{first_members}
+use Rattle.tg_graph.specs.Promise.Opening.{first_members}
 use Rattle.tg_graph.proofs.roll.Roll.of_names.Goals as goal
 
 pub loop-word-init : goal.loop-word-init

@@ -1,5 +1,5 @@
 use Rattle.std.proofs.Common.{◌≡◌, ◌++◌, ◌+◌, drop, length}
-use Rattle.tg_graph.specs.Opening.{first_members}
+use Rattle.tg_graph.specs.Promise.Opening.{first_members}
 use Rattle.tg_graph.proofs.roll.Roll.of_names.Given as goal
 
 -- the principals so far, and those of the names that are left

@@ -4,7 +4,7 @@ use Rattle.std.specs.Vec.Iter.{into_iter_items}
 use Rattle.std.proofs.lemmas.List.Sorted.{IsNonDecreasingBy-from_sort_by_key, IsPermutation-map, length_permutation}
 use Rattle.tg_lists.proofs.MembershipLemmas.{map_append}
 use Rattle.tg_graph.specs.declared.member.Member.{Member}
-use Rattle.tg_graph.specs.Parts.{member_of, members_of}
+use Rattle.tg_graph.specs.Inner.Parts.{member_of, members_of}
 use Rattle.tg_graph.proofs.ListedLemmas.{all_given, members_length, members_up, one_more}
 use Rattle.tg_graph.proofs.roll.Roll.of_pairs.Goals as goal
 

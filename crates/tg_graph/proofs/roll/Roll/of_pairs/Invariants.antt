@@ -1,6 +1,6 @@
 use Rattle.std.proofs.Common.{◌≡◌, ◌++◌, length}
 use Rattle.std.specs.Vec.Iter.{into_iter_items, into_iter_len}
-use Rattle.tg_graph.specs.Parts.{members_of}
+use Rattle.tg_graph.specs.Inner.Parts.{members_of}
 use Rattle.tg_graph.proofs.roll.Roll.of_pairs.Given as goal
 
 -- the principals so far, and those that are left

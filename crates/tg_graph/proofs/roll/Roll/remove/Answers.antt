@@ -1,6 +1,6 @@
 use Rattle.std.proofs.Common.{rules, ap, ◌∙◌}
 use Rattle.std.proofs.lemmas.Fn.{filter_same}
-use Rattle.tg_graph.specs.Names.{without_member}
+use Rattle.tg_graph.specs.Promise.Protection.{without_member}
 use Rattle.tg_graph.proofs.roll.Roll.remove.Goals as goal
 
 pub returns : goal.returns

@@ -1,7 +1,8 @@
 use Rattle.std.proofs.Common.{◌∙◌, sym}
-use Rattle.tg_cells.specs.Lists.{HasNone}
-use Rattle.tg_heap.specs.Graph.{edges, heap_of}
-use Rattle.tg_slots.specs.Table.{slot}
+use Rattle.tg_cells.specs.Promise.Lists.{HasNone}
+use Rattle.tg_heap.specs.Promise.Graph.{edges}
+use Rattle.tg_heap.specs.Inner.Graph.{heap_of}
+use Rattle.tg_slots.specs.Promise.Table.{slot}
 use Rattle.tg_slots.specs.declared.slots.Occupant.{Occupant}
 use Rattle.tg_heap.proofs.JoinLemmas.{reads}
 use Rattle.tg_heap.proofs.heap.Heap.add_edge.Goals as goal

@@ -1,9 +1,9 @@
 use Rattle.std.proofs.Common.{◌≡◌, ◌∙◌, ◌∷◌, ◌++◌, sym, ap, subst, ℕ, inl, set}
-use Rattle.tg_rights.specs.Letters.{Letters, joined}
-use Rattle.tg_cells.specs.Lists.{CellLists}
-use Rattle.tg_heap.specs.Graph.{heap_of}
-use Rattle.tg_heap.specs.Calls.{IsAdded}
-use Rattle.tg_slots.specs.Table.{slot}
+use Rattle.tg_rights.specs.Promise.Letters.{Letters, joined}
+use Rattle.tg_cells.specs.Promise.Lists.{CellLists}
+use Rattle.tg_heap.specs.Inner.Graph.{heap_of}
+use Rattle.tg_heap.specs.Promise.Calls.{IsAdded}
+use Rattle.tg_slots.specs.Promise.Table.{slot}
 use Rattle.tg_slots.specs.declared.slots.Occupant.{Occupant}
 use Rattle.tg_heap.proofs.JoinLemmas.{joins_label, reads, sought}
 use Rattle.tg_heap.proofs.heap.Heap.add_rights.Goals as goal

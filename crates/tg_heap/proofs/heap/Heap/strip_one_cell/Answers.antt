@@ -1,6 +1,6 @@
 use Rattle.std.proofs.Common.{ap, []}
-use Rattle.tg_cells.specs.Lists.{Stands, owned, CellLists}
-use Rattle.tg_heap.specs.Graph.{heap_of}
+use Rattle.tg_cells.specs.Promise.Lists.{Stands, owned, CellLists}
+use Rattle.tg_heap.specs.Inner.Graph.{heap_of}
 use Rattle.tg_heap.proofs.JoinLemmas.{first_is, joins_unlink}
 use Rattle.tg_heap.proofs.heap.Heap.strip_one_cell.Goals as goal
 

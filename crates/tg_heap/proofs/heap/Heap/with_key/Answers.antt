@@ -1,8 +1,8 @@
 use Rattle.std.proofs.Common.{sym, ap, List, ◌∙◌, subst, length}
-use Rattle.tg_lists.specs.Membership.{Contains}
-use Rattle.tg_slots.specs.Table.{Table}
+use Rattle.tg_lists.specs.Promise.Membership.{Contains}
+use Rattle.tg_slots.specs.Promise.Table.{Table}
 use Rattle.tg_slots.proofs.FreshLemmas.{nones_length}
-use Rattle.tg_cells.specs.Lists.{Edge}
+use Rattle.tg_cells.specs.Promise.Lists.{Edge}
 use Rattle.tg_heap.proofs.heap.Heap.with_key.Goals as goal
 
 pub invariant_of-result : goal.invariant_of-result

@@ -1,7 +1,8 @@
 use Rattle.std.proofs.Common.{◌∙◌, ℕ, List, [], refl, ap, length}
 use Rattle.std.proofs.lemmas.List.{length-replicate}
-use Rattle.tg_index.specs.Rows.{Rows, row}
-use Rattle.tg_index.proofs.StepLemmas.{empty_at, leaves-new}
+use Rattle.tg_index.specs.Promise.Rows.{Rows, row}
+use Rattle.tg_lists.proofs.NestedLemmas.{empty_at}
+use Rattle.tg_index.proofs.StepLemmas.{leaves-new}
 use Rattle.tg_index.proofs.buckets.Buckets.new.Goals as goal
 
 pub invariant_of-result : goal.invariant_of-result
@@ -14,5 +15,5 @@ returns c =
       ap (λ (v : Rows). length v.lists) shows ∙ length-replicate {A = List ℕ} c.args.buckets [],
       ap (λ (v : Rows). v.used) shows,
       refl,
-      λ b. ap (λ (v : Rows). row v.lists b) shows ∙ empty_at c.args.buckets b,
+      λ b. ap (λ (v : Rows). row v.lists b) shows ∙ empty_at {X = ℕ} c.args.buckets b,
     )

@@ -1,6 +1,6 @@
 use Rattle.std.proofs.Common.{List, ◌∙◌, ap}
 use Rattle.tg_index.specs.declared.buckets.Link.{Link}
-use Rattle.tg_index.specs.Links.{with_previous}
+use Rattle.tg_index.specs.Inner.Links.{with_previous}
 use Rattle.tg_index.proofs.StepLemmas.{puts}
 use Rattle.tg_index.proofs.buckets.Buckets.put.Goals as goal
 

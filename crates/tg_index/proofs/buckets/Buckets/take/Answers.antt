@@ -1,8 +1,8 @@
 use Rattle.std.proofs.Common.{ℕ, List, length, ◌∙◌, ap, cond, eqb, set, arith}
 use Rattle.tg_lists.proofs.MembershipLemmas.{split_at}
 use Rattle.tg_index.specs.declared.buckets.Link.{Link}
-use Rattle.tg_index.specs.Rows.{row}
-use Rattle.tg_index.specs.Links.{with_previous, with_next}
+use Rattle.tg_index.specs.Promise.Rows.{row}
+use Rattle.tg_index.specs.Inner.Links.{with_previous, with_next}
 use Rattle.tg_index.proofs.RowLemmas.{held_within}
 use Rattle.tg_index.proofs.StepLemmas.{held_used, seen, takes}
 use Rattle.tg_index.proofs.buckets.Buckets.take.Goals as goal

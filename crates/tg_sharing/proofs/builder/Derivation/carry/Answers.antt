@@ -1,5 +1,5 @@
 use Rattle.std.proofs.Common.{subst}
-use Rattle.tg_sharing.specs.Marking.{IsBridge}
+use Rattle.tg_sharing.specs.Inner.Marking.{IsBridge}
 use Rattle.tg_sharing.specs.declared.marks.BridgeWay.{BridgeWay}
 use Rattle.tg_sharing.specs.declared.marks.BridgeWay.TheVariants as bridge
 use Rattle.tg_sharing.proofs.GrowingLemmas.{Continues-trans, Keeps-trans, draws_gained, keeps_holds, take_later}

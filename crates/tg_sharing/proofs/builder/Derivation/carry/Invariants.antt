@@ -1,8 +1,8 @@
 use Rattle.std.proofs.Common.{◌≡◌, Some}
-use Rattle.tg_sharing.specs.Growing.{Continues, Draws}
-use Rattle.tg_sharing.specs.Marking.{bridge_of}
-use Rattle.tg_sharing.specs.Paths.{Holds}
-use Rattle.tg_sharing.specs.Spans.{IsActor}
+use Rattle.tg_sharing.specs.Inner.Growing.{Continues, TakesFrom}
+use Rattle.tg_sharing.specs.Inner.Marking.{bridge_of}
+use Rattle.tg_sharing.specs.Inner.Paths.{Holds}
+use Rattle.tg_sharing.specs.Promise.Spans.{IsActor}
 use Rattle.tg_sharing.proofs.builder.Derivation.carry.Given as goal
 
 -- the holder can take from where the walk is
@@ -11,7 +11,7 @@ invariant-loop-bridge l = record {
   continues : Continues l.fn.self l.self;
   bridge : bridge_of l.marks l.at ≡ Some l.bridge;
   holder : IsActor l.graph l.holder;
-  draws : Draws l.self.graph l.holder l.at;
+  draws : TakesFrom l.self.graph l.holder l.at;
   held : Holds l.self.graph l.holder l.load.rights l.load.over;
 }
 

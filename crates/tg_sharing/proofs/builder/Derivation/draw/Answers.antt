@@ -1,6 +1,6 @@
 use Rattle.std.proofs.Common.{◌∷◌, List, ℕ, subst, sym, ap, ◌∙◌}
-use Rattle.tg_rights.specs.Letters.{Letters, take_alone}
-use Rattle.tg_sharing.specs.Paths.{Holds, TakePath, path_end}
+use Rattle.tg_rights.specs.Promise.Letters.{Letters, take_alone}
+use Rattle.tg_sharing.specs.Inner.Paths.{Holds, TakePath, path_end}
 use Rattle.tg_sharing.proofs.GrowingLemmas.{Continues-trans, Keeps-trans, draws_gained, keeps_holds}
 use Rattle.tg_sharing.proofs.builder.Derivation.draw.Goals as goal
 

@@ -1,9 +1,9 @@
 use Rattle.std.proofs.Common.{◌++◌, ◌∷◌, [], inl, inr, subst, sym, ap, ◌∙◌}
-use Rattle.tg_rights.specs.Letters.{take_alone}
+use Rattle.tg_rights.specs.Promise.Letters.{take_alone}
 use Rattle.tg_rights.specs.declared.command.Command.{Command}
-use Rattle.tg_graph.specs.Rules.{Allowed, after}
-use Rattle.tg_sharing.specs.Growing.{Continues}
-use Rattle.tg_sharing.specs.Paths.{Holds}
+use Rattle.tg_graph.specs.Promise.Rules.{Allowed, after}
+use Rattle.tg_sharing.specs.Inner.Growing.{Continues}
+use Rattle.tg_sharing.specs.Inner.Paths.{Holds}
 use Rattle.tg_sharing.proofs.GrowingLemmas.{take_allowed, took}
 use Rattle.tg_sharing.proofs.builder.Derivation.gain.Goals as goal
 use Rattle.tg_sharing.proofs.builder.Derivation.gain.Goals.{In_ok-carry_out}

@@ -1,6 +1,6 @@
 use Rattle.std.proofs.Common.{sym, subst, inl}
 use Rattle.std.specs.Map.{keys_of}
-use Rattle.tg_lists.specs.Membership.{Contains}
+use Rattle.tg_lists.specs.Promise.Membership.{Contains}
 use Rattle.tg_sharing.proofs.GrowingLemmas.{Continues-refl}
 use Rattle.tg_sharing.proofs.LabelsLemmas.{Labels, edge_listed, entry_label}
 use Rattle.tg_sharing.proofs.builder.Derivation.gather_all.Goals as goal

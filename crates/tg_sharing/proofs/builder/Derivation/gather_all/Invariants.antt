@@ -1,10 +1,10 @@
 use Rattle.std.proofs.Common.{◌≡◌, ℕ, ◌⊎◌}
 use Rattle.std.specs.Map.{keys_of}
-use Rattle.tg_lists.specs.Membership.{Contains}
-use Rattle.tg_rights.specs.Letters.{Letters}
-use Rattle.tg_graph.specs.Protection.{IsEdge, label}
-use Rattle.tg_sharing.specs.Growing.{Continues}
-use Rattle.tg_sharing.specs.Prospects.{IsGathered}
+use Rattle.tg_lists.specs.Promise.Membership.{Contains}
+use Rattle.tg_rights.specs.Promise.Letters.{Letters}
+use Rattle.tg_graph.specs.Promise.Protection.{IsEdge, label}
+use Rattle.tg_sharing.specs.Inner.Growing.{Continues}
+use Rattle.tg_sharing.specs.Inner.Prospects.{IsGathered}
 use Rattle.tg_sharing.proofs.builder.Derivation.gather_all.Given as goal
 
 -- the rights of each edge are still to be gathered, or are there

@@ -1,9 +1,9 @@
 use Rattle.std.proofs.Common.{◌++◌, ◌∷◌, [], inl, inr, subst, sym, ap, ◌∙◌}
-use Rattle.tg_rights.specs.Letters.{grant_alone}
+use Rattle.tg_rights.specs.Promise.Letters.{grant_alone}
 use Rattle.tg_rights.specs.declared.command.Command.{Command}
-use Rattle.tg_graph.specs.Rules.{Allowed, after}
-use Rattle.tg_sharing.specs.Growing.{Continues}
-use Rattle.tg_sharing.specs.Paths.{Holds}
+use Rattle.tg_graph.specs.Promise.Rules.{Allowed, after}
+use Rattle.tg_sharing.specs.Inner.Growing.{Continues}
+use Rattle.tg_sharing.specs.Inner.Paths.{Holds}
 use Rattle.tg_sharing.proofs.GrowingLemmas.{grant_allowed, granted}
 use Rattle.tg_sharing.proofs.builder.Derivation.give.Goals as goal
 use Rattle.tg_sharing.proofs.builder.Derivation.give.Goals.{In_ok-carry_out}

@@ -1,7 +1,7 @@
 use Rattle.std.proofs.Common.{Bool, subst}
-use Rattle.tg_rights.specs.Letters.{grant}
-use Rattle.tg_sharing.specs.Fetching.{IsAtEnd}
-use Rattle.tg_sharing.specs.Spans.{Has}
+use Rattle.tg_rights.specs.Promise.Letters.{grant}
+use Rattle.tg_sharing.specs.Inner.Fetching.{IsAtEnd}
+use Rattle.tg_sharing.specs.Promise.Spans.{Has}
 use Rattle.tg_sharing.proofs.GrowingLemmas.{grant_later, keeps_holds}
 use Rattle.tg_sharing.proofs.builder.Derivation.hand_over.Goals as goal
 

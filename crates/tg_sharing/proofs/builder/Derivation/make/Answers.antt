@@ -1,8 +1,8 @@
 use Rattle.std.proofs.Common.{◌≡◌, ◌++◌, ◌∷◌, [], inl, inr, subst, sym, ap, ◌∙◌, refl, ℕ}
 use Rattle.tg_rights.specs.declared.command.Command.{Command}
 use Rattle.tg_rights.specs.declared.command.Command.TheVariants as command
-use Rattle.tg_graph.specs.Rules.{Applies}
-use Rattle.tg_sharing.specs.Growing.{Continues, Makes, both}
+use Rattle.tg_graph.specs.Promise.Rules.{Applies}
+use Rattle.tg_sharing.specs.Inner.Growing.{Continues, Makes, take_and_grant}
 use Rattle.tg_sharing.specs.declared.builder.Derivation.{Derivation}
 use Rattle.tg_sharing.proofs.GrowingLemmas.{create_allowed, created, created_step}
 use Rattle.tg_sharing.proofs.builder.Derivation.make.Goals as goal
@@ -15,10 +15,10 @@ step c =
     let x = c.args.actor in
     let H = c.apply.new.self in
     let e : Derivation = record { graph = H; steps = c.push.new.self } in
-    let cmd : c.create.result ≡ command.Create c.args.kind both = c.create.ensures ∙ ap (command.Create c.args.kind) c.both.ensures in
-    let again : c.create-2.result ≡ command.Create c.args.kind both = c.create-2.ensures ∙ ap (command.Create c.args.kind) c.both-2.ensures in
+    let cmd : c.create.result ≡ command.Create c.args.kind take_and_grant = c.create.ensures ∙ ap (command.Create c.args.kind) c.both.ensures in
+    let again : c.create-2.result ≡ command.Create c.args.kind take_and_grant = c.create-2.ensures ∙ ap (command.Create c.args.kind) c.both-2.ensures in
     let applied = subst (λ (q : Command). Applies d.graph x q c.in_ok-serial.field-0 H) cmd c.in_ok-serial.ensures.ok in
-    elim (created d.graph x c.args.kind both c.in_ok-serial.field-0 H applied (create_allowed c.allowed_is_met.ensures d.graph c.soundness.ensures x c.requires both refl c.args.kind)) [
+    elim (created d.graph x c.args.kind take_and_grant c.in_ok-serial.field-0 H applied (create_allowed c.allowed_is_met.ensures d.graph c.soundness.ensures x c.requires take_and_grant refl c.args.kind)) [
       | inl made ↦
           (let same : c.in-Created.serial ≡ d.graph.next = cc (c.in-Created.is, made.0) in
           subst (λ (n : ℕ). Continues d e × Makes d e x c.args.kind n) (sym same)

@@ -1,8 +1,8 @@
 use Rattle.std.proofs.Common.{◌≡◌, ◌<◌, inr, arith}
 use Rattle.std.proofs.lemmas.Option.{MatchOption-at_some}
 use Rattle.tg_rights.specs.declared.kind.Kind.TheVariants as kind
-use Rattle.tg_graph.specs.Rules.{last_serial}
-use Rattle.tg_sharing.specs.Growing.{Makes, both}
+use Rattle.tg_graph.specs.Promise.Rules.{last_serial}
+use Rattle.tg_sharing.specs.Inner.Growing.{Makes, take_and_grant}
 use Rattle.tg_sharing.proofs.GrowingLemmas.{Keeps-trans, both_take, held_low, keeps_draws, keeps_gives, keeps_holds}
 use Rattle.tg_sharing.proofs.builder.Derivation.push.Goals as goal
 
@@ -41,4 +41,4 @@ gain-requires-clause-draws c =
     let made = MatchOption-at_some (last_serial < c.make.new.self.graph.next) (Makes c.args.self.now c.make.new.self c.args.taker kind.Document) c.in-Some.document c.in-Some.is c.in_ok-document.ensures.made in
     inr (both_take G4 c.args.taker c.in-Some.document
     (keeps_holds G1 G4 (Keeps-trans G1 G3 G4 (Keeps-trans G1 G2 G3 c.in_ok-give_grant.ensures.continues.keeps c.in_ok-gain_grant.ensures.continues.keeps) c.in_ok-give.ensures.continues.keeps)
-    c.args.taker both c.in-Some.document made.held))
+    c.args.taker take_and_grant c.in-Some.document made.held))

@@ -1,10 +1,10 @@
 use Rattle.std.proofs.Common.{◌≡◌, ◌<◌, ◌≤◌, refl, subst, sym, arith}
 use Rattle.std.proofs.lemmas.Option.{MatchOption-at_some}
-use Rattle.tg_rights.specs.Letters.{Letters}
+use Rattle.tg_rights.specs.Promise.Letters.{Letters}
 use Rattle.tg_rights.specs.declared.kind.Kind.TheVariants as kind
-use Rattle.tg_graph.specs.Rules.{last_serial}
-use Rattle.tg_sharing.specs.Growing.{Makes, both}
-use Rattle.tg_sharing.specs.Paths.{Holds}
+use Rattle.tg_graph.specs.Promise.Rules.{last_serial}
+use Rattle.tg_sharing.specs.Inner.Growing.{Makes, take_and_grant}
+use Rattle.tg_sharing.specs.Inner.Paths.{Holds}
 use Rattle.tg_sharing.proofs.GrowingLemmas.{Keeps-trans, held_low, holder_low, keeps_draws, keeps_envoy, keeps_holds}
 use Rattle.tg_sharing.proofs.builder.Derivation.send.Goals as goal
 
@@ -41,7 +41,7 @@ pub carry-requires-clause-held : goal.carry-requires-clause-held
 carry-requires-clause-held c =
     let made = MatchOption-at_some (last_serial < c.make.new.self.graph.next) (Makes c.args.self.now c.make.new.self c.args.first kind.Subject) c.in-Some.envoy c.in-Some.is c.in_ok-envoy.ensures.made in
     subst (λ (l : Letters). Holds c.arm.new.self.graph c.args.first l c.in-Some.envoy) (sym c.both.ensures)
-    (keeps_holds c.make.new.self.graph c.arm.new.self.graph c.in_ok-arm.ensures.continues.keeps c.args.first both c.in-Some.envoy made.held)
+    (keeps_holds c.make.new.self.graph c.arm.new.self.graph c.in_ok-arm.ensures.continues.keeps c.args.first take_and_grant c.in-Some.envoy made.held)
 
 pub take_over-requires-clause-envoy : goal.take_over-requires-clause-envoy
 take_over-requires-clause-envoy c =

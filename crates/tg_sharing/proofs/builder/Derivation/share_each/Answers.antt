@@ -1,21 +1,21 @@
 use Rattle.std.proofs.Common.{◌≡◌, true}
-use Rattle.tg_rights.specs.Letters.{Right, read, write, take, grant, includes, read_alone, write_alone, take_alone, grant_alone}
-use Rattle.tg_sharing.specs.Fetching.{alone}
-use Rattle.tg_sharing.specs.Growing.{Keeps}
-use Rattle.tg_sharing.specs.Paths.{Holds}
+use Rattle.tg_rights.specs.Promise.Letters.{Right, read, write, take, grant, includes, read_alone, write_alone, take_alone, grant_alone}
+use Rattle.tg_sharing.specs.Promise.Fetching.{alone}
+use Rattle.tg_sharing.specs.Inner.Growing.{KeepsAll}
+use Rattle.tg_sharing.specs.Inner.Paths.{Holds}
 use Rattle.tg_sharing.proofs.GrowingLemmas.{Keeps-trans, keeps_holds}
 use Rattle.tg_sharing.proofs.SharingLemmas.{one_found}
 use Rattle.tg_sharing.proofs.builder.Derivation.share_each.Goals as goal
 
 pub returns-clause-found : goal.returns-clause-found
 returns-clause-found c = each where
-  to_fourth : Keeps c.share-3.new.self.graph c.share-4.new.self.graph
+  to_fourth : KeepsAll c.share-3.new.self.graph c.share-4.new.self.graph
   to_fourth = c.in_ok-share-4.ensures.continues.keeps
 
-  to_third : Keeps c.share-2.new.self.graph c.share-4.new.self.graph
+  to_third : KeepsAll c.share-2.new.self.graph c.share-4.new.self.graph
   to_third = Keeps-trans c.share-2.new.self.graph c.share-3.new.self.graph c.share-4.new.self.graph c.in_ok-share-3.ensures.continues.keeps c.in_ok-share-4.ensures.continues.keeps
 
-  to_second : Keeps c.share.new.self.graph c.share-4.new.self.graph
+  to_second : KeepsAll c.share.new.self.graph c.share-4.new.self.graph
   to_second = Keeps-trans c.share.new.self.graph c.share-2.new.self.graph c.share-4.new.self.graph c.in_ok-share-2.ensures.continues.keeps to_third
 
   each : (r : Right) → includes c.args.goal.now.rights (alone r) ≡ true → Holds c.share-4.new.self.graph c.args.goal.now.from (alone r) c.args.goal.now.to

@@ -1,6 +1,6 @@
 use Rattle.std.proofs.Common.{◌≡◌, ℕ, true, subst, sym, ◌∙◌}
-use Rattle.tg_sharing.specs.Spans.{AreClosed, IsActor}
-use Rattle.tg_sharing.specs.Marking.{is_bridged, is_spanned}
+use Rattle.tg_sharing.specs.Promise.Spans.{AreClosed, IsActor}
+use Rattle.tg_sharing.specs.Inner.Marking.{is_bridged, is_spanned}
 use Rattle.tg_sharing.proofs.MarkingLemmas.{all_closed, none_are_marks, none_are_settled, still_bridged}
 use Rattle.tg_sharing.proofs.marks.Marks.explore.Goals as goal
 

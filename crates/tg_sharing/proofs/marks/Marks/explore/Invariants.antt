@@ -1,6 +1,6 @@
 use Rattle.std.proofs.Common.{◌≡◌, ◌-◌, ◌^◌, true}
-use Rattle.tg_sharing.specs.Marking.{AreMarks, AreSettled, is_bridged, size}
-use Rattle.tg_sharing.specs.Spans.{IsActor}
+use Rattle.tg_sharing.specs.Inner.Marking.{AreMarks, AreSettled, is_bridged, size}
+use Rattle.tg_sharing.specs.Promise.Spans.{IsActor}
 use Rattle.tg_sharing.proofs.marks.Marks.explore.Given as goal
 
 abbrev pub invariant-loop-marks : goal.invariant-loop-marks

@@ -1,7 +1,7 @@
 use Rattle.std.proofs.Common.{◌≡◌, ℕ, sym, subst, inl, inr, arith}
 use Rattle.std.specs.Map.{keys_of}
-use Rattle.tg_lists.specs.Membership.{Contains}
-use Rattle.tg_sharing.specs.Marking.{ArePairClosed, size}
+use Rattle.tg_lists.specs.Promise.Membership.{Contains}
+use Rattle.tg_sharing.specs.Inner.Marking.{ArePairClosed, size}
 use Rattle.tg_sharing.proofs.LabelsLemmas.{Labels, edge_listed, entry_label}
 use Rattle.tg_sharing.proofs.MarkingLemmas.{Goes-refl, Goes-trans, pair_before}
 use Rattle.tg_sharing.proofs.marks.Marks.follow_each.Goals as goal

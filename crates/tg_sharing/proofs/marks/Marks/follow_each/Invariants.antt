@@ -1,9 +1,9 @@
 use Rattle.std.proofs.Common.{◌≡◌, ℕ, ◌⊎◌}
 use Rattle.std.specs.Map.{keys_of}
-use Rattle.tg_lists.specs.Membership.{Contains}
-use Rattle.tg_rights.specs.Letters.{Letters}
-use Rattle.tg_graph.specs.Protection.{IsEdge, label}
-use Rattle.tg_sharing.specs.Marking.{AreMarks, ArePairClosed, Goes, IsKnown, size}
+use Rattle.tg_lists.specs.Promise.Membership.{Contains}
+use Rattle.tg_rights.specs.Promise.Letters.{Letters}
+use Rattle.tg_graph.specs.Promise.Protection.{IsEdge, label}
+use Rattle.tg_sharing.specs.Inner.Marking.{AreMarks, ArePairClosed, Goes, IsKnown, size}
 use Rattle.tg_sharing.proofs.marks.Marks.follow_each.Given as goal
 
 -- each edge is still to be followed, or leads to no mark if none was set

@@ -1,6 +1,6 @@
 use Rattle.std.proofs.Common.{◌∙◌, ap, sym}
-use Rattle.tg_slots.specs.Table.{in_slot}
-use Rattle.tg_slots.specs.Linked.{Linked}
+use Rattle.tg_slots.specs.Promise.Table.{in_slot}
+use Rattle.tg_slots.specs.Inner.Linked.{Linked}
 use Rattle.tg_slots.proofs.ShelfLemmas.{colour_read, past}
 use Rattle.tg_slots.proofs.shelf.Shelf.colour.Goals as goal
 

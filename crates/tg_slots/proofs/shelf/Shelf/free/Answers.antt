@@ -1,5 +1,5 @@
 use Rattle.std.proofs.Common.{List, ap}
-use Rattle.tg_slots.specs.Linked.{Linked}
+use Rattle.tg_slots.specs.Inner.Linked.{Linked}
 use Rattle.tg_slots.proofs.ShelfLemmas.{freed}
 use Rattle.tg_slots.proofs.shelf.Shelf.free.Goals as goal
 

@@ -1,6 +1,6 @@
 use Rattle.std.proofs.Common.{◌∙◌, ap, sym}
-use Rattle.tg_slots.specs.Table.{in_slot}
-use Rattle.tg_slots.specs.Linked.{Linked}
+use Rattle.tg_slots.specs.Promise.Table.{in_slot}
+use Rattle.tg_slots.specs.Inner.Linked.{Linked}
 use Rattle.tg_slots.proofs.ShelfLemmas.{past, read_form}
 use Rattle.tg_slots.proofs.shelf.Shelf.kind.Goals as goal
 

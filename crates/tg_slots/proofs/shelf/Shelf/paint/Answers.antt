@@ -1,5 +1,5 @@
 use Rattle.std.proofs.Common.{List, ap}
-use Rattle.tg_slots.specs.Linked.{Linked}
+use Rattle.tg_slots.specs.Inner.Linked.{Linked}
 use Rattle.tg_slots.proofs.ShelfLemmas.{painted, some_within}
 use Rattle.tg_slots.proofs.shelf.Shelf.paint.Goals as goal
 

@@ -1,6 +1,6 @@
 use Rattle.std.proofs.Common.{List, ap, arith}
 use Rattle.tg_lists.proofs.ColumnsLemmas.{with_left_length}
-use Rattle.tg_slots.specs.Linked.{Linked}
+use Rattle.tg_slots.specs.Inner.Linked.{Linked}
 use Rattle.tg_slots.proofs.ShelfLemmas.{moved, some_within}
 use Rattle.tg_slots.proofs.shelf.Shelf.paint_and_lead.Goals as goal
 

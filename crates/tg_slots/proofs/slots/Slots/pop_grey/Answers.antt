@@ -1,5 +1,5 @@
 use Rattle.std.proofs.Common.{◌≡◌, ◌∙◌, [], sym, ap, refl}
-use Rattle.tg_slots.specs.Table.{Table}
+use Rattle.tg_slots.specs.Promise.Table.{Table}
 use Rattle.tg_slots.proofs.StepLemmas.{pops, none_grey}
 use Rattle.tg_slots.proofs.slots.Slots.pop_grey.Goals as goal
 

@@ -1,31 +1,33 @@
-use Rattle.std.proofs.Common.{◌∙◌, refl, ap, sym}
+use Rattle.std.proofs.Common.{◌≡◌, ◌∙◌, ℕ, refl, ap, sym, min, length, arith}
 use Rattle.tg_slots.specs.declared.slots.Occupant.{Occupant}
-use Rattle.tg_slots.specs.Table.{Table}
-use Rattle.tg_slots.proofs.StepLemmas.{provides, some_free, takes, pale}
+use Rattle.tg_slots.specs.Inner.Inside.{table}
+use Rattle.tg_slots.specs.Promise.Table.{Table}
+use Rattle.tg_slots.proofs.StepLemmas.{full, some_free, takes, pale}
 use Rattle.tg_slots.proofs.slots.Slots.take_free.Goals as goal
 
-pub returns-in_default : goal.returns-in_default
-returns-in_default c =
-    let provided = provides c.self.inside c.provide.new.entries c.self.invariant c.provide.ensures.provided c.provide.ensures.room in
-    (refl, ap (λ (t : Table). t.free) (sym c.self.view_is) ∙ provided.full c.in_default.ensures, provided.shows ∙ c.self.view_is)
+pub overflow_cast-len : goal.overflow_cast-len
+overflow_cast-len c = let used = c.self.invariant.shown.used in let most = c.self.invariant.size in omega arith
 
-pub invariant_of-self : goal.invariant_of-self
-invariant_of-self c = (provides c.self.inside c.provide.new.entries c.self.invariant c.provide.ensures.provided c.provide.ensures.room).kept
+pub returns-then-id-self : goal.returns-then-id-self
+returns-then-id-self c =
+    let at : c.min-id.result ≡ min c.self.inside.free (length c.self.inside.entries.items) = c.min-id.ensures ∙ ap (λ (m : ℕ). min c.self.inside.free m) c.len.ensures in
+    let past = c.if-id-self.true in
+    (refl, ap (λ (t : Table). t.free) (sym c.self.view_is) ∙ full c.self.inside.size c.self.inside.entries.items c.self.inside.free c.self.inside.grey (table c.self.inside) c.self.invariant.shown (omega (arith, at, past)), refl)
 
 pub overflow_sub-self : goal.overflow_sub-self
 overflow_sub-self c =
-    let provided = provides c.self.inside c.provide.new.entries c.self.invariant c.provide.ensures.provided c.provide.ensures.room in
-    some_free (record c.self.inside { entries = c.provide.new.entries }) provided.kept c.in-Some.ensures.0
+    let at : c.min-id.result ≡ min c.self.inside.free (length c.self.inside.entries.items) = c.min-id.ensures ∙ ap (λ (m : ℕ). min c.self.inside.free m) c.len.ensures in
+    let some = some_free c.self.inside.size c.self.inside.entries.items c.self.inside.free c.self.inside.grey (table c.self.inside) c.self.invariant.shown c.min-id.result at c.if-id-self.false in let count = c.self.invariant.count in omega arith
 
-pub invariant_of-self-2 : goal.invariant_of-self-2
-invariant_of-self-2 c =
-    let provided = provides c.self.inside c.provide.new.entries c.self.invariant c.provide.ensures.provided c.provide.ensures.room in
+pub invariant_of-self : goal.invariant_of-self
+invariant_of-self c =
+    let at : c.min-id.result ≡ min c.self.inside.free (length c.self.inside.entries.items) = c.min-id.ensures ∙ ap (λ (m : ℕ). min c.self.inside.free m) c.len.ensures in
     let o : Occupant = record { serial = c.args.serial; kind = c.args.kind; colour = c.args.colour; text = c.args.text } in
-    rw c.in-Some.ensures.1 (takes (record c.self.inside { entries = c.provide.new.entries }) c.fill.new.self o provided.kept c.in-Some.ensures.0 (pale c.args.colour c.requires) c.fill.ensures).kept
+    (takes c.self.inside c.fill.new.self c.min-id.result c.next_of-self-inside.result o c.self.invariant at c.if-id-self.false c.next_of-self-inside.ensures (pale c.args.colour c.requires) c.fill.ensures.items c.fill.ensures.room).kept
 
 pub returns : goal.returns
 returns c =
-    let provided = provides c.self.inside c.provide.new.entries c.self.invariant c.provide.ensures.provided c.provide.ensures.room in
+    let at : c.min-id.result ≡ min c.self.inside.free (length c.self.inside.entries.items) = c.min-id.ensures ∙ ap (λ (m : ℕ). min c.self.inside.free m) c.len.ensures in
     let o : Occupant = record { serial = c.args.serial; kind = c.args.kind; colour = c.args.colour; text = c.args.text } in
-    let t = takes (record c.self.inside { entries = c.provide.new.entries }) c.fill.new.self o provided.kept c.in-Some.ensures.0 (pale c.args.colour c.requires) c.fill.ensures in
-    rw (c.in-Some.ensures.1, ← provided.shows ∙ c.self.view_is) (t.free, t.grey, t.slots)
+    let t = takes c.self.inside c.fill.new.self c.min-id.result c.next_of-self-inside.result o c.self.invariant at c.if-id-self.false c.next_of-self-inside.ensures (pale c.args.colour c.requires) c.fill.ensures.items c.fill.ensures.room in
+    rw (← c.self.view_is) (t.free, t.grey, t.slots)

@@ -1,0 +1,2 @@
+-- What public contracts rest on, of this crate or of one above it.
+pub mod Lists

@@ -1,0 +1,7 @@
+-- What only proofs and private contracts need.
+pub mod Machine
+pub mod PackedProgress
+pub mod Stored
+pub mod Parts
+pub mod Figures
+pub mod Openings

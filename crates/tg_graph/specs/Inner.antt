@@ -1,0 +1,6 @@
+-- What only proofs and private contracts need.
+pub mod Deciding
+pub mod Searching
+pub mod Parts
+pub mod Views
+pub mod Codes
