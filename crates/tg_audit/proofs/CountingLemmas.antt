@@ -4,13 +4,13 @@ use Rattle.std.proofs.lemmas.Bool.Decides.{nat_tests}
 use Rattle.std.proofs.lemmas.List.Sums.{sum_by-cons}
 use Rattle.std.proofs.Math.Nat.{eq-or-lt_of_le}
 use Rattle.std.proofs.Math.Logic.{inl, inr}
-use Rattle.tg_graph.specs.Protection.{Protection}
-use Rattle.tg_graph.specs.Rules.{next_graph}
+use Rattle.tg_graph.specs.Promise.Protection.{Protection}
+use Rattle.tg_graph.specs.Promise.Rules.{next_graph}
 use Rattle.tg_vault.specs.declared.entry.Entry.{Entry}
-use Rattle.tg_vault.specs.Contents.{Contents}
+use Rattle.tg_vault.specs.Promise.Contents.{Contents}
 use Rattle.tg_audit.specs.declared.logs.Exchange.{Exchange}
 use Rattle.tg_audit.specs.declared.logs.SeatLog.{SeatLog}
-use Rattle.tg_audit.specs.Settling.{Agrees, exchange_at, exchanges_of, joined}
+use Rattle.tg_audit.specs.Promise.Settling.{Agrees, exchange_at, exchanges_of, joined_logs}
 
 abbrev sum_below : (ℕ → ℕ) → ℕ → ℕ
 sum_below f zero = 0
@@ -80,12 +80,12 @@ entries_count n G (e ∷ es) past =
     let rest = entries_count n H es (omega arith) in
     omega (arith, split, parts, one, rest)
 
-logs_count : (n : ℕ) (logs : List SeatLog) → past_logs logs ≤ n → sum_below (λ k. length (joined k logs)) n ≡ sum_by (λ l. length l.exchanges.items) logs
+logs_count : (n : ℕ) (logs : List SeatLog) → past_logs logs ≤ n → sum_below (λ k. length (joined_logs k logs)) n ≡ sum_by (λ l. length l.exchanges.items) logs
 logs_count n [] past = sum_zero n
 logs_count n (log ∷ logs) past =
     let long = length log.exchanges.items in
-    let split = sum_ext (λ k. length (joined k (log ∷ logs))) (λ k. one_at log.seat long k + length (joined k logs)) n (λ k. some_more (nat_eq log.seat k) log.exchanges.items (joined k logs)) in
-    let parts = sum_add (one_at log.seat long) (λ k. length (joined k logs)) n in
+    let split = sum_ext (λ k. length (joined_logs k (log ∷ logs))) (λ k. one_at log.seat long k + length (joined_logs k logs)) n (λ k. some_more (nat_eq log.seat k) log.exchanges.items (joined_logs k logs)) in
+    let parts = sum_add (one_at log.seat long) (λ k. length (joined_logs k logs)) n in
     let one = sum_one log.seat long n (omega arith) in
     let rest = logs_count n logs (omega arith) in
     let whole : sum_by (λ (l : SeatLog). length l.exchanges.items) (log ∷ logs) ≡ long + sum_by (λ (l : SeatLog). length l.exchanges.items) logs = sum_by-cons (λ (l : SeatLog). length l.exchanges.items) log logs in
@@ -95,4 +95,4 @@ pub agreed_counts : (v : Contents) (logs : List SeatLog) → ((seat : ℕ) → A
 agreed_counts v logs agree =
     let n = past_entries v.history + past_logs logs in
     sym (entries_count n v.opening v.history (omega arith))
-    ∙ (sum_ext (λ k. length (exchanges_of k v.opening v.history)) (λ k. length (joined k logs)) n (λ k. ap length (agree k)) ∙ logs_count n logs (omega arith))
+    ∙ (sum_ext (λ k. length (exchanges_of k v.opening v.history)) (λ k. length (joined_logs k logs)) n (λ k. ap length (agree k)) ∙ logs_count n logs (omega arith))

@@ -6,23 +6,23 @@ use Rattle.tg_rights.specs.declared.command.Command.{Command}
 use Rattle.tg_rights.specs.declared.outcome.Outcome.{Outcome}
 use Rattle.tg_rights.specs.declared.outcome.Outcome.TheVariants as outcome
 use Rattle.tg_graph.specs.declared.derivation.Step.{Step}
-use Rattle.tg_graph.specs.Fullness.{Limits, Permitted}
-use Rattle.tg_graph.specs.Protection.{IsGraph, IsSubject, Protection, has_retired}
-use Rattle.tg_graph.specs.Rewriting.{HasRightsOf, rewriting_step}
-use Rattle.tg_graph.specs.Rules.{next_graph}
+use Rattle.tg_graph.specs.Promise.Fullness.{Limits, Permitted}
+use Rattle.tg_graph.specs.Promise.Protection.{IsGraph, IsSubject, Protection, has_retired}
+use Rattle.tg_graph.specs.Promise.Rewriting.{HasRightsOf, rewriting_step}
+use Rattle.tg_graph.specs.Promise.Rules.{next_graph}
 use Rattle.tg_graph.proofs.RewritingLemmas.{Onward, carried}
 use Rattle.tg_vault.specs.declared.entry.Entry.{Entry}
-use Rattle.tg_vault.specs.Contents.{Contents, graph_now}
-use Rattle.tg_vault.specs.History.{EntryRun, Legal, graph_of}
+use Rattle.tg_vault.specs.Promise.Contents.{Contents, graph_now}
+use Rattle.tg_vault.specs.Promise.History.{EntryRun, Legal, graph_of}
 use Rattle.tg_vault.proofs.HistoryLemmas.{IsLawful, asks_subject, graph_of_more, turn_keeps}
 use Rattle.tg_vault.proofs.RetiredLemmas.{retired_leaves}
-use Rattle.tg_audit.specs.Derived.{derivation_of, entry_step, step_of}
+use Rattle.tg_audit.specs.Promise.Derived.{derivation_of, entry_step, rewriting_of}
 use Rattle.tg_audit.proofs.ReplayLemmas.{take_more}
 
 module _ (limits : Limits) (G H K : Protection) (x : ℕ) (h : HasRightsOf H G) (rest : List Step) where
   entry_onward : (c : Command) (o : Outcome) → IsSubject G x ⊎ (has_retired G x ≡ true) → Permitted limits G x c o →
       ((L : Protection) → HasRightsOf L (next_graph G x c o) → Onward L K rest) →
-      Onward H K (cons_option (step_of (record { actor = x; command = c }) o) rest)
+      Onward H K (cons_option (rewriting_of (record { actor = x; command = c }) o) rest)
   entry_onward c outcome.Allowed (inl subject) permitted onward =
       carried H G K x c rest h (record { subject = subject; allowed = permitted.0; room = permitted.1; result = refl }) onward
   entry_onward c outcome.Allowed (inr gone) permitted onward =

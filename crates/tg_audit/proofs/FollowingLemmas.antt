@@ -6,8 +6,8 @@ use Rattle.std.proofs.lemmas.Bool.Decides.{nat_tests}
 use Rattle.tg_audit.specs.declared.logs.Exchange.{Exchange}
 use Rattle.tg_audit.specs.declared.logs.SeatLog.{SeatLog}
 use Rattle.tg_audit.specs.declared.following.Position.{Position}
-use Rattle.tg_audit.specs.Following.{Beside, joined_from, left_of}
-use Rattle.tg_audit.specs.Settling.{DifferAt, joined}
+use Rattle.tg_audit.specs.Inner.Following.{Beside, joined_from, left_of}
+use Rattle.tg_audit.specs.Promise.Settling.{DifferAt, joined_logs}
 
 pub drop_some : {X : Type 0} (xs : List X) (k : ℕ) (x : X) → slice_get xs k ≡ Some x → drop k xs ≡ x ∷ drop (suc k) xs
 drop_some [] k x at = absurd (none-some x at)
@@ -17,7 +17,7 @@ drop_some (y ∷ xs) (suc k) x at = drop_some xs k x at
 pub drop_past : {X : Type 0} (xs : List X) (k : ℕ) → length xs ≤ k → drop k xs ≡ []
 drop_past xs k past = grind (arith, common_steps)
 
-pub joined_from_start : (seat : ℕ) (logs : List SeatLog) → joined_from seat 0 logs ≡ joined seat logs
+pub joined_from_start : (seat : ℕ) (logs : List SeatLog) → joined_from seat 0 logs ≡ joined_logs seat logs
 joined_from_start seat [] = refl
 joined_from_start seat (log ∷ logs) = refl
 
@@ -71,15 +71,15 @@ beside_more seat logs entries rest p q i x y b left same = record {
 }
 
 -- it is another, or there is none
-pub apart_there : (seat : ℕ) (logs : List SeatLog) (entries rest more : List Exchange) (p : Position) (i : ℕ) (x y : Exchange) → Beside seat logs entries (x ∷ rest) p i → left_of seat logs p ≡ y ∷ more → (x ≡ y → ⊥) → DifferAt entries (joined seat logs) i
+pub apart_there : (seat : ℕ) (logs : List SeatLog) (entries rest more : List Exchange) (p : Position) (i : ℕ) (x y : Exchange) → Beside seat logs entries (x ∷ rest) p i → left_of seat logs p ≡ y ∷ more → (x ≡ y → ⊥) → DifferAt entries (joined_logs seat logs) i
 apart_there seat logs entries rest more p i x y b left other =
-    differ_at entries (joined seat logs) b.common (x ∷ rest) (y ∷ more) i b.entered (b.logged ∙ ap (λ l. b.common ++ l) left) b.count (refl, λ same. other (same_Some x y same))
+    differ_at entries (joined_logs seat logs) b.common (x ∷ rest) (y ∷ more) i b.entered (b.logged ∙ ap (λ l. b.common ++ l) left) b.count (refl, λ same. other (same_Some x y same))
 
-pub apart_entry : (seat : ℕ) (logs : List SeatLog) (entries rest : List Exchange) (p : Position) (i : ℕ) (x : Exchange) → Beside seat logs entries (x ∷ rest) p i → left_of seat logs p ≡ [] → DifferAt entries (joined seat logs) i
+pub apart_entry : (seat : ℕ) (logs : List SeatLog) (entries rest : List Exchange) (p : Position) (i : ℕ) (x : Exchange) → Beside seat logs entries (x ∷ rest) p i → left_of seat logs p ≡ [] → DifferAt entries (joined_logs seat logs) i
 apart_entry seat logs entries rest p i x b left =
-    differ_at entries (joined seat logs) b.common (x ∷ rest) [] i b.entered (b.logged ∙ ap (λ l. b.common ++ l) left) b.count (refl, λ same. none-some x (sym same))
+    differ_at entries (joined_logs seat logs) b.common (x ∷ rest) [] i b.entered (b.logged ∙ ap (λ l. b.common ++ l) left) b.count (refl, λ same. none-some x (sym same))
 
 -- there are no further entries, and a further exchange, or none
-pub apart_log : (seat : ℕ) (logs : List SeatLog) (entries more : List Exchange) (p : Position) (i : ℕ) (y : Exchange) → Beside seat logs entries [] p i → left_of seat logs p ≡ y ∷ more → DifferAt entries (joined seat logs) i
+pub apart_log : (seat : ℕ) (logs : List SeatLog) (entries more : List Exchange) (p : Position) (i : ℕ) (y : Exchange) → Beside seat logs entries [] p i → left_of seat logs p ≡ y ∷ more → DifferAt entries (joined_logs seat logs) i
 apart_log seat logs entries more p i y b left =
-    differ_at entries (joined seat logs) b.common [] (y ∷ more) i b.entered (b.logged ∙ ap (λ l. b.common ++ l) left) b.count (refl, λ same. none-some y same)
+    differ_at entries (joined_logs seat logs) b.common [] (y ∷ more) i b.entered (b.logged ∙ ap (λ l. b.common ++ l) left) b.count (refl, λ same. none-some y same)

@@ -6,14 +6,14 @@ use Rattle.std.proofs.lemmas.Bool.Decides.{nat_tests}
 use Rattle.std.proofs.Math.Nat.{eq-or-lt_of_le}
 use Rattle.std.proofs.Math.Logic.{◌⊎◌, inl, inr}
 use base.Stored.{Gv, gnil, gnum, gcons, num}
-use Rattle.tg_graph.specs.Protection.{Protection}
-use Rattle.tg_graph.specs.Rules.{next_graph}
+use Rattle.tg_graph.specs.Promise.Protection.{Protection}
+use Rattle.tg_graph.specs.Promise.Rules.{next_graph}
 use Rattle.tg_vault.specs.declared.entry.Entry.{Entry}
-use Rattle.tg_vault.specs.Contents.{Contents}
+use Rattle.tg_vault.specs.Promise.Contents.{Contents}
 use Rattle.tg_audit.specs.contracts.logs.Exchange as exchange
 use Rattle.tg_audit.specs.declared.logs.Exchange.{Exchange}
 use Rattle.tg_audit.specs.declared.logs.SeatLog.{SeatLog}
-use Rattle.tg_audit.specs.Settling.{Agrees, DifferAt, IsFirstDifference, IsPlace, exchanges_of, joined}
+use Rattle.tg_audit.specs.Promise.Settling.{Agrees, DifferAt, IsFirstDifference, IsPlace, exchanges_of, joined_logs}
 
 front_at : {X : Type 0} (xs : List X) (i j : ℕ) → i < j → slice_get (take j xs) i ≡ slice_get xs i
 front_at [] i zero lt = absurd (omega arith)
@@ -38,21 +38,21 @@ differ_never xs ys i same differ = differ.1 (ap (λ l. slice_get l i) same)
 
 seat_once : (v : Contents) (logs : List SeatLog) (seat other i j : ℕ) → IsFirstDifference v logs seat i → IsFirstDifference v logs other j → seat ≡ other
 seat_once v logs seat other i j a b = elim (cases_lt seat other) as (λ _. seat ≡ other) [
-  | inl lt ↦ absurd (differ_never (exchanges_of seat v.opening v.history) (joined seat logs) i (b.before seat lt) a.here)
+  | inl lt ↦ absurd (differ_never (exchanges_of seat v.opening v.history) (joined_logs seat logs) i (b.before seat lt) a.here)
   | inr le ↦ elim (eq-or-lt_of_le le) as (λ _. seat ≡ other) [
     | inl same ↦ sym same
-    | inr lt ↦ absurd (differ_never (exchanges_of other v.opening v.history) (joined other logs) j (a.before other lt) b.here)
+    | inr lt ↦ absurd (differ_never (exchanges_of other v.opening v.history) (joined_logs other logs) j (a.before other lt) b.here)
   ]
 ]
 
 pub place_once : (v : Contents) (logs : List SeatLog) (p q : Option (ℕ × ℕ)) → IsPlace v logs p → IsPlace v logs q → q ≡ p
 place_once v logs None None a b = refl
-place_once v logs None (Some q) a b = absurd (differ_never (exchanges_of q.0 v.opening v.history) (joined q.0 logs) q.1 (a q.0) b.here)
-place_once v logs (Some p) None a b = absurd (differ_never (exchanges_of p.0 v.opening v.history) (joined p.0 logs) p.1 (b p.0) a.here)
+place_once v logs None (Some q) a b = absurd (differ_never (exchanges_of q.0 v.opening v.history) (joined_logs q.0 logs) q.1 (a q.0) b.here)
+place_once v logs (Some p) None a b = absurd (differ_never (exchanges_of p.0 v.opening v.history) (joined_logs p.0 logs) p.1 (b p.0) a.here)
 place_once v logs (Some p) (Some q) a b =
     let seat : q.0 ≡ p.0 = seat_once v logs q.0 p.0 q.1 p.1 b a in
-    let D : ℕ → Type 0 = λ k. DifferAt (exchanges_of k v.opening v.history) (joined k logs) q.1 in
-    let index : q.1 ≡ p.1 = differ_once (exchanges_of p.0 v.opening v.history) (joined p.0 logs) q.1 p.1 (subst D seat b.here) a.here in
+    let D : ℕ → Type 0 = λ k. DifferAt (exchanges_of k v.opening v.history) (joined_logs k logs) q.1 in
+    let index : q.1 ≡ p.1 = differ_once (exchanges_of p.0 v.opening v.history) (joined_logs p.0 logs) q.1 p.1 (subst D seat b.here) a.here in
     λ i. Some (seat i, index i)
 
 -- exchanges can be told apart, as all values that a proof stores
@@ -100,7 +100,7 @@ below_next P n all here k lt =
 all_or : (v : Contents) (logs : List SeatLog) (n : ℕ) → ((k : ℕ) → k < n → Agrees v logs k) ⊎ ((p : ℕ × ℕ) × IsFirstDifference v logs p.0 p.1)
 all_or v logs zero = inl (λ k lt. absurd (omega arith))
 all_or v logs (suc n) = elim (all_or v logs n) as (λ _. ((k : ℕ) → k < suc n → Agrees v logs k) ⊎ ((p : ℕ × ℕ) × IsFirstDifference v logs p.0 p.1)) [
-  | inl below ↦ elim (differ_or (exchanges_of n v.opening v.history) (joined n logs)) as (λ _. ((k : ℕ) → k < suc n → Agrees v logs k) ⊎ ((p : ℕ × ℕ) × IsFirstDifference v logs p.0 p.1)) [
+  | inl below ↦ elim (differ_or (exchanges_of n v.opening v.history) (joined_logs n logs)) as (λ _. ((k : ℕ) → k < suc n → Agrees v logs k) ⊎ ((p : ℕ × ℕ) × IsFirstDifference v logs p.0 p.1)) [
     | inl same ↦ inl (below_next (Agrees v logs) n below same)
     | inr differ ↦ inr ((n, differ.0), record { before = below; here = differ.1 })
   ]
@@ -119,7 +119,7 @@ entries_end (e ∷ es) = (
       rw test rest),
 )
 
-logs_end : (logs : List SeatLog) → (n : ℕ) × ((seat : ℕ) → n ≤ seat → joined seat logs ≡ [])
+logs_end : (logs : List SeatLog) → (n : ℕ) × ((seat : ℕ) → n ≤ seat → joined_logs seat logs ≡ [])
 logs_end [] = (0, λ seat le. refl)
 logs_end (log ∷ logs) = (
   log.seat + 1 + (logs_end logs).0,

@@ -5,8 +5,8 @@ use Rattle.std.proofs.lemmas.Option.{none-some, same_Some, slice_get_within, sli
 use Rattle.std.proofs.lemmas.Bool.{cases_lt, false≢true}
 use Rattle.std.proofs.Math.Nat.{eq-or-lt_of_le}
 use Rattle.std.proofs.Math.Logic.{◌⊎◌, inl, inr}
-use Rattle.tg_rights.specs.Command.{rule_of}
-use Rattle.tg_rights.specs.Letters.{includes, without}
+use Rattle.tg_rights.specs.Promise.Command.{rule_of}
+use Rattle.tg_rights.specs.Promise.Letters.{includes, without}
 use Rattle.tg_rights.specs.declared.kind.Kind.{Kind}
 use Rattle.tg_rights.specs.declared.kind.Kind.TheVariants as kind
 use Rattle.tg_rights.specs.declared.outcome.Cause.{Cause}
@@ -14,13 +14,13 @@ use Rattle.tg_graph.specs.declared.derivation.Goal.{Goal}
 use Rattle.tg_graph.specs.declared.derivation.Step.{Step}
 use Rattle.tg_graph.specs.declared.derivation.Verdict.{Verdict}
 use Rattle.tg_graph.specs.declared.derivation.Verdict.TheVariants as verdict
-use Rattle.tg_graph.specs.Derivations.{CarriesOut, Derives}
-use Rattle.tg_graph.specs.Protection.{Protection, IsSubject, kind_of, label}
-use Rattle.tg_graph.specs.Rules.{after, denial, is_create, last_serial}
+use Rattle.tg_graph.specs.Promise.Derivations.{CarriesOut, Derives}
+use Rattle.tg_graph.specs.Promise.Protection.{Protection, IsSubject, kind_of, label}
+use Rattle.tg_graph.specs.Promise.Rules.{after, denial, is_create, last_serial}
 use Rattle.tg_audit.specs.declared.derivations.Stop.{Stop}
 use Rattle.tg_audit.specs.declared.derivations.Stop.TheVariants as stop
-use Rattle.tg_audit.specs.Stops.{StopsBy, verdict_at}
-use Rattle.tg_audit.specs.Verdicts.{IsVerdict, StopsAt}
+use Rattle.tg_audit.specs.Inner.Stops.{StopsBy, verdict_at}
+use Rattle.tg_audit.specs.Promise.Verdicts.{IsVerdict, StopsAt}
 use Rattle.tg_audit.proofs.VerdictLemmas.{derives_more, end_verdict, stop_verdict}
 
 -- the result of a step: it is carried out, or stops the derivation

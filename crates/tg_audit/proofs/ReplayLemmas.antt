@@ -1,7 +1,7 @@
 -- A history, replayed entry by entry.
 use Rattle.std.proofs.Common.{◌≡◌, ℕ, zero, suc, ◌+◌, List, [], ◌∷◌, ◌++◌, drop, take, length, refl, sym, ap, ◌∙◌, subst, arith, slice_get, Bool, true, false, cond, inl, inr, Some, None}
 use Rattle.std.proofs.lemmas.Option.{none-some, same_Some}
-use Rattle.tg_rights.specs.Command.{rule_of}
+use Rattle.tg_rights.specs.Promise.Command.{rule_of}
 use Rattle.tg_rights.specs.declared.command.Command.{Command}
 use Rattle.tg_rights.specs.declared.command.Command.TheVariants as command
 use Rattle.tg_rights.specs.declared.outcome.Cause.TheVariants as cause
@@ -10,16 +10,17 @@ use Rattle.tg_rights.specs.declared.outcome.Outcome.TheVariants as outcome
 use Rattle.tg_rights.specs.declared.outcome.Which.TheVariants as which
 use Rattle.tg_rights.specs.declared.outcome.Reply.{Reply}
 use Rattle.tg_rights.specs.declared.outcome.Reply.TheVariants as reply
-use Rattle.tg_graph.specs.Fullness.{Limits, Permitted}
-use Rattle.tg_graph.specs.Protection.{IsGraph, IsSubject, Protection, has_retired}
-use Rattle.tg_graph.specs.Rules.{Applies, PlainlyDecided, denial, is_for_retired, next_graph, reply_of}
+use Rattle.tg_graph.specs.Promise.Fullness.{Limits, Permitted}
+use Rattle.tg_graph.specs.Promise.Protection.{IsGraph, IsSubject, Protection, has_retired}
+use Rattle.tg_graph.specs.Promise.Rules.{Applies, PlainlyDecided, denial, is_for_retired, next_graph, reply_of}
 use Rattle.tg_graph.proofs.DecidingLemmas.{only_leave}
 use Rattle.tg_vault.specs.declared.entry.Entry.{Entry}
-use Rattle.tg_vault.specs.Contents.{Contents, graph_now}
-use Rattle.tg_vault.specs.History.{EntryRun, Legal}
+use Rattle.tg_vault.specs.Promise.Contents.{Contents, graph_now}
+use Rattle.tg_vault.specs.Promise.History.{EntryRun, Legal}
 use Rattle.tg_vault.proofs.HistoryLemmas.{IsLawful, asks_subject, turn_keeps}
 use Rattle.tg_vault.proofs.RetiredLemmas.{leave_allowed, retired_denied}
-use Rattle.tg_audit.specs.Replies.{IsSubjectOrRetired, beyond, replies_of, retired_reply}
+use Rattle.tg_audit.specs.Promise.Replies.{replies_of}
+use Rattle.tg_audit.specs.Inner.Replies.{IsSubjectOrRetired, beyond, retired_reply}
 use Rattle.tg_audit.proofs.FollowingLemmas.{drop_some}
 
 -- what the plain graph decides, if it can, is what a history permits

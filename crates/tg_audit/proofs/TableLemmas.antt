@@ -11,17 +11,17 @@ use Rattle.std.proofs.Math.ListN.{replicate, set}
 use Rattle.std.proofs.Math.Logic.{◌⊎◌, inl, inr}
 use Rattle.tg_rights.specs.declared.limits.TheConstants.{SEATS}
 use Rattle.tg_rights.specs.declared.outcome.Reply.{Reply}
-use Rattle.tg_graph.specs.Protection.{Protection}
-use Rattle.tg_graph.specs.Rules.{next_graph}
+use Rattle.tg_graph.specs.Promise.Protection.{Protection}
+use Rattle.tg_graph.specs.Promise.Rules.{next_graph}
 use Rattle.tg_vault.specs.declared.entry.Entry.{Entry}
-use Rattle.tg_vault.specs.Contents.{Contents}
+use Rattle.tg_vault.specs.Promise.Contents.{Contents}
 use Rattle.tg_audit.specs.declared.logs.Exchange.{Exchange}
 use Rattle.tg_audit.specs.declared.logs.SeatLog.{SeatLog}
 use Rattle.tg_audit.specs.declared.following.Progress.{Progress}
 use Rattle.tg_audit.specs.declared.following.Progress.TheVariants as progress
-use Rattle.tg_audit.specs.Following.{Beside, Follows, FollowsAll, IsLeastAbove, followed, told}
-use Rattle.tg_audit.specs.Replies.{replies_of}
-use Rattle.tg_audit.specs.Settling.{Agrees, DifferAt, IsPlace, exchanges_of, joined}
+use Rattle.tg_audit.specs.Inner.Following.{Beside, HasFollowed, FollowsAll, IsLeastAbove, followed, told}
+use Rattle.tg_audit.specs.Promise.Replies.{replies_of}
+use Rattle.tg_audit.specs.Promise.Settling.{Agrees, DifferAt, IsPlace, exchanges_of, joined_logs}
 use Rattle.tg_audit.proofs.FollowingLemmas.{drop_past, drop_some, joined_from_start}
 
 -- the entries of a seat with the replies at their places
@@ -74,7 +74,7 @@ set_elsewhere (y ∷ xs) (suc i) (suc j) x p other at = set_elsewhere xs i j x p
 -- each seat has been followed up to an entry
 pub record FollowedTo (v : Contents) (logs : List SeatLog) (replies : List Reply) (number : ℕ) (table : List Progress) : Type 0 where
   pub whole : length table ≡ SEATS
-  pub follows : (seat : ℕ) → seat < SEATS → (p : Progress) → slice_get table seat ≡ Some p → Follows seat logs (exchanges_of seat v.opening v.history) (picked_from seat v.history replies number) p
+  pub follows : (seat : ℕ) → seat < SEATS → (p : Progress) → slice_get table seat ≡ Some p → HasFollowed seat logs (exchanges_of seat v.opening v.history) (picked_from seat v.history replies number) p
   pub few : (seat : ℕ) → seat < SEATS → (p : Progress) → slice_get table seat ≡ Some p → followed p ≤ number
 
 abbrev pub start : Progress
@@ -94,7 +94,7 @@ followed_fresh v logs = record {
       let entered : exchanges_of seat v.opening v.history ≡ picked seat v.history replies = sym (picked_whole seat v.opening v.history) in
       let beside : Beside seat logs (exchanges_of seat v.opening v.history) (picked_from seat v.history replies 0) (record { log = 0; at = 0 }) 0 =
       record { common = []; entered = entered; logged = sym (joined_from_start seat logs); count = refl } in
-      let F : Progress → Type 0 = λ q. Follows seat logs (exchanges_of seat v.opening v.history) (picked_from seat v.history replies 0) q in
+      let F : Progress → Type 0 = λ q. HasFollowed seat logs (exchanges_of seat v.opening v.history) (picked_from seat v.history replies 0) q in
       subst F (sym (fresh_start SEATS seat p at)) beside);
   few = λ seat below p at. (let same = fresh_start SEATS seat p at in omega (arith, ap followed same));
 }
@@ -102,13 +102,13 @@ followed_fresh v logs = record {
 -- one more entry
 pub followed_more : (v : Contents) (logs : List SeatLog) (replies : List Reply) (n : ℕ) (table : List Progress) (e : Entry) (r : Reply) (p q : Progress) →
     FollowedTo v logs replies n table → slice_get v.history n ≡ Some e → slice_get replies n ≡ Some r → e.seat < SEATS → slice_get table e.seat ≡ Some p →
-    ((entries rest : List Exchange) → Follows e.seat logs entries (told e r ∷ rest) p → Follows e.seat logs entries rest q) → followed q ≤ followed p + 1 →
+    ((entries rest : List Exchange) → HasFollowed e.seat logs entries (told e r ∷ rest) p → HasFollowed e.seat logs entries rest q) → followed q ≤ followed p + 1 →
     FollowedTo v logs replies (n + 1) (set table e.seat q)
 followed_more v logs replies n table e r p q so_far entry reply sat here turns count = record {
   whole = length-set table e.seat q ∙ so_far.whole;
-  follows = λ seat below x at. elim (seat_or seat) as (λ _. Follows seat logs (entries seat) (picked_from seat v.history replies (n + 1)) x) [
-    | inl same ↦ subst (λ k. Follows k logs (entries k) (picked_from k v.history replies (n + 1)) x) same (at_seat x (subst (λ k. slice_get (set table e.seat q) k ≡ Some x) (sym same) at))
-    | inr other ↦ subst (λ l. Follows seat logs (entries seat) l x) (picked_skip seat v.history replies n e r entry reply other) (so_far.follows seat below x (set_elsewhere table e.seat seat q x (λ is. other (sym is)) at))
+  follows = λ seat below x at. elim (seat_or seat) as (λ _. HasFollowed seat logs (entries seat) (picked_from seat v.history replies (n + 1)) x) [
+    | inl same ↦ subst (λ k. HasFollowed k logs (entries k) (picked_from k v.history replies (n + 1)) x) same (at_seat x (subst (λ k. slice_get (set table e.seat q) k ≡ Some x) (sym same) at))
+    | inr other ↦ subst (λ l. HasFollowed seat logs (entries seat) l x) (picked_skip seat v.history replies n e r entry reply other) (so_far.follows seat below x (set_elsewhere table e.seat seat q x (λ is. other (sym is)) at))
   ];
   few = λ seat below x at. elim (seat_or seat) as (λ _. followed x ≤ n + 1) [
     | inl same ↦
@@ -123,15 +123,15 @@ followed_more v logs replies n table e r p q so_far entry reply sat here turns c
   seat_or : (seat : ℕ) → (e.seat ≡ seat) ⊎ (e.seat ≢ seat)
   seat_or seat = cases_eq e.seat seat
 
-  at_seat : (x : Progress) → slice_get (set table e.seat q) e.seat ≡ Some x → Follows e.seat logs (entries e.seat) (picked_from e.seat v.history replies (n + 1)) x
+  at_seat : (x : Progress) → slice_get (set table e.seat q) e.seat ≡ Some x → HasFollowed e.seat logs (entries e.seat) (picked_from e.seat v.history replies (n + 1)) x
   at_seat x at =
-      let before = subst (λ l. Follows e.seat logs (entries e.seat) l p) (picked_next e.seat v.history replies n e r entry reply refl) (so_far.follows e.seat sat p here) in
-      subst (λ y. Follows e.seat logs (entries e.seat) (picked_from e.seat v.history replies (n + 1)) y) (sym (set_there table e.seat q x at)) (turns (entries e.seat) (picked_from e.seat v.history replies (n + 1)) before)
+      let before = subst (λ l. HasFollowed e.seat logs (entries e.seat) l p) (picked_next e.seat v.history replies n e r entry reply refl) (so_far.follows e.seat sat p here) in
+      subst (λ y. HasFollowed e.seat logs (entries e.seat) (picked_from e.seat v.history replies (n + 1)) y) (sym (set_there table e.seat q x at)) (turns (entries e.seat) (picked_from e.seat v.history replies (n + 1)) before)
 
 -- at the end of the history nothing is left
 pub followed_end : (v : Contents) (logs : List SeatLog) (replies : List Reply) (n : ℕ) (table : List Progress) → FollowedTo v logs replies n table → length v.history ≤ n → FollowsAll v logs table
 followed_end v logs replies n table so_far past = λ seat below p at.
-    (let F : List Exchange → Type 0 = λ l. Follows seat logs (exchanges_of seat v.opening v.history) l p in
+    (let F : List Exchange → Type 0 = λ l. HasFollowed seat logs (exchanges_of seat v.opening v.history) l p in
     subst F (picked_past seat v.history replies n past) (so_far.follows seat below p at))
 
 -- what holds of each entry holds of this one
@@ -147,7 +147,7 @@ none_above seat G (e ∷ es) above all =
     rw test (none_above seat (next_graph G e.actor e.command e.outcome) es above (All-tail (λ (x : Entry). x.seat < SEATS) e es all))
 
 -- the table's progress of a seat
-pub follows_here : (v : Contents) (logs : List SeatLog) (table : List Progress) (seat : ℕ) → length table ≡ SEATS → FollowsAll v logs table → seat < SEATS → Follows seat logs (exchanges_of seat v.opening v.history) [] (slice_index_or table seat start)
+pub follows_here : (v : Contents) (logs : List SeatLog) (table : List Progress) (seat : ℕ) → length table ≡ SEATS → FollowsAll v logs table → seat < SEATS → HasFollowed seat logs (exchanges_of seat v.opening v.history) [] (slice_index_or table seat start)
 follows_here v logs table seat whole all within = all seat within (slice_index_or table seat start) (slice_get-get_or table seat start (omega arith))
 
 -- the place if no existing seat differs
@@ -163,7 +163,7 @@ place_above v logs (Some seat) sat below least = record {
     | inl low ↦ below k low
     | inr high ↦ none_above k v.opening v.history high sat ∙ sym (least.2 k high lt)
   ];
-  here = differs (joined seat logs) least.1;
+  here = differs (joined_logs seat logs) least.1;
 } where
   differs : (xs : List Exchange) → (xs ≡ [] → ⊥) → DifferAt (exchanges_of seat v.opening v.history) xs 0
   differs [] some = absurd (some refl)

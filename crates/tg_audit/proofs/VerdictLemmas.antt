@@ -1,17 +1,17 @@
 -- Derivations step by step, and the one verdict on them.
 use Rattle.std.proofs.Common.{◌≡◌, ℕ, zero, suc, ◌+◌, List, [], ◌∷◌, take, refl, sym, subst, arith, slice_get, Some}
 use Rattle.std.proofs.lemmas.Option.{none-some, same_Some}
-use Rattle.tg_rights.specs.Letters.{without}
+use Rattle.tg_rights.specs.Promise.Letters.{without}
 use Rattle.tg_graph.specs.declared.derivation.Goal.{Goal}
 use Rattle.tg_graph.specs.declared.derivation.Step.{Step}
 use Rattle.tg_graph.specs.declared.derivation.Verdict.{Verdict}
 use Rattle.tg_graph.specs.declared.derivation.Verdict.TheVariants as verdict
-use Rattle.tg_graph.specs.Derivations.{CanShare, CarriesOut, Derives, IsShared}
-use Rattle.tg_graph.specs.Protection.{Protection, label}
+use Rattle.tg_graph.specs.Promise.Derivations.{CanShare, CarriesOut, Derives, IsShared}
+use Rattle.tg_graph.specs.Promise.Protection.{Protection, label}
 use Rattle.tg_audit.specs.declared.derivations.Stop.{Stop}
 use Rattle.tg_audit.specs.declared.derivations.Stop.TheVariants as stop
-use Rattle.tg_audit.specs.Stops.{StopsBy, verdict_at}
-use Rattle.tg_audit.specs.Verdicts.{IsMet, IsVerdict}
+use Rattle.tg_audit.specs.Inner.Stops.{StopsBy, verdict_at}
+use Rattle.tg_audit.specs.Promise.Verdicts.{IsMet, IsVerdict}
 
 -- one more step is carried out
 pub derives_more : (G : Protection) (steps : List Step) (n : ℕ) (s : Step) (H K : Protection) → slice_get steps n ≡ Some s → Derives G (take n steps) H → CarriesOut H s K → Derives G (take (suc n) steps) K

@@ -1,9 +1,9 @@
 //! Derivations, carried out step by step.
 ghost use Rattle.std.specs.Prelude.{◌≡◌, IfOk, MatchOption, []};
-ghost use Rattle.tg_graph.specs.Derivations.{CanShare, CarriesOut};
+ghost use Rattle.tg_graph.specs.Promise.Derivations.{CanShare, CarriesOut};
 ghost use Rattle.tg_graph.specs.declared.derivation.Verdict.TheVariants as verdict;
-ghost use Rattle.tg_audit.specs.Verdicts.{IsVerdict};
-ghost use Rattle.tg_audit.specs.Stops.{StopsBy, verdict_at};
+ghost use Rattle.tg_audit.specs.Promise.Verdicts.{IsVerdict};
+ghost use Rattle.tg_audit.specs.Inner.Stops.{StopsBy, verdict_at};
 
 use std::alloc::{AllocError, Global};
 use tg_graph::{Goal, Graph, Step, Verdict};

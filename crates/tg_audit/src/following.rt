@@ -3,8 +3,8 @@ ghost use Rattle.std.specs.Prelude.{◌≡◌, ◌↔◌, IsTrue, ◌<◌, ◌+�
 ghost use Rattle.tg_rights.specs.declared.limits.TheConstants.{SEATS};
 ghost use Rattle.tg_audit.specs.declared.logs.Exchange.{Exchange};
 ghost use Rattle.tg_audit.specs.declared.logs.SeatLog.{SeatLog};
-ghost use Rattle.tg_audit.specs.Following.{Follows, FollowsAll, IsLeastAbove, followed, left_of, told};
-ghost use Rattle.tg_audit.specs.Settling.{DifferAt, IsPlace, joined};
+ghost use Rattle.tg_audit.specs.Inner.Following.{HasFollowed, FollowsAll, IsLeastAbove, followed, left_of, told};
+ghost use Rattle.tg_audit.specs.Promise.Settling.{DifferAt, IsPlace, joined_logs};
 
 use crate::logs::{Exchange, SeatLog};
 use crate::replaying::reply_to;
@@ -66,7 +66,7 @@ fn is_told(entry: &Entry, reply: &Reply, exchange: &Exchange) -> bool
 /// The progress after the next entry of the seat.
 fn compared(logs: &[SeatLog], progress: Progress, entry: &Entry, reply: &Reply) -> Progress
     requires { followed progress + 1 < 2 ^ 64 }
-    ensures follows { (entries rest : List Exchange) → Follows entry.now.seat logs.now entries (told entry.now reply.now ∷ rest) progress → Follows entry.now.seat logs.now entries rest result }
+    ensures follows { (entries rest : List Exchange) → HasFollowed entry.now.seat logs.now entries (told entry.now reply.now ∷ rest) progress → HasFollowed entry.now.seat logs.now entries rest result }
     ensures count { followed result ≤ followed progress + 1 }
 {
     match progress {
@@ -89,8 +89,8 @@ fn compared(logs: &[SeatLog], progress: Progress, entry: &Entry, reply: &Reply) 
 
 /// The index at which the logs of a seat without further entries differ from its entries.
 fn index_apart(logs: &[SeatLog], seat: u64, progress: Progress) -> Option<u64>
-    ensures some { IfSome result (λ index. (entries : List Exchange) → Follows seat logs.now entries [] progress → DifferAt entries (joined seat logs.now) index) }
-    ensures none { IfNone result ((entries : List Exchange) → Follows seat logs.now entries [] progress → entries ≡ joined seat logs.now) }
+    ensures some { IfSome result (λ index. (entries : List Exchange) → HasFollowed seat logs.now entries [] progress → DifferAt entries (joined_logs seat logs.now) index) }
+    ensures none { IfNone result ((entries : List Exchange) → HasFollowed seat logs.now entries [] progress → entries ≡ joined_logs seat logs.now) }
 {
     match progress {
         Progress::Apart { index } => Some(index),

@@ -1,7 +1,7 @@
 //! A history as a derivation, and the graph that it leaves.
 ghost use Rattle.std.specs.Prelude.{◌≡◌, IfOk};
-ghost use Rattle.tg_audit.specs.Derived.{derivation_of, entry_step};
-ghost use Rattle.tg_vault.specs.Contents.{graph_now};
+ghost use Rattle.tg_audit.specs.Promise.Derived.{derivation_of, entry_step};
+ghost use Rattle.tg_vault.specs.Promise.Contents.{graph_now};
 
 use crate::replaying::reply_to;
 use std::alloc::{AllocError, Global};

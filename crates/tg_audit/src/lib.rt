@@ -1,8 +1,8 @@
 //! The auditor: derivations over the plain graph, and whether callers received what the history says.
 #![tactic(auto)]
 
-ghost use Rattle.tg_audit.specs.Derived.{HistoriesDerive};
-ghost use Rattle.tg_audit.specs.Laws.{AgreedCounts, ExactlyOnePlace, ExactlyOneVerdict};
+ghost use Rattle.tg_audit.specs.Promise.Derived.{HistoriesDerive};
+ghost use Rattle.tg_audit.specs.Promise.Laws.{AgreedCounts, ExactlyOnePlace, ExactlyOneVerdict};
 
 mod derivations;
 mod following;

@@ -1,8 +1,9 @@
 //! The replies of a history, by the plain graph alone.
 ghost use Rattle.std.specs.Prelude.{◌≡◌, IfOk, OnOk};
-ghost use Rattle.tg_graph.specs.Fullness.{Limits, Permitted};
-ghost use Rattle.tg_graph.specs.Rules.{next_graph, reply_of};
-ghost use Rattle.tg_audit.specs.Replies.{IsSubjectOrRetired, beyond, replies_of, retired_reply};
+ghost use Rattle.tg_graph.specs.Promise.Fullness.{Limits, Permitted};
+ghost use Rattle.tg_graph.specs.Promise.Rules.{next_graph, reply_of};
+ghost use Rattle.tg_audit.specs.Promise.Replies.{replies_of};
+ghost use Rattle.tg_audit.specs.Inner.Replies.{IsSubjectOrRetired, beyond, retired_reply};
 
 use std::alloc::{AllocError, Global};
 use tg_graph::{Graph, is_for_retired};

@@ -1,5 +1,5 @@
 //! Settling: the logs of all callers against the history.
-ghost use Rattle.tg_audit.specs.Settling.{SettledAs};
+ghost use Rattle.tg_audit.specs.Promise.Settling.{SettledAs};
 
 use crate::following::first_difference;
 use crate::logs::{SeatLog, Settled};

@@ -1,1 +1,2 @@
 mod OnePicture
+mod DrawnOnExamples

@@ -1,18 +1,18 @@
 -- A vault has one picture under a label: its lists in order have exactly what the vault shows.
 use Rattle.std.proofs.Common.{◌≡◌, ◌∙◌, ℕ, ◌<◌, List, [], ◌∷◌, inl, inr, refl, sym, subst, arith}
-use Rattle.tg_lists.specs.Membership.{Contains}
-use Rattle.tg_graph.specs.Opening.{Edge}
-use Rattle.tg_graph.specs.Parts.{Before, Rises}
+use Rattle.tg_lists.specs.Promise.Membership.{Contains}
+use Rattle.tg_graph.specs.Promise.Opening.{ListedEdge}
+use Rattle.tg_graph.specs.Promise.Parts.{Before, Rises}
 use Rattle.tg_graph.proofs.ListedLemmas.{same_in_order}
 use Rattle.tg_collect.specs.declared.figures.Figure.{Figure}
 use Rattle.tg_vault.specs.declared.scene.Scene.{Scene}
-use Rattle.tg_vault.specs.Contents.{Contents}
-use Rattle.tg_vault.specs.Scenes.{IsScene}
-use Rattle.tg_draw.specs.Laws.{OnePicture}
-use Rattle.tg_draw.specs.Picture.{picture, picture_of}
+use Rattle.tg_vault.specs.Promise.Contents.{Contents}
+use Rattle.tg_vault.specs.Promise.Scenes.{IsScene}
+use Rattle.tg_draw.specs.Promise.Laws.{OnePicture}
+use Rattle.tg_draw.specs.Promise.Picture.{picture, picture_of}
 
 -- two lists with the same edges, both by rising pairs of ends
-never_both : (e f : Edge) → Before e f → Before f e → ⊥
+never_both : (e f : ListedEdge) → Before e f → Before f e → ⊥
 never_both e f (inl low) (inl high) = absurd (omega (arith, low, high))
 never_both e f (inl low) (inr high) = let same : f.0 ≡ e.0 = high.0 in absurd (omega (arith, low, same))
 never_both e f (inr low) (inl high) = let same : e.0 ≡ f.0 = low.0 in absurd (omega (arith, high, same))

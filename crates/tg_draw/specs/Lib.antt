@@ -1,4 +1,1 @@
-pub mod Words
-pub mod Label
-pub mod Picture
-pub mod Laws
+pub mod Promise

@@ -1,7 +1,7 @@
 //! A scene as one line of text.
 ghost use Rattle.std.specs.Prelude.{◌≡◌, ◌++◌, decimal, IfOk, OnOk};
 ghost use Rattle.std.specs.List.{flat_map};
-ghost use Rattle.tg_draw.specs.Picture.{Draws, body_text, counts_text, edge_text, ends_text, head_text, mark_if, mark_text, name_text, picture, seat_row, seat_text, state_text, vertex_class, vertex_label, vertex_look, vertex_text};
+ghost use Rattle.tg_draw.specs.Promise.Picture.{Draws, body_text, counts_text, edge_text, ends_text, head_text, mark_if, mark_text, name_text, picture, seat_row, seat_text, state_text, vertex_class, vertex_label, vertex_look, vertex_text};
 
 use crate::label::put_label;
 use crate::words::{
@@ -25,7 +25,7 @@ pub fn draw(alloc: Global, vault: &Vault, label: &[u8]) -> Result<Vec<u8>, Alloc
 }
 
 /// The picture of a scene, under this label. The only error is that an allocation failed.
-#[tactic(auto, unfolding(crate::specs::Picture::picture_of))]
+#[tactic(auto, unfolding(crate::specs::Promise::Picture::picture_of))]
 pub fn picture(alloc: Global, scene: &Scene, label: &[u8]) -> Result<Vec<u8>, AllocError>
     ensures { IfOk result (λ text. text.items ≡ picture scene.now label.now) }
 {
@@ -36,7 +36,7 @@ pub fn picture(alloc: Global, scene: &Scene, label: &[u8]) -> Result<Vec<u8>, Al
 }
 
 /// Writes what comes before the vertices: these rows and those of the scene.
-#[tactic(auto, unfolding(crate::specs::Picture::head_text))]
+#[tactic(auto, unfolding(crate::specs::Promise::Picture::head_text))]
 fn put_head(out: &mut Vec<u8>, alloc: Global, scene: &Scene, label: &[u8]) -> Result<(), AllocError>
     ensures { OnOk result (out.new.items ≡ out.old.items ++ head_text label.now scene.now.phase scene.now.free_slots scene.now.free_cells scene.now.seats.items) }
 {
@@ -48,7 +48,7 @@ fn put_head(out: &mut Vec<u8>, alloc: Global, scene: &Scene, label: &[u8]) -> Re
 }
 
 /// Writes the vertices, behind what all of them have, and the edges.
-#[tactic(auto, unfolding(crate::specs::Picture::body_text))]
+#[tactic(auto, unfolding(crate::specs::Promise::Picture::body_text))]
 fn put_body(out: &mut Vec<u8>, scene: &Scene) -> Result<(), AllocError>
     ensures { OnOk result (out.new.items ≡ out.old.items ++ body_text scene.now.names scene.now.seats.items scene.now.vertices.items scene.now.edges.items) }
 {

@@ -1,7 +1,7 @@
 //! Labels: any bytes, as text between quotes.
 ghost use Rattle.std.specs.Prelude.{◌≡◌, ◌++◌, OnOk};
 ghost use Rattle.std.specs.List.{flat_map};
-ghost use Rattle.tg_draw.specs.Label.{byte_text, label_text, plain_text};
+ghost use Rattle.tg_draw.specs.Promise.Label.{byte_text, label_text, plain_text};
 
 use std::alloc::{AllocError, Global};
 

@@ -7,4 +7,4 @@ mod laws;
 mod words;
 
 pub use dot::{draw, picture};
-pub use laws::one_picture;
+pub use laws::{drawn_on_examples, one_picture};

@@ -1,12 +1,12 @@
 //! What is always written alike.
 ghost use Rattle.std.specs.Prelude.{◌≡◌};
-ghost use Rattle.tg_draw.specs.Words.{before_cells, before_label, before_slots, before_vertices, colour_word, held_word, kind_word, phase_word, rim, style};
+ghost use Rattle.tg_draw.specs.Promise.Words.{before_cells, before_label, before_slots, before_vertices, colour_word, held_word, kind_word, phase_word, rim, style};
 
 use tg_collect::{Colour, Phase};
 use tg_rights::Kind;
 
 /// What comes before the label.
-#[tactic(auto, unfolding(crate::specs::Words::before_label))]
+#[tactic(auto, unfolding(crate::specs::Promise::Words::before_label))]
 pub(crate) fn before_label() -> &'static [u8]
     ensures { result.now ≡ before_label }
 {
@@ -14,7 +14,7 @@ pub(crate) fn before_label() -> &'static [u8]
 }
 
 /// What comes between the label and the vertices.
-#[tactic(auto, unfolding(crate::specs::Words::before_vertices))]
+#[tactic(auto, unfolding(crate::specs::Promise::Words::before_vertices))]
 pub(crate) fn before_vertices() -> &'static [u8]
     ensures { result.now ≡ before_vertices }
 {
@@ -22,7 +22,7 @@ pub(crate) fn before_vertices() -> &'static [u8]
 }
 
 /// What comes before the count of free slots.
-#[tactic(auto, unfolding(crate::specs::Words::before_slots))]
+#[tactic(auto, unfolding(crate::specs::Promise::Words::before_slots))]
 pub(crate) fn before_slots() -> &'static [u8]
     ensures { result.now ≡ before_slots }
 {
@@ -30,7 +30,7 @@ pub(crate) fn before_slots() -> &'static [u8]
 }
 
 /// What comes before the count of free cells.
-#[tactic(auto, unfolding(crate::specs::Words::before_cells))]
+#[tactic(auto, unfolding(crate::specs::Promise::Words::before_cells))]
 pub(crate) fn before_cells() -> &'static [u8]
     ensures { result.now ≡ before_cells }
 {
@@ -38,7 +38,7 @@ pub(crate) fn before_cells() -> &'static [u8]
 }
 
 /// The collector's phase.
-#[tactic(auto, unfolding(crate::specs::Words::phase_word))]
+#[tactic(auto, unfolding(crate::specs::Promise::Words::phase_word))]
 pub(crate) fn phase_word(phase: Phase) -> &'static [u8]
     ensures { result.now ≡ phase_word phase }
 {
@@ -50,7 +50,7 @@ pub(crate) fn phase_word(phase: Phase) -> &'static [u8]
 }
 
 /// What a vertex is.
-#[tactic(auto, unfolding(crate::specs::Words::kind_word))]
+#[tactic(auto, unfolding(crate::specs::Promise::Words::kind_word))]
 pub(crate) fn kind_word(kind: Kind) -> &'static [u8]
     ensures { result.now ≡ kind_word kind }
 {
@@ -61,7 +61,7 @@ pub(crate) fn kind_word(kind: Kind) -> &'static [u8]
 }
 
 /// A vertex's colour.
-#[tactic(auto, unfolding(crate::specs::Words::colour_word))]
+#[tactic(auto, unfolding(crate::specs::Promise::Words::colour_word))]
 pub(crate) fn colour_word(colour: Colour) -> &'static [u8]
     ensures { result.now ≡ colour_word colour }
 {
@@ -73,7 +73,7 @@ pub(crate) fn colour_word(colour: Colour) -> &'static [u8]
 }
 
 /// That a vertex waits to be swept; nothing if it is held.
-#[tactic(auto, unfolding(crate::specs::Words::held_word))]
+#[tactic(auto, unfolding(crate::specs::Promise::Words::held_word))]
 pub(crate) fn held_word(is_held: bool) -> &'static [u8]
     ensures { result.now ≡ held_word is_held }
 {
@@ -81,7 +81,7 @@ pub(crate) fn held_word(is_held: bool) -> &'static [u8]
 }
 
 /// How a vertex is drawn: a subject filled, a document open, with a dashed rim if it waits to be swept.
-#[tactic(auto, unfolding(crate::specs::Words::style))]
+#[tactic(auto, unfolding(crate::specs::Promise::Words::style))]
 pub(crate) fn style(kind: Kind, is_held: bool) -> &'static [u8]
     ensures { result.now ≡ style kind is_held }
 {
@@ -104,7 +104,7 @@ pub(crate) fn style(kind: Kind, is_held: bool) -> &'static [u8]
 }
 
 /// The rim of a vertex of a colour: thin, thick and grey, or thick.
-#[tactic(auto, unfolding(crate::specs::Words::rim))]
+#[tactic(auto, unfolding(crate::specs::Promise::Words::rim))]
 pub(crate) fn rim(colour: Colour) -> &'static [u8]
     ensures { result.now ≡ rim colour }
 {

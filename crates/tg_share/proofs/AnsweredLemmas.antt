@@ -10,12 +10,12 @@ use Rattle.tg_vault.specs.declared.event.Event.{Event}
 use Rattle.tg_vault.specs.declared.event.Event.TheVariants as event
 use Rattle.tg_vault.specs.declared.event.Answer.{Answer}
 use Rattle.tg_vault.specs.declared.event.Answer.TheVariants as answer
-use Rattle.tg_vault.specs.Contents.{Contents}
-use Rattle.tg_vault.specs.Course.{VaultStep}
+use Rattle.tg_vault.specs.Promise.Contents.{Contents}
+use Rattle.tg_vault.specs.Promise.Course.{VaultStep}
 use Rattle.tg_audit.specs.declared.logs.Exchange.{Exchange}
 use Rattle.tg_share.specs.declared.locked.TheConstants.{PARTS}
-use Rattle.tg_share.specs.Sessions.{Grows, IsRefused, Sitting, with_exchange}
-use Rattle.tg_share.specs.Reached.{HasAnswered, IsAnswered, IsEntered, IsEnteredFor, IsReached}
+use Rattle.tg_share.specs.Promise.Sessions.{Grows, IsRefused, Sitting, with_exchange}
+use Rattle.tg_share.specs.Promise.Reached.{HasAnswered, IsAnswered, IsEntered, IsEnteredFor, IsReached}
 
 -- what lay under the lock, u, is the vault v of the hold
 pub answered_on : (v u w : Contents) (e : Event) (a : Answer) → IsReached u → u ≡ v → VaultStep u e a w → IsAnswered v e a
@@ -50,24 +50,25 @@ answered_hello result v u w seat given name reached same step none =
       | inr full ↦ rw (none full).0 (inl refl)
     ]
 
-passed : {T E : Type 0} (r : Result T E) (e : E) (P : E → Type 0) → IsErrAnd r (λ y. y ≡ e) → P e → IfErr r P
-passed (Ok x) e P is h = tt
-passed (Err y) e P is h = subst P (sym is) h
+-- at the exit of a `?`
+pub passed : {T E : Type 0} (r : Result T E) (e : E) (P : T → Type 0) (Q : E → Type 0) → IsErrAnd r (λ y. y ≡ e) → Q e → MatchResult r P Q
+passed (Ok x) e P Q is h = absurd is
+passed (Err y) e P Q is h = subst Q (sym is) h
 
 -- the vault of a hold is some vault
 pub hello_refused : {S : Type 0} (r : Result S SeatFault) (f : SeatFault) (v : Contents) (seat : ℕ) (name : List ℕ) → IsErrAnd r (λ y. y ≡ f)
     → (f ≡ seat_fault.NoSeat) ⊎ IsAnswered v (event.Hello seat name) (answer.Seat f)
     → IfErr r (λ fault. (fault ≡ seat_fault.NoSeat) ⊎ HasAnswered (event.Hello seat name) (answer.Seat fault))
-hello_refused r f v seat name is (inl none) = passed r f _ is (inl none)
-hello_refused r f v seat name is (inr told) = passed r f _ is (inr (record { vault = v; answered = told }))
+hello_refused r f v seat name is (inl none) = passed r f _ _ is (inl none)
+hello_refused r f v seat name is (inr told) = passed r f _ _ is (inr (record { vault = v; answered = told }))
 
 -- the same for a command, of which a copy was asked
 pub ask_refused : {S : Type 0} (r : Result S AskFault) (f : AskFault) (v : Contents) (seat : ℕ) (asked command : Command) → IsErrAnd r (λ y. y ≡ f) → asked ≡ command
     → IsAnswered v (event.Ask seat asked) (answer.Ask f) → IfErr r (λ fault. IsRefused seat command fault)
 ask_refused r f v seat asked command is same told =
-    passed r f (λ fault. IsRefused seat command fault) is (inr (record { vault = v; answered = subst (λ c. IsAnswered v (event.Ask seat c) (answer.Ask f)) same told }))
+    passed r f _ (λ fault. IsRefused seat command fault) is (inr (record { vault = v; answered = subst (λ c. IsAnswered v (event.Ask seat c) (answer.Ask f)) same told }))
 
-ended_at : {X : Type 0} (xs : List X) (x : X) → slice_get (xs ++ x ∷ []) (length xs) ≡ Some x
+pub ended_at : {X : Type 0} (xs : List X) (x : X) → slice_get (xs ++ x ∷ []) (length xs) ≡ Some x
 ended_at [] x = refl
 ended_at (y ∷ ys) x = ended_at ys x
 

@@ -1,16 +1,16 @@
 -- A shared vault that is closed: from what was settled and counted to what is promised.
 use Rattle.std.proofs.Common.{◌≡◌, ◌+◌, List, [], ◌∷◌, ◌++◌, append-nil, arith, Bool, true, length, refl, sym, ap, subst, ◌∙◌, sum_by}
 use Rattle.std.proofs.lemmas.List.Sums.{sum_by-cons}
-use Rattle.tg_vault.specs.Contents.{Contents}
-use Rattle.tg_vault.specs.Laws.{CoursesHaveTheHeadline}
+use Rattle.tg_vault.specs.Promise.Contents.{Contents}
+use Rattle.tg_vault.specs.Promise.Laws.{CoursesHaveTheHeadline}
 use Rattle.tg_audit.specs.declared.logs.SeatLog.{SeatLog}
 use Rattle.tg_audit.specs.declared.logs.Settled.{Settled}
 use Rattle.tg_audit.specs.declared.logs.Settled.TheVariants as settled
-use Rattle.tg_audit.specs.Laws.{AgreedCounts}
-use Rattle.tg_audit.specs.Settling.{SettledAs}
+use Rattle.tg_audit.specs.Promise.Laws.{AgreedCounts}
+use Rattle.tg_audit.specs.Promise.Settling.{SettledAs}
 use Rattle.tg_share.specs.declared.session.Ended.{Ended}
-use Rattle.tg_share.specs.Closing.{IsAgreed, IsSettled, exchange_count, logs_of, vault_in}
-use Rattle.tg_share.specs.Reached.{HasHeadline, IsReached}
+use Rattle.tg_share.specs.Promise.Closing.{IsAgreed, IsSettled, exchange_count, logs_of, vault_in}
+use Rattle.tg_share.specs.Promise.Reached.{HasHeadline, IsReached}
 
 pub nothing_left : {A : Type 0} (front rest whole : List A) → length rest ≡ 0 → front ++ rest ≡ whole → front ≡ whole
 nothing_left front [] whole none is = sym (append-nil front) ∙ is

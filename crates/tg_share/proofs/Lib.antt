@@ -3,3 +3,4 @@ mod ReachedLemmas
 mod ClosingLemmas
 mod AnsweredLemmas
 mod EnteredLemmas
+mod MeaningsLemmas

@@ -1,3 +1,2 @@
-pub mod Reached
-pub mod Sessions
-pub mod Closing
+pub mod Promise
+pub mod Inner

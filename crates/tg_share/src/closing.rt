@@ -1,7 +1,7 @@
 //! The end of a shared vault: what its sessions received, against its history.
 ghost use Rattle.std.specs.Prelude.{◌≡◌};
 ghost use Rattle.tg_share.specs.declared.locked.TheConstants.{PARTS};
-ghost use Rattle.tg_share.specs.Closing.{IsClosed};
+ghost use Rattle.tg_share.specs.Promise.Closing.{IsClosed};
 
 use crate::locked::Locked;
 use crate::session::{Ended, Shared};
@@ -38,12 +38,13 @@ impl<L: Ledger> Shared<L> {
             };
         };
         let Shared { locked, alloc } = self;
+        let inner = locked.into_inner();
         let Locked {
             vault,
             mut entries,
             mut rest,
             given,
-        } = locked.into_inner();
+        } = inner;
         let counted = ended.len() as u64 == given;
         for one in ended {
             let Ended {
@@ -60,7 +61,7 @@ impl<L: Ledger> Shared<L> {
         courses_have_the_headline();
         agreed_counts();
         Closed::Done {
-            settled: settle(alloc, vault.into_vault(), logs),
+            settled: settle(alloc, vault, logs),
             counted,
         }
     }

@@ -7,8 +7,8 @@ ghost use Rattle.tg_vault.specs.declared.event.AskFault.TheVariants as ask_fault
 ghost use Rattle.tg_vault.specs.declared.event.SeatFault.TheVariants as seat_fault;
 ghost use Rattle.tg_vault.specs.declared.event.Event.TheVariants as event;
 ghost use Rattle.tg_vault.specs.declared.event.Answer.TheVariants as answer;
-ghost use Rattle.tg_vault.specs.Room.{IsRoom};
-ghost use Rattle.tg_share.specs.Reached.{IsAnswered, IsEntered, IsReached};
+ghost use Rattle.tg_vault.specs.Promise.Room.{IsRoom};
+ghost use Rattle.tg_share.specs.Promise.Reached.{IsAnswered, IsEntered, IsReached};
 
 use crate::locked::Locked;
 use std::hint::spin_loop;
@@ -35,7 +35,8 @@ pub struct Hold<'a, L: Ledger> {
 
 impl<'a, L: Ledger> Model for Hold<'a, L> {
     ghost use Rattle.std.specs.Sync.Mutex.{mutex_guard_value};
-    ghost use Rattle.tg_vault.specs.Contents.{Contents, contents_code};
+    ghost use Rattle.tg_vault.specs.Promise.Contents.{Contents};
+    ghost use Rattle.tg_vault.specs.Inner.Contents.{contents_code};
 
     ghost Value = { Contents };
 
@@ -111,7 +112,8 @@ impl<'a, L: Ledger> Hold<'a, L> {
         ensures reached { IsReached self.entry }
     {
         let Hold { guard } = self;
-        guard.vault.room()
+        let locked = &*guard;
+        locked.vault.room()
     }
 
     /// The event shade.

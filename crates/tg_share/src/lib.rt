@@ -2,13 +2,13 @@
 //! lock is used up by its event, if it makes one.
 #![tactic(auto)]
 
-ghost use Rattle.tg_share.specs.Reached.{OneActor};
+ghost use Rattle.tg_share.specs.Promise.Meanings.{SharesHaveMeanings};
+ghost use Rattle.tg_share.specs.Promise.Reached.{OneActor};
 
 mod closing;
 mod gate;
 mod hold;
 mod locked;
-mod running;
 mod session;
 
 pub use closing::Closed;
@@ -19,4 +19,9 @@ pub use session::{Ended, Session, Shared, Worked};
 /// A law, at no cost: the entry that an event adds is one actor's.
 pub fn entries_have_one_actor()
     ensures { OneActor }
+{}
+
+/// What it means that events have led to a vault, and that a command was entered, or refused.
+pub fn shares_have_meanings()
+    ensures { SharesHaveMeanings }
 {}

@@ -1,14 +1,14 @@
 //! What lies under the lock. Each method that changes the vault is one event, or none; a hold of the lock is used up by
-//! one of them.
+//! one of them. `soundness` after a call of the vault has no effect: it shows that the call was an event.
 ghost use Rattle.std.specs.Prelude.{◌≡◌, ◌+◌, ◌<◌, ◌≤◌, [], length, Err, IfOk, OnOk, OnErr, MatchResult};
 ghost use Rattle.tg_vault.specs.declared.event.SeatFault.TheVariants as seat_fault;
 ghost use Rattle.tg_vault.specs.declared.event.Event.TheVariants as event;
 ghost use Rattle.tg_vault.specs.declared.event.Answer.TheVariants as answer;
-ghost use Rattle.tg_vault.specs.Course.{VaultStep};
+ghost use Rattle.tg_vault.specs.Promise.Course.{VaultStep};
 ghost use Rattle.tg_share.specs.declared.locked.TheConstants.{PARTS};
-ghost use Rattle.tg_share.specs.Reached.{IsEnteredFor, IsReached};
+ghost use Rattle.tg_share.specs.Promise.Reached.{IsEnteredFor, IsReached};
 
-use crate::running::Running;
+use std::marker::Model;
 use std::sync::ledger::{Book, Ledger, Share};
 use tg_collect::Note;
 use tg_rights::{Command, Reply};
@@ -17,19 +17,29 @@ use tg_vault::{AskFault, SeatFault, Vault};
 /// The parts that the ledger of entries is cut into: one for each session, and one that stays with the vault.
 pub const PARTS: u64 = 4_294_967_295;
 
-/// A vault, and the ledger that counts its entries: the book has their number, the sessions' shares add up to it.
+/// A vault to which nothing but events has happened since it had no entries, and the ledger that counts its entries: the
+/// book has their number, the sessions' shares add up to it. Contracts see the vault, and how many parts were given.
 #[derive(Drop)]
 pub struct Locked<L: Ledger> {
-    pub vault: Running,
+    pub vault: Vault,
     pub entries: Book<L>,
     /// The parts that no session has; no entry is counted here.
     pub rest: Share<L>,
     /// How many sessions were given a part.
     pub given: u64,
-    ghost counted: { entries.total ≡ length vault.history },
-    ghost uncounted: { rest.amount ≡ 0 },
-    ghost parts: { rest.parts + given ≡ PARTS },
-    ghost one_left: { given < PARTS },
+}
+
+impl<L: Ledger> Model for Locked<L> {
+    ghost use Rattle.tg_share.specs.Promise.Reached.{UnderLock};
+    ghost use Rattle.tg_share.specs.Inner.UnderLock.{IsLocked, under_lock_code};
+
+    ghost Value = { UnderLock };
+
+    ghost coded = { under_lock_code };
+
+    ghost view = { λ l. record { vault = l.vault; given = l.given } };
+
+    ghost invariant = { λ l. IsLocked l.vault l.entries.total l.rest.parts l.rest.amount l.given };
 }
 
 impl<L: Ledger> Locked<L> {
@@ -39,9 +49,11 @@ impl<L: Ledger> Locked<L> {
         requires total { entries.total ≡ 0 }
         requires parts { rest.parts ≡ PARTS }
         requires amount { rest.amount ≡ 0 }
+        ensures { result.vault ≡ vault }
     {
+        vault.soundness();
         Locked {
-            vault: Running::new(vault),
+            vault,
             entries,
             rest,
             given: 0,
@@ -61,15 +73,11 @@ impl<L: Ledger> Locked<L> {
         if self.given + 1 >= PARTS {
             return Err(SeatFault::NoSeat);
         }
-        let Locked {
-            vault,
-            entries: _,
-            rest,
-            given,
-        } = self;
-        let actor = vault.hello(seat, name)?;
-        let share = rest.split_off(1, 0);
-        *given += 1;
+        let answer = self.vault.hello(seat, name);
+        self.vault.soundness();
+        let actor = answer?;
+        let share = self.rest.split_off(1, 0);
+        self.given += 1;
         Ok((actor, share))
     }
 
@@ -90,15 +98,14 @@ impl<L: Ledger> Locked<L> {
         ensures parts { share.new.parts ≡ share.old.parts }
         ensures given { self.new.given ≡ self.old.given }
     {
-        let Locked {
-            vault,
-            entries,
-            rest: _,
-            given: _,
-        } = self;
-        let answer = vault.ask(seat, command)?;
-        entries.add(share, 1);
-        Ok(answer)
+        let answer = self.vault.command(seat, command);
+        self.vault.soundness();
+        let (number, reply) = answer?;
+        self.entries.add(share, 1);
+        let Some(entry) = self.vault.entry(number) else {
+            unreachable!()
+        };
+        Ok((entry.actor(), reply))
     }
 
     /// The event shade.
@@ -107,7 +114,9 @@ impl<L: Ledger> Locked<L> {
         ensures reached { IsReached self.old.vault }
         ensures given { self.new.given ≡ self.old.given }
     {
-        self.vault.shade(seat)
+        let answer = self.vault.shade(seat);
+        self.vault.soundness();
+        answer
     }
 
     /// The event collect.
@@ -116,7 +125,9 @@ impl<L: Ledger> Locked<L> {
         ensures reached { IsReached self.old.vault }
         ensures given { self.new.given ≡ self.old.given }
     {
-        self.vault.collect()
+        let note = self.vault.collect();
+        self.vault.soundness();
+        note
     }
 
     /// The event bye.
@@ -125,6 +136,8 @@ impl<L: Ledger> Locked<L> {
         ensures reached { IsReached self.old.vault }
         ensures given { self.new.given ≡ self.old.given }
     {
-        self.vault.bye(seat)
+        let answer = self.vault.bye(seat);
+        self.vault.soundness();
+        answer
     }
 }

@@ -6,8 +6,8 @@ ghost use Rattle.tg_vault.specs.declared.event.Event.TheVariants as event;
 ghost use Rattle.tg_vault.specs.declared.event.Answer.TheVariants as answer;
 ghost use Rattle.tg_audit.specs.declared.logs.Exchange.{Exchange};
 ghost use Rattle.tg_share.specs.declared.locked.TheConstants.{PARTS};
-ghost use Rattle.tg_share.specs.Reached.{HasAnswered, HasRoom};
-ghost use Rattle.tg_share.specs.Sessions.{Grows, IsRefused};
+ghost use Rattle.tg_share.specs.Promise.Reached.{HasAnswered, HasRoom};
+ghost use Rattle.tg_share.specs.Promise.Sessions.{Grows, IsRefused};
 
 use crate::gate::{Gate, Place};
 use crate::hold::Lock;
@@ -52,7 +52,7 @@ pub struct Session<'a, L: Ledger> {
 impl<'a, L: Ledger> Model for Session<'a, L> {
     ghost use Rattle.std.specs.Prelude.{◌≡◌, ◌<◌, length};
     ghost use Rattle.tg_rights.specs.declared.limits.TheConstants.{SEATS};
-    ghost use Rattle.tg_share.specs.Sessions.{Sitting};
+    ghost use Rattle.tg_share.specs.Promise.Sessions.{Sitting};
 
     ghost Value = { Sitting };
 
@@ -227,7 +227,7 @@ impl<'a, L: Ledger> Session<'a, L> {
     ghost use mir.Syntax.{named};
     ghost use Rattle.tg_vault.specs.declared.event.AskFault.TheVariants as ask_fault;
     ghost use Rattle.tg_share.specs.contracts.session.Session.{the_row};
-    ghost use Rattle.tg_share.specs.Sessions.{HasAsked};
+    ghost use Rattle.tg_share.specs.Promise.Sessions.{HasAsked};
 
     /// Submits the command by the event ask, pauses, and shades what it left as the seat's target by the event shade.
     /// The reply is that of the last exchange of the log, whose actor is the entry's: the one for whom the seat acts, or

@@ -1,7 +1,7 @@
 //! How scripts of calls are played. The helpers stop a test if a call's condition is not met.
 ghost use Rattle.std.specs.Prelude.{◌≡◌, ◌≢◌, ◌<◌};
-ghost use Rattle.tg_slots.specs.Table.{Has, Free};
-ghost use Rattle.tg_heap.specs.Graph.{mark_at};
+ghost use Rattle.tg_slots.specs.Promise.Table.{Has, Free};
+ghost use Rattle.tg_heap.specs.Promise.Graph.{mark_at};
 
 use crate::cases::{rights_of, text};
 use crate::heap_scripts::Act::{

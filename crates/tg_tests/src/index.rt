@@ -1,8 +1,8 @@
 //! Scripts of calls on the buckets of an index, and the rows that they must leave. The helpers stop a test if a call's
 //! condition is not met.
 ghost use Rattle.std.specs.Prelude.{◌≡◌, ◌<◌, length, MatchBool, IfOk};
-ghost use Rattle.tg_lists.specs.Membership.{Contains};
-ghost use Rattle.tg_index.specs.Rows.{row, IsHeld, IsUnheld};
+ghost use Rattle.tg_lists.specs.Promise.Membership.{Contains};
+ghost use Rattle.tg_index.specs.Promise.Rows.{row, IsHeld, IsUnheld};
 
 use std::alloc::{AllocError, Global};
 use std::process::Abort;

@@ -1,6 +1,6 @@
 //! Scripts of calls, and the lists that they must return. The helpers stop a test if a call's condition is not met.
 ghost use Rattle.std.specs.Prelude.{◌≡◌};
-ghost use Rattle.tg_slots.specs.Table.{Has, mark};
+ghost use Rattle.tg_slots.specs.Promise.Table.{Has, mark};
 
 use std::alloc::{AllocError, Global};
 use std::process::Abort;

@@ -1,17 +1,17 @@
 -- The entries that a run adds are those of its Asked answers.
 use Rattle.std.proofs.Common.{◌≡◌, ℕ, suc, ◌+◌, List, [], ◌∷◌, ◌++◌, length, length-append, append_assoc, refl, sym, ap, ◌∙◌, arith, append-nil}
-use Rattle.tg_graph.specs.Protection.{Protection}
-use Rattle.tg_graph.specs.Rules.{next_graph, reply_of}
+use Rattle.tg_graph.specs.Promise.Protection.{Protection}
+use Rattle.tg_graph.specs.Promise.Rules.{next_graph, reply_of}
 use Rattle.tg_vault.specs.declared.entry.Entry.{Entry}
 use Rattle.tg_vault.specs.declared.event.Event.{Event}
 use Rattle.tg_vault.specs.declared.event.Event.TheVariants as event
 use Rattle.tg_vault.specs.declared.event.Answer.{Answer}
 use Rattle.tg_vault.specs.declared.event.Answer.TheVariants as answer
-use Rattle.tg_graph.specs.Fullness.{Limits}
-use Rattle.tg_vault.specs.History.{graph_of}
-use Rattle.tg_vault.specs.World.{Moment, Step, Run}
-use Rattle.tg_vault.specs.Contents.{Contents, RunOf, moment}
-use Rattle.tg_vault.specs.Headline.{asked_in, replies_from, AddsAsked}
+use Rattle.tg_graph.specs.Promise.Fullness.{Limits}
+use Rattle.tg_vault.specs.Promise.History.{graph_of}
+use Rattle.tg_vault.specs.Promise.World.{Moment, Step, Run}
+use Rattle.tg_vault.specs.Promise.Contents.{Contents, RunOf, moment}
+use Rattle.tg_vault.specs.Promise.Headline.{asked_in, replies_from, AddsAsked}
 
 -- what answers add to a moment
 pub record Adds (m : Moment) (answers : List Answer) (n : Moment) : Type 0 where

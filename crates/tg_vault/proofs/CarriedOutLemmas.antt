@@ -5,8 +5,8 @@ use Rattle.std.specs.Option.{is_some}
 use Rattle.std.specs.Ordering.{nat_cmp}
 use Rattle.std.specs.FinMap as map
 use Rattle.std.specs.FinSet as set
-use Rattle.tg_rights.specs.Letters.{Letters, joined, without, is_none}
-use Rattle.tg_rights.specs.Command.{rule_of}
+use Rattle.tg_rights.specs.Promise.Letters.{Letters, joined, without, is_none}
+use Rattle.tg_rights.specs.Promise.Command.{rule_of}
 use Rattle.tg_rights.specs.declared.kind.Kind.{Kind}
 use Rattle.tg_rights.specs.declared.command.Command.{Command}
 use Rattle.tg_rights.specs.declared.outcome.Cause.{Cause}
@@ -18,25 +18,24 @@ use Rattle.tg_graph.specs.declared.member.Member.{Member}
 use Rattle.tg_graph.specs.declared.vertex.Vertex.{Vertex}
 use Rattle.tg_graph.specs.declared.rules.Spot.{Spot}
 use Rattle.tg_graph.specs.declared.rules.Found.{Found}
-use Rattle.tg_graph.specs.Names.{with_member, without_member}
-use Rattle.tg_graph.specs.Terms as effect
-use Rattle.tg_graph.specs.Terms.{Does, terms}
-use Rattle.tg_graph.specs.Deciding.{Each}
-use Rattle.tg_graph.specs.Triples.{edge}
-use Rattle.tg_graph.specs.Protection.{Protection, IsEdge, label, vertex}
-use Rattle.tg_graph.specs.Fullness.{NewEdge, edges_at}
-use Rattle.tg_graph.specs.Rules.{Allowed, answered, denial, done, edges_of, is_new, last_serial, text_of, with_text}
-use Rattle.tg_collect.specs.Stored.{Stored}
-use Rattle.tg_collect.specs.Readings.{agents, held, pending, principals, free_slots, place, serial_at}
-use Rattle.tg_collect.specs.Sessions.{Assumed, EdgeStored, AgentLeft, Retired, RightsRemoved, TextReplaced, Acted}
+use Rattle.tg_graph.specs.Promise.Protection.{with_member, without_member, edge, Protection, IsEdge, label, vertex}
+use Rattle.tg_graph.specs.Promise.Terms as effect
+use Rattle.tg_graph.specs.Promise.Terms.{Does, terms}
+use Rattle.tg_graph.specs.Promise.Deciding.{Each}
+use Rattle.tg_graph.specs.Promise.Fullness.{NewEdge, edges_at}
+use Rattle.tg_graph.specs.Promise.Rules.{Allowed, answered, denial, done, edges_of, is_new, last_serial, text_of, with_text}
+use Rattle.tg_collect.specs.Promise.Stored.{Stored}
+use Rattle.tg_collect.specs.Promise.Readings.{agents, held, pending, principals, free_slots, place, serial_at}
+use Rattle.tg_collect.specs.Promise.Sessions.{Assumed, EdgeStored, AgentLeft, Retired, RightsRemoved, TextReplaced, Acted}
 use Rattle.tg_collect.proofs.SeatLemmas.{acted_same}
 use Rattle.tg_collect.proofs.RunLemmas.{acted_slots, agents_set, pending_set, text_graph}
 use Rattle.tg_collect.proofs.StoreLemmas.{edge_in, in_edge}
-use Rattle.tg_vault.specs.World.{new_agents, new_target, with_target}
+use Rattle.tg_vault.specs.Promise.World.{new_agents, new_target, with_pending}
 use Rattle.tg_vault.specs.declared.carry_out.State.{State}
-use Rattle.tg_vault.specs.Seen.{seen, seen_in, serials, set_of}
-use Rattle.tg_vault.specs.Exact.{IsUsedUp}
-use Rattle.tg_vault.specs.CarriedOut.{CarriedIn, EdgeMoves, Joined, Made, NoRoom, Stores, copies, denied, serial_of, settled}
+use Rattle.tg_vault.specs.Promise.Seen.{serials}
+use Rattle.tg_vault.specs.Inner.Seen.{graph_seen, seen_in, set_of}
+use Rattle.tg_vault.specs.Promise.Contents.{IsUsedUp}
+use Rattle.tg_vault.specs.Inner.CarriedOut.{CarriedIn, EdgeMoves, Joined, Made, NoRoom, Stores, copies, denied, serial_given, settled}
 use Rattle.tg_vault.proofs.EdgeLemmas.{edge_seen, edges_seen, joined_some, label_cut, label_seen, seen_edge}
 use Rattle.tg_vault.proofs.PlaceLemmas.{serial_is}
 use Rattle.tg_vault.proofs.SerialsLemmas.{serials_left, serials_pushed}
@@ -115,16 +114,16 @@ with_text_among names retired G over text (Some e) = refl
 
 module _ (s t : Stored) (next : ℕ) (names : List Member) (retired : set.FinSet nat_cmp) (seat : ℕ) where
   abbrev S : Protection
-  S = seen s next names retired
+  S = graph_seen s next names retired
 
   -- an effect was carried out in the store and in what is kept besides, with this reply
   pub record IsDone (K : Protection) (x : ℕ) (d : Does) (answer : Reply) : Type 0 where
     pub room : (w : Which) → IsUsedUp S (free_slots s) s.free_cells d w → ⊥
     pub replied : answer ≡ answered S d
     pub graph : K ≡ done S x d
-    pub pending : pending t ≡ with_target (pending s) seat (new_target S d)
+    pub pending : pending t ≡ with_pending (pending s) seat (new_target S d)
     pub agents : agents t ≡ new_agents (agents s) seat d
-    pub acted : Acted s t (serial_of next d) (new_target S d)
+    pub acted : Acted s t (serial_given next d) (new_target S d)
     pub listed : principals t ≡ serials K.names
     pub slots : free_slots s ≡ free_slots t + cond (is_new d) 1 0
     pub cells : EdgeMoves S s.free_cells t.free_cells x d
@@ -145,7 +144,7 @@ module _ (s t : Stored) (next : ℕ) (names : List Member) (retired : set.FinSet
 
   -- the store has changed, and nothing else that is kept
   abbrev T : Protection
-  T = seen t next names retired
+  T = graph_seen t next names retired
 
   module _ (known : principals s ≡ serials names) where
     pub carried_by : (K : Protection) (x : ℕ) (c : Command) (d : Does) (r : Result Reply Which) → d ≡ (terms x c).does → Allowed S x c → ByEffect K x d r → CarriedIn S K s t seat x c (settled r)
@@ -191,7 +190,7 @@ module _ (s t : Stored) (next : ℕ) (names : List Member) (retired : set.FinSet
       room which.Slots u = cc u.0
       room which.Cells u = had_room s t next seat from to α j.0 (λ e. u.0 (edge_seen s next next names retired from to e)) u.2
     join_done x from to α (Err which.Cells) some j =
-        record { used = (λ e. j.2 (edge_in s next from to (seen_edge s next next names retired from to e)), λ e. absurd (cc e), j.1); same = j.0; kept = (λ i. seen (j.0 i) next names retired) }
+        record { used = (λ e. j.2 (edge_in s next from to (seen_edge s next next names retired from to e)), λ e. absurd (cc e), j.1); same = j.0; kept = (λ i. graph_seen (j.0 i) next names retired) }
     join_done x from to α _ some j = absurd j
 
     -- what a new vertex leaves, whether it is a principal or not
@@ -222,7 +221,7 @@ module _ (s t : Stored) (next : ℕ) (names : List Member) (retired : set.FinSet
     })
 
     pub stored_done : (x : ℕ) (k : Kind) (α : Letters) (name : Option (List ℕ)) → next ≤ last_serial → Stores s t seat x next k α name → Acted s t (Some next) (Some next) →
-        ByEffect (seen t (next + 1) (with_member names name next) retired) x (effect.Makes k α name) (Ok (reply.Created next))
+        ByEffect (graph_seen t (next + 1) (with_member names name next) retired) x (effect.Makes k α name) (Ok (reply.Created next))
     stored_done x k α name few stores acted = record {
       room = room;
       replied = refl;
@@ -269,7 +268,7 @@ module _ (s t : Stored) (next : ℕ) (names : List Member) (retired : set.FinSet
     }
 
     pub retire_done : (x : ℕ) (left : List Member) (gone : set.FinSet nat_cmp) → left ≡ without_member names x → gone ≡ set.insert retired x → Retired s t x → Acted s t None None →
-        ByEffect (seen t next left gone) x effect.Retires (Ok reply.Done)
+        ByEffect (graph_seen t next left gone) x effect.Retires (Ok reply.Done)
     retire_done x left gone is more goes acted = record {
       room = needs_none S (free_slots s) s.free_cells effect.Retires refl (λ u. u);
       replied = refl;
@@ -313,7 +312,7 @@ pub make_done : (old new : State) (seat : ℕ) (known : principals old.store ≡
     ByEffect old.store new.store old.next old.names (set_of old.retired.keys) seat (seen_in new) x (effect.Makes k α name) r
 make_done old new seat known x k α name (Ok (reply.Created serial)) m =
     subst (λ (w : Protection × ℕ). ByEffect old.store new.store old.next old.names (set_of old.retired.keys) seat w.0 x (effect.Makes k α name) (Ok (reply.Created w.1)))
-    (sym (λ i. (seen new.store (m.2 i) (m.3 i) (set_of (m.4 i).keys), m.0 i)))
+    (sym (λ i. (graph_seen new.store (m.2 i) (m.3 i) (set_of (m.4 i).keys), m.0 i)))
     (stored_done old.store new.store old.next old.names (set_of old.retired.keys) seat known x k α name m.1 m.5 m.6)
 make_done old new seat known x k α name (Err full) m = record { used = no_room full m.1; same = (λ i. (m.0 i).store); kept = (λ i. seen_in (m.0 i)) } where
   no_room : (w : Which) → NoRoom old.store old.next w → IsUsedUp (seen_in old) (free_slots old.store) old.store.free_cells (effect.Makes k α name) w
@@ -324,9 +323,9 @@ make_done old new seat known x k α name _ m = absurd m
 
 -- reads, looks and denials change nothing
 module _ (s : Stored) (next : ℕ) (names : List Member) (retired : set.FinSet nat_cmp) (seat : ℕ) (known : principals s ≡ serials names) (x : ℕ) where
-  pub tell_done : (over : ℕ) → ByEffect s s next names retired seat (seen s next names retired) x (effect.Tells over) (Ok (reply.Text (text_of (held s next) over)))
+  pub tell_done : (over : ℕ) → ByEffect s s next names retired seat (graph_seen s next names retired) x (effect.Tells over) (Ok (reply.Text (text_of (held s next) over)))
   tell_done over = record {
-    room = needs_none (seen s next names retired) (free_slots s) s.free_cells (effect.Tells over) refl (λ u. u);
+    room = needs_none (graph_seen s next names retired) (free_slots s) s.free_cells (effect.Tells over) refl (λ u. u);
     replied = refl;
     graph = refl;
     pending = refl;
@@ -337,9 +336,9 @@ module _ (s : Stored) (next : ℕ) (names : List Member) (retired : set.FinSet n
     cells = refl;
   }
 
-  pub list_done : (at : ℕ) → ByEffect s s next names retired seat (seen s next names retired) x (effect.Lists at) (Ok (reply.Edges (edges_of (held s next) at)))
+  pub list_done : (at : ℕ) → ByEffect s s next names retired seat (graph_seen s next names retired) x (effect.Lists at) (Ok (reply.Edges (edges_of (held s next) at)))
   list_done at = record {
-    room = needs_none (seen s next names retired) (free_slots s) s.free_cells (effect.Lists at) refl (λ u. u);
+    room = needs_none (graph_seen s next names retired) (free_slots s) s.free_cells (effect.Lists at) refl (λ u. u);
     replied = ap (λ es. reply.Edges es) (sym (edges_seen s next next names retired at));
     graph = refl;
     pending = refl;
@@ -350,7 +349,7 @@ module _ (s : Stored) (next : ℕ) (names : List Member) (retired : set.FinSet n
     cells = refl;
   }
 
-  pub denied_carried : (c : Command) (why : Cause) → denial (seen s next names retired) x c ≡ Some why → CarriedIn (seen s next names retired) (seen s next names retired) s s seat x c (denied (rule_of c) why)
+  pub denied_carried : (c : Command) (why : Cause) → denial (graph_seen s next names retired) x c ≡ Some why → CarriedIn (graph_seen s next names retired) (graph_seen s next names retired) s s seat x c (denied (rule_of c) why)
   denied_carried c why is = record {
     decided = (refl, is);
     replied = refl;

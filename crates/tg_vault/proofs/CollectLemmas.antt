@@ -2,21 +2,19 @@
 -- makes a step.
 use Rattle.std.proofs.Common.{◌≡◌, ℕ, ◌+◌, ◌-◌, ◌≤◌, List, Option, None, Some, refl, sym, ap, subst, ◌∙◌, inl, inr, Bool, true, set, length-set, is_some, arith}
 use Rattle.tg_graph.specs.declared.member.Member.{Member}
-use Rattle.tg_graph.specs.Names.{serial_of}
-use Rattle.tg_graph.specs.Protection.{IsVertex, is_active, named}
-use Rattle.tg_graph.specs.Paths.{IsPart}
-use Rattle.tg_collect.specs.Stored.{Stored}
-use Rattle.tg_collect.specs.Readings.{IsParkedIn, free_slots, held, agents, pending, pending_of, principals, slot_count}
-use Rattle.tg_collect.specs.Sessions.{AgentLeft, Shaded, Acted}
-use Rattle.tg_collect.specs.Views.{IsStore, Collected}
+use Rattle.tg_graph.specs.Promise.Protection.{serial_of, IsVertex, is_active, named, IsPart}
+use Rattle.tg_collect.specs.Promise.Stored.{Stored}
+use Rattle.tg_collect.specs.Promise.Readings.{IsParkedIn, free_slots, held, agents, pending, pending_of, principals, slot_count}
+use Rattle.tg_collect.specs.Promise.Sessions.{AgentLeft, Shaded, Acted}
+use Rattle.tg_collect.specs.Promise.Views.{IsStore, Collected}
 use Rattle.tg_collect.proofs.SeatLemmas.{acted_same}
 use Rattle.tg_collect.proofs.RunLemmas.{acted_parked, acted_slots, agents_set, collected_parked, collected_part, shaded_graph, shaded_others, shaded_pending, shaded_was}
-use Rattle.tg_vault.specs.History.{WasPrincipal}
-use Rattle.tg_vault.specs.Seen.{seen}
-use Rattle.tg_vault.specs.World.{at_seat}
-use Rattle.tg_vault.specs.Contents.{Contents, graph_now, held_now, moment}
-use Rattle.tg_vault.specs.Fits.{IsOfSeat, IsTied, Ties}
-use Rattle.tg_vault.specs.StoreSteps.{SessionStep}
+use Rattle.tg_vault.specs.Promise.History.{WasPrincipal}
+use Rattle.tg_vault.specs.Inner.Seen.{graph_seen}
+use Rattle.tg_vault.specs.Promise.World.{at_seat}
+use Rattle.tg_vault.specs.Promise.Contents.{Contents, graph_now, held_now, moment, IsOfSeat, Ties}
+use Rattle.tg_vault.specs.Inner.Fits.{IsTied}
+use Rattle.tg_vault.specs.Promise.StoreSteps.{SessionStep}
 use Rattle.tg_vault.proofs.DecidedLemmas.{of_graph}
 use Rattle.tg_vault.proofs.PlaceLemmas.{set_none, set_seat, set_used}
 use Rattle.tg_vault.proofs.SerialsLemmas.{named_active}
@@ -76,7 +74,7 @@ one_fewer before after seat gone k y at = elim (set_seat before seat k None y (s
 module _ (v : Contents) (j : Ties v) (t : Stored) where
   -- a vault stays tied to a store of which no less is free, if what it holds is still a part of the graph, and each target
   -- and each agent was one
-  still_joined : IsPart (graph_now v) (seen t (graph_now v).next (graph_now v).names (graph_now v).retired) → ((x : ℕ) → IsParkedIn t x → IsVertex (graph_now v) x) → principals t ≡ principals v.store →
+  still_joined : IsPart (graph_now v) (graph_seen t (graph_now v).next (graph_now v).names (graph_now v).retired) → ((x : ℕ) → IsParkedIn t x → IsVertex (graph_now v) x) → principals t ≡ principals v.store →
       Fewer (pending v.store) (pending t) → Fewer (agents v.store) (agents t) →
       slot_count t ≡ slot_count v.store → t.cells ≡ v.store.cells → free_slots v.store ≤ free_slots t → v.store.free_cells ≤ t.free_cells → Ties (record v { store = t })
   still_joined part parked same waited were slots cells more_slots more_cells = record {
@@ -104,7 +102,7 @@ module _ (v : Contents) (j : Ties v) (t : Stored) where
       t.free_cells ≡ v.store.free_cells → Ties (record v { store = t })
   still_held acted graph same waited were cells =
       let slots = acted_slots acted in
-      let seen_too : held_now v ≡ seen t (graph_now v).next (graph_now v).names (graph_now v).retired =
+      let seen_too : held_now v ≡ graph_seen t (graph_now v).next (graph_now v).names (graph_now v).retired =
       λ i. record (sym (graph (graph_now v).next) i) { names = (graph_now v).names; retired = (graph_now v).retired } in
       still_joined (subst (λ H. IsPart (graph_now v) H) seen_too j.part) (λ x h. j.parked x (acted_parked acted x h)) same waited were acted.slots acted.cells (omega arith) (omega arith)
 

@@ -8,18 +8,17 @@ use Rattle.tg_rights.specs.declared.command.Command.TheVariants as command
 use Rattle.tg_rights.specs.declared.outcome.Outcome.{Outcome}
 use Rattle.tg_rights.specs.declared.outcome.Outcome.TheVariants as outcome
 use Rattle.tg_graph.specs.declared.vertex.Vertex.{Vertex}
-use Rattle.tg_graph.specs.Names.{without_member}
-use Rattle.tg_graph.specs.Terms as effect
-use Rattle.tg_graph.specs.Terms.{Does, terms}
-use Rattle.tg_graph.specs.Protection.{Protection, IsGraph, IsVertex, vertex, label}
-use Rattle.tg_graph.specs.Fullness.{vertex_count, edge_count}
-use Rattle.tg_graph.specs.Rules.{Allowed, done, is_new, next_graph}
+use Rattle.tg_graph.specs.Promise.Protection.{without_member, Protection, IsGraph, IsVertex, vertex, label}
+use Rattle.tg_graph.specs.Promise.Terms as effect
+use Rattle.tg_graph.specs.Promise.Terms.{Does, terms}
+use Rattle.tg_graph.specs.Promise.Fullness.{vertex_count, edge_count}
+use Rattle.tg_graph.specs.Promise.Rules.{Allowed, done, is_new, next_graph}
 use Rattle.tg_graph.proofs.EdgesAreCountedLemmas.{edge_count-union, edge_count-difference, edge_count-new}
 use Rattle.tg_graph.proofs.FullnessLemmas.{vertex_count-again, edge_count-again, vertex_count-new}
 use Rattle.tg_graph.proofs.ProtectionLemmas.{Entitled, edge_to, entitled, includes_some}
 use Rattle.tg_graph.proofs.VertexLemmas.{IsVertex-insert, with_text-document, with_text-next}
-use Rattle.tg_vault.specs.World.{new_target, slots_taken, target_of}
-use Rattle.tg_vault.specs.CarriedOut.{CellsMoved, EdgeMoves}
+use Rattle.tg_vault.specs.Promise.World.{new_target, slots_taken, target_of}
+use Rattle.tg_vault.specs.Inner.CarriedOut.{CellsMoved, EdgeMoves}
 use Rattle.tg_vault.proofs.EdgeLemmas.{edge_count_among}
 
 -- the next serial depends only on the effect

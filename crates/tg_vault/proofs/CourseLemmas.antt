@@ -2,13 +2,18 @@
 use Rattle.std.proofs.Common.{◌≡◌, ℕ, ◌+◌, ◌<◌, List, [], ◌∷◌, ◌++◌, length, take, get_or, length-append, refl, sym, ap, subst, ◌∙◌}
 use Rattle.std.proofs.lemmas.List.{take_more}
 use Rattle.tg_vault.specs.declared.event.Event.{Event}
+use Rattle.tg_vault.specs.declared.event.Event.TheVariants as event
 use Rattle.tg_vault.specs.declared.event.Answer.{Answer}
-use Rattle.tg_graph.specs.Fullness.{Limits}
-use Rattle.tg_vault.specs.World.{Run}
-use Rattle.tg_vault.specs.Contents.{Contents, RunOf, Keeps, moment}
-use Rattle.tg_vault.specs.Fits.{Fits}
-use Rattle.tg_vault.specs.Course.{Course, VaultStep}
-use Rattle.tg_vault.specs.Headline.{EventCourse}
+use Rattle.tg_vault.specs.declared.event.Answer.TheVariants as answer
+use Rattle.tg_collect.specs.declared.note.Phase.{Phase}
+use Rattle.tg_collect.specs.Promise.Readings.{PhaseTurns, phase}
+use Rattle.tg_collect.proofs.RunLemmas.{acted_phase, collected_turns}
+use Rattle.tg_graph.specs.Promise.Fullness.{Limits}
+use Rattle.tg_vault.specs.Promise.World.{Run}
+use Rattle.tg_vault.specs.Promise.Contents.{Contents, RunOf, Keeps, moment, Fits}
+use Rattle.tg_vault.specs.Promise.Course.{Course, VaultStep}
+use Rattle.tg_vault.specs.Promise.StoreSteps.{StoreStep}
+use Rattle.tg_vault.specs.Promise.Headline.{EventCourse, PhaseStep}
 
 pub keeps_on : (old mid new : Contents) → Keeps old mid → Keeps mid new → Keeps old new
 keeps_on old mid new first next = record { opening = next.opening ∙ first.opening; limits = next.limits ∙ first.limits; key = next.key ∙ first.key }
@@ -36,12 +41,28 @@ course_append u v w (e ∷ es) fs (a ∷ answers) more first then = (first.0, fi
 course_append u v w [] fs (a ∷ answers) more first then = absurd first
 course_append u v w (e ∷ es) fs [] more first then = absurd first
 
+-- what an event does to the phase
+phase_step : (old : Contents) (e : Event) (a : Answer) (new : Contents) → StoreStep old e a new → PhaseStep old e a new
+phase_step old event.Collect (answer.Noted note) new s =
+    let turns : PhaseTurns (phase old.store) (phase new.store) note.ended = collected_turns s.0 in
+    (s.1, subst (λ (p : Phase). PhaseTurns (phase old.store) p note.ended) (sym s.1) turns)
+phase_step old event.Collect (answer.Hello x) new s = absurd s
+phase_step old event.Collect answer.Bye new s = absurd s
+phase_step old event.Collect (answer.Asked number reply) new s = absurd s
+phase_step old event.Collect (answer.Shaded target) new s = absurd s
+phase_step old event.Collect (answer.Seat fault) new s = absurd s
+phase_step old event.Collect (answer.Ask fault) new s = absurd s
+phase_step old (event.Hello seat name) a new s = acted_phase s.acted
+phase_step old (event.Bye seat) a new s = acted_phase s.acted
+phase_step old (event.Ask seat c) a new s = acted_phase s.acted
+phase_step old (event.Shade seat) a new s = acted_phase s.acted
+
 -- what the headline says of a course
 pub course_events : (v : Contents) (es : List Event) (answers : List Answer) (w : Contents) → Course v es answers w → EventCourse v es answers w
 course_events v [] [] w same = same
 course_events v (e ∷ es) (a ∷ answers) w course =
     let goes : VaultStep v e a course.0 = course.1 in
-    (course.0, record { step = goes.step; keeps = goes.keeps; told = goes.told; fits = goes.fits }, course_events course.0 es answers w course.2)
+    (course.0, record { step = goes.step; keeps = goes.keeps; turns = phase_step v e a course.0 goes.stored; told = goes.told; fits = goes.fits }, course_events course.0 es answers w course.2)
 course_events v [] (a ∷ answers) w course = absurd course
 course_events v (e ∷ es) [] w course = absurd course
 

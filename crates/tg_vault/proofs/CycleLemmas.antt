@@ -3,12 +3,11 @@ use Rattle.std.proofs.Common.{◌≡◌, ℕ, zero, suc, ◌+◌, ◌<◌, ◌�
 use Rattle.std.specs.Ordering.{nat_cmp}
 use Rattle.std.specs.FinSet as set
 use Rattle.std.proofs.lemmas.List.Sums.{sum_by-cons}
-use Rattle.tg_rights.specs.Letters.{is_none}
+use Rattle.tg_rights.specs.Promise.Letters.{is_none}
 use Rattle.tg_graph.specs.declared.member.Member.{Member}
-use Rattle.tg_graph.specs.Protection.{Protection, IsVertex, IsEdge}
-use Rattle.tg_graph.specs.Paths.{Leads, Live}
-use Rattle.tg_graph.specs.Fullness.{Limits}
-use Rattle.tg_graph.specs.Rules.{next_graph}
+use Rattle.tg_graph.specs.Promise.Protection.{Protection, IsVertex, IsEdge, Leads, Live}
+use Rattle.tg_graph.specs.Promise.Fullness.{Limits}
+use Rattle.tg_graph.specs.Promise.Rules.{next_graph}
 use Rattle.tg_vault.specs.declared.entry.Entry.{Entry}
 use Rattle.tg_vault.specs.declared.event.Event.{Event}
 use Rattle.tg_vault.specs.declared.event.Event.TheVariants as event
@@ -17,20 +16,19 @@ use Rattle.tg_vault.specs.declared.event.Answer.TheVariants as answer
 use Rattle.tg_collect.specs.declared.note.Note.{Note}
 use Rattle.tg_collect.specs.declared.note.Phase.{Phase}
 use Rattle.tg_collect.specs.declared.note.Phase.TheVariants.{Idle}
-use Rattle.tg_collect.specs.Stored.{Stored}
-use Rattle.tg_collect.specs.Readings.{held, IsHeldIn, IsRootIn, agents, cycle_bound, pending, phase, slot_count}
-use Rattle.tg_collect.specs.Views.{IsStore, Collected}
-use Rattle.tg_collect.specs.Runs.{StoreRun, start, acts, goes, ends}
-use Rattle.tg_collect.specs.Runs as runs
+use Rattle.tg_collect.specs.Promise.Stored.{Stored}
+use Rattle.tg_collect.specs.Promise.Readings.{held, IsHeldIn, IsRootIn, agents, cycle_bound, pending, phase, slot_count}
+use Rattle.tg_collect.specs.Promise.Views.{IsStore, Collected}
+use Rattle.tg_collect.specs.Promise.Runs.{StoreRun, start, acts, goes, ends}
+use Rattle.tg_collect.specs.Promise.Runs as runs
 use Rattle.tg_collect.proofs.RunLemmas.{acted_phase, calls_act, idle_ends_none, known}
-use Rattle.tg_vault.specs.History.{graph_of}
-use Rattle.tg_vault.specs.World.{Run}
-use Rattle.tg_vault.specs.Seen.{seen}
-use Rattle.tg_vault.specs.Contents.{Contents, RunOf, Keeps, graph_now, moment}
-use Rattle.tg_vault.specs.Fits.{IsRoot, HasSlot}
-use Rattle.tg_vault.specs.StoreSteps.{SessionStep}
-use Rattle.tg_vault.specs.Course.{Course, VaultStep, IsCoherent}
-use Rattle.tg_vault.specs.Cycles.{phase_after, notes_in, ended_in, IsComplete, IsBounded}
+use Rattle.tg_vault.specs.Promise.History.{graph_of}
+use Rattle.tg_vault.specs.Promise.World.{Run}
+use Rattle.tg_vault.specs.Inner.Seen.{graph_seen}
+use Rattle.tg_vault.specs.Promise.Contents.{Contents, RunOf, Keeps, graph_now, moment, IsRoot, HasSlot}
+use Rattle.tg_vault.specs.Promise.StoreSteps.{SessionStep}
+use Rattle.tg_vault.specs.Promise.Course.{Course, VaultStep, IsCoherent}
+use Rattle.tg_vault.specs.Promise.Cycles.{phase_after, notes_in, ended_in, IsComplete, IsBounded}
 use Rattle.tg_vault.proofs.EdgeLemmas.{label_seen}
 use Rattle.tg_vault.proofs.CountLemmas.{next_grows}
 use Rattle.tg_vault.proofs.DecidedLemmas.{graph_is, of_graph, root_principal}
@@ -88,11 +86,11 @@ since_grows k (answer.Seat fault ∷ answers) none = since_grows k answers none
 since_grows k (answer.Ask fault ∷ answers) none = since_grows k answers none
 
 -- what is live in what is held depends neither on the next serial nor on who is a principal
-leads_held : (s : Stored) (n m : ℕ) (names : List Member) (retired : set.FinSet nat_cmp) (later : List ℕ) (x y : ℕ) → Leads (seen s n names retired) x later y → Leads (held s m) x later y
+leads_held : (s : Stored) (n m : ℕ) (names : List Member) (retired : set.FinSet nat_cmp) (later : List ℕ) (x y : ℕ) → Leads (graph_seen s n names retired) x later y → Leads (held s m) x later y
 leads_held s n m names retired [] x y is = is
 leads_held s n m names retired (z ∷ zs) x y leads = (ap is_none (sym (label_seen s n m names retired x z)) ∙ leads.0, leads_held s n m names retired zs z y leads.1)
 
-live_held : (s : Stored) (n m : ℕ) (names : List Member) (retired : set.FinSet nat_cmp) (root : ℕ → Type 0) (x : ℕ) → Live (seen s n names retired) root x → Live (held s m) root x
+live_held : (s : Stored) (n m : ℕ) (names : List Member) (retired : set.FinSet nat_cmp) (root : ℕ → Type 0) (x : ℕ) → Live (graph_seen s n names retired) root x → Live (held s m) root x
 live_held s n m names retired root x live = (live.0, live.1, (live.2.0, (live.2.1.0, leads_held s n m names retired live.2.0 live.0 x live.2.1.1)))
 
 -- next serials never fall
@@ -236,7 +234,7 @@ module _ (v : Contents) (s : IsCoherent v) where
   held_below x h = (graph_is v s.ties s.store).below_next x (of_graph v s.ties s.store x h)
 
 -- a cycle that starts here, and two that end from here on
-pub from_idle : runs.IsComplete → (m : Contents) → IsCoherent m → phase m.store ≡ Idle → (after : List Event) (note : Note) (back : List Answer) (w : Contents) → Course m after (answer.Noted note ∷ back) w →
+pub from_idle : runs.StoresAreComplete → (m : Contents) → IsCoherent m → phase m.store ≡ Idle → (after : List Event) (note : Note) (back : List Answer) (w : Contents) → Course m after (answer.Noted note ∷ back) w →
     2 ≤ ended_in (answer.Noted note ∷ back) → (x : ℕ) → HasSlot w x → Live (held m.store (graph_now m).next) (IsRootIn m.store) x ⊎ ((graph_now m).next ≤ x)
 from_idle law m sound idle [] note back w course two x slot = absurd course
 from_idle law m sound idle (event.Hello seat name ∷ es) note back w course two x slot = absurd course.1.step
@@ -255,7 +253,7 @@ from_idle law m sound idle (event.Collect ∷ es) note back w course two x slot 
     law m.store u.store w.store next (0 + ended_in back) (since_in 0 back) note.freed sound.store idle
     (subst (λ b. Collected m.store u.store note.freed b) open_end g.stored.0) g.coherent.store (held_below m sound) run (omega arith) x slot
 
-pub course_complete : runs.IsComplete → (v : Contents) (es : List Event) (answers : List Answer) (w : Contents) → IsCoherent v → Course v es answers w → IsComplete v es answers w
+pub course_complete : runs.StoresAreComplete → (v : Contents) (es : List Event) (answers : List Answer) (w : Contents) → IsCoherent v → Course v es answers w → IsComplete v es answers w
 course_complete law v es answers w sound course = λ front back note is idle two.
     let s = split v es front (answer.Noted note ∷ back) w (subst (λ (all : List Answer). Course v es all w) is course) in
     let m : Contents = s.mid in
@@ -274,7 +272,7 @@ course_complete law v es answers w sound course = λ front back note is idle two
       ],
     )
 
-pub course_bounded : runs.IsBounded → (v : Contents) (es : List Event) (answers : List Answer) (w : Contents) → IsCoherent v → Course v es answers w → IsBounded v answers
+pub course_bounded : runs.StoresAreBounded → (v : Contents) (es : List Event) (answers : List Answer) (w : Contents) → IsCoherent v → Course v es answers w → IsBounded v answers
 course_bounded law v es answers w sound course = λ front middle back is many.
     let s = split v es front (middle ++ back) w (subst (λ (all : List Answer). Course v es all w) is course) in
     let m : Contents = s.mid in

@@ -2,8 +2,8 @@
 use Rattle.std.proofs.Common.{◌≡◌, ℕ, ◌+◌, ◌-◌, ◌<◌, ◌≤◌, ◌⊎◌, List, Bool, true, false, refl, sym, ap, subst, ◌∙◌, inl, inr, Some, None, arith}
 use Rattle.std.specs.Prelude.{◌↔◌, Option}
 use Rattle.std.specs.Option.{is_some, option_map}
-use Rattle.tg_lists.specs.Membership.{Contains}
-use Rattle.tg_rights.specs.Letters.{is_none}
+use Rattle.tg_lists.specs.Promise.Membership.{Contains}
+use Rattle.tg_rights.specs.Promise.Letters.{is_none}
 use Rattle.tg_rights.specs.declared.command.Command.{Command}
 use Rattle.tg_rights.specs.declared.outcome.Which.{Which}
 use Rattle.tg_rights.specs.declared.outcome.Which.TheVariants as which
@@ -11,28 +11,24 @@ use Rattle.tg_rights.specs.declared.outcome.Outcome.{Outcome}
 use Rattle.tg_rights.specs.declared.outcome.Outcome.TheVariants as outcome
 use Rattle.tg_graph.specs.declared.member.Member.{Member}
 use Rattle.tg_graph.specs.declared.vertex.Vertex.{Vertex}
-use Rattle.tg_graph.specs.Names.{has_serial}
-use Rattle.tg_graph.specs.Protection.{Protection, IsGraph, IsVertex, IsSubject, has_retired, is_active}
-use Rattle.tg_graph.specs.Paths.{Agree}
-use Rattle.tg_graph.specs.Fullness.{Limits, NewEdge, Permitted, vertex_count, edge_count}
-use Rattle.tg_graph.specs.Terms as effect
-use Rattle.tg_graph.specs.Terms.{Does, terms}
-use Rattle.tg_graph.specs.Rules.{Allowed, Judged, allowed_reply, answered, denial, is_create, is_new, last_serial}
+use Rattle.tg_graph.specs.Promise.Protection.{has_serial, Protection, IsGraph, IsVertex, IsSubject, has_retired, is_active, Agree}
+use Rattle.tg_graph.specs.Promise.Fullness.{Limits, NewEdge, Permitted, vertex_count, edge_count}
+use Rattle.tg_graph.specs.Promise.Terms as effect
+use Rattle.tg_graph.specs.Promise.Terms.{Does, terms}
+use Rattle.tg_graph.specs.Promise.Rules.{Allowed, Judged, allowed_reply, answered, denial, is_create, is_new, last_serial}
 use Rattle.tg_graph.proofs.OutcomesAgreeLemmas.{Judged-agrees}
 use Rattle.tg_graph.proofs.ProtectionLemmas.{Entitled, edge_to, entitled}
 use Rattle.tg_graph.proofs.PartsStayLemmas.{agree_back, part_agrees}
 use Rattle.tg_graph.proofs.ExactlyOneOutcomeLemmas.{verdict-Judged}
 use Rattle.tg_graph.proofs.RepliesAgreeLemmas.{same_reply}
 use Rattle.tg_graph.proofs.RollLemmas.{member_finds, member_found}
-use Rattle.tg_collect.specs.Readings.{IsHeldIn, IsRootIn, agents, principals}
-use Rattle.tg_collect.specs.Views.{IsStore}
+use Rattle.tg_collect.specs.Promise.Readings.{IsHeldIn, IsRootIn, agents, principals}
+use Rattle.tg_collect.specs.Promise.Views.{IsStore}
 use Rattle.tg_collect.proofs.RunLemmas.{held_graph}
-use Rattle.tg_vault.specs.History.{MayAsk, WasPrincipal}
-use Rattle.tg_vault.specs.World.{ExactSlots, World, acting, actor_at, at_seat}
-use Rattle.tg_vault.specs.Contents.{Contents, graph_now, held_now, moment}
-use Rattle.tg_vault.specs.Fits.{Ties}
-use Rattle.tg_vault.specs.Exact.{IsUsedUp}
-use Rattle.tg_vault.specs.CarriedOut.{Decided}
+use Rattle.tg_vault.specs.Promise.History.{MayAsk, WasPrincipal}
+use Rattle.tg_vault.specs.Promise.World.{ExactSlots, World, acting, actor_at, at_seat}
+use Rattle.tg_vault.specs.Promise.Contents.{Contents, graph_now, held_now, moment, Ties, IsUsedUp}
+use Rattle.tg_vault.specs.Inner.CarriedOut.{Decided}
 use Rattle.tg_vault.proofs.HistoryLemmas.{active_subject, assumed_subject, legal_keeps}
 use Rattle.tg_vault.proofs.SerialsLemmas.{is_listed, listed}
 use Rattle.tg_vault.proofs.PlaceLemmas.{seat_contains}

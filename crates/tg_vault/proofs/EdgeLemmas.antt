@@ -4,37 +4,36 @@ use Rattle.std.specs.Prelude.{List}
 use Rattle.std.specs.Ordering.{nat_cmp}
 use Rattle.std.specs.FinSet as finset
 use Rattle.std.proofs.lemmas.Bool.{eq-eqb}
-use Rattle.tg_rights.specs.Letters.{Letters, is_none, joined, without}
+use Rattle.tg_rights.specs.Promise.Letters.{Letters, is_none, joined, without}
 use Rattle.tg_graph.specs.declared.member.Member.{Member}
-use Rattle.tg_graph.specs.Triples.{edge}
-use Rattle.tg_graph.specs.Protection.{Protection, IsEdge, label}
-use Rattle.tg_graph.specs.Fullness.{edge_count}
-use Rattle.tg_graph.specs.Rules.{edges_of}
+use Rattle.tg_graph.specs.Promise.Protection.{edge, Protection, IsEdge, label}
+use Rattle.tg_graph.specs.Promise.Fullness.{edge_count}
+use Rattle.tg_graph.specs.Promise.Rules.{edges_of}
 use Rattle.tg_graph.proofs.LabelLemmas.{difference-Relabels}
 use Rattle.tg_graph.proofs.PartsStayLemmas.{label-relabelled}
-use Rattle.tg_collect.specs.Stored.{Stored}
-use Rattle.tg_collect.specs.Readings.{held}
-use Rattle.tg_vault.specs.Seen.{seen}
+use Rattle.tg_collect.specs.Promise.Stored.{Stored}
+use Rattle.tg_collect.specs.Promise.Readings.{held}
+use Rattle.tg_vault.specs.Inner.Seen.{graph_seen}
 
 -- labels and edges depend neither on the next serial nor on who is a principal
 module _ (s : Stored) (n m : ℕ) (names : List Member) (retired : finset.FinSet nat_cmp) where
-  pub label_seen : (x y : ℕ) → label (seen s n names retired) x y ≡ label (held s m) x y
+  pub label_seen : (x y : ℕ) → label (graph_seen s n names retired) x y ≡ label (held s m) x y
   unfolding label
   label_seen x y = refl
 
-  pub edges_seen : (z : ℕ) → edges_of (seen s n names retired) z ≡ edges_of (held s m) z
+  pub edges_seen : (z : ℕ) → edges_of (graph_seen s n names retired) z ≡ edges_of (held s m) z
   unfolding edges_of label
   edges_seen z = refl
 
-  pub edge_count_seen : edge_count (seen s n names retired) ≡ edge_count (held s m)
+  pub edge_count_seen : edge_count (graph_seen s n names retired) ≡ edge_count (held s m)
   unfolding edges_of label
   edge_count_seen = refl
 
-  pub edge_seen : (x y : ℕ) → IsEdge (held s m) x y → IsEdge (seen s n names retired) x y
+  pub edge_seen : (x y : ℕ) → IsEdge (held s m) x y → IsEdge (graph_seen s n names retired) x y
   unfolding label
   edge_seen x y e = e
 
-  pub seen_edge : (x y : ℕ) → IsEdge (seen s n names retired) x y → IsEdge (held s m) x y
+  pub seen_edge : (x y : ℕ) → IsEdge (graph_seen s n names retired) x y → IsEdge (held s m) x y
   unfolding label
   seen_edge x y e = e
 

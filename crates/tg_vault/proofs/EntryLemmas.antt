@@ -3,37 +3,35 @@ use Rattle.std.proofs.Common.{◌≡◌, ℕ, ◌+◌, ◌-◌, ◌<◌, ◌≤�
 use Rattle.std.specs.Prelude.{Option}
 use Rattle.std.proofs.lemmas.List.Elements.{All-append, All-cons, All-nil}
 use Rattle.tg_lists.proofs.MembershipLemmas.{contains_left, contains_right}
-use Rattle.tg_rights.specs.Letters.{joined, without}
+use Rattle.tg_rights.specs.Promise.Letters.{joined, without}
 use Rattle.tg_rights.specs.declared.command.Command.{Command}
 use Rattle.tg_rights.specs.declared.command.Command.TheVariants as command
 use Rattle.tg_rights.specs.declared.outcome.Outcome.{Outcome}
 use Rattle.tg_rights.specs.declared.outcome.Outcome.TheVariants as outcome
-use Rattle.tg_graph.specs.Protection.{Protection, IsGraph, IsVertex, has_retired}
-use Rattle.tg_graph.specs.Terms as effect
-use Rattle.tg_graph.specs.Terms.{Does, terms}
-use Rattle.tg_graph.specs.Paths.{Agree, IsPart, Live, Reaches}
-use Rattle.tg_graph.specs.Fullness.{Permitted, edges_at, vertex_count, edge_count}
-use Rattle.tg_graph.specs.Rules.{Allowed, is_create, next_graph, reply_of}
+use Rattle.tg_graph.specs.Promise.Protection.{Protection, IsGraph, IsVertex, has_retired, Agree, IsPart, Live, Reaches}
+use Rattle.tg_graph.specs.Promise.Terms as effect
+use Rattle.tg_graph.specs.Promise.Terms.{Does, terms}
+use Rattle.tg_graph.specs.Promise.Fullness.{Permitted, edges_at, vertex_count, edge_count}
+use Rattle.tg_graph.specs.Promise.Rules.{Allowed, is_create, next_graph, reply_of}
 use Rattle.tg_graph.proofs.OutcomesAgreeLemmas.{Judged-agrees, reaches_on}
 use Rattle.tg_graph.proofs.ProtectionLemmas.{Entitled, edge_to, entitled}
 use Rattle.tg_graph.proofs.PartsStayLemmas.{part_stays}
 use Rattle.tg_graph.proofs.RepliesAgreeLemmas.{same_reply}
 use Rattle.tg_graph.proofs.VertexLemmas.{IsVertex-from_kind}
 use Rattle.tg_vault.specs.declared.entry.Entry.{Entry}
-use Rattle.tg_collect.specs.Readings.{IsRootIn, IsParkedIn, agents, pending, free_slots}
-use Rattle.tg_collect.specs.Views.{IsStore}
+use Rattle.tg_collect.specs.Promise.Readings.{IsRootIn, IsParkedIn, agents, pending, free_slots}
+use Rattle.tg_collect.specs.Promise.Views.{IsStore}
 use Rattle.tg_collect.proofs.RunLemmas.{acted_parked}
-use Rattle.tg_vault.specs.History.{MayAsk, WasAssumed, WasPrincipal}
-use Rattle.tg_vault.specs.Seen.{seen, seen_in, set_of}
-use Rattle.tg_vault.specs.World.{acting, actor_at, agents_after, at_seat, in_use, new_target, target_of, with_target, slots_taken, entered, Enters}
-use Rattle.tg_vault.specs.Contents.{Contents, IsVault, graph_now, held_now, moment}
-use Rattle.tg_vault.specs.Fits.{AreTaken, Ties, IsTied}
-use Rattle.tg_vault.specs.StoreSteps.{SessionStep}
-use Rattle.tg_vault.specs.Exact.{IsExact}
-use Rattle.tg_vault.specs.Agreement.{SameForAgreeing, JudgedAlike, IsOfGraph}
+use Rattle.tg_vault.specs.Promise.History.{MayAsk, WasAssumed, WasPrincipal}
+use Rattle.tg_vault.specs.Inner.Seen.{graph_seen, seen_in, set_of}
+use Rattle.tg_vault.specs.Promise.World.{acting, actor_at, agents_after, at_seat, in_use, new_target, target_of, with_pending, slots_taken, entered, Enters}
+use Rattle.tg_vault.specs.Promise.Contents.{Contents, IsVault, graph_now, held_now, moment, AreTaken, Ties, IsExact}
+use Rattle.tg_vault.specs.Inner.Fits.{IsTied}
+use Rattle.tg_vault.specs.Promise.StoreSteps.{SessionStep}
+use Rattle.tg_vault.specs.Promise.Agreement.{SameForAgreeing, JudgedAlike, IsOfGraph}
 use Rattle.tg_vault.specs.declared.carry_out.Answered.{Answered}
 use Rattle.tg_vault.specs.declared.carry_out.State.{State}
-use Rattle.tg_vault.specs.CarriedOut.{CarriedIn, Decided, CellsMoved, EdgeMoves, new_serial}
+use Rattle.tg_vault.specs.Inner.CarriedOut.{CarriedIn, Decided, CellsMoved, EdgeMoves, new_serial}
 use Rattle.tg_vault.proofs.HistoryLemmas.{along_more, graph_of_more, was_stays}
 use Rattle.tg_vault.proofs.DecidedLemmas.{IsActor, actor_held, acts_here, decided_permitted, decided_so, entitled_held, exact_full, exact_slots, graph_is, held_is, replied_so, retired_decided}
 use Rattle.tg_vault.proofs.SeatLemmas.{agent_after, target_after}
@@ -205,7 +203,7 @@ module _ (v : Contents) (seat x : ℕ) (c : Command) (answer : Answered) (new : 
       graph = graph_left i;
       seats = v.seats;
       agents = s.carried.agents i;
-      pending = (s.carried.pending ∙ ap (with_target (pending v.store) seat) target_is) i;
+      pending = (s.carried.pending ∙ ap (with_pending (pending v.store) seat) target_is) i;
       used = used i;
     };
     history = v.history ++ e ∷ [];
@@ -274,7 +272,7 @@ module _ (v : Contents) (seat x : ℕ) (c : Command) (answer : Answered) (new : 
   retired_are = ap (λ (K : Protection). K.retired) s.carried.graph ∙ sym part_next.retired ∙ sym (ap (λ (K : Protection). K.retired) graph_left)
 
   held_left : next_graph H x c o ≡ held_now left
-  held_left = sym s.carried.graph ∙ (λ i. seen new.store (after_is i) (names_are i) (retired_are i))
+  held_left = sym s.carried.graph ∙ (λ i. graph_seen new.store (after_is i) (names_are i) (retired_are i))
 
   still_part : IsPart (graph_now left) (held_now left)
   still_part = subst (λ K. IsPart (graph_now left) K) held_left (subst (λ K. IsPart K (next_graph H x c o)) (sym graph_left) part_next)
@@ -327,7 +325,7 @@ pub record Pushed (v : Contents) (next : ℕ) (retired : List ℕ) (seat x : ℕ
   pub store : IsStore v.store
   pub within : seat < 64
   pub acts : actor_at (moment v).world seat ≡ Some x
-  pub carried : CarriedIn (seen v.store next v.names (set_of retired)) (seen_in new) v.store new.store seat x c answer
+  pub carried : CarriedIn (graph_seen v.store next v.names (set_of retired)) (seen_in new) v.store new.store seat x c answer
   pub history_is : history ≡ v.history ++ record { seat = seat; actor = x; command = c; outcome = answer.outcome } ∷ []
 
 module _ (v : Contents) (next : ℕ) (retired : List ℕ) (seat x : ℕ) (c : Command) (answer : Answered) (new : State) (history : List Entry)
@@ -341,7 +339,7 @@ module _ (v : Contents) (next : ℕ) (retired : List ℕ) (seat x : ℕ) (c : Co
         within = p.within;
         acts = p.acts;
         carried =
-            subst (λ (H : Protection). CarriedIn H (seen_in new) v.store new.store seat x c answer) (λ i. seen v.store (tied.serial i) (tied.joins.names i) (tied.retired i)) p.carried;
+            subst (λ (H : Protection). CarriedIn H (seen_in new) v.store new.store seat x c answer) (λ i. graph_seen v.store (tied.serial i) (tied.joins.names i) (tied.retired i)) p.carried;
       }
 
   pushed_is : left v seat x c answer new serving ≡ record v { store = new.store; names = new.names; history = history }

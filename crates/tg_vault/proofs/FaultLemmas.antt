@@ -2,8 +2,8 @@
 use Rattle.std.proofs.Common.{◌≡◌, ℕ, Bool, true, false, cond, Option, Some, None, refl}
 use Rattle.tg_vault.specs.declared.event.AskFault.{AskFault}
 use Rattle.tg_vault.specs.declared.event.AskFault.TheVariants.{NoSeat, NoActor, Busy, OutOfMemory}
-use Rattle.tg_vault.specs.Laws.{FaultsAreOrdered, MeansOfItsSeat}
-use Rattle.tg_vault.specs.World.{World, IsAskFault, has_target, in_use, no_seat}
+use Rattle.tg_vault.specs.Promise.Laws.{FaultsAreOrdered, MeansOfItsSeat}
+use Rattle.tg_vault.specs.Promise.World.{World, IsAskFault, has_target, in_use, no_seat}
 
 -- the first fault of a seat, and that it is this one; for want of memory if there is none
 abbrev refusal : (a b c : Bool) → Option AskFault

@@ -1,12 +1,10 @@
 -- What a vault keeps makes its store fit the graph of the history.
 use Rattle.std.proofs.Common.{◌≡◌, ℕ, List, [], ◌∷◌, subst, ◌∙◌, inl, inr, arith}
-use Rattle.tg_graph.specs.Protection.{Protection, IsVertex}
-use Rattle.tg_graph.specs.Paths.{IsPart, Leads}
-use Rattle.tg_graph.specs.Fullness.{edge_count}
-use Rattle.tg_collect.specs.Readings.{agents, held, IsRootIn, pending}
-use Rattle.tg_collect.specs.Views.{IsStore}
-use Rattle.tg_vault.specs.Contents.{Contents, graph_now, held_now, moment}
-use Rattle.tg_vault.specs.Fits.{Ties, Fits, IsRoot}
+use Rattle.tg_graph.specs.Promise.Protection.{Protection, IsVertex, IsPart, Leads}
+use Rattle.tg_graph.specs.Promise.Fullness.{edge_count}
+use Rattle.tg_collect.specs.Promise.Readings.{agents, held, IsRootIn, pending}
+use Rattle.tg_collect.specs.Promise.Views.{IsStore}
+use Rattle.tg_vault.specs.Promise.Contents.{Contents, graph_now, held_now, moment, Ties, Fits, IsRoot}
 use Rattle.tg_vault.proofs.DecidedLemmas.{of_graph, principal_root}
 use Rattle.tg_vault.proofs.EdgeLemmas.{edge_count_seen}
 use Rattle.tg_vault.proofs.PlaceLemmas.{seat_contains}
@@ -36,4 +34,12 @@ module _ (v : Contents) (j : Ties v) (s : IsStore v.store) where
         let counted : edge_count (held_now v) ≡ edge_count (held v.store (graph_now v).next) = edge_count_seen v.store (graph_now v).next (graph_now v).next (graph_now v).names (graph_now v).retired in
         omega arith;
     many_cells = j.many_cells;
+    all_cells = λ none.
+        let all = s.all_cells none (graph_now v).next in
+        let same = j.cells in
+        let counted : edge_count (held_now v) ≡ edge_count (held v.store (graph_now v).next) = edge_count_seen v.store (graph_now v).next (graph_now v).next (graph_now v).names (graph_now v).retired in
+        omega arith;
+    seats = j.vault.seats;
+    targets = s.seats;
+    agents = s.agents;
   }

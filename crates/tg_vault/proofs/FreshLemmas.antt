@@ -4,10 +4,9 @@ use Rattle.std.specs.Prelude.{Option}
 use Rattle.std.specs.FinMap as map
 use Rattle.std.proofs.lemmas.List.Elements.{All-nil}
 use Rattle.tg_graph.specs.declared.config.Config.{Config}
-use Rattle.tg_graph.specs.Opening.{first_fault, opening, principal_count, subjects}
-use Rattle.tg_graph.specs.Protection.{Protection, IsGraph}
-use Rattle.tg_graph.specs.Paths.{IsPart}
-use Rattle.tg_graph.specs.Fullness.{vertex_count, edge_count}
+use Rattle.tg_graph.specs.Promise.Opening.{first_fault, opening, principal_count, subjects}
+use Rattle.tg_graph.specs.Promise.Protection.{Protection, IsGraph, IsPart}
+use Rattle.tg_graph.specs.Promise.Fullness.{vertex_count, edge_count}
 use Rattle.tg_graph.proofs.FullnessLemmas.{length-keys}
 use Rattle.tg_graph.proofs.ProtectionLemmas.{edge_to}
 use Rattle.tg_graph.proofs.OpeningsFitLemmas.{len-subjects, openings_fit}
@@ -15,15 +14,16 @@ use Rattle.tg_graph.proofs.LawsLemmas.{opened}
 use Rattle.tg_collect.proofs.OpeningLemmas.{openings_can_be_stored}
 use Rattle.tg_collect.proofs.RunLemmas.{opened_graph, opened_phase, opened_subjects}
 use Rattle.tg_collect.proofs.StoreLemmas.{idle_none_parked, idle_unparked}
-use Rattle.tg_collect.specs.Stored.{Stored}
+use Rattle.tg_collect.specs.Promise.Stored.{Stored}
 use Rattle.tg_collect.specs.declared.note.Phase.TheVariants.{Idle}
-use Rattle.tg_collect.specs.Readings.{held, phase, principals, slot_count}
-use Rattle.tg_collect.specs.Views.{IsStore}
-use Rattle.tg_collect.specs.Openings.{IsOpening, Opened, first_serials}
-use Rattle.tg_vault.specs.World.{NobodySits, at_seat}
-use Rattle.tg_vault.specs.Seen.{seen, serials, set_of}
-use Rattle.tg_vault.specs.Contents.{Contents, IsFresh, moment}
-use Rattle.tg_vault.specs.Fits.{IsOfSeat, IsTied, Ties}
+use Rattle.tg_collect.specs.Promise.Readings.{held, phase, principals, slot_count}
+use Rattle.tg_collect.specs.Promise.Views.{IsStore}
+use Rattle.tg_collect.specs.Promise.Openings.{IsOpening, Opened, first_serials}
+use Rattle.tg_vault.specs.Promise.World.{NobodySits, at_seat}
+use Rattle.tg_vault.specs.Promise.Seen.{serials}
+use Rattle.tg_vault.specs.Inner.Seen.{graph_seen, set_of}
+use Rattle.tg_vault.specs.Promise.Contents.{Contents, IsFresh, moment, IsOfSeat, Ties}
+use Rattle.tg_vault.specs.Inner.Fits.{IsTied}
 use Rattle.tg_vault.proofs.EdgeLemmas.{edge_count_seen}
 use Rattle.tg_vault.proofs.SerialsLemmas.{opening_serials}
 
@@ -41,7 +41,7 @@ part_itself G g = record { vertices = λ v h. refl; labels = λ v w h. refl; clo
 pub record Begins (v : Contents) : Type 0 where
   pub graph : IsGraph v.opening
   pub store : IsStore v.store
-  pub holds : seen v.store v.opening.next v.opening.names v.opening.retired ≡ v.opening
+  pub holds : graph_seen v.store v.opening.next v.opening.names v.opening.retired ≡ v.opening
   pub idle : phase v.store ≡ Idle
   pub seats : length v.seats ≡ 64
   pub nobody : NobodySits v.seats

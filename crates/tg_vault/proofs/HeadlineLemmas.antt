@@ -5,16 +5,15 @@ use Rattle.tg_rights.specs.declared.outcome.Cause.{Cause}
 use Rattle.tg_rights.specs.declared.outcome.Which.{Which}
 use Rattle.tg_rights.specs.declared.outcome.Outcome.{Outcome}
 use Rattle.tg_rights.specs.declared.outcome.Outcome.TheVariants as outcome
-use Rattle.tg_graph.specs.Protection.{Protection}
-use Rattle.tg_graph.specs.Fullness.{Limits, MayBeFull, Permitted}
-use Rattle.tg_graph.specs.Rules.{Allowed, Denied, next_graph}
+use Rattle.tg_graph.specs.Promise.Protection.{Protection}
+use Rattle.tg_graph.specs.Promise.Fullness.{Limits, MayBeFull, Permitted}
+use Rattle.tg_graph.specs.Promise.Rules.{Allowed, Denied, next_graph}
 use Rattle.tg_vault.specs.declared.entry.Entry.{Entry}
-use Rattle.tg_vault.specs.History.{EntryRun}
-use Rattle.tg_vault.specs.Headline.{EachEntry, EventCourse, IsCarriedOutWhenAllowed, IsDenialNamed}
-use Rattle.tg_vault.specs.Laws.{CoursesHaveTheHeadline}
-use Rattle.tg_vault.specs.Contents.{graph_now}
-use Rattle.tg_vault.specs.Fits.{Fits}
-use Rattle.tg_collect.specs.Runs as runs
+use Rattle.tg_vault.specs.Promise.History.{EntryRun}
+use Rattle.tg_vault.specs.Promise.Headline.{EachEntry, EventCourse, IsCarriedOutWhenAllowed, IsDenialNamed}
+use Rattle.tg_vault.specs.Promise.Laws.{CoursesHaveTheHeadline}
+use Rattle.tg_vault.specs.Promise.Contents.{graph_now, Fits}
+use Rattle.tg_collect.specs.Promise.Runs as runs
 use Rattle.tg_vault.proofs.AddedLemmas.{runs_add}
 use Rattle.tg_vault.proofs.CourseLemmas.{course_events, course_run, events_fit}
 use Rattle.tg_vault.proofs.CycleLemmas.{course_complete, course_bounded}
@@ -70,7 +69,7 @@ each_carried_out limits = each (IsCarriedOutWhenAllowed limits) limits (carried_
 each_denied : (limits : Limits) (G : Protection) (es : List Entry) (H : Protection) → EntryRun limits [] G es H → EachEntry IsDenialNamed G es
 each_denied limits = each IsDenialNamed limits (denied limits) []
 
-pub courses_have_the_headline : runs.IsComplete → runs.IsBounded → CoursesHaveTheHeadline
+pub courses_have_the_headline : runs.StoresAreComplete → runs.StoresAreBounded → CoursesHaveTheHeadline
 courses_have_the_headline complete bounded old es answers new coherent course =
     let events : EventCourse old es answers new = course_events old es answers new course in
     let fits : Fits new = events_fit old es answers new (fits_are old coherent.ties coherent.store) events in (

@@ -11,17 +11,16 @@ use Rattle.tg_rights.specs.declared.outcome.Outcome.{Outcome}
 use Rattle.tg_rights.specs.declared.outcome.Outcome.TheVariants as outcome
 use Rattle.tg_graph.specs.declared.member.Member.{Member}
 use Rattle.tg_graph.specs.declared.vertex.Vertex.{Vertex}
-use Rattle.tg_graph.specs.Names.{has_serial, without_member}
-use Rattle.tg_graph.specs.Protection.{Protection, IsGraph, IsSubject, has_retired, is_active, vertex}
-use Rattle.tg_graph.specs.Terms as effect
-use Rattle.tg_graph.specs.Terms.{Does, terms}
-use Rattle.tg_graph.specs.Rules.{done, next_graph, with_text}
+use Rattle.tg_graph.specs.Promise.Protection.{has_serial, without_member, Protection, IsGraph, IsSubject, has_retired, is_active, vertex}
+use Rattle.tg_graph.specs.Promise.Terms as effect
+use Rattle.tg_graph.specs.Promise.Terms.{Does, terms}
+use Rattle.tg_graph.specs.Promise.Rules.{done, next_graph, with_text}
 use Rattle.tg_graph.proofs.CommandsKeepGraphsLemmas.{graph_stays, subject_stays}
 use Rattle.tg_graph.proofs.ProtectionLemmas.{entitled}
 use Rattle.tg_graph.proofs.RollLemmas.{member_finds, member_found}
 use Rattle.tg_vault.specs.declared.entry.Entry.{Entry}
-use Rattle.tg_graph.specs.Fullness.{Limits, Permitted}
-use Rattle.tg_vault.specs.History.{Legal, MayAsk, WasAssumed, WasPrincipal, EntryStep, EntryRun, graph_of}
+use Rattle.tg_graph.specs.Promise.Fullness.{Limits, Permitted}
+use Rattle.tg_vault.specs.Promise.History.{Legal, MayAsk, WasAssumed, WasPrincipal, EntryStep, EntryRun, graph_of}
 use Rattle.tg_vault.proofs.RetiredLemmas.{retired_leaves}
 
 pub graph_of_more : (G : Protection) (es : List Entry) (e : Entry) → graph_of G (es ++ e ∷ []) ≡ next_graph (graph_of G es) e.actor e.command e.outcome

@@ -20,3 +20,4 @@ pub mod SweptLemmas
 pub mod HeadlineLemmas
 pub mod ReopeningLemmas
 pub mod RebaseLemmas
+pub mod MeaningsLemmas

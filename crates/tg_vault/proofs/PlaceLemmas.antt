@@ -2,10 +2,10 @@
 use Rattle.std.proofs.Common.{◌≡◌, ◌⊎◌, ℕ, zero, suc, List, [], ◌∷◌, ap, sym, refl, inl, inr, Some, None, is_some, set, true}
 use Rattle.std.specs.Prelude.{Option}
 use Rattle.std.specs.Option.{unwrap_or}
-use Rattle.tg_lists.specs.Membership.{Contains}
-use Rattle.tg_collect.specs.Stored.{Stored}
-use Rattle.tg_collect.specs.Readings.{place, serial_at}
-use Rattle.tg_vault.specs.World.{at_seat}
+use Rattle.tg_lists.specs.Promise.Membership.{Contains}
+use Rattle.tg_collect.specs.Promise.Stored.{Stored}
+use Rattle.tg_collect.specs.Promise.Readings.{place, serial_at}
+use Rattle.tg_vault.specs.Promise.World.{at_seat}
 
 pub serial_is : (s : Stored) (id x : ℕ) → place s id ≡ Some x → serial_at s id ≡ x
 serial_is s id x at = ap (λ o. unwrap_or o 0) at

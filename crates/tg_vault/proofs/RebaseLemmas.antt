@@ -11,33 +11,32 @@ use Rattle.tg_rights.specs.declared.outcome.Outcome.TheVariants as outcome
 use Rattle.tg_rights.specs.declared.outcome.Which.{Which}
 use Rattle.tg_rights.specs.declared.outcome.Which.TheVariants as which
 use Rattle.tg_graph.specs.declared.member.Member.{Member}
-use Rattle.tg_graph.specs.Fullness.{Limits, MayBeFull, Permitted}
-use Rattle.tg_graph.specs.Laws.{RestrictionsAgree, RestrictionsPermit, RestrictionsReply, RestrictionsStay}
-use Rattle.tg_graph.specs.Names.{has_serial}
-use Rattle.tg_graph.specs.Paths.{IsPart, IsRestriction, Live}
-use Rattle.tg_graph.specs.Protection.{Protection, IsGraph, IsVertex, has_retired, is_active, label}
-use Rattle.tg_graph.specs.Rules.{is_create, next_graph, reply_of}
+use Rattle.tg_graph.specs.Promise.Fullness.{Limits, MayBeFull, Permitted}
+use Rattle.tg_graph.specs.Promise.Laws.{RestrictionsAgree, RestrictionsPermit, RestrictionsReply, RestrictionsStay}
+use Rattle.tg_graph.specs.Promise.Protection.{has_serial, IsPart, IsRestriction, Live, Protection, IsGraph, IsVertex, has_retired, is_active, label}
+use Rattle.tg_graph.specs.Promise.Rules.{is_create, next_graph, reply_of}
 use Rattle.tg_graph.proofs.RestrictionLemmas.{by_vertices}
 use Rattle.tg_graph.proofs.RollLemmas.{any_is, contains_filter, filter_contains, is_any}
 use Rattle.tg_graph.proofs.VertexLemmas.{IsVertex-from_kind}
 use Rattle.tg_collect.specs.declared.note.Note.{Note}
 use Rattle.tg_collect.specs.declared.note.Phase.TheVariants.{Idle}
-use Rattle.tg_collect.specs.Readings.{phase}
-use Rattle.tg_collect.specs.Runs as runs
-use Rattle.tg_collect.specs.Views.{IsStore}
+use Rattle.tg_collect.specs.Promise.Readings.{phase}
+use Rattle.tg_collect.specs.Promise.Runs as runs
+use Rattle.tg_collect.specs.Promise.Views.{IsStore}
 use Rattle.tg_collect.proofs.RunLemmas.{ended_idle}
 use Rattle.tg_collect.proofs.ShownLemmas.{same_key}
 use Rattle.tg_collect.proofs.StoreLemmas.{idle_unparked, same_truth}
 use Rattle.tg_vault.specs.declared.entry.Entry.{Entry}
 use Rattle.tg_vault.specs.declared.vault.Swept.{Swept}
-use Rattle.tg_vault.specs.History.{EntryRun, EntryStep, MayAsk}
-use Rattle.tg_vault.specs.Seen.{set_of}
-use Rattle.tg_vault.specs.World.{Moment, NobodySits, Run}
-use Rattle.tg_vault.specs.Contents.{Contents, graph_now, held_now, moment}
-use Rattle.tg_vault.specs.Fits.{HasSlot, IsRoot, IsTied}
-use Rattle.tg_vault.specs.Course.{Course, IsCoherent}
-use Rattle.tg_vault.specs.Cycles.{IsCycle, ended_in, notes_in}
-use Rattle.tg_vault.specs.Rebase.{IsRebased, RepliedAlike, ThreeCycles, reopening}
+use Rattle.tg_vault.specs.Promise.History.{EntryRun, EntryStep, MayAsk}
+use Rattle.tg_vault.specs.Inner.Seen.{set_of}
+use Rattle.tg_vault.specs.Promise.World.{Moment, NobodySits, Run}
+use Rattle.tg_vault.specs.Promise.Contents.{Contents, graph_now, held_now, moment, HasSlot, IsRoot}
+use Rattle.tg_vault.specs.Inner.Fits.{IsTied}
+use Rattle.tg_vault.specs.Promise.Course.{Course, IsCoherent}
+use Rattle.tg_vault.specs.Promise.Cycles.{IsCycle, ended_in, notes_in}
+use Rattle.tg_vault.specs.Promise.Rebase.{IsRebased, RepliedAlike, ThreeCycles}
+use Rattle.tg_vault.specs.Inner.Rebase.{reopening}
 use Rattle.tg_vault.proofs.CourseLemmas.{course_keeps, course_run}
 use Rattle.tg_vault.proofs.CycleLemmas.{course_coherent, from_idle, live_so}
 use Rattle.tg_vault.proofs.DecidedLemmas.{graph_is}
@@ -97,7 +96,7 @@ two_end ns ms first next =
     omega (arith, first, next, all, are)
 
 -- what has a slot after two cycles was live before them, or is new
-live_before : runs.IsComplete → (m : Contents) (notes : List Note) (w : Contents) → IsCoherent m → phase m.store ≡ Idle → Course m (collects notes) (noted notes) w → 2 ≤ ended_in (noted notes) → (x : ℕ) → HasSlot w x →
+live_before : runs.StoresAreComplete → (m : Contents) (notes : List Note) (w : Contents) → IsCoherent m → phase m.store ≡ Idle → Course m (collects notes) (noted notes) w → 2 ≤ ended_in (noted notes) → (x : ℕ) → HasSlot w x →
     Live (graph_now m) (IsRoot (moment m).world) x ⊎ ((graph_now m).next ≤ x)
 live_before law m [] w sound idle course two x slot = absurd (omega (arith, two))
 live_before law m (note ∷ notes) w sound idle course two x slot = elim (from_idle law m sound idle (collects (note ∷ notes)) note (noted notes) w course two x slot) [ inl live ↦ inl (live_so m sound x live) | inr above ↦ inr above ]
@@ -141,7 +140,7 @@ module _ (v w : Contents) (c : ThreeCycles v w) where
 
   module _ (sound : IsCoherent v) (there : IsCoherent w) where
     -- what has a slot is live
-    settled : runs.IsComplete → (x : ℕ) → HasSlot w x → IsLive x
+    settled : runs.StoresAreComplete → (x : ℕ) → HasSlot w x → IsLive x
     settled law x slot =
         let one = cycle_keeps v c.first c.one c.begins in
         let ns = c.goes_on.notes ++ c.goes_on.last ∷ [] in
@@ -160,7 +159,7 @@ module _ (v w : Contents) (c : ThreeCycles v w) where
     live_held : (x : ℕ) → IsLive x → IsVertex (reopening w) x
     live_held x live = (fits_are w there.ties there.store).live x (subst (λ (m : Moment). Live m.world.graph (IsRoot m.world) x) (sym kept.1) live)
 
-    restricted : runs.IsComplete → IsRestriction (graph_now v) (reopening w) IsLive
+    restricted : runs.StoresAreComplete → IsRestriction (graph_now v) (reopening w) IsLive
     restricted law = subst (λ (G : Protection). IsRestriction G (reopening w) IsLive) same_graph (record {
       kept = λ x. (λ h. settled law x (inl h), λ live. live_held x live);
       part = retired_aside (graph_now w) (held_now w) (reopening w).retired there.ties.part;
@@ -214,7 +213,7 @@ module _ (permit : RestrictionsPermit) (stay : RestrictionsStay) (reply : Restri
       (rest.0, (next_graph G e.actor e.command e.outcome, step, rest.1), rest.2, (did.2, told))
 
 -- the vault that begins with what is held
-pub rebased : runs.IsComplete → RestrictionsAgree → RestrictionsPermit → RestrictionsStay → RestrictionsReply → (v w : Contents) → ThreeCycles v w → IsCoherent v → IsCoherent w → IsRebased v (record w { opening = reopening w; history = [] })
+pub rebased : runs.StoresAreComplete → RestrictionsAgree → RestrictionsPermit → RestrictionsStay → RestrictionsReply → (v w : Contents) → ThreeCycles v w → IsCoherent v → IsCoherent w → IsRebased v (record w { opening = reopening w; history = [] })
 rebased law agree permit stay reply v w c sound there = record {
   opening = whole;
   graph = reopening_graph w there;

@@ -6,29 +6,28 @@ use Rattle.std.specs.Ordering.{is_eq}
 use Rattle.std.specs.FinMap as map
 use Rattle.std.specs.FinSet as set
 use Rattle.std.proofs.lemmas.Bool.{and_from, and_parts}
-use Rattle.tg_lists.specs.Membership.{Contains, Distinct}
+use Rattle.tg_lists.specs.Promise.Membership.{Contains, Distinct}
 use Rattle.tg_lists.proofs.MembershipLemmas.{contains_map}
-use Rattle.tg_rights.specs.Letters.{Letters, is_none}
+use Rattle.tg_rights.specs.Promise.Letters.{Letters, is_none}
 use Rattle.tg_rights.specs.declared.kind.Kind.{Kind}
 use Rattle.tg_rights.specs.declared.kind.Kind.TheVariants as kind
 use Rattle.tg_rights.specs.declared.limits.TheConstants.{MAX_PRINCIPALS}
 use Rattle.tg_graph.specs.declared.member.Member.{Member}
 use Rattle.tg_graph.specs.declared.parts.Parts.{Parts}
 use Rattle.tg_graph.specs.declared.vertex.Vertex.{Vertex}
-use Rattle.tg_graph.specs.Names.{Rise}
-use Rattle.tg_graph.specs.Opening.{Edge}
-use Rattle.tg_graph.specs.Parts.{AreParts, HasVertex, Listed, Lists, Rises, member_of, members_of}
-use Rattle.tg_graph.specs.Protection.{IsGraph, IsVertex, has_retired, vertex}
-use Rattle.tg_graph.specs.Triples.{Triple}
+use Rattle.tg_graph.specs.Promise.Protection.{Rise, IsGraph, IsVertex, has_retired, vertex, Triple}
+use Rattle.tg_graph.specs.Promise.Opening.{ListedEdge}
+use Rattle.tg_graph.specs.Promise.Parts.{AreParts, HasVertex, Listed, Lists, Rises}
+use Rattle.tg_graph.specs.Inner.Parts.{member_of, members_of}
 use Rattle.tg_graph.proofs.ListedLemmas.{mapped, members_length, rises_map}
 use Rattle.tg_graph.proofs.RollLemmas.{contains_filter, filter_contains, untrue}
-use Rattle.tg_collect.specs.Parts.{ListsHeld}
+use Rattle.tg_collect.specs.Promise.Parts.{ListsHeld}
 use Rattle.tg_collect.proofs.RunLemmas.{held_graph}
 use Rattle.tg_collect.proofs.ShownLemmas.{same_key}
 use Rattle.tg_collect.proofs.StoreLemmas.{edge_in}
-use Rattle.tg_vault.specs.Rebase.{reopening}
-use Rattle.tg_vault.specs.Contents.{Contents, graph_now, held_now}
-use Rattle.tg_vault.specs.Course.{IsCoherent}
+use Rattle.tg_vault.specs.Inner.Rebase.{reopening}
+use Rattle.tg_vault.specs.Promise.Contents.{Contents, graph_now, held_now}
+use Rattle.tg_vault.specs.Promise.Course.{IsCoherent}
 use Rattle.tg_vault.proofs.DecidedLemmas.{graph_is, held_is, of_graph}
 use Rattle.tg_vault.proofs.EdgeLemmas.{label_seen}
 
@@ -137,7 +136,7 @@ module _ (w : Contents) (sound : IsCoherent w) (p : Parts) (held : AreHeld w p) 
   }
 
   -- an edge joins two different vertices
-  ends : (e : Edge) → Contains p.edges.items e → HasVertex p e.0 × HasVertex p e.2 × (e.0 ≢ e.2) × (is_none e.1 ≡ false)
+  ends : (e : ListedEdge) → Contains p.edges.items e → HasVertex p e.0 × HasVertex p e.2 × (e.0 ≢ e.2) × (is_none e.1 ≡ false)
   ends e h =
       let at = (held.lists.edges next e.0 e.2 e.1).0 h in
       let there = edge_in w.store next e.0 e.2 at.1 in

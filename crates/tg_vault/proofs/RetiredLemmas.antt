@@ -7,13 +7,13 @@ use Rattle.tg_rights.specs.declared.command.Command.{Command}
 use Rattle.tg_rights.specs.declared.command.Command.TheVariants as command
 use Rattle.tg_rights.specs.declared.outcome.Cause.TheVariants as cause
 use Rattle.tg_graph.specs.declared.member.Member.{Member}
-use Rattle.tg_graph.specs.Protection.{Protection, has_retired, label}
-use Rattle.tg_graph.specs.Rules.{Allowed, denial, first_failure, is_for_retired, later_checks, later_denial, unless}
-use Rattle.tg_graph.specs.Terms.{terms}
+use Rattle.tg_graph.specs.Promise.Protection.{Protection, has_retired, label}
+use Rattle.tg_graph.specs.Promise.Rules.{Allowed, denial, first_failure, is_for_retired, later_checks, later_denial, unless}
+use Rattle.tg_graph.specs.Promise.Terms.{terms}
 use Rattle.tg_graph.proofs.DecidingLemmas.{only_leave}
-use Rattle.tg_collect.specs.Stored.{Stored}
-use Rattle.tg_collect.specs.Readings.{held}
-use Rattle.tg_vault.specs.Seen.{seen}
+use Rattle.tg_collect.specs.Promise.Stored.{Stored}
+use Rattle.tg_collect.specs.Promise.Readings.{held}
+use Rattle.tg_vault.specs.Inner.Seen.{graph_seen}
 
 -- who has retired is denied all but a leave, which is always allowed
 pub retired_denied : (G : Protection) (x : ℕ) (c : Command) → is_for_retired x c ≡ false → has_retired G x ≡ true → denial G x c ≡ Some cause.Retired
@@ -37,8 +37,8 @@ retired_alike G H x c gone there = by (is_for_retired x c) refl where
 
 -- for anybody else the rules decide by what is held
 pub denial_seen : (s : Stored) (next : ℕ) (names ms : List Member) (retired : set.FinSet nat_cmp) (x : ℕ) (c : Command) → ms ≡ names → set.contains retired x ≡ false →
-    denial (seen s next names retired) x c ≡ later_denial (held s 0) ms x c
+    denial (graph_seen s next names retired) x c ≡ later_denial (held s 0) ms x c
 unfolding label
 denial_seen s next names ms retired x c same active =
-    ap (λ b. first_failure (unless (not b || (terms x c).for_retired) cause.Retired ∷ later_checks (seen s next names retired) names x (terms x c))) active
+    ap (λ b. first_failure (unless (not b || (terms x c).for_retired) cause.Retired ∷ later_checks (graph_seen s next names retired) names x (terms x c))) active
     ∙ ap (λ (members : List Member). later_denial (held s 0) members x c) (sym same)

@@ -5,9 +5,9 @@ use Rattle.tg_rights.specs.declared.command.Command.{Command}
 use Rattle.tg_rights.specs.declared.command.Command.TheVariants as command
 use Rattle.tg_rights.specs.declared.outcome.Outcome.{Outcome}
 use Rattle.tg_rights.specs.declared.outcome.Outcome.TheVariants as outcome
-use Rattle.tg_graph.specs.Terms as effect
-use Rattle.tg_graph.specs.Terms.{Does, terms}
-use Rattle.tg_vault.specs.World.{agents_after, at_seat, new_agents, with_target}
+use Rattle.tg_graph.specs.Promise.Terms as effect
+use Rattle.tg_graph.specs.Promise.Terms.{Does, terms}
+use Rattle.tg_vault.specs.Promise.World.{agents_after, at_seat, new_agents, with_pending}
 use Rattle.tg_vault.proofs.FoundLemmas.{acts_for}
 use Rattle.tg_vault.proofs.PlaceLemmas.{set_seat}
 
@@ -32,6 +32,6 @@ module _ (agents : List (Option ℕ)) (seat x : ℕ) (c : Command) (k y : ℕ) w
   agent_after (outcome.Full w) at = inr at
 
 -- a pending target was one before, or is the seat's
-pub target_after : (pending : List (Option ℕ)) (seat : ℕ) (new : Option ℕ) (k y : ℕ) → at_seat (with_target pending seat new) k ≡ Some y → (k ≡ seat) ⊎ (at_seat pending k ≡ Some y)
+pub target_after : (pending : List (Option ℕ)) (seat : ℕ) (new : Option ℕ) (k y : ℕ) → at_seat (with_pending pending seat new) k ≡ Some y → (k ≡ seat) ⊎ (at_seat pending k ≡ Some y)
 target_after pending seat None k y at = inr at
 target_after pending seat (Some target) k y at = elim (set_seat pending seat k (Some target) y at) [ inl new ↦ inl new.0 | inr before ↦ inr before ]

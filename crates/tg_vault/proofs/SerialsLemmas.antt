@@ -3,21 +3,21 @@ use Rattle.std.proofs.Common.{◌≡◌, ℕ, suc, ◌+◌, ◌<◌, List, [], �
 use Rattle.std.specs.Prelude.{Option}
 use Rattle.std.specs.List.{filter}
 use Rattle.std.proofs.lemmas.Bool.{eqb-true, eq-eqb, or_cases, or_left, or_right}
-use Rattle.tg_lists.specs.Membership.{Contains}
+use Rattle.tg_lists.specs.Promise.Membership.{Contains}
 use Rattle.tg_lists.proofs.MembershipLemmas.{map_append}
 use Rattle.tg_rights.specs.declared.limits.TheConstants.{MAX_PRINCIPALS}
-use Rattle.tg_rights.specs.Letters.{Letters}
+use Rattle.tg_rights.specs.Promise.Letters.{Letters}
 use Rattle.tg_graph.specs.declared.config.Config.{Config}
 use Rattle.tg_graph.specs.declared.member.Member.{Member}
-use Rattle.tg_graph.specs.Names.{MayBeNamed, has_serial, same_name, serial_of, with_member, without_member}
-use Rattle.tg_graph.specs.Opening.{first_members, opening, principal_count}
+use Rattle.tg_graph.specs.Promise.Protection.{MayBeNamed, has_serial, same_name, serial_of, with_member, without_member}
+use Rattle.tg_graph.specs.Promise.Opening.{first_members, opening, principal_count}
 use Rattle.tg_collect.specs.declared.machine.Root.{Root}
-use Rattle.tg_collect.specs.Stored.{Stored}
-use Rattle.tg_collect.specs.Readings.{principals}
-use Rattle.tg_collect.specs.Sessions.{PrincipalStored, Retired}
-use Rattle.tg_collect.specs.Openings.{first_serials}
-use Rattle.tg_vault.specs.CarriedOut.{HasRoom}
-use Rattle.tg_vault.specs.Seen.{serials}
+use Rattle.tg_collect.specs.Promise.Stored.{Stored}
+use Rattle.tg_collect.specs.Promise.Readings.{principals}
+use Rattle.tg_collect.specs.Promise.Sessions.{PrincipalStored, Retired}
+use Rattle.tg_collect.specs.Promise.Openings.{first_serials}
+use Rattle.tg_vault.specs.Inner.CarriedOut.{HasPlace}
+use Rattle.tg_vault.specs.Promise.Seen.{serials}
 
 -- a principal is one of those listed
 pub listed : (ms : List Member) (x : ℕ) → Contains (serials ms) x → has_serial ms x ≡ true
@@ -67,7 +67,7 @@ module _ (v w : Stored) (ms : List Member) (same : principals v ≡ serials ms) 
       ∙ sym (map_without (λ (m : Member). m.serial) x ms)
 
 -- there is room where a name may be given
-pub has_room : (v : Stored) (ms : List Member) → principals v ≡ serials ms → (name : Option (List ℕ)) → MayBeNamed ms name → HasRoom (principals v) name
+pub has_room : (v : Stored) (ms : List Member) → principals v ≡ serials ms → (name : Option (List ℕ)) → MayBeNamed ms name → HasPlace (principals v) name
 has_room v ms same None may = tt
 has_room v ms same (Some name) may = subst (λ (n : ℕ). n < MAX_PRINCIPALS) (sym (length_serials ms) ∙ sym (ap length same)) may.1
 

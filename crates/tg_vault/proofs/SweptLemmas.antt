@@ -9,11 +9,10 @@ use Rattle.tg_vault.specs.declared.event.Event.{Event}
 use Rattle.tg_vault.specs.declared.event.Event.TheVariants as event
 use Rattle.tg_vault.specs.declared.event.Answer.{Answer}
 use Rattle.tg_vault.specs.declared.event.Answer.TheVariants as answer
-use Rattle.tg_collect.specs.Readings.{cycle_bound, slot_count, free_slots}
-use Rattle.tg_vault.specs.Contents.{Contents}
-use Rattle.tg_vault.specs.Fits.{IsSmall}
-use Rattle.tg_vault.specs.Course.{Course, VaultStep, IsCoherent}
-use Rattle.tg_vault.specs.Cycles.{IsCycle}
+use Rattle.tg_collect.specs.Promise.Readings.{cycle_bound, slot_count, free_slots}
+use Rattle.tg_vault.specs.Promise.Contents.{Contents, IsSmall}
+use Rattle.tg_vault.specs.Promise.Course.{Course, VaultStep, IsCoherent}
+use Rattle.tg_vault.specs.Promise.Cycles.{IsCycle}
 use Rattle.tg_vault.proofs.CourseLemmas.{course_more}
 
 abbrev pub collects : List Note → List Event

@@ -1,12 +1,12 @@
 //! Who acts at a seat.
 ghost use Rattle.std.specs.Prelude.{◌≡◌, ◌<◌, Some, true, false};
 ghost use Rattle.std.specs.FinSet as set;
-ghost use Rattle.tg_lists.specs.Membership.{Contains};
+ghost use Rattle.tg_lists.specs.Promise.Membership.{Contains};
 ghost use Rattle.tg_rights.specs.declared.limits.TheConstants.{SEATS};
-ghost use Rattle.tg_collect.specs.Readings.{agent_of, principals};
-ghost use Rattle.tg_vault.specs.Acting.{IsHere, serial_in};
-ghost use Rattle.tg_vault.specs.Seen.{set_of};
-ghost use Rattle.tg_vault.specs.World.{acting};
+ghost use Rattle.tg_collect.specs.Promise.Readings.{agent_of, principals};
+ghost use Rattle.tg_vault.specs.Inner.Acting.{IsHere, serial_in};
+ghost use Rattle.tg_vault.specs.Inner.Seen.{set_of};
+ghost use Rattle.tg_vault.specs.Promise.World.{acting};
 
 use std::collections::BTreeSet;
 use tg_collect::Store;

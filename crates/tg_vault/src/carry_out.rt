@@ -2,19 +2,19 @@
 ghost use Rattle.std.specs.Prelude.{◌≡◌, ◌≢◌, ◌<◌, ◌+◌, ℕ, List, IfOk, IfErr, OnErr, OnOk, IsSome, Some, None, true, false};
 ghost use Rattle.std.specs.FinSet as set;
 ghost use Rattle.std.specs.Option.{is_some};
-ghost use Rattle.tg_rights.specs.Letters.{is_none, includes};
+ghost use Rattle.tg_rights.specs.Promise.Letters.{is_none, includes};
 ghost use Rattle.tg_rights.specs.declared.limits.TheConstants.{SEATS};
 ghost use Rattle.tg_rights.specs.declared.outcome.Reply.TheVariants as reply;
-ghost use Rattle.tg_graph.specs.Deciding.{IsSubjectIfNamed};
-ghost use Rattle.tg_graph.specs.Names.{MayBeNamed, without_member};
-ghost use Rattle.tg_graph.specs.Protection.{label};
-ghost use Rattle.tg_graph.specs.Rules.{Allowed, edges_of, text_of};
-ghost use Rattle.tg_graph.specs.Terms.{terms, name_in, text_in};
-ghost use Rattle.tg_collect.specs.Readings.{held, free_slots, IsEdgeIn, IsHeldIn, IsParkedIn, pending_of, place, principals, serial_at};
-ghost use Rattle.tg_collect.specs.Sessions.{Assumed, AgentLeft, Retired, RightsRemoved, TextReplaced, Acted};
-ghost use Rattle.tg_vault.specs.Acting.{IsHere, serial_in};
-ghost use Rattle.tg_vault.specs.CarriedOut.{CarriedOut, HasRoom, Joined, Made, Stores, allowed, copies, denied, settled};
-ghost use Rattle.tg_vault.specs.Seen.{seen_in, serials, set_of};
+ghost use Rattle.tg_graph.specs.Inner.Deciding.{IsSubjectIfNamed};
+ghost use Rattle.tg_graph.specs.Promise.Protection.{MayBeNamed, without_member, label};
+ghost use Rattle.tg_graph.specs.Promise.Rules.{Allowed, edges_of, text_of};
+ghost use Rattle.tg_graph.specs.Promise.Terms.{terms, name_in, text_in};
+ghost use Rattle.tg_collect.specs.Promise.Readings.{held, free_slots, IsEdgeIn, IsHeldIn, IsParkedIn, pending_of, place, principals, serial_at};
+ghost use Rattle.tg_collect.specs.Promise.Sessions.{Assumed, AgentLeft, Retired, RightsRemoved, TextReplaced, Acted};
+ghost use Rattle.tg_vault.specs.Inner.Acting.{IsHere, serial_in};
+ghost use Rattle.tg_vault.specs.Inner.CarriedOut.{CarriedOut, HasPlace, Joined, Made, Stores, allowed, copies, denied, settled};
+ghost use Rattle.tg_vault.specs.Promise.Seen.{serials};
+ghost use Rattle.tg_vault.specs.Inner.Seen.{seen_in, set_of};
 
 use crate::acting::Actor;
 use std::alloc::{AllocError, Global};
@@ -153,7 +153,7 @@ impl State {
         requires unheld { IsHeldIn self.old.store self.old.next → ⊥ }
         requires unparked { IsParkedIn self.old.store self.old.next → ⊥ }
         requires subject { IsSubjectIfNamed kind name.now }
-        requires room { HasRoom (principals self.old.store) name.now }
+        requires room { HasPlace (principals self.old.store) name.now }
         ensures ok { OnOk result (Stores self.old.store self.new.store seat (serial_at self.old.store id) self.old.next kind rights name.now) }
         ensures acted { OnOk result (Acted self.old.store self.new.store (Some self.old.next) (Some self.old.next)) }
         ensures rest { self.new ≡ record self.old { store = self.new.store } }
@@ -196,7 +196,7 @@ impl State {
         requires unheld { IsHeldIn self.old.store self.old.next → ⊥ }
         requires unparked { IsParkedIn self.old.store self.old.next → ⊥ }
         requires subject { IsSubjectIfNamed kind name }
-        requires room { HasRoom (principals self.old.store) name }
+        requires room { HasPlace (principals self.old.store) name }
         requires named { MayBeNamed self.old.names name }
         ensures { Made self.old self.new seat (serial_at self.old.store id) kind rights name result }
     {

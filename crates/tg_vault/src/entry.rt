@@ -28,7 +28,8 @@ pub struct Entry {
 const _: () = prove!(size_of::<Entry>() == 80);
 
 impl Model for Entry {
-    ghost use Rattle.tg_vault.specs.Recorded.{Recorded, recorded};
+    ghost use Rattle.tg_vault.specs.Promise.Recorded.{Recorded};
+    ghost use Rattle.tg_vault.specs.Inner.Recorded.{recorded};
 
     ghost Value = { Recorded };
 

@@ -1,6 +1,7 @@
 //! Laws: each function is a theorem, its contract, and costs nothing when it is called.
-ghost use Rattle.tg_vault.specs.Course.{CoursesJoin};
-ghost use Rattle.tg_vault.specs.Laws.{CoursesHaveTheHeadline, FaultsAreOrdered};
+ghost use Rattle.tg_vault.specs.Promise.Course.{CoursesJoin};
+ghost use Rattle.tg_vault.specs.Promise.Laws.{CoursesHaveTheHeadline, FaultsAreOrdered};
+ghost use Rattle.tg_vault.specs.Promise.Meanings.{ActorsHaveMeanings, AnswersHaveMeanings, EightStepsAreEnough, FreshHasMeaning, FullHasMeaning, HellosLeaveRoom, LiveIsNotParked, OneLeastSeat, OneRoom, OneScene, RebasedHasMeaning};
 
 use tg_collect::runs_are_complete_and_bounded;
 
@@ -21,4 +22,59 @@ pub fn courses_join()
 /// else memory is lacking.
 pub fn faults_are_ordered()
     ensures { FaultsAreOrdered }
+{}
+
+/// What each answer at a seat means.
+pub fn answers_have_meanings()
+    ensures { AnswersHaveMeanings }
+{}
+
+/// There is one least seat that somebody has.
+pub fn one_least_seat()
+    ensures { OneLeastSeat }
+{}
+
+/// Who begins a legal history is a principal or was one, and so is who asks next, from another seat.
+pub fn actors_have_meanings()
+    ensures { ActorsHaveMeanings }
+{}
+
+/// What is live is not parked.
+pub fn live_is_not_parked()
+    ensures { LiveIsNotParked }
+{}
+
+/// What it means that a command is refused as full.
+pub fn full_has_meaning()
+    ensures { FullHasMeaning }
+{}
+
+/// What a new vault is like, and after two cycles.
+pub fn fresh_has_meaning()
+    ensures { FreshHasMeaning }
+{}
+
+/// With one slot and one cell, one of any eight collector steps ends a cycle.
+pub fn eight_steps_are_enough()
+    ensures { EightStepsAreEnough }
+{}
+
+/// What a rebase leaves to its principals, and hands over.
+pub fn rebased_has_meaning()
+    ensures { RebasedHasMeaning }
+{}
+
+/// A vault has one room.
+pub fn one_room()
+    ensures { OneRoom }
+{}
+
+/// What a picture shows of a vault, but for the order of what is stored, is one.
+pub fn one_scene()
+    ensures { OneScene }
+{}
+
+/// A hello, granted or refused, leaves the room.
+pub fn hellos_leave_room()
+    ensures { HellosLeaveRoom }
 {}

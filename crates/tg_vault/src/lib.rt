@@ -14,7 +14,12 @@ mod vault;
 
 pub use entry::Entry;
 pub use event::{Answer, AskFault, Event, SeatFault};
-pub use laws::{courses_have_the_headline, courses_join, faults_are_ordered};
+pub use laws::{
+    actors_have_meanings, answers_have_meanings, courses_have_the_headline, courses_join,
+    eight_steps_are_enough, faults_are_ordered, fresh_has_meaning, full_has_meaning,
+    hellos_leave_room, live_is_not_parked, one_least_seat, one_room, one_scene,
+    rebased_has_meaning,
+};
 pub use rebase::Rebased;
 pub use room::Room;
 pub use scene::{Scene, Sitting};

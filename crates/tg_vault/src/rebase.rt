@@ -1,13 +1,15 @@
 //! A vault whose history begins anew with what is live.
 ghost use Rattle.std.specs.Prelude.{◌≡◌, [], filter, map, IfOk, IfSome, IfNone};
 ghost use Rattle.std.specs.FinSet as set;
-ghost use Rattle.tg_graph.specs.Parts.{Listed, members_of};
-ghost use Rattle.tg_graph.specs.Protection.{has_retired};
-ghost use Rattle.tg_collect.specs.Readings.{phase};
+ghost use Rattle.tg_graph.specs.Promise.Parts.{Listed};
+ghost use Rattle.tg_graph.specs.Inner.Parts.{members_of};
+ghost use Rattle.tg_graph.specs.Promise.Protection.{has_retired};
+ghost use Rattle.tg_collect.specs.Promise.Readings.{phase};
 ghost use Rattle.tg_collect.specs.declared.note.Phase.TheVariants.{Idle};
-ghost use Rattle.tg_vault.specs.Rebase.{HandsOver, Rebases, ThreeCycles, reopening};
-ghost use Rattle.tg_vault.specs.Seen.{set_of};
-ghost use Rattle.tg_vault.specs.World.{IsLeastInUse, NobodySits};
+ghost use Rattle.tg_vault.specs.Promise.Rebase.{HandsOver, Rebases, ThreeCycles};
+ghost use Rattle.tg_vault.specs.Inner.Rebase.{reopening};
+ghost use Rattle.tg_vault.specs.Inner.Seen.{set_of};
+ghost use Rattle.tg_vault.specs.Promise.World.{IsLeastInUse, NobodySits};
 
 use crate::entry::Entry;
 use crate::seats::first_in_use;

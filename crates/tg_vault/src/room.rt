@@ -1,5 +1,5 @@
 //! How much room a vault has left.
-ghost use Rattle.tg_vault.specs.Room.{IsRoom};
+ghost use Rattle.tg_vault.specs.Promise.Room.{IsRoom};
 
 use crate::vault::Vault;
 

@@ -1,8 +1,8 @@
 //! What a vault shows.
 ghost use Rattle.std.specs.Prelude.{◌≡◌, ◌<◌, length, IfOk, OnOk};
 ghost use Rattle.tg_rights.specs.declared.limits.TheConstants.{SEATS};
-ghost use Rattle.tg_collect.specs.Readings.{agent_of};
-ghost use Rattle.tg_vault.specs.Scenes.{IsScene, sitting, sitting_of, sittings_below, with_sitting};
+ghost use Rattle.tg_collect.specs.Promise.Readings.{agent_of};
+ghost use Rattle.tg_vault.specs.Promise.Scenes.{IsScene, sitting, sitting_of, sittings_below, with_sitting};
 
 use crate::seats::at_seat;
 use crate::vault::Vault;

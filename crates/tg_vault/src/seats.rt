@@ -1,7 +1,7 @@
 //! The seats.
 ghost use Rattle.std.specs.Prelude.{◌≡◌, length, replicate, None, IfOk, IfSome, IfNone};
 ghost use Rattle.tg_rights.specs.declared.limits.TheConstants.{SEATS};
-ghost use Rattle.tg_vault.specs.World.{IsLeastInUse, NobodySits, at_seat};
+ghost use Rattle.tg_vault.specs.Promise.World.{IsLeastInUse, NobodySits, at_seat};
 
 use std::alloc::{AllocError, Global};
 use tg_rights::SEATS;

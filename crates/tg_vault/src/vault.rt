@@ -1,21 +1,19 @@
 //! The vault: the seats, the store, and the history of the commands.
 ghost use Rattle.std.specs.Prelude.{◌≡◌, ◌<◌, ◌≤◌, ◌+◌, ℕ, ◌⊎◌, ◌∷◌, [], length, slice_get, Some, None, IfOk, IfErr, IfSome, IfNone, OnErr, OnOk, MatchResult, take};
 ghost use Rattle.tg_rights.specs.declared.limits.TheConstants.{SEATS};
-ghost use Rattle.tg_graph.specs.Opening.{first_fault, IsRefusal};
+ghost use Rattle.tg_graph.specs.Promise.Opening.{first_fault, IsRefusal};
 ghost use Rattle.tg_vault.specs.declared.event.Event.TheVariants as event;
 ghost use Rattle.tg_vault.specs.declared.event.Answer.TheVariants as answer;
-ghost use Rattle.tg_collect.specs.Readings.{pending_of};
-ghost use Rattle.tg_collect.specs.Stored.{FIXED};
-ghost use Rattle.tg_collect.specs.Sessions.{AgentLeft, Shaded};
-ghost use Rattle.tg_vault.specs.World.{actor_at, at_seat, bye_fault, shade_fault, ask_refusal, Enters, IsAskFault};
-ghost use Rattle.tg_vault.specs.Contents.{Contents, StepOf, IsFresh, RunOf, Keeps, IsVault, moment};
-ghost use Rattle.tg_vault.specs.Fits.{Fits, IsSmall};
-ghost use Rattle.tg_vault.specs.StoreSteps.{SessionStep, StoreStep};
-ghost use Rattle.tg_vault.specs.Agreement.{SameForAgreeing};
-ghost use Rattle.tg_vault.specs.Exact.{IsExact, StoreAnswer};
-ghost use Rattle.tg_vault.specs.Course.{Course, IsCoherent, VaultStep};
-ghost use Rattle.tg_vault.specs.Cycles.{IsBounded, IsCycle};
-ghost use Rattle.tg_vault.specs.Headline.{AddsAsked, Headline};
+ghost use Rattle.tg_collect.specs.Promise.Readings.{pending_of};
+ghost use Rattle.tg_collect.specs.Promise.Stored.{FIXED};
+ghost use Rattle.tg_collect.specs.Promise.Sessions.{AgentLeft, Shaded};
+ghost use Rattle.tg_vault.specs.Promise.World.{actor_at, at_seat, bye_fault, shade_fault, ask_refusal, Enters, IsAskFault};
+ghost use Rattle.tg_vault.specs.Promise.Contents.{Contents, StepOf, IsFresh, RunOf, Keeps, IsVault, moment, Fits, IsSmall, IsExact, StoreAnswer};
+ghost use Rattle.tg_vault.specs.Promise.StoreSteps.{SessionStep, StoreStep};
+ghost use Rattle.tg_vault.specs.Promise.Agreement.{SameForAgreeing};
+ghost use Rattle.tg_vault.specs.Promise.Course.{Course, IsCoherent, VaultStep};
+ghost use Rattle.tg_vault.specs.Promise.Cycles.{IsBounded, IsCycle};
+ghost use Rattle.tg_vault.specs.Promise.Headline.{AddsAsked, Headline};
 
 use crate::acting::acting_at;
 use crate::carry_out::State;
@@ -50,8 +48,9 @@ pub struct Vault {
 }
 
 impl Model for Vault {
-    ghost use Rattle.tg_vault.specs.Contents.{Contents, contents, contents_code};
-    ghost use Rattle.tg_vault.specs.Fits.{IsTied};
+    ghost use Rattle.tg_vault.specs.Promise.Contents.{Contents};
+    ghost use Rattle.tg_vault.specs.Inner.Contents.{contents, contents_code};
+    ghost use Rattle.tg_vault.specs.Inner.Fits.{IsTied};
 
     ghost Value = { Contents };
 

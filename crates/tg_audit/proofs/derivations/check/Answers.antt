@@ -2,9 +2,9 @@ use Rattle.std.proofs.Common.{◌≡◌, List, Some, length, refl, slice_get, su
 use Rattle.std.proofs.lemmas.List.{take_all}
 use Rattle.std.proofs.lemmas.Option.{MatchOption-at_none, MatchOption-at_some, slice_get_read}
 use Rattle.tg_graph.specs.declared.derivation.Step.{Step}
-use Rattle.tg_graph.specs.Derivations.{CarriesOut, Derives}
-use Rattle.tg_audit.specs.Stops.{StopsBy}
-use Rattle.tg_audit.specs.Verdicts.{IsVerdict}
+use Rattle.tg_graph.specs.Promise.Derivations.{CarriesOut, Derives}
+use Rattle.tg_audit.specs.Inner.Stops.{StopsBy}
+use Rattle.tg_audit.specs.Promise.Verdicts.{IsVerdict}
 use Rattle.tg_audit.proofs.VerdictLemmas.{can_share, derives_next, end_verdict, stop_verdict}
 use Rattle.tg_audit.proofs.derivations.check.Goals as goal
 

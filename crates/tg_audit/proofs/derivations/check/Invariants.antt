@@ -1,5 +1,5 @@
 use Rattle.std.proofs.Common.{take}
-use Rattle.tg_graph.specs.Derivations.{Derives}
+use Rattle.tg_graph.specs.Promise.Derivations.{Derives}
 use Rattle.tg_audit.proofs.derivations.check.Given as goal
 
 abbrev pub invariant-loop-index : goal.invariant-loop-index

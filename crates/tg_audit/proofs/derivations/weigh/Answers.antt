@@ -1,7 +1,7 @@
 use Rattle.std.proofs.Common.{◌≡◌, ◌∙◌, true, false, ap, refl, sym}
 use Rattle.std.proofs.lemmas.Bool.{false≢true}
-use Rattle.tg_rights.specs.Letters.{includes, without}
-use Rattle.tg_graph.specs.Protection.{label}
+use Rattle.tg_rights.specs.Promise.Letters.{includes, without}
+use Rattle.tg_graph.specs.Promise.Protection.{label}
 use Rattle.tg_audit.proofs.derivations.weigh.Goals as goal
 
 pub returns-then-contains : goal.returns-then-contains

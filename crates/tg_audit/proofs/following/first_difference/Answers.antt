@@ -1,5 +1,5 @@
 use Rattle.std.proofs.Common.{None, Some, arith, below_more}
-use Rattle.tg_audit.specs.Settling.{Agrees, exchanges_of}
+use Rattle.tg_audit.specs.Promise.Settling.{Agrees, exchanges_of}
 use Rattle.tg_audit.proofs.TableLemmas.{follows_here, place_above}
 use Rattle.tg_audit.proofs.following.first_difference.Goals as goal
 

@@ -1,5 +1,5 @@
 use Rattle.std.proofs.Common.{ℕ, ◌<◌}
-use Rattle.tg_audit.specs.Settling.{Agrees}
+use Rattle.tg_audit.specs.Promise.Settling.{Agrees}
 use Rattle.tg_audit.proofs.following.first_difference.Given as goal
 
 abbrev pub invariant-loop-seat : goal.invariant-loop-seat

@@ -1,7 +1,7 @@
 use Rattle.std.proofs.Common.{◌<◌, ◌≡◌, ◌∙◌, Some, arith, slice_get, slice_index_or}
 use Rattle.std.proofs.lemmas.Option.{slice_get-get_or}
 use Rattle.tg_rights.specs.declared.limits.TheConstants.{SEATS}
-use Rattle.tg_audit.specs.Replies.{replies_of}
+use Rattle.tg_audit.specs.Promise.Replies.{replies_of}
 use Rattle.tg_audit.proofs.ReplayLemmas.{left_asks, left_permitted, replayed_none, replays}
 use Rattle.tg_audit.proofs.TableLemmas.{followed_end, followed_fresh, followed_more, start}
 use Rattle.tg_audit.proofs.following.follow.Goals as goal

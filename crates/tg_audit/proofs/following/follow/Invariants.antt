@@ -1,4 +1,4 @@
-use Rattle.tg_audit.specs.Replies.{replies_of}
+use Rattle.tg_audit.specs.Promise.Replies.{replies_of}
 use Rattle.tg_audit.proofs.ReplayLemmas.{IsReplayed}
 use Rattle.tg_audit.proofs.TableLemmas.{FollowedTo}
 use Rattle.tg_audit.proofs.following.follow.Given as goal

@@ -2,7 +2,7 @@ use Rattle.std.proofs.Common.{◌≡◌, ◌∙◌, ◌+◌, ◌++◌, [], ◌�
 use Rattle.std.proofs.lemmas.List.{take_all}
 use Rattle.std.proofs.lemmas.Option.{slice_get_read}
 use Rattle.tg_audit.specs.declared.logs.SeatLog.{SeatLog}
-use Rattle.tg_audit.specs.Following.{IsLeastAbove}
+use Rattle.tg_audit.specs.Inner.Following.{IsLeastAbove}
 use Rattle.tg_audit.proofs.AboveLemmas.{take_next}
 use Rattle.tg_audit.proofs.following.least_above.Goals as goal
 

@@ -1,5 +1,5 @@
 use Rattle.std.proofs.Common.{rules, arith, subst}
-use Rattle.tg_audit.specs.Following.{IsLeastAbove}
+use Rattle.tg_audit.specs.Inner.Following.{IsLeastAbove}
 use Rattle.tg_audit.proofs.AboveLemmas.{least_empty, least_first, least_low, least_lower, least_stays, no_items}
 use Rattle.std.proofs.lemmas.Bool.Decides.{nat_tests}
 use Rattle.tg_audit.specs.declared.logs.Exchange.{Exchange}

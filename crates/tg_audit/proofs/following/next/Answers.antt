@@ -1,7 +1,7 @@
 use Rattle.std.proofs.Common.{◌≡◌, ◌+◌, length, drop, sym, ◌∙◌, rules, refl, ap, slice_get, Some}
 use Rattle.std.proofs.lemmas.Option.{slice_get_read}
 use Rattle.tg_audit.specs.declared.logs.Exchange.{Exchange}
-use Rattle.tg_audit.specs.Following.{joined_from}
+use Rattle.tg_audit.specs.Inner.Following.{joined_from}
 use Rattle.tg_audit.proofs.FollowingLemmas.{joined_from_next, joined_from_other, joined_from_past}
 use Rattle.tg_audit.proofs.following.next.Goals as goal
 use Rattle.tg_audit.proofs.following.next.Goals.{then-log-seat+in_default, else-log-seat}

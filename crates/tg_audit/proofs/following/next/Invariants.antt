@@ -1,5 +1,5 @@
 use Rattle.std.proofs.Common.{◌≡◌, drop}
-use Rattle.tg_audit.specs.Following.{joined_from, left_of}
+use Rattle.tg_audit.specs.Inner.Following.{joined_from, left_of}
 use Rattle.tg_audit.proofs.following.next.Given as goal
 
 abbrev pub invariant-loop-number : goal.invariant-loop-number

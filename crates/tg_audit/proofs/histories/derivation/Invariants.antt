@@ -1,5 +1,5 @@
 use Rattle.std.proofs.Common.{◌≡◌, take}
-use Rattle.tg_audit.specs.Derived.{derivation_of}
+use Rattle.tg_audit.specs.Promise.Derived.{derivation_of}
 use Rattle.tg_audit.proofs.histories.derivation.Given as goal
 
 abbrev pub invariant-loop-number : goal.invariant-loop-number

@@ -1,5 +1,5 @@
 use Rattle.std.proofs.Common.{◌≡◌, take}
-use Rattle.tg_vault.specs.History.{graph_of}
+use Rattle.tg_vault.specs.Promise.History.{graph_of}
 use Rattle.tg_audit.proofs.ReplayLemmas.{IsLeft}
 use Rattle.tg_audit.proofs.histories.graph_of_history.Given as goal
 

@@ -1,6 +1,6 @@
 use Rattle.std.proofs.Common.{◌≡◌, ◌++◌, [], ◌∷◌, ◌∙◌, ◌+◌, ap, arith, suc}
 use Rattle.std.proofs.lemmas.List.{take_all}
-use Rattle.tg_audit.specs.Replies.{replies_of}
+use Rattle.tg_audit.specs.Promise.Replies.{replies_of}
 use Rattle.tg_audit.proofs.ReplayLemmas.{left_asks, left_permitted, replayed_none, replays, replies_length, take_more}
 use Rattle.tg_audit.proofs.replaying.replay.Goals as goal
 

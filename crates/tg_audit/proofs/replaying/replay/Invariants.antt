@@ -1,5 +1,5 @@
 use Rattle.std.proofs.Common.{◌≡◌, take}
-use Rattle.tg_audit.specs.Replies.{replies_of}
+use Rattle.tg_audit.specs.Promise.Replies.{replies_of}
 use Rattle.tg_audit.proofs.ReplayLemmas.{IsReplayed}
 use Rattle.tg_audit.proofs.replaying.replay.Given as goal
 

@@ -1,8 +1,8 @@
 use Rattle.std.proofs.Common.{◌≡◌, true, false, ap, sym, ◌∙◌}
 use Rattle.std.proofs.lemmas.Result.{IfOk-weaker}
-use Rattle.tg_graph.specs.Protection.{has_retired}
-use Rattle.tg_graph.specs.Rules.{Applies, next_graph, reply_of}
-use Rattle.tg_audit.specs.Replies.{retired_reply}
+use Rattle.tg_graph.specs.Promise.Protection.{has_retired}
+use Rattle.tg_graph.specs.Promise.Rules.{Applies, next_graph, reply_of}
+use Rattle.tg_audit.specs.Inner.Replies.{retired_reply}
 use Rattle.tg_audit.proofs.ReplayLemmas.{graph_permitted, reply_permitted, retired_settled, unretired_subject}
 use Rattle.tg_audit.proofs.replaying.reply_to.Goals as goal
 

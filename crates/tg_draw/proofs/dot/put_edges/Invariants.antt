@@ -1,6 +1,6 @@
 use Rattle.std.proofs.Common.{◌≡◌, ◌++◌, drop}
 use Rattle.std.specs.List.{flat_map}
-use Rattle.tg_draw.specs.Picture.{edge_text}
+use Rattle.tg_draw.specs.Promise.Picture.{edge_text}
 use Rattle.tg_draw.proofs.dot.put_edges.Given as goal
 
 -- the text so far and that of the edges that are left are those of all

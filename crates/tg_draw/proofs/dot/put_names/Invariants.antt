@@ -1,6 +1,6 @@
 use Rattle.std.proofs.Common.{◌≡◌, ◌++◌, drop}
 use Rattle.std.specs.List.{flat_map}
-use Rattle.tg_draw.specs.Picture.{name_text}
+use Rattle.tg_draw.specs.Promise.Picture.{name_text}
 use Rattle.tg_draw.proofs.dot.put_names.Given as goal
 
 -- the text so far and that of the names that are left are those of all

@@ -1,6 +1,6 @@
 use Rattle.std.proofs.Common.{◌≡◌, ◌++◌, drop}
 use Rattle.std.specs.List.{flat_map}
-use Rattle.tg_draw.specs.Picture.{vertex_text}
+use Rattle.tg_draw.specs.Promise.Picture.{vertex_text}
 use Rattle.tg_draw.proofs.dot.put_vertices.Given as goal
 
 -- the text so far and that of the vertices that are left are those of all

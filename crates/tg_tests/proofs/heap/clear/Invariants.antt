@@ -1,7 +1,7 @@
 use Rattle.std.proofs.Common.{◌≡◌, length}
-use Rattle.tg_slots.specs.Table.{Has}
+use Rattle.tg_slots.specs.Promise.Table.{Has}
 use Rattle.tg_slots.specs.declared.colour.Colour.TheVariants.{White}
-use Rattle.tg_heap.specs.Graph.{edges, mark_at}
+use Rattle.tg_heap.specs.Promise.Graph.{edges, mark_at}
 use Rattle.tg_tests.proofs.heap.clear.Given as goal
 
 abbrev pub invariant-loop : goal.invariant-loop

@@ -1,5 +1,5 @@
 use Rattle.std.proofs.Common.{ap}
-use Rattle.tg_rights.specs.Letters.{Letters, includes}
+use Rattle.tg_rights.specs.Promise.Letters.{Letters, includes}
 use Rattle.tg_tests.proofs.heap.drop_from.Goals as goal
 
 pub drop_rights-requires : goal.drop_rights-requires

@@ -1,7 +1,7 @@
 use Rattle.std.proofs.Common.{ℕ, ◌+◌, Option, sym, subst}
-use Rattle.tg_cells.specs.Lists.{Stands}
+use Rattle.tg_cells.specs.Promise.Lists.{Stands}
 use Rattle.tg_cells.proofs.WalkLemmas.{Walked, walk_step}
-use Rattle.tg_heap.specs.Graph.{edges}
+use Rattle.tg_heap.specs.Promise.Graph.{edges}
 use Rattle.tg_tests.proofs.heap.has_edges.Goals as goal
 
 pub loop-edge-preserved : goal.loop-edge-preserved

@@ -1,6 +1,6 @@
 use Rattle.std.proofs.Common.{ℕ}
 use Rattle.tg_cells.proofs.WalkLemmas.{Walked}
-use Rattle.tg_heap.specs.Graph.{edges}
+use Rattle.tg_heap.specs.Promise.Graph.{edges}
 use Rattle.tg_tests.proofs.heap.has_edges.Given as goal
 
 -- The cursor is somewhere in the slot's list.

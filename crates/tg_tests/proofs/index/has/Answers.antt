@@ -1,7 +1,7 @@
 use Rattle.std.proofs.Common.{◌≡◌, ◌≢◌, ◌<◌, ℕ, List, [], ◌∷◌, ◌++◌, Option, Some, None, length, refl, ap, sym, subst, inl, inr, arith}
-use Rattle.tg_lists.specs.Membership.{Contains, Distinct}
+use Rattle.tg_lists.specs.Promise.Membership.{Contains, Distinct}
 use Rattle.tg_lists.proofs.MembershipLemmas.{contains_append}
-use Rattle.tg_index.specs.Rows.{row, first_of}
+use Rattle.tg_index.specs.Promise.Rows.{row, first_of}
 use Rattle.tg_index.proofs.RowLemmas.{left, none_left, Walked, walk_step, at_cursor}
 use Rattle.tg_tests.proofs.index.has.Goals as goal
 

@@ -1,6 +1,6 @@
 use Rattle.std.proofs.Common.{length}
-use Rattle.tg_lists.specs.Membership.{Contains}
-use Rattle.tg_index.specs.Rows.{row}
+use Rattle.tg_lists.specs.Promise.Membership.{Contains}
+use Rattle.tg_index.specs.Promise.Rows.{row}
 use Rattle.tg_index.proofs.RowLemmas.{Walked, left}
 use Rattle.tg_tests.proofs.index.has.Given as goal
 

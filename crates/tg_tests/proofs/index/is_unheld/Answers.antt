@@ -1,7 +1,7 @@
 use Rattle.std.proofs.Common.{ℕ, arith}
 use borrow.Author.Count.{below_more}
-use Rattle.tg_lists.specs.Membership.{Contains}
-use Rattle.tg_index.specs.Rows.{row}
+use Rattle.tg_lists.specs.Promise.Membership.{Contains}
+use Rattle.tg_index.specs.Promise.Rows.{row}
 use Rattle.tg_index.proofs.RowLemmas.{held_within}
 use Rattle.tg_tests.proofs.index.is_unheld.Goals as goal
 

@@ -1,6 +1,6 @@
 use Rattle.std.proofs.Common.{ℕ, ◌<◌}
-use Rattle.tg_lists.specs.Membership.{Contains}
-use Rattle.tg_index.specs.Rows.{row}
+use Rattle.tg_lists.specs.Promise.Membership.{Contains}
+use Rattle.tg_index.specs.Promise.Rows.{row}
 use Rattle.tg_tests.proofs.index.is_unheld.Given as goal
 
 abbrev pub invariant-loop-bucket : goal.invariant-loop-bucket

@@ -1,6 +1,6 @@
 use Rattle.std.proofs.Common.{ap}
 use Rattle.tg_lists.proofs.MembershipLemmas.{split_at}
-use Rattle.tg_index.specs.Rows.{Rows, row}
+use Rattle.tg_index.specs.Promise.Rows.{Rows, row}
 use Rattle.tg_tests.proofs.index.take.Goals as goal
 
 pub returns : goal.returns

@@ -1,6 +1,6 @@
 use Rattle.std.proofs.Common.{rules}
 use Rattle.std.proofs.lemmas.Fn.{filter_same}
-use Rattle.tg_graph.specs.Protection.{has_retired}
+use Rattle.tg_graph.specs.Promise.Protection.{has_retired}
 use Rattle.tg_vault.proofs.rebase.keep_retired.Goals as goal
 
 pub returns : goal.returns

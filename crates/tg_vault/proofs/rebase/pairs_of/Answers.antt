@@ -2,7 +2,7 @@ use Rattle.std.proofs.Common.{◌≡◌, ℕ, List, [], ◌∷◌, ◌++◌, tak
 use Rattle.std.proofs.lemmas.List.{take_all, take_more}
 use Rattle.tg_lists.proofs.MembershipLemmas.{map_append}
 use Rattle.tg_graph.specs.declared.member.Member.{Member}
-use Rattle.tg_graph.specs.Parts.{member_of, members_of}
+use Rattle.tg_graph.specs.Inner.Parts.{member_of, members_of}
 use Rattle.tg_vault.proofs.rebase.pairs_of.Goals as goal
 
 abbrev Pair : Type 0

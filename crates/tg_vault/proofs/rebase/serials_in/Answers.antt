@@ -1,7 +1,7 @@
 use Rattle.std.proofs.Common.{ℕ, List, [], ◌∷◌, ◌++◌, map, take, ap, sym, ◌∙◌}
 use Rattle.std.proofs.lemmas.List.{take_all, take_more}
 use Rattle.tg_lists.proofs.MembershipLemmas.{map_append}
-use Rattle.tg_graph.specs.Parts.{Listed}
+use Rattle.tg_graph.specs.Promise.Parts.{Listed}
 use Rattle.tg_vault.proofs.rebase.serials_in.Goals as goal
 
 abbrev serials : List Listed → List ℕ

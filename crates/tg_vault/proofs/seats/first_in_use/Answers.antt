@@ -2,7 +2,7 @@ use Rattle.std.proofs.Common.{◌≡◌, ◌<◌, ◌≤◌, ℕ, List, length, 
 use Rattle.std.specs.Prelude.{Option}
 use Rattle.std.proofs.lemmas.Bool.{cases_lt}
 use Rattle.std.proofs.lemmas.List.{get_or_past}
-use Rattle.tg_vault.specs.World.{NobodySits, at_seat}
+use Rattle.tg_vault.specs.Promise.World.{NobodySits, at_seat}
 use Rattle.tg_vault.proofs.seats.first_in_use.Goals as goal
 
 none_of : (o : Option ℕ) → is_some o ≡ false → o ≡ None

@@ -1,7 +1,7 @@
 use Rattle.std.proofs.Common.{rules, subst, IfErr}
 use Rattle.tg_rights.specs.declared.command.Command.{Command}
-use Rattle.tg_share.specs.Reached.{IsEntered}
-use Rattle.tg_share.specs.Sessions.{IsRefused, Sitting}
+use Rattle.tg_share.specs.Promise.Reached.{IsEntered}
+use Rattle.tg_share.specs.Promise.Sessions.{IsRefused, Sitting}
 use Rattle.tg_share.proofs.AnsweredLemmas.{ask_refused}
 use Rattle.tg_share.proofs.session.Session.carry_out.Goals as goal
 

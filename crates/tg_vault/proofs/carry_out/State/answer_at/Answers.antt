@@ -4,19 +4,18 @@ use Rattle.std.proofs.lemmas.Result.{IfOk-weaker}
 use Rattle.tg_rights.specs.declared.outcome.Reply.{Reply}
 use Rattle.tg_rights.specs.declared.outcome.Which.{Which}
 use Rattle.tg_rights.specs.declared.outcome.Reply.TheVariants as reply
-use Rattle.tg_graph.specs.Terms as effect
-use Rattle.tg_graph.specs.Terms.{Does, name_in, terms, text_in}
-use Rattle.tg_graph.specs.Deciding.{IsSubjectIfNamed}
-use Rattle.tg_graph.specs.Names.{MayBeNamed}
-use Rattle.tg_graph.specs.Protection.{Protection, IsEdge}
-use Rattle.tg_graph.specs.Rules.{Allowed, edges_of, text_of}
-use Rattle.tg_collect.specs.Stored.{Stored}
-use Rattle.tg_collect.specs.Readings.{held, IsEdgeIn, place, serial_at}
-use Rattle.tg_collect.specs.Sessions.{Acted, Assumed, RightsRemoved, TextReplaced}
+use Rattle.tg_graph.specs.Promise.Terms as effect
+use Rattle.tg_graph.specs.Promise.Terms.{Does, name_in, terms, text_in}
+use Rattle.tg_graph.specs.Inner.Deciding.{IsSubjectIfNamed}
+use Rattle.tg_graph.specs.Promise.Protection.{MayBeNamed, Protection, IsEdge}
+use Rattle.tg_graph.specs.Promise.Rules.{Allowed, edges_of, text_of}
+use Rattle.tg_collect.specs.Promise.Stored.{Stored}
+use Rattle.tg_collect.specs.Promise.Readings.{held, IsEdgeIn, place, serial_at}
+use Rattle.tg_collect.specs.Promise.Sessions.{Acted, Assumed, RightsRemoved, TextReplaced}
 use Rattle.tg_collect.proofs.StoreLemmas.{edge_in}
 use Rattle.tg_vault.specs.declared.carry_out.Answered.{Answered}
-use Rattle.tg_vault.specs.Seen.{seen, seen_in, set_of}
-use Rattle.tg_vault.specs.CarriedOut.{CarriedIn, CarriedOut, Joined, Made, allowed, copies, denied, settled}
+use Rattle.tg_vault.specs.Inner.Seen.{graph_seen, seen_in, set_of}
+use Rattle.tg_vault.specs.Inner.CarriedOut.{CarriedIn, CarriedOut, Joined, Made, allowed, copies, denied, settled}
 use Rattle.tg_vault.proofs.CarriedOutLemmas.{ByEffect, assume_done, carried_by, copies_name, denied_carried, drop_done, join_done, leave_done, list_done, make_done, placed, retire_done, rewrite_done, serial_found, tell_done}
 use Rattle.tg_vault.proofs.EdgeLemmas.{seen_edge}
 use Rattle.tg_vault.proofs.FoundLemmas.{dropped_edge, joined_apart, joined_named, made_named}
@@ -158,7 +157,7 @@ returns-in_ok-retire-in-Retires-clause-carried c =
     let e = c.in_ok-retire-in-Retires.ensures in
     let new = c.retire.new.self in
     carried (goal.at.returns-in_ok-retire-in-Retires-clause-carried c).In-Ok new.store _ effect.Retires (Ok reply.Done) c.allowed-in-Retires.result c.in-Retires.ensures c.allowed-in-Retires.ensures
-    (subst (λ n. ByEffect c.args.self.now.store new.store c.args.self.now.next c.args.self.now.names (set_of c.args.self.now.retired.keys) c.args.seat (seen new.store n new.names (set_of new.retired.keys)) c.args.actor.serial effect.Retires (Ok reply.Done)) (sym e.next)
+    (subst (λ n. ByEffect c.args.self.now.store new.store c.args.self.now.next c.args.self.now.names (set_of c.args.self.now.retired.keys) c.args.seat (graph_seen new.store n new.names (set_of new.retired.keys)) c.args.actor.serial effect.Retires (Ok reply.Done)) (sym e.next)
     (retire_done c.args.self.now.store new.store c.args.self.now.next c.args.self.now.names (set_of c.args.self.now.retired.keys) c.args.seat c.requires.listed c.args.actor.serial new.names (set_of new.retired.keys) e.left e.gone e.retired e.acted))
 
 pub returns-in-Some-clause-carried : goal.returns-in-Some-clause-carried

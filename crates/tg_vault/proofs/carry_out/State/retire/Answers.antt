@@ -1,5 +1,5 @@
 use Rattle.std.proofs.Common.{[], ap, refl}
-use Rattle.tg_graph.specs.Protection.{Protection}
+use Rattle.tg_graph.specs.Promise.Protection.{Protection}
 use Rattle.tg_graph.proofs.VertexLemmas.{retired-shown}
 use Rattle.tg_vault.proofs.carry_out.State.retire.Goals as goal
 

@@ -1,7 +1,7 @@
 use Rattle.std.proofs.Common.{List, Option, ℕ, [], length, ap, subst, sym, ◌∙◌}
-use Rattle.tg_vault.specs.World.{NobodySits}
-use Rattle.tg_vault.specs.Contents.{Contents}
-use Rattle.tg_vault.specs.Rebase.{IsRebased}
+use Rattle.tg_vault.specs.Promise.World.{NobodySits}
+use Rattle.tg_vault.specs.Promise.Contents.{Contents}
+use Rattle.tg_vault.specs.Promise.Rebase.{IsRebased}
 use Rattle.tg_vault.proofs.RebaseLemmas.{is_idle, rebased, same_history, same_opening, same_seats}
 use Rattle.tg_vault.proofs.vault.Vault.begin_anew.Goals as goal
 

@@ -1,5 +1,6 @@
 use Rattle.std.proofs.Common.{◌≡◌, ℕ, ◌+◌, subst}
-use Rattle.tg_vault.specs.Contents.{Contents, contents, moment}
+use Rattle.tg_vault.specs.Promise.Contents.{Contents, moment}
+use Rattle.tg_vault.specs.Inner.Contents.{contents}
 use Rattle.tg_vault.proofs.CollectLemmas.{collected_joins, collected_step}
 use Rattle.tg_vault.proofs.vault.Vault.collect.Goals as goal
 

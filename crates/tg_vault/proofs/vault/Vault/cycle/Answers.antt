@@ -1,6 +1,6 @@
 use Rattle.tg_vault.specs.declared.event.Event.TheVariants as event
 use Rattle.tg_vault.specs.declared.event.Answer.TheVariants as answer
-use Rattle.tg_vault.specs.Course.{VaultStep}
+use Rattle.tg_vault.specs.Promise.Course.{VaultStep}
 use Rattle.tg_vault.proofs.CourseLemmas.{course_keeps, keeps_on}
 use Rattle.tg_vault.proofs.SweptLemmas.{goes_on, ends_here}
 use Rattle.tg_vault.proofs.vault.Vault.cycle.Goals as goal

@@ -1,12 +1,12 @@
 use Rattle.std.proofs.Common.{◌≡◌, ℕ, refl, sym, ap, subst, ◌∙◌, [], ◌∷◌, ◌++◌, Some}
 use Rattle.std.specs.FinSet as set
-use Rattle.tg_collect.specs.Readings.{IsHeldIn, IsParkedIn, agents}
-use Rattle.tg_vault.specs.Acting.{serial_in}
-use Rattle.tg_vault.specs.World.{Enters, acting, actor_at, at_seat}
-use Rattle.tg_vault.specs.Contents.{Contents, Keeps, contents, moment}
-use Rattle.tg_vault.specs.StoreSteps.{SessionStep}
-use Rattle.tg_vault.specs.Exact.{IsExact}
-use Rattle.tg_vault.specs.Agreement.{SameForAgreeing}
+use Rattle.tg_collect.specs.Promise.Readings.{IsHeldIn, IsParkedIn, agents}
+use Rattle.tg_vault.specs.Inner.Acting.{serial_in}
+use Rattle.tg_vault.specs.Promise.World.{Enters, acting, actor_at, at_seat}
+use Rattle.tg_vault.specs.Promise.Contents.{Contents, Keeps, moment, IsExact}
+use Rattle.tg_vault.specs.Inner.Contents.{contents}
+use Rattle.tg_vault.specs.Promise.StoreSteps.{SessionStep}
+use Rattle.tg_vault.specs.Promise.Agreement.{SameForAgreeing}
 use Rattle.tg_vault.proofs.DecidedLemmas.{next_unheld, none_gone, root_active}
 use Rattle.tg_vault.proofs.EntryLemmas.{Pushed, pushed_joined, pushed_enters, pushed_same, pushed_exact, pushed_acts, next_unparked}
 use Rattle.tg_vault.proofs.vault.Vault.enter.Goals as goal

@@ -1,7 +1,7 @@
 use Rattle.std.proofs.Common.{List, ℕ, length, ap, subst, ◌∙◌, IfSome, IfNone}
 use Rattle.std.specs.Prelude.{Option}
-use Rattle.tg_vault.specs.World.{IsLeastInUse, NobodySits}
-use Rattle.tg_vault.specs.Contents.{Contents}
+use Rattle.tg_vault.specs.Promise.World.{IsLeastInUse, NobodySits}
+use Rattle.tg_vault.specs.Promise.Contents.{Contents}
 use Rattle.tg_vault.proofs.vault.Vault.first_taken.Goals as goal
 
 pub first_in_use-requires : goal.first_in_use-requires

@@ -1,6 +1,6 @@
 use Rattle.std.proofs.Common.{◌≡◌, ◌≤◌, length, take, vec_capacity}
-use Rattle.tg_vault.specs.Contents.{Keeps}
-use Rattle.tg_vault.specs.Course.{Course}
+use Rattle.tg_vault.specs.Promise.Contents.{Keeps}
+use Rattle.tg_vault.specs.Promise.Course.{Course}
 use Rattle.tg_vault.proofs.vault.Vault.go.Given as goal
 
 abbrev pub invariant-loop-event : goal.invariant-loop-event

@@ -1,7 +1,7 @@
 use Rattle.std.proofs.Common.{List, ap, sym, ◌∙◌}
 use Rattle.tg_graph.specs.declared.member.Member.{Member}
-use Rattle.tg_graph.specs.Names.{serial_of}
-use Rattle.tg_vault.specs.Contents.{contents}
+use Rattle.tg_graph.specs.Promise.Protection.{serial_of}
+use Rattle.tg_vault.specs.Inner.Contents.{contents}
 use Rattle.tg_vault.proofs.CollectLemmas.{seat_taken}
 use Rattle.tg_vault.proofs.vault.Vault.hello.Goals as goal
 

@@ -1,10 +1,11 @@
 use Rattle.std.proofs.Common.{List, map, filter, ap, ◌∙◌}
 use Rattle.std.specs.Ordering.{nat_cmp}
 use Rattle.std.specs.FinSet as set
-use Rattle.tg_graph.specs.Parts.{Listed}
-use Rattle.tg_vault.specs.Rebase.{reopening}
-use Rattle.tg_vault.specs.Contents.{contents, graph_now}
-use Rattle.tg_vault.specs.Course.{IsCoherent}
+use Rattle.tg_graph.specs.Promise.Parts.{Listed}
+use Rattle.tg_vault.specs.Inner.Rebase.{reopening}
+use Rattle.tg_vault.specs.Promise.Contents.{graph_now}
+use Rattle.tg_vault.specs.Inner.Contents.{contents}
+use Rattle.tg_vault.specs.Promise.Course.{IsCoherent}
 use Rattle.tg_vault.proofs.ReopeningLemmas.{AreHeld, are_parts, held_lists, reopening_graph}
 use Rattle.tg_vault.proofs.vault.Vault.live_graph.Goals as goal
 use Rattle.tg_vault.proofs.vault.Vault.live_graph.Goals.{In_ok-names}

@@ -1,10 +1,11 @@
 use Rattle.std.proofs.Common.{◌≡◌, [], subst, sym, ap, ◌∙◌, Vec, Global}
 use Rattle.tg_vault.specs.declared.entry.Entry.{Entry}
-use Rattle.tg_vault.specs.Rebase.{reopening}
-use Rattle.tg_vault.specs.World.{NobodySits}
+use Rattle.tg_vault.specs.Inner.Rebase.{reopening}
+use Rattle.tg_vault.specs.Promise.World.{NobodySits}
 use Rattle.tg_collect.specs.declared.note.Phase.TheVariants.{Idle}
-use Rattle.tg_collect.specs.Readings.{phase}
-use Rattle.tg_vault.specs.Contents.{Contents, contents}
+use Rattle.tg_collect.specs.Promise.Readings.{phase}
+use Rattle.tg_vault.specs.Promise.Contents.{Contents}
+use Rattle.tg_vault.specs.Inner.Contents.{contents}
 use Rattle.tg_vault.proofs.RebaseLemmas.{reopened_tied}
 use Rattle.tg_vault.proofs.vault.Vault.reopen.Goals as goal
 

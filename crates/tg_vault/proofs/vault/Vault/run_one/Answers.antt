@@ -1,5 +1,5 @@
 use Rattle.std.proofs.Common.{refl, [], ◌∷◌}
-use Rattle.tg_vault.specs.Course.{VaultStep}
+use Rattle.tg_vault.specs.Promise.Course.{VaultStep}
 use Rattle.tg_vault.proofs.vault.Vault.run_one.Goals as goal
 
 -- the step of this event

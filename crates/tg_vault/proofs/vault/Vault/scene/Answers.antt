@@ -1,7 +1,7 @@
 use Rattle.std.proofs.Common.{ap, subst, ◌∙◌}
-use Rattle.tg_collect.specs.Figures.{Shows}
-use Rattle.tg_collect.specs.Readings.{free_slots, phase}
-use Rattle.tg_vault.specs.Contents.{Contents}
+use Rattle.tg_collect.specs.Promise.Figures.{Shows}
+use Rattle.tg_collect.specs.Promise.Readings.{free_slots, phase}
+use Rattle.tg_vault.specs.Promise.Contents.{Contents}
 use Rattle.tg_vault.proofs.vault.Vault.scene.Goals as goal
 
 pub returns : goal.returns

@@ -1,9 +1,10 @@
 use Rattle.std.proofs.Common.{◌≡◌, ℕ, ◌<◌, None, Some, set, subst, arith}
 use Rattle.std.proofs.lemmas.Grind.{common_steps}
 use Rattle.tg_rights.specs.declared.limits.TheConstants.{SEATS}
-use Rattle.tg_collect.specs.Readings.{pending, pending_of}
-use Rattle.tg_vault.specs.World.{World, at_seat, shade_fault}
-use Rattle.tg_vault.specs.Contents.{Contents, contents, moment}
+use Rattle.tg_collect.specs.Promise.Readings.{pending, pending_of}
+use Rattle.tg_vault.specs.Promise.World.{World, at_seat, shade_fault}
+use Rattle.tg_vault.specs.Promise.Contents.{Contents, moment}
+use Rattle.tg_vault.specs.Inner.Contents.{contents}
 use Rattle.tg_vault.proofs.CollectLemmas.{shaded_joins, shaded_step}
 use Rattle.tg_vault.proofs.vault.Vault.shade.Goals as goal
 

@@ -1,8 +1,8 @@
 use Rattle.std.proofs.Common.{◌≡◌, List, ℕ, ap, ◌∙◌}
 use Rattle.std.specs.Prelude.{Option}
-use Rattle.tg_vault.specs.Contents.{Contents}
-use Rattle.tg_vault.specs.Scenes.{sitting, sitting_of}
-use Rattle.tg_vault.specs.World.{at_seat}
+use Rattle.tg_vault.specs.Promise.Contents.{Contents}
+use Rattle.tg_vault.specs.Promise.Scenes.{sitting, sitting_of}
+use Rattle.tg_vault.specs.Promise.World.{at_seat}
 use Rattle.tg_vault.proofs.vault.Vault.sitting.Goals as goal
 
 pub returns : goal.returns

@@ -1,6 +1,6 @@
 use Rattle.std.proofs.Common.{◌≡◌, List, add-one, ap, arith, length, sym, ◌∙◌}
 use Rattle.tg_vault.specs.declared.scene.Sitting.{Sitting}
-use Rattle.tg_vault.specs.Scenes.{sittings_below, with_sitting}
+use Rattle.tg_vault.specs.Promise.Scenes.{sittings_below, with_sitting}
 use Rattle.tg_vault.proofs.vault.Vault.sittings.Goals as goal
 
 pub loop-seat-preserved : goal.loop-seat-preserved

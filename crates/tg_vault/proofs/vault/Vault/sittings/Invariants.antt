@@ -1,5 +1,5 @@
 use Rattle.std.proofs.Common.{◌≡◌}
-use Rattle.tg_vault.specs.Scenes.{sittings_below}
+use Rattle.tg_vault.specs.Promise.Scenes.{sittings_below}
 use Rattle.tg_vault.proofs.vault.Vault.sittings.Given as goal
 
 -- the seats so far

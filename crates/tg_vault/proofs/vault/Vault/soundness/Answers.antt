@@ -1,5 +1,5 @@
 use Rattle.std.proofs.Common.{subst}
-use Rattle.tg_vault.specs.Fits.{Fits}
+use Rattle.tg_vault.specs.Promise.Contents.{Fits}
 use Rattle.tg_vault.proofs.FitsLemmas.{fits_are}
 use Rattle.tg_vault.proofs.vault.Vault.soundness.Goals as goal
 

@@ -3,8 +3,8 @@ use Rattle.tg_rights.specs.declared.limits.TheConstants.{MAX_CELLS, MAX_SLOTS}
 use Rattle.tg_graph.specs.declared.member.Member.{Member}
 use Rattle.tg_collect.proofs.OpeningLemmas.{openings_can_be_stored}
 use Rattle.tg_vault.specs.declared.entry.Entry.{Entry}
-use Rattle.tg_vault.specs.Contents.{Contents, IsFresh}
-use Rattle.tg_vault.specs.Fits.{IsTied}
+use Rattle.tg_vault.specs.Promise.Contents.{Contents, IsFresh}
+use Rattle.tg_vault.specs.Inner.Fits.{IsTied}
 use Rattle.tg_vault.proofs.FreshLemmas.{opening_fits, fresh_joined, fresh_is}
 use Rattle.tg_vault.proofs.vault.Vault.with_key.Goals as goal
 
