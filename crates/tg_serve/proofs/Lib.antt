@@ -1,2 +1,3 @@
 mod ServingLemmas
 mod RoundsLemmas
+mod MeaningsLemmas

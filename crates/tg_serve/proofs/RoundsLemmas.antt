@@ -1,18 +1,19 @@
 -- The rounds of a server, and the lines between them.
 use Rattle.std.proofs.Common.{◌≡◌, ◌⊎◌, ◌↔◌, ℕ, zero, suc, ap, ◌+◌, ◌-◌, ◌*◌, ◌<◌, ◌≤◌, min, List, [], ◌∷◌, ◌++◌, length, Option, Bool, true, false, Result, Ok, Err, IfErr, IfOk, inl, inr, refl, sym, subst, true≢false, ◌∙◌, append_assoc, append-nil, arith}
 use Rattle.tg_audit.specs.declared.logs.Settled.TheVariants as settled
-use Rattle.tg_share.specs.Closing.{IsClosed, logs_of}
+use Rattle.tg_share.specs.Promise.Closing.{IsClosed, logs_of}
 use Rattle.tg_share.specs.declared.closing.Closed.{Closed}
 use Rattle.tg_share.specs.declared.closing.Closed.TheVariants as closed
 use Rattle.tg_share.specs.declared.session.Ended.{Ended}
-use Rattle.tg_talk.specs.Devices.{Sends}
+use Rattle.tg_talk.specs.Promise.Devices.{Sends}
 use Rattle.tg_talk.proofs.KnownBytesLemmas.{Appends-more}
 use Rattle.tg_talk.proofs.SendsLemmas.{sends_none, sent_whole}
-use Rattle.tg_vault.specs.Contents.{Contents}
-use Rattle.tg_vault.specs.Rebase.{IsRebased}
+use Rattle.tg_vault.specs.Promise.Contents.{Contents}
+use Rattle.tg_vault.specs.Promise.Rebase.{IsRebased}
 use Rattle.tg_serve.specs.declared.operating.Operating.{Operating}
 use Rattle.tg_serve.specs.declared.serve.Unsettled.{Unsettled}
-use Rattle.tg_serve.specs.Serving.{Announces, AreEnough, AreRounds, EndsServer, HasAgreed, HasRounds, Concludes, HaveAgreed, HaveRebased, IsAlone, IsCounted, IsServed, SendsOn, agreed_line, found_of, listening_line, rebased_line, rebased_lines}
+use Rattle.tg_serve.specs.Promise.Serving.{AreEnough, AreRounds, EndsServer, HasAgreed, Concludes, HaveAgreed, HaveRebased, IsAlone, IsCounted, IsServed, SendsOn, agreed_line, found_of, listening_line, rebased_line, rebased_lines}
+use Rattle.tg_serve.specs.Inner.Serving.{Announces, HasRounds}
 
 -- a vault that was closed as agreed has agreed
 pub closing_agrees : {L : Type 0} (ended : List (Ended L)) (c : Closed L) → IsClosed ended c → IfOk (found_of c) HasAgreed

@@ -2,15 +2,15 @@
 use Rattle.std.proofs.Common.{◌≡◌, ◌↔◌, ◌∙◌, ℕ, ◌<◌, ◌≤◌, List, [], length, Bool, true, Option, IfSome, Result, Ok, Err, IfOk, IfErr, sym, ap, subst, arith, length-append}
 use Rattle.std.specs.Borrow.{Bor}
 use Rattle.tg_graph.specs.declared.config.OpenFault.{OpenFault}
-use Rattle.tg_vault.specs.Contents.{Contents}
-use Rattle.tg_wire.specs.Faults.{fault_line, open_fault_line}
+use Rattle.tg_vault.specs.Promise.Contents.{Contents}
+use Rattle.tg_wire.specs.Promise.Faults.{fault_line, open_fault_line}
 use Rattle.tg_wire.specs.declared.fault.WireFault.{WireFault}
 use Rattle.tg_wire.specs.declared.fault.WireFault.TheVariants as wire
-use Rattle.tg_talk.specs.InputLines.{lines_of}
-use Rattle.tg_talk.specs.Taking.{HasLine, TakesLine}
+use Rattle.tg_talk.specs.Promise.InputLines.{lines_of}
+use Rattle.tg_talk.specs.Promise.Taking.{HasLine, TakesLine}
 use Rattle.tg_talk.proofs.TakingLemmas.{weaker}
-use Rattle.tg_talk.specs.Opening.{Opens, RefusesOpening, misread, not_read, unsound}
-use Rattle.tg_serve.specs.Serving.{OpensBytes, RefusesBytes, no_line, refused, too_long}
+use Rattle.tg_talk.specs.Promise.Opening.{OpensVault, RefusesOpening, misread, not_read, unsound}
+use Rattle.tg_serve.specs.Inner.Serving.{OpensBytes, RefusesBytes, no_line, refused, too_long}
 use Rattle.tg_talk.proofs.OpeningLemmas.{empty_line}
 
 -- ---- the line of a refusal has bytes
@@ -44,15 +44,15 @@ bytes_too_long text xs line has long same = rw has.split (too_long long same)
 bytes_refused : (text xs line : List ℕ) (left : Option (List ℕ)) → TakesLine line xs left → length line ≤ 16384 → RefusesOpening line text → RefusesBytes text xs
 bytes_refused text xs line left takes short refuses = rw takes.taken (refused short refuses)
 
-bytes_opened : (v : Contents) (xs line : List ℕ) (left : Option (List ℕ)) → TakesLine line xs left → length line ≤ 16384 → Opens line v → OpensBytes v xs
+bytes_opened : (v : Contents) (xs line : List ℕ) (left : Option (List ℕ)) → TakesLine line xs left → length line ≤ 16384 → OpensVault line v → OpensBytes v xs
 bytes_opened v xs line left takes short opens = record { first = line; others = lines_of takes.rest; are = takes.taken; short = short; opens = opens }
 
 -- ---- the result of opening the first line
 
 pub line_opens : (r : Result Contents (Bor (List ℕ))) (o : Option (List ℕ)) (bytes line : List ℕ) (left : Option (List ℕ)) → bytes ≡ line → length line ≤ 16384 → IfSome o (λ xs. TakesLine line xs left)
-    → IfOk r (Opens bytes) → IfOk r (λ v. IfSome o (OpensBytes v))
+    → IfOk r (OpensVault bytes) → IfOk r (λ v. IfSome o (OpensBytes v))
 line_opens (Ok v) o bytes line left same short takes opens =
-    weaker o (λ xs. TakesLine line xs left) (OpensBytes v) takes (λ xs t. bytes_opened v xs line left t short (subst (λ b. Opens b v) same opens))
+    weaker o (λ xs. TakesLine line xs left) (OpensBytes v) takes (λ xs t. bytes_opened v xs line left t short (subst (λ b. OpensVault b v) same opens))
 line_opens (Err text) o bytes line left same short takes opens = tt
 
 pub line_refused : (r : Result Contents (Bor (List ℕ))) (o : Option (List ℕ)) (bytes line : List ℕ) (left : Option (List ℕ)) → bytes ≡ line → length line ≤ 16384 → IfSome o (λ xs. TakesLine line xs left)

@@ -1,2 +1,2 @@
-pub mod Keeping
-pub mod Serving
+pub mod Promise
+pub mod Inner

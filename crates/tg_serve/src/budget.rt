@@ -1,6 +1,6 @@
 //! How much memory the history and the logs of a round may take, by count.
 ghost use Rattle.std.specs.Prelude.{◌≡◌, ◌-◌, ◌^◌, ◌<◌, ◌≤◌, min};
-ghost use Rattle.tg_serve.specs.Keeping.{command_bytes, exchange_bytes, reply_bytes};
+ghost use Rattle.tg_serve.specs.Inner.Keeping.{command_bytes, exchange_bytes, reply_bytes};
 
 use std::sync::atomic::{AtomicU64, Ordering};
 use tg_rights::{Command, Reply};

@@ -7,6 +7,7 @@ mod client;
 mod desk;
 mod door;
 mod key;
+mod laws;
 mod listening;
 mod operating;
 mod pace;
@@ -24,6 +25,7 @@ mod waiting;
 
 pub use attending::attend;
 pub use desk::{Departure, Desk, Notice};
+pub use laws::servers_have_meanings;
 pub use listening::{serve_lines, serve_lines_operated};
 pub use operating::Operating;
 pub use platform::Platform;

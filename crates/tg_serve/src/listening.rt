@@ -2,8 +2,9 @@
 ghost use Rattle.std.specs.Prelude.{◌≡◌, ◌↔◌, [], IfErr, IfOk, IfSome, false, true};
 ghost use Rattle.std.specs.Net.Addr.{IsLoopbackV4, IsLoopbackV6, MatchIp};
 ghost use Rattle.std.specs.Net.Socket.{socket_ip};
-ghost use Rattle.tg_talk.specs.Devices.{Sends, device_of, has_failed};
-ghost use Rattle.tg_serve.specs.Serving.{IsServed, OpensBytes, RefusesBytes, unbounded};
+ghost use Rattle.tg_talk.specs.Promise.Devices.{Sends, device_of, has_failed};
+ghost use Rattle.tg_serve.specs.Promise.Serving.{IsServed, unbounded};
+ghost use Rattle.tg_serve.specs.Inner.Serving.{OpensBytes, RefusesBytes};
 
 use crate::desk::Desk;
 use crate::key::key_or_fixed;

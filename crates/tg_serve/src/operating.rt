@@ -1,6 +1,6 @@
 //! How a server is operated, besides whom it serves and how many.
 ghost use Rattle.std.specs.Prelude.{◌≡◌};
-ghost use Rattle.tg_serve.specs.Serving.{unbounded};
+ghost use Rattle.tg_serve.specs.Promise.Serving.{unbounded};
 
 /// What bounds a server, besides its numbers of workers and connections, and what those who attend to it want.
 #[derive(Clone, Copy, Debug, PartialEq, Eq)]

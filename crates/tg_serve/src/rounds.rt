@@ -1,9 +1,10 @@
 //! A server that serves its connections in rounds: between two of them what lives becomes the opening graph, and the
 //! history is dropped.
 ghost use Rattle.std.specs.Prelude.{◌≡◌, ◌≤◌, ◌<◌, ◌+◌, ◌-◌, ◌↔◌, ◌⊎◌, [], IfErr, IfOk, false, length, min, true};
-ghost use Rattle.tg_talk.specs.Devices.{device_of, has_failed};
-ghost use Rattle.tg_vault.specs.Rebase.{IsRebased};
-ghost use Rattle.tg_serve.specs.Serving.{Concludes, EndsServer, HasAgreed, HasRebased, HasRounds, IsAlone, IsCounted, IsServed, SendsOn, rebased_line, unbounded};
+ghost use Rattle.tg_talk.specs.Promise.Devices.{device_of, has_failed};
+ghost use Rattle.tg_vault.specs.Promise.Rebase.{IsRebased};
+ghost use Rattle.tg_serve.specs.Promise.Serving.{Concludes, EndsServer, HasAgreed, HasRebased, IsAlone, IsCounted, IsServed, SendsOn, rebased_line, unbounded};
+ghost use Rattle.tg_serve.specs.Inner.Serving.{HasRounds};
 
 use crate::desk::Desk;
 use crate::door::{Door, wait_in_ticks};

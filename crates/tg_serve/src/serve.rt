@@ -1,7 +1,7 @@
 //! A round of a server: a vault served to several clients at once, over connections.
 ghost use Rattle.std.specs.Prelude.{◌≡◌, [], IfErr, IfOk};
 ghost use Rattle.tg_share.specs.declared.locked.TheConstants.{PARTS};
-ghost use Rattle.tg_serve.specs.Serving.{EndsServer, HasAgreed, IsFound, found_of};
+ghost use Rattle.tg_serve.specs.Promise.Serving.{EndsServer, HasAgreed, IsFound, found_of};
 
 use crate::budget::Budget;
 use crate::client::{ClientReader, ClientWriter, Seat, wait_in_ticks};

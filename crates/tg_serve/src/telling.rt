@@ -1,7 +1,8 @@
 //! The lines that a server writes of itself. Without its address it writes none, and none after one that failed.
 ghost use Rattle.std.specs.Prelude.{◌≡◌, ◌↔◌, ◌++◌, decimal, false, true};
-ghost use Rattle.tg_talk.specs.Devices.{device_of, has_failed};
-ghost use Rattle.tg_serve.specs.Serving.{Announces, SendsOn, agreed_line, end_line, rebased_line};
+ghost use Rattle.tg_talk.specs.Promise.Devices.{device_of, has_failed};
+ghost use Rattle.tg_serve.specs.Promise.Serving.{SendsOn, agreed_line, end_line, rebased_line};
+ghost use Rattle.tg_serve.specs.Inner.Serving.{Announces};
 
 use crate::serve::{Served, Unsettled};
 use itoa::Buffer;

@@ -1,32 +1,21 @@
 -- The first line feed of some bytes, and the first line of a text.
-use Rattle.std.proofs.Common.{◌≡◌, ℕ, zero, suc, ◌+◌, ◌-◌, ◌<◌, ◌≤◌, nat_lt, List, [], ◌∷◌, ◌++◌, length, take, drop, get_or, Option, Some, None, IfSome, IfNone, Bool, true, false, ◌||◌, refl, sym, ap, ◌∙◌, subst, arith, add-one, take-append-drop, length-drop, take_all, true≢false}
+use Rattle.std.proofs.Common.{◌≡◌, ℕ, zero, suc, ◌+◌, ◌-◌, ◌<◌, ◌≤◌, nat_lt, List, [], ◌∷◌, ◌++◌, length, take, drop, get_or, Option, Some, None, IfSome, IfNone, Bool, true, false, ◌||◌, refl, sym, ap, ◌∙◌, subst, arith, add-one, take-append-drop, length-drop, take_all}
 use Rattle.std.specs.List.{onto_first}
-use Rattle.std.proofs.lemmas.Bool.{eqb-true}
+use Rattle.std.proofs.lemmas.Bool.{eqb-true, false_from_ne_true, or_parts, or_right}
 use Rattle.std.proofs.lemmas.List.{drop-drop, drop-take, take-take, get_or-drop, length-take-le}
 use Rattle.std.proofs.lemmas.List.Folds.{list_any-append}
 use Rattle.memchr.specs.Find.{IsFirstByte, IsLastByte, is_byte}
-use Rattle.tg_talk.specs.Finding.{is_decided}
-use Rattle.tg_talk.specs.InputLines.{is_newline, has_newline, lines_of, IsFirstNewline, EndsLines}
-
-left_false : (a b : Bool) → (a || b) ≡ false → a ≡ false
-left_false true b h = h
-left_false false b h = refl
-
-right_false : (a b : Bool) → (a || b) ≡ false → b ≡ false
-right_false true b h = absurd (true≢false h)
-right_false false b h = h
+use Rattle.tg_talk.specs.Promise.Finding.{is_decided}
+use Rattle.tg_talk.specs.Promise.InputLines.{is_newline, has_newline, lines_of, IsFirstNewline}
+use Rattle.tg_talk.specs.Inner.InputLines.{EndsLines}
 
 -- ---- the first line feed
-
-not_true : (b : Bool) → ¬ (b ≡ true) → b ≡ false
-not_true true h = absurd (h refl)
-not_true false h = refl
 
 -- no line feed at a place below n
 pub none_below : (xs : List ℕ) (n : ℕ) → ((k : ℕ) → k < n → ¬ (is_newline (get_or xs k 0) ≡ true)) → has_newline (take n xs) ≡ false
 none_below xs zero h = refl
 none_below [] (suc n) h = refl
-none_below (x ∷ xs) (suc n) h = rw (not_true (is_newline x) (h 0 (omega arith))) (none_below xs n (λ k below. h (suc k) (omega arith)))
+none_below (x ∷ xs) (suc n) h = rw (false_from_ne_true (is_newline x) (h 0 (omega arith))) (none_below xs n (λ k below. h (suc k) (omega arith)))
 
 pub newline_at : (xs : List ℕ) (n : ℕ) → n < length xs → is_newline (get_or xs n 0) ≡ true → xs ≡ take n xs ++ 10 ∷ drop (n + 1) xs
 newline_at [] n h is = absurd (omega arith)
@@ -50,16 +39,12 @@ none_of xs (Some n) h = tt
 pub none_in_front : (xs : List ℕ) (n : ℕ) → has_newline xs ≡ false → has_newline (take n xs) ≡ false
 none_in_front xs n h =
     let parts : (has_newline (take n xs) || has_newline (drop n xs)) ≡ false = sym (list_any-append is_newline (take n xs) (drop n xs)) ∙ ap has_newline (take-append-drop n xs) ∙ h in
-    left_false _ _ parts
+    (or_parts _ _ parts).0
 
 pub none_in_shorter : (xs : List ℕ) (m n : ℕ) → m ≤ n → has_newline (take n xs) ≡ false → has_newline (take m xs) ≡ false
 none_in_shorter xs m n le h = rw (take-take m n xs le) at (none_in_front (take n xs) m h)
 
 -- ---- the last line feed
-
-or_true : (a b : Bool) → b ≡ true → (a || b) ≡ true
-or_true true b h = refl
-or_true false b h = h
 
 or_false : (a : Bool) → (a || false) ≡ a
 or_false true = refl
@@ -68,7 +53,7 @@ or_false false = refl
 none_dropped : (k : ℕ) (xs : List ℕ) → has_newline xs ≡ false → has_newline (drop k xs) ≡ false
 none_dropped k xs h =
     let parts : (has_newline (take k xs) || has_newline (drop k xs)) ≡ false = sym (list_any-append is_newline (take k xs) (drop k xs)) ∙ ap has_newline (take-append-drop k xs) ∙ h in
-    right_false _ _ parts
+    (or_parts _ _ parts).1
 
 -- what goes before `s` is taken away
 pub ends_moved : (xs : List ℕ) (s n : ℕ) → EndsLines xs n → EndsLines (drop s xs) (n - s)
@@ -93,7 +78,7 @@ ends_after [] ys none (suc k) =
 ends_after (x ∷ xs) ys none zero =
     let first : has_newline (xs ++ 10 ∷ ys) ≡ true = ends_after xs ys none 0 ∙ grind arith in
     let some : true ≡ nat_lt 0 (suc (length xs) + 1) = grind arith in
-    or_true (is_newline x) _ first ∙ some
+    or_right (is_newline x) _ first ∙ some
 ends_after (x ∷ xs) ys none (suc k) =
     let same : nat_lt k (length xs + 1) ≡ nat_lt (suc k) (suc (length xs) + 1) = grind arith in
     ends_after xs ys none k ∙ same
@@ -142,14 +127,14 @@ decided_at items start end lines n order within ends =
 pub lines_of-line : (line rest : List ℕ) → has_newline line ≡ false → lines_of (line ++ 10 ∷ rest) ≡ line ∷ lines_of rest
 unfolding lines_of
 lines_of-line [] rest h = refl
-lines_of-line (b ∷ bs) rest h = rw (left_false (is_newline b) _ h, lines_of-line bs rest (right_false (is_newline b) _ h)) refl
+lines_of-line (b ∷ bs) rest h = rw ((or_parts (is_newline b) _ h).0, lines_of-line bs rest (or_parts (is_newline b) _ h).1) refl
 
 -- the last line
 pub lines_of-last : (line : List ℕ) → has_newline line ≡ false → 0 < length line → lines_of line ≡ line ∷ []
 unfolding lines_of
 lines_of-last [] h some = absurd (omega arith)
-lines_of-last (b ∷ []) h some = rw (left_false (is_newline b) _ h) refl
-lines_of-last (b ∷ c ∷ bs) h some = rw (left_false (is_newline b) _ h, lines_of-last (c ∷ bs) (right_false (is_newline b) _ h) (omega arith)) refl
+lines_of-last (b ∷ []) h some = rw ((or_parts (is_newline b) _ h).0) refl
+lines_of-last (b ∷ c ∷ bs) h some = rw ((or_parts (is_newline b) _ h).0, lines_of-last (c ∷ bs) (or_parts (is_newline b) _ h).1 (omega arith)) refl
 
 pub record Longer (xs : List ℕ) (n : ℕ) : Type 0 where
   pub line : List ℕ
@@ -171,6 +156,6 @@ unfolding lines_of
 lines_of-long n [] rest h none = absurd (omega arith)
 lines_of-long zero (b ∷ bs) rest h none =
     let (line, others, split, some) = onto_any b (lines_of (bs ++ rest)) in
-    record { line = line; others = others; split = rw (left_false (is_newline b) false none) split; long = some }
+    record { line = line; others = others; split = rw ((or_parts (is_newline b) false none).0) split; long = some }
 lines_of-long (suc n) (b ∷ bs) rest h none =
-    onto_longer b n (bs ++ rest) (left_false (is_newline b) _ none) (lines_of-long n bs rest (omega arith) (right_false (is_newline b) _ none))
+    onto_longer b n (bs ++ rest) (or_parts (is_newline b) _ none).0 (lines_of-long n bs rest (omega arith) (or_parts (is_newline b) _ none).1)

@@ -6,3 +6,4 @@ pub mod AnsweringLemmas
 pub mod ToldLemmas
 pub mod TalkLemmas
 pub mod OpeningLemmas
+mod MeaningsLemmas

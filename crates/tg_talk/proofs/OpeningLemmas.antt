@@ -1,14 +1,14 @@
 -- The configuration line.
-use Rattle.std.proofs.Common.{◌≡◌, ℕ, List, [], Err, refl}
+use Rattle.std.proofs.Common.{ℕ, List, [], Err, refl}
 use Rattle.tg_graph.specs.declared.config.Config.{Config}
-use Rattle.tg_wire.specs.Configs.{opening_of}
-use Rattle.tg_wire.specs.Lines.{config_of}
-use Rattle.tg_wire.specs.Reading as reading
-use Rattle.tg_wire.specs.Faults.{fault_line}
+use Rattle.tg_wire.specs.Promise.Configs.{opening_of}
+use Rattle.tg_wire.specs.Promise.Lines.{config_of}
+use Rattle.tg_wire.specs.Promise.Reading as reading
+use Rattle.tg_wire.specs.Promise.Faults.{fault_line}
 use Rattle.tg_wire.specs.declared.fault.WireFault.{WireFault}
 use Rattle.tg_wire.specs.declared.fault.WireFault.TheVariants as wire
 use Rattle.tg_wire.proofs.WorkedLinesLemmas.{worked}
-use Rattle.tg_talk.specs.Opening.{RefusesOpening, misread, not_read}
+use Rattle.tg_talk.specs.Promise.Opening.{RefusesOpening, misread, not_read}
 
 -- a fault of reading refuses the line
 pub refuses_fault : (line : List ℕ) (f : WireFault) → reading.AnswersBy {V = Config} opening_of (Err f) (config_of line) → RefusesOpening line (fault_line f)

@@ -1,8 +1,8 @@
 -- What a writer holds after texts were sent.
 use Rattle.std.proofs.Common.{◌≡◌, ℕ, List, [], ◌++◌, Option, None, Some, Bool, true, false, true≢false, refl, sym, ap, ◌∙◌, subst, append_assoc, append-nil}
 use Rattle.std.specs.Io.KnownBytes.{Appends, Keeps}
-use Rattle.tg_talk.specs.Devices.{Sends, SendsLast}
-use Rattle.tg_talk.proofs.KnownBytesLemmas.{Appends-more, Appends-kept, Appends-keeps, Appends-none}
+use Rattle.tg_talk.specs.Promise.Devices.{Sends, SendsLast}
+use Rattle.tg_talk.proofs.KnownBytesLemmas.{Appends-more, Appends-keeps, Appends-none}
 
 pub sends_none : (a : Option (List ℕ)) (failed : Bool) → Sends a a failed []
 sends_none None failed = record { done = []; rest = []; split = refl; appended = tt; whole = λ _. refl }
@@ -36,11 +36,6 @@ last_whole old new failed before last ok sent =
 -- nothing was sent if what is there stays
 pub sends_keeps : (old new : Option (List ℕ)) (failed : Bool) → Keeps old new → Sends old new failed []
 sends_keeps old new failed kept = record { done = []; rest = []; split = refl; appended = Appends-keeps old old new [] (Appends-none old) kept; whole = λ _. refl }
-
--- a text that was sent once what is there had been kept
-pub sends_kept : (old now new : Option (List ℕ)) (failed : Bool) (text : List ℕ) → Keeps old now → Sends now new failed text → Sends old new failed text
-sends_kept old now new failed text kept sent =
-    record { done = sent.done; rest = sent.rest; split = sent.split; appended = Appends-kept old now new sent.done kept sent.appended; whole = sent.whole }
 
 -- bytes that were sent after others, as one text
 pub sends_more : (old now new : Option (List ℕ)) (was failed : Bool) (before bytes : List ℕ) → was ≡ false → Sends old now was before → Sends now new failed bytes → Sends old new failed (before ++ bytes)

@@ -6,8 +6,8 @@ use Rattle.tg_talk.specs.declared.input_lines.Next.{Next}
 use Rattle.tg_talk.specs.declared.input_lines.Next.TheVariants as next
 use Rattle.tg_talk.specs.declared.line_buffer.TheConstants.{MOST_LINES}
 use Rattle.tg_wire.specs.declared.line.TheConstants.{LONGEST_LINE}
-use Rattle.tg_talk.specs.InputLines.{lines_of, has_newline, IsFirstNewline}
-use Rattle.tg_talk.specs.Taking.{Input, TakesLine, Takes, count_of}
+use Rattle.tg_talk.specs.Promise.InputLines.{lines_of, has_newline, IsFirstNewline}
+use Rattle.tg_talk.specs.Promise.Taking.{Input, TakesLine, Takes}
 use Rattle.tg_talk.proofs.InputLinesLemmas.{Longer, lines_of-line, lines_of-last}
 
 -- ---- known bytes
@@ -92,32 +92,19 @@ last_line buffer r xs n rest all none some over is split =
 most : (n : ℕ) → n ≤ MOST_LINES → (n ≡ MOST_LINES) ⊎ (n < MOST_LINES)
 most n h = eq-or-lt_of_le h
 
-pub takes_line : (r : Next) (n : ℕ) (line : List ℕ) (left : Option (List ℕ)) (xs : List ℕ) → n ≤ MOST_LINES → (n < MOST_LINES → r ≡ next.Line) → (n ≡ MOST_LINES → r ≡ next.TooMany)
+-- the number of lines taken may be known by another name
+pub takes_line : (r : Next) (n m : ℕ) (line : List ℕ) (left : Option (List ℕ)) (xs : List ℕ) → m ≡ n → n ≤ MOST_LINES → (m < MOST_LINES → r ≡ next.Line) → (m ≡ MOST_LINES → r ≡ next.TooMany)
     → TakesLine line xs left → Takes r n line left xs
-takes_line r n line left xs h within over takes = go (most n h)
+takes_line r n m line left xs same h within over takes = go (most n h)
   where
     go : (n ≡ MOST_LINES) ⊎ (n < MOST_LINES) → Takes r n line left xs
-    go (inr few) = rw (within few) (few, takes)
-    go (inl full) = rw (over full) (full, (line, record { others = lines_of takes.rest; split = takes.taken }))
+    go (inr few) = rw (within (rw same few)) (few, takes)
+    go (inl full) = rw (over (rw same full)) (full, (line, record { others = lines_of takes.rest; split = takes.taken }))
 
-pub takes_long : (r : Next) (n : ℕ) (line : List ℕ) (left : Option (List ℕ)) (xs : List ℕ) → n ≤ MOST_LINES → (n < MOST_LINES → r ≡ next.TooLong) → (n ≡ MOST_LINES → r ≡ next.TooMany)
+pub takes_long : (r : Next) (n m : ℕ) (line : List ℕ) (left : Option (List ℕ)) (xs : List ℕ) → m ≡ n → n ≤ MOST_LINES → (m < MOST_LINES → r ≡ next.TooLong) → (m ≡ MOST_LINES → r ≡ next.TooMany)
     → Longer xs LONGEST_LINE → Takes r n line left xs
-takes_long r n line left xs h within over long = go (most n h)
+takes_long r n m line left xs same h within over long = go (most n h)
   where
     go : (n ≡ MOST_LINES) ⊎ (n < MOST_LINES) → Takes r n line left xs
-    go (inr few) = rw (within few) (few, (long.line, record { others = long.others; split = long.split }, long.long))
-    go (inl full) = rw (over full) (full, (long.line, record { others = long.others; split = long.split }))
-
-pub counted_long : (r : Next) (n : ℕ) → n ≤ MOST_LINES → (n < MOST_LINES → r ≡ next.TooLong) → (n ≡ MOST_LINES → r ≡ next.TooMany) → count_of r ≡ 1
-counted_long r n h within over = go (most n h)
-  where
-    go : (n ≡ MOST_LINES) ⊎ (n < MOST_LINES) → count_of r ≡ 1
-    go (inr few) = rw (within few) refl
-    go (inl full) = rw (over full) refl
-
-pub long_is_no_failure : (r : Next) (n : ℕ) → n ≤ MOST_LINES → (n < MOST_LINES → r ≡ next.TooLong) → (n ≡ MOST_LINES → r ≡ next.TooMany) → r ≡ next.Failed → ⊥
-long_is_no_failure r n h within over failed = go (most n h)
-  where
-    go : (n ≡ MOST_LINES) ⊎ (n < MOST_LINES) → ⊥
-    go (inr few) = let same : next.TooLong ≡ next.Failed = sym (within few) ∙ failed in cc
-    go (inl full) = let same : next.TooMany ≡ next.Failed = sym (over full) ∙ failed in cc
+    go (inr few) = rw (within (rw same few)) (few, (long.line, record { others = long.others; split = long.split }, long.long))
+    go (inl full) = rw (over (rw same full)) (full, (long.line, record { others = long.others; split = long.split }))

@@ -1,10 +1,2 @@
-pub mod Devices
-pub mod InputLines
-pub mod Finding
-pub mod Taking
-pub mod Refusals
-pub mod Endings
-pub mod Answering
-pub mod Talks
-pub mod Talking
-pub mod Opening
+pub mod Promise
+pub mod Inner

@@ -1,13 +1,15 @@
 //! Lines that are answered one after another.
 
-ghost use Rattle.std.specs.Prelude.{◌≡◌, ◌≢◌, ◌↔◌, ℕ, ◌<◌, ◌≤◌, ◌+◌, List, Bool, [], true, false, IfSome, Some, None};
-ghost use Rattle.std.specs.Io.KnownBytes.{prepend_known};
-ghost use Rattle.tg_talk.specs.Devices.{Sends, device_of, has_failed, owed, promised};
-ghost use Rattle.tg_talk.specs.Endings.{EndsOnce};
-ghost use Rattle.tg_talk.specs.Answering.{Answered, RestAnswered, Saying, TellsAnswer, Turned, both, carried_by, carried_in, fault_in, goes_on_in, is_wrong, one_if, saying, text_of};
+ghost use Rattle.std.specs.Prelude.{◌≡◌, ◌≢◌, ◌↔◌, ℕ, ◌<◌, ◌≤◌, ◌+◌, List, Bool, Option, [], true, false, IfSome, Some, None};
+ghost use Rattle.std.specs.Io.KnownBytes.{Keeps, prepend_known};
+ghost use Rattle.tg_talk.specs.Promise.Devices.{Sends, device_of, has_failed, owed, promised};
+ghost use Rattle.tg_talk.specs.Promise.Endings.{EndsOnce};
+ghost use Rattle.tg_talk.specs.Promise.Finding.{is_decided};
+ghost use Rattle.tg_talk.specs.Promise.Answering.{RestAnswered, Saying, TellsAnswer, both, carried_in, is_wrong, one_if, saying, shown_line};
+ghost use Rattle.tg_talk.specs.Inner.Answering.{AnswersTaken, Turned, carried_by, fault_in, goes_on_in, point};
 ghost use Rattle.tg_talk.specs.declared.fault.TalkFault.TheVariants.{OutOfMemory, Reading, Writing};
 ghost use Rattle.tg_talk.specs.declared.line_buffer.TheConstants.{MOST_LINES};
-ghost use Rattle.tg_wire.specs.Answers.{is_error as is_error_line};
+ghost use Rattle.tg_wire.specs.Promise.Answers.{is_error as is_error_line};
 
 use crate::fault::TalkFault;
 use crate::input_lines::{InputLines, Next};
@@ -84,7 +86,7 @@ pub trait Responder {
 /// The line of an answer, or `out of memory` in its place.
 #[inline(always)]
 pub fn text_of_answer(room: &mut LineRoom, answer: &Answer) -> Text
-    ensures { TellsAnswer answer.now (text_of result) (is_wrong result) }
+    ensures { TellsAnswer answer.now (shown_line result) (is_wrong result) }
 {
     match write_answer_in(room, answer) {
         Ok(line) if is_error_answer(answer) => Text::ErrorLine(line),
@@ -158,25 +160,36 @@ pub fn answer_lines<S: Responder, D: Read, W: Write + Drop>(
         room: LineRoom::new(alloc),
     };
     let mut carried = carried;
-    loop {
+    'turns: loop {
+        if !lines.may_read(writer) {
+            return lines.over(carried, Some(TalkFault::Writing));
+        }
         match lines.turn(responder, carried, reader, writer) {
             Turn::GoOn(then) => carried = then,
-            Turn::Ended(then, fault) => {
-                return Over {
-                    carried: then,
-                    finished: Finished {
-                        lines: lines.input.taken(),
-                        errors: lines.errors,
-                        fault,
-                    },
-                };
-            }
+            Turn::Ended(then, fault) => return lines.over(then, fault),
         }
     }
 }
 
 impl LinesSoFar {
-    /// Takes one line, and answers it.
+    /// Writes what is held back if more has to be read for the next line, so that nothing is read while an answer is
+    /// owed; false if the writer fails.
+    #[inline(always)]
+    fn may_read<W: Write + Drop>(&self, writer: &mut Out<W>) -> bool
+        requires { has_failed writer.old ≡ false }
+        ensures kept { Keeps (promised W.contents writer.old) (promised W.contents writer.new) }
+        ensures paid { result ≡ true → is_decided self.now.input.left ≡ false → owed writer.new ≡ [] }
+        ensures unfailed { result ≡ true → has_failed writer.new ≡ false }
+        ensures failed { result ≡ false → has_failed writer.new ≡ true }
+    {
+        if self.input.is_at_hand() {
+            true
+        } else {
+            writer.pay()
+        }
+    }
+
+    /// Takes one line, and answers it. Nothing may be owed if more has to be read for it.
     #[inline(always)]
     fn turn<S: Responder, D: Read, W: Write + Drop>(
         &mut self,
@@ -189,6 +202,7 @@ impl LinesSoFar {
         requires errors { self.old.errors ≤ self.old.input.taken }
         requires reads { has_failed reader.old ≡ false }
         requires writes { has_failed writer.old ≡ false }
+        requires paid { is_decided self.old.input.left ≡ false → owed writer.old ≡ [] }
         ensures few { goes_on_in result ≡ true → (self.new.input.taken ≡ self.old.input.taken + 1) × (self.new.input.taken ≤ MOST_LINES) }
         ensures most { self.new.input.taken ≤ self.old.input.taken + 1 }
         ensures errors { self.new.errors ≤ self.new.input.taken }
@@ -200,13 +214,12 @@ impl LinesSoFar {
         ensures memory { fault_in result ≡ Some OutOfMemory → (S.may_give_up ≡ true) × (0 < self.new.input.taken) }
         ensures paid { goes_on_in result ≡ false → has_failed writer.new ≡ false → owed writer.new ≡ [] }
         ensures turned { IfSome (prepend_known self.old.input.left (D.remaining (device_of reader.old)))
-            (Turned (both S.says) result (responder.old, carried) self.old.input.taken self.old.errors (responder.new, carried_by result) self.new.input.taken self.new.errors
-            (prepend_known self.new.input.left (D.remaining (device_of reader.new))) (promised W.contents writer.old) (promised W.contents writer.new) (has_failed writer.new)) }
+            (Turned (both S.says) result
+            (point (responder.old, carried) self.old.input.taken self.old.errors (prepend_known self.old.input.left (D.remaining (device_of reader.old))) (promised W.contents writer.old))
+            (point (responder.new, carried_by result) self.new.input.taken self.new.errors (prepend_known self.new.input.left (D.remaining (device_of reader.new))) (promised W.contents writer.new))
+            (has_failed writer.new)) }
     {
-        if !self.input.is_ready(writer) {
-            return Turn::Ended(carried, Some(TalkFault::Writing));
-        }
-        match self.input.next_paid(reader, writer) {
+        match self.input.next(reader) {
             Next::Failed => Turn::Ended(carried, Some(TalkFault::Reading)),
             Next::End => Turn::Ended(carried, None),
             Next::Line => self.answer(responder, carried, writer),
@@ -241,8 +254,9 @@ impl LinesSoFar {
         ensures writing { (has_failed writer.new ≡ true) ↔ (fault_in result ≡ Some Writing) }
         ensures memory { fault_in result ≡ Some OutOfMemory → S.may_give_up ≡ true }
         ensures paid { goes_on_in result ≡ false → has_failed writer.new ≡ false → owed writer.new ≡ [] }
-        ensures answered { Answered (both S.says) result (responder.old, carried) self.old.input.line (responder.new, carried_by result) self.old.errors self.new.errors
-            (promised W.contents writer.old) (promised W.contents writer.new) (has_failed writer.new) }
+        ensures answered { (unread : Option (List ℕ)) → AnswersTaken (both S.says) result self.old.input.line
+            (point (responder.old, carried) self.old.input.taken self.old.errors unread (promised W.contents writer.old))
+            (point (responder.new, carried_by result) self.old.input.taken self.new.errors unread (promised W.contents writer.new)) (has_failed writer.new) }
     {
         match responder.respond(carried, self.input.line(), &mut self.room) {
             Said::Answer(then, text) => match self.send(writer, text) {
@@ -267,7 +281,7 @@ impl LinesSoFar {
         ensures input { self.new.input ≡ self.old.input }
         ensures errors { self.new.errors ≡ self.old.errors + one_if (is_wrong text) }
         ensures fault { EndsOnce None (has_failed writer.new) result }
-        ensures sent { Sends (promised W.contents writer.old) (promised W.contents writer.new) (has_failed writer.new) (text_of text) }
+        ensures sent { Sends (promised W.contents writer.old) (promised W.contents writer.new) (has_failed writer.new) (shown_line text) }
     {
         if text.is_error() {
             self.errors += 1;
@@ -305,7 +319,7 @@ impl LinesSoFar {
         ensures errors { self.new.errors ≡ self.old.errors + one_if (is_wrong text) }
         ensures fault { EndsOnce None (has_failed writer.new) result }
         ensures paid { has_failed writer.new ≡ false → owed writer.new ≡ [] }
-        ensures sent { Sends (promised W.contents writer.old) (promised W.contents writer.new) (has_failed writer.new) (text_of text) }
+        ensures sent { Sends (promised W.contents writer.old) (promised W.contents writer.new) (has_failed writer.new) (shown_line text) }
     {
         match self.send(writer, text) {
             None => pay_last(writer, None),
@@ -330,5 +344,19 @@ impl LinesSoFar {
     {
         self.errors += 1;
         send_last_line(writer, text, Some(fault))
+    }
+
+    /// What the lines came to.
+    fn over<C>(&self, carried: C, fault: Option<TalkFault>) -> Over<C>
+        ensures { result ≡ record { carried = carried; finished = record { lines = self.now.input.taken; errors = self.now.errors; fault = fault } } }
+    {
+        Over {
+            carried,
+            finished: Finished {
+                lines: self.input.taken(),
+                errors: self.errors,
+                fault,
+            },
+        }
     }
 }

@@ -1,12 +1,13 @@
 //! The lines of an input, taken one after another.
 
 ghost use Rattle.std.specs.Prelude.{◌≡◌, ◌<◌};
+ghost use Rattle.tg_talk.specs.Promise.Taking.{count_of};
 ghost use Rattle.tg_talk.specs.declared.line_buffer.TheConstants.{MOST_LINES};
 
 use crate::line_buffer::{Found, LineBuffer, MOST_LINES};
 use crate::watched::Watched;
 use std::alloc::{AllocError, Global};
-use std::io::{BufWriter, Read, Write};
+use std::io::Read;
 use std::marker::Model;
 
 /// The lines of an input: how many were taken, the last of them, and the bytes that were read and not yet taken.
@@ -36,7 +37,7 @@ pub enum Next {
 
 impl Model for InputLines {
     ghost use Rattle.std.specs.Prelude.{◌≤◌, length, take, drop};
-    ghost use Rattle.tg_talk.specs.Taking.{Input};
+    ghost use Rattle.tg_talk.specs.Promise.Taking.{Input};
 
     ghost Value = { Input };
 
@@ -47,12 +48,12 @@ impl Model for InputLines {
 
 impl InputLines {
     ghost use Rattle.std.specs.Prelude.{◌≡◌, ◌⊎◌, ◌+◌, ◌<◌, ◌≤◌, ◌↔◌, length, [], IfOk, IfSome, true, false};
-    ghost use Rattle.std.specs.Io.KnownBytes.{Keeps, prepend_known};
+    ghost use Rattle.std.specs.Io.KnownBytes.{prepend_known};
     ghost use Rattle.tg_talk.specs.declared.line_buffer.TheConstants.{MOST_LINES};
     ghost use Rattle.tg_wire.specs.declared.line.TheConstants.{LONGEST_LINE};
-    ghost use Rattle.tg_talk.specs.Devices.{device_of, has_failed, owed, promised};
-    ghost use Rattle.tg_talk.specs.Finding.{is_decided};
-    ghost use Rattle.tg_talk.specs.Taking.{Takes, count_of};
+    ghost use Rattle.tg_talk.specs.Promise.Devices.{device_of, has_failed};
+    ghost use Rattle.tg_talk.specs.Promise.Finding.{is_decided};
+    ghost use Rattle.tg_talk.specs.Promise.Taking.{Takes, count_of};
 
     /// No line taken, nothing read. The memory for all lines, 32,768 bytes, is allocated here and never again;
     /// `AllocError` if that fails.
@@ -88,45 +89,6 @@ impl InputLines {
         ensures { result ≡ is_decided self.now.left }
     {
         self.buffer.is_decided_after(self.whole)
-    }
-
-    /// Writes what is held back if more has to be read for the next line; false if the writer fails.
-    #[inline(always)]
-    pub fn is_ready<W: Write + Drop>(&self, writer: &mut Watched<BufWriter<W>>) -> bool
-        requires { has_failed writer.old ≡ false }
-        ensures kept { Keeps (promised W.contents writer.old) (promised W.contents writer.new) }
-        ensures unfailed { result ≡ true → has_failed writer.new ≡ false }
-        ensures paid { result ≡ true → is_decided self.now.left ≡ false → owed writer.new ≡ [] }
-        ensures failed { result ≡ false → has_failed writer.new ≡ true }
-    {
-        if self.is_at_hand() {
-            true
-        } else {
-            writer.pay()
-        }
-    }
-
-    /// Takes the next line. The writer of the answers is named for the contract alone, and is not touched: if more has
-    /// to be read for the line, it must hold nothing back.
-    #[inline(always)]
-    pub fn next_paid<R: Read, W: Write + Drop>(
-        &mut self,
-        reader: &mut Watched<R>,
-        _writer: &Watched<BufWriter<W>>,
-    ) -> Next
-        requires few { self.old.taken ≤ MOST_LINES }
-        requires reads { has_failed reader.old ≡ false }
-        requires paid { is_decided self.old.left ≡ false → owed _writer.now ≡ [] }
-        ensures count { self.new.taken ≡ self.old.taken + count_of result }
-        ensures few { result ≡ Next.Line → self.new.taken ≤ MOST_LINES }
-        ensures over { result ≡ Next.TooMany → self.old.taken ≡ MOST_LINES }
-        ensures short { length self.new.line ≤ LONGEST_LINE }
-        ensures failed { (has_failed reader.new ≡ true) ↔ (result ≡ Next.Failed) }
-        ensures paid { (result ≡ Next.End) ⊎ (result ≡ Next.Failed) → owed _writer.now ≡ [] }
-        ensures takes { IfSome (prepend_known self.old.left (R.remaining (device_of reader.old)))
-            (Takes result self.old.taken self.new.line (prepend_known self.new.left (R.remaining (device_of reader.new)))) }
-    {
-        self.next(reader)
     }
 
     /// Takes the next line. A line that is too long is counted, and so is the one after the millionth, which is
@@ -178,6 +140,8 @@ impl InputLines {
 
 /// What a line is that comes after this many.
 fn counted(taken: u64, next: Next) -> Next
+    requires { count_of next ≡ 1 }
+    ensures one { count_of result ≡ 1 }
     ensures within { taken < MOST_LINES → result ≡ next }
     ensures over { taken ≡ MOST_LINES → result ≡ Next.TooMany }
 {

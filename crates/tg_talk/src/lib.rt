@@ -4,6 +4,7 @@
 mod answering;
 mod fault;
 mod input_lines;
+mod laws;
 mod line_buffer;
 mod newline;
 mod opening;
@@ -18,6 +19,7 @@ mod write_line;
 pub use answering::{Finished, Over, Responder, Said, Text, answer_lines, text_of_answer};
 pub use fault::TalkFault;
 pub use input_lines::{InputLines, Next};
+pub use laws::talks_have_meanings;
 pub use line_buffer::{Found, LineBuffer, MOST_LINES};
 pub use opening::open_vault;
 pub use refusal::too_many_line;

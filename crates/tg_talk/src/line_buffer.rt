@@ -4,8 +4,8 @@ ghost use Rattle.std.specs.Prelude.{◌≡◌, ℕ, ◌+◌, ◌-◌, ◌<◌, �
 ghost use Rattle.std.specs.Io.KnownBytes.{Consumes, Keeps, IsAtEnd};
 ghost use Rattle.tg_talk.specs.declared.line_buffer.TheConstants.{CAPACITY};
 ghost use Rattle.tg_wire.specs.declared.line.TheConstants.{LONGEST_LINE};
-ghost use Rattle.tg_talk.specs.Devices.{device_of, has_failed};
-ghost use Rattle.tg_talk.specs.InputLines.{EndsLines};
+ghost use Rattle.tg_talk.specs.Promise.Devices.{device_of, has_failed};
+ghost use Rattle.tg_talk.specs.Inner.InputLines.{EndsLines};
 
 use crate::newline::{last_lines_to, newline};
 use crate::watched::Watched;
@@ -67,8 +67,9 @@ impl LineBuffer {
     ghost use Rattle.std.specs.Prelude.{◌≡◌, ◌<◌, ◌≤◌, ◌↔◌, length, take, drop, [], IfOk, true, false};
     ghost use Rattle.std.specs.Io.{StartsWith};
     ghost use Rattle.std.specs.Io.KnownBytes.{Keeps, IsAtEnd, prepend_known};
-    ghost use Rattle.tg_talk.specs.Devices.{device_of, has_failed};
-    ghost use Rattle.tg_talk.specs.Finding.{FindsLine, Fills, is_decided};
+    ghost use Rattle.tg_talk.specs.Promise.Devices.{device_of, has_failed};
+    ghost use Rattle.tg_talk.specs.Promise.Finding.{FindsLine, is_decided};
+    ghost use Rattle.tg_talk.specs.Inner.Finding.{Fills};
 
     /// No bytes. The memory for all lines, 32,768 bytes, is allocated here and never again; `AllocError` if that fails.
     pub fn new(alloc: Global) -> Result<LineBuffer, AllocError>

@@ -2,7 +2,8 @@
 
 ghost use Rattle.std.specs.Prelude.{◌≡◌, ◌≤◌, length, take, drop, IfSome, IfNone, false};
 ghost use Rattle.memchr.specs.Find.{IsLastByte, is_byte};
-ghost use Rattle.tg_talk.specs.InputLines.{has_newline, IsFirstNewline, EndsLines};
+ghost use Rattle.tg_talk.specs.Promise.InputLines.{has_newline, IsFirstNewline};
+ghost use Rattle.tg_talk.specs.Inner.InputLines.{EndsLines};
 
 use memchr::{memchr, memrchr};
 

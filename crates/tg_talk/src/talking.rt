@@ -2,15 +2,15 @@
 
 ghost use Rattle.std.specs.Prelude.{◌≡◌, ◌↔◌, ◌≤◌, [], true, false, IfSome, IsNone, Some};
 ghost use Rattle.std.specs.Io.KnownBytes.{Keeps};
-ghost use Rattle.tg_talk.specs.Devices.{device_of, has_failed, owed, promised};
-ghost use Rattle.tg_talk.specs.Talks.{HasTalked};
-ghost use Rattle.tg_talk.specs.Talking.{HostSays, Leaves};
+ghost use Rattle.tg_talk.specs.Promise.Devices.{device_of, has_failed, owed, promised};
+ghost use Rattle.tg_talk.specs.Promise.Talks.{HasTalked};
+ghost use Rattle.tg_talk.specs.Inner.Talking.{HostSays, Leaves};
 ghost use Rattle.tg_talk.specs.declared.fault.TalkFault.TheVariants.{OutOfMemory, Reading, Writing};
 
 use crate::answering::{Over, Responder, Said, answer_lines};
 use crate::fault::TalkFault;
 use crate::input_lines::InputLines;
-use crate::telling::{Greeted, Heard, hear_session, hear_stranger};
+use crate::telling::{hear_session, hear_stranger};
 use crate::watched::Watched;
 use std::alloc::Global;
 use std::io::{BufWriter, Read, Write};
@@ -111,23 +111,13 @@ impl<'a, 's, L: Ledger, R: Wait + Clock, G: Gate> Responder for Host<'a, 's, L, 
         room: &mut LineRoom,
     ) -> Said<Option<Session<'s, L>>> {
         match carried {
-            None => {
-                let Greeted { session, text } = hear_stranger(
-                    self.rt,
-                    self.alloc,
-                    self.shared,
-                    self.seat,
-                    line,
-                    room,
-                );
-                Said::Answer(session, text)
-            }
+            None => hear_stranger(self.rt, self.alloc, self.shared, self.seat, line, room),
             Some(session) => {
                 let mut session = session;
                 match hear_session(self.rt, self.alloc, &mut session, self.gate, line, room) {
-                    Heard::Answer(text) => Said::Answer(Some(session), text),
-                    Heard::Bye(text) => Said::Last(Some(session), text),
-                    Heard::Nothing => Said::Nothing(Some(session)),
+                    Said::Answer(_, text) => Said::Answer(Some(session), text),
+                    Said::Last(_, text) => Said::Last(Some(session), text),
+                    Said::Nothing(_) => Said::Nothing(Some(session)),
                 }
             }
         }

@@ -3,7 +3,7 @@
 ghost use Rattle.std.specs.Prelude.{◌≡◌, ◌||◌, [], false, true, is_err};
 ghost use Rattle.std.specs.Io.{ReadsAtMost, WritesAtMost};
 ghost use Rattle.std.specs.Io.KnownBytes.{ReadConsumes, WriteAppends, Keeps};
-ghost use Rattle.tg_talk.specs.Devices.{device_of, has_failed, owed, promised, took_none};
+ghost use Rattle.tg_talk.specs.Promise.Devices.{device_of, has_failed, owed, promised, took_none};
 
 use std::io;
 use std::io::{BufWriter, Read, Write};

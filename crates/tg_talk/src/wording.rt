@@ -1,6 +1,6 @@
 //! What a text says.
 ghost use Rattle.std.specs.Prelude.{◌≡◌};
-ghost use Rattle.tg_talk.specs.Answering.{is_wrong, text_of};
+ghost use Rattle.tg_talk.specs.Promise.Answering.{is_wrong, shown_line};
 
 use crate::answering::Text;
 use crate::refusal::not_for_a_session_line;
@@ -9,7 +9,7 @@ use tg_wire::error_line;
 impl Text {
     /// The line.
     pub fn bytes(&self) -> &[u8]
-        ensures { result.now ≡ text_of self.now }
+        ensures { result.now ≡ shown_line self.now }
     {
         match self {
             Text::Line(line) => line.as_slice(),

@@ -2,8 +2,8 @@
 
 ghost use Rattle.std.specs.Prelude.{◌≡◌, ◌<◌, ◌≤◌, [], length, take, true, false, IfOk};
 ghost use Rattle.std.specs.Io.KnownBytes.{Appends, Keeps};
-ghost use Rattle.tg_talk.specs.Devices.{device_of, has_failed, owed, promised, Sends};
-ghost use Rattle.tg_talk.specs.Endings.{EndsOnce};
+ghost use Rattle.tg_talk.specs.Promise.Devices.{device_of, has_failed, owed, promised, Sends};
+ghost use Rattle.tg_talk.specs.Promise.Endings.{EndsOnce};
 
 use crate::fault::TalkFault;
 use crate::watched::Watched;

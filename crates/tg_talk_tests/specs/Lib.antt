@@ -1,1 +1,1 @@
-pub mod Fresh
+pub mod Inner

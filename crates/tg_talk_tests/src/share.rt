@@ -1,6 +1,6 @@
 //! What no clause says: that sessions are given and their commands entered, that the lock is free where it is said to
 //! be, and the results of cases that were worked by hand.
-ghost use Rattle.tg_talk_tests.specs.Fresh.{IsFresh};
+ghost use Rattle.tg_talk_tests.specs.Inner.Fresh.{IsBlank};
 
 mod agents;
 mod growths;
@@ -37,7 +37,7 @@ fn play_alone<L: Ledger, R: Wait + Clock>(
     blank: Blank,
     vault: Vault,
 ) -> Option<(u64, bool)>
-    requires { IsFresh L.name L.parts blank vault.history }
+    requires { IsBlank L.name L.parts blank vault.history }
 {
     let shared = Shared::<L>::new(alloc, blank, vault);
     let alice = play(rt, alloc, &shared, 0, "alice", ALONE, &Open);
@@ -62,7 +62,7 @@ fn free_of<L: Ledger, R: Wait + Clock>(
     blank: Blank,
     vault: Vault,
 ) -> (u64, u64)
-    requires { IsFresh L.name L.parts blank vault.history }
+    requires { IsBlank L.name L.parts blank vault.history }
 {
     let shared = Shared::<L>::new(alloc, blank, vault);
     let room = shared.room(rt);
@@ -89,7 +89,7 @@ fn collect_after<L: Ledger, R: Wait + Clock>(
     blank: Blank,
     vault: Vault,
 ) -> (Worked, Option<u64>)
-    requires { IsFresh L.name L.parts blank vault.history }
+    requires { IsBlank L.name L.parts blank vault.history }
 {
     let shared = Shared::<L>::new(alloc, blank, vault);
     let alice = play(rt, alloc, &shared, 0, "alice", &[CREATED, REMOVED], &Open);
@@ -241,7 +241,7 @@ fn is_as_counted<L: Ledger, R: Wait + Clock>(
     vault: Vault,
     tour: &Tour,
 ) -> bool
-    requires { IsFresh L.name L.parts blank vault.history }
+    requires { IsBlank L.name L.parts blank vault.history }
 {
     let shared = Shared::<L>::new(alloc, blank, vault);
     let (asked, collected) = (Tally::new(), Tally::new());
@@ -313,7 +313,7 @@ fn close_two<L: Ledger, R: Wait + Clock>(
     vault: Vault,
     order: HandedIn,
 ) -> Option<(Option<(u64, u64)>, bool)>
-    requires { IsFresh L.name L.parts blank vault.history }
+    requires { IsBlank L.name L.parts blank vault.history }
 {
     let shared = Shared::<L>::new(alloc, blank, vault);
     match play_two(rt, alloc, &shared) {
@@ -376,7 +376,7 @@ fn come_and_go<L: Ledger, R: Wait + Clock>(
     blank: Blank,
     vault: Vault,
 ) -> (Option<SeatFault>, Option<u64>)
-    requires { IsFresh L.name L.parts blank vault.history }
+    requires { IsBlank L.name L.parts blank vault.history }
 {
     let shared = Shared::<L>::new(alloc, blank, vault);
     let alice = play(rt, alloc, &shared, 0, "alice", ENROLLED, &Open);
@@ -401,7 +401,7 @@ fn faults<L: Ledger, R: Wait>(
     blank: Blank,
     vault: Vault,
 ) -> Option<[Option<SeatFault>; 5]>
-    requires { IsFresh L.name L.parts blank vault.history }
+    requires { IsBlank L.name L.parts blank vault.history }
 {
     let shared = Shared::<L>::new(alloc, blank, vault);
     let Ok(alice) = shared.session(rt, alloc, 0, "alice") else {

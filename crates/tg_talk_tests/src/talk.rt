@@ -1,7 +1,7 @@
 //! Talks over memory: the answers, how the logs settle, and a reader and a writer that fail at each of their calls.
 ghost use Rattle.std.specs.Prelude.{◌≡◌, [], IfOk, IfSome, false};
-ghost use Rattle.tg_talk.specs.Devices.{has_failed, owed};
-ghost use Rattle.tg_talk_tests.specs.Fresh.{IsFresh};
+ghost use Rattle.tg_talk.specs.Promise.Devices.{has_failed, owed};
+ghost use Rattle.tg_talk_tests.specs.Inner.Fresh.{IsBlank};
 
 mod gates;
 mod growths;
@@ -65,7 +65,7 @@ pub fn talk_alone<L: Ledger, D: Read, W: Write + Drop, R: Wait + Clock>(
     blank: Blank,
     vault: Vault,
 ) -> Came
-    requires fresh { IsFresh L.name L.parts blank vault.history }
+    requires fresh { IsBlank L.name L.parts blank vault.history }
     requires reads { has_failed reader.old ≡ false }
     requires writes { has_failed writer.old ≡ false }
     requires paid { owed writer.old ≡ [] }

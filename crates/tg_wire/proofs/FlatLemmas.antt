@@ -20,9 +20,9 @@ use Rattle.serde_json.specs.Data.{Data, object, Members, no_members, member, put
 use Rattle.serde_json.specs.Read.{read, of_json, of_members}
 use Rattle.serde_json.specs.Find.{get, get_member, as_array}
 use Rattle.serde_json.proofs.Views.{get_member-put, get_member-put_other}
-use Rattle.tg_wire.specs.Flat.{Spells, AreSpelled, member_lexemes, key_tokens, plain_data, put_all, flat_data, ReadsMembers, TakesObject}
-use Rattle.tg_wire.specs.Reading.{is_among, member_keys, knows_all}
-use Rattle.tg_wire.specs.Keys.{key_text, key_texts, is_listed_in_either}
+use Rattle.tg_wire.specs.Inner.Flat.{Spells, AreSpelled, member_lexemes, key_tokens, plain_data, put_all, flat_data, ReadsMembers, TakesObject}
+use Rattle.tg_wire.specs.Promise.Reading.{is_among, member_keys, knows_all}
+use Rattle.tg_wire.specs.Inner.Keys.{key_text, key_texts, is_listed_in_either}
 use Rattle.tg_wire.proofs.KeysLemmas.{among_either}
 use Rattle.tg_wire.specs.declared.key.Key.{Key}
 use Rattle.tg_wire.specs.declared.flat.Plain.{Plain}

@@ -7,9 +7,9 @@ use Rattle.serde_json.specs.Data.{Data, Members, null, boolean, number, string, 
 use Rattle.serde_json.specs.Find.{get, as_object}
 use Rattle.serde_json.specs.View.{members_view}
 use Rattle.serde_json.specs.declared.value.Value.{Value}
-use Rattle.tg_wire.specs.Keys.{key_text, key_texts, is_listed, is_listed_in_either}
+use Rattle.tg_wire.specs.Inner.Keys.{key_text, key_texts, is_listed, is_listed_in_either}
 use Rattle.tg_wire.specs.declared.key.Key.{Key}
-use Rattle.tg_wire.specs.Reading.{has_all, is_among, member_keys, knows_all}
+use Rattle.tg_wire.specs.Promise.Reading.{has_all, is_among, member_keys, knows_all}
 
 pub has_all_texts : (d : Data) (keys : List Key) → has_all (key_texts keys) d ≡ list_all (λ key. is_some (get (key_text key) d)) keys
 has_all_texts d [] = refl

@@ -11,6 +11,7 @@ pub mod ObjectLineLemmas
 pub mod FieldsLemmas
 pub mod LineTextLemmas
 pub mod RepliesLemmas
+mod WorkedAnswersLemmas
 pub mod WorkedLinesLemmas
 pub mod LawsLemmas
 mod StepLinesLemmas

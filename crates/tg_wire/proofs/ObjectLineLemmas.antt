@@ -7,8 +7,8 @@ use Rattle.json.specs.Tree.{json_tokens, members_tokens}
 use Rattle.serde_json.specs.Data.{Data, Members, object}
 use Rattle.serde_json.specs.Written.{outline, members_outline, compact_text}
 use Rattle.serde_json.proofs.Texts.{print-outline}
-use Rattle.tg_wire.specs.Faults.{line_text}
-use Rattle.tg_wire.specs.Told.{led_text}
+use Rattle.tg_wire.specs.Promise.Faults.{line_text}
+use Rattle.tg_wire.specs.Inner.Told.{led_text}
 
 pub printed_line : (ms : Members) (ts : List Token) → ts ≡ begin_object ∷ members_tokens (members_outline ms) → print ts ++ 10 ∷ [] ≡ line_text (object ms)
 printed_line ms ts is = ap (λ s. s ++ 10 ∷ []) (ap print is ∙ print-outline (object ms))

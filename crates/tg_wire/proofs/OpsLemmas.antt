@@ -7,9 +7,9 @@ use Rattle.tg_rights.specs.declared.command.Command.{Command}
 use Rattle.tg_rights.specs.declared.command.Rule.{Rule}
 use Rattle.tg_rights.specs.declared.command.Rule.TheVariants as rule
 use Rattle.tg_vault.specs.declared.event.Event.TheVariants as event
-use Rattle.tg_wire.specs.Fields.{seat_in}
-use Rattle.tg_wire.specs.Ops.{command_form, op_form, step_rules, roll_rules, acting_rules, every_rule, rule_among}
-use Rattle.tg_wire.specs.Reading.{has_all}
+use Rattle.tg_wire.specs.Promise.Fields.{seat_in}
+use Rattle.tg_wire.specs.Promise.Ops.{command_form, op_form, step_rules, roll_rules, acting_rules, every_rule, rule_among}
+use Rattle.tg_wire.specs.Promise.Reading.{has_all}
 use Rattle.tg_wire.specs.declared.line.Line.{Line}
 use Rattle.tg_wire.specs.declared.line.Line.TheVariants.{Act}
 use Rattle.tg_wire.specs.declared.op.Op.{Op}

@@ -6,7 +6,7 @@ use Rattle.std.specs.List.{prefix_len}
 use Rattle.json.specs.Token.{string}
 use Rattle.json.specs.Run.{is_plain}
 use Rattle.json.specs.Lex.{token, between, lex}
-use Rattle.tg_wire.specs.Keys.{key_text}
+use Rattle.tg_wire.specs.Inner.Keys.{key_text}
 use Rattle.tg_wire.specs.declared.key.Key.{Key}
 use Rattle.tg_wire.specs.declared.key.Key.TheVariants as key
 use Rattle.tg_wire.proofs.LexemesLemmas.{EndsAt, text_at}

@@ -12,18 +12,18 @@ use Rattle.serde_json.specs.Data.{Data, null, boolean, string, number, unsigned,
 use Rattle.serde_json.specs.Find.{as_object}
 use Rattle.serde_json.specs.Read.{read}
 use Rattle.serde_json.specs.Written.{comma_if, compact_text, members_outline, members_text}
-use Rattle.tg_rights.specs.Letters.{Letters}
-use Rattle.tg_rights.specs.Written.{rights_text}
+use Rattle.tg_rights.specs.Promise.Letters.{Letters}
+use Rattle.tg_rights.specs.Promise.Written.{rights_text}
 use Rattle.tg_rights.proofs.WrittenLemmas.{rights_of-text}
 use Rattle.tg_rights.specs.declared.kind.Kind.TheVariants as kind
 use Rattle.tg_rights.specs.declared.command.Command.{Command}
 use Rattle.tg_rights.specs.declared.command.Command.TheVariants as command
 use Rattle.tg_graph.specs.declared.derivation.Goal.{Goal}
 use Rattle.tg_graph.specs.declared.derivation.Step.{Step}
-use Rattle.tg_wire.specs.Reading.{◌>>=◌, fields_of, guard, json_object, object_of, or_else}
-use Rattle.tg_wire.specs.Configs.{goal_in}
-use Rattle.tg_wire.specs.Lines.{goal_of, step_in, step_of}
-use Rattle.tg_wire.specs.StepLines.{Rewrites, goal_data, goal_members, goal_text, step_members, step_text}
+use Rattle.tg_wire.specs.Promise.Reading.{◌>>=◌, fields_of, guard, json_object, object_of, or_else}
+use Rattle.tg_wire.specs.Promise.Configs.{goal_in}
+use Rattle.tg_wire.specs.Promise.Lines.{goal_of, step_in, step_of}
+use Rattle.tg_wire.specs.Promise.StepLines.{Rewrites, goal_data, goal_members, goal_text, step_members, step_text}
 use Rattle.tg_wire.specs.declared.fault.WireFault.{WireFault}
 use Rattle.tg_wire.specs.declared.fault.WireFault.TheVariants as fault
 use Rattle.tg_wire.proofs.LineTextLemmas.{IsPlain, MembersArePlain, put_onto, read_compact}

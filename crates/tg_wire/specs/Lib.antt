@@ -1,15 +1,2 @@
-pub mod Keys
-pub mod Fields
-pub mod Ops
-pub mod Configs
-pub mod Reading
-pub mod Flat
-pub mod Lines
-pub mod Laws
-pub mod Faults
-pub mod Replies
-pub mod Runs
-pub mod Told
-pub mod Answers
-pub mod StepLines
-pub mod Unshared
+pub mod Promise
+pub mod Inner

@@ -3,12 +3,12 @@
 ghost use Rattle.tg_wire.specs.declared.line.TheConstants.{LONGEST_LINE};
 ghost use Rattle.std.specs.Prelude.{◌≡◌, ◌≤◌, Err, length, option_map};
 ghost use Rattle.serde_json.specs.View.{view, items_view};
-ghost use Rattle.tg_wire.specs.Fields as fields;
-ghost use Rattle.tg_wire.specs.Flat.{data_of};
-ghost use Rattle.tg_wire.specs.Keys.{key_text};
-ghost use Rattle.tg_wire.specs.Configs.{goal_in, opening_in, opening_of};
-ghost use Rattle.tg_wire.specs.Lines.{goal_of, config_of};
-ghost use Rattle.tg_wire.specs.Reading.{Answers, AnswersBy, or_else};
+ghost use Rattle.tg_wire.specs.Promise.Fields as fields;
+ghost use Rattle.tg_wire.specs.Inner.Flat.{data_of};
+ghost use Rattle.tg_wire.specs.Inner.Keys.{key_text};
+ghost use Rattle.tg_wire.specs.Promise.Configs.{goal_in, opening_in, opening_of};
+ghost use Rattle.tg_wire.specs.Promise.Lines.{goal_of, config_of};
+ghost use Rattle.tg_wire.specs.Promise.Reading.{Answers, AnswersBy, or_else};
 ghost use Rattle.tg_wire.specs.declared.fault.WireFault.TheVariants.{BadField, OutOfMemory};
 
 use crate::fault::WireFault;
@@ -22,7 +22,7 @@ use tg_rights::{Rights, Word};
 
 /// The value of a configuration line, or its first fault. If a field is absent, `edges` are none, `next` is the number
 /// of principals plus 1, `slots` are 1,024 and `cells` 16,384. The fault is never `NoOp`.
-#[tactic(auto, unfolding(crate::specs::Lines::config_of))]
+#[tactic(auto, unfolding(crate::specs::Promise::Lines::config_of))]
 pub fn read_config(alloc: Global, bytes: &[u8]) -> Result<Config, WireFault>
     ensures answered { AnswersBy opening_of result (config_of bytes.now) }
     ensures short { result ≡ Err OutOfMemory → length bytes.now ≤ LONGEST_LINE }
@@ -39,7 +39,7 @@ pub fn read_config(alloc: Global, bytes: &[u8]) -> Result<Config, WireFault>
 }
 
 /// The value of a goal line, or its first fault. The fault is never `NoOp`.
-#[tactic(auto, unfolding(crate::specs::Lines::goal_of))]
+#[tactic(auto, unfolding(crate::specs::Promise::Lines::goal_of))]
 pub fn read_goal(alloc: Global, bytes: &[u8]) -> Result<Goal, WireFault>
     ensures answered { Answers result (goal_of bytes.now) }
     ensures short { result ≡ Err OutOfMemory → length bytes.now ≤ LONGEST_LINE }
@@ -108,7 +108,7 @@ fn edges(alloc: Global, object: &LineObject<'_>) -> Result<Vec<(u64, Rights, u64
 }
 
 fn edges_of(alloc: Global, list: &Vec<Value>) -> Result<Vec<(u64, Rights, u64)>, WireFault>
-    ensures { AnswersBy (λ v. v.items) result (or_else BadField (fields.edges_of (items_view list.now.items))) }
+    ensures { AnswersBy (λ v. v.items) result (or_else BadField (fields.read_edges (items_view list.now.items))) }
 {
     let mut found = Vec::new(alloc);
     for value in list {

@@ -5,8 +5,8 @@ ghost use Rattle.json.specs.Token.{begin_object};
 ghost use Rattle.json.specs.Reads.{token_of};
 ghost use Rattle.serde_json.specs.Data.{unsigned};
 ghost use Rattle.serde_json.specs.Read.{number_of};
-ghost use Rattle.tg_wire.specs.Flat.{Spells, TakesMembers, TakesObject, flat_data};
-ghost use Rattle.tg_wire.specs.Reading.{json_of};
+ghost use Rattle.tg_wire.specs.Inner.Flat.{Spells, TakesMembers, TakesObject, flat_data};
+ghost use Rattle.tg_wire.specs.Promise.Reading.{json_of};
 
 use crate::flat::{Member, Members, Plain};
 use crate::key::Key;

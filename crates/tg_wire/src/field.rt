@@ -3,10 +3,10 @@
 ghost use Rattle.std.specs.Prelude.{◌≡◌, is_some, option_map, option_and_then};
 ghost use Rattle.serde_json.specs.Find.{as_array, get};
 ghost use Rattle.serde_json.specs.View.{view, items_view};
-ghost use Rattle.tg_wire.specs.Fields as fields;
-ghost use Rattle.tg_wire.specs.Flat.{data_of};
-ghost use Rattle.tg_wire.specs.Keys.{key_text};
-ghost use Rattle.tg_wire.specs.Reading.{AnswersField};
+ghost use Rattle.tg_wire.specs.Promise.Fields as fields;
+ghost use Rattle.tg_wire.specs.Inner.Flat.{data_of};
+ghost use Rattle.tg_wire.specs.Inner.Keys.{key_text};
+ghost use Rattle.tg_wire.specs.Inner.Reading.{AnswersField};
 
 use crate::fault::WireFault;
 use crate::key::Key;
@@ -120,7 +120,7 @@ pub(crate) fn word(alloc: Global, object: &LineObject<'_>, key: Key) -> Result<W
 
 /// The text of at most 4,096 bytes. A longer one is refused before memory is asked for.
 pub(crate) fn text(alloc: Global, object: &LineObject<'_>) -> Result<Text, WireFault>
-    ensures { AnswersField result (fields.text_in (data_of object.now)) }
+    ensures { AnswersField result (fields.text_field (data_of object.now)) }
 {
     let text = string(object, Key::Text).ok_or(WireFault::BadField)?;
     if text.len() > MAX_TEXT {
@@ -134,7 +134,7 @@ pub(crate) fn text(alloc: Global, object: &LineObject<'_>) -> Result<Text, WireF
 
 /// The name of a principal. A text that is none is refused before memory is asked for.
 pub(crate) fn name(alloc: Global, object: &LineObject<'_>) -> Result<Name, WireFault>
-    ensures { AnswersField result (fields.name_in (data_of object.now)) }
+    ensures { AnswersField result (fields.name_field (data_of object.now)) }
 {
     let text = string(object, Key::Name).ok_or(WireFault::BadField)?;
     if !is_name(text) {

@@ -8,10 +8,10 @@ ghost use Rattle.json.specs.Token.{Token, string};
 ghost use Rattle.json.specs.Lex.{token, colon, between, lex};
 ghost use Rattle.serde_json.specs.Read.{read};
 ghost use Rattle.serde_json.specs.Find.{get};
-ghost use Rattle.tg_wire.specs.Fields as fields;
-ghost use Rattle.tg_wire.specs.Flat.{Spells, ReadsMembers, plain_data, flat_data};
-ghost use Rattle.tg_wire.specs.Reading.{json_of, knows_all as knows_all_of};
-ghost use Rattle.tg_wire.specs.Keys.{is_listed_in_either, key_text, key_texts};
+ghost use Rattle.tg_wire.specs.Promise.Fields as fields;
+ghost use Rattle.tg_wire.specs.Inner.Flat.{Spells, ReadsMembers, plain_data, flat_data};
+ghost use Rattle.tg_wire.specs.Promise.Reading.{json_of, knows_all as knows_all_of};
+ghost use Rattle.tg_wire.specs.Inner.Keys.{is_listed_in_either, key_text, key_texts};
 
 use crate::key::Key;
 use crate::scan::{byte_at, read_key, read_number, read_text, spaces_end};

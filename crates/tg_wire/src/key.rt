@@ -3,7 +3,7 @@
 ghost use Rattle.std.specs.Prelude.{◌≡◌, ◌↔◌, ◌∷◌, ◌++◌, [], IfSome, IfNone, true};
 ghost use Rattle.std.specs.Io.{StartsWith};
 ghost use Rattle.std.specs.Str.{bytes_eq};
-ghost use Rattle.tg_wire.specs.Keys.{is_listed, is_listed_in_either, key_text};
+ghost use Rattle.tg_wire.specs.Inner.Keys.{is_listed, is_listed_in_either, key_text};
 
 /// A key that some line has.
 #[derive(Clone, Copy, Debug, PartialEq, Eq)]

@@ -26,7 +26,7 @@ pub use explain::{LineKind, key_at_fault};
 pub use fault::WireFault;
 pub use laws::{
     configs_say, goals_read_back, goals_say, lines_say, one_reply_a_line, steps_read_back,
-    steps_say, worked_lines,
+    steps_say, worked_answers, worked_lines,
 };
 pub use line::{LONGEST_LINE, Line};
 pub use line_room::LineRoom;

@@ -6,9 +6,9 @@ ghost use Rattle.std.specs.List.{list_all};
 ghost use Rattle.std.specs.BTreeMap.{keys};
 ghost use Rattle.serde_json.specs.Find.{as_object, get};
 ghost use Rattle.serde_json.specs.View.{view};
-ghost use Rattle.tg_wire.specs.Flat.{data_of};
-ghost use Rattle.tg_wire.specs.Reading.{json_of, json_object, object_of, has_all as has_all_of, knows_all as knows_all_of, guard, or_else, AnswersBy};
-ghost use Rattle.tg_wire.specs.Keys.{is_listed_in_either, key_text, key_texts};
+ghost use Rattle.tg_wire.specs.Inner.Flat.{data_of};
+ghost use Rattle.tg_wire.specs.Promise.Reading.{json_of, json_object, object_of, has_all as has_all_of, knows_all as knows_all_of, guard, or_else, AnswersBy};
+ghost use Rattle.tg_wire.specs.Inner.Keys.{is_listed_in_either, key_text, key_texts};
 ghost use Rattle.tg_wire.specs.declared.fault.WireFault.TheVariants.{NotJson, NotObject, MissingField, UnknownField, TooLong, OutOfMemory};
 
 use crate::fault::WireFault;

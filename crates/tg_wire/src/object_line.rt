@@ -5,9 +5,9 @@ ghost use Rattle.json.specs.Token.{end_object};
 ghost use Rattle.json.specs.Tree.{json_tokens, members_tokens};
 ghost use Rattle.serde_json.specs.Data.{array, object};
 ghost use Rattle.serde_json.specs.Written.{outline, members_outline};
-ghost use Rattle.tg_wire.specs.Faults.{line_text};
-ghost use Rattle.tg_wire.specs.Replies.{edge_data, edges_data};
-ghost use Rattle.tg_wire.specs.Told.{led_text, told_data, told_members};
+ghost use Rattle.tg_wire.specs.Promise.Faults.{line_text};
+ghost use Rattle.tg_wire.specs.Promise.Replies.{edge_data, edges_data};
+ghost use Rattle.tg_wire.specs.Inner.Told.{led_text, told_data, told_members};
 
 use crate::line_room::LineRoom;
 use json::Writer;

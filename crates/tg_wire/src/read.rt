@@ -2,10 +2,12 @@
 
 ghost use Rattle.tg_wire.specs.declared.line.TheConstants.{LONGEST_LINE};
 ghost use Rattle.std.specs.Prelude.{◌≡◌, ◌≤◌, Err, Some, length};
-ghost use Rattle.tg_wire.specs.Flat.{data_of};
-ghost use Rattle.tg_wire.specs.Ops.{command_form, op_form};
-ghost use Rattle.tg_wire.specs.Lines.{line_extras, line_in, line_of, line_of_json, step_in, step_of, op_in, rule_in};
-ghost use Rattle.tg_wire.specs.Reading.{Answers, AnswersField, fields_of, or_else};
+ghost use Rattle.tg_wire.specs.Inner.Flat.{data_of};
+ghost use Rattle.tg_wire.specs.Promise.Ops.{command_form, op_form};
+ghost use Rattle.tg_wire.specs.Promise.Lines.{line_extras, line_in, line_of, step_in, step_of, op_in, rule_in};
+ghost use Rattle.tg_wire.specs.Inner.Lines.{line_of_json};
+ghost use Rattle.tg_wire.specs.Promise.Reading.{Answers, fields_of, or_else};
+ghost use Rattle.tg_wire.specs.Inner.Reading.{AnswersField};
 ghost use Rattle.tg_wire.specs.declared.fault.WireFault.TheVariants.{NoOp, OutOfMemory};
 
 use crate::escaped::read_escaped;
@@ -33,7 +35,7 @@ pub fn read_line(alloc: Global, bytes: &[u8]) -> Result<Line, WireFault>
 
 /// As `read_line`, in room that is kept from line to line.
 #[inline(always)]
-#[tactic(auto, unfolding(crate::specs::Lines::line_of))]
+#[tactic(auto, unfolding(crate::specs::Promise::Lines::line_of))]
 pub fn read_line_in(room: &mut LineRoom, alloc: Global, bytes: &[u8]) -> Result<Line, WireFault>
     ensures answered { Answers result (line_of bytes.now) }
     ensures short { result ≡ Err OutOfMemory → length bytes.now ≤ LONGEST_LINE }
@@ -87,7 +89,7 @@ fn only_known(line: Line, op: Op, object: &LineObject<'_>) -> Result<Line, WireF
 
 /// The value of a step line, or its first fault: one of the seven commands that a step of a derivation may be, with its
 /// actor and no seat.
-#[tactic(auto, unfolding(crate::specs::Lines::step_of))]
+#[tactic(auto, unfolding(crate::specs::Promise::Lines::step_of))]
 pub fn read_step(alloc: Global, bytes: &[u8]) -> Result<Step, WireFault>
     ensures answered { Answers result (step_of bytes.now) }
     ensures short { result ≡ Err OutOfMemory → length bytes.now ≤ LONGEST_LINE }

@@ -10,8 +10,8 @@ ghost use Rattle.json.specs.Run.{is_plain, is_stop};
 ghost use Rattle.json.specs.Lex.{token, between, lex};
 ghost use Rattle.serde_json.specs.Data.{unsigned};
 ghost use Rattle.serde_json.specs.Read.{number_of};
-ghost use Rattle.tg_wire.specs.Keys.{key_text};
-ghost use Rattle.tg_wire.specs.Runs.{EndsRun};
+ghost use Rattle.tg_wire.specs.Inner.Keys.{key_text};
+ghost use Rattle.tg_wire.specs.Inner.Runs.{EndsRun};
 
 use crate::key::Key;
 use std::simd::prelude::*;

@@ -2,8 +2,8 @@
 
 ghost use Rattle.std.specs.Prelude.{◌≡◌, IfOk};
 ghost use Rattle.serde_json.specs.Data.{object, member, no_members, string};
-ghost use Rattle.tg_wire.specs.Faults.{line_text};
-ghost use Rattle.tg_wire.specs.Unshared.{could_line, unshared_line};
+ghost use Rattle.tg_wire.specs.Promise.Faults.{line_text};
+ghost use Rattle.tg_wire.specs.Promise.Unshared.{could_line, unshared_line};
 
 use crate::line_room::LineRoom;
 use crate::object_line::{Told, object_line};
@@ -30,7 +30,7 @@ pub enum Unshared {
 /// The line of the answer, which ends with a line feed. Keys are in rising order, with no white space. In a buffer that is
 /// kept from line to line. `AllocError` if an allocation failed; the buffer is then lost, and the next line allocates
 /// another.
-#[tactic(auto, unfolding(crate::specs::Unshared::unshared_line))]
+#[tactic(auto, unfolding(crate::specs::Promise::Unshared::unshared_line))]
 pub fn write_unshared_in(room: &mut LineRoom, unshared: Unshared) -> Result<Vec<u8>, AllocError>
     ensures { IfOk result (λ line. line.items ≡ unshared_line unshared) }
 {
@@ -52,7 +52,7 @@ pub fn write_unshared_in(room: &mut LineRoom, unshared: Unshared) -> Result<Vec<
 
 /// The line of the vertices of which rights can ever be shared, each with those of the rights that are there now. In a
 /// buffer that is kept, and with the error of `write_unshared_in`.
-#[tactic(auto, unfolding(crate::specs::Unshared::could_line))]
+#[tactic(auto, unfolding(crate::specs::Promise::Unshared::could_line))]
 pub fn write_could_in(room: &mut LineRoom, could: &[(u64, Rights)]) -> Result<Vec<u8>, AllocError>
     ensures { IfOk result (λ line. line.items ≡ could_line could.now) }
 {

@@ -2,9 +2,9 @@
 
 ghost use Rattle.std.specs.Prelude.{◌≡◌, IfOk, codes};
 ghost use Rattle.serde_json.specs.Data.{object, member, no_members, string, number, unsigned};
-ghost use Rattle.tg_wire.specs.Faults.{line_text, seat_fault_text as text_of_seat_fault, ask_fault_text as text_of_ask_fault};
-ghost use Rattle.tg_wire.specs.Replies.{which_text as text_of_which, rule_text, denied_data, reply_line};
-ghost use Rattle.tg_wire.specs.Answers.{phase_text as text_of_phase, denied_step_data, noted_data, answer_line, swept_line, verdict_line};
+ghost use Rattle.tg_wire.specs.Promise.Faults.{line_text, seat_fault_text as text_of_seat_fault, ask_fault_text as text_of_ask_fault};
+ghost use Rattle.tg_wire.specs.Promise.Replies.{which_text as text_of_which, rule_text, denied_data, reply_line};
+ghost use Rattle.tg_wire.specs.Promise.Answers.{phase_text as text_of_phase, denied_step_data, noted_data, answer_line, swept_line, verdict_line};
 
 use crate::line_room::LineRoom;
 use crate::object_line::{Told, fixed_line, led_line, object_line};
@@ -26,7 +26,7 @@ pub fn write_reply(alloc: Global, reply: &Reply) -> Result<Vec<u8>, AllocError>
 /// The same, in a buffer that is kept from line to line. `AllocError` if an allocation failed; the buffer is then lost,
 /// and the next line allocates another.
 #[inline(always)]
-#[tactic(auto, unfolding(crate::specs::Replies::reply_line, crate::proofs::Literals::numbers_on_literals))]
+#[tactic(auto, unfolding(crate::specs::Promise::Replies::reply_line, crate::proofs::Literals::numbers_on_literals))]
 pub fn write_reply_in(room: &mut LineRoom, reply: &Reply) -> Result<Vec<u8>, AllocError>
     ensures { IfOk result (λ line. line.items ≡ reply_line reply.now) }
 {
@@ -60,7 +60,7 @@ pub fn write_answer(alloc: Global, answer: &Answer) -> Result<Vec<u8>, AllocErro
 
 /// The same, in a buffer that is kept, and with the error of `write_reply_in`.
 #[inline(always)]
-#[tactic(auto, unfolding(crate::specs::Answers::answer_line, crate::specs::Replies::reply_line, crate::proofs::Literals::numbers_on_literals))]
+#[tactic(auto, unfolding(crate::specs::Promise::Answers::answer_line, crate::specs::Promise::Replies::reply_line, crate::proofs::Literals::numbers_on_literals))]
 pub fn write_answer_in(room: &mut LineRoom, answer: &Answer) -> Result<Vec<u8>, AllocError>
     ensures { IfOk result (λ line. line.items ≡ answer_line answer.now) }
 {
@@ -89,7 +89,7 @@ pub fn write_swept(alloc: Global, swept: Swept) -> Result<Vec<u8>, AllocError>
 }
 
 /// The same, in a buffer that is kept, and with the error of `write_reply_in`.
-#[tactic(auto, unfolding(crate::specs::Answers::swept_line))]
+#[tactic(auto, unfolding(crate::specs::Promise::Answers::swept_line))]
 pub fn write_swept_in(room: &mut LineRoom, swept: Swept) -> Result<Vec<u8>, AllocError>
     ensures { IfOk result (λ line. line.items ≡ swept_line swept) }
 {
@@ -104,7 +104,7 @@ pub fn write_swept_in(room: &mut LineRoom, swept: Swept) -> Result<Vec<u8>, Allo
 
 /// The line of a verdict, which ends with a line feed. Keys are in rising order, with no white space. `AllocError` if
 /// an allocation failed.
-#[tactic(auto, unfolding(crate::specs::Answers::verdict_line))]
+#[tactic(auto, unfolding(crate::specs::Promise::Answers::verdict_line))]
 pub fn write_verdict(alloc: Global, verdict: &Verdict) -> Result<Vec<u8>, AllocError>
     ensures { IfOk result (λ line. line.items ≡ verdict_line verdict.now) }
 {

@@ -1,9 +1,9 @@
 //! From a step or a goal of a derivation to its line, as an auditor reads it. The keys of a line are in rising order.
 
 ghost use Rattle.std.specs.Prelude.{◌≡◌, ◌<◌, ◌^◌, IfOk, Ok, Some};
-ghost use Rattle.tg_graph.specs.Rewriting.{rewriting};
-ghost use Rattle.tg_wire.specs.Lines.{goal_of, step_of};
-ghost use Rattle.tg_wire.specs.StepLines.{Rewrites, goal_line, goal_text, kind_text as text_of_kind, step_line, step_text};
+ghost use Rattle.tg_graph.specs.Promise.Rewriting.{rewriting};
+ghost use Rattle.tg_wire.specs.Promise.Lines.{goal_of, step_of};
+ghost use Rattle.tg_wire.specs.Promise.StepLines.{Rewrites, goal_line, goal_text, kind_text as text_of_kind, step_line, step_text};
 
 use crate::laws::{goals_read_back, steps_read_back};
 use crate::line_room::LineRoom;
@@ -16,7 +16,7 @@ use tg_rights::{Command, Kind};
 /// with no white space. One of take, grant, create and remove is read back by `read_step`. In a buffer that is kept
 /// from line to line. `AllocError` if an allocation failed; the buffer is then lost, and the next line allocates
 /// another.
-#[tactic(auto, unfolding(crate::specs::StepLines::step_line))]
+#[tactic(auto, unfolding(crate::specs::Promise::StepLines::step_line))]
 pub fn write_step_in(room: &mut LineRoom, step: &Step) -> Result<Vec<u8>, AllocError>
     ensures { IfOk result (λ line. line.items ≡ step_line step.now) }
 {
@@ -109,7 +109,7 @@ pub fn write_step_in(room: &mut LineRoom, step: &Step) -> Result<Vec<u8>, AllocE
 
 /// The line of a goal, which ends with a line feed, its keys in rising order, with no white space. It is read back by
 /// `read_goal`. In a buffer that is kept, and with the error of `write_step_in`.
-#[tactic(auto, unfolding(crate::specs::StepLines::goal_line))]
+#[tactic(auto, unfolding(crate::specs::Promise::StepLines::goal_line))]
 pub fn write_goal_in(room: &mut LineRoom, goal: &Goal) -> Result<Vec<u8>, AllocError>
     ensures { IfOk result (λ line. line.items ≡ goal_line goal.now) }
 {

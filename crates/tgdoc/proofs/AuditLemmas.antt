@@ -3,26 +3,26 @@ use Rattle.std.proofs.Common.{◌≡◌, ℕ, suc, ◌+◌, ◌<◌, ◌≤◌, 
 use Rattle.tg_graph.specs.declared.derivation.Goal.{Goal}
 use Rattle.tg_graph.specs.declared.derivation.Step.{Step}
 use Rattle.tg_graph.specs.declared.derivation.Verdict.{Verdict}
-use Rattle.tg_graph.specs.Protection.{Protection}
-use Rattle.tg_audit.specs.Verdicts.{IsVerdict}
-use Rattle.tg_wire.specs.Lines.{goal_of, step_of}
-use Rattle.tg_wire.specs.Reading as reading
-use Rattle.tg_wire.specs.Faults.{fault_line}
+use Rattle.tg_graph.specs.Promise.Protection.{Protection}
+use Rattle.tg_audit.specs.Promise.Verdicts.{IsVerdict}
+use Rattle.tg_wire.specs.Promise.Lines.{goal_of, step_of}
+use Rattle.tg_wire.specs.Promise.Reading as reading
+use Rattle.tg_wire.specs.Promise.Faults.{fault_line}
 use Rattle.tg_wire.specs.declared.fault.WireFault.{WireFault}
 use Rattle.tg_wire.specs.declared.fault.WireFault.TheVariants as wire
 use Rattle.tg_wire.specs.declared.line.TheConstants.{LONGEST_LINE}
-use Rattle.tg_talk.specs.Devices.{Sends}
-use Rattle.tg_talk.specs.InputLines.{lines_of}
-use Rattle.tg_talk.specs.Refusals.{too_many_line}
-use Rattle.tg_talk.specs.Taking.{HasLine, TakesLine}
+use Rattle.tg_talk.specs.Promise.Devices.{Sends}
+use Rattle.tg_talk.specs.Promise.InputLines.{lines_of}
+use Rattle.tg_talk.specs.Promise.Refusals.{too_many_line}
+use Rattle.tg_talk.specs.Promise.Taking.{HasLine, TakesLine}
 use Rattle.tg_talk.specs.declared.fault.TalkFault.TheVariants as talk
 use Rattle.tg_talk.specs.declared.line_buffer.TheConstants.{MOST_LINES}
 use Rattle.tg_talk.proofs.TakingLemmas.{weaker}
-use Rattle.tg_talk.specs.Endings.{EndsOnce}
-use Rattle.tg_talk.specs.Opening.{RefusesOpening}
-use Rattle.tgdoc.specs.Audits.{AuditRead, BytesAudited, End, EndsAt, EndsInSteps, IsRead, Misreads, OpensGraph, SaysGoal, SaysStep, StepsRead, at_configuration, at_goal, end_errors, ended, here, in_steps, judged, later, misread, no_line, none, not_read, refused, step, stopped, too_long, too_many, unjudged, verdict_errors}
-use Rattle.tgdoc.specs.Auditing.{Advances, EndsBytes, EndsEarlyBytes, EndsStepBytes, Judges, NoRefusal, RefusesBy, TakesSteps, TakesWanted, TellsVerdict, end_after}
-use Rattle.tg_talk.specs.Answering.{one_if}
+use Rattle.tg_talk.specs.Promise.Endings.{EndsOnce}
+use Rattle.tg_talk.specs.Promise.Opening.{RefusesOpening}
+use Rattle.tgdoc.specs.Promise.Audits.{AuditRead, BytesAudited, End, EndsAt, EndsInSteps, IsRead, Misreads, OpensGraph, SaysGoal, SaysStep, StepsRead, at_configuration, at_goal, end_errors, ended, here, in_steps, judged, later, misread, no_line, none, not_read, refused, step, stopped, too_long, too_many, unjudged, verdict_errors}
+use Rattle.tgdoc.specs.Inner.Auditing.{Advances, EndsBytes, EndsEarlyBytes, EndsStepBytes, Judges, NoRefusal, RefusesBy, TakesSteps, TakesWanted, TellsVerdict, end_after}
+use Rattle.tg_talk.specs.Promise.Answering.{one_if}
 use Rattle.tgdoc.specs.declared.audit.Ending.{Ending}
 use Rattle.tgdoc.specs.declared.audit.Ending.TheVariants as ending
 use Rattle.tg_talk.specs.declared.answering.Finished.{Finished}

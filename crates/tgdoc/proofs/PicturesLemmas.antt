@@ -1,32 +1,32 @@
 -- The lines after the configuration, if the vault is drawn: after each of them, or after the last one.
 use Rattle.std.proofs.Common.{◌≡◌, ◌≢◌, ◌∙◌, ℕ, List, [], ◌++◌, Option, Some, Bool, true, false, true≢false, ◌⊎◌, inl, inr, refl, sym, ap, subst}
 use Rattle.std.specs.Prelude.{◌↔◌}
-use Rattle.tg_vault.specs.Contents.{Contents}
-use Rattle.tg_vault.specs.Course.{CoursesJoin}
-use Rattle.tg_talk.specs.InputLines.{lines_of}
-use Rattle.tg_talk.specs.Answering.{goes_on, closes, unanswered, RestAnswered, both}
-use Rattle.tg_talk.specs.Endings.{EndsOnce}
+use Rattle.tg_vault.specs.Promise.Contents.{Contents}
+use Rattle.tg_vault.specs.Promise.Course.{CoursesJoin}
+use Rattle.tg_talk.specs.Promise.InputLines.{lines_of}
+use Rattle.tg_talk.specs.Promise.Answering.{goes_on, closes, unanswered, RestAnswered, both}
+use Rattle.tg_talk.specs.Promise.Endings.{EndsOnce}
 use Rattle.tg_talk.specs.declared.answering.Finished.{Finished}
 use Rattle.tg_talk.specs.declared.fault.TalkFault.{TalkFault}
 use Rattle.tg_talk.specs.declared.fault.TalkFault.TheVariants as talk
 use Rattle.tg_talk.proofs.AnsweringLemmas.{Follows, followed}
 use Rattle.tg_talk.proofs.SendsLemmas.{last_whole, sends_behind}
-use Rattle.tgdoc.specs.Runs.{Steps, VaultRan}
-use Rattle.tgdoc.specs.Running.{InputLeft}
-use Rattle.tgdoc.specs.Drawing.{ArtistSays, EndsWith, rests, writes}
-use Rattle.tgdoc.specs.Drawings.{DrawSays, EachOrLast, Ending, LinesDrawn, Reached, Shown, WrittenAtEnd, at_end, cut_off, is_broken}
+use Rattle.tgdoc.specs.Promise.Runs.{AnsweredEvents, VaultRan}
+use Rattle.tgdoc.specs.Inner.Running.{InputLeft}
+use Rattle.tgdoc.specs.Inner.Drawing.{ArtistSays, EndsWith, rests, writes}
+use Rattle.tgdoc.specs.Promise.Drawings.{DrawSays, EachOrLast, Ending, LinesDrawn, RunSoFar, Shown, WrittenAtEnd, at_end, cut_off, is_broken}
 use Rattle.tgdoc.specs.declared.pictures.Artist.{Artist}
 use Rattle.tgdoc.proofs.RestLemmas.{runs_more}
 
 -- what the vault carried out since the start leads to where the run is, which is the vault of whoever answers now
-record Led (start : Contents) (each : Bool) (now : Artist × Unit {0}) (reached : Reached) : Type 0 where
+record Led (start : Contents) (each : Bool) (now : Artist × Unit {0}) (reached : RunSoFar) : Type 0 where
   pub run : VaultRan start reached.steps reached.vault
   pub vault : reached.vault ≡ now.0.vault
   pub same : now.0.each ≡ each
 
-follows : CoursesJoin → (start : Contents) (each : Bool) → Follows {S = Artist × Unit {0}} {T = Reached} (both ArtistSays) (DrawSays each) (Led start each)
+follows : CoursesJoin → (start : Contents) (each : Bool) → Follows {S = Artist × Unit {0}} {T = RunSoFar} (both ArtistSays) (DrawSays each) (Led start each)
 follows join start each s t reached line (goes_on text errors) led says =
-    let steps : Steps = says.answers.steps in
+    let steps : AnsweredEvents = says.answers.steps in
     let ran : VaultRan reached.vault steps t.0.vault = subst (λ (v : Contents). VaultRan v steps t.0.vault) (sym led.vault) says.answers.run in (
       record { steps = reached.steps ++ steps; vault = t.0.vault },
       record { run = runs_more join start reached.vault t.0.vault reached.steps steps led.run ran; vault = refl; same = says.same ∙ led.same },
@@ -42,7 +42,7 @@ follows join start each s t reached line unanswered led says = absurd says
 
 -- the lines, and where they lead
 record LinesLed (artist now : Artist) (finished : Finished) (xs before last : List ℕ) : Type 0 where
-  pub steps : Steps
+  pub steps : AnsweredEvents
   pub after : Contents
   pub run : VaultRan artist.vault steps after
   pub vault : after ≡ now.vault
@@ -51,13 +51,13 @@ record LinesLed (artist now : Artist) (finished : Finished) (xs before last : Li
 lines_led : CoursesJoin → (artist now : Artist) (u v : Unit {0}) (n : ℕ) (finished : Finished) (old new : Option (List ℕ)) (failed : Bool) (xs : List ℕ) → n ≡ 1
     → (rest : RestAnswered {S = Artist × Unit {0}} (both ArtistSays) (artist, u) n (now, v) finished old new failed xs) → LinesLed artist now finished xs rest.before rest.last
 lines_led join artist now u v n finished old new failed xs one rest =
-    let begun : Reached = record { steps = []; vault = artist.vault } in
-    let (reached, led, told) = followed {S = Artist × Unit {0}} {T = Reached} (both ArtistSays) (DrawSays artist.each) (Led artist.vault artist.each) (follows join artist.vault artist.each) (artist, u) (now, v) begun 1 0 (lines_of xs)
+    let begun : RunSoFar = record { steps = []; vault = artist.vault } in
+    let (reached, led, told) = followed {S = Artist × Unit {0}} {T = RunSoFar} (both ArtistSays) (DrawSays artist.each) (Led artist.vault artist.each) (follows join artist.vault artist.each) (artist, u) (now, v) begun 1 0 (lines_of xs)
     finished.fault finished.lines finished.errors rest.before rest.last (record { run = refl; vault = refl; same = refl }) (rw one at rest.told) in
     record { steps = reached.steps; after = reached.vault; run = led.run; vault = led.vault; told = told }
 
 module _ (stops : Option TalkFault → Bool) (Writes : Ending) where
-  module _ (start : Contents) (steps : Steps) (after : Contents) (ls : List (List ℕ)) where
+  module _ (start : Contents) (steps : AnsweredEvents) (after : Contents) (ls : List (List ℕ)) where
     told_rests : (each : Bool) (finished : Finished) (before last : List ℕ) → LinesDrawn each start steps after ls finished before last → (each ≡ true) ⊎ (stops finished.fault ≡ true)
         → EachOrLast stops Writes each start steps after ls finished before last
     told_rests true finished before last told why = told

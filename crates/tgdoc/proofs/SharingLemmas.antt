@@ -4,7 +4,7 @@ use Rattle.std.specs.Prelude.{IsTrue, Ok, Option}
 use Rattle.std.specs.List.{cons_option}
 use Rattle.std.specs.Option.{is_some, option_map}
 use Rattle.std.proofs.lemmas.Grind.{flat_map-append}
-use Rattle.tg_rights.specs.Letters.{Letters, includes, is_none}
+use Rattle.tg_rights.specs.Promise.Letters.{Letters, includes, is_none}
 use Rattle.tg_rights.specs.declared.kind.Kind.TheVariants as kind
 use Rattle.tg_rights.specs.declared.command.Command.{Command}
 use Rattle.tg_rights.specs.declared.command.Command.TheVariants as command
@@ -12,35 +12,36 @@ use Rattle.tg_rights.specs.declared.outcome.Outcome.{Outcome}
 use Rattle.tg_rights.specs.declared.outcome.Outcome.TheVariants as outcome
 use Rattle.tg_graph.specs.declared.derivation.Goal.{Goal}
 use Rattle.tg_graph.specs.declared.derivation.Step.{Step}
-use Rattle.tg_graph.specs.Derivations.{CanShare, Derives, IsShared}
+use Rattle.tg_graph.specs.Promise.Derivations.{CanShare, Derives, IsShared}
 use Rattle.tg_graph.specs.declared.vertex.Vertex.{Vertex}
-use Rattle.tg_graph.specs.Laws.{OpeningsAreAsListed, PrincipalsComeAndGo}
-use Rattle.tg_graph.specs.Protection.{IsGraph, IsVertex, Protection, has_retired, kind_of, named, vertex}
-use Rattle.tg_graph.specs.Rewriting.{DerivationsCarryOver, HasRightsOf, rewriting, rewriting_steps}
-use Rattle.tg_graph.specs.Rules.{last_serial}
+use Rattle.tg_graph.specs.Promise.Laws.{OpeningsAreAsListed, PrincipalsComeAndGo}
+use Rattle.tg_graph.specs.Promise.Protection.{IsGraph, IsVertex, Protection, has_retired, kind_of, named, vertex}
+use Rattle.tg_graph.specs.Promise.Rewriting.{DerivationsCarryOver, HasRightsOf, rewriting, rewriting_steps}
+use Rattle.tg_graph.specs.Promise.Rules.{last_serial}
 use Rattle.tg_graph.proofs.RewritingLemmas.{same_label}
 use Rattle.tg_graph.proofs.VertexLemmas.{IsVertex-from_kind}
 use Rattle.tg_vault.specs.declared.entry.Entry.{Entry}
-use Rattle.tg_vault.specs.Contents.{Contents, graph_now}
-use Rattle.tg_vault.specs.History.{Legal}
-use Rattle.tg_audit.specs.Derived.{HistoriesDerive, derivation_of, step_of}
-use Rattle.tg_wire.specs.Lines.{config_of, goal_of}
-use Rattle.tg_wire.specs.StepLines.{goal_line, goal_text, step_line}
-use Rattle.tg_sharing.specs.Lookups.{AreListed, RunsOut}
-use Rattle.tg_wire.specs.Faults.{fault_line}
+use Rattle.tg_vault.specs.Promise.Contents.{Contents, graph_now}
+use Rattle.tg_vault.specs.Promise.History.{Legal}
+use Rattle.tg_audit.specs.Promise.Derived.{HistoriesDerive, derivation_of, rewriting_of}
+use Rattle.tg_wire.specs.Promise.Lines.{config_of, goal_of}
+use Rattle.tg_wire.specs.Promise.StepLines.{goal_line, goal_text, step_line}
+use Rattle.tg_sharing.specs.Promise.Lookups.{AreListed, RunsOut}
+use Rattle.tg_wire.specs.Promise.Faults.{fault_line}
 use Rattle.tg_wire.specs.declared.fault.WireFault.TheVariants as wire
-use Rattle.tg_wire.specs.Unshared.{could_line, is_error, unshared_line}
+use Rattle.tg_wire.specs.Promise.Unshared.{could_line, unshared_line}
+use Rattle.tg_wire.specs.Inner.Unshared.{is_error}
 use Rattle.tg_wire.specs.declared.unshared.Unshared.{Unshared}
 use Rattle.tg_wire.specs.declared.unshared.Unshared.TheVariants.{Never, NoRights, NoSerial, TooMuch}
-use Rattle.tg_talk.specs.Opening.{Opens}
+use Rattle.tg_talk.specs.Promise.Opening.{OpensVault}
 use Rattle.tg_talk.specs.declared.fault.TalkFault.{TalkFault}
-use Rattle.tgdoc.specs.Asked.{AreRewritten, Found}
-use Rattle.tgdoc.specs.Audits.{OpensGraph}
-use Rattle.tgdoc.specs.Drawings.{is_broken}
-use Rattle.tgdoc.specs.Lookups as lookups
-use Rattle.tgdoc.specs.Lookups.{LookedUp, TakesMore, are_listed, goal_with, no_rights, nobody, not_listed, too_much}
-use Rattle.tgdoc.specs.Named.{Names, NamesNone}
-use Rattle.tgdoc.specs.Sharing.{Answered, AnsweredPair, AreRead, IsGoalOf, Shows, ShowsSharing, ShowsSteps, never, no_from, no_serial, no_to, not_answered, shared, steps_text}
+use Rattle.tgdoc.specs.Inner.Asked.{AreRewritten, FoundSteps}
+use Rattle.tgdoc.specs.Promise.Audits.{OpensGraph}
+use Rattle.tgdoc.specs.Promise.Drawings.{is_broken}
+use Rattle.tgdoc.specs.Promise.Lookups as lookups
+use Rattle.tgdoc.specs.Promise.Lookups.{LookedUp, TakesMore, are_listed, goal_with, no_rights, nobody, not_listed, too_much}
+use Rattle.tgdoc.specs.Promise.Named.{Names, NamesNone}
+use Rattle.tgdoc.specs.Promise.Sharing.{Answered, AnsweredPair, AreRead, IsGoalOf, Shows, ShowsSharing, ShowsSteps, never, no_from, no_serial, no_to, not_answered, shared, steps_text}
 use Rattle.tgdoc.specs.declared.question.Lookup.{Lookup}
 use Rattle.tgdoc.specs.declared.question.Pair.{Pair}
 use Rattle.tgdoc.specs.declared.question.Question.{Question}
@@ -72,7 +73,7 @@ pub steps_rewritten : (steps : List Step) → AreRewritten (rewriting_steps step
 steps_rewritten [] = tt
 steps_rewritten (s ∷ ss) = begun s.actor (rewriting s.command) (rewriting_steps ss) (fixed s.command) (steps_rewritten ss)
 
-entry_begun : (s : Step) (o : Outcome) (rest : List Step) → AreRewritten rest → AreRewritten (cons_option (step_of s o) rest)
+entry_begun : (s : Step) (o : Outcome) (rest : List Step) → AreRewritten rest → AreRewritten (cons_option (rewriting_of s o) rest)
 entry_begun s outcome.Allowed rest all = begun s.actor (rewriting s.command) rest (fixed s.command) all
 entry_begun s (outcome.Denied rule why) rest all = all
 entry_begun s (outcome.Full which) rest all = all
@@ -96,12 +97,12 @@ shared_alike H G goal h there = subst (λ l. IsTrue (includes l goal.rights)) (s
 abbrev Leads : Protection → Goal → List Step → Type 0
 Leads H goal steps = (reached : Protection) × Derives H steps reached × IsShared reached goal
 
-leads : DerivationsCarryOver → (G H : Protection) (goal : Goal) (steps : List Step) → Found G goal steps → HasRightsOf H G → Leads H goal (rewriting_steps steps)
+leads : DerivationsCarryOver → (G H : Protection) (goal : Goal) (steps : List Step) → FoundSteps G goal steps → HasRightsOf H G → Leads H goal (rewriting_steps steps)
 leads law G H goal steps found h =
     let there = law G found.0 H steps h found.1 in
     (there.0, there.1, shared_alike there.0 found.0 goal there.2 found.2)
 
-pub steps_shown : DerivationsCarryOver → (G : Protection) (goal : Goal) (steps found : List Step) (text : List ℕ) → Found G goal steps → found ≡ rewriting_steps steps → text ≡ steps_text found → AreRead found →
+pub steps_shown : DerivationsCarryOver → (G : Protection) (goal : Goal) (steps found : List Step) (text : List ℕ) → FoundSteps G goal steps → found ≡ rewriting_steps steps → text ≡ steps_text found → AreRead found →
     ShowsSteps G goal text
 steps_shown law G goal steps found text leading is written read = record {
   steps = found;
@@ -120,7 +121,7 @@ itself law G first opens = record {
 
 pub sharing_shown : DerivationsCarryOver → HistoriesDerive → OpeningsAreAsListed → (v : Contents) (first : List ℕ) (goal : Goal) (steps before found : List Step) (head middle text : List ℕ)
     → IsGraph v.opening → Legal v.limits v.opening v.history (graph_now v) → OpensGraph v.opening first → goal_of (goal_text goal) ≡ Ok goal
-    → Found (graph_now v) goal steps → found ≡ rewriting_steps steps → before ≡ derivation_of v.history
+    → FoundSteps (graph_now v) goal steps → found ≡ rewriting_steps steps → before ≡ derivation_of v.history
     → head ≡ first ++ 10 ∷ goal_line goal → middle ≡ head ++ steps_text before → text ≡ middle ++ steps_text found → AreRead before → AreRead found → ShowsSharing v.opening goal text
 sharing_shown carry derive listed v first goal steps before found head middle text graph legal opens aims leading is past begins goes_on ends read_before read_found =
     let start = derive v v.opening graph legal (itself listed v.opening first opens) in
@@ -191,11 +192,11 @@ module _ (v : Contents) (q : Pair) (G : Protection) (same : G ≡ graph_now v) (
     pub shared_told : Shows q.steps v its_goal text → AnsweredPair v q text false
     shared_told shows = shared its_goal its_goal-is shows
 
-  pub found_there : (goal : Goal) (steps items : List Step) → items ≡ steps → Found G goal steps → Found (graph_now v) goal items
-  found_there goal steps items is found = subst (λ (p : Protection × List Step). Found p.0 goal p.1) (λ i. (same i, sym is i)) found
+  pub found_there : (goal : Goal) (steps items : List Step) → items ≡ steps → FoundSteps G goal steps → FoundSteps (graph_now v) goal items
+  found_there goal steps items is found = subst (λ (p : Protection × List Step). FoundSteps p.0 goal p.1) (λ i. (same i, sym is i)) found
 
 -- the line that opened a vault opens the graph of each vault with that opening
-pub opens_graph : (v : Contents) (line first : List ℕ) (G : Protection) → Opens line v → G ≡ v.opening → first ≡ line → OpensGraph G first
+pub opens_graph : (v : Contents) (line first : List ℕ) (G : Protection) → OpensVault line v → G ≡ v.opening → first ≡ line → OpensGraph G first
 opens_graph v line first G opens kept same = record {
   config = opens.config;
   read = ap config_of same ∙ opens.read;

@@ -3,11 +3,11 @@
 ghost use Rattle.std.specs.Prelude.{◌≡◌, false};
 ghost use Rattle.tg_vault.specs.declared.event.Answer.{Answer};
 ghost use Rattle.tg_vault.specs.declared.vault.Swept.{Swept};
-ghost use Rattle.tg_vault.specs.Contents.{Keeps};
-ghost use Rattle.tg_vault.specs.Course.{VaultStep};
-ghost use Rattle.tg_vault.specs.Cycles.{IsCycle};
-ghost use Rattle.tg_talk.specs.Answering.{TellsAnswer, is_wrong, one_if, text_of};
-ghost use Rattle.tgdoc.specs.Running.{AnswersLine, RunnerSays, TellsSwept};
+ghost use Rattle.tg_vault.specs.Promise.Contents.{Keeps};
+ghost use Rattle.tg_vault.specs.Promise.Course.{VaultStep};
+ghost use Rattle.tg_vault.specs.Promise.Cycles.{IsCycle};
+ghost use Rattle.tg_talk.specs.Promise.Answering.{TellsAnswer, is_wrong, one_if, shown_line};
+ghost use Rattle.tgdoc.specs.Inner.Running.{AnswersLine, RunnerSays, TellsSwept};
 
 use std::alloc::Global;
 use tg_talk::{Responder, Said, Text, text_of_answer};
@@ -39,7 +39,7 @@ impl Responder for Runner {
 /// Reads a line, carries out its event or a cycle of the collector, and returns the answer's line.
 #[inline(always)]
 pub(crate) fn answer(alloc: Global, vault: &mut Vault, bytes: &[u8], room: &mut LineRoom) -> Text
-    ensures { AnswersLine vault.old bytes.now vault.new (text_of result) (one_if (is_wrong result)) }
+    ensures { AnswersLine vault.old bytes.now vault.new (shown_line result) (one_if (is_wrong result)) }
 {
     match read_line_in(room, alloc, bytes) {
         Ok(Line::Act(event)) => carry_out(vault, event, room),
@@ -51,7 +51,7 @@ pub(crate) fn answer(alloc: Global, vault: &mut Vault, bytes: &[u8], room: &mut 
 /// Carries out one event, and returns the answer's line.
 #[inline(always)]
 fn carry_out(vault: &mut Vault, event: Event, room: &mut LineRoom) -> Text
-    ensures { (answer : Answer) × VaultStep vault.old event answer vault.new × TellsAnswer answer (text_of result) (is_wrong result) }
+    ensures { (answer : Answer) × VaultStep vault.old event answer vault.new × TellsAnswer answer (shown_line result) (is_wrong result) }
 {
     let answer = vault.run_one(event);
     text_of_answer(room, &answer)
@@ -61,7 +61,7 @@ fn carry_out(vault: &mut Vault, event: Event, room: &mut LineRoom) -> Text
 #[inline(always)]
 fn sweep(vault: &mut Vault, room: &mut LineRoom) -> Text
     ensures keeps { Keeps vault.old vault.new }
-    ensures swept { (swept : Swept) × IsCycle vault.old swept vault.new × TellsSwept swept (text_of result) (is_wrong result) }
+    ensures swept { (swept : Swept) × IsCycle vault.old swept vault.new × TellsSwept swept (shown_line result) (is_wrong result) }
 {
     let swept = vault.cycle();
     tell_swept(room, swept)
@@ -69,7 +69,7 @@ fn sweep(vault: &mut Vault, room: &mut LineRoom) -> Text
 
 /// The line of what a cycle did, or `out of memory` in its place.
 fn tell_swept(room: &mut LineRoom, swept: Swept) -> Text
-    ensures { TellsSwept swept (text_of result) (is_wrong result) }
+    ensures { TellsSwept swept (shown_line result) (is_wrong result) }
 {
     match write_swept_in(room, swept) {
         Ok(line) => Text::Line(line),

@@ -1,17 +1,17 @@
 //! An audit over lines.
 
 ghost use Rattle.std.specs.Prelude.{◌≡◌, ◌≢◌, ◌↔◌, ◌≤◌, ◌+◌, ℕ, List, [], length, false, true, IfOk, IfErr, IfSome, Some, None, Err};
-ghost use Rattle.tg_wire.specs.Lines.{goal_of};
+ghost use Rattle.tg_wire.specs.Promise.Lines.{goal_of};
 ghost use Rattle.tg_wire.specs.declared.line.TheConstants.{LONGEST_LINE};
-ghost use Rattle.tg_talk.specs.Devices.{Sends, device_of, has_failed, owed, promised};
+ghost use Rattle.tg_talk.specs.Promise.Devices.{Sends, device_of, has_failed, owed, promised};
 ghost use Rattle.tg_talk.specs.declared.fault.TalkFault.TheVariants.{OutOfMemory, Reading, Writing};
 ghost use Rattle.tg_talk.specs.declared.line_buffer.TheConstants.{MOST_LINES};
-ghost use Rattle.tg_talk.specs.Endings.{EndsOnce};
-ghost use Rattle.tgdoc.specs.Ready.{AreReady, Reports};
-ghost use Rattle.tg_talk.specs.Opening.{RefusesOpening};
-ghost use Rattle.tgdoc.specs.Audits.{BytesAudited, Misreads, OpensGraph, SaysGoal, end_errors, verdict_errors};
-ghost use Rattle.tg_talk.specs.Answering.{one_if};
-ghost use Rattle.tgdoc.specs.Auditing.{Advances, EndsBytes, EndsEarlyBytes, EndsStepBytes, Judges, NoRefusal, RefusesBy, TakesSteps, TakesWanted, TellsVerdict, end_after, unread};
+ghost use Rattle.tg_talk.specs.Promise.Endings.{EndsOnce};
+ghost use Rattle.tgdoc.specs.Promise.Ready.{AreReady, Reports};
+ghost use Rattle.tg_talk.specs.Promise.Opening.{RefusesOpening};
+ghost use Rattle.tgdoc.specs.Promise.Audits.{BytesAudited, Misreads, OpensGraph, SaysGoal, end_errors, verdict_errors};
+ghost use Rattle.tg_talk.specs.Promise.Answering.{one_if};
+ghost use Rattle.tgdoc.specs.Inner.Auditing.{Advances, EndsBytes, EndsEarlyBytes, EndsStepBytes, Judges, NoRefusal, RefusesBy, TakesSteps, TakesWanted, TellsVerdict, end_after, unread};
 
 use crate::finish::{finish, none_taken};
 use std::alloc::Global;

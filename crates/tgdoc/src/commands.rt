@@ -3,7 +3,7 @@
 ghost use Rattle.std.specs.Prelude.{codes, ◌≡◌, [], false, IfOk};
 ghost use Rattle.clap.specs.Words.{app_of, new_app, rule_of, with_subcommand};
 ghost use Rattle.clap.specs.declared.builder.command.Command.TheViews.{out-Command};
-ghost use Rattle.tgdoc.specs.Modes.{addressed_read, alone_read, asked_read, asking_read, bounded_read, clients_read, command_read, connections_read, control_read, draw_read, each_read, from_read, history_read, listen_read, log_read, memory_read, most_read, option_read, path_read, patience_read, request_read, rights_read, round_read, serve_read, share_read, steps_read, to_read, watch_read, within_read, workers_read};
+ghost use Rattle.tgdoc.specs.Inner.Modes.{addressed_read, alone_read, asked_read, asking_read, bounded_read, clients_read, command_read, connections_read, control_read, draw_read, each_read, from_read, history_read, listen_read, log_read, memory_read, most_read, option_read, path_read, patience_read, request_read, rights_read, round_read, serve_read, share_read, steps_read, to_read, watch_read, within_read, workers_read};
 
 use crate::modes::{
     AUDIT_ABOUT, AUDIT_EXAMPLE, CONTROL_ABOUT, CONTROL_EXAMPLE, DRAW_ABOUT, DRAW_EXAMPLE, EXAMPLE,

@@ -1,11 +1,11 @@
 //! All vertices that could ever come to have rights over one, or over which one could, in the graph to which a run led.
 ghost use Rattle.std.specs.Prelude.{◌≡◌, IfOk, false};
-ghost use Rattle.tg_rights.specs.Letters.{is_none};
-ghost use Rattle.tg_graph.specs.Protection.{IsVertex};
-ghost use Rattle.tg_sharing.specs.Lookups.{IsListing};
-ghost use Rattle.tg_vault.specs.Contents.{graph_now};
-ghost use Rattle.tg_wire.specs.Unshared.{could_line};
-ghost use Rattle.tgdoc.specs.Lookups.{LookedUp, TakesMore, goal_with};
+ghost use Rattle.tg_rights.specs.Promise.Letters.{is_none};
+ghost use Rattle.tg_graph.specs.Promise.Protection.{IsVertex};
+ghost use Rattle.tg_sharing.specs.Promise.Lookups.{IsListing};
+ghost use Rattle.tg_vault.specs.Promise.Contents.{graph_now};
+ghost use Rattle.tg_wire.specs.Promise.Unshared.{could_line};
+ghost use Rattle.tgdoc.specs.Promise.Lookups.{LookedUp, TakesMore, goal_with};
 
 use crate::question::{End, Lookup};
 use crate::unshared::{Told, unshared_told, vertex_in};

@@ -1,11 +1,11 @@
 //! The vault drawn in place of answers.
 ghost use Rattle.std.specs.Prelude.{◌≡◌, ◌≢◌, ◌↔◌, ◌≤◌, [], true, false, IfOk, Some};
-ghost use Rattle.tg_draw.specs.Picture.{Draws};
-ghost use Rattle.tg_talk.specs.Answering.{is_wrong, one_if, text_of};
-ghost use Rattle.tg_talk.specs.Devices.{has_failed, owed, promised};
+ghost use Rattle.tg_draw.specs.Promise.Picture.{Draws};
+ghost use Rattle.tg_talk.specs.Promise.Answering.{is_wrong, one_if, shown_line};
+ghost use Rattle.tg_talk.specs.Promise.Devices.{has_failed, owed, promised};
 ghost use Rattle.tg_talk.specs.declared.fault.TalkFault.TheVariants.{OutOfMemory, Reading, Writing};
-ghost use Rattle.tgdoc.specs.Drawings.{DrawnFor, PictureAtEnd, Shown, ends_label, is_broken, line_label};
-ghost use Rattle.tgdoc.specs.Drawing.{ArtistSays, EndsDrawing, WrittenLast};
+ghost use Rattle.tgdoc.specs.Promise.Drawings.{DrawnFor, PictureAtEnd, Shown, ends_label, is_broken, line_label};
+ghost use Rattle.tgdoc.specs.Inner.Drawing.{ArtistSays, EndsDrawing, WrittenLast};
 
 use crate::answer::answer;
 use crate::finish::finish;
@@ -46,7 +46,7 @@ impl Responder for Artist {
 
 /// What is written for a line with this answer.
 fn shown(alloc: Global, each: bool, vault: &Vault, line: &[u8], answered: Text) -> Text
-    ensures { Shown each vault.now line.now (text_of answered) (one_if (is_wrong answered)) (text_of result) (one_if (is_wrong result)) }
+    ensures { Shown each vault.now line.now (shown_line answered) (one_if (is_wrong answered)) (shown_line result) (one_if (is_wrong result)) }
 {
     if each {
         drawn(alloc, vault, line, &answered)
@@ -57,7 +57,7 @@ fn shown(alloc: Global, each: bool, vault: &Vault, line: &[u8], answered: Text) 
 
 /// The picture of the vault for a line with this answer, or `out of memory` in its place.
 fn drawn(alloc: Global, vault: &Vault, line: &[u8], answered: &Text) -> Text
-    ensures { DrawnFor vault.now line.now (text_of answered.now) (one_if (is_wrong answered.now)) (text_of result) (one_if (is_wrong result)) }
+    ensures { DrawnFor vault.now line.now (shown_line answered.now) (one_if (is_wrong answered.now)) (shown_line result) (one_if (is_wrong result)) }
 {
     match draw_line(alloc, vault, line, answered.bytes()) {
         Err(_) => Text::Refusal(WireFault::OutOfMemory),
@@ -92,7 +92,7 @@ fn label_of(alloc: Global, line: &[u8], answered: &[u8]) -> Result<Vec<u8>, Allo
 
 /// A line that counts as an `error` line or not.
 fn counted(line: Vec<u8>, is_error: bool) -> Text
-    ensures text { text_of result ≡ line.items }
+    ensures text { shown_line result ≡ line.items }
     ensures error { is_wrong result ≡ is_error }
 {
     if is_error {
@@ -105,7 +105,7 @@ fn counted(line: Vec<u8>, is_error: bool) -> Text
 /// Nothing, which counts as the text does. It keeps the room of a line; a refusal has none, and the next line allocates
 /// its own.
 fn quiet(alloc: Global, text: Text) -> Text
-    ensures silent { text_of result ≡ [] }
+    ensures silent { shown_line result ≡ [] }
     ensures error { is_wrong result ≡ is_wrong text }
 {
     match text {

@@ -2,15 +2,15 @@
 
 ghost use Rattle.std.specs.Prelude.{◌≡◌, ◌≢◌, IfSome, IfOk, IfErr, Some};
 ghost use Rattle.std.specs.Io.KnownBytes.{prepend_known};
-ghost use Rattle.tg_talk.specs.Devices.{device_of, has_failed, promised};
+ghost use Rattle.tg_talk.specs.Promise.Devices.{device_of, has_failed, promised};
 ghost use Rattle.tg_talk.specs.declared.fault.TalkFault.TheVariants.{OutOfMemory};
-ghost use Rattle.tg_talk.specs.Opening.{Opens};
-ghost use Rattle.tgdoc.specs.Drawings.{LinesDrew};
-ghost use Rattle.tgdoc.specs.Outputs.{Told};
-ghost use Rattle.tgdoc.specs.Sharing.{LinesShared};
-ghost use Rattle.tgdoc.specs.Ready.{AreReady, Reports};
-ghost use Rattle.tgdoc.specs.Runs.{InputRan, LinesRan};
-ghost use Rattle.tgdoc.specs.Running.{InputLeft};
+ghost use Rattle.tg_talk.specs.Promise.Opening.{OpensVault};
+ghost use Rattle.tgdoc.specs.Promise.Drawings.{LinesDrew};
+ghost use Rattle.tgdoc.specs.Inner.Outputs.{Told};
+ghost use Rattle.tgdoc.specs.Promise.Sharing.{LinesShared};
+ghost use Rattle.tgdoc.specs.Promise.Ready.{AreReady, Reports};
+ghost use Rattle.tgdoc.specs.Promise.Runs.{InputRan, LinesRan};
+ghost use Rattle.tgdoc.specs.Inner.Running.{InputLeft};
 
 use crate::answer::Runner;
 use crate::finish::{finish, none_taken};
@@ -139,7 +139,7 @@ fn take_rest<R: Read, W: Write + Drop>(
     writer: &mut Watched<BufWriter<W>>,
 ) -> Finished
     requires one { input.taken ≡ 1 }
-    requires opens { Opens input.line vault }
+    requires opens { OpensVault input.line vault }
     requires ready { AreReady reader.old writer.old }
     ensures report { Reports R.remaining result reader.old reader.new writer.new }
     ensures memory { result.fault ≢ Some OutOfMemory }

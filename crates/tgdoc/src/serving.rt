@@ -1,8 +1,8 @@
 //! A server, and those who attend to it beside it.
 ghost use Rattle.std.specs.Prelude.{◌≡◌, ◌↔◌, ◌⊎◌, IfSome, false, true};
 ghost use Rattle.std.specs.Process.{exit_status};
-ghost use Rattle.tg_talk.specs.Devices.{device_of, has_failed};
-ghost use Rattle.tg_serve.specs.Serving.{IsServed};
+ghost use Rattle.tg_talk.specs.Promise.Devices.{device_of, has_failed};
+ghost use Rattle.tg_serve.specs.Promise.Serving.{IsServed};
 
 use std::alloc::{AllocError, Global};
 use std::fs::Files;

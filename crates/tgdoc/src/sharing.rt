@@ -1,15 +1,15 @@
 //! Whether rights can ever be shared in the graph to which a run led.
 ghost use Rattle.std.specs.Prelude.{◌≡◌, ◌≢◌, ◌↔◌, ◌≤◌, ◌++◌, ◌∷◌, [], Ok, OnOk, IfOk, Some, true, false};
-ghost use Rattle.tg_graph.specs.Rewriting.{rewriting, rewriting_steps};
-ghost use Rattle.tg_talk.specs.Devices.{has_failed, owed, promised};
+ghost use Rattle.tg_graph.specs.Promise.Rewriting.{rewriting, rewriting_steps};
+ghost use Rattle.tg_talk.specs.Promise.Devices.{has_failed, owed, promised};
 ghost use Rattle.tg_talk.specs.declared.fault.TalkFault.TheVariants.{OutOfMemory, Reading, Writing};
-ghost use Rattle.tg_vault.specs.Contents.{graph_now};
-ghost use Rattle.tg_wire.specs.Lines.{goal_of, step_of};
-ghost use Rattle.tg_wire.specs.StepLines.{goal_line, goal_text, step_line, step_text};
-ghost use Rattle.tgdoc.specs.Asked.{AreRewritten, EndsSharing, Found};
-ghost use Rattle.tgdoc.specs.Audits.{OpensGraph};
-ghost use Rattle.tgdoc.specs.Drawing.{WrittenLast};
-ghost use Rattle.tgdoc.specs.Sharing.{Answered, AnsweredAtEnd, AnsweredPair, AreRead, Shows, ShowsSharing, ShowsSteps, steps_text};
+ghost use Rattle.tg_vault.specs.Promise.Contents.{graph_now};
+ghost use Rattle.tg_wire.specs.Promise.Lines.{goal_of, step_of};
+ghost use Rattle.tg_wire.specs.Promise.StepLines.{goal_line, goal_text, step_line, step_text};
+ghost use Rattle.tgdoc.specs.Inner.Asked.{AreRewritten, EndsSharing, FoundSteps};
+ghost use Rattle.tgdoc.specs.Promise.Audits.{OpensGraph};
+ghost use Rattle.tgdoc.specs.Inner.Drawing.{WrittenLast};
+ghost use Rattle.tgdoc.specs.Promise.Sharing.{Answered, AnsweredAtEnd, AnsweredPair, AreRead, Shows, ShowsSharing, ShowsSteps, steps_text};
 
 use crate::finish::finish;
 use crate::lookup::answer_lookup;
@@ -149,7 +149,7 @@ fn shown(
     steps: &[Step],
 ) -> Result<Vec<u8>, AllocError>
     requires opens { IfOk first.now (λ line. OpensGraph vault.now.opening line.items) }
-    requires found { Found (graph_now vault.now) goal.now steps.now }
+    requires found { FoundSteps (graph_now vault.now) goal.now steps.now }
     ensures { IfOk result (λ text. Shows alone vault.now goal.now text.items) }
 {
     let found = rewritten(alloc, steps)?;
@@ -181,7 +181,7 @@ fn steps_alone(
     steps: &[Step],
     found: &[Step],
 ) -> Result<Vec<u8>, AllocError>
-    requires found { Found (graph_now vault.now) goal.now steps.now }
+    requires found { FoundSteps (graph_now vault.now) goal.now steps.now }
     requires rewritten { found.now ≡ rewriting_steps steps.now }
     ensures { IfOk result (λ text. ShowsSteps (graph_now vault.now) goal.now text.items) }
 {
@@ -202,7 +202,7 @@ fn derivation_text(
     found: &[Step],
 ) -> Result<Vec<u8>, AllocError>
     requires opens { OpensGraph vault.now.opening first.now }
-    requires found { Found (graph_now vault.now) goal.now steps.now }
+    requires found { FoundSteps (graph_now vault.now) goal.now steps.now }
     requires rewritten { found.now ≡ rewriting_steps steps.now }
     ensures { IfOk result (λ text. ShowsSharing vault.now.opening goal.now text.items) }
 {

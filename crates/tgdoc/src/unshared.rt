@@ -1,7 +1,8 @@
 //! The answers to a question that bring no steps and no list, and the vertices that its words name.
 ghost use Rattle.std.specs.Prelude.{◌≡◌, IfErr, IfOk, true};
-ghost use Rattle.tg_wire.specs.Unshared.{is_error, unshared_line};
-ghost use Rattle.tgdoc.specs.Named.{Names, NamesNone};
+ghost use Rattle.tg_wire.specs.Promise.Unshared.{unshared_line};
+ghost use Rattle.tg_wire.specs.Inner.Unshared.{is_error};
+ghost use Rattle.tgdoc.specs.Promise.Named.{Names, NamesNone};
 
 use crate::question::VertexName;
 use std::alloc::{AllocError, Global};

@@ -1,7 +1,7 @@
 //! A session that acts for an agent, while another one removes the last edge to it.
 ghost use Rattle.std.specs.Prelude.{◌≡◌};
 ghost use Rattle.tg_share.specs.declared.locked.TheConstants.{PARTS};
-ghost use Rattle.tg_talk_tests.specs.Fresh.{IsFresh};
+ghost use Rattle.tg_talk_tests.specs.Inner.Fresh.{IsBlank};
 
 use crate::sharing::{Board, HoldsAt, Stage, both, close, opened};
 use std::alloc::{AllocError, Global};
@@ -115,7 +115,7 @@ fn act_for_agent<L: Ledger + Send + Sync, R: Threads + Wait + Clock + Sync>(
     vault: Vault,
     named: Named,
 ) -> (Worked, Option<(Option<(u64, u64)>, bool)>)
-    requires { IsFresh L.name L.parts blank vault.history }
+    requires { IsBlank L.name L.parts blank vault.history }
 {
     let board = Board::new();
     let shared = Shared::<L>::new(alloc, blank, vault);

@@ -3,7 +3,7 @@
 //! that shows.
 ghost use Rattle.std.specs.Prelude.{◌≡◌};
 ghost use Rattle.tg_share.specs.declared.locked.TheConstants.{PARTS};
-ghost use Rattle.tg_talk_tests.specs.Fresh.{IsFresh};
+ghost use Rattle.tg_talk_tests.specs.Inner.Fresh.{IsBlank};
 
 use crate::share::{ALONE, CREATED};
 use crate::sharing::{Pauses, Tally, agreed, agreed_vault, both, one, opened, play, told};
@@ -46,7 +46,7 @@ fn play_again<L: Ledger, R: Wait + Clock + Print>(
     blank: Blank,
     vault: Vault,
 ) -> Option<(u64, Pauses)>
-    requires { IsFresh L.name L.parts blank vault.history }
+    requires { IsBlank L.name L.parts blank vault.history }
 {
     let shared = Shared::<L>::new(alloc, blank, vault);
     let Ok(mut alice) = shared.session(rt, alloc, 0, "alice") else {
@@ -164,7 +164,7 @@ fn close_again<L: Ledger, R: Wait + Clock + Print>(
     blank: Blank,
     vault: Vault,
 ) -> Option<u64>
-    requires { IsFresh L.name L.parts blank vault.history }
+    requires { IsBlank L.name L.parts blank vault.history }
 {
     let shared = Shared::<L>::new(alloc, blank, vault);
     let alice = play(rt, alloc, &shared, 0, "alice", &[CREATED], &Open);

@@ -1,5 +1,5 @@
 //! Sessions that are held with their target, between the store and the shade.
-ghost use Rattle.tg_talk_tests.specs.Fresh.{IsFresh};
+ghost use Rattle.tg_talk_tests.specs.Inner.Fresh.{IsBlank};
 
 use crate::share::{CREATED, REMOVED};
 use crate::sharing::{Board, Counts, Holds, Stage, agreed, both, one, opened, with_one};
@@ -69,7 +69,7 @@ fn hold_a_create<L: Ledger + Send + Sync, R: Threads + Wait + Clock + Sync>(
     blank: Blank,
     vault: Vault,
 ) -> (Option<u64>, u64)
-    requires { IsFresh L.name L.parts blank vault.history }
+    requires { IsBlank L.name L.parts blank vault.history }
 {
     let board = Board::new();
     let shared = Shared::<L>::new(alloc, blank, vault);
@@ -157,7 +157,7 @@ fn hold_a_target<L: Ledger + Send + Sync, R: Threads + Wait + Clock + Sync>(
     vault: Vault,
     seats: Seats,
 ) -> (Worked, Option<u64>)
-    requires { IsFresh L.name L.parts blank vault.history }
+    requires { IsBlank L.name L.parts blank vault.history }
 {
     let board = Board::new();
     let shared = Shared::<L>::new(alloc, blank, vault);

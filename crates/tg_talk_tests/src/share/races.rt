@@ -1,5 +1,5 @@
 //! A take, while the edge that it went by is removed, in the middle of a marking.
-ghost use Rattle.tg_talk_tests.specs.Fresh.{IsFresh};
+ghost use Rattle.tg_talk_tests.specs.Inner.Fresh.{IsBlank};
 
 use crate::sharing::{Board, Holds, HoldsAt, Stage, agreed, are_told, both, opened};
 use std::alloc::{AllocError, Global};
@@ -89,7 +89,7 @@ fn race<L: Ledger + Send + Sync, R: Threads + Wait + Clock + Sync>(
     blank: Blank,
     vault: Vault,
 ) -> (Option<Worked>, Option<u64>)
-    requires { IsFresh L.name L.parts blank vault.history }
+    requires { IsBlank L.name L.parts blank vault.history }
 {
     let board = Board::new();
     let shared = Shared::<L>::new(alloc, blank, vault);

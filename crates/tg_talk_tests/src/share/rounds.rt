@@ -1,7 +1,7 @@
 //! A vault that is closed, rebased and shared again.
 ghost use Rattle.std.specs.Prelude.{◌≡◌, []};
 ghost use Rattle.tg_share.specs.declared.locked.TheConstants.{PARTS};
-ghost use Rattle.tg_talk_tests.specs.Fresh.{IsFresh};
+ghost use Rattle.tg_talk_tests.specs.Inner.Fresh.{IsBlank};
 
 use crate::sharing::{Board, Stage, agreed_vault, both, closed, opened};
 use std::alloc::{AllocError, Global};
@@ -87,7 +87,7 @@ fn play_round<L: Ledger + Send + Sync, R: Threads + Wait + Clock + Sync>(
     vault: Vault,
     round: u64,
 ) -> Option<Vault>
-    requires { IsFresh L.name L.parts blank vault.history }
+    requires { IsBlank L.name L.parts blank vault.history }
 {
     let board = Board::new();
     let shared = Shared::<L>::new(alloc, blank, vault);

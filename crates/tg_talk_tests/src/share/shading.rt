@@ -1,5 +1,5 @@
 //! When a target is shaded: behind the gate, and before the answer.
-ghost use Rattle.tg_talk_tests.specs.Fresh.{IsFresh};
+ghost use Rattle.tg_talk_tests.specs.Inner.Fresh.{IsBlank};
 
 use crate::share::{CREATED, REMOVED};
 use crate::sharing::{agreed, both, opened, play, told};
@@ -22,7 +22,7 @@ fn collect_beside<L: Ledger, R: Wait + Clock>(
     blank: Blank,
     vault: Vault,
 ) -> Option<(Worked, Option<u64>)>
-    requires { IsFresh L.name L.parts blank vault.history }
+    requires { IsBlank L.name L.parts blank vault.history }
 {
     let shared = Shared::<L>::new(alloc, blank, vault);
     let (worked, first, second) = {
@@ -80,7 +80,7 @@ fn collect_in_the_gate<L: Ledger, R: Wait + Clock>(
     blank: Blank,
     vault: Vault,
 ) -> (bool, u64, u64)
-    requires { IsFresh L.name L.parts blank vault.history }
+    requires { IsBlank L.name L.parts blank vault.history }
 {
     let shared = Shared::<L>::new(alloc, blank, vault);
     let gate = Removes {

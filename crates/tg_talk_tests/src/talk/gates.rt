@@ -1,5 +1,5 @@
 //! A talk hands its gate to its session, and makes no step of the collector.
-ghost use Rattle.tg_talk_tests.specs.Fresh.{IsFresh};
+ghost use Rattle.tg_talk_tests.specs.Inner.Fresh.{IsBlank};
 
 use super::{LINES, opened};
 use crate::sharing::{Pauses, Tally};
@@ -19,7 +19,7 @@ fn talk_counted<L: Ledger, R: Wait + Clock>(
     blank: Blank,
     vault: Vault,
 ) -> Result<(Pauses, Worked, Worked), AllocError>
-    requires { IsFresh L.name L.parts blank vault.history }
+    requires { IsBlank L.name L.parts blank vault.history }
 {
     let shared = Shared::<L>::new(alloc, blank, vault);
     let gate = Tally::new();

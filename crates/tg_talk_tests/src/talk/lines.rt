@@ -1,6 +1,6 @@
 //! Lines over a reader that gives one byte a read and a writer that takes one byte a write, which fail at a given call.
 ghost use Rattle.std.specs.Prelude.{◌≡◌, false};
-ghost use Rattle.tg_talk.specs.Devices.{has_failed};
+ghost use Rattle.tg_talk.specs.Promise.Devices.{has_failed};
 
 use std::alloc::{AllocError, Global};
 use tg_failing::{FailingReader, FailingWriter, Failure};

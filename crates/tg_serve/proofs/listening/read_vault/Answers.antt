@@ -1,9 +1,9 @@
 use Rattle.std.proofs.Common.{◌≡◌, [], None, refl, sym, true≢false, ◌∙◌}
 use Rattle.tg_talk.proofs.TakingLemmas.{always, at_start}
-use Rattle.tg_talk.specs.Taking.{Takes, TakesLine}
+use Rattle.tg_talk.specs.Promise.Taking.{Takes, TakesLine}
 use Rattle.tg_talk.specs.declared.input_lines.Next.TheVariants as next
 use Rattle.tg_wire.specs.declared.fault.WireFault.TheVariants as wire
-use Rattle.tg_serve.specs.Serving.{RefusesBytes, no_buffer, stopped}
+use Rattle.tg_serve.specs.Inner.Serving.{RefusesBytes, no_buffer, stopped}
 use Rattle.tg_serve.proofs.ServingLemmas.{bytes_no_line, bytes_too_long, fault_has_text, is_told, line_opens, line_refused, line_told}
 use Rattle.tg_serve.proofs.listening.read_vault.Goals as goal
 

@@ -1,5 +1,5 @@
 use Rattle.std.proofs.Common.{subst}
-use Rattle.tg_vault.specs.Rebase.{Rebases}
+use Rattle.tg_vault.specs.Promise.Rebase.{Rebases}
 use Rattle.tg_serve.proofs.rounds.rebase.Goals as goal
 
 pub returns-in-Fresh-clause-fresh : goal.returns-in-Fresh-clause-fresh

@@ -1,7 +1,7 @@
-use Rattle.std.proofs.Common.{◌≡◌, ◌<◌, ◌≤◌, ◌+◌, ◌-◌, ℕ, arith, subst, sym}
-use Rattle.tg_talk.specs.Devices.{device_of, has_failed}
-use Rattle.tg_serve.specs.Serving.{IsAlone}
-use Rattle.tg_serve.proofs.RoundsLemmas.{GoesOn, RoundsSoFar, goes_on, rounds_go_on, rounds_none}
+use Rattle.std.proofs.Common.{◌≡◌, ◌<◌, ◌≤◌, ◌+◌, ◌-◌, ℕ, arith, inl, subst, sym}
+use Rattle.tg_talk.specs.Promise.Devices.{device_of, has_failed}
+use Rattle.tg_serve.specs.Promise.Serving.{IsAlone}
+use Rattle.tg_serve.proofs.RoundsLemmas.{GoesOn, RoundsSoFar, goes_on, is_over, rounds_end, rounds_go_on, rounds_none}
 use Rattle.tg_serve.proofs.rounds.serve_rounds.Goals as goal
 
 pub rounds-init : goal.rounds-init
@@ -28,3 +28,21 @@ rounds-preserved g c =
           subst (λ (n : ℕ). RoundsSoFar operating c.args.connections round after n (g.W.Write.contents (device_of c.args.writer.now)) (g.W.Write.contents (device_of c.rebase.new.writer)) (has_failed c.rebase.new.writer)) (sym next)
           (rounds_go_on _ _ _ _ _ _ c.in_ok-settled.settled c.in_ok-vault.vault _ _ _ _ _ more (c.rounds.invariant.so_far told) c.in_ok-settled.ensures.agreed c.in_ok-vault.ensures.fresh (c.in_ok-vault.ensures.told told));
     }
+
+pub returns-then-is_last-clause-told : goal.returns-then-is_last-clause-told
+returns-then-is_last-clause-told g c = λ told.
+    rounds_end _ _ _ _ _ _ _ _
+    (λ alone. is_over c.rounds.left c.size_of-size.result c.left_after-left.result c.args.connections c.args.round c.is_last.result (c.size_of-size.ensures.ends alone.ends) c.left_after-left.ensures.few (c.is_last.ensures alone) c.if-is_last.true)
+    (c.rounds.invariant.so_far told)
+
+pub returns-in_default-clause-told : goal.returns-in_default-clause-told
+returns-in_default-clause-told g c = λ told.
+    rounds_end _ _ _ _ _ _ _ _
+    (λ alone. inl (
+    let few : c.rounds.number + c.rounds.left ≤ c.args.connections + 1 = c.rounds.invariant.few alone in
+    let fits = c.ranges.connections.fits in
+    let over = c.in_default.ensures in
+    let some = c.requires.some in
+    omega (arith, few, fits, over, some)
+    ))
+    (c.rounds.invariant.so_far told)

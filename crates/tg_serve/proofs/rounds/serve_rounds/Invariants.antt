@@ -1,6 +1,6 @@
 use Rattle.std.proofs.Common.{◌≡◌, ◌≤◌, ◌+◌, [], true}
-use Rattle.tg_talk.specs.Devices.{device_of, has_failed}
-use Rattle.tg_serve.specs.Serving.{IsAlone}
+use Rattle.tg_talk.specs.Promise.Devices.{device_of, has_failed}
+use Rattle.tg_serve.specs.Promise.Serving.{IsAlone}
 use Rattle.tg_serve.proofs.RoundsLemmas.{RoundsSoFar}
 use Rattle.tg_serve.proofs.rounds.serve_rounds.Given as goal
 

@@ -1,5 +1,5 @@
 use Rattle.std.proofs.Common.{refl}
-use Rattle.tg_serve.specs.Serving.{by_closing, by_refusal}
+use Rattle.tg_serve.specs.Promise.Serving.{by_closing, by_refusal}
 use Rattle.tg_serve.proofs.RoundsLemmas.{closing_agrees, closing_ends}
 use Rattle.tg_serve.proofs.serve.serve_round.Goals as goal
 

@@ -1,4 +1,4 @@
-use Rattle.tg_talk.specs.Opening.{unsound}
+use Rattle.tg_talk.specs.Promise.Opening.{unsound}
 use Rattle.tg_talk.proofs.OpeningLemmas.{refuses_fault}
 use Rattle.tg_talk.proofs.opening.open_vault.Goals as goal
 

@@ -2,8 +2,8 @@ use Rattle.std.proofs.Common.{[], ap}
 use Rattle.tg_talk.proofs.SendsLemmas.{sends_nothing}
 use Rattle.tg_talk.proofs.TakingLemmas.{always, at_start}
 use Rattle.tg_talk.proofs.TalkLemmas.{talked}
-use Rattle.tg_talk.specs.Answering.{RestAnswered}
-use Rattle.tg_talk.specs.Talks.{HasTalked, no_buffer}
+use Rattle.tg_talk.specs.Promise.Answering.{RestAnswered}
+use Rattle.tg_talk.specs.Promise.Talks.{HasTalked, no_buffer}
 use Rattle.tg_talk.proofs.talking.talk.Goals as goal
 
 pub returns-in_default-clause-talked : goal.returns-in_default-clause-talked

@@ -1,23 +1,27 @@
 use Rattle.std.proofs.Common.{Ok, refl, ap, ◌∙◌}
 use Rattle.tg_wire.specs.declared.line.Line.TheVariants.{Act}
 use Rattle.tg_talk.proofs.ToldLemmas.{heard_refused, heard_for_none, heard_hello, heard_ask}
+use Rattle.tg_talk.specs.Promise.Answering.{saying}
 use Rattle.tg_talk.proofs.telling.hear_session.Goals as goal
 
 pub returns-in-Err-clause-heard : goal.returns-in-Err-clause-heard
-returns-in-Err-clause-heard g c = heard_refused _ _ c.in-Err.fault c.in-Err.ensures.answered
+returns-in-Err-clause-heard g c = heard_refused c.args.session.now c.args.bytes.now c.in-Err.fault c.in-Err.ensures.answered
 
 pub returns-in-Ok-Cycle-clause-heard : goal.returns-in-Ok-Cycle-clause-heard
-returns-in-Ok-Cycle-clause-heard g c = heard_for_none _ _ _ (c.in-Ok-Cycle.ensures.answered ∙ ap Ok c.in-Ok-Cycle.field-0-is) refl
+returns-in-Ok-Cycle-clause-heard g c = heard_for_none c.args.session.now c.args.bytes.now _ (c.in-Ok-Cycle.ensures.answered ∙ ap Ok c.in-Ok-Cycle.field-0-is) refl
 
 pub returns-in-Hello-clause-heard : goal.returns-in-Hello-clause-heard
 returns-in-Hello-clause-heard g c =
-    heard_hello _ _ _ _ _ (c.in-Ok-Act.ensures.answered ∙ ap Ok c.in-Ok-Act.field-0-is ∙ ap (λ e. Ok (Act e)) c.in-Hello.is) (_, c.text_of_answer.ensures)
+    heard_hello c.args.session.now c.args.bytes.now _ _ _ (c.in-Ok-Act.ensures.answered ∙ ap Ok c.in-Ok-Act.field-0-is ∙ ap (λ e. Ok (Act e)) c.in-Hello.is) (_, c.text_of_answer.ensures)
 
 pub returns-in-Ask-clause-heard : goal.returns-in-Ask-clause-heard
-returns-in-Ask-clause-heard g c = heard_ask _ _ _ _ _ _ (c.in-Ok-Act.ensures.answered ∙ ap Ok c.in-Ok-Act.field-0-is ∙ ap (λ e. Ok (Act e)) c.in-Ask.is) c.ask.ensures
+returns-in-Ask-clause-heard g c =
+    heard_ask c.args.session.now c.ask.new.session c.args.bytes.now (saying c.ask.result) _ _ (c.in-Ok-Act.ensures.answered ∙ ap Ok c.in-Ok-Act.field-0-is ∙ ap (λ e. Ok (Act e)) c.in-Ask.is) c.ask.ensures
 
 pub returns-in-Shade-clause-heard : goal.returns-in-Shade-clause-heard
-returns-in-Shade-clause-heard g c = heard_for_none _ _ _ (c.in-Ok-Act.ensures.answered ∙ ap Ok c.in-Ok-Act.field-0-is ∙ ap (λ e. Ok (Act e)) c.in-Shade.is) refl
+returns-in-Shade-clause-heard g c =
+    heard_for_none c.args.session.now c.args.bytes.now _ (c.in-Ok-Act.ensures.answered ∙ ap Ok c.in-Ok-Act.field-0-is ∙ ap (λ e. Ok (Act e)) c.in-Shade.is) refl
 
 pub returns-clause-heard : goal.returns-clause-heard
-returns-clause-heard g c = heard_for_none _ _ _ (c.in-Ok-Act.ensures.answered ∙ ap Ok c.in-Ok-Act.field-0-is ∙ ap (λ e. Ok (Act e)) c.in-Collect.is) refl
+returns-clause-heard g c =
+    heard_for_none c.args.session.now c.args.bytes.now _ (c.in-Ok-Act.ensures.answered ∙ ap Ok c.in-Ok-Act.field-0-is ∙ ap (λ e. Ok (Act e)) c.in-Collect.is) refl

@@ -1,6 +1,6 @@
 use Rattle.std.proofs.Common.{◌≡◌, IsUtf8, sym, ap, ◌∙◌, subst, rules}
 use Rattle.serde_json.specs.Read.{read}
-use Rattle.tg_wire.specs.Flat.{TakesObject}
+use Rattle.tg_wire.specs.Inner.Flat.{TakesObject}
 use Rattle.tg_wire.proofs.FlatLemmas.{object_read, some_weaker}
 use Rattle.tg_wire.proofs.ReadingLemmas.{json_of-read}
 use Rattle.tg_wire.proofs.escaped.read_escaped.Goals as goal

@@ -1,7 +1,7 @@
 use Rattle.std.proofs.Common.{◌≡◌, ◌∷◌, ◌++◌, [], sym, ap, ◌∙◌, subst}
 use Rattle.json.specs.Token as token
 use Rattle.json.specs.Reads.{token_of}
-use Rattle.tg_wire.specs.Flat.{AreSpelled, key_tokens}
+use Rattle.tg_wire.specs.Inner.Flat.{AreSpelled, key_tokens}
 use Rattle.tg_wire.proofs.FlatLemmas.{spelled_more, key_tokens_more}
 use Rattle.tg_wire.proofs.escaped.take_members.Goals as goal
 

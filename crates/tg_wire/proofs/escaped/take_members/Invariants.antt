@@ -1,6 +1,6 @@
 use Rattle.std.proofs.Common.{◌≡◌, ◌++◌, ℕ, List, length}
 use Rattle.json.specs.Token.{Token}
-use Rattle.tg_wire.specs.Flat.{AreSpelled, key_tokens}
+use Rattle.tg_wire.specs.Inner.Flat.{AreSpelled, key_tokens}
 use Rattle.tg_wire.proofs.escaped.take_members.Given as goal
 
 abbrev pub invariant-loop-word : goal.invariant-loop-word

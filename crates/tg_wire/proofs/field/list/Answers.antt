@@ -1,7 +1,7 @@
 use Rattle.std.proofs.Common.{option_and_then, sym, ap, ◌∙◌}
 use Rattle.serde_json.specs.Find.{as_array, get}
-use Rattle.tg_wire.specs.Flat.{data_of}
-use Rattle.tg_wire.specs.Keys.{key_text}
+use Rattle.tg_wire.specs.Inner.Flat.{data_of}
+use Rattle.tg_wire.specs.Inner.Keys.{key_text}
 use Rattle.tg_wire.proofs.FlatLemmas.{flat_no_list}
 use Rattle.tg_wire.proofs.field.list.Goals as goal
 

@@ -1,7 +1,7 @@
 use Rattle.std.proofs.Common.{◌≡◌, ◌∷◌, ◌+◌, drop, get_or, sym, ap, refl, ◌∙◌, subst, arith}
 use Rattle.json.specs.Token.{string}
 use Rattle.json.specs.Lex.{token, colon, between, lex}
-use Rattle.tg_wire.specs.Keys.{key_text}
+use Rattle.tg_wire.specs.Inner.Keys.{key_text}
 use Rattle.json.specs.Word.{is_space}
 use Rattle.tg_wire.proofs.LexemesLemmas.{EndsAt, operator_at, spaces_at}
 use Rattle.tg_wire.proofs.flat.read_member.Goals as goal

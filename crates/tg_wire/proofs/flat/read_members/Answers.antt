@@ -1,8 +1,8 @@
 use Rattle.std.proofs.Common.{◌≡◌, ◌∷◌, ◌+◌, ◌++◌, [], drop, get_or, sym, ap, refl, ◌∙◌, subst, arith}
 use Rattle.json.specs.Token.{string}
 use Rattle.json.specs.Lex.{token, colon, between, lex}
-use Rattle.tg_wire.specs.Flat.{AreSpelled, member_lexemes}
-use Rattle.tg_wire.specs.Keys.{key_text}
+use Rattle.tg_wire.specs.Inner.Flat.{AreSpelled, member_lexemes}
+use Rattle.tg_wire.specs.Inner.Keys.{key_text}
 use Rattle.tg_wire.proofs.LexemesLemmas.{within, operator_at}
 use Rattle.tg_wire.proofs.FlatLemmas.{spelled_more, lexemes_more}
 use Rattle.tg_wire.proofs.flat.read_members.Goals as goal

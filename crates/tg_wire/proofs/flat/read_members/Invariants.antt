@@ -1,7 +1,7 @@
 use Rattle.std.proofs.Common.{◌≡◌, ℕ, ◌-◌, ◌≤◌, List, length, drop}
 use Rattle.json.specs.Token.{Token}
 use Rattle.json.specs.Lex.{between, lex}
-use Rattle.tg_wire.specs.Flat.{AreSpelled, member_lexemes}
+use Rattle.tg_wire.specs.Inner.Flat.{AreSpelled, member_lexemes}
 use Rattle.tg_wire.proofs.flat.read_members.Given as goal
 
 abbrev pub invariant-loop-member : goal.invariant-loop-member

@@ -2,7 +2,7 @@ use Rattle.std.proofs.Common.{◌≡◌, ◌++◌, drop}
 use Rattle.json.specs.Tree.{json_tokens, items_tokens}
 use Rattle.serde_json.specs.Data.{array}
 use Rattle.serde_json.specs.Written.{outline, items_outline}
-use Rattle.tg_wire.specs.Replies.{edges_data}
+use Rattle.tg_wire.specs.Promise.Replies.{edges_data}
 use Rattle.tg_wire.proofs.object_line.put_edges.Given as goal
 
 -- the tokens so far and those of the edges that are left are those of all

@@ -1,7 +1,7 @@
 use Rattle.std.proofs.Common.{◌≡◌, ◌++◌, drop}
 use Rattle.json.specs.Tree.{members_tokens}
 use Rattle.serde_json.specs.Written.{members_outline}
-use Rattle.tg_wire.specs.Told.{told_members}
+use Rattle.tg_wire.specs.Inner.Told.{told_members}
 use Rattle.tg_wire.proofs.object_line.put_fields.Given as goal
 
 -- the tokens so far and those of the fields that are left are those of all

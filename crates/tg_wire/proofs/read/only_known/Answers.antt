@@ -1,8 +1,8 @@
 use Rattle.std.proofs.Common.{◌++◌, sym, ap, ◌∙◌}
-use Rattle.tg_wire.specs.Flat.{data_of}
-use Rattle.tg_wire.specs.Ops.{op_form}
-use Rattle.tg_wire.specs.Lines.{line_extras}
-use Rattle.tg_wire.specs.Reading.{guard, knows_all}
+use Rattle.tg_wire.specs.Inner.Flat.{data_of}
+use Rattle.tg_wire.specs.Promise.Ops.{op_form}
+use Rattle.tg_wire.specs.Promise.Lines.{line_extras}
+use Rattle.tg_wire.specs.Promise.Reading.{guard, knows_all}
 use Rattle.tg_wire.specs.declared.fault.WireFault.TheVariants.{UnknownField}
 use Rattle.tg_wire.proofs.OpsLemmas.{line_given}
 use Rattle.tg_wire.proofs.ReadingLemmas.{read_well}

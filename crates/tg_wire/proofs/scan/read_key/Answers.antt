@@ -3,7 +3,7 @@ use Rattle.std.proofs.lemmas.List.{take_rest}
 use Rattle.std.specs.Io.{StartsWith}
 use Rattle.json.specs.Token.{string}
 use Rattle.json.specs.Lex.{token, between, lex}
-use Rattle.tg_wire.specs.Keys.{key_text}
+use Rattle.tg_wire.specs.Inner.Keys.{key_text}
 use Rattle.tg_wire.proofs.QuotedLemmas.{quoted, key_at}
 use Rattle.tg_wire.proofs.scan.read_key.Goals as goal
 

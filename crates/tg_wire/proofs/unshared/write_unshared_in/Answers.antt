@@ -1,5 +1,5 @@
 use Rattle.std.proofs.Common.{◌≡◌, IfOk, sym, subst}
-use Rattle.tg_wire.specs.Unshared.{unshared_line}
+use Rattle.tg_wire.specs.Promise.Unshared.{unshared_line}
 use Rattle.tg_wire.specs.declared.unshared.Unshared.{Unshared}
 use Rattle.tg_wire.proofs.unshared.write_unshared_in.Goals as goal
 

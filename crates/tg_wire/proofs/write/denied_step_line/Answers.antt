@@ -1,7 +1,7 @@
 use Rattle.std.proofs.Common.{ap, sym, ◌∙◌}
 use Rattle.std.proofs.lemmas.Result.{IfOk-weaker}
-use Rattle.tg_wire.specs.Faults.{line_text}
-use Rattle.tg_wire.specs.Answers.{denied_step_data}
+use Rattle.tg_wire.specs.Promise.Faults.{line_text}
+use Rattle.tg_wire.specs.Promise.Answers.{denied_step_data}
 use Rattle.tg_wire.proofs.write.denied_step_line.Goals as goal
 
 pub returns-in-NameTaken : goal.returns-in-NameTaken

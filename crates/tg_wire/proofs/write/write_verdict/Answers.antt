@@ -1,6 +1,6 @@
 use Rattle.std.proofs.Common.{ap, sym, ◌∙◌}
 use Rattle.std.proofs.lemmas.Result.{IfOk-weaker}
-use Rattle.tg_wire.specs.Answers.{verdict_line}
+use Rattle.tg_wire.specs.Promise.Answers.{verdict_line}
 use Rattle.tg_wire.proofs.write.write_verdict.Goals as goal
 
 pub returns-in-ActorNotSubject : goal.returns-in-ActorNotSubject

@@ -1,8 +1,8 @@
 use Rattle.std.proofs.Common.{◌≡◌, IfOk, sym, subst}
 use Rattle.serde_json.specs.Data.{object}
 use Rattle.tg_rights.specs.declared.command.Command.{Command}
-use Rattle.tg_wire.specs.Faults.{line_text}
-use Rattle.tg_wire.specs.StepLines.{step_line, step_members}
+use Rattle.tg_wire.specs.Promise.Faults.{line_text}
+use Rattle.tg_wire.specs.Promise.StepLines.{step_line, step_members}
 use Rattle.tg_wire.proofs.write_step.write_step_in.Goals as goal
 
 pub returns-in-Take : goal.returns-in-Take

@@ -1,8 +1,8 @@
 use Rattle.std.proofs.Common.{◌∙◌, [], Some, refl, subst, sym}
 use Rattle.tg_talk.proofs.TakingLemmas.{always, at_start}
 use Rattle.tg_talk.specs.declared.fault.TalkFault.TheVariants.{OutOfMemory}
-use Rattle.tgdoc.specs.Audits.{BytesAudited, no_buffer}
-use Rattle.tgdoc.specs.Auditing.{EndsEarlyBytes, Judges, end_after}
+use Rattle.tgdoc.specs.Promise.Audits.{BytesAudited, no_buffer}
+use Rattle.tgdoc.specs.Inner.Auditing.{EndsEarlyBytes, Judges, end_after}
 use Rattle.tgdoc.proofs.AuditLemmas.{audited_early, audited_whole}
 use Rattle.tg_talk.proofs.SendsLemmas.{sends_none}
 use Rattle.tgdoc.proofs.audit.audit_lines.Goals as goal

@@ -1,5 +1,5 @@
 use Rattle.std.proofs.Common.{refl}
-use Rattle.tg_wire.specs.Lines.{goal_of}
+use Rattle.tg_wire.specs.Promise.Lines.{goal_of}
 use Rattle.tgdoc.proofs.AuditLemmas.{misreads}
 use Rattle.tgdoc.proofs.audit.goal_in.Goals as goal
 

@@ -1,9 +1,9 @@
 use Rattle.std.proofs.Common.{refl, subst}
-use Rattle.tg_audit.specs.Verdicts.{IsVerdict}
-use Rattle.tg_wire.specs.Lines.{goal_of}
-use Rattle.tgdoc.specs.Auditing.{RefusesBy}
-use Rattle.tgdoc.specs.Audits.{Misreads, OpensGraph, SaysGoal}
-use Rattle.tg_talk.specs.Opening.{RefusesOpening}
+use Rattle.tg_audit.specs.Promise.Verdicts.{IsVerdict}
+use Rattle.tg_wire.specs.Promise.Lines.{goal_of}
+use Rattle.tgdoc.specs.Inner.Auditing.{RefusesBy}
+use Rattle.tgdoc.specs.Promise.Audits.{Misreads, OpensGraph, SaysGoal}
+use Rattle.tg_talk.specs.Promise.Opening.{RefusesOpening}
 use Rattle.tgdoc.proofs.AuditLemmas.{ends_bytes, ends_first, ends_second, ends_third, is_judged, is_read, is_refused, is_unjudged, passed}
 use Rattle.tgdoc.proofs.audit.judge.Goals as goal
 

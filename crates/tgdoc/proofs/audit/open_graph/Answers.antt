@@ -1,5 +1,5 @@
 use Rattle.std.proofs.Common.{refl}
-use Rattle.tg_talk.specs.Opening.{unsound}
+use Rattle.tg_talk.specs.Promise.Opening.{unsound}
 use Rattle.tg_talk.proofs.OpeningLemmas.{refuses_fault}
 use Rattle.tgdoc.proofs.audit.open_graph.Goals as goal
 

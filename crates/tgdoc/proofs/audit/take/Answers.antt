@@ -1,8 +1,8 @@
 use Rattle.std.proofs.Common.{[], None, arith}
 use Rattle.tg_talk.proofs.TakingLemmas.{always, weaker}
-use Rattle.tg_talk.specs.Taking.{Takes}
+use Rattle.tg_talk.specs.Promise.Taking.{Takes}
 use Rattle.tg_talk.specs.declared.input_lines.Next.TheVariants as next
-use Rattle.tgdoc.specs.Auditing.{EndsBytes, NoRefusal}
+use Rattle.tgdoc.specs.Inner.Auditing.{EndsBytes, NoRefusal}
 use Rattle.tgdoc.proofs.AuditLemmas.{ends_long, ends_many, ends_stopped}
 use Rattle.tgdoc.proofs.audit.take.Goals as goal
 

@@ -1,7 +1,7 @@
 use Rattle.std.proofs.Common.{Err, refl, subst}
-use Rattle.tg_wire.specs.Lines.{step_of}
-use Rattle.tg_wire.specs.Reading as reading
-use Rattle.tgdoc.specs.Audits.{SaysStep, not_read}
+use Rattle.tg_wire.specs.Promise.Lines.{step_of}
+use Rattle.tg_wire.specs.Promise.Reading as reading
+use Rattle.tgdoc.specs.Promise.Audits.{SaysStep, not_read}
 use Rattle.tgdoc.proofs.AuditLemmas.{loop_goes_on, loop_is_over, loop_refuses, loop_stops, misreads, passed, steps_none, unfailed}
 use Rattle.tgdoc.proofs.audit.take_steps.Goals as goal
 

@@ -1,7 +1,7 @@
 use Rattle.std.proofs.Common.{◌≡◌, ◌≤◌, ◌-◌, false, IfSome}
-use Rattle.tg_talk.specs.Devices.{device_of, has_failed}
+use Rattle.tg_talk.specs.Promise.Devices.{device_of, has_failed}
 use Rattle.tg_talk.specs.declared.line_buffer.TheConstants.{MOST_LINES}
-use Rattle.tgdoc.specs.Auditing.{unread}
+use Rattle.tgdoc.specs.Inner.Auditing.{unread}
 use Rattle.tgdoc.proofs.AuditLemmas.{StepsSoFar}
 use Rattle.tgdoc.proofs.audit.take_steps.Given as goal
 

@@ -1,5 +1,5 @@
 use Rattle.std.proofs.Common.{refl}
-use Rattle.tgdoc.specs.Auditing.{NoRefusal}
+use Rattle.tgdoc.specs.Inner.Auditing.{NoRefusal}
 use Rattle.tgdoc.proofs.AuditLemmas.{ends_bytes, passed, wanted_is_missing, wanted_is_taken}
 use Rattle.tgdoc.proofs.audit.take_wanted.Goals as goal
 

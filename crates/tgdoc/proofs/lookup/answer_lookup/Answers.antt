@@ -1,11 +1,11 @@
 use Rattle.std.proofs.Common.{◌≡◌, ◌↔◌, ◌∙◌, sym, subst}
 use Rattle.std.proofs.lemmas.Result.{IfOk-weaker}
-use Rattle.tg_lists.specs.Membership.{Contains}
-use Rattle.tg_graph.specs.Derivations.{CanShare}
-use Rattle.tg_graph.specs.Protection.{IsVertex}
-use Rattle.tg_sharing.specs.Lookups.{IsListing, present}
+use Rattle.tg_lists.specs.Promise.Membership.{Contains}
+use Rattle.tg_graph.specs.Promise.Derivations.{CanShare}
+use Rattle.tg_graph.specs.Promise.Protection.{IsVertex}
+use Rattle.tg_sharing.specs.Promise.Lookups.{IsListing, present}
 use Rattle.tg_sharing.specs.declared.lookup.Listing.{Listing}
-use Rattle.tgdoc.specs.Lookups.{TakesMore, goal_with}
+use Rattle.tgdoc.specs.Promise.Lookups.{TakesMore, goal_with}
 use Rattle.tgdoc.proofs.SharingLemmas.{could_told, no_rights_told, nobody_told, runs_out_told, too_much_told}
 use Rattle.tgdoc.proofs.lookup.answer_lookup.Goals as goal
 

@@ -1,6 +1,6 @@
 use Rattle.std.proofs.Common.{◌∙◌, List, ℕ, subst}
 use Rattle.std.proofs.lemmas.Result.{IfOk-weaker}
-use Rattle.tg_draw.specs.Picture.{Draws}
+use Rattle.tg_draw.specs.Promise.Picture.{Draws}
 use Rattle.tgdoc.proofs.pictures.draw_end.Goals as goal
 
 pub returns : goal.returns

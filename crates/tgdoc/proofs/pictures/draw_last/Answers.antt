@@ -1,6 +1,6 @@
 use Rattle.std.proofs.Common.{◌≡◌, ◌+◌, true, false, sym, subst, arith}
-use Rattle.tg_draw.specs.Picture.{Draws}
-use Rattle.tgdoc.specs.Drawings.{drawn, ends_label, not_drawn}
+use Rattle.tg_draw.specs.Promise.Picture.{Draws}
+use Rattle.tgdoc.specs.Promise.Drawings.{drawn, ends_label, not_drawn}
 use Rattle.tgdoc.proofs.pictures.draw_last.Goals as goal
 
 pub returns-in-Err-clause-written : goal.returns-in-Err-clause-written

@@ -1,7 +1,7 @@
 use Rattle.std.proofs.Common.{◌∙◌, List, ℕ, true, false, refl, sym, ap, subst}
-use Rattle.tg_draw.specs.Picture.{Draws}
-use Rattle.tg_talk.specs.Answering.{one_if}
-use Rattle.tgdoc.specs.Drawings.{drawn, line_label, not_drawn}
+use Rattle.tg_draw.specs.Promise.Picture.{Draws}
+use Rattle.tg_talk.specs.Promise.Answering.{one_if}
+use Rattle.tgdoc.specs.Promise.Drawings.{drawn, line_label, not_drawn}
 use Rattle.tgdoc.proofs.pictures.drawn.Goals as goal
 
 pub returns-in-Err : goal.returns-in-Err

@@ -1,5 +1,5 @@
 use Rattle.std.proofs.Common.{◌∙◌, inl, inr, refl, sym}
-use Rattle.tgdoc.specs.Drawing.{rests, writes}
+use Rattle.tgdoc.specs.Inner.Drawing.{rests, writes}
 use Rattle.tgdoc.proofs.PicturesLemmas.{fine_memory, fine_other, fine_reading, unfailed}
 use Rattle.tgdoc.proofs.pictures.end_drawing.Goals as goal
 

@@ -1,10 +1,10 @@
 use Rattle.std.proofs.Common.{[], None, subst}
 use Rattle.tg_talk.proofs.TakingLemmas.{always, at_start}
-use Rattle.tg_talk.specs.Taking.{Takes}
+use Rattle.tg_talk.specs.Promise.Taking.{Takes}
 use Rattle.tg_talk.specs.declared.input_lines.Next.TheVariants as next
-use Rattle.tgdoc.specs.Outputs.{Told}
-use Rattle.tg_talk.specs.Opening.{Opens, RefusesOpening}
-use Rattle.tgdoc.specs.Runs.{InputRan, no_buffer, stopped}
+use Rattle.tgdoc.specs.Inner.Outputs.{Told}
+use Rattle.tg_talk.specs.Promise.Opening.{OpensVault, RefusesOpening}
+use Rattle.tgdoc.specs.Promise.Runs.{InputRan, no_buffer, stopped}
 use Rattle.tg_talk.proofs.SendsLemmas.{sends_nothing}
 use Rattle.tg_talk.proofs.OpeningLemmas.{empty_line}
 use Rattle.tgdoc.proofs.OpeningLemmas.{ran_no_line, ran_too_long, ran_refused, ran_opened}
@@ -35,8 +35,8 @@ returns-in-Err-clause-ran g c =
 pub returns-in-Ok-open_vault-clause-ran : goal.returns-in-Ok-open_vault-clause-ran
 returns-in-Ok-open_vault-clause-ran g c =
     at_start _ _ (Takes next.Line _ _ _) (InputRan (Told c.args.how) _ _ _ _) c.in-Ok.ensures c.in-Line.ensures.takes (λ xs (within, takes).
-    ran_opened (Told c.args.how) c.courses_have_the_headline.ensures _ _ _ _ xs _ _ c.in-Ok-open_vault.vault takes c.in-Line.ensures.short (subst (λ line. Opens line c.in-Ok-open_vault.vault) c.line.ensures c.in-Ok-open_vault.ensures.ok)
+    ran_opened (Told c.args.how) c.courses_have_the_headline.ensures _ _ _ _ xs _ _ c.in-Ok-open_vault.vault takes c.in-Line.ensures.short (subst (λ line. OpensVault line c.in-Ok-open_vault.vault) c.line.ensures c.in-Ok-open_vault.ensures.ok)
     c.take_rest.ensures.told)
 
 pub take_rest-requires-clause-opens : goal.take_rest-requires-clause-opens
-take_rest-requires-clause-opens g c = subst (λ line. Opens line c.in-Ok-open_vault.vault) c.line.ensures c.in-Ok-open_vault.ensures.ok
+take_rest-requires-clause-opens g c = subst (λ line. OpensVault line c.in-Ok-open_vault.vault) c.line.ensures c.in-Ok-open_vault.ensures.ok

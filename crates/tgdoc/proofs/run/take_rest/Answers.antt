@@ -1,12 +1,12 @@
 use Rattle.std.proofs.Common.{◌∙◌, true≢false, refl, sym}
 use Rattle.std.proofs.lemmas.Result.{IfOk-weaker}
 use Rattle.std.specs.Prelude.{is_some}
-use Rattle.tg_talk.specs.Answering.{RestAnswered}
+use Rattle.tg_talk.specs.Promise.Answering.{RestAnswered}
 use Rattle.tg_talk.proofs.TakingLemmas.{weaker}
-use Rattle.tgdoc.specs.Drawings.{PictureAtEnd, PicturesTold, is_broken}
-use Rattle.tgdoc.specs.Sharing.{AnsweredAtEnd, SharingTold}
-use Rattle.tgdoc.specs.Runs.{AnswersTold}
-use Rattle.tgdoc.specs.Running.{InputLeft}
+use Rattle.tgdoc.specs.Promise.Drawings.{PictureAtEnd, PicturesTold, is_broken}
+use Rattle.tgdoc.specs.Promise.Sharing.{AnsweredAtEnd, SharingTold}
+use Rattle.tgdoc.specs.Promise.Runs.{AnswersTold}
+use Rattle.tgdoc.specs.Inner.Running.{InputLeft}
 use Rattle.tgdoc.proofs.PicturesLemmas.{answer_left, last_left}
 use Rattle.tgdoc.proofs.RestLemmas.{lines_left}
 use Rattle.tgdoc.proofs.SharingLemmas.{opens_graph}

@@ -1,7 +1,7 @@
 use Rattle.std.proofs.Common.{[], false, subst}
 use Rattle.std.proofs.lemmas.Result.{IfOk-weaker}
 use Rattle.tg_graph.specs.declared.derivation.Goal.{Goal}
-use Rattle.tg_sharing.specs.Answers.{IsAnswer}
+use Rattle.tg_sharing.specs.Promise.Answers.{IsAnswer}
 use Rattle.tgdoc.proofs.SharingLemmas.{found_there, never_told, no_from_told, no_serial_told, no_to_told, shared_told}
 use Rattle.tgdoc.proofs.sharing.answer_pair.Goals as goal
 

@@ -1,5 +1,5 @@
 use Rattle.std.proofs.Common.{◌∙◌, sym, subst}
-use Rattle.tgdoc.specs.Asked.{AreRewritten}
+use Rattle.tgdoc.specs.Inner.Asked.{AreRewritten}
 use Rattle.tgdoc.proofs.SharingLemmas.{history_rewritten, sharing_shown, steps_rewritten}
 use Rattle.tgdoc.proofs.sharing.derivation_text.Goals as goal
 

@@ -1,6 +1,6 @@
 use Rattle.std.proofs.Common.{◌≡◌, ◌++◌, drop}
-use Rattle.tgdoc.specs.Asked.{AreRewritten}
-use Rattle.tgdoc.specs.Sharing.{AreRead, steps_text}
+use Rattle.tgdoc.specs.Inner.Asked.{AreRewritten}
+use Rattle.tgdoc.specs.Promise.Sharing.{AreRead, steps_text}
 use Rattle.tgdoc.proofs.sharing.push_steps.Given as goal
 
 -- the text so far and the lines of the steps that are left are the whole

@@ -1,7 +1,7 @@
 use Rattle.std.proofs.Common.{◌++◌, ◌∙◌, ap, sym, subst}
-use Rattle.tg_vault.specs.Contents.{graph_now}
-use Rattle.tgdoc.specs.Asked.{AreRewritten}
-use Rattle.tgdoc.specs.Sharing.{steps_text}
+use Rattle.tg_vault.specs.Promise.Contents.{graph_now}
+use Rattle.tgdoc.specs.Inner.Asked.{AreRewritten}
+use Rattle.tgdoc.specs.Promise.Sharing.{steps_text}
 use Rattle.tgdoc.proofs.SharingLemmas.{steps_rewritten, steps_shown}
 use Rattle.tgdoc.proofs.sharing.steps_alone.Goals as goal
 

@@ -1,8 +1,8 @@
 use Rattle.std.proofs.Common.{◌∙◌, ap, refl, subst, sym}
-use Rattle.tg_graph.specs.Protection.{named}
-use Rattle.tg_wire.specs.Unshared.{unshared_line}
+use Rattle.tg_graph.specs.Promise.Protection.{named}
+use Rattle.tg_wire.specs.Promise.Unshared.{unshared_line}
 use Rattle.tg_wire.specs.declared.unshared.Unshared.TheVariants.{NoPrincipal, NoVertex}
-use Rattle.tgdoc.specs.Named.{Names, NamesNone, no_principal, no_vertex}
+use Rattle.tgdoc.specs.Promise.Named.{Names, NamesNone, no_principal, no_vertex}
 use Rattle.tgdoc.specs.declared.question.VertexName.{VertexName}
 use Rattle.tgdoc.proofs.SharingLemmas.{named_there, no_vertex_there}
 use Rattle.tgdoc.proofs.unshared.vertex_in.Goals as goal

@@ -1,7 +1,7 @@
 use Rattle.std.proofs.Common.{◌≡◌, ◌+◌, ◌-◌, ◌∙◌, take, drop, subst, sym, ap, arith}
 use Rattle.std.proofs.lemmas.List.{take-take}
 use Rattle.std.specs.Io.KnownBytes.{Keeps, prepend_known}
-use Rattle.tg_talk.specs.InputLines.{EndsLines}
+use Rattle.tg_talk.specs.Inner.InputLines.{EndsLines}
 use Rattle.tg_talk.proofs.InputLinesLemmas.{ends_moved_front}
 use Rattle.tg_talk.proofs.KnownBytesLemmas.{Keeps-consumed, front_grown}
 use Rattle.tg_talk.proofs.line_buffer.LineBuffer.fill.Goals as goal

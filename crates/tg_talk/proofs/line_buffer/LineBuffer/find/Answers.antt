@@ -1,5 +1,5 @@
 use Rattle.std.proofs.Common.{◌≡◌, ◌||◌, ◌<◌, ◌∙◌, length, nat_lt, subst, ap, arith, true, false}
-use Rattle.tg_talk.specs.InputLines.{has_newline, IsFirstNewline}
+use Rattle.tg_talk.specs.Promise.InputLines.{has_newline, IsFirstNewline}
 use Rattle.tg_talk.proofs.InputLinesLemmas.{none_in_front, none_in_shorter}
 use Rattle.tg_talk.proofs.line_buffer.LineBuffer.find.Goals as goal
 

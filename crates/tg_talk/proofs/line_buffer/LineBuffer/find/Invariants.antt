@@ -1,6 +1,6 @@
 use Rattle.std.proofs.Common.{◌≡◌, ◌-◌, length, true, false}
 use Rattle.std.specs.Io.KnownBytes.{Keeps, prepend_known}
-use Rattle.tg_talk.specs.Finding.{is_decided}
+use Rattle.tg_talk.specs.Promise.Finding.{is_decided}
 use Rattle.tg_talk.proofs.line_buffer.LineBuffer.find.Given as goal
 
 abbrev pub invariant-loop-self : goal.invariant-loop-self

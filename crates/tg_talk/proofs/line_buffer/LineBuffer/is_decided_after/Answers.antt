@@ -1,5 +1,5 @@
 use Rattle.std.proofs.Common.{◌≡◌, ◌+◌, ◌-◌, ◌||◌, ◌∙◌, drop, nat_lt, ap, sym, arith}
-use Rattle.tg_talk.specs.Finding.{is_decided}
+use Rattle.tg_talk.specs.Promise.Finding.{is_decided}
 use Rattle.tg_talk.proofs.InputLinesLemmas.{decided_at}
 use Rattle.tg_talk.proofs.line_buffer.LineBuffer.is_decided_after.Goals as goal
 

@@ -1,5 +1,5 @@
 use Rattle.std.proofs.Common.{◌≡◌, refl, sym, ap, ◌∙◌, arith}
-use Rattle.tg_wire.specs.Keys.{key_text}
+use Rattle.tg_wire.specs.Inner.Keys.{key_text}
 use Rattle.tg_wire.proofs.FlatLemmas.{found_among, found_in_all, found_last, found_sooner}
 use Rattle.tg_wire.proofs.flat.Flat.get.Goals as goal
 

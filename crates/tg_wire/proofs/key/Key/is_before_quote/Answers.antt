@@ -1,6 +1,6 @@
 use Rattle.std.proofs.Common.{◌≡◌, ◌∙◌, length, arith}
 use Rattle.std.proofs.lemmas.Bool.{eqb-true, eq-eqb}
-use Rattle.tg_wire.specs.Keys.{key_text}
+use Rattle.tg_wire.specs.Inner.Keys.{key_text}
 use Rattle.tg_wire.proofs.QuotedLemmas.{no_quoted, ends_in_quote, is_quoted}
 use Rattle.tg_wire.proofs.key.Key.is_before_quote.Goals as goal
 

@@ -1,5 +1,5 @@
 use Rattle.std.proofs.Common.{◌≡◌, drop}
-use Rattle.tg_wire.specs.Keys.{is_listed, key_text}
+use Rattle.tg_wire.specs.Inner.Keys.{is_listed, key_text}
 use Rattle.tg_wire.proofs.key.Key.is_in.Given as goal
 
 -- it is among the keys that are left if it is among all

@@ -1,11 +1,11 @@
 use Rattle.std.proofs.Common.{◌∙◌, refl}
-use Rattle.tg_talk.specs.Answering.{is_wrong, one_if, text_of}
+use Rattle.tg_talk.specs.Promise.Answering.{is_wrong, one_if, shown_line}
 use Rattle.tgdoc.proofs.pictures.ArtistResponder.respond.Goals as goal
 
 pub returns-clause-says : goal.returns-clause-says
 returns-clause-says c = record {
   same = refl;
-  answer = text_of c.answer-answered.result;
+  answer = shown_line c.answer-answered.result;
   count = one_if (is_wrong c.answer-answered.result);
   answers = c.answer-answered.ensures;
   shown = c.shown.ensures;

@@ -1,0 +1,3 @@
+-- What public contracts rest on, of this crate or of one above it.
+pub mod Serving
+pub mod Meanings

@@ -1,0 +1,8 @@
+-- What only proofs and private contracts need.
+pub mod Keys
+pub mod Reading
+pub mod Flat
+pub mod Lines
+pub mod Runs
+pub mod Told
+pub mod Unshared
