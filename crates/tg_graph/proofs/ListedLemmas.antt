@@ -1,21 +1,25 @@
 -- Lists in order, as entries of a map, and in another order; and what their elements come to.
-use Rattle.std.proofs.Common.{◌≡◌, ◌≢◌, ℕ, zero, suc, ◌<◌, ◌≤◌, ◌∷◌, [], ◌++◌, List, Bool, true, false, cond, length, map, get_or, refl, sym, ap, subst, ◌∙◌, ◌==◌, append-nil, append_assoc, inl, inr, Some, arith}
+use Rattle.std.proofs.Common.{◌≡◌, ◌≢◌, ℕ, zero, suc, ◌<◌, ◌≤◌, ◌∷◌, [], ◌++◌, List, Bool, true, false, T, cond, length, map, get_or, refl, sym, ap, subst, ◌∙◌, ◌==◌, append-nil, append_assoc, inl, inr, Some, arith}
 use Rattle.std.specs.Prelude.{◌↔◌, sum_by}
-use Rattle.std.specs.List.{AllPairs}
-use Rattle.std.specs.List.Sorted.{IsNonDecreasingBy, IsPermutation}
-use Rattle.std.specs.Ordering.{is_eq, match_ordering, nat_cmp, ordering_then}
+use Rattle.std.specs.List.{AllByRecursion, AllPairs}
+use Rattle.std.specs.List.Sorted.{IsNonDecreasingBy, IsPermutation, IsStrictlySortedBy}
+use Rattle.std.specs.Ordering.{eq_by_cmp, is_eq, is_lt, nat_cmp, ordering_then}
 use Rattle.std.specs.declared.cmp.Ordering.{Ordering}
-use Rattle.std.specs.declared.cmp.Ordering.TheVariants.{Equal, Greater}
-use Rattle.std.specs.Cmp.{nat_cmp_is, nat_eq_equiv, unsigned_tied}
-use Rattle.std.specs.Map.{lookup}
+use Rattle.std.specs.declared.cmp.Ordering.TheVariants.{Equal, Less}
+use Rattle.std.specs.Cmp.{IsTotalOrder, eq_by_cmp_equiv, nat_cmp_is, nat_eq_equiv, unsigned_tied}
+use Rattle.std.specs.Map.{keys_of, lookup}
 use Rattle.std.specs.BTreeMap as tree
+use Rattle.std.specs.FinMap as finmap
+use Rattle.std.specs.FinMap.Entries.{below_all, same_entries}
 use Rattle.std.proofs.lemmas.Bool.{eqb-true, eq-eqb, and_parts, and_from}
 use Rattle.std.proofs.lemmas.List.Sorted.{Contains-permutation}
 use Rattle.std.proofs.lemmas.List.Sums.{sum_by-append, sum_by-cons}
-use Rattle.std.proofs.lemmas.Map.Keys.{IsDistinct-IsPermutation}
-use Rattle.std.proofs.lemmas.Map.Made.{AllPairs-from_IsDistinct, IsDistinct-from_AllPairs}
+use Rattle.std.proofs.lemmas.Map.Keys.{IsDistinct-IsPermutation, IsDistinct-from_sorted}
+use Rattle.std.proofs.lemmas.Map.Lookups.{CmpEqualImpliesEq}
+use Rattle.std.proofs.lemmas.Map.Made.{AllPairs-from_IsDistinct, IsDistinct-from_AllPairs, update_all_none}
 use Rattle.tg_lists.specs.Promise.Membership.{Contains, Distinct}
-use Rattle.tg_lists.proofs.MembershipLemmas.{contains_append, contains_left, contains_map, contains_middle, contains_right, map_append, split_at}
+use Rattle.tg_lists.proofs.MembershipLemmas.{contains_append, contains_left, contains_map, contains_right, split_at}
+use Rattle.tg_rights.proofs.Bools.{true_both}
 use Rattle.tg_graph.specs.declared.member.Member.{Member}
 use Rattle.tg_graph.specs.Promise.Protection.{Rise}
 use Rattle.tg_graph.specs.Promise.Opening.{ListedEdge}
@@ -29,12 +33,6 @@ pub mapped : {X Y : Type 0} (f : X → Y) (xs : List X) (y : Y) → Contains (ma
 mapped f [] y h = absurd h
 mapped f (x ∷ xs) y (inl is) = (x, inl refl, is)
 mapped f (x ∷ xs) y (inr h) = let rest = mapped f xs y h in (rest.0, inr rest.1, rest.2)
-
--- what comes before an element of a list in order
-pub rises_split : {X : Type 0} (before : X → X → Type 0) (xs zs : List X) (y x : X) → Rises before (xs ++ y ∷ zs) → Contains xs x → before x y
-rises_split before [] zs y x r h = absurd h
-rises_split before (w ∷ xs) zs y x r (inl is) = subst (λ v. before v y) (sym is) (r.0 y (contains_middle xs zs y))
-rises_split before (w ∷ xs) zs y x r (inr h) = rises_split before xs zs y x r.1 h
 
 -- lists in order, one after the other, and with each element changed
 pub rises_append : {X : Type 0} (before : X → X → Type 0) (xs ys : List X) → Rises before xs → Rises before ys → ((x y : X) → Contains xs x → Contains ys y → before x y) → Rises before (xs ++ ys)
@@ -51,25 +49,40 @@ rises_map f before after (x ∷ xs) step r = (
   rises_map f before after xs step r.1,
 )
 
--- an entry whose key is above all others comes last
-insert_last : {K V : Type 0} (cmp : K → K → Ordering) (es : List (K × V)) (k : K) (v : V) → ((e : K × V) → Contains es e → cmp k e.0 ≡ Greater) → tree.insert_entry cmp es k v ≡ es ++ (k, v) ∷ []
-insert_last cmp [] k v above = refl
-insert_last {K} {V} cmp (e ∷ es) k v above =
-    let first : List (K × V) = (k, v) ∷ e ∷ es in
-    let same : List (K × V) = (e.0, v) ∷ es in
-    let last : List (K × V) = e ∷ tree.insert_entry cmp es k v in
-    ap (λ o. match_ordering o first same last) (above e (inl refl)) ∙ ap (λ (l : List (K × V)). e ∷ l) (insert_last cmp es k v (λ f h. above f (inr h)))
+-- ---- entries whose keys rise
+
+all_below : {K V : Type 0} (cmp : K → K → Ordering) (k : K) (es : List (K × V)) → AllByRecursion (λ q. cmp k q ≡ Less) (keys_of es) → T (below_all cmp k es)
+all_below cmp k [] below = tt
+all_below cmp k (e ∷ es) below = true_both _ _ (subst (λ o. T (is_lt o)) (sym below.0) tt) (all_below cmp k es below.1)
+
+sorted : {K V : Type 0} (cmp : K → K → Ordering) (es : List (K × V)) → IsStrictlySortedBy cmp (keys_of es) → T (finmap.is_sorted cmp es)
+unfolding IsStrictlySortedBy
+sorted cmp [] rises = tt
+sorted cmp (e ∷ es) rises = true_both _ _ (all_below cmp e.0 es rises.0) (sorted cmp es rises.1)
+
+find-lookup : {K V : Type 0} (cmp : K → K → Ordering) (q : K) (es : List (K × V)) → finmap.find cmp q es ≡ lookup (tree.is_at (cmp q)) es
+find-lookup cmp q [] = refl
+find-lookup cmp q (e ∷ es) = ap (cond (is_eq (cmp q e.0)) (Some e.1)) (find-lookup cmp q es)
+
+-- a map that is collected from them has these entries
+pub collected : {K V : Type 0} (cmp : K → K → Ordering) → IsTotalOrder cmp → CmpEqualImpliesEq cmp → (es : List (K × V)) (n : tree.BTreeMap K V) →
+    IsStrictlySortedBy cmp (keys_of es) → tree.IsFromIterResult cmp es n → n.entries ≡ es
+collected cmp o exact es n rises made =
+    same_entries cmp o exact n.entries es (sorted cmp n.entries made.1) (sorted cmp es rises)
+    (λ q. find-lookup cmp q n.entries ∙ made.0 q ∙ update_all_none (eq_by_cmp_equiv o) (eq_by_cmp cmp) (λ x y. refl) es q (IsDistinct-from_sorted cmp (keys_of es) rises) ∙ sym (find-lookup cmp q es))
 
 -- a list in order, of elements each with a key and a value
 module _ {X K V : Type 0} (cmp : K → K → Ordering) (before : X → X → Type 0) (key : X → K) (value : X → V) where
   abbrev pub entry : X → K × V
   entry x = (key x, value x)
 
-  pub entries_longer : ((x y : X) → before x y → cmp (key y) (key x) ≡ Greater) → (xs zs : List X) (x : X) → Rises before (xs ++ x ∷ zs) → tree.insert_entry cmp (map entry xs) (key x) (value x) ≡ map entry (xs ++ x ∷ [])
-  entries_longer later xs zs x rises =
-      insert_last cmp (map entry xs) (key x) (value x)
-      (λ e h. let from = mapped entry xs e h in ap (λ (p : K × V). cmp (key x) p.0) from.2 ∙ later from.0 x (rises_split before xs zs x from.0 rises from.1))
-      ∙ sym (map_append entry xs (x ∷ []))
+  pub entries_sorted : ((x y : X) → before x y → cmp (key x) (key y) ≡ Less) → (xs : List X) → Rises before xs → IsStrictlySortedBy cmp (keys_of (map entry xs))
+  unfolding IsStrictlySortedBy
+  entries_sorted earlier [] rises = tt
+  entries_sorted earlier (x ∷ xs) rises = (below xs rises.0, entries_sorted earlier xs rises.1) where
+    below : (ys : List X) → ((y : X) → Contains ys y → before x y) → AllByRecursion (λ k. cmp (key x) k ≡ Less) (keys_of (map entry ys))
+    below [] all = tt
+    below (y ∷ ys) all = (earlier x y (all y (inl refl)), below ys (λ z h. all z (inr h)))
 
   module _ (tied : (q k : K) → (is_eq (cmp q k) ≡ true) ↔ (q ≡ k)) where
     -- what is found is listed
@@ -102,12 +115,12 @@ ends_tied q k = (
   λ e. pair_tied q k ∙ and_from _ _ (eq-eqb q.0 k.0 (ap (λ (p : ℕ × ℕ). p.0) e)) (eq-eqb q.1 k.1 (ap (λ (p : ℕ × ℕ). p.1) e)),
 )
 
-pub serial_later : (v w : ℕ) → v < w → nat_cmp w v ≡ Greater
-serial_later v w low = sym (nat_cmp_is w v Greater low)
+pub serial_earlier : (v w : ℕ) → v < w → nat_cmp v w ≡ Less
+serial_earlier v w low = sym (nat_cmp_is v w Less low)
 
-pub edge_later : (e f : ListedEdge) → Before e f → pair_cmp (f.0, f.2) (e.0, e.2) ≡ Greater
-edge_later e f (inl low) = ap (λ o. ordering_then o (nat_cmp f.2 e.2)) (serial_later e.0 f.0 low)
-edge_later e f (inr tie) = ap (λ o. ordering_then o (nat_cmp f.2 e.2)) (sym (nat_cmp_is f.0 e.0 Equal (sym tie.0))) ∙ serial_later e.2 f.2 tie.1
+pub edge_earlier : (e f : ListedEdge) → Before e f → pair_cmp (e.0, e.2) (f.0, f.2) ≡ Less
+edge_earlier e f (inl low) = ap (λ o. ordering_then o (nat_cmp e.2 f.2)) (serial_earlier e.0 f.0 low)
+edge_earlier e f (inr tie) = ap (λ o. ordering_then o (nat_cmp e.2 f.2)) (sym (nat_cmp_is e.0 f.0 Equal tie.0)) ∙ serial_earlier e.2 f.2 tie.1
 
 pub serials_apart : (v w : ℕ) → v < w → v ≢ w
 serials_apart v w low is = absurd (omega (arith, low, is))

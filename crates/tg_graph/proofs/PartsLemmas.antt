@@ -1,17 +1,18 @@
 -- The graph that lists make, and that lists have exactly what one graph has.
-use Rattle.std.proofs.Common.{◌≡◌, ℕ, ◌<◌, ◌≤◌, ◌∷◌, [], ◌++◌, List, Bool, true, false, length, map, refl, sym, ap, subst, ◌∙◌, Some, None, arith}
+use Rattle.std.proofs.Common.{◌≡◌, ℕ, ◌<◌, ◌≤◌, ◌∷◌, [], List, Bool, true, false, length, map, refl, sym, ap, subst, ◌∙◌, Some, None, arith}
 use Rattle.std.specs.Prelude.{Option}
 use Rattle.std.specs.List.{list_any}
 use Rattle.std.specs.List.Sorted.{IsNonDecreasingBy, IsPermutation}
 use Rattle.std.specs.Option.{is_some, option_map, unwrap_or}
 use Rattle.std.specs.Ordering.{eq_by_cmp, nat_cmp}
-use Rattle.std.specs.Cmp.{nat_cmp_total, unsigned_tied}
+use Rattle.std.specs.Cmp.{nat_cmp_total, on_total, then_total, unsigned_tied}
 use Rattle.std.specs.Cmp.Lexicographic.{nat_list_eq_equiv}
 use Rattle.std.specs.FinMap as finmap
 use Rattle.std.specs.FinSet as set
 use Rattle.std.specs.Map.{lookup}
 use Rattle.std.specs.BTreeMap as tree
 use Rattle.std.proofs.lemmas.Bool.{eqb-true, eq-eqb}
+use Rattle.std.proofs.lemmas.Map.Lookups.{exact_pairs, exact_unsigned}
 use Rattle.std.proofs.lemmas.List.Sorted.{IsPermutation-map, IsPermutation-sym, length_permutation}
 use Rattle.tg_lists.specs.Promise.Membership.{Contains, Distinct}
 use Rattle.tg_lists.proofs.MembershipLemmas.{contains_map}
@@ -29,23 +30,25 @@ use Rattle.tg_graph.specs.Inner.Parts.{label_entry, member_of, members_of, verte
 use Rattle.tg_graph.specs.Promise.Views.{label_at, pair_cmp}
 use Rattle.tg_graph.specs.Inner.Views.{protection_of}
 use Rattle.tg_graph.proofs.LabelLemmas.{Labels, contains-label}
-use Rattle.tg_graph.proofs.ListedLemmas.{edge_later, edges_apart, ends_tied, entries_longer, found_listed, listed_found, mapped, members_length, members_rise, permuted, rise_rises, same_in_order, serial_later, serial_tied, serials_apart, serials_distinct, still_distinct}
+use Rattle.tg_graph.proofs.ListedLemmas.{collected, edge_earlier, edges_apart, ends_tied, entries_sorted, found_listed, listed_found, mapped, members_length, members_rise, permuted, rise_rises, same_in_order, serial_earlier, serial_tied, serials_apart, serials_distinct, still_distinct}
 use Rattle.tg_graph.proofs.RollLemmas.{any_is, is-same_name, is_any, same_name-is, untrue}
 use Rattle.tg_graph.proofs.TriplesLemmas.{same_triples}
 use Rattle.tg_graph.proofs.VertexLemmas.{Entries}
 use Rattle.tg_graph.proofs.ViewsLemmas.{label-shown, vertex-shown}
 
--- ---- one more entry of a map
+-- ---- maps that are collected from lists in order
 
-pub vertices_longer : (listed given left rest : List Listed) (x : Listed) (es : Entries) → Rises (λ v w. v.0 < w.0) listed → given ++ left ≡ listed → left ≡ x ∷ rest → es ≡ map vertex_entry given →
-    tree.insert_entry nat_cmp es x.0 (listed_vertex x) ≡ map vertex_entry (given ++ x ∷ [])
-vertices_longer listed given left rest x es rises all steps are =
-    let split : listed ≡ given ++ x ∷ rest = sym all ∙ ap (λ (l : List Listed). given ++ l) steps in
-    ap (λ (l : Entries). tree.insert_entry nat_cmp l x.0 (listed_vertex x)) are
-    ∙ entries_longer nat_cmp (λ (v w : Listed). v.0 < w.0) (λ (v : Listed). v.0) listed_vertex (λ v w low. serial_later v.0 w.0 low) given rest x (subst (Rises (λ (v w : Listed). v.0 < w.0)) split rises)
+pub vertices_collected : (listed : List Listed) (n : tree.BTreeMap ℕ Vertex) → Rises (λ v w. v.0 < w.0) listed → tree.IsFromIterResult nat_cmp (map vertex_entry listed) n → n.entries ≡ map vertex_entry listed
+vertices_collected listed n rises made =
+    collected nat_cmp nat_cmp_total exact_unsigned (map vertex_entry listed) n
+    (entries_sorted nat_cmp (λ (v w : Listed). v.0 < w.0) (λ (v : Listed). v.0) listed_vertex (λ v w low. serial_earlier v.0 w.0 low) listed rises)
+    made
 
-pub labels_longer : (xs zs : List ListedEdge) (x : ListedEdge) → Rises Before (xs ++ x ∷ zs) → tree.insert_entry pair_cmp (map label_entry xs) (x.0, x.2) x.1 ≡ map label_entry (xs ++ x ∷ [])
-labels_longer xs zs x rises = entries_longer pair_cmp Before (λ (e : ListedEdge). (e.0, e.2)) (λ (e : ListedEdge). e.1) edge_later xs zs x rises
+pub labels_collected : (listed : List ListedEdge) (n : tree.BTreeMap (ℕ × ℕ) Letters) → Rises Before listed → tree.IsFromIterResult pair_cmp (map label_entry listed) n → n.entries ≡ map label_entry listed
+labels_collected listed n rises made =
+    collected pair_cmp (then_total (on_total (λ (p : ℕ × ℕ). p.0) nat_cmp_total) (on_total (λ (p : ℕ × ℕ). p.1) nat_cmp_total)) (exact_pairs nat_cmp nat_cmp exact_unsigned exact_unsigned) (map label_entry listed) n
+    (entries_sorted pair_cmp Before (λ (e : ListedEdge). (e.0, e.2)) (λ (e : ListedEdge). e.1) edge_earlier listed rises)
+    made
 
 -- ---- what lists make
 

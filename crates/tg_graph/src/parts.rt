@@ -71,7 +71,7 @@ impl Graph {
     }
 }
 
-/// The vertices by their serials, which rise.
+/// The vertices by their serials, which rise: so the map is built at once, with no search for the place of each.
 fn vertices_of(
     alloc: Global,
     listed: Vec<(u64, Kind, Text)>,
@@ -79,15 +79,13 @@ fn vertices_of(
     requires { Rises (λ v w. v.0 < w.0) listed.items }
     ensures { IfOk result (λ found. found.entries ≡ map vertex_entry listed.items) }
 {
-    let mut found = BTreeMap::new(alloc);
-    for vertex in listed {
-        let (serial, kind, text) = vertex;
-        found.insert(serial, Vertex { kind, text })?;
-    }
-    Ok(found)
+    listed
+        .into_iter()
+        .map(|(serial, kind, text)| (serial, Vertex { kind, text }))
+        .collect(alloc)
 }
 
-/// The labels by the ends of their edges, which rise.
+/// The labels by the ends of their edges, which rise: so the map is built at once, with no search for the place of each.
 fn labels_of(
     alloc: Global,
     listed: &[(u64, Rights, u64)],
@@ -95,20 +93,15 @@ fn labels_of(
     requires { Rises Before listed.now }
     ensures { IfOk result (λ found. found.entries ≡ map label_entry listed.now) }
 {
-    let mut found = BTreeMap::new(alloc);
-    for edge in listed {
-        found.insert((edge.0, edge.2), edge.1)?;
-    }
-    Ok(found)
+    listed
+        .iter()
+        .map(|&(from, rights, to)| ((from, to), rights))
+        .collect(alloc)
 }
 
 /// The set of these serials.
 fn serials_of(alloc: Global, listed: &[u64]) -> Result<BTreeSet<u64>, AllocError>
     ensures { IfOk result (λ found. (q : ℕ) → list_any (eq_by_cmp nat_cmp q) found.keys ≡ list_any (eq_by_cmp nat_cmp q) listed.now) }
 {
-    let mut found = BTreeSet::new(alloc);
-    for serial in listed {
-        found.insert(*serial)?;
-    }
-    Ok(found)
+    listed.iter().copied().collect(alloc)
 }
