@@ -171,6 +171,9 @@ pub fn rule_of(ask: Ask) -> Rule {
     }
 }
 
+/// A text of more bytes than lie in a text itself, so that a copy takes memory unless it shares them.
+pub const LONG: &str = "a text of many bytes";
+
 /// A text of these bytes, which have to be few enough.
 pub fn text(alloc: Global, content: &str) -> Result<Text, AllocError> {
     Text::new(String::from_str(alloc, content)?).map_err(|_| AllocError)

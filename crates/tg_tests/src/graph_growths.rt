@@ -1,7 +1,7 @@
 //! Calls whose allocations fail: what they leave, and the same calls made again. tests/faults/growths.py makes each
 //! allocation of a test fail in turn.
 use crate::cases::{
-    Ask, Edge, Opening, TAKING, TAKING_AND_GRANTING, TO_CAROL, TWO, Want, command, config,
+    Ask, Edge, LONG, Opening, TAKING, TAKING_AND_GRANTING, TO_CAROL, TWO, Want, command, config,
     is_reply, rights_of, rule_of,
 };
 use crate::graph::{Case, Line, asks, opened, played, plays};
@@ -187,7 +187,7 @@ const WRITTEN: Case = Case {
     opening: TAKING,
     asks: &[
         (1, Ask::Document("rw"), Want::Created(3)),
-        (1, Ask::Write(3, "hi"), Want::Done),
+        (1, Ask::Write(3, LONG), Want::Done),
     ],
 };
 
@@ -195,7 +195,7 @@ const WRITTEN: Case = Case {
 #[test]
 fn growth_refused_in_a_read(rt: HostRuntime) -> Result<(), AllocError> {
     let mut graph = played(&rt, rt.alloc(), &WRITTEN)?;
-    let told = Want::Text("hi");
+    let told = Want::Text(LONG);
     let labels: &[Edge] = &[(1, "t", 2), (1, "rw", 3)];
     asks_again(&rt, rt.alloc(), &mut graph, 1, Ask::Read(3), told, labels)
 }

@@ -1,6 +1,8 @@
 //! Calls that lack memory and are made again: tests/faults/growths.py makes each allocation of these tests fail in
 //! turn.
-use crate::cases::{Ask, CROWD, Opening, TAKING, TWO, Want, command, config, is_reply, rule_of};
+use crate::cases::{
+    Ask, CROWD, LONG, Opening, TAKING, TWO, Want, command, config, is_reply, rule_of,
+};
 use crate::vault::{ALICE, BOB, Case, Line, answers, opened};
 use std::alloc::{AllocError, Global};
 use std::io::Print;
@@ -138,8 +140,8 @@ const ON_A_TEXT: Case = Case {
         ALICE,
         Line::Ask(0, Ask::Document("rw"), Want::Created(3)),
         Line::Shaded(0, 3),
-        Line::Ask(0, Ask::Write(3, "hi"), Want::Done),
-        Line::Ask(0, Ask::Read(3), Want::Text("hi")),
+        Line::Ask(0, Ask::Write(3, LONG), Want::Done),
+        Line::Ask(0, Ask::Read(3), Want::Text(LONG)),
         Line::Ask(0, Ask::Look(1), Want::Edges(&[(2, "t"), (3, "rw")])),
     ],
 };

@@ -1,6 +1,6 @@
 //! Vaults that begin anew with what is live: what is left, what is answered from then on, and who is refused.
 use crate::audit_logs::{is_replayed, opened};
-use crate::cases::{Ask, Asked, TWO, Want, rights_of};
+use crate::cases::{Ask, Asked, LONG, TWO, Want, rights_of};
 use crate::vault::{ALICE, Case, Line, lines_are_answered, played};
 use std::alloc::{AllocError, Global};
 use std::io::Print;
@@ -262,7 +262,7 @@ const WRITTEN: Case = Case {
     lines: &[
         ALICE,
         Line::Make(0, "rw", 3),
-        Line::Ask(0, Ask::Write(3, "hi"), Want::Done),
+        Line::Ask(0, Ask::Write(3, LONG), Want::Done),
         Line::Ask(0, Ask::Enrol("carol", "t"), Want::Created(4)),
         Line::Shaded(0, 4),
         Line::Hello(2, "carol", Ok(4)),
@@ -275,7 +275,7 @@ const WRITTEN: Case = Case {
 /// All of that is there.
 const STILL_WRITTEN: &[Line] = &[
     ALICE,
-    Line::Ask(0, Ask::Read(3), Want::Text("hi")),
+    Line::Ask(0, Ask::Read(3), Want::Text(LONG)),
     Line::Ask(0, Ask::Look(1), Want::Edges(&[(3, "rw"), (4, "t")])),
     Line::Bye(0, Ok(())),
 ];

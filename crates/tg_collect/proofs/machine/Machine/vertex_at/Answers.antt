@@ -8,4 +8,4 @@ unwrap-requires c = text_there c.args.self.now c.args.id c.in-Some.shown c.text.
 pub returns-in_ok-text-in-Some : goal.returns-in_ok-text-in-Some
 returns-in_ok-text-in-Some c =
     let text = rw c.unwrap.ensures at c.text.ensures in
-    listed_shown c.args.self.now c.args.id c.in-Some.shown c.in_ok-text-in-Some.text c.in-Some.ensures (search rules) (text ∙ ap (λ (t : List ℕ). Some t) (sym c.in_ok-text-in-Some.ensures))
+    listed_shown c.args.self.now c.args.id c.in-Some.shown c.in_ok-text-in-Some.text c.in-Some.ensures (search rules) (text ∙ ap (λ (t : List ℕ). Some t) (sym c.in_ok-text-in-Some.ensures.same))

@@ -1,0 +1,11 @@
+-- the bytes of a text, wherever they lie
+use Rattle.std.specs.Prelude.{ℕ, List}
+use Rattle.std.specs.String.{string_bytes}
+use Rattle.std.specs.Arc.{arc_value}
+use Rattle.tg_rights.specs.declared.text.Content.{Content}
+use Rattle.tg_rights.specs.declared.text.Content.TheVariants.{Few, Own, Shared}
+
+abbrev pub bytes_of : Content → List ℕ
+bytes_of (Few content) = content.bytes
+bytes_of (Own content) = string_bytes content
+bytes_of (Shared content) = string_bytes (arc_value content)
