@@ -277,10 +277,10 @@ def openings_refused(program: Path) -> int:
 # lists of all workers are moved: two sessions fit into its first room. One is for the list of logs.
 # Then settling copies the opening graph: its vertices are one node of a map and its edges another,
 # and its two principals have a list and two names. And it carries the commands out once more, of
-# which these need memory: the write, whose text is copied, the read of a text that is not empty,
-# the two looks that are allowed, the two enrols of a principal that has not retired, whose names
-# are copied, and the first retire.
-LAST_GROWTHS = 1 + 1 + (2 + 3) + (1 + 1 + 2 + 2 + 1)
+# which these need memory: the two looks that are allowed, the two enrols of a principal that has not
+# retired, whose names are copied, and the first retire. A write and a read need none, since a text of
+# few bytes lies in the command, and copies of any other share it.
+LAST_GROWTHS = 1 + 1 + (2 + 3) + (2 + 2 + 1)
 
 
 def stages(tried: Servers) -> tuple[Servers, Servers, Servers]:
@@ -372,9 +372,9 @@ def is_cut_off(one: Tried) -> bool:
     return one.found.answers == ALL_ANSWERS[:first] + [None] * len(scripts.TALKS[1])
 
 
-# Of a rebase behind the first talk: the lists of slots, vertices, edges and names, the text, the
-# three names, the two maps and the list of principals.
-REBASE_GROWTHS = 4 + 1 + 3 + 2 + 1
+# Of a rebase behind the first talk: the lists of slots, vertices, edges and names, the three names,
+# the two maps and the list of principals.
+REBASE_GROWTHS = 4 + 3 + 2 + 1
 
 
 def own_memory_refused_in_rounds(_: Path, tried: Servers) -> None:

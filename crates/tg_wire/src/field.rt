@@ -118,7 +118,7 @@ pub(crate) fn word(alloc: Global, object: &LineObject<'_>, key: Key) -> Result<W
     Ok(Word::new(String::from_str(alloc, text)?))
 }
 
-/// The text of at most 4,096 bytes. A longer one is refused before memory is asked for.
+/// The text of at most 4,096 bytes, which its copies share. A longer one is refused before memory is asked for.
 pub(crate) fn text(alloc: Global, object: &LineObject<'_>) -> Result<Text, WireFault>
     ensures { AnswersField result (fields.text_field (data_of object.now)) }
 {
@@ -126,10 +126,7 @@ pub(crate) fn text(alloc: Global, object: &LineObject<'_>) -> Result<Text, WireF
     if text.len() > MAX_TEXT {
         return Err(WireFault::BadField);
     }
-    match Text::new(String::from_str(alloc, text)?) {
-        Ok(text) => Ok(text),
-        Err(_) => Err(WireFault::BadField),
-    }
+    Ok(Text::shared(alloc, text)?)
 }
 
 /// The name of a principal. A text that is none is refused before memory is asked for.

@@ -1,10 +1,11 @@
 //! Each call that allocates, if an allocation fails: the call says so, and made again it returns what the protocol
 //! says. tests/faults/growths.py makes each allocation of a test fail in turn. A line that is read as a flat list of
-//! members allocates only for a name or a text that its command keeps.
+//! members allocates only for a name, or a text of more than 16 bytes, that its command keeps.
 use crate::wire::refusals::{HOSTILE, REFUSED, Reader, fault_in, fault_of};
 use std::alloc::Global;
 use tg_graph::Verdict;
 use tg_rights::{Cause, Command, Reply, Rights, Rule};
+use tg_tests::cases::LONG;
 use tg_vault::{Answer, Event, Swept};
 use tg_wire::{
     Line, LineRoom, WireFault, read_config, read_goal, read_line, read_step, write_answer,
@@ -102,10 +103,35 @@ fn the_enrol_is_read(alloc: Global) -> Result<bool, WireFault> {
     }
 }
 
+/// Whether the command writes this text and copies of it share it: they take no memory, so they do not fail whichever
+/// allocation does.
+fn writes_what_is_shared(alloc: Global, command: &Command) -> bool {
+    match command {
+        Command::Write { over, text } => {
+            *over == 3 && text.get() == LONG && text.copy(alloc).is_ok()
+        }
+        _ => false,
+    }
+}
+
+fn the_long_write_is_read(alloc: Global) -> Result<bool, WireFault> {
+    let line = read_line(
+        alloc,
+        b"{\"op\":\"write\",\"over\":3,\"text\":\"a text of many bytes\"}",
+    )?;
+    match &line {
+        Line::Act(Event::Ask { seat, command }) => {
+            Ok(*seat == 0 && writes_what_is_shared(alloc, command))
+        }
+        _ => Ok(false),
+    }
+}
+
 #[test]
 fn growth_refused_in_read_line(rt: HostRuntime) {
     assert!(rt; matches!(&answered(&rt, the_hello_is_read), Ok(true)));
     assert!(rt; matches!(&answered(&rt, the_enrol_is_read), Ok(true)));
+    assert!(rt; matches!(&answered(&rt, the_long_write_is_read), Ok(true)));
 }
 
 /// Whether the command writes a quote, a backslash, a line feed, an accented e and a clef into the document 7.
@@ -135,13 +161,17 @@ fn growth_refused_in_a_line_with_escapes(rt: HostRuntime) {
 }
 
 /// Lines that are flat, each with its fault, if it has one: each kind of value, the least and the greatest number,
-/// spaces at every place, and as many members as there may be. None has a name or a text that its command keeps, but
-/// for an empty text.
+/// spaces at every place, and as many members as there may be. None has a name, or a text of more than 16 bytes, that
+/// its command keeps.
 const FLAT: &[(&[u8], Option<WireFault>)] = &[
     (b"{\"op\":\"read\",\"over\":3,\"seat\":0}", None),
     (b"{\"over\":18446744073709551615}", Some(WireFault::NoOp)),
     (
         b" {\t\"op\" :\r\"write\" , \"text\": \"\", \"over\":10 ,\"seat\": 63 } ",
+        None,
+    ),
+    (
+        b"{\"op\":\"write\",\"over\":10,\"text\":\"sixteen letters!\"}",
         None,
     ),
     (
