@@ -64,7 +64,7 @@ def reads_of_a_long_text(program: Path) -> None:
     more: the round ends and agrees."""
     with served(program, 4, 5, *BOUND) as server:
         server.exchange(HELLO + CREATE + LONG_TEXT + BYE)
-        assert flooded(server, READ * 1_000, 60) > KEPT // 2, "too few answers"
+        assert flooded(server, READ * 1_000, 200) > KEPT // 2, "too few answers"
 
 
 def looks_at_many_edges(program: Path) -> None:
@@ -90,7 +90,7 @@ def honest_beside_a_flood(program: Path) -> None:
         with server.connection() as honest:
             honest.sendall(HELLO + CREATE + LONG_TEXT)
             same([read_line(honest) for _ in range(3)], [WELCOME, MADE, DONE])
-            arguments = (server, HELLO + READ * 1_000, 60)
+            arguments = (server, HELLO + READ * 1_000, 200)
             flood = threading.Thread(target=floods, args=arguments)
             flood.start()
             with contextlib.suppress(ConnectionError):

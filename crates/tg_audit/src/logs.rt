@@ -13,6 +13,9 @@ pub struct Exchange {
     pub reply: Reply,
 }
 
+// There is one for each command until the round ends.
+const _: () = prove!(size_of::<Exchange>() == 96);
+
 /// The exchanges of one session at a seat, in order.
 #[derive(Debug, Drop)]
 pub struct SeatLog {

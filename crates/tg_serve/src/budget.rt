@@ -8,13 +8,16 @@ use tg_vault::Room;
 
 /// What an exchange counts besides its texts and lists: its entry in the history and its place in the log, each with
 /// the room that is left behind it for more.
-const EXCHANGE: u64 = 320;
+const EXCHANGE: u64 = 352;
+
+/// What a text that is written counts besides its bytes: the block by which its copies share it.
+const TEXT: u64 = 48;
 
 /// What an edge of a list counts.
 const EDGE: u64 = 32;
 
-/// What the texts of an exchange count at most: one that is written is kept twice.
-const MOST_TEXTS: u64 = 8_192;
+/// What the text of an exchange counts at most.
+const MOST_TEXT: u64 = 4_144;
 
 /// The most edges of a list: to all vertices but one.
 const MOST_EDGES: u64 = 65_535;
@@ -22,23 +25,23 @@ const MOST_EDGES: u64 = 65_535;
 /// The most lines that one read can bring, or nearly so.
 const MOST_LINES: u64 = 2_000;
 
-/// What a command counts.
+/// What a command counts. A text is kept once, since entry, log and vault share it; a name twice.
 fn command_bytes(command: &Command) -> u64
     ensures { result ≡ command_bytes command.now }
 {
     match command {
-        Command::Write { over: _, text } => 2 * text.get().len() as u64,
+        Command::Write { over: _, text } => TEXT + text.get().len() as u64,
         Command::Enrol { name, rights: _ } => 2 * name.get().len() as u64,
         _ => 0,
     }
 }
 
-/// What a reply counts.
+/// What a reply counts. A text that is read is shared with its write, which counted it, or with the graph with which
+/// the round began.
 fn reply_bytes(reply: &Reply) -> u64
     ensures { result ≡ reply_bytes reply.now }
 {
     match reply {
-        Reply::Text(text) => text.get().len() as u64,
         Reply::Edges(edges) => EDGE * edges.get().len() as u64,
         _ => 0,
     }
@@ -55,7 +58,7 @@ pub(crate) fn exchange_bytes(command: &Command, reply: &Reply) -> u64
 
 /// The most that an exchange can count in a graph of this many edges.
 pub(crate) fn most_bytes(edges: u64) -> u64 {
-    EXCHANGE + MOST_TEXTS.max(EDGE * edges.min(MOST_EDGES))
+    EXCHANGE + MOST_TEXT.max(EDGE * edges.min(MOST_EDGES))
 }
 
 /// How many of so many lines a worker may take at once, if this much is left for all workers and a line may take so
