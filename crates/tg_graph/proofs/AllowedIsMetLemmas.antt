@@ -1,6 +1,6 @@
 -- What it means that no check fails, and that one is the first to fail.
 use Rattle.std.proofs.Common.{◌≡◌, ℕ, ◌∷◌, [], ◌++◌, List, Bool, true, false, cond, not, ◌||◌, refl, ap, ◌∙◌, Some, None}
-use Rattle.std.specs.Prelude.{Option}
+use Rattle.std.specs.Prelude.{IsTrue, Option}
 use Rattle.std.proofs.lemmas.Bool.{not-true}
 use Rattle.tg_rights.specs.declared.kind.Kind.{Kind}
 use Rattle.tg_rights.specs.declared.kind.Kind.TheVariants as kind
@@ -8,9 +8,9 @@ use Rattle.tg_rights.specs.declared.command.Command.{Command}
 use Rattle.tg_rights.specs.declared.outcome.Cause.{Cause}
 use Rattle.tg_rights.specs.declared.outcome.Cause.TheVariants as cause
 use Rattle.tg_graph.specs.declared.rules.Need.{Need}
-use Rattle.tg_graph.specs.Promise.Protection.{Protection, has_retired, kind_of, has_serial}
+use Rattle.tg_graph.specs.Promise.Protection.{MayBeNamed, Protection, has_retired, kind_of, has_serial}
 use Rattle.tg_graph.specs.Promise.Terms.{terms}
-use Rattle.tg_graph.specs.Promise.Rules.{AllPass, Allowed, Check, checks, first_failure, is_met, is_of_kind, lack, misfit, missing, not_of_kind, unless}
+use Rattle.tg_graph.specs.Promise.Rules.{AllPass, Allowed, Check, checks, first_failure, is_met, is_of_kind, lack, misfit, missing, names_rights, not_of_kind, unless}
 use Rattle.tg_graph.specs.Promise.Laws.{AllMet, IsAsWanted, Meets}
 use Rattle.tg_graph.proofs.RollLemmas.{may_be_named, member_finds, member_found, not_crowded, not_taken}
 
@@ -99,6 +99,12 @@ allowed G x c m =
     ∷ unless (not (not_crowded G.names t.name m.name i)) cause.Crowded
     ∷ []
     )
+
+-- a command that its rule allows to others than principals too
+pub allowed_to_all : (G : Protection) (x : ℕ) (c : Command) → let t = terms x c in t.principal ≡ false → has_retired G x ≡ false → IsTrue (names_rights t.names) → IsTrue t.apart → AllMet G t.needs →
+    IsAsWanted G t.wants → MayBeNamed G.names t.name → Allowed G x c
+allowed_to_all G x c to_all unretired named apart met wants name =
+    allowed G x c (record { unretired = λ _. unretired; named = named; apart = apart; met = met; wants = wants; principal = λ e. absurd (cc (e, to_all)); name = name })
 
 abbrev IsFirst : Cause → List Check → Type 0
 IsFirst why ms = (before : List Check) × (later : List Check) × (ms ≡ before ++ Some why ∷ later) × AllPass before

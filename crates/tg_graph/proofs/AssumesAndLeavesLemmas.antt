@@ -1,6 +1,6 @@
 -- Who may act for an agent, and that a leave is always allowed.
-use Rattle.std.proofs.Common.{◌≡◌, ◌≢◌, ℕ, ◌==◌, ◌∷◌, true, false, not, ◌||◌, refl, ap, Some}
-use Rattle.std.proofs.lemmas.Bool.{and_from, and_parts, eq-eqb, eqb-true, not-true}
+use Rattle.std.proofs.Common.{◌≡◌, ◌≢◌, ℕ, ◌∷◌, true, false, not, ◌||◌, refl, ap, Some}
+use Rattle.std.proofs.lemmas.Bool.{and_from, and_parts, eqb-false, ne_eqb, not-true}
 use Rattle.tg_rights.specs.Promise.Command.{rule_of}
 use Rattle.tg_rights.specs.declared.command.Command.{Command}
 use Rattle.tg_rights.specs.declared.command.Command.TheVariants as command
@@ -10,7 +10,7 @@ use Rattle.tg_graph.specs.Promise.Laws.{AssumesAndLeaves, MayAssume}
 use Rattle.tg_graph.specs.Promise.Protection.{Protection, has_retired}
 use Rattle.tg_graph.specs.Promise.Rules.{Allowed, denial, first_failure, is_for_retired, later_checks, unless}
 use Rattle.tg_graph.specs.Promise.Terms.{terms}
-use Rattle.tg_graph.proofs.AllowedIsMetLemmas.{allowed, meets}
+use Rattle.tg_graph.proofs.AllowedIsMetLemmas.{allowed, allowed_to_all, meets}
 use Rattle.tg_graph.proofs.DecidingLemmas.{only_leave}
 use Rattle.tg_graph.proofs.RollLemmas.{untrue}
 
@@ -21,22 +21,15 @@ module _ (G : Protection) (x : ℕ) where
       let both = and_parts _ _ m.met.0 in
       record {
         unretired = m.unretired refl;
-        apart = λ is. absurd (cc (not-true _ m.apart, eq-eqb x agent is));
+        apart = eqb-false x agent (not-true _ m.apart);
         has_take = both.0;
         has_grant = both.1;
         subject = m.wants;
       }
 
   assume_allowed : (agent : ℕ) → MayAssume G x agent → Allowed G x (command.Assume agent)
-  assume_allowed agent m = allowed G x (command.Assume agent) (record {
-    unretired = λ _. m.unretired;
-    named = refl;
-    apart = ap not (untrue (x == agent) (λ e. m.apart (eqb-true x agent e)));
-    met = (and_from _ _ m.has_take m.has_grant, tt);
-    wants = m.subject;
-    principal = λ e. absurd (cc e);
-    name = tt;
-  })
+  assume_allowed agent m =
+      allowed_to_all G x (command.Assume agent) refl m.unretired refl (ap not (ne_eqb x agent m.apart)) (and_from _ _ m.has_take m.has_grant, tt) m.subject tt
 
   leave_allowed : Allowed G x command.Leave
   leave_allowed = allowed G x command.Leave (record {

@@ -3,7 +3,7 @@ use Rattle.std.proofs.Common.{◌≡◌, ℕ, ◌<◌, ◌≤◌, [], Bool, true
 use Rattle.std.specs.Option.{option_map}
 use Rattle.std.specs.Cmp.{nat_cmp_total, unsigned_tied}
 use Rattle.std.specs.FinMap as map
-use Rattle.std.proofs.lemmas.Bool.{eqb-true, eq-eqb, leb-true, and_parts, not-false}
+use Rattle.std.proofs.lemmas.Bool.{eqb-true, eq-eqb, leb-true, and_parts, ne_eqb, not-false}
 use Rattle.tg_rights.specs.declared.kind.Kind.TheVariants as kind
 use Rattle.tg_rights.specs.declared.command.Command.{Command}
 use Rattle.std.specs.Prelude.{Option}
@@ -43,10 +43,7 @@ graph_stays G x c g s a = let x_in = IsVertex-from_kind G x kind.Subject s in do
 
 -- another vertex is as it was
 other_kind : (G : Protection) (v w : ℕ) (e : Vertex) → (w ≡ v → ⊥) → IsSubject G w → option_map (λ e. e.kind) (map.get (map.insert G.vertices v e) w) ≡ Some kind.Subject
-other_kind G v w e apart s = ap (option_map (λ e. e.kind)) (map.get-insert nat_cmp_total G.vertices v e w ∙ ap (λ b. cond b (Some e) (vertex G w)) (unsigned_tied w v ∙ differ _ refl)) ∙ s where
-  differ : (c : Bool) → (w == v) ≡ c → c ≡ false
-  differ true e = absurd (apart (eqb-true w v e))
-  differ false e = refl
+other_kind G v w e apart s = ap (option_map (λ e. e.kind)) (map.get-insert nat_cmp_total G.vertices v e w ∙ ap (λ b. cond b (Some e) (vertex G w)) (unsigned_tied w v ∙ ne_eqb w v apart)) ∙ s
 
 subject_left : (G : Protection) (x : ℕ) → IsGraph G → (e : Does) (v : ℕ) → IsSubject G v → IsSubject (done G x e) v
 subject_left G x g (effect.Joins from α to) v s = s

@@ -1,6 +1,6 @@
 -- The terms of each command are consistent, and one command is for those who have retired.
-use Rattle.std.proofs.Common.{◌≡◌, ℕ, ◌∷◌, [], Bool, true, false, cond, ◌==◌, refl, sym, inl, inr}
-use Rattle.std.proofs.lemmas.Bool.{not-true, and_parts, eqb-true, eq-eqb}
+use Rattle.std.proofs.Common.{◌≡◌, ℕ, ◌∷◌, [], true, false, cond, ◌==◌, refl, sym, inl, inr}
+use Rattle.std.proofs.lemmas.Bool.{not-true, and_parts, eqb-true, eqb-false, ne_eqb}
 use Rattle.tg_rights.specs.Promise.Letters.{take_alone}
 use Rattle.tg_rights.specs.declared.command.Command.{Command}
 use Rattle.tg_rights.specs.declared.command.Command.TheVariants as command
@@ -10,10 +10,7 @@ use Rattle.tg_graph.specs.Inner.Deciding.{NeedsFollow, AskSome}
 use Rattle.tg_graph.proofs.SoundTerms.{IsNear, IsSound}
 
 flip : (x y : ℕ) → (x == y) ≡ false → (y == x) ≡ false
-flip x y e = either _ refl where
-  either : (b : Bool) → (y == x) ≡ b → b ≡ false
-  either true is = absurd (cc (e, eq-eqb x y (sym (eqb-true y x is))))
-  either false is = refl
+flip x y e = ne_eqb y x (λ is. eqb-false x y e (sym is))
 
 look_sound : (x at : ℕ) → IsSound x (terms x (command.Look at))
 look_sound x at = record { follows = follows; some = λ _. some; wants = tt; covers = near } where

@@ -1,6 +1,6 @@
 -- When each command is allowed, and when it may be full.
 use Rattle.std.proofs.Common.{◌≡◌, ◌≢◌, ◌<◌, ◌≤◌, ◌⊎◌, ◌&&◌, ◌==◌, ℕ, ◌∷◌, [], List, Bool, true, false, cond, not, refl, sym, ap, inl, inr, arith}
-use Rattle.std.proofs.lemmas.Bool.{eq-eqb, eqb-true, not-true}
+use Rattle.std.proofs.lemmas.Bool.{eq-eqb, eqb-false, eqb-true, ne_eqb, not-true}
 use Rattle.tg_rights.specs.Promise.Letters.{Letters, read, write, take, grant, includes, read_alone, write_alone, take_alone, grant_alone}
 use Rattle.tg_rights.specs.declared.kind.Kind.{Kind}
 use Rattle.tg_rights.specs.declared.command.Command.{Command}
@@ -15,8 +15,7 @@ use Rattle.tg_graph.specs.Promise.Protection.{Protection, label}
 use Rattle.tg_graph.specs.Promise.Rules.{Allowed, is_create, is_new, last_serial}
 use Rattle.tg_graph.specs.Promise.Terms.{Does, need, terms}
 use Rattle.tg_graph.specs.Promise.Terms as effect
-use Rattle.tg_graph.proofs.AllowedIsMetLemmas.{allowed, meets}
-use Rattle.tg_graph.proofs.RollLemmas.{untrue}
+use Rattle.tg_graph.proofs.AllowedIsMetLemmas.{allowed, allowed_to_all, meets}
 
 three_apart : (a b c : Bool) → (not a && not b && not c) ≡ true → (a ≡ false) × (b ≡ false) × (c ≡ false)
 three_apart false false false e = (refl, refl, refl)
@@ -30,12 +29,6 @@ apart_three true b c e = absurd (cc e.0)
 apart_three false true c e = absurd (cc e.1)
 apart_three false false true e = absurd (cc e.2)
 
-differ : (a b : ℕ) → (a == b) ≡ false → a ≢ b
-differ a b e is = absurd (cc (e, eq-eqb a b is))
-
-unequal : (a b : ℕ) → a ≢ b → (a == b) ≡ false
-unequal a b other = untrue (a == b) (λ e. other (eqb-true a b e))
-
 module _ (G : Protection) where
   has_all : (from : ℕ) (α : Letters) (to : ℕ) → includes (label G from to) α ≡ true → HasAllOver G from α to
   has_all from α to = (are_set_operations.inclusion (label G from to) α).0
@@ -44,43 +37,23 @@ module _ (G : Protection) where
   is_met from α to = (are_set_operations.inclusion (label G from to) α).1
 
   has_read : (from to : ℕ) → HasOver G from read to → includes (label G from to) read_alone ≡ true
-  has_read from to h = is_met from read_alone to by where
-    by : HasAllOver G from read_alone to
-    by read e = h
-    by write e = absurd (cc e)
-    by take e = absurd (cc e)
-    by grant e = absurd (cc e)
+  has_read from to h = ap (λ (b : Bool). includes (record (label G from to) { read = b }) read_alone) h
 
   has_write : (from to : ℕ) → HasOver G from write to → includes (label G from to) write_alone ≡ true
-  has_write from to h = is_met from write_alone to by where
-    by : HasAllOver G from write_alone to
-    by read e = absurd (cc e)
-    by write e = h
-    by take e = absurd (cc e)
-    by grant e = absurd (cc e)
+  has_write from to h = ap (λ (b : Bool). includes (record (label G from to) { write = b }) write_alone) h
 
   has_take : (from to : ℕ) → HasOver G from take to → includes (label G from to) take_alone ≡ true
-  has_take from to h = is_met from take_alone to by where
-    by : HasAllOver G from take_alone to
-    by read e = absurd (cc e)
-    by write e = absurd (cc e)
-    by take e = h
-    by grant e = absurd (cc e)
+  has_take from to h = ap (λ (b : Bool). includes (record (label G from to) { take = b }) take_alone) h
 
   has_grant : (from to : ℕ) → HasOver G from grant to → includes (label G from to) grant_alone ≡ true
-  has_grant from to h = is_met from grant_alone to by where
-    by : HasAllOver G from grant_alone to
-    by read e = absurd (cc e)
-    by write e = absurd (cc e)
-    by take e = absurd (cc e)
-    by grant e = h
+  has_grant from to h = ap (λ (b : Bool). includes (record (label G from to) { grant = b }) grant_alone) h
 
 module _ (G : Protection) (x : ℕ) where
   apart_from : (y z : ℕ) → (not (x == y) && not (x == z) && not (y == z)) ≡ true → (x ≢ y) × (x ≢ z) × (y ≢ z)
-  apart_from y z e = let a = three_apart (x == y) (x == z) (y == z) e in (differ x y a.0, differ x z a.1, differ y z a.2)
+  apart_from y z e = let a = three_apart (x == y) (x == z) (y == z) e in (eqb-false x y a.0, eqb-false x z a.1, eqb-false y z a.2)
 
   all_apart : (y z : ℕ) → (x ≢ y) × (x ≢ z) × (y ≢ z) → (not (x == y) && not (x == z) && not (y == z)) ≡ true
-  all_apart y z a = apart_three (x == y) (x == z) (y == z) (unequal x y a.0, unequal x z a.1, unequal y z a.2)
+  all_apart y z a = apart_three (x == y) (x == z) (y == z) (ne_eqb x y a.0, ne_eqb x z a.1, ne_eqb y z a.2)
 
   may_take : (α : Letters) (y z : ℕ) → Allowed G x (command.Take α y z) → MayTake G x α y z
   may_take α y z a =
@@ -88,15 +61,8 @@ module _ (G : Protection) (x : ℕ) where
       record { unretired = m.unretired refl; some = not-true _ m.named; apart = apart_from y z m.apart; over = has_all G x take_alone z m.met.0 take refl; there = has_all G z α y m.met.1.0 }
 
   take_allowed : (α : Letters) (y z : ℕ) → MayTake G x α y z → Allowed G x (command.Take α y z)
-  take_allowed α y z m = allowed G x (command.Take α y z) (record {
-    unretired = λ _. m.unretired;
-    named = ap not m.some;
-    apart = all_apart y z m.apart;
-    met = (has_take G x z m.over, (is_met G z α y m.there, tt));
-    wants = tt;
-    principal = λ e. absurd (cc e);
-    name = tt;
-  })
+  take_allowed α y z m =
+      allowed_to_all G x (command.Take α y z) refl m.unretired (ap not m.some) (all_apart y z m.apart) (has_take G x z m.over, (is_met G z α y m.there, tt)) tt tt
 
   may_grant : (α : Letters) (y z : ℕ) → Allowed G x (command.Grant α y z) → MayGrant G x α y z
   may_grant α y z a =
@@ -104,77 +70,41 @@ module _ (G : Protection) (x : ℕ) where
       record { unretired = m.unretired refl; some = not-true _ m.named; apart = apart_from y z m.apart; over = has_all G x grant_alone z m.met.0 grant refl; own = has_all G x α y m.met.1.0 }
 
   grant_allowed : (α : Letters) (y z : ℕ) → MayGrant G x α y z → Allowed G x (command.Grant α y z)
-  grant_allowed α y z m = allowed G x (command.Grant α y z) (record {
-    unretired = λ _. m.unretired;
-    named = ap not m.some;
-    apart = all_apart y z m.apart;
-    met = (has_grant G x z m.over, (is_met G x α y m.own, tt));
-    wants = tt;
-    principal = λ e. absurd (cc e);
-    name = tt;
-  })
+  grant_allowed α y z m =
+      allowed_to_all G x (command.Grant α y z) refl m.unretired (ap not m.some) (all_apart y z m.apart) (has_grant G x z m.over, (is_met G x α y m.own, tt)) tt tt
 
   may_create : (k : Kind) (α : Letters) → Allowed G x (command.Create k α) → MayCreate G x α
   may_create k α a = let m = meets G x (command.Create k α) a in record { unretired = m.unretired refl; some = not-true _ m.named }
 
   create_allowed : (k : Kind) (α : Letters) → MayCreate G x α → Allowed G x (command.Create k α)
-  create_allowed k α m = allowed G x (command.Create k α) (record {
-    unretired = λ _. m.unretired;
-    named = ap not m.some;
-    apart = refl;
-    met = tt;
-    wants = tt;
-    principal = λ e. absurd (cc e);
-    name = tt;
-  })
+  create_allowed k α m = allowed_to_all G x (command.Create k α) refl m.unretired (ap not m.some) refl tt tt tt
 
   may_remove : (α : Letters) (y : ℕ) → Allowed G x (command.Remove α y) → MayRemove G x α y
   may_remove α y a =
       let m = meets G x (command.Remove α y) a in
-      record { unretired = m.unretired refl; some = not-true _ m.named; apart = differ x y (not-true _ m.apart); own = has_all G x α y m.met.0 }
+      record { unretired = m.unretired refl; some = not-true _ m.named; apart = eqb-false x y (not-true _ m.apart); own = has_all G x α y m.met.0 }
 
   remove_allowed : (α : Letters) (y : ℕ) → MayRemove G x α y → Allowed G x (command.Remove α y)
-  remove_allowed α y m = allowed G x (command.Remove α y) (record {
-    unretired = λ _. m.unretired;
-    named = ap not m.some;
-    apart = ap not (unequal x y m.apart);
-    met = (is_met G x α y m.own, tt);
-    wants = tt;
-    principal = λ e. absurd (cc e);
-    name = tt;
-  })
+  remove_allowed α y m =
+      allowed_to_all G x (command.Remove α y) refl m.unretired (ap not m.some) (ap not (ne_eqb x y m.apart)) (is_met G x α y m.own, tt) tt tt
 
   may_read : (y : ℕ) → Allowed G x (command.Read y) → MayUse G x read y
   may_read y a =
       let m = meets G x (command.Read y) a in
-      record { unretired = m.unretired refl; apart = differ x y (not-true _ m.apart); own = has_all G x read_alone y m.met.0 read refl; document = m.wants }
+      record { unretired = m.unretired refl; apart = eqb-false x y (not-true _ m.apart); own = has_all G x read_alone y m.met.0 read refl; document = m.wants }
 
   read_allowed : (y : ℕ) → MayUse G x read y → Allowed G x (command.Read y)
-  read_allowed y m = allowed G x (command.Read y) (record {
-    unretired = λ _. m.unretired;
-    named = refl;
-    apart = ap not (unequal x y m.apart);
-    met = (has_read G x y m.own, tt);
-    wants = m.document;
-    principal = λ e. absurd (cc e);
-    name = tt;
-  })
+  read_allowed y m =
+      allowed_to_all G x (command.Read y) refl m.unretired refl (ap not (ne_eqb x y m.apart)) (has_read G x y m.own, tt) m.document tt
 
   may_write : (y : ℕ) (text : List ℕ) → Allowed G x (command.Write y text) → MayUse G x write y
   may_write y text a =
       let m = meets G x (command.Write y text) a in
-      record { unretired = m.unretired refl; apart = differ x y (not-true _ m.apart); own = has_all G x write_alone y m.met.0 write refl; document = m.wants }
+      record { unretired = m.unretired refl; apart = eqb-false x y (not-true _ m.apart); own = has_all G x write_alone y m.met.0 write refl; document = m.wants }
 
   write_allowed : (y : ℕ) (text : List ℕ) → MayUse G x write y → Allowed G x (command.Write y text)
-  write_allowed y text m = allowed G x (command.Write y text) (record {
-    unretired = λ _. m.unretired;
-    named = refl;
-    apart = ap not (unequal x y m.apart);
-    met = (has_write G x y m.own, tt);
-    wants = m.document;
-    principal = λ e. absurd (cc e);
-    name = tt;
-  })
+  write_allowed y text m =
+      allowed_to_all G x (command.Write y text) refl m.unretired refl (ap not (ne_eqb x y m.apart)) (has_write G x y m.own, tt) m.document tt
 
   may_look : (y : ℕ) → Allowed G x (command.Look y) → MayLook G x y
   may_look y a = let m = meets G x (command.Look y) a in record { unretired = m.unretired refl; over = over (y == x) refl m.met } where
@@ -183,15 +113,7 @@ module _ (G : Protection) (x : ℕ) where
     over false e h = inr (has_all G x take_alone y h.0 take refl)
 
   look_allowed : (y : ℕ) → MayLook G x y → Allowed G x (command.Look y)
-  look_allowed y m = allowed G x (command.Look y) (record {
-    unretired = λ _. m.unretired;
-    named = refl;
-    apart = refl;
-    met = met (y == x) refl m.over;
-    wants = tt;
-    principal = λ e. absurd (cc e);
-    name = tt;
-  }) where
+  look_allowed y m = allowed_to_all G x (command.Look y) refl m.unretired refl refl (met (y == x) refl m.over) tt tt where
     met : (b : Bool) → (y == x) ≡ b → (x ≡ y) ⊎ HasOver G x take y → AllMet G (cond b [] (need x take_alone y ∷ []))
     met true e over = tt
     met false e (inl is) = absurd (cc (e, eq-eqb y x (sym is)))
@@ -201,15 +123,7 @@ module _ (G : Protection) (x : ℕ) where
   may_enrol name α a = let m = meets G x (command.Enrol name α) a in record { unretired = m.unretired refl; some = not-true _ m.named; free = m.name }
 
   enrol_allowed : (name : List ℕ) (α : Letters) → MayEnrol G x name α → Allowed G x (command.Enrol name α)
-  enrol_allowed name α m = allowed G x (command.Enrol name α) (record {
-    unretired = λ _. m.unretired;
-    named = ap not m.some;
-    apart = refl;
-    met = tt;
-    wants = tt;
-    principal = λ e. absurd (cc e);
-    name = m.free;
-  })
+  enrol_allowed name α m = allowed_to_all G x (command.Enrol name α) refl m.unretired (ap not m.some) refl tt tt m.free
 
   may_retire : Allowed G x command.Retire → MayRetire G x
   may_retire a = let m = meets G x command.Retire a in record { unretired = m.unretired refl; principal = m.principal refl }

@@ -12,6 +12,7 @@ use Rattle.std.specs.BTreeMap as tree
 use Rattle.std.specs.FinMap as finmap
 use Rattle.std.specs.FinMap.Entries.{below_all, same_entries}
 use Rattle.std.proofs.lemmas.Bool.{eqb-true, eq-eqb, and_parts, and_from}
+use Rattle.std.proofs.lemmas.List.{nil_from_length}
 use Rattle.std.proofs.lemmas.List.Sorted.{Contains-permutation}
 use Rattle.std.proofs.lemmas.List.Sums.{sum_by-append, sum_by-cons}
 use Rattle.std.proofs.lemmas.Map.Keys.{IsDistinct-IsPermutation, IsDistinct-from_sorted}
@@ -269,9 +270,5 @@ ones (x ∷ xs) = let a = sum_by-cons (λ (y : _). 1) x xs in let b = ones xs in
 pub one_more : {X : Type 0} (given left rest all : List X) (x : X) → given ++ left ≡ all → left ≡ x ∷ rest → (given ++ x ∷ []) ++ rest ≡ all
 one_more {X} given left rest all x is steps = append_assoc given (x ∷ []) rest ∙ ap (λ (l : List X). given ++ l) (sym steps) ∙ is
 
-nothing_left : {X : Type 0} (xs : List X) → length xs ≡ 0 → xs ≡ []
-nothing_left [] none = refl
-nothing_left (x ∷ xs) none = absurd (omega (arith, none))
-
 pub all_given : {X : Type 0} (given rest all : List X) → given ++ rest ≡ all → length rest ≡ 0 → given ≡ all
-all_given {X} given rest all is none = sym (append-nil given) ∙ ap (λ (l : List X). given ++ l) (sym (nothing_left rest none)) ∙ is
+all_given {X} given rest all is none = sym (append-nil given) ∙ ap (λ (l : List X). given ++ l) (sym (nil_from_length rest none)) ∙ is

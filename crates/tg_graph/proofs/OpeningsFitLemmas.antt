@@ -6,7 +6,7 @@ use Rattle.std.specs.Cmp.{nat_cmp_total}
 use Rattle.std.specs.FinMap as map
 use Rattle.std.specs.FinSet as set
 use Rattle.std.specs.List.{list_all}
-use Rattle.std.proofs.lemmas.Bool.{and_parts, not-false, leb-true, ltb-false}
+use Rattle.std.proofs.lemmas.Bool.{and_parts, false_from_ne_true, not-false, leb-true, ltb-false}
 use Rattle.tg_rights.specs.Promise.Letters.{Letters, joined, is_none}
 use Rattle.tg_rights.specs.declared.kind.Kind.TheVariants as kind
 use Rattle.tg_rights.specs.declared.limits.TheConstants.{MAX_CELLS, MAX_SLOTS}
@@ -34,10 +34,7 @@ pub len-subjects : (n : ℕ) → map.len (subjects n) ≡ n
 len-subjects zero = map.len-empty nat_cmp Vertex
 len-subjects (suc n) =
     map.len-insert nat_cmp_total (subjects n) (suc n) (record { kind = kind.Subject; text = [] })
-    ∙ ap (λ b. cond b (map.len (subjects n)) (map.len (subjects n) + 1)) (absent _ refl) ∙ (let rest = len-subjects n in omega arith) where
-      absent : (b : Bool) → map.contains_key (subjects n) (suc n) ≡ b → b ≡ false
-      absent true h = let l : suc n ≤ n = subjects-within n (suc n) h in absurd (omega arith)
-      absent false h = refl
+    ∙ ap (λ b. cond b (map.len (subjects n)) (map.len (subjects n) + 1)) (false_from_ne_true _ (λ h. let l : suc n ≤ n = subjects-within n (suc n) h in absurd (omega arith))) ∙ (let rest = len-subjects n in omega arith)
 
 at_most_one : (l : Letters) → edges_at l ≤ 1
 at_most_one l = by (is_none l) where

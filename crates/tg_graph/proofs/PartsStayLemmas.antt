@@ -6,7 +6,7 @@ use Rattle.std.specs.Ordering.{nat_cmp, eq_by_cmp}
 use Rattle.std.specs.Cmp.{nat_cmp_total, unsigned_tied}
 use Rattle.std.specs.FinMap as map
 use Rattle.std.specs.FinSet as set
-use Rattle.std.proofs.lemmas.Bool.{eqb-true, eq-eqb, and_parts, or_cases, or_left, or_right}
+use Rattle.std.proofs.lemmas.Bool.{eqb-true, eq-eqb, and_parts, false_from_ne_true, ne_eqb, or_cases, or_left, or_right}
 use Rattle.tg_rights.specs.Promise.Letters.{Letters, Right, read, write, take, grant, none, rights_where, joined, without, is_none}
 use Rattle.tg_rights.specs.declared.kind.Kind.{Kind}
 use Rattle.tg_rights.specs.declared.kind.Kind.TheVariants as kind
@@ -139,16 +139,12 @@ pub no_edge_from : (G : Protection) (z : ℕ) → IsGraph G → label G G.next z
 unfolding label
 no_edge_from G z g = λ i. record { read = absent read i; write = absent write i; take = absent take i; grant = absent grant i } where
   absent : (r : Right) → set.contains G.triples (record { from = G.next; right = r; to = z }) ≡ false
-  absent r = either _ refl where
-    either : (b : Bool) → set.contains G.triples (record { from = G.next; right = r; to = z }) ≡ b → b ≡ false
-    either true e = let l : G.next < G.next = g.below_next G.next (g.from_vertex (record { from = G.next; right = r; to = z }) e) in absurd (omega arith)
-    either false e = refl
+  absent r = false_from_ne_true _ (λ e. let l : G.next < G.next = g.below_next G.next (g.from_vertex (record { from = G.next; right = r; to = z }) e) in absurd (omega arith))
 
 module _ (G H : Protection) (Known : ℕ → Type 0) (alike : Alike G H Known) (x : ℕ) (x_known : Known x) (x_in : IsVertex G x) (in_G : IsGraph G) where
   -- a greater serial is not x
-  not_here : (n : ℕ) → x < n → (b : Bool) → (x == n) ≡ b → b ≡ false
-  not_here n below true e = let is : x ≡ n = eqb-true x n e in absurd (omega arith)
-  not_here n below false e = refl
+  not_here : (n : ℕ) → x < n → (x == n) ≡ false
+  not_here n below = ne_eqb x n (λ is. absurd (omega arith))
 
   module _ (n : ℕ) (α : Letters) (e : Vertex) (name : Option (List ℕ)) (n_is : G.next ≡ n) (H_next : H.next ≡ n) (in_H : IsGraph H) where
     grown : Protection → Protection
@@ -167,7 +163,7 @@ module _ (G H : Protection) (Known : ℕ → Type 0) (alike : Alike G H Known) (
     fresh : (K : Protection) → IsGraph K → K.next ≡ n → (w z : ℕ) → w ≡ n → label (grown K) w z ≡ none
     fresh K g K_next w z is =
         reads K w z
-        ∙ ap (λ b. cond (b && (n == z)) (joined (label K x n) α) (label K w z)) (ap (λ m. x == m) is ∙ not_here n below _ refl)
+        ∙ ap (λ b. cond (b && (n == z)) (joined (label K x n) α) (label K w z)) (ap (λ m. x == m) is ∙ not_here n below)
         ∙ ap (λ m. label K m z) (is ∙ sym K_next) ∙ no_edge_from K z g
 
     there : (K : Protection) (w : ℕ) → w ≡ n → vertex (grown K) w ≡ Some e

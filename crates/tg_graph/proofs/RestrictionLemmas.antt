@@ -1,5 +1,5 @@
 -- A restriction of a graph: it agrees with the graph, permits no more, replies alike, and stays one.
-use Rattle.std.proofs.Common.{◌≡◌, ℕ, ◌<◌, ◌≤◌, ◌+◌, List, [], true, length, refl, sym, ap, subst, ◌∙◌, inl, inr, Some, None, arith}
+use Rattle.std.proofs.Common.{◌≡◌, ℕ, ◌<◌, ◌≤◌, ◌+◌, List, [], true, length, refl, sym, ap, subst, ◌∙◌, inl, inr, arith}
 use Rattle.std.specs.Prelude.{Option}
 use Rattle.std.specs.Option.{is_some, option_map, option_map_or}
 use Rattle.std.specs.Ordering.{nat_cmp, eq_by_cmp}
@@ -20,7 +20,7 @@ use Rattle.tg_graph.specs.declared.vertex.Vertex.{Vertex}
 use Rattle.tg_graph.specs.Promise.Terms as effect
 use Rattle.tg_graph.specs.Promise.Terms.{Does, terms}
 use Rattle.tg_graph.specs.Promise.Protection.{Protection, IsEdge, IsGraph, IsSubject, IsVertex, has_retired, label, vertex, Agree, IsRestriction}
-use Rattle.tg_graph.specs.Promise.Rules.{Allowed, Judged, after, answered, done, edges_of, last_serial, next_graph, reply_of, with_text}
+use Rattle.tg_graph.specs.Promise.Rules.{Allowed, Judged, after, answered, done, edges_of, last_serial, next_graph, reply_of}
 use Rattle.tg_graph.specs.Promise.Fullness.{Limits, MayBeFull, NewEdge, Permitted, edge_count, vertex_count}
 use Rattle.tg_graph.proofs.EdgesAreCountedLemmas.{keys_occur_once}
 use Rattle.tg_graph.proofs.EdgesAreListedLemmas.{vertex_listed}
@@ -31,12 +31,7 @@ use Rattle.tg_graph.proofs.PartsStayLemmas.{Alike, agree_around, agree_back, ali
 use Rattle.tg_graph.proofs.ProtectionLemmas.{Entitled, edge_to, entitled}
 use Rattle.tg_graph.proofs.RollLemmas.{is_any}
 use Rattle.tg_graph.proofs.SameEdgesLemmas.{same_edges}
-use Rattle.tg_graph.proofs.VertexLemmas.{IsVertex-from_kind}
-
--- a text that is written changes no serial
-text_next : (K : Protection) (y : ℕ) (text : List ℕ) (o : Option Vertex) → (with_text K y text o).next ≡ K.next
-text_next K y text None = refl
-text_next K y text (Some e) = refl
+use Rattle.tg_graph.proofs.VertexLemmas.{IsVertex-from_kind, with_text-next}
 
 -- it is one of its own vertices
 pub by_vertices : (G H : Protection) (IsKept : ℕ → Type 0) → IsRestriction G H IsKept → IsRestriction G H (IsVertex H)
@@ -146,7 +141,7 @@ module _ (G H : Protection) (r : IsRestriction G H (IsVertex H)) where
       next_too (effect.Joins from α to) = r.next
       next_too (effect.Makes k α name) = ap (λ (n : ℕ). n + 1) r.next
       next_too (effect.Drops α over) = r.next
-      next_too (effect.Rewrites over text) = text_next H over text (vertex H over) ∙ r.next ∙ sym (text_next G over text (vertex G over))
+      next_too (effect.Rewrites over text) = with_text-next H over text (vertex H over) ∙ r.next ∙ sym (with_text-next G over text (vertex G over))
       next_too (effect.Tells over) = r.next
       next_too (effect.Lists at) = r.next
       next_too effect.Retires = r.next
