@@ -35,44 +35,29 @@ module _ (G H : Protection) (x : ℕ) (in_G : IsGraph G) (in_H : IsGraph H) (own
     itself (reply.Full w) = tt
 
   replied : (e : Does) → Entitled G (Reaches G x) (reaches_on G x) x (itself G H x own) e → SameReply (answered G e) (answered H e)
-  replied (effect.Joins from α to) h = refl
   replied (effect.Makes k α name) h = tt
-  replied (effect.Drops α over) h = refl
-  replied (effect.Rewrites over text) h = refl
   replied (effect.Tells over) h = answered_alike G H x own (effect.Tells over) in_G in_H h refl
   replied (effect.Lists at) h = answered_alike G H x own (effect.Lists at) in_G in_H h refl
-  replied effect.Retires h = refl
-  replied (effect.Acts agent) h = refl
+  replied _ h = refl
 
   -- what is allowed in one graph and full in the other is a create
   full_or_new : (K : Protection) (e : Does) (w : _) → is_new e ≡ true → SameReply (answered K e) (reply.Full w) × SameReply (reply.Full w) (answered K e)
-  full_or_new K (effect.Joins from α to) w e = absurd (cc e)
   full_or_new K (effect.Makes k α name) w e = (tt, tt)
-  full_or_new K (effect.Drops α over) w e = absurd (cc e)
-  full_or_new K (effect.Rewrites over text) w e = absurd (cc e)
-  full_or_new K (effect.Tells over) w e = absurd (cc e)
-  full_or_new K (effect.Lists at) w e = absurd (cc e)
-  full_or_new K effect.Retires w e = absurd (cc e)
-  full_or_new K (effect.Acts agent) w e = absurd (cc e)
+  full_or_new K _ w e = absurd (cc e)
 
   told_alike : (c : Command) (o p : Outcome) → PlainlyDecided G x c o → PlainlyDecided H x c p → SameReply (reply_of G x c o) (reply_of H x c p)
+  told_alike c o (outcome.Full which.Slots) d e = absurd e
+  told_alike c o (outcome.Full which.Cells) d e = absurd e
   told_alike c outcome.Allowed outcome.Allowed d e = replied (terms x c).does (entitled G (Reaches G x) (reaches_on G x) x (itself G H x own) c d.0)
   told_alike c outcome.Allowed (outcome.Denied rule why) d e = absurd (cc (one c outcome.Allowed (outcome.Denied rule why) d.0 e))
   told_alike c outcome.Allowed (outcome.Full which.Serials) d e = (full_or_new G (terms x c).does which.Serials e.1).0
-  told_alike c outcome.Allowed (outcome.Full which.Slots) d e = absurd e
-  told_alike c outcome.Allowed (outcome.Full which.Cells) d e = absurd e
   told_alike c (outcome.Denied rule why) outcome.Allowed d e = absurd (cc (one c (outcome.Denied rule why) outcome.Allowed d e.0))
   told_alike c (outcome.Denied rule why) (outcome.Denied rule' why') d e = ap (reply_of H x c) (one c (outcome.Denied rule why) (outcome.Denied rule' why') d e)
   told_alike c (outcome.Denied rule why) (outcome.Full which.Serials) d e = absurd (cc (one c (outcome.Denied rule why) outcome.Allowed d e.0))
-  told_alike c (outcome.Denied rule why) (outcome.Full which.Slots) d e = absurd e
-  told_alike c (outcome.Denied rule why) (outcome.Full which.Cells) d e = absurd e
   told_alike c (outcome.Full which.Serials) outcome.Allowed d e = (full_or_new H (terms x c).does which.Serials d.1).1
   told_alike c (outcome.Full which.Serials) (outcome.Denied rule why) d e = absurd (cc (one c outcome.Allowed (outcome.Denied rule why) d.0 e))
   told_alike c (outcome.Full which.Serials) (outcome.Full which.Serials) d e = tt
-  told_alike c (outcome.Full which.Serials) (outcome.Full which.Slots) d e = absurd e
-  told_alike c (outcome.Full which.Serials) (outcome.Full which.Cells) d e = absurd e
-  told_alike c (outcome.Full which.Slots) p d e = absurd d
-  told_alike c (outcome.Full which.Cells) p d e = absurd d
+  told_alike c _ p d e = absurd d
 
 -- a subject's command has the same reply in each graph that agrees for it, the new serial and fullness aside
 pub replied_alike : (G K : Protection) (x : ℕ) (c : Command) (r : Reply) → IsGraph G → Applies G x c r K → IsRepliedAlike G x c r
@@ -91,24 +76,15 @@ module _ (G H : Protection) (viewers : set.FinSet nat_cmp) (x : ℕ) (in_G : IsG
   only = one G H x in_G in_H own
 
   told_same : (e : Does) → Entitled G (Reaches G x) (reaches_on G x) x (itself G H x own) e → answered G e ≡ answered H e
-  told_same (effect.Joins from α to) h = refl
   told_same (effect.Makes k α name) h = ap (λ n. reply.Created n) next
-  told_same (effect.Drops α over) h = refl
-  told_same (effect.Rewrites over text) h = refl
   told_same (effect.Tells over) h = answered_alike G H x own (effect.Tells over) in_G in_H h refl
   told_same (effect.Lists at) h = answered_alike G H x own (effect.Lists at) in_G in_H h refl
-  told_same effect.Retires h = refl
-  told_same (effect.Acts agent) h = refl
+  told_same _ h = refl
 
   after_next : (e : Does) → (done G x e).next ≡ (done H x e).next
-  after_next (effect.Joins from α to) = next
   after_next (effect.Makes k α name) = ap (λ n. n + 1) next
-  after_next (effect.Drops α over) = next
   after_next (effect.Rewrites over text) = with_text-next G over text (vertex G over) ∙ next ∙ sym (with_text-next H over text (vertex H over))
-  after_next (effect.Tells over) = next
-  after_next (effect.Lists at) = next
-  after_next effect.Retires = next
-  after_next (effect.Acts agent) = next
+  after_next _ = next
 
   room : (c : Command) → (is_create x c ≡ true → G.next ≤ last_serial) → is_create x c ≡ true → last_serial < H.next → ⊥
   room c fits e past = let low : G.next ≤ last_serial = fits e in omega (arith, low, past, next)
@@ -117,23 +93,18 @@ module _ (G H : Protection) (viewers : set.FinSet nat_cmp) (x : ℕ) (in_G : IsG
   room_too c fits e past = let low : H.next ≤ last_serial = fits e in omega (arith, low, past, next)
 
   alike : (c : Command) (o p : Outcome) → PlainlyDecided G x c o → PlainlyDecided H x c p → AreAlike c o p
+  alike c o (outcome.Full which.Slots) d e = absurd e
+  alike c o (outcome.Full which.Cells) d e = absurd e
   alike c outcome.Allowed outcome.Allowed d e = (told_same (terms x c).does (entitled G (Reaches G x) (reaches_on G x) x (itself G H x own) c d.0), after_next (terms x c).does, kept G H viewers x known agree in_G c in_H next d.0)
   alike c outcome.Allowed (outcome.Denied rule why) d e = absurd (cc (only c outcome.Allowed (outcome.Denied rule why) d.0 e))
   alike c outcome.Allowed (outcome.Full which.Serials) d e = absurd (room c d.1 e.1 e.2)
-  alike c outcome.Allowed (outcome.Full which.Slots) d e = absurd e
-  alike c outcome.Allowed (outcome.Full which.Cells) d e = absurd e
   alike c (outcome.Denied rule why) outcome.Allowed d e = absurd (cc (only c (outcome.Denied rule why) outcome.Allowed d e.0))
   alike c (outcome.Denied rule why) (outcome.Denied rule' why') d e = (ap (reply_of H x c) (only c (outcome.Denied rule why) (outcome.Denied rule' why') d e), next, agree)
   alike c (outcome.Denied rule why) (outcome.Full which.Serials) d e = absurd (cc (only c (outcome.Denied rule why) outcome.Allowed d e.0))
-  alike c (outcome.Denied rule why) (outcome.Full which.Slots) d e = absurd e
-  alike c (outcome.Denied rule why) (outcome.Full which.Cells) d e = absurd e
   alike c (outcome.Full which.Serials) outcome.Allowed d e = absurd (room_too c e.1 d.1 d.2)
   alike c (outcome.Full which.Serials) (outcome.Denied rule why) d e = absurd (cc (only c outcome.Allowed (outcome.Denied rule why) d.0 e))
   alike c (outcome.Full which.Serials) (outcome.Full which.Serials) d e = (refl, next, agree)
-  alike c (outcome.Full which.Serials) (outcome.Full which.Slots) d e = absurd e
-  alike c (outcome.Full which.Serials) (outcome.Full which.Cells) d e = absurd e
-  alike c (outcome.Full which.Slots) p d e = absurd d
-  alike c (outcome.Full which.Cells) p d e = absurd d
+  alike c _ p d e = absurd d
 
 -- graphs that some subjects cannot tell apart stay so after a command of one of them, which has the same reply
 pub keeps_viewers : (G K : Protection) (x : ℕ) (c : Command) (r : Reply) → IsGraph G → Applies G x c r K → KeepsViewers G x c r K

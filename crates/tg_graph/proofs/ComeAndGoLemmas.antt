@@ -40,30 +40,15 @@ with_text-names G y text None = refl
 with_text-names G y text (Some e) = refl
 
 names_stay : (G : Protection) (x : ℕ) (c : Command) → rule_of c ≢ rule.Enrol → rule_of c ≢ rule.Retire → (after G x c).names ≡ G.names
-names_stay G x (command.Take α over from) no_enrol no_retire = refl
-names_stay G x (command.Grant α over to) no_enrol no_retire = refl
-names_stay G x (command.Create k α) no_enrol no_retire = refl
-names_stay G x (command.Remove α over) no_enrol no_retire = refl
-names_stay G x (command.Read over) no_enrol no_retire = refl
 names_stay G x (command.Write over text) no_enrol no_retire = with_text-names G over text (vertex G over)
-names_stay G x (command.Look at) no_enrol no_retire = refl
 names_stay G x (command.Enrol name α) no_enrol no_retire = absurd (no_enrol refl)
 names_stay G x command.Retire no_enrol no_retire = absurd (no_retire refl)
-names_stay G x (command.Assume agent) no_enrol no_retire = refl
-names_stay G x command.Leave no_enrol no_retire = refl
+names_stay G x _ no_enrol no_retire = refl
 
 retired_stay : (G : Protection) (x : ℕ) (c : Command) → rule_of c ≢ rule.Retire → (after G x c).retired ≡ G.retired
-retired_stay G x (command.Take α over from) no_retire = refl
-retired_stay G x (command.Grant α over to) no_retire = refl
-retired_stay G x (command.Create k α) no_retire = refl
-retired_stay G x (command.Remove α over) no_retire = refl
-retired_stay G x (command.Read over) no_retire = refl
 retired_stay G x (command.Write over text) no_retire = with_text-retired G over text (vertex G over)
-retired_stay G x (command.Look at) no_retire = refl
-retired_stay G x (command.Enrol name α) no_retire = refl
 retired_stay G x command.Retire no_retire = absurd (no_retire refl)
-retired_stay G x (command.Assume agent) no_retire = refl
-retired_stay G x command.Leave no_retire = refl
+retired_stay G x _ no_retire = refl
 
 pub come_and_go : (G : Protection) (x : ℕ) → IsGraph G → ComeAndGo G x
 come_and_go G x g = record {

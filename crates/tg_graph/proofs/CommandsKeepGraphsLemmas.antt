@@ -33,10 +33,8 @@ module _ (G : Protection) (x : ℕ) (g : IsGraph G) where
   done_stays x_in (effect.Makes k α name) h = new-IsGraph G x α (record { kind = k; text = [] }) name g x_in h.1 h.2
   done_stays x_in (effect.Drops α over) h = difference-IsGraph G x over α g
   done_stays x_in (effect.Rewrites over text) h = with_text-IsGraph G over text g
-  done_stays x_in (effect.Tells over) h = g
-  done_stays x_in (effect.Lists at) h = g
   done_stays x_in effect.Retires h = retired-IsGraph G x g x_in
-  done_stays x_in (effect.Acts agent) h = g
+  done_stays x_in _ h = g
 
 pub graph_stays : (G : Protection) (x : ℕ) (c : Command) → IsGraph G → IsSubject G x → Allowed G x c → IsGraph (after G x c)
 graph_stays G x c g s a = let x_in = IsVertex-from_kind G x kind.Subject s in done_stays G x g x_in (terms x c).does (granted G x g x_in c a)
@@ -46,10 +44,8 @@ other_kind : (G : Protection) (v w : ℕ) (e : Vertex) → (w ≡ v → ⊥) →
 other_kind G v w e apart s = ap (option_map (λ e. e.kind)) (map.get-insert nat_cmp_total G.vertices v e w ∙ ap (λ b. cond b (Some e) (vertex G w)) (unsigned_tied w v ∙ ne_eqb w v apart)) ∙ s
 
 subject_left : (G : Protection) (x : ℕ) → IsGraph G → (e : Does) (v : ℕ) → IsSubject G v → IsSubject (done G x e) v
-subject_left G x g (effect.Joins from α to) v s = s
 subject_left G x g (effect.Makes k α name) v s =
     other_kind G G.next v (record { kind = k; text = [] }) (λ is. let l : v < G.next = g.below_next v (IsVertex-from_kind G v kind.Subject s) in absurd (omega arith)) s
-subject_left G x g (effect.Drops α over) v s = s
 subject_left G x g (effect.Rewrites over text) v s = told (vertex G over) refl where
   told : (o : Option Vertex) → vertex G over ≡ o → IsSubject (with_text G over text o) v
   told None is = s
@@ -58,10 +54,7 @@ subject_left G x g (effect.Rewrites over text) v s = told (vertex G over) refl w
     by true same = ap (option_map (λ e. e.kind)) (map.get-insert nat_cmp_total G.vertices over (record e { text = text }) v ∙ ap (λ b. cond b (Some (record e { text = text })) (vertex G v)) (unsigned_tied v over ∙ same))
         ∙ ap (option_map (λ e. e.kind)) (sym is) ∙ ap (kind_of G) (sym (eqb-true v over same)) ∙ s
     by false other = other_kind G over v (record e { text = text }) (λ is. absurd (cc (other, eq-eqb v over is))) s
-subject_left G x g (effect.Tells over) v s = s
-subject_left G x g (effect.Lists at) v s = s
-subject_left G x g effect.Retires v s = s
-subject_left G x g (effect.Acts agent) v s = s
+subject_left G x g _ v s = s
 
 pub subject_stays : (G : Protection) (x : ℕ) (c : Command) → IsGraph G → (v : ℕ) → IsSubject G v → IsSubject (after G x c) v
 subject_stays G x c g v s = subject_left G x g (terms x c).does v s

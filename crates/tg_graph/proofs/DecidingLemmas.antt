@@ -39,22 +39,12 @@ sound x (command.Grant α over to) = record {
 sound x (command.Create k α) = record { follows = tt; some = λ _. tt; wants = tt; covers = (refl, refl, tt) }
 sound x (command.Remove α over) = record { follows = refl; some = λ e. (not-true _ e, tt); wants = tt; covers = (refl, refl) }
 sound x (command.Read over) = record { follows = refl; some = λ _. (refl, tt); wants = inl refl; covers = inl refl }
-sound x (command.Write over text) = record { follows = refl; some = λ _. (refl, tt); wants = inl refl; covers = refl }
 sound x (command.Look at) = look_sound x at
 sound x (command.Enrol name α) = record { follows = tt; some = λ _. tt; wants = tt; covers = (refl, refl, refl) }
 sound x command.Retire = record { follows = tt; some = λ _. tt; wants = tt; covers = refl }
-sound x (command.Assume agent) = record { follows = refl; some = λ _. (refl, tt); wants = inl refl; covers = refl }
 sound x command.Leave = record { follows = tt; some = λ _. tt; wants = tt; covers = tt }
+sound x _ = record { follows = refl; some = λ _. (refl, tt); wants = inl refl; covers = refl }
 
 pub only_leave : (x : ℕ) (c : Command) → is_for_retired x c ≡ true → c ≡ command.Leave
-only_leave x (command.Take α over from) e = absurd (cc e)
-only_leave x (command.Grant α over to) e = absurd (cc e)
-only_leave x (command.Create k α) e = absurd (cc e)
-only_leave x (command.Remove α over) e = absurd (cc e)
-only_leave x (command.Read over) e = absurd (cc e)
-only_leave x (command.Write over text) e = absurd (cc e)
-only_leave x (command.Look at) e = absurd (cc e)
-only_leave x (command.Enrol name α) e = absurd (cc e)
-only_leave x command.Retire e = absurd (cc e)
-only_leave x (command.Assume agent) e = absurd (cc e)
 only_leave x command.Leave e = refl
+only_leave x _ e = absurd (cc e)

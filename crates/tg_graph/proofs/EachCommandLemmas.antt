@@ -155,12 +155,7 @@ module _ (G : Protection) (x : ℕ) where
 new_edge : (G : Protection) (d : Does) → is_new d ≡ true → NewEdge G d → G.next ≤ last_serial
 new_edge G (effect.Joins from α to) new there = absurd (cc new)
 new_edge G (effect.Makes k α name) new there = there
-new_edge G (effect.Drops α over) new there = absurd there
-new_edge G (effect.Rewrites over text) new there = absurd there
-new_edge G (effect.Tells over) new there = absurd there
-new_edge G (effect.Lists at) new there = absurd there
-new_edge G effect.Retires new there = absurd there
-new_edge G (effect.Acts agent) new there = absurd there
+new_edge G _ new there = absurd there
 
 serials_first : (limits : Limits) (G : Protection) (x : ℕ) (c : Command) → is_create x c ≡ true → last_serial < G.next → (w : Which) → MayBeFull limits G x c w → w ≡ which.Serials
 serials_first limits G x c create none which.Serials full = refl

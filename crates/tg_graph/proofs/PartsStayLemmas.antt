@@ -197,14 +197,8 @@ module _ (G H : Protection) (Known : ℕ → Type 0) (alike : Alike G H Known) (
 
   -- who is known afterwards: a new vertex too
   abbrev pub known_after : Does → ℕ → Type 0
-  known_after (effect.Joins from α to) v = Known v
   known_after (effect.Makes k α name) v = Known v ⊎ (v ≡ G.next)
-  known_after (effect.Drops α over) v = Known v
-  known_after (effect.Rewrites over text) v = Known v
-  known_after (effect.Tells over) v = Known v
-  known_after (effect.Lists at) v = Known v
-  known_after effect.Retires v = Known v
-  known_after (effect.Acts agent) v = Known v
+  known_after _ v = Known v
 
   new_too : (k : Kind) (α : Letters) (name : Option (List ℕ)) → IsGraph H → G.next ≡ H.next → Alike (done G x (effect.Makes k α name)) (done H x (effect.Makes k α name)) (known_after (effect.Makes k α name))
   unfolding grown
@@ -223,23 +217,15 @@ module _ (G H : Protection) (Known : ℕ → Type 0) (alike : Alike G H Known) (
       subst (λ (K : Protection). Alike K (done H x (effect.Rewrites over text)) Known) (sym (with_text-document G over text h.1))
       (subst (λ (L : Protection). Alike (record G { vertices = map.insert G.vertices over told }) L Known) (sym (with_text-document H over text document_too))
       (text_too G H Known alike over told))
-  done_alike (effect.Tells over) in_H next h = alike
-  done_alike (effect.Lists at) in_H next h = alike
   done_alike effect.Retires in_H next h = retired_too G H Known alike x
-  done_alike (effect.Acts agent) in_H next h = alike
+  done_alike _ in_H next h = alike
 
   pub alike_after : (c : Command) → IsGraph H → G.next ≡ H.next → Allowed G x c → Alike (after G x c) (after H x c) (known_after (terms x c).does)
   alike_after c in_H next a = done_alike (terms x c).does in_H next (entitled G Known alike.step x x_known c a)
 
   pub still_known : (e : Does) (v : ℕ) → Known v → known_after e v
-  still_known (effect.Joins from α to) v k = k
   still_known (effect.Makes k α name) v h = inl h
-  still_known (effect.Drops α over) v k = k
-  still_known (effect.Rewrites over text) v k = k
-  still_known (effect.Tells over) v k = k
-  still_known (effect.Lists at) v k = k
-  still_known effect.Retires v k = k
-  still_known (effect.Acts agent) v k = k
+  still_known _ v k = k
 
 -- who has retired in both or in neither, and still has or has not
 pub with_text-retired : (G : Protection) (y : ℕ) (text : List ℕ) (o : Option Vertex) → (with_text G y text o).retired ≡ G.retired
@@ -247,17 +233,12 @@ with_text-retired G y text None = refl
 with_text-retired G y text (Some e) = refl
 
 pub done-retired : (G H : Protection) (x v : ℕ) → has_retired G v ≡ has_retired H v → (e : Does) → has_retired (done G x e) v ≡ has_retired (done H x e) v
-done-retired G H x v same (effect.Joins from α to) = same
-done-retired G H x v same (effect.Makes k α name) = same
-done-retired G H x v same (effect.Drops α over) = same
 done-retired G H x v same (effect.Rewrites over text) =
     ap (λ (rs : set.FinSet nat_cmp). set.contains rs v) (with_text-retired G over text (vertex G over)) ∙ same
     ∙ ap (λ (rs : set.FinSet nat_cmp). set.contains rs v) (sym (with_text-retired H over text (vertex H over)))
-done-retired G H x v same (effect.Tells over) = same
-done-retired G H x v same (effect.Lists at) = same
 done-retired G H x v same effect.Retires =
     set.contains-insert nat_cmp_total G.retired x v ∙ ap (λ b. eq_by_cmp nat_cmp v x || b) same ∙ sym (set.contains-insert nat_cmp_total H.retired x v)
-done-retired G H x v same (effect.Acts agent) = same
+done-retired G H x v same _ = same
 
 -- what the viewers reach
 module _ (G H : Protection) (viewers : set.FinSet nat_cmp) (x : ℕ) (x_in : set.contains viewers x ≡ true) (agree : (v : ℕ) → set.contains viewers v ≡ true → Agree G H v) where
@@ -308,25 +289,15 @@ module _ (G H : Protection) (alike : Alike G H (IsVertex H)) (x : ℕ) (x_there 
   vertex_told y text (Some e) v h = IsVertex-insert H.vertices y (record e { text = text }) v ∙ or_right _ _ h
 
   pub into : (e : Does) (v : ℕ) → IsVertex (done H x e) v → known_after G H (IsVertex H) alike x x_there x_in in_G e v
-  into (effect.Joins from α to) v h = h
   into (effect.Makes k α name) v h = elim (or_cases _ _ (sym (IsVertex-insert H.vertices H.next (record { kind = k; text = [] }) v) ∙ h)) [ inl is ↦ inr (eqb-true v H.next is ∙ sym next) | inr old ↦ inl old ]
-  into (effect.Drops α over) v h = h
   into (effect.Rewrites over text) v h = told_vertex over text (vertex H over) refl v h
-  into (effect.Tells over) v h = h
-  into (effect.Lists at) v h = h
-  into effect.Retires v h = h
-  into (effect.Acts agent) v h = h
+  into _ v h = h
 
   pub out : (e : Does) (v : ℕ) → known_after G H (IsVertex H) alike x x_there x_in in_G e v → IsVertex (done H x e) v
-  out (effect.Joins from α to) v h = h
   out (effect.Makes k α name) v (inl h) = IsVertex-insert H.vertices H.next (record { kind = k; text = [] }) v ∙ or_right _ _ h
   out (effect.Makes k α name) v (inr is) = IsVertex-insert H.vertices H.next (record { kind = k; text = [] }) v ∙ or_left _ _ (eq-eqb v H.next (is ∙ next))
-  out (effect.Drops α over) v h = h
   out (effect.Rewrites over text) v h = vertex_told over text (vertex H over) v h
-  out (effect.Tells over) v h = h
-  out (effect.Lists at) v h = h
-  out effect.Retires v h = h
-  out (effect.Acts agent) v h = h
+  out _ v h = h
 
 -- a part of a graph
 module _ (G H : Protection) (part : IsPart G H) where

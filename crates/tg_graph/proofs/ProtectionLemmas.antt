@@ -3,7 +3,7 @@
 use Rattle.std.proofs.Common.{◌≡◌, ◌≢◌, ℕ, ◌∷◌, [], List, Bool, true, false, not, sym, ap, subst, ◌∙◌, ◌&&◌, ◌||◌, inl, inr, Some, None, arith}
 use Rattle.std.proofs.lemmas.Bool.{not-true, eq-eqb}
 use Rattle.std.specs.FinSet as set
-use Rattle.tg_rights.specs.Promise.Letters.{Letters, Right, read, write, take, grant, has, is_none, includes}
+use Rattle.tg_rights.specs.Promise.Letters.{Letters, Right, read, take, has, is_none, includes}
 use Rattle.tg_rights.specs.declared.command.Command.{Command}
 use Rattle.tg_graph.specs.declared.rules.Need.{Need}
 use Rattle.tg_graph.specs.Promise.Terms as effect
@@ -30,9 +30,7 @@ module _ (G : Protection) (g : IsGraph G) (x y : ℕ) where
   member : (r : Right) → has (label G x y) r ≡ true → set.contains G.triples (record { from = x; right = r; to = y }) ≡ true
   unfolding label
   member read h = h
-  member write h = h
-  member take h = h
-  member grant h = h
+  member _ h = h
 
   pub edge_from : IsEdge G x y → IsVertex G x
   edge_from e = let r = some_right (label G x y) e in g.from_vertex (record { from = x; right = r.0; to = y }) (member r.0 r.1)

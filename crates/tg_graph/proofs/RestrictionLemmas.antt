@@ -91,12 +91,7 @@ module _ (G H : Protection) (r : IsRestriction G H (IsVertex H)) where
       new_edge : (d : Does) → Entitled H (IsVertex H) step x x_there d → NewEdge H d → NewEdge G d
       new_edge (effect.Joins from α to) h new = λ e. new (ap is_none (sym (alike.labels from to h.0)) ∙ e)
       new_edge (effect.Makes k α name) h new = subst (λ (n : ℕ). n ≤ last_serial) r.next new
-      new_edge (effect.Drops α over) h new = new
-      new_edge (effect.Rewrites over text) h new = new
-      new_edge (effect.Tells over) h new = new
-      new_edge (effect.Lists at) h new = new
-      new_edge effect.Retires h new = new
-      new_edge (effect.Acts agent) h new = new
+      new_edge _ h new = new
 
       full : (limits : Limits) (c : Command) (w : Which) → Allowed H x c → MayBeFull limits H x c w → MayBeFull limits G x c w
       full limits c which.Serials a m = (m.0, subst (λ (n : ℕ). last_serial < n) r.next m.1)
@@ -113,19 +108,14 @@ module _ (G H : Protection) (r : IsRestriction G H (IsVertex H)) where
 
       -- what it answers, the graph answers
       replied : (d : Does) → Entitled H (IsVertex H) step x x_there d → answered G d ≡ answered H d
-      replied (effect.Joins from α to) h = refl
       replied (effect.Makes k α name) h = ap (λ (n : ℕ). reply.Created n) (sym r.next)
-      replied (effect.Drops α over) h = refl
-      replied (effect.Rewrites over text) h = refl
       replied (effect.Tells over) h = ap (λ (v : Option Vertex). reply.Text (option_map_or (λ e. e.text) v [])) (alike.vertices over h)
       replied (effect.Lists at) h = ap (λ (es : List (ℕ × Letters)). reply.Edges es) (same_edges G H at in_G in_H (λ y. alike.labels at y h))
-      replied effect.Retires h = refl
-      replied (effect.Acts agent) h = refl
+      replied _ h = refl
 
       pub restriction_replies : (limits : Limits) (c : Command) (o : Outcome) → Permitted limits H x c o → reply_of G x c o ≡ reply_of H x c o
       restriction_replies limits c outcome.Allowed p = replied (terms x c).does (entitled H (IsVertex H) step x x_there c p.0)
-      restriction_replies limits c (outcome.Denied rule why) p = refl
-      restriction_replies limits c (outcome.Full w) p = refl
+      restriction_replies limits c _ p = refl
 
       -- who is known afterwards is a vertex, and the other way round
       abbrev Known : Does → ℕ → Type 0
@@ -138,39 +128,23 @@ module _ (G H : Protection) (r : IsRestriction G H (IsVertex H)) where
       known_vertex = out G H alike x x_there (of_graph x x_there) in_G (sym r.next)
 
       next_too : (d : Does) → (done H x d).next ≡ (done G x d).next
-      next_too (effect.Joins from α to) = r.next
       next_too (effect.Makes k α name) = ap (λ (n : ℕ). n + 1) r.next
-      next_too (effect.Drops α over) = r.next
       next_too (effect.Rewrites over text) = with_text-next H over text (vertex H over) ∙ r.next ∙ sym (with_text-next G over text (vertex G over))
-      next_too (effect.Tells over) = r.next
-      next_too (effect.Lists at) = r.next
-      next_too effect.Retires = r.next
-      next_too (effect.Acts agent) = r.next
+      next_too _ = r.next
 
       -- who has retired afterwards was a vertex
       retired_there : (v : ℕ) (d : Does) → has_retired (done H x d) v ≡ true → IsVertex H v
-      retired_there v (effect.Joins from α to) t = ((r.retired v).0 t).0
-      retired_there v (effect.Makes k α name) t = ((r.retired v).0 t).0
-      retired_there v (effect.Drops α over) t = ((r.retired v).0 t).0
       retired_there v (effect.Rewrites over text) t = ((r.retired v).0 (ap (λ (rs : set.FinSet nat_cmp). set.contains rs v) (sym (with_text-retired H over text (vertex H over))) ∙ t)).0
-      retired_there v (effect.Tells over) t = ((r.retired v).0 t).0
-      retired_there v (effect.Lists at) t = ((r.retired v).0 t).0
       retired_there v effect.Retires t = elim (or_cases (eq_by_cmp nat_cmp v x) (set.contains H.retired v) (sym (set.contains-insert nat_cmp_total H.retired x v) ∙ t)) [
         | inl is ↦ subst (IsVertex H) (sym (eqb-true v x (sym (unsigned_tied v x) ∙ is))) x_there
         | inr old ↦ ((r.retired v).0 old).0
       ]
-      retired_there v (effect.Acts agent) t = ((r.retired v).0 t).0
+      retired_there v _ t = ((r.retired v).0 t).0
 
       known_there : (v : ℕ) (d : Does) → Known d v → has_retired (done G x d) v ≡ true → IsVertex H v
-      known_there v (effect.Joins from α to) k t = k
       known_there v (effect.Makes kd α name) (inl k) t = k
       known_there v (effect.Makes kd α name) (inr is) t = absurd (let low : v < G.next = in_G.roll.past v t in omega (arith, low, is))
-      known_there v (effect.Drops α over) k t = k
-      known_there v (effect.Rewrites over text) k t = k
-      known_there v (effect.Tells over) k t = k
-      known_there v (effect.Lists at) k t = k
-      known_there v effect.Retires k t = k
-      known_there v (effect.Acts agent) k t = k
+      known_there v _ k t = k
 
       retired_too : (v : ℕ) (d : Does) → IsVertex H v → has_retired (done G x d) v ≡ has_retired (done H x d) v
       retired_too v d v_in = done-retired G H x v (same_retired v v_in) d
@@ -196,5 +170,4 @@ module _ (G H : Protection) (r : IsRestriction G H (IsVertex H)) where
 
       pub restriction_stays : (limits : Limits) (c : Command) (o : Outcome) → Permitted limits H x c o → IsRestriction (next_graph G x c o) (next_graph H x c o) (IsVertex (next_graph H x c o))
       restriction_stays limits c outcome.Allowed p = carried_out c p.0
-      restriction_stays limits c (outcome.Denied rule why) p = r
-      restriction_stays limits c (outcome.Full w) p = r
+      restriction_stays limits c _ p = r

@@ -99,12 +99,10 @@ rights_left H G x (command.Create k α) h = record {
 }
 rights_left H G x (command.Remove α over) h =
     record { kinds = h.kinds; next = h.next; triples = ap (λ t. set.difference t (edge x α over)) h.triples; unretired = h.unretired }
-rights_left H G x (command.Read over) h = h
 rights_left H G x (command.Write over text) h = by (vertex G over) refl where
   by : (o : Option Vertex) → vertex G over ≡ o → HasRightsOf H (with_text G over text o)
   by None is = h
   by (Some e) is = record { kinds = λ w. h.kinds w ∙ sym (kind_kept G over text (Some e) is w); next = h.next; triples = h.triples; unretired = h.unretired }
-rights_left H G x (command.Look at) h = h
 rights_left H G x (command.Enrol name α) h = record {
   kinds = made_alike H G h x kind.Subject α;
   next = ap (λ n. n + 1) h.next;
@@ -112,8 +110,7 @@ rights_left H G x (command.Enrol name α) h = record {
   unretired = h.unretired;
 }
 rights_left H G x command.Retire h = record { kinds = h.kinds; next = h.next; triples = h.triples; unretired = h.unretired }
-rights_left H G x (command.Assume agent) h = h
-rights_left H G x command.Leave h = h
+rights_left H G x _ h = h
 
 -- the step of the four rules is allowed where the step was
 abbrev Allows : Protection → ℕ → Command → Option Command → Type 0
@@ -126,12 +123,7 @@ allows H G x (command.Grant α over to) h a = (allowed_alike H G h x (command.Gr
 allows H G x (command.Create k α) h a = (allowed_alike H G h x (command.Create k α) refl refl refl a, refl)
 allows H G x (command.Remove α over) h a = (allowed_alike H G h x (command.Remove α over) refl refl refl a, refl)
 allows H G x (command.Enrol name α) h a = (created_alike H G h x α (meets G x (command.Enrol name α) a).named, refl)
-allows H G x (command.Read over) h a = tt
-allows H G x (command.Write over text) h a = tt
-allows H G x (command.Look at) h a = tt
-allows H G x command.Retire h a = tt
-allows H G x (command.Assume agent) h a = tt
-allows H G x command.Leave h a = tt
+allows H G x _ h a = tt
 
 -- the list begins with the step of the four rules, if there is one
 abbrev pub Onward : Protection → Protection → List Step → Type 0
