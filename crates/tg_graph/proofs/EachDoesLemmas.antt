@@ -97,5 +97,7 @@ does_so G x = record {
   lists = λ y. refl;
   removes_freely = λ α y. refl;
   writes_freely = λ y text. refl;
+  empty = λ α y z unretired none. rw (unretired, none) refl;
+  itself = λ α z unretired some. (let same = eq-eqb x x refl in rw (unretired, some, same) refl);
   lacks = λ c β y z e. lacks G β y z x c e;
 }

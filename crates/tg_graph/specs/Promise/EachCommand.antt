@@ -95,7 +95,8 @@ abbrev pub Loses : Protection → ℕ → Letters → ℕ → Protection → Typ
 Loses G u α v H = (t : Triple) → set.contains H.triples t ≡ (set.contains G.triples t && not ((t.from == u) && ((t.to == v) && has α t.right)))
 
 -- who gets rights over whom, or loses them, by each command that x is allowed, and what the reply tells; a remove and a
--- write take no memory; and a denial for missing rights names such as are missing
+-- write take no memory; a denial for missing rights names such as are missing; and who takes no rights is told so before
+-- anything else, and who takes rights over itself before any right is looked for
 pub record DoesSo (G : Protection) (x : ℕ) : Type 0 where
   pub takes : (α : Letters) (y z : ℕ) → Gives G x α y (after G x (command.Take α y z))
   pub grants : (α : Letters) (y z : ℕ) → Gives G z α y (after G x (command.Grant α y z))
@@ -108,6 +109,8 @@ pub record DoesSo (G : Protection) (x : ℕ) : Type 0 where
   pub lists : (y : ℕ) → allowed_reply G x (command.Look y) ≡ reply.Edges (edges_of G y)
   pub removes_freely : (α : Letters) (y : ℕ) → takes_memory x (command.Remove α y) ≡ false
   pub writes_freely : (y : ℕ) (text : List ℕ) → takes_memory x (command.Write y text) ≡ false
+  pub empty : (α : Letters) (y z : ℕ) → has_retired G x ≡ false → is_none α ≡ true → denial G x (command.Take α y z) ≡ Some cause.Empty
+  pub itself : (α : Letters) (z : ℕ) → has_retired G x ≡ false → is_none α ≡ false → denial G x (command.Take α x z) ≡ Some cause.NotDistinct
   pub lacks : (c : Command) (β : Letters) (y z : ℕ) → denial G x c ≡ Some (cause.Missing β y z) → (r : Right) → has β r ≡ true → has (label G y z) r ≡ false
 
 abbrev pub EachDoesSo : Type 0
