@@ -20,4 +20,5 @@ mod PartsLemmas
 mod PrincipalLemmas
 mod RootLemmas
 mod SlotLemmas
+mod TextLemmas
 mod VertexLemmas

@@ -3,6 +3,7 @@ ghost use Rattle.tg_collect.specs.Promise.Held.{Comes, Drops, Gains, Joins};
 ghost use Rattle.tg_collect.specs.Promise.Runs.{CallsAct, StoresAreComplete, StoresAreBounded};
 ghost use Rattle.tg_collect.specs.Promise.InGraph.{StoresAreInGraph, OpensInGraph, CollectsInGraph, ActsInGraph, ShadesInGraph};
 ghost use Rattle.tg_collect.specs.Promise.Openings.{OpeningsCanBeStored};
+ghost use Rattle.tg_collect.specs.Promise.Sessions.{TextsComeBack};
 ghost use Rattle.tg_collect.specs.Promise.Views.{OneMarkAStep};
 
 /// A law, at no cost: what a session call does is a step of a run if its new serial is new and its target live or new;
@@ -45,4 +46,9 @@ pub fn held_changes()
 /// A law, at no cost: a collector step that begins no cycle changes the mark of one slot at most.
 pub fn one_mark_a_step()
     ensures { OneMarkAStep }
+{}
+
+/// A law, at no cost: a text that replaces another is the one that comes back when it is replaced.
+pub fn texts_come_back()
+    ensures { TextsComeBack }
 {}

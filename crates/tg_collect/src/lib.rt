@@ -27,7 +27,7 @@ mod tests;
 pub use figures::Figure;
 pub use laws::{
     held_changes, one_mark_a_step, openings_can_be_stored, runs_are_complete_and_bounded,
-    steps_in_the_graph,
+    steps_in_the_graph, texts_come_back,
 };
 pub use note::{Note, Phase};
 pub use store::Store;

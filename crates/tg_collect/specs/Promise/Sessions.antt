@@ -121,6 +121,10 @@ pub record TextReplaced (v w : Stored) (x : ℕ) (text answer : List ℕ) : Type
   pub at : spot_at v slot ≡ Some owner
   pub is : w ≡ record v { slots = slice_set v.slots slot (Some (record owner { text = text })) }
 
+-- the text that a second one replaces is the first
+abbrev pub TextsComeBack : Type 0
+TextsComeBack = (u v w : Stored) (x : ℕ) (text other old again : List ℕ) → TextReplaced u v x text old → TextReplaced v w x other again → again ≡ text
+
 -- what a session step does to one slot, by the new serial, if any, and the target that it sets, if any
 abbrev pub SlotChanged : Stored → (new target : Option ℕ) → ℕ → Option Spot → Option Spot → Type 0
 SlotChanged v new target i = marking.Changed v.stage (IsRootAt v) (λ x. new ≡ Some x) (λ x. target ≡ Some x) i
