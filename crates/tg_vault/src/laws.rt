@@ -1,9 +1,10 @@
 //! Laws: each function is a theorem, its contract, and costs nothing when it is called.
 ghost use Rattle.tg_vault.specs.Promise.Course.{CoursesJoin};
 ghost use Rattle.tg_vault.specs.Promise.Laws.{CoursesHaveTheHeadline, FaultsAreOrdered};
-ghost use Rattle.tg_vault.specs.Promise.Meanings.{ActorsHaveMeanings, AnswersHaveMeanings, EightStepsAreEnough, FreshHasMeaning, FullHasMeaning, HellosLeaveRoom, LiveIsNotParked, OneLeastSeat, OneRoom, OneScene, RebasedHasMeaning};
+ghost use Rattle.tg_vault.specs.Promise.Meanings.{ActorsHaveMeanings, AnswersHaveMeanings, EightStepsAreEnough, FreshHasMeaning, FullHasMeaning, HeadlineHasMeaning, HellosLeaveRoom, LiveIsNotParked, OneLeastSeat, OneRoom, OneScene, ReadsTellNoMore, RebasedHasMeaning};
 
 use tg_collect::runs_are_complete_and_bounded;
+use tg_graph::{each_does_so, each_is_allowed_so};
 
 /// Each course from a coherent vault, whose steps are those of `Vault`'s calls, has the headline, and among any
 /// `S * S + 3 * S + C + 3` collector steps in a row, for S slots and C cells, one ends a cycle.
@@ -77,4 +78,17 @@ pub fn one_scene()
 /// A hello, granted or refused, leaves the room.
 pub fn hellos_leave_room()
     ensures { HellosLeaveRoom }
+{}
+
+/// What the headline says of a read, of a denial for missing rights, and of the numbers that are told.
+pub fn headline_has_meaning()
+    ensures { HeadlineHasMeaning }
+{
+    each_is_allowed_so();
+    each_does_so();
+}
+
+/// What is read is the text that it has in each graph which agrees with the vault's for the reader.
+pub fn reads_tell_no_more()
+    ensures { ReadsTellNoMore }
 {}
