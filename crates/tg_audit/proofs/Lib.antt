@@ -6,5 +6,6 @@ mod TableLemmas
 mod VerdictLemmas
 mod OnePlaceLemmas
 mod OneVerdictLemmas
+mod SettledLemmas
 mod ReplayLemmas
 mod DerivedLemmas

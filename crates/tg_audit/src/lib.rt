@@ -2,7 +2,7 @@
 #![tactic(auto)]
 
 ghost use Rattle.tg_audit.specs.Promise.Derived.{HistoriesDerive};
-ghost use Rattle.tg_audit.specs.Promise.Laws.{AgreedCounts, ExactlyOnePlace, ExactlyOneVerdict};
+ghost use Rattle.tg_audit.specs.Promise.Laws.{AgreedCounts, ExactlyOnePlace, ExactlyOneVerdict, PlacesStay};
 
 mod derivations;
 mod following;
@@ -33,6 +33,11 @@ pub fn exactly_one_place()
 /// If the logs agree with the history for each seat, they have as many exchanges as it has entries.
 pub fn agreed_counts()
     ensures { AgreedCounts }
+{}
+
+/// What `settle` gives back can be settled again, with the same result.
+pub fn places_stay()
+    ensures { PlacesStay }
 {}
 
 /// The steps of a legal history lead from each graph with the kinds, edges and next serial of its opening, in which
