@@ -7,3 +7,4 @@ pub mod ProspectLemmas
 pub mod GrowingLemmas
 pub mod SharingLemmas
 pub mod LookupLemmas
+mod MeaningsLemmas

@@ -12,7 +12,7 @@
 //! vertices, and `sharing` answers, `prospect` and `lookup` of many vertices at once.
 #![tactic(auto)]
 
-ghost use Rattle.tg_sharing.specs.Promise.Laws.{WithheldForEver};
+ghost use Rattle.tg_sharing.specs.Promise.Laws.{SharingHasMeaning, WithheldForEver};
 
 mod builder;
 mod carry;
@@ -40,3 +40,8 @@ pub fn withheld_for_ever()
     allowed_is_met();
     commands_keep_graphs();
 }
+
+/// What steps, and lists that are empty or not, say of what can be shared.
+pub fn sharing_has_meaning()
+    ensures { SharingHasMeaning }
+{}
