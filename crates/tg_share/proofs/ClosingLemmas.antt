@@ -17,7 +17,7 @@ nothing_left front [] whole none is = sym (append-nil front) ∙ is
 nothing_left front (x ∷ rest) whole none is = absurd (omega arith)
 
 -- the exchanges in the logs are those of the ended sessions
-count_in_logs : {L : Type 0} (ended : List (Ended L)) → sum_by (λ l. length l.exchanges.items) (logs_of ended) ≡ exchange_count ended
+pub count_in_logs : {L : Type 0} (ended : List (Ended L)) → sum_by (λ l. length l.exchanges.items) (logs_of ended) ≡ exchange_count ended
 count_in_logs [] = refl
 count_in_logs (e ∷ ended) =
     sum_by-cons (λ (l : SeatLog). length l.exchanges.items) e.log (logs_of ended)

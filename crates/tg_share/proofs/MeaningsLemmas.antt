@@ -1,5 +1,6 @@
 -- Shared vaults in other words.
-use Rattle.std.proofs.Common.{◌≡◌, ◌≢◌, ℕ, suc, ◌+◌, List, [], ◌∷◌, ◌++◌, length, Some, slice_get, refl, sym, ap, ◌∙◌, inl, inr}
+use Rattle.std.proofs.Common.{◌≡◌, ◌≢◌, ℕ, suc, ◌+◌, List, [], ◌∷◌, ◌++◌, length, Some, true, slice_get, refl, sym, ap, subst, ◌∙◌, inl, inr, arith}
+use Rattle.std.specs.List.{sum_by}
 use Rattle.std.specs.Option.{option_map}
 use Rattle.tg_rights.specs.declared.command.Command.{Command}
 use Rattle.tg_rights.specs.declared.outcome.Reply.{Reply}
@@ -14,10 +15,18 @@ use Rattle.tg_vault.specs.Promise.Contents.{Contents, moment}
 use Rattle.tg_vault.specs.Promise.Headline.{asked_in, replies_from}
 use Rattle.tg_vault.specs.Promise.World.{actor_at}
 use Rattle.tg_vault.proofs.MeaningsLemmas.{answers_mean, eight_steps}
-use Rattle.tg_share.specs.Promise.Meanings.{SharesHaveMeanings}
+use Rattle.tg_vault.specs.Promise.Laws.{CoursesHaveTheHeadline}
+use Rattle.tg_audit.specs.declared.logs.SeatLog.{SeatLog}
+use Rattle.tg_audit.specs.declared.logs.Settled.TheVariants as settled
+use Rattle.tg_share.specs.declared.closing.Closed.{Closed}
+use Rattle.tg_share.specs.declared.closing.Closed.TheVariants as closed
+use Rattle.tg_share.specs.declared.session.Ended.{Ended}
+use Rattle.tg_share.specs.Promise.Closing.{IsClosed, exchange_count}
+use Rattle.tg_share.specs.Promise.Meanings.{ClosingHasMeaning, RoomsAreWithin, SharesHaveMeanings, exchanges_left}
 use Rattle.tg_share.specs.Promise.Reached.{HasAnswered, HasHeadline, IsEntered}
 use Rattle.tg_share.specs.Promise.Sessions.{IsRefused}
 use Rattle.tg_share.proofs.AnsweredLemmas.{ended_at}
+use Rattle.tg_share.proofs.ClosingLemmas.{count_in_logs}
 
 as_long : (G : Protection) (n : ℕ) (es : List Entry) → length (replies_from G n es) ≡ length es
 as_long G n [] = refl
@@ -46,4 +55,28 @@ shares_mean v = record {
   cycles = λ h is many. eight_steps h.reached.opened h.reached.answers h.bounded is many;
   entered = entered v;
   refused = refused;
+}
+
+pub rooms_are_within : CoursesHaveTheHeadline → RoomsAreWithin
+rooms_are_within law r has =
+    let h = law has.reached.opened has.reached.events has.reached.answers has.vault has.reached.coherent has.reached.course in
+    let slots = h.0.kept.slots in
+    let cells = h.0.kept.few_cells in
+    let room = has.room in
+    (omega (arith, slots, room.slots, room.free_slots), omega (arith, cells, room.cells, room.free_cells))
+
+-- sessions without a ledger
+abbrev Sessions : Type 0
+Sessions = List (Ended (Unit {0}))
+
+kept : (ended : Sessions) (c : Closed (Unit {0})) → IsClosed ended c → exchanges_left c ≡ exchange_count ended
+kept ended (closed.Done (settled.Agreed v) counted) is = is.agreed tt
+kept ended (closed.Done (settled.Differs v logs seat index) counted) is = ap (λ ls. sum_by (λ (l : SeatLog). length l.exchanges.items) ls) is.settled.1 ∙ count_in_logs ended
+kept ended (closed.Done (settled.NoMemory v logs) counted) is = ap (λ ls. sum_by (λ (l : SeatLog). length l.exchanges.items) ls) is.settled.1 ∙ count_in_logs ended
+kept ended (closed.NoRoom shared back) is = ap (λ (es : Sessions). exchange_count es) is
+
+pub closing_means : ClosingHasMeaning
+closing_means ended = record {
+  kept = kept ended;
+  counted = λ s c is closes. (let done : IsClosed ended (closed.Done s true) = subst (IsClosed ended) is closes in done.counted refl ∙ sym (kept ended c closes));
 }

@@ -2,7 +2,7 @@
 //! lock is used up by its event, if it makes one.
 #![tactic(auto)]
 
-ghost use Rattle.tg_share.specs.Promise.Meanings.{SharesHaveMeanings};
+ghost use Rattle.tg_share.specs.Promise.Meanings.{ClosingHasMeaning, RoomsAreWithin, SharesHaveMeanings};
 ghost use Rattle.tg_share.specs.Promise.Reached.{OneActor};
 
 mod closing;
@@ -15,6 +15,7 @@ pub use closing::Closed;
 pub use gate::{Gate, Open, Place};
 pub use locked::PARTS;
 pub use session::{Ended, Session, Shared, Worked};
+use tg_vault::courses_have_the_headline;
 
 /// A law, at no cost: the entry that an event adds is one actor's.
 pub fn entries_have_one_actor()
@@ -24,4 +25,16 @@ pub fn entries_have_one_actor()
 /// What it means that events have led to a vault, and that a command was entered, or refused.
 pub fn shares_have_meanings()
     ensures { SharesHaveMeanings }
+{}
+
+/// No more slots and cells are told to be free than there are.
+pub fn rooms_are_within()
+    ensures { RoomsAreWithin }
+{
+    courses_have_the_headline();
+}
+
+/// No exchange is lost in closing a shared vault, and if all sessions were counted, each is in the history.
+pub fn closing_has_meaning()
+    ensures { ClosingHasMeaning }
 {}
