@@ -7,3 +7,4 @@ pub mod ToldLemmas
 pub mod TalkLemmas
 pub mod OpeningLemmas
 mod MeaningsLemmas
+mod EndsLemmas

@@ -19,7 +19,7 @@ mod write_line;
 pub use answering::{Finished, Over, Responder, Said, Text, answer_lines, text_of_answer};
 pub use fault::TalkFault;
 pub use input_lines::{InputLines, Next};
-pub use laws::talks_have_meanings;
+pub use laws::{ends_have_meanings, talks_have_meanings};
 pub use line_buffer::{Found, LineBuffer, MOST_LINES};
 pub use opening::open_vault;
 pub use refusal::too_many_line;

@@ -1,16 +1,22 @@
--- talks in other words: what follows from a line's answer
-use Rattle.std.specs.Prelude.{◌≡◌, ◌⊎◌, ℕ, List, [], ◌∷◌, Option, Some, None, Ok}
+-- talks and their lines in other words: what follows from a line's answer, and from how lines end
+use Rattle.std.specs.Prelude.{◌≡◌, ◌⊎◌, ℕ, List, [], ◌∷◌, Option, Some, None, Ok, Err}
 use Rattle.tg_vault.specs.declared.event.Event.TheVariants as event
 use Rattle.tg_vault.specs.declared.event.Answer.TheVariants as answer
 use Rattle.tg_vault.specs.declared.event.SeatFault.{SeatFault}
 use Rattle.tg_audit.specs.declared.logs.Exchange.{Exchange}
-use Rattle.tg_wire.specs.Promise.Lines.{line_of}
+use Rattle.tg_wire.specs.Promise.Lines.{config_of, line_of}
 use Rattle.tg_wire.specs.Promise.Replies.{reply_line}
 use Rattle.tg_wire.specs.Promise.Answers.{answer_line}
 use Rattle.tg_wire.specs.Promise.Faults.{fault_line}
 use Rattle.tg_wire.specs.declared.line.Line.TheVariants.{Act}
+use Rattle.tg_wire.specs.declared.fault.WireFault.{WireFault}
 use Rattle.tg_wire.specs.declared.fault.WireFault.TheVariants as wire
-use Rattle.tg_talk.specs.Promise.Talks.{LineTold, Untold}
+use Rattle.tg_talk.specs.declared.fault.TalkFault.TheVariants as talk
+use Rattle.tg_talk.specs.declared.line_buffer.Found.TheVariants as found
+use Rattle.tg_talk.specs.Promise.Answering.{LinesAnswered}
+use Rattle.tg_talk.specs.Promise.Finding.{FindsLine}
+use Rattle.tg_talk.specs.Promise.Opening.{RefusesOpening}
+use Rattle.tg_talk.specs.Promise.Talks.{LineTold, Seated, TalkSays, Untold}
 
 -- the line asks for the exchange's command
 abbrev pub AsksFor : List ℕ → Exchange → Type 0
@@ -31,3 +37,11 @@ abbrev pub TalksHaveMeanings : Type 0
 TalksHaveMeanings =
     (sits then : Option ℕ) (line : List ℕ) (log : List Exchange) (text : List ℕ) →
     ExchangesMean sits line then × (LineTold None line then log text → HellosMean line then log text)
+
+-- a reader that fails had no line at hand, nor more bytes than a line may have; a line that is no configuration is refused
+-- for what is wrong with it, or for want of memory; and lines end as too many once a million were answered
+pub record EndsMean : Type 0 where
+  pub failed : (buffer : List ℕ) (rest : Option (List ℕ)) → FindsLine found.Failed buffer rest →
+      ((n : ℕ) → FindsLine (found.Line n) buffer rest → ⊥) × (FindsLine found.TooLong buffer rest → ⊥)
+  pub refused : (line text : List ℕ) (f : WireFault) → RefusesOpening line text → config_of line ≡ Err f → (text ≡ fault_line f) ⊎ (text ≡ fault_line wire.OutOfMemory)
+  pub too_many : (s t : Seated) (ls : List (List ℕ)) (lines errors : ℕ) (before last : List ℕ) → LinesAnswered TalkSays s 0 0 ls t (Some talk.TooMany) lines errors before last → lines ≡ 1000001
