@@ -7,3 +7,4 @@ pub mod Audits
 pub mod Named
 pub mod Lookups
 pub mod Sharing
+pub mod Meanings
