@@ -28,7 +28,7 @@ use Rattle.tg_vault.specs.Promise.World.{Enters, IsLeastInUse, Moment, Step, act
 use Rattle.tg_vault.specs.Promise.Contents.{Contents, HasSlot, IsRoot, graph_now, moment}
 use Rattle.tg_vault.specs.Promise.Cycles.{notes_in}
 use Rattle.tg_vault.specs.Promise.Room.{IsRoom}
-use Rattle.tg_vault.specs.Promise.Meanings.{ActorsHaveMeanings, AnswersHaveMeanings, EightStepsAreEnough, EntryMeans, FreshHasMeaning, FullHasMeaning, HeadlineHasMeaning, HellosLeaveRoom, LiveIsNotParked, OneLeastSeat, OneRoom, OneScene, ReadsTellNoMore, RebasedHasMeaning}
+use Rattle.tg_vault.specs.Promise.Meanings.{ActorsHaveMeanings, AnswersHaveMeanings, CyclesAreShort, EightStepsAreEnough, EntryMeans, FreshHasMeaning, FullHasMeaning, HeadlineHasMeaning, HellosLeaveRoom, LiveIsNotParked, OneLeastSeat, OneRoom, OneScene, ReadsTellNoMore, RebasedHasMeaning}
 
 hello_free : (a b c : Bool) → cond a (Some seat_fault.NoSeat) (cond b (Some seat_fault.Bound) (cond c None (Some seat_fault.NoPrincipal))) ≡ None → (a ≡ false) × (b ≡ false)
 hello_free true b c e = absurd (cc e)
@@ -121,6 +121,9 @@ fresh_means c v fresh = record {
 pub eight_steps : EightStepsAreEnough
 eight_steps old answers bounded is many =
     bounded [] answers [] (sym (append-nil answers)) (subst (λ b. b ≤ length (notes_in answers)) (sym (ap (λ (l : Limits). cycle_bound l.slots l.cells) is)) many)
+
+pub cycles_are_short : CyclesAreShort
+cycles_are_short old new swept cycle is = subst (λ b. swept.steps ≤ b) (ap (λ (l : Limits). cycle_bound l.slots l.cells) is) cycle.few
 
 pub rebased_means : RebasedHasMeaning
 rebased_means v w = record {

@@ -1,7 +1,7 @@
 //! Laws: each function is a theorem, its contract, and costs nothing when it is called.
 ghost use Rattle.tg_vault.specs.Promise.Course.{CoursesJoin};
 ghost use Rattle.tg_vault.specs.Promise.Laws.{CoursesHaveTheHeadline, FaultsAreOrdered};
-ghost use Rattle.tg_vault.specs.Promise.Meanings.{ActorsHaveMeanings, AnswersHaveMeanings, EightStepsAreEnough, FreshHasMeaning, FullHasMeaning, HeadlineHasMeaning, HellosLeaveRoom, LiveIsNotParked, OneLeastSeat, OneRoom, OneScene, ReadsTellNoMore, RebasedHasMeaning};
+ghost use Rattle.tg_vault.specs.Promise.Meanings.{ActorsHaveMeanings, AnswersHaveMeanings, CyclesAreShort, EightStepsAreEnough, FreshHasMeaning, FullHasMeaning, HeadlineHasMeaning, HellosLeaveRoom, LiveIsNotParked, OneLeastSeat, OneRoom, OneScene, ReadsTellNoMore, RebasedHasMeaning};
 
 use tg_collect::runs_are_complete_and_bounded;
 use tg_graph::{each_does_so, each_is_allowed_so};
@@ -58,6 +58,11 @@ pub fn fresh_has_meaning()
 /// With one slot and one cell, one of any eight collector steps ends a cycle.
 pub fn eight_steps_are_enough()
     ensures { EightStepsAreEnough }
+{}
+
+/// With one slot and one cell, a cycle takes eight steps at most.
+pub fn cycles_are_short()
+    ensures { CyclesAreShort }
 {}
 
 /// What a rebase leaves to its principals, and hands over.

@@ -16,9 +16,9 @@ pub use entry::Entry;
 pub use event::{Answer, AskFault, Event, SeatFault};
 pub use laws::{
     actors_have_meanings, answers_have_meanings, courses_have_the_headline, courses_join,
-    eight_steps_are_enough, faults_are_ordered, fresh_has_meaning, full_has_meaning,
-    headline_has_meaning, hellos_leave_room, live_is_not_parked, one_least_seat, one_room,
-    one_scene, reads_tell_no_more, rebased_has_meaning,
+    cycles_are_short, eight_steps_are_enough, faults_are_ordered, fresh_has_meaning,
+    full_has_meaning, headline_has_meaning, hellos_leave_room, live_is_not_parked, one_least_seat,
+    one_room, one_scene, reads_tell_no_more, rebased_has_meaning,
 };
 pub use rebase::Rebased;
 pub use room::Room;

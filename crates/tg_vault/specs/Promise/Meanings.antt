@@ -25,12 +25,13 @@ use Rattle.tg_vault.specs.declared.event.SeatFault.{SeatFault}
 use Rattle.tg_vault.specs.declared.rebase.Rebased.TheVariants as rebased
 use Rattle.tg_vault.specs.declared.room.Room.{Room}
 use Rattle.tg_vault.specs.declared.scene.Scene.{Scene}
+use Rattle.tg_vault.specs.declared.vault.Swept.{Swept}
 use Rattle.tg_vault.specs.Promise.Agreement.{SameForAgreeing}
 use Rattle.tg_vault.specs.Promise.Headline.{Headline, asked_in}
 use Rattle.tg_vault.specs.Promise.History.{Legal, WasPrincipal, graph_of}
 use Rattle.tg_vault.specs.Promise.World.{IsLeastInUse, Moment, Step, actor_at, at_seat, has_target, in_use, no_seat}
 use Rattle.tg_vault.specs.Promise.Contents.{Contents, Fits, HasSlot, IsExact, IsFresh, IsRoot, graph_now, held_now, moment, StoreAnswer}
-use Rattle.tg_vault.specs.Promise.Cycles.{IsBounded, IsComplete, ended_in, notes_in}
+use Rattle.tg_vault.specs.Promise.Cycles.{IsBounded, IsComplete, IsCycle, ended_in, notes_in}
 use Rattle.tg_vault.specs.Promise.Room.{IsRoom}
 use Rattle.tg_vault.specs.Promise.Scenes.{IsScene}
 use Rattle.tg_vault.specs.Promise.Rebase.{HandsOver, IsRebased, Rebases}
@@ -92,6 +93,10 @@ FreshHasMeaning = (c : Config) (v : Contents) → IsFresh c v → FreshMeans c v
 abbrev pub EightStepsAreEnough : Type 0
 EightStepsAreEnough =
     (old : Contents) (answers : List Answer) → IsBounded old answers → old.limits ≡ record { slots = 1; cells = 1 } → 8 ≤ length (notes_in answers) → 1 ≤ ended_in answers
+
+-- with one slot and one cell, a cycle takes eight steps at most
+abbrev pub CyclesAreShort : Type 0
+CyclesAreShort = (old new : Contents) (swept : Swept) → IsCycle old swept new → old.limits ≡ record { slots = 1; cells = 1 } → swept.steps ≤ 8
 
 -- a rebase: what is handed over is what is dropped; a principal has the rights that it had; and the next command is replied
 -- to as without it; if memory is lacking, the graph of the history is what it was
