@@ -14,6 +14,7 @@ use Rattle.tg_vault.specs.declared.event.Answer.TheVariants as answer
 use Rattle.tg_vault.specs.Promise.Contents.{Contents, moment}
 use Rattle.tg_vault.specs.Promise.Headline.{asked_in, replies_from}
 use Rattle.tg_vault.specs.Promise.World.{actor_at}
+use Rattle.tg_vault.proofs.AddedLemmas.{runs_add}
 use Rattle.tg_vault.proofs.MeaningsLemmas.{answers_mean, eight_steps}
 use Rattle.tg_vault.specs.Promise.Laws.{CoursesHaveTheHeadline}
 use Rattle.tg_audit.specs.declared.logs.SeatLog.{SeatLog}
@@ -34,7 +35,7 @@ as_long G n (e ∷ es) = ap suc (as_long (next_graph G e.actor e.command e.outco
 
 entries : (v : Contents) (h : HasHeadline v) → length v.history ≡ length (asked_in h.reached.answers)
 entries v h =
-    let added = h.headline.added in
+    let added = runs_add _ _ _ _ h.headline.run in
     let all : v.history ≡ added.added = added.history ∙ ap (λ es. es ++ added.added) h.reached.empty in
     ap length all ∙ (sym (as_long _ _ added.added) ∙ sym (ap length added.asked))
 

@@ -14,7 +14,6 @@ use Rattle.tg_vault.specs.Promise.Headline.{EachEntry, EventCourse, IsCarriedOut
 use Rattle.tg_vault.specs.Promise.Laws.{CoursesHaveTheHeadline}
 use Rattle.tg_vault.specs.Promise.Contents.{graph_now, Fits}
 use Rattle.tg_collect.specs.Promise.Runs as runs
-use Rattle.tg_vault.proofs.AddedLemmas.{runs_add}
 use Rattle.tg_vault.proofs.CourseLemmas.{course_events, course_run, events_fit}
 use Rattle.tg_vault.proofs.CycleLemmas.{course_complete, course_bounded}
 use Rattle.tg_vault.proofs.FitsLemmas.{fits_are}
@@ -75,7 +74,6 @@ courses_have_the_headline complete bounded old es answers new coherent course =
     let fits : Fits new = events_fit old es answers new (fits_are old coherent.ties coherent.store) events in (
       record {
         run = course_run old es answers new course;
-        added = runs_add old es answers new (course_run old es answers new course);
         carried_out = each_carried_out new.limits new.opening new.history (graph_now new) fits.legal.graphs;
         denied = each_denied new.limits new.opening new.history (graph_now new) fits.legal.graphs;
         course = events;

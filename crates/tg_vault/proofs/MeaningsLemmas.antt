@@ -22,13 +22,14 @@ use Rattle.tg_vault.specs.declared.event.SeatFault.TheVariants as seat_fault
 use Rattle.tg_vault.specs.declared.event.Event.TheVariants as event
 use Rattle.tg_vault.specs.declared.event.Answer.TheVariants as answer
 use Rattle.tg_vault.specs.Promise.Agreement.{IsOfGraph}
-use Rattle.tg_vault.specs.Promise.Headline.{EachEntry, IsCarriedOutWhenAllowed, IsDenialNamed, replies_from}
+use Rattle.tg_vault.specs.Promise.Headline.{AddsAsked, EachEntry, IsCarriedOutWhenAllowed, IsDenialNamed, replies_from}
 use Rattle.tg_vault.specs.Promise.History.{MayAsk, WasPrincipal, graph_of}
 use Rattle.tg_vault.specs.Promise.World.{Enters, IsLeastInUse, Moment, Step, acting, actor_at, at_seat, has_target, in_use, no_seat}
 use Rattle.tg_vault.specs.Promise.Contents.{Contents, HasSlot, IsRoot, graph_now, moment}
 use Rattle.tg_vault.specs.Promise.Cycles.{notes_in}
 use Rattle.tg_vault.specs.Promise.Room.{IsRoom}
 use Rattle.tg_vault.specs.Promise.Meanings.{ActorsHaveMeanings, AnswersHaveMeanings, CyclesAreShort, EightStepsAreEnough, EntryMeans, FreshHasMeaning, FullHasMeaning, HeadlineHasMeaning, HellosLeaveRoom, LiveIsNotParked, OneLeastSeat, OneRoom, OneScene, ReadsTellNoMore, RebasedHasMeaning}
+use Rattle.tg_vault.proofs.AddedLemmas.{runs_add}
 
 hello_free : (a b c : Bool) → cond a (Some seat_fault.NoSeat) (cond b (Some seat_fault.Bound) (cond c None (Some seat_fault.NoPrincipal))) ≡ None → (a ≡ false) × (b ≡ false)
 hello_free true b c e = absurd (cc e)
@@ -198,8 +199,11 @@ module _ (allowed : EachIsAllowedSo) (does : EachDoesSo) where
     entries = λ front back e is. entry_means new.limits (graph_of new.opening front) e
         (at_entry (IsCarriedOutWhenAllowed new.limits) new.opening front back e (subst (EachEntry (IsCarriedOutWhenAllowed new.limits) new.opening) is h.carried_out))
         (at_entry IsDenialNamed new.opening front back e (subst (EachEntry IsDenialNamed new.opening) is h.denied));
-    numbers = λ a b p q rest is. told (graph_now old) (length old.history) h.added.added a b p q rest (sym h.added.asked ∙ is);
+    numbers = λ a b p q rest is. told (graph_now old) (length old.history) new_entries.added a b p q rest (sym new_entries.asked ∙ is);
   } where
+    new_entries : AddsAsked old answers new
+    new_entries = runs_add old es answers new h.run
+
     told : (G : Protection) (n : ℕ) (added : List Entry) (a b : ℕ) (p q : Reply) (rest : List (ℕ × Reply)) → replies_from G n added ≡ (a, p) ∷ (b, q) ∷ rest → (a ≡ n) × (b ≡ a + 1)
     told G n [] a b p q rest is = absurd (cc is)
     told G n (e ∷ []) a b p q rest is = absurd (cc is)

@@ -79,7 +79,6 @@ EventCourse old _ _ new = ⊥
 -- a run, and what it did to the history and to the store; what is kept is kept after each event on the way, too
 pub record Headline (old : Contents) (es : List Event) (answers : List Answer) (new : Contents) : Type 0 where
   pub run : RunOf old es answers new
-  pub added : AddsAsked old answers new
   pub carried_out : EachEntry (IsCarriedOutWhenAllowed new.limits) new.opening new.history
   pub denied : EachEntry IsDenialNamed new.opening new.history
   pub course : EventCourse old es answers new
