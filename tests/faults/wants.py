@@ -128,6 +128,7 @@ SIZES = {
     ("tg_vault/src/vault.rt", "enter", "self.history.try_reserve", "1"): 1,
     ("tg_vault/src/vault.rt", "go", "Vec::with_capacity", "events.len()"): 1,
     ("tg_wire/src/line_room.rt", "lend", "self.bytes.try_reserve", "ROOM"): 1,
+    ("tg_wire/src/object_line.rt", "put_quoted", "line.reserve", "text.len() + 4"): 1,
 }
 
 # A call that takes a size, and a list of so many equal elements.

@@ -14,6 +14,7 @@ mod line_room;
 mod object;
 mod object_line;
 mod op;
+mod plain;
 mod read;
 mod refusal;
 mod scan;

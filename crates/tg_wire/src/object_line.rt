@@ -1,17 +1,20 @@
-//! The line of an object, written token by token into one buffer.
+//! The line of an object, written field by field into one buffer.
 
-ghost use Rattle.std.specs.Prelude.{◌≡◌, ◌++◌, ◌∷◌, [], IfOk, OnOk};
-ghost use Rattle.json.specs.Token.{end_object};
-ghost use Rattle.json.specs.Tree.{json_tokens, members_tokens};
+ghost use Rattle.std.specs.Prelude.{◌≡◌, ◌∷◌, ◌++◌, [], false, decimal, IfOk, OnOk};
+ghost use Rattle.json.specs.Print.{quoted};
 ghost use Rattle.serde_json.specs.Data.{array, object};
-ghost use Rattle.serde_json.specs.Written.{outline, members_outline};
+ghost use Rattle.serde_json.specs.Written.{comma_if, compact_text, members_text};
+ghost use Rattle.tg_rights.specs.Promise.Written.{rights_text};
 ghost use Rattle.tg_wire.specs.Promise.Faults.{line_text};
 ghost use Rattle.tg_wire.specs.Promise.Replies.{edge_data, edges_data};
 ghost use Rattle.tg_wire.specs.Inner.Told.{led_text, told_data, told_members};
 
 use crate::line_room::LineRoom;
+use crate::plain::is_plain;
+use itoa::Buffer;
 use json::Writer;
 use std::alloc::AllocError;
+use std::mem;
 use tg_rights::Rights;
 
 /// The value of a field to write.
@@ -26,23 +29,21 @@ pub(crate) enum Told<'a> {
 }
 
 /// The line of an object with these fields, in their order. It ends with a line feed.
-#[tactic(auto, using(crate::proofs::ObjectLineLemmas::printed_line))]
 pub(crate) fn object_line(
     room: &mut LineRoom,
     fields: &[(&str, Told<'_>)],
 ) -> Result<Vec<u8>, AllocError>
     ensures { IfOk result (λ line. line.items ≡ line_text (object (told_members fields.now))) }
 {
-    let mut out = Writer::new(room.lend()?);
-    out.begin_object()?;
-    put_fields(&mut out, fields)?;
-    out.end_object()?;
-    let mut bytes = out.into_inner();
-    bytes.push(b'\n')?;
-    Ok(bytes)
+    let mut line = room.lend()?;
+    line.push(b'{')?;
+    put_fields(&mut line, fields)?;
+    line.push(b'\n')?;
+    Ok(line)
 }
 
 /// The line of an object that begins with these bytes, and ends with this value. It ends with a line feed.
+#[inline(always)]
 #[tactic(auto, using(crate::proofs::ObjectLineLemmas::led))]
 pub(crate) fn led_line(
     room: &mut LineRoom,
@@ -51,13 +52,10 @@ pub(crate) fn led_line(
 ) -> Result<Vec<u8>, AllocError>
     ensures { IfOk result (λ line. line.items ≡ led_text lead.now (told_data told.now)) }
 {
-    let mut bytes = room.lend()?;
-    bytes.extend_from_slice(lead)?;
-    let mut out = Writer::new(bytes);
-    put(&mut out, told)?;
-    let mut line = out.into_inner();
-    line.push(b'}')?;
-    line.push(b'\n')?;
+    let mut line = room.lend()?;
+    line.extend_from_slice(lead)?;
+    put(&mut line, told)?;
+    line.extend_from_slice(b"}\n")?;
     Ok(line)
 }
 
@@ -70,48 +68,124 @@ pub(crate) fn fixed_line(room: &mut LineRoom, line: &[u8]) -> Result<Vec<u8>, Al
     Ok(bytes)
 }
 
-fn put_fields(out: &mut Writer, fields: &[(&str, Told<'_>)]) -> Result<(), AllocError>
-    ensures tokens { OnOk result (out.new.tokens ++ end_object ∷ [] ≡ out.old.tokens ++ members_tokens (members_outline (told_members fields.now))) }
-    ensures before { out.new.before ≡ out.old.before }
+/// Fields, with a comma between two, and the closing brace.
+fn put_fields(line: &mut Vec<u8>, fields: &[(&str, Told<'_>)]) -> Result<(), AllocError>
+    ensures { OnOk result (line.new.items ≡ line.old.items ++ members_text false (told_members fields.now)) }
 {
+    let mut later = false;
     for (key, told) in fields {
-        out.key(*key)?;
-        put(out, told)?;
+        put_comma(line, later)?;
+        put_text(line, *key)?;
+        line.push(b':')?;
+        put(line, told)?;
+        later = true;
+    }
+    line.push(b'}')?;
+    Ok(())
+}
+
+/// A value.
+#[inline(always)]
+fn put(line: &mut Vec<u8>, told: &Told<'_>) -> Result<(), AllocError>
+    ensures { OnOk result (line.new.items ≡ line.old.items ++ compact_text (told_data told.now)) }
+{
+    match told {
+        Told::Nothing => line.extend_from_slice(b"null"),
+        Told::Truth(true) => line.extend_from_slice(b"true"),
+        Told::Truth(false) => line.extend_from_slice(b"false"),
+        Told::Number(number) => put_number(line, *number),
+        Told::Word(text) => put_text(line, text),
+        Told::Letters(rights) => put_letters(line, *rights),
+        Told::Edges(edges) => put_edges(line, edges),
+    }
+}
+
+fn put_edges(line: &mut Vec<u8>, edges: &[(u64, Rights)]) -> Result<(), AllocError>
+    ensures { OnOk result (line.new.items ≡ line.old.items ++ compact_text (array (edges_data edges.now))) }
+{
+    line.push(b'[')?;
+    let mut later = false;
+    for (serial, rights) in edges {
+        put_comma(line, later)?;
+        put_edge(line, *serial, *rights)?;
+        later = true;
+    }
+    line.push(b']')?;
+    Ok(())
+}
+
+#[inline(always)]
+fn put_edge(line: &mut Vec<u8>, serial: u64, rights: Rights) -> Result<(), AllocError>
+    ensures { OnOk result (line.new.items ≡ line.old.items ++ compact_text (edge_data (serial, rights))) }
+{
+    line.push(b'[')?;
+    put_number(line, serial)?;
+    line.push(b',')?;
+    put_letters(line, rights)?;
+    line.push(b']')?;
+    Ok(())
+}
+
+/// A comma, if something stands before.
+#[inline(always)]
+fn put_comma(line: &mut Vec<u8>, later: bool) -> Result<(), AllocError>
+    ensures { OnOk result (line.new.items ≡ line.old.items ++ comma_if later) }
+{
+    if later {
+        line.push(b',')?;
     }
     Ok(())
 }
 
-fn put(out: &mut Writer, told: &Told<'_>) -> Result<(), AllocError>
-    ensures tokens { OnOk result (out.new.tokens ≡ out.old.tokens ++ json_tokens (outline (told_data told.now))) }
-    ensures before { out.new.before ≡ out.old.before }
+/// A number's digits.
+pub(crate) fn put_number(line: &mut Vec<u8>, number: u64) -> Result<(), AllocError>
+    ensures { OnOk result (line.new.items ≡ line.old.items ++ decimal number) }
 {
-    match told {
-        Told::Nothing => out.null(),
-        Told::Truth(is_true) => out.boolean(*is_true),
-        Told::Number(number) => out.u64(*number),
-        Told::Word(text) => out.string(text),
-        Told::Letters(rights) => out.string(rights.letters()),
-        Told::Edges(edges) => put_edges(out, edges),
+    let mut buffer = Buffer::new();
+    line.extend_from_slice(buffer.format(number).as_bytes())
+}
+
+/// The letters of rights, in quotes.
+#[inline(always)]
+pub(crate) fn put_letters(line: &mut Vec<u8>, rights: Rights) -> Result<(), AllocError>
+    ensures { OnOk result (line.new.items ≡ line.old.items ++ quoted (rights_text rights)) }
+{
+    put_quoted(line, rights.letters().as_bytes())
+}
+
+/// A text, in quotes, with the escapes that it needs.
+pub(crate) fn put_text(line: &mut Vec<u8>, text: &str) -> Result<(), AllocError>
+    ensures { OnOk result (line.new.items ≡ line.old.items ++ quoted text.now) }
+{
+    if is_plain(text.as_bytes()) {
+        put_quoted(line, text.as_bytes())
+    } else {
+        put_escaped(line, text)
     }
 }
 
-fn put_edges(out: &mut Writer, edges: &[(u64, Rights)]) -> Result<(), AllocError>
-    ensures tokens { OnOk result (out.new.tokens ≡ out.old.tokens ++ json_tokens (outline (array (edges_data edges.now)))) }
-    ensures before { out.new.before ≡ out.old.before }
+/// The bytes, in quotes.
+#[inline(always)]
+fn put_quoted(line: &mut Vec<u8>, text: &[u8]) -> Result<(), AllocError>
+    ensures { OnOk result (line.new.items ≡ line.old.items ++ 34 ∷ (text.now ++ 34 ∷ [])) }
 {
-    out.begin_array()?;
-    for (serial, rights) in edges {
-        put_edge(out, *serial, *rights)?;
-    }
-    out.end_array()
+    // With room for the end of a line.
+    line.reserve(text.len() + 4)?;
+    line.push(b'"')?;
+    line.extend_from_slice(text)?;
+    line.push(b'"')?;
+    Ok(())
 }
 
-fn put_edge(out: &mut Writer, serial: u64, rights: Rights) -> Result<(), AllocError>
-    ensures tokens { OnOk result (out.new.tokens ≡ out.old.tokens ++ json_tokens (outline (edge_data (serial, rights)))) }
-    ensures before { out.new.before ≡ out.old.before }
+/// The same for a text that needs escapes.
+#[inline(never)]
+#[tactic(auto, using(crate::proofs::ObjectLineLemmas::text_told))]
+fn put_escaped(line: &mut Vec<u8>, text: &str) -> Result<(), AllocError>
+    ensures { OnOk result (line.new.items ≡ line.old.items ++ quoted text.now) }
 {
-    out.begin_array()?;
-    out.u64(serial)?;
-    out.string(rights.letters())?;
-    out.end_array()
+    let empty = Vec::new(*line.allocator());
+    let mut out = Writer::new(mem::replace(line, empty));
+    out.string(text)?;
+    *line = out.into_inner();
+    Ok(())
 }
