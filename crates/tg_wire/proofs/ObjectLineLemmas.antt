@@ -53,3 +53,7 @@ letters_are_plain rights = plain_letters rights.read rights.write rights.take ri
 -- what a writer of JSON prints for one text
 pub text_told : (lead s : List ℕ) (ts : List Token) → ts ≡ token.string s ∷ [] → lead ++ print ts ≡ lead ++ quoted s
 text_told lead s ts is = ap (λ l. lead ++ print l) is ∙ ap (λ l. lead ++ l) (print-outline (string s))
+
+pub four_in_a_row : (a x b y c z d w : List ℕ)
+    → ((((a ++ x) ++ (b ++ y)) ++ (c ++ z)) ++ (d ++ w)) ++ 125 ∷ 10 ∷ [] ≡ (a ++ (x ++ (b ++ (y ++ (c ++ (z ++ (d ++ (w ++ 125 ∷ [])))))))) ++ 10 ∷ []
+four_in_a_row a x b y c z d w = simp append_assoc

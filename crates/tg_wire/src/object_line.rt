@@ -7,7 +7,7 @@ ghost use Rattle.serde_json.specs.Written.{comma_if, compact_text, members_text}
 ghost use Rattle.tg_rights.specs.Promise.Written.{rights_text};
 ghost use Rattle.tg_wire.specs.Promise.Faults.{line_text};
 ghost use Rattle.tg_wire.specs.Promise.Replies.{edge_data, edges_data};
-ghost use Rattle.tg_wire.specs.Inner.Told.{led_text, told_data, told_members};
+ghost use Rattle.tg_wire.specs.Inner.Told.{field_of, led_text, leads_text, told_data, told_members};
 
 use crate::line_room::LineRoom;
 use crate::plain::is_plain;
@@ -57,6 +57,36 @@ pub(crate) fn led_line(
     put(&mut line, told)?;
     line.extend_from_slice(b"}\n")?;
     Ok(line)
+}
+
+/// The line of an object of four fields: the bytes before each value, and the value. It ends with a line feed.
+#[inline(always)]
+#[tactic(auto, using(crate::proofs::ObjectLineLemmas::four_in_a_row))]
+pub(crate) fn line_of_four(
+    room: &mut LineRoom,
+    first: (&[u8], &Told<'_>),
+    second: (&[u8], &Told<'_>),
+    third: (&[u8], &Told<'_>),
+    fourth: (&[u8], &Told<'_>),
+) -> Result<Vec<u8>, AllocError>
+    ensures { IfOk result (λ line. line.items ≡ leads_text (field_of first.entry ∷ field_of second.entry ∷ field_of third.entry ∷ field_of fourth.entry ∷ [])) }
+{
+    let mut line = room.lend()?;
+    put_led(&mut line, first.0, first.1)?;
+    put_led(&mut line, second.0, second.1)?;
+    put_led(&mut line, third.0, third.1)?;
+    put_led(&mut line, fourth.0, fourth.1)?;
+    line.extend_from_slice(b"}\n")?;
+    Ok(line)
+}
+
+/// The bytes before a value, and the value.
+#[inline(always)]
+fn put_led(line: &mut Vec<u8>, lead: &[u8], told: &Told<'_>) -> Result<(), AllocError>
+    ensures { OnOk result (line.new.items ≡ line.old.items ++ (lead.now ++ compact_text (told_data told.now))) }
+{
+    line.extend_from_slice(lead)?;
+    put(line, told)
 }
 
 /// A line that is always the same.

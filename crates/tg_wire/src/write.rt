@@ -7,7 +7,7 @@ ghost use Rattle.tg_wire.specs.Promise.Replies.{which_text as text_of_which, rul
 ghost use Rattle.tg_wire.specs.Promise.Answers.{phase_text as text_of_phase, denied_step_data, noted_data, answer_line, swept_line, verdict_line};
 
 use crate::line_room::LineRoom;
-use crate::object_line::{Told, fixed_line, led_line, object_line};
+use crate::object_line::{Told, fixed_line, led_line, line_of_four, object_line};
 use crate::op::command_form;
 use std::alloc::{AllocError, Global};
 use tg_collect::{Note, Phase};
@@ -140,6 +140,7 @@ fn step_line(room: &mut LineRoom, step: u64, verdict: &str) -> Result<Vec<u8>, A
 }
 
 /// The line of a denial for this cause.
+#[tactic(auto, unfolding(crate::proofs::Literals::numbers_on_literals))]
 fn denied_line(room: &mut LineRoom, rule: Rule, cause: Cause) -> Result<Vec<u8>, AllocError>
     ensures { IfOk result (λ line. line.items ≡ line_text (denied_data rule cause)) }
 {
@@ -147,14 +148,12 @@ fn denied_line(room: &mut LineRoom, rule: Rule, cause: Cause) -> Result<Vec<u8>,
         Cause::Retired => denied_for(room, rule, "retired"),
         Cause::Empty => denied_for(room, rule, "empty"),
         Cause::NotDistinct => denied_for(room, rule, "not distinct"),
-        Cause::Missing { from, to, rights } => object_line(
+        Cause::Missing { from, to, rights } => line_of_four(
             room,
-            &[
-                ("denied", Told::Word(command_form(rule).word)),
-                ("from", Told::Number(from)),
-                ("missing", Told::Letters(rights)),
-                ("to", Told::Number(to)),
-            ],
+            (b"{\"denied\":", &Told::Word(command_form(rule).word)),
+            (b",\"from\":", &Told::Number(from)),
+            (b",\"missing\":", &Told::Letters(rights)),
+            (b",\"to\":", &Told::Number(to)),
         ),
         Cause::NotDocument { vertex } => denied_at(room, rule, "not document", vertex),
         Cause::NotSubject { vertex } => denied_at(room, rule, "not subject", vertex),
