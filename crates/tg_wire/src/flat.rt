@@ -2,7 +2,7 @@
 //! its members; and how it is read if no text has escapes.
 
 ghost use Rattle.std.specs.Prelude.{◌≡◌, ◌<◌, ◌≤◌, ◌∷◌, ◌++◌, [], Some, IfSome, OnSome, option_map, length, drop, if◌then◌else◌};
-ghost use Rattle.std.specs.Str.{bytes_eq};
+ghost use Rattle.std.specs.Str.{IsUtf8, bytes_eq};
 ghost use Rattle.std.specs.List.{list_all};
 ghost use Rattle.json.specs.Token.{Token, string};
 ghost use Rattle.json.specs.Lex.{token, colon, between, lex};
@@ -54,7 +54,20 @@ pub(crate) fn read_flat<'a>(bytes: &'a [u8], found: &mut Members<'a>) -> Option<
     requires { found.old.items ≡ [] }
     ensures { OnSome result (json_of bytes.now ≡ Some (flat_data found.new.items)) }
 {
-    read_object(std::str::from_utf8(bytes).ok()?, found)
+    let line = text_of(bytes)?;
+    read_object(line, found)
+}
+
+/// The bytes as a text, if they are UTF-8. Nearly all lines are ASCII, which is found out eight bytes at a time.
+#[inline(always)]
+fn text_of(bytes: &[u8]) -> Option<&str>
+    ensures same { IfSome result (λ text. text.now ≡ bytes.now) }
+    ensures utf8 { IfSome result (λ text. IsUtf8 bytes.now) }
+{
+    if bytes.is_ascii() {
+        return Some(unsafe { std::str::from_utf8_unchecked(bytes) });
+    }
+    std::str::from_utf8(bytes).ok()
 }
 
 /// The same for a text.
