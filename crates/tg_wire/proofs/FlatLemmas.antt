@@ -22,7 +22,7 @@ use Rattle.serde_json.specs.Find.{get, get_member, as_array}
 use Rattle.serde_json.proofs.Views.{get_member-put, get_member-put_other}
 use Rattle.tg_wire.specs.Inner.Flat.{Spells, AreSpelled, member_lexemes, key_tokens, plain_data, put_all, flat_data, ReadsMembers, TakesObject}
 use Rattle.tg_wire.specs.Promise.Reading.{is_among, member_keys, knows_all}
-use Rattle.tg_wire.specs.Inner.Keys.{key_text, key_texts, is_listed_in_either}
+use Rattle.tg_wire.specs.Inner.Keys.{key_text, key_texts, is_in_set, is_listed_in_either}
 use Rattle.tg_wire.proofs.KeysLemmas.{among_either}
 use Rattle.tg_wire.specs.declared.key.Key.{Key}
 use Rattle.tg_wire.specs.declared.flat.Plain.{Plain}
@@ -263,3 +263,13 @@ all_either a b (m ∷ ms) = ap (λ x. x && list_all (λ m. is_among (key_texts a
 -- the keys of a flat object are known if those of its members are
 pub flat_known : (a b : List Key) (ms : List Member) → knows_all (key_texts a ++ key_texts b) (flat_data ms) ≡ list_all (λ m. is_listed_in_either a b (key_text m.key)) ms
 flat_known a b ms = keys_put_all (is_among (key_texts a ++ key_texts b)) ms no_members ∙ and_true _ ∙ all_either a b ms
+
+-- the same by a set of keys
+all_in : (set : ℕ) (names : List (List ℕ)) (ms : List Member) → ((key : Key) → is_in_set set key ≡ is_among names (key_text key))
+    → list_all (λ m. is_among names (key_text m.key)) ms ≡ list_all (λ m. is_in_set set m.key) ms
+all_in set names [] same = refl
+all_in set names (m ∷ ms) same = ap (λ x. x && list_all (λ m. is_among names (key_text m.key)) ms) (sym (same m.key)) ∙ ap (λ x. is_in_set set m.key && x) (all_in set names ms same)
+
+pub flat_known_in : (set : ℕ) (names : List (List ℕ)) (ms : List Member) → ((key : Key) → is_in_set set key ≡ is_among names (key_text key))
+    → knows_all names (flat_data ms) ≡ list_all (λ m. is_in_set set m.key) ms
+flat_known_in set names ms same = keys_put_all (is_among names) ms no_members ∙ and_true _ ∙ all_in set names ms same

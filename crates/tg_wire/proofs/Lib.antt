@@ -2,6 +2,7 @@ pub mod Literals
 pub mod ReadingLemmas
 pub mod KeysLemmas
 pub mod OpsLemmas
+pub mod KnownLemmas
 pub mod LexemesLemmas
 pub mod QuotedLemmas
 pub mod StopsLemmas

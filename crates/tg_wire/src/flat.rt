@@ -10,10 +10,13 @@ ghost use Rattle.serde_json.specs.Read.{read};
 ghost use Rattle.serde_json.specs.Find.{get};
 ghost use Rattle.tg_wire.specs.Promise.Fields as fields;
 ghost use Rattle.tg_wire.specs.Inner.Flat.{Spells, ReadsMembers, plain_data, flat_data};
+ghost use Rattle.tg_wire.specs.Promise.Lines.{line_extras};
+ghost use Rattle.tg_wire.specs.Promise.Ops.{op_form};
 ghost use Rattle.tg_wire.specs.Promise.Reading.{json_of, knows_all as knows_all_of};
-ghost use Rattle.tg_wire.specs.Inner.Keys.{is_listed_in_either, key_text, key_texts};
+ghost use Rattle.tg_wire.specs.Inner.Keys.{is_in_set, is_listed_in_either, key_text, key_texts};
 
 use crate::key::Key;
+use crate::op::Op;
 use crate::scan::{byte_at, read_key, read_number, read_text, spaces_end};
 use arrayvec::ArrayVec;
 
@@ -204,6 +207,27 @@ impl<'a> Flat<'a> {
         ensures { result ≡ knows_all_of (key_texts others.now ++ key_texts required.now) (flat_data self.now.members.now) }
     {
         self.are_known(others, required)
+    }
+
+    /// Whether each key is one that a line of this op may have.
+    #[inline(always)]
+    pub(crate) fn knows_line(&self, op: Op) -> bool
+        ensures { result ≡ knows_all_of (line_extras ++ (op_form op).fields) (flat_data self.now.members.now) }
+    {
+        self.has_only(op.known())
+    }
+
+    /// Whether each key is in this set.
+    #[inline(always)]
+    fn has_only(&self, set: u32) -> bool
+        ensures { result ≡ list_all (λ m. is_in_set set m.key) self.now.members.now }
+    {
+        for member in self.members {
+            if !member.key.is_in_set(set) {
+                return false;
+            }
+        }
+        true
     }
 
     #[inline(always)]

@@ -3,7 +3,7 @@
 ghost use Rattle.std.specs.Prelude.{◌≡◌, ◌↔◌, ◌∷◌, ◌++◌, [], IfSome, IfNone, true};
 ghost use Rattle.std.specs.Io.{StartsWith};
 ghost use Rattle.std.specs.Str.{bytes_eq};
-ghost use Rattle.tg_wire.specs.Inner.Keys.{is_listed, is_listed_in_either, key_text};
+ghost use Rattle.tg_wire.specs.Inner.Keys.{is_in_set, is_listed, is_listed_in_either, key_bit, key_text};
 
 /// A key that some line has.
 #[derive(Clone, Copy, Debug, PartialEq, Eq)]
@@ -47,6 +47,29 @@ const KEYS: [Key; 17] = [
     Key::Slots,
     Key::Cells,
 ];
+
+// A bit for each key that an event line may have, in a set of keys.
+pub(crate) const OP: u32 = 1 << 0;
+
+pub(crate) const SEAT: u32 = 1 << 1;
+
+pub(crate) const AGENT: u32 = 1 << 2;
+
+pub(crate) const OVER: u32 = 1 << 3;
+
+pub(crate) const FROM: u32 = 1 << 4;
+
+pub(crate) const TO: u32 = 1 << 5;
+
+pub(crate) const AT: u32 = 1 << 6;
+
+pub(crate) const RIGHTS: u32 = 1 << 7;
+
+pub(crate) const KIND: u32 = 1 << 8;
+
+pub(crate) const TEXT: u32 = 1 << 9;
+
+pub(crate) const NAME: u32 = 1 << 10;
 
 impl Key {
     /// The key as lines have it, without quotes.
@@ -159,6 +182,35 @@ impl Key {
         ensures { result ≡ bytes_eq (key_text self) (key_text other) }
     {
         self == other
+    }
+
+    /// The key's bit in a set of keys; none if no event line has the key.
+    #[inline(always)]
+    fn bit(self) -> u32
+        ensures { result ≡ key_bit self }
+    {
+        match self {
+            Key::Op => OP,
+            Key::Seat => SEAT,
+            Key::Agent => AGENT,
+            Key::Over => OVER,
+            Key::From => FROM,
+            Key::To => TO,
+            Key::At => AT,
+            Key::Rights => RIGHTS,
+            Key::Kind => KIND,
+            Key::Text => TEXT,
+            Key::Name => NAME,
+            Key::Actor | Key::Principals | Key::Edges | Key::Next | Key::Slots | Key::Cells => 0,
+        }
+    }
+
+    /// Whether the set has the key.
+    #[inline(always)]
+    pub(crate) fn is_in_set(self, set: u32) -> bool
+        ensures { result ≡ is_in_set set self }
+    {
+        set & self.bit() != 0
     }
 
     /// Whether the key is in one of the lists.

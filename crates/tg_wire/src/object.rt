@@ -115,8 +115,9 @@ pub(crate) fn knows_all(
     }
 }
 
+/// Whether each key of the object is one of these.
 #[inline(always)]
-fn is_known(others: &[Key], required: &[Key], object: &LineObject<'_>) -> bool
+pub(crate) fn is_known(others: &[Key], required: &[Key], object: &LineObject<'_>) -> bool
     ensures { result ≡ knows_all_of (key_texts others.now ++ key_texts required.now) (data_of object.now) }
 {
     match object {

@@ -1,14 +1,14 @@
 //! From a line to what it asks for, and from a line to a step.
 
 ghost use Rattle.tg_wire.specs.declared.line.TheConstants.{LONGEST_LINE};
-ghost use Rattle.std.specs.Prelude.{◌≡◌, ◌≤◌, Err, Some, length};
+ghost use Rattle.std.specs.Prelude.{◌≡◌, ◌≤◌, ◌++◌, Err, Some, length};
 ghost use Rattle.tg_wire.specs.Inner.Flat.{data_of};
 ghost use Rattle.tg_wire.specs.Promise.Ops.{command_form, op_form};
 ghost use Rattle.tg_wire.specs.Promise.Lines.{line_extras, line_in, line_of, step_in, step_of, op_in, rule_in};
 ghost use Rattle.tg_wire.specs.Inner.Lines.{line_of_json};
-ghost use Rattle.tg_wire.specs.Promise.Reading.{Answers, fields_of, or_else};
+ghost use Rattle.tg_wire.specs.Promise.Reading.{Answers, fields_of, guard, knows_all as knows_all_of, or_else};
 ghost use Rattle.tg_wire.specs.Inner.Reading.{AnswersField};
-ghost use Rattle.tg_wire.specs.declared.fault.WireFault.TheVariants.{NoOp, OutOfMemory};
+ghost use Rattle.tg_wire.specs.declared.fault.WireFault.TheVariants.{NoOp, OutOfMemory, UnknownField};
 
 use crate::escaped::read_escaped;
 use crate::fault::WireFault;
@@ -17,7 +17,7 @@ use crate::flat::{Flat, Members, read_flat};
 use crate::key::Key;
 use crate::line::Line;
 use crate::line_room::LineRoom;
-use crate::object::{LineObject, check_length, check_required, knows_all, tree};
+use crate::object::{LineObject, check_length, check_required, is_known, knows_all, tree};
 use crate::op::{Op, command_form, step_rule_named};
 use std::alloc::Global;
 use tg_graph::Step;
@@ -83,8 +83,30 @@ fn only_known(line: Line, op: Op, object: &LineObject<'_>) -> Result<Line, WireF
     requires { (op_form op).value (data_of object.now) ≡ Some line }
     ensures { result ≡ fields_of (op_form op).fields line_extras (op_form op).value (data_of object.now) }
 {
-    knows_all(&[Key::Op, Key::Seat], op.keys(), object)?;
+    knows_line(op, object)?;
     Ok(line)
+}
+
+/// `UnknownField` if the object has a field that a line of this op does not have.
+#[inline(always)]
+fn knows_line(op: Op, object: &LineObject<'_>) -> Result<(), WireFault>
+    ensures { result ≡ guard (knows_all_of (line_extras ++ (op_form op).fields) (data_of object.now)) UnknownField }
+{
+    if is_line_known(op, object) {
+        Ok(())
+    } else {
+        Err(WireFault::UnknownField)
+    }
+}
+
+#[inline(always)]
+fn is_line_known(op: Op, object: &LineObject<'_>) -> bool
+    ensures { result ≡ knows_all_of (line_extras ++ (op_form op).fields) (data_of object.now) }
+{
+    match object {
+        LineObject::Flat(flat) => flat.knows_line(op),
+        LineObject::Tree(_) => is_known(&[Key::Op, Key::Seat], op.keys(), object),
+    }
 }
 
 /// The value of a step line, or its first fault: one of the seven commands that a step of a derivation may be, with its

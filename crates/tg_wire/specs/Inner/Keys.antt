@@ -1,5 +1,6 @@
 -- the keys that lines have, and lists of them
-use Rattle.std.specs.Prelude.{ℕ, List, Bool, ◌||◌, map, codes}
+use Rattle.std.specs.Prelude.{ℕ, List, Bool, ◌||◌, ◌==◌, not, map, codes}
+use Rattle.std.specs.Int.Bits.{bit_and}
 use Rattle.std.specs.List.{list_any}
 use Rattle.std.specs.Str.{bytes_eq}
 use Rattle.tg_wire.specs.declared.key.Key.{Key}
@@ -32,3 +33,26 @@ is_listed text keys = list_any (λ key. bytes_eq text (key_text key)) keys
 
 abbrev pub is_listed_in_either : List Key → List Key → List ℕ → Bool
 is_listed_in_either a b text = is_listed text a || is_listed text b
+
+-- a key's bit in a set of the keys that an event line may have
+abbrev pub key_bit : Key → ℕ
+key_bit key.Op = 1
+key_bit key.Seat = 2
+key_bit key.Actor = 0
+key_bit key.Agent = 4
+key_bit key.Over = 8
+key_bit key.From = 16
+key_bit key.To = 32
+key_bit key.At = 64
+key_bit key.Rights = 128
+key_bit key.Kind = 256
+key_bit key.Text = 512
+key_bit key.Name = 1024
+key_bit key.Principals = 0
+key_bit key.Edges = 0
+key_bit key.Next = 0
+key_bit key.Slots = 0
+key_bit key.Cells = 0
+
+abbrev pub is_in_set : ℕ → Key → Bool
+is_in_set set key = not (bit_and set (key_bit key) == 0)
