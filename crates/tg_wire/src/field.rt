@@ -3,6 +3,7 @@
 ghost use Rattle.std.specs.Prelude.{◌≡◌, is_some, option_map, option_and_then};
 ghost use Rattle.serde_json.specs.Find.{as_array, get};
 ghost use Rattle.serde_json.specs.View.{view, items_view};
+ghost use Rattle.tg_rights.specs.Promise.Written.{rights_of};
 ghost use Rattle.tg_wire.specs.Promise.Fields as fields;
 ghost use Rattle.tg_wire.specs.Inner.Flat.{data_of};
 ghost use Rattle.tg_wire.specs.Inner.Keys.{key_text};
@@ -81,7 +82,20 @@ pub(crate) fn list<'o>(object: &'o LineObject<'_>, key: Key) -> Option<&'o Vec<V
 pub(crate) fn rights(object: &LineObject<'_>) -> Option<Rights>
     ensures { result ≡ fields.rights_in (data_of object.now) }
 {
-    string(object, Key::Rights)?.parse().ok()
+    rights_of(string(object, Key::Rights)?)
+}
+
+/// The rights that a text spells, if it does. Most texts are one of a few.
+fn rights_of(text: &str) -> Option<Rights>
+    ensures { result ≡ rights_of text.now }
+{
+    match text {
+        "r" => Some(Rights::read()),
+        "rw" => Some(Rights::read().union(Rights::write())),
+        "rwg" => Some(Rights::read().union(Rights::write()).union(Rights::grant())),
+        "tg" => Some(Rights::take().union(Rights::grant())),
+        _ => text.parse().ok(),
+    }
 }
 
 /// The rights that a value spells, if it does.
