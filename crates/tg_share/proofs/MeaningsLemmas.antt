@@ -35,7 +35,7 @@ as_long G n (e ∷ es) = ap suc (as_long (next_graph G e.actor e.command e.outco
 
 entries : (v : Contents) (h : HasHeadline v) → length v.history ≡ length (asked_in h.reached.answers)
 entries v h =
-    let added = runs_add _ _ _ _ h.headline.run in
+    let added = runs_add h.reached.opened _ _ v h.headline.run in
     let all : v.history ≡ added.added = added.history ∙ ap (λ es. es ++ added.added) h.reached.empty in
     ap length all ∙ (sym (as_long _ _ added.added) ∙ sym (ap length added.asked))
 
