@@ -2,6 +2,7 @@
 
 import contextlib
 import os
+import re
 import subprocess
 import threading
 from collections.abc import Iterator
@@ -33,6 +34,15 @@ def asked(program: Path, *words: Word, given: bytes = b"", **how: Any) -> tuple[
     """What a run on an input writes, and its status."""
     done = ran(program, *words, given=given, **how)
     return done.stdout, done.returncode
+
+
+def instructions(program: Path, given: bytes, *words: str) -> int:
+    """How many instructions the program takes for an input, as Valgrind counts them: the same,
+    whatever else the machine does."""
+    options = ("--tool=callgrind", "--callgrind-out-file=/dev/null")
+    how: dict[str, Any] = {"stdout": subprocess.DEVNULL, "check": True}
+    counted = ran(Path("valgrind"), *options, program, *words, given=given, **how)
+    return int(re.findall(rb"Collected : (\d+)", counted.stderr)[0])
 
 
 def example(name: str, program: Path, *words: str) -> subprocess.CompletedProcess[str]:

@@ -10,24 +10,26 @@ docs/COLLECTOR.md.
 
 import contextlib
 import json
+import shutil
 import socket
 from collections.abc import Callable, Iterator
 from concurrent.futures import ThreadPoolExecutor
 from pathlib import Path
 from typing import Any
 
-from checking import Test, Tests, same
+from checking import Test, Tests, same, skipped
 from faults.scripts import BYE, DONE, SHARED, alone, assume, caused, create, created, edges, enrol
 from faults.scripts import goal, hello, look, remove, shaded, swept, take, text, welcome, write
 from models.graph import SEATS
 from models.reading import LONGEST_LINE, LONGEST_TEXT
-from running import SECONDS, asked, joined
+from running import SECONDS, asked, instructions, joined
 from server.servers import in_rounds, read_all, read_line, served
 
 SLOTS, CELLS = 65_536, 1_048_576
 NAMES = [x + y for x in "abcdefgh" for y in "abcdefgh"]
 SESSIONS = 63
 STEPS = 100_000
+READS = 1_000
 VISITS = 100_000
 
 # Each principal may take from the first, who makes documents until no slot is left.
@@ -44,6 +46,7 @@ TEXTS = {
 }
 LAST_TEXT = text(list(TEXTS.values())[-1])
 FULL = b'{"full":"slots"}'
+SHADE = b'{"op":"shade"}'
 
 # Lines with their answers; an opening has none.
 Rows = Iterator[tuple[bytes, bytes | None]]
@@ -230,10 +233,25 @@ def answered(lines: Callable[[], Rows]) -> Test:
     return test
 
 
+def long_text_is_not_looked_at(program: Path) -> None:
+    """A read of the longest text is cheaper if that came without escapes: by at least a quarter of
+    an instruction for each of its bytes."""
+    if not shutil.which("valgrind"):
+        return skipped("Valgrind")
+    opening = joined(b'{"principals":["alice"]}', hello(b"alice"), create(b"rw"), SHADE)
+    costs = []
+    for last in (b"a", b"\\u0061"):
+        line = write(2, b"a" * (LONGEST_TEXT - 1) + last)
+        costs.append(instructions(program, opening + joined(line, *[read(2, 0)] * READS), "run"))
+    print(f"  {READS} reads: {costs[0]} instructions, of a text with an escape {costs[1]}")
+    assert costs[1] - costs[0] >= LONGEST_TEXT * READS / 4, "its bytes are looked at"
+
+
 def tests() -> Tests:
     yield "a-name-of-100000-principals", answered(lines_of_one_name)
     yield "every-slot-of-a-principal-that-retired", answered(lines_of_all_slots)
     yield "each-seat-acts-for-a-subject", answered(lines_of_64_agents)
+    yield "long-text-is-not-looked-at", long_text_is_not_looked_at
     yield "run-at-every-limit", answered(lines_of_run)
     yield "talks-at-every-limit", talks_at_every_limit
     yield "a-full-vault-is-rebased", a_full_vault_is_rebased

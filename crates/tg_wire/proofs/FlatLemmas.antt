@@ -26,7 +26,7 @@ use Rattle.tg_wire.specs.Inner.Keys.{key_text, key_texts, is_in_set, is_listed_i
 use Rattle.tg_wire.proofs.KeysLemmas.{among_either}
 use Rattle.tg_wire.specs.declared.key.Key.{Key}
 use Rattle.tg_wire.specs.declared.flat.Plain.{Plain}
-use Rattle.tg_wire.specs.declared.flat.Plain.TheVariants.{Text, Number}
+use Rattle.tg_wire.specs.declared.flat.Plain.TheVariants.{Text, Escaped, Number}
 use Rattle.tg_wire.specs.declared.flat.Member.{Member}
 
 pub some_weaker : {A : Type 0} (o : Option A) (P Q : A → Type 0) → ((a : A) → P a → Q a) → IfSome o P → IfSome o Q
@@ -62,8 +62,10 @@ last_tokens : (p : Place) (k : List ℕ) (t : Token) (v : Plain) → lex.may_beg
     → punctuate p (lex.token (token.string k) ∷ lex.colon ∷ lex.token t ∷ lex.token token.end_object ∷ []) ≡ token.key k ∷ t ∷ token.end_object ∷ []
 unfolding punctuate
 last_tokens lex.fresh k (token.string s) (Text x) may is = refl
+last_tokens lex.fresh k (token.string s) (Escaped x) may is = refl
 last_tokens lex.fresh k (token.number s) (Number x) may is = refl
 last_tokens lex.after_comma k (token.string s) (Text x) may is = refl
+last_tokens lex.after_comma k (token.string s) (Escaped x) may is = refl
 last_tokens lex.after_comma k (token.number s) (Number x) may is = refl
 last_tokens lex.after_value k t v may is = absurd (cc)
 last_tokens lex.after_key k t v may is = absurd (cc)
@@ -73,8 +75,10 @@ more_tokens : (p : Place) (k : List ℕ) (t : Token) (v : Plain) (rest : List Le
     → punctuate p (lex.token (token.string k) ∷ lex.colon ∷ lex.token t ∷ lex.comma ∷ rest) ≡ token.key k ∷ t ∷ punctuate lex.after_comma rest
 unfolding punctuate
 more_tokens lex.fresh k (token.string s) (Text x) rest may is = refl
+more_tokens lex.fresh k (token.string s) (Escaped x) rest may is = refl
 more_tokens lex.fresh k (token.number s) (Number x) rest may is = refl
 more_tokens lex.after_comma k (token.string s) (Text x) rest may is = refl
+more_tokens lex.after_comma k (token.string s) (Escaped x) rest may is = refl
 more_tokens lex.after_comma k (token.number s) (Number x) rest may is = refl
 more_tokens lex.after_value k t v rest may is = absurd (cc)
 more_tokens lex.after_key k t v rest may is = absurd (cc)
@@ -122,6 +126,7 @@ depth_of (k ∷ ks) = ap (λ n. max n (members_depth (members_of ks))) (leaf_dep
 
 leaf_value : (t : Token) (v : Plain) → Spells t v → of_json (leaf t) ≡ Some (plain_data v)
 leaf_value (token.string s) (Text x) is = ap (λ b. Some (datum.string b)) is
+leaf_value (token.string s) (Escaped x) is = ap (λ b. Some (datum.string b)) is
 leaf_value (token.number s) (Number n) is = ap (option_map datum.number) is
 leaf_value t v is = absurd is
 
@@ -199,6 +204,7 @@ module _ (ms : List Member) (n : ℕ) (d : Member) (name : List ℕ) (some : 0 <
 
 no_list_in : (v : Plain) → as_array (plain_data v) ≡ None
 no_list_in (Text t) = refl
+no_list_in (Escaped t) = refl
 no_list_in (Number n) = refl
 
 no_list_put : (b : Bool) (k name : List ℕ) (v : Plain) (found : Members) → bytes_eq k name ≡ b → option_and_then as_array (get_member name found) ≡ None

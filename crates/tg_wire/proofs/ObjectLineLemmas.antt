@@ -14,6 +14,9 @@ use Rattle.tg_wire.specs.Inner.Told.{led_text}
 pub led : (lead : List ℕ) (d : Data) → (lead ++ compact_text d) ++ 125 ∷ 10 ∷ [] ≡ led_text lead d
 led lead d = append_assoc lead (compact_text d) (125 ∷ 10 ∷ []) ∙ ap (λ s. lead ++ s) (sym (append_assoc (compact_text d) (125 ∷ []) (10 ∷ [])))
 
+pub between : (lead d rest : List ℕ) → ((lead ++ d) ++ rest) ++ 10 ∷ [] ≡ lead ++ ((d ++ rest) ++ 10 ∷ [])
+between lead d rest = simp append_assoc
+
 in_a_row : (a b c d e f : List ℕ) → ((((a ++ b) ++ c) ++ d) ++ e) ++ f ≡ a ++ (b ++ (c ++ (d ++ (e ++ f))))
 in_a_row a b c d e f = simp append_assoc
 
@@ -57,3 +60,7 @@ text_told lead s ts is = ap (λ l. lead ++ print l) is ∙ ap (λ l. lead ++ l) 
 pub four_in_a_row : (a x b y c z d w : List ℕ)
     → ((((a ++ x) ++ (b ++ y)) ++ (c ++ z)) ++ (d ++ w)) ++ 125 ∷ 10 ∷ [] ≡ (a ++ (x ++ (b ++ (y ++ (c ++ (z ++ (d ++ (w ++ 125 ∷ [])))))))) ++ 10 ∷ []
 four_in_a_row a x b y c z d w = simp append_assoc
+
+pub three_in_a_row : (a x b y c z : List ℕ)
+    → (((a ++ x) ++ (b ++ y)) ++ (c ++ z)) ++ 125 ∷ 10 ∷ [] ≡ (a ++ (x ++ (b ++ (y ++ (c ++ (z ++ 125 ∷ [])))))) ++ 10 ∷ []
+three_in_a_row a x b y c z = simp append_assoc

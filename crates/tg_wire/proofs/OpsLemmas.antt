@@ -20,17 +20,9 @@ among_every word = find-append (λ rule. bytes_eq word (command_form rule).word)
 
 -- a good command has its fields
 command_given : (r : Rule) (d : Data) → is_some ((command_form r).value d) ≡ true → has_all (command_form r).fields d ≡ true
-command_given rule.Take d good = grind arith
-command_given rule.Grant d good = grind arith
-command_given rule.Create d good = grind arith
-command_given rule.Remove d good = grind arith
-command_given rule.Read d good = grind arith
-command_given rule.Write d good = grind arith
-command_given rule.Look d good = grind arith
-command_given rule.Enrol d good = grind arith
 command_given rule.Retire d good = refl
-command_given rule.Assume d good = grind arith
 command_given rule.Leave d good = refl
+command_given _ d good = grind arith
 
 asked_some : (seat : Option ℕ) (asked : Option Command) (line : Line)
     → option_and_then (λ s. option_and_then (λ c. Some (Act (event.Ask s c))) asked) seat ≡ Some line → is_some asked ≡ true
@@ -41,8 +33,5 @@ asked_some (Some s) (Some c) line is = refl
 -- a good line has its fields
 pub line_given : (o : Op) (d : Data) (line : Line) → (op_form o).value d ≡ Some line → has_all (op_form o).fields d ≡ true
 line_given op.Hello d line is = grind arith
-line_given op.Bye d line is = refl
-line_given op.Shade d line is = refl
-line_given op.Collect d line is = refl
-line_given op.Cycle d line is = refl
 line_given (op.Ask r) d line is = command_given r d (asked_some (seat_in d) ((command_form r).value d) line is)
+line_given _ d line is = refl

@@ -8,7 +8,7 @@ use Rattle.std.proofs.lemmas.Fmt.{decimal_by_steps, length-decimal-le}
 use Rattle.json.specs.Print.{escape_byte, quoted}
 use Rattle.json.specs.Tree as tree
 use Rattle.json.proofs.Printed.Utf8.{IsUtf8-are_ascii, IsUtf8-quoted, are_ascii}
-use Rattle.serde_json.specs.Data.{Data, null, boolean, string, number, unsigned, negative, float, array, object, Members, no_members, member}
+use Rattle.serde_json.specs.Data.{Data, string, number, unsigned, object, Members, no_members, member}
 use Rattle.serde_json.specs.Find.{as_object}
 use Rattle.serde_json.specs.Read.{read}
 use Rattle.serde_json.specs.Written.{comma_if, compact_text, members_outline, members_text}
@@ -30,14 +30,9 @@ use Rattle.tg_wire.proofs.LineTextLemmas.{IsPlain, MembersArePlain, put_onto, re
 
 -- a number of 64 bits, or a text of ASCII
 abbrev IsField : Data → Type 0
-IsField null = ⊥
-IsField (boolean b) = ⊥
 IsField (number (unsigned n)) = n < 2 ^ 64
-IsField (number (negative z)) = ⊥
-IsField (number (float x)) = ⊥
 IsField (string s) = are_ascii s ≡ true
-IsField (array ds) = ⊥
-IsField (object ms) = ⊥
+IsField _ = ⊥
 
 abbrev AreFields : Members → Type 0
 AreFields no_members = Unit {0}
@@ -59,14 +54,9 @@ decimal_utf8 : (n : ℕ) → n < 2 ^ 64 → IsUtf8 (decimal n)
 decimal_utf8 = decimal_by_steps (λ m ds. IsUtf8 ds) digit_utf8 (λ m ds l h. IsUtf8-append ds ((48 + m % 10) ∷ []) h (digit_utf8 (m % 10) (omega arith)))
 
 field_utf8 : (d : Data) → IsField d → IsUtf8 (compact_text d)
-field_utf8 null h = absurd h
-field_utf8 (boolean b) h = absurd h
 field_utf8 (number (unsigned n)) h = decimal_utf8 n h
-field_utf8 (number (negative z)) h = absurd h
-field_utf8 (number (float x)) h = absurd h
 field_utf8 (string s) h = IsUtf8-quoted s (IsUtf8-are_ascii s h)
-field_utf8 (array ds) h = absurd h
-field_utf8 (object ms) h = absurd h
+field_utf8 _ h = absurd h
 
 comma_utf8 : (later : Bool) → IsUtf8 (comma_if later)
 comma_utf8 true = IsUtf8-are_ascii (44 ∷ []) refl
@@ -79,14 +69,9 @@ fields_utf8 later (member k d ms) h =
     (IsUtf8-append (58 ∷ []) _ (IsUtf8-are_ascii (58 ∷ []) refl) (IsUtf8-append (compact_text d) _ (field_utf8 d h.1) (fields_utf8 true ms h.2))))
 
 field_short : (d : Data) → IsField d → length (compact_text d) ≤ bytes_in d
-field_short null h = absurd h
-field_short (boolean b) h = absurd h
 field_short (number (unsigned n)) h = length-decimal-le 20 n (omega arith) (omega arith) h
-field_short (number (negative z)) h = absurd h
-field_short (number (float x)) h = absurd h
 field_short (string s) h = omega arith
-field_short (array ds) h = absurd h
-field_short (object ms) h = absurd h
+field_short _ h = absurd h
 
 comma_short : (later : Bool) → length (comma_if later) ≤ 1
 comma_short true = omega arith
@@ -99,14 +84,9 @@ fields_short later (member k d ms) h =
     omega (arith, comma_short later, field_short d h.1, fields_short true ms h.2, length-append (comma_if later) (quoted k ++ 58 ∷ (compact_text d ++ rest)), length-append (quoted k) (58 ∷ (compact_text d ++ rest)), length-append (compact_text d) rest)
 
 field_plain : (d : Data) → IsField d → IsPlain d
-field_plain null h = absurd h
-field_plain (boolean b) h = absurd h
 field_plain (number (unsigned n)) h = h
-field_plain (number (negative z)) h = absurd h
-field_plain (number (float x)) h = absurd h
 field_plain (string s) h = tt
-field_plain (array ds) h = absurd h
-field_plain (object ms) h = absurd h
+field_plain _ h = absurd h
 
 fields_plain : (ms : Members) → AreFields ms → MembersArePlain ms
 fields_plain no_members h = tt
@@ -114,12 +94,9 @@ fields_plain (member k d ms) h = (field_plain d h.1, fields_plain ms h.2)
 
 fields_flat : (ms : Members) → AreFields ms → tree.members_depth (members_outline ms) ≤ 0
 fields_flat no_members h = omega arith
-fields_flat (member k null ms) h = absurd h.1
-fields_flat (member k (boolean b) ms) h = absurd h.1
 fields_flat (member k (number n) ms) h = omega (arith, fields_flat ms h.2)
 fields_flat (member k (string s) ms) h = omega (arith, fields_flat ms h.2)
-fields_flat (member k (array ds) ms) h = absurd h.1
-fields_flat (member k (object ns) ms) h = absurd h.1
+fields_flat (member k _ ms) h = absurd h.1
 
 guarded : (b : Bool) (ms : Members) (r : Result Data WireFault) → b ≡ true → (guard b fault.TooLong >>= (λ _. r)) ≡ r
 guarded b ms r e = ap (λ c. guard c fault.TooLong >>= (λ _. r)) e
@@ -169,26 +146,14 @@ step_fields x (command.Grant α over to) hx h = (refl, hx, (refl, refl, (refl, h
 step_fields x (command.Create kind.Subject α) hx h = (refl, hx, (refl, refl, (refl, refl, (refl, ascii α, tt))))
 step_fields x (command.Create kind.Document α) hx h = (refl, hx, (refl, refl, (refl, refl, (refl, ascii α, tt))))
 step_fields x (command.Remove α over) hx h = (refl, hx, (refl, refl, (refl, h, (refl, ascii α, tt))))
-step_fields x (command.Read over) hx h = absurd h
-step_fields x (command.Write over text) hx h = absurd h
-step_fields x (command.Look at) hx h = absurd h
-step_fields x (command.Enrol name α) hx h = absurd h
-step_fields x command.Retire hx h = absurd h
-step_fields x (command.Assume agent) hx h = absurd h
-step_fields x command.Leave hx h = absurd h
+step_fields x _ hx h = absurd h
 
 step_rises : (x : ℕ) (c : Command) → Rewrites c → put_onto (step_members x c) no_members ≡ step_members x c
 step_rises x (command.Take α over from) h = refl
 step_rises x (command.Grant α over to) h = refl
 step_rises x (command.Create k α) h = refl
 step_rises x (command.Remove α over) h = refl
-step_rises x (command.Read over) h = absurd h
-step_rises x (command.Write over text) h = absurd h
-step_rises x (command.Look at) h = absurd h
-step_rises x (command.Enrol name α) h = absurd h
-step_rises x command.Retire h = absurd h
-step_rises x (command.Assume agent) h = absurd h
-step_rises x command.Leave h = absurd h
+step_rises x _ h = absurd h
 
 step_short : (x : ℕ) (c : Command) → Rewrites c → member_bytes (step_members x c) ≤ 16000
 unfolding escape_byte
@@ -197,13 +162,7 @@ step_short x (command.Grant α over to) h = omega (arith, six α)
 step_short x (command.Create kind.Subject α) h = omega (arith, six α)
 step_short x (command.Create kind.Document α) h = omega (arith, six α)
 step_short x (command.Remove α over) h = omega (arith, six α)
-step_short x (command.Read over) h = absurd h
-step_short x (command.Write over text) h = absurd h
-step_short x (command.Look at) h = absurd h
-step_short x (command.Enrol name α) h = absurd h
-step_short x command.Retire h = absurd h
-step_short x (command.Assume agent) h = absurd h
-step_short x command.Leave h = absurd h
+step_short x _ h = absurd h
 
 step_said : (x : ℕ) (c : Command) → Rewrites c → step_in (object (step_members x c)) ≡ Ok (record { actor = x; command = c })
 step_said x (command.Take α over from) h = rw (rights_of-text α) refl
@@ -211,13 +170,7 @@ step_said x (command.Grant α over to) h = rw (rights_of-text α) refl
 step_said x (command.Create kind.Subject α) h = rw (rights_of-text α) refl
 step_said x (command.Create kind.Document α) h = rw (rights_of-text α) refl
 step_said x (command.Remove α over) h = rw (rights_of-text α) refl
-step_said x (command.Read over) h = absurd h
-step_said x (command.Write over text) h = absurd h
-step_said x (command.Look at) h = absurd h
-step_said x (command.Enrol name α) h = absurd h
-step_said x command.Retire h = absurd h
-step_said x (command.Assume agent) h = absurd h
-step_said x command.Leave h = absurd h
+step_said x _ h = absurd h
 
 pub step_back : (s : Step) → s.actor < 2 ^ 64 → Rewrites s.command → step_of (step_text s) ≡ Ok s
 unfolding step_of step_text

@@ -1,12 +1,13 @@
 -- Where the plain text of a string stops, seen many bytes at a time through a mask of the bytes at which it does.
-use Rattle.std.proofs.Common.{◌≡◌, ℕ, zero, suc, ◌+◌, ◌*◌, ◌%◌, ◌^◌, ◌<◌, ◌≤◌, ltb, Bool, true, false, not, ◌&&◌, cond, eqb, T, List, [], ◌∷◌, map, length, drop, refl, sym, ap, ap₂, ◌∙◌, subst, ◌⊎◌, inl, inr, arith, w8, Fits}
+use Rattle.std.proofs.Common.{◌≡◌, ℕ, zero, suc, ◌+◌, ◌*◌, ◌%◌, ◌^◌, ◌<◌, ◌≤◌, ltb, leb, Bool, true, false, not, ◌&&◌, cond, eqb, T, List, [], ◌∷◌, map, length, take, drop, get_or, ◌-◌, refl, sym, ap, ap₂, ◌∙◌, subst, ◌⊎◌, inl, inr, arith, w8, Fits}
 use Rattle.std.proofs.lemmas.Bool.{cases_order, eq-eqb, ne_eqb}
-use Rattle.std.proofs.lemmas.List.{length-map, length-drop}
+use Rattle.std.proofs.lemmas.List.{get_or-take, length-map, length-drop, length-take}
 use Rattle.std.proofs.lemmas.List.Folds.{prefix_len-append}
-use Rattle.std.proofs.lemmas.List.Sums.{prefix_len-le-length}
+use Rattle.std.proofs.lemmas.List.Sums.{prefix_len-le-length, prefix_len_passes}
 use Rattle.std.proofs.lemmas.Simd.{chunk-drop, length-chunk, leading_from_mask_l, trailing_mask_l, mask_l-mod}
 use Rattle.std.specs.List.{prefix_len}
 use Rattle.json.specs.Run.{is_stop, is_plain}
+use Rattle.tg_rights.specs.Promise.Escapes.{NeedsNoEscape, is_escaped}
 use lib.Bits.{bit_or}
 use lib.Count.{count_trailing_zeros}
 use lib.Lanes.{zip2, chunk, mask_l, top, Each1}
@@ -45,6 +46,9 @@ equals a b = cond (eqb a b) 255 0
 
 abbrev pub is_less : ℕ → ℕ → ℕ
 is_less a b = cond (ltb a b) 255 0
+
+abbrev pub is_at_most : ℕ → ℕ → ℕ
+is_at_most a b = cond (leb a b) 255 0
 
 zip2-map : (f g : ℕ → ℕ) (xs : List ℕ) → zip2 bit_or (map f xs) (map g xs) ≡ map (λ x. bit_or (f x) (g x)) xs
 zip2-map f g [] = refl
@@ -93,3 +97,10 @@ run_stops d i n room short some =
     let c = chunk i n d in
     split d i n ∙ ap (λ b. cond b (length c + prefix_len is_plain (drop (i + n) d)) (prefix_len is_plain c)) (ne_eqb _ _ (λ (e : prefix_len is_plain c ≡ length c). omega (arith, all_plain c e)))
     ∙ sym (trailing_mask_l is_stop 64 c (omega (arith, length-chunk i n d room)) some)
+
+-- no byte of it needs an escape
+pub run_is_plain : (d : List ℕ) (from end : ℕ) → end ≡ from + prefix_len is_plain (drop from d) → NeedsNoEscape (take (end - from) (drop from d))
+run_is_plain d from end is k below =
+    let xs = drop from d in
+    let inside : k < end - from = omega (arith, length-take (end - from) xs) in
+    ap (λ x. not (is_escaped x)) (get_or-take (end - from) xs k 0 inside) ∙ prefix_len_passes is_plain xs k 0 (omega (arith, is))

@@ -73,7 +73,7 @@ fn value_of(token: Token<'_>) -> Option<Plain<'_>>
     ensures { IfSome result (λ value. Spells (token_of token.entry) value) }
 {
     match token {
-        Token::String(text) => Some(Plain::Text(text)),
+        Token::String(text) => Some(Plain::Escaped(text)),
         Token::Number(text) => Some(Plain::Number(number_in(text.as_bytes())?)),
         _ => None,
     }

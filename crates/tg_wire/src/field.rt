@@ -1,17 +1,21 @@
 //! The fields of an object: none if a required one is absent, or if its value is bad.
 
-ghost use Rattle.std.specs.Prelude.{◌≡◌, is_some, option_map, option_and_then};
+ghost use Rattle.std.specs.Prelude.{◌≡◌, is_some, length, nat_le, option_map, option_and_then, IfSome, Some};
 ghost use Rattle.serde_json.specs.Find.{as_array, get};
 ghost use Rattle.serde_json.specs.View.{view, items_view};
+ghost use Rattle.tg_rights.specs.Promise.Escapes.{NeedsNoEscape};
 ghost use Rattle.tg_rights.specs.Promise.Written.{rights_of};
 ghost use Rattle.tg_wire.specs.Promise.Fields as fields;
 ghost use Rattle.tg_wire.specs.Inner.Flat.{data_of};
 ghost use Rattle.tg_wire.specs.Inner.Keys.{key_text};
 ghost use Rattle.tg_wire.specs.Inner.Reading.{AnswersField};
+ghost use Rattle.tg_wire.specs.Promise.Reading.{guard};
+ghost use Rattle.tg_wire.specs.declared.fault.WireFault.TheVariants.{BadField};
 
 use crate::fault::WireFault;
 use crate::key::Key;
 use crate::object::LineObject;
+use crate::unescaped::Unescaped;
 use serde_json::Value;
 use std::alloc::Global;
 use tg_rights::{Kind, MAX_TEXT, Name, Rights, Text, Word, is_name};
@@ -132,15 +136,54 @@ pub(crate) fn word(alloc: Global, object: &LineObject<'_>, key: Key) -> Result<W
     Ok(Word::new(String::from_str(alloc, text)?))
 }
 
+/// A text, which is lent, if it is known to need no escape.
+#[inline(always)]
+fn unescaped<'o>(object: &'o LineObject<'_>, key: Key) -> Option<Unescaped<'o>>
+    ensures { IfSome result (λ s. fields.string_in (key_text key) (data_of object.now) ≡ Some s.text.now) }
+{
+    match object {
+        LineObject::Flat(flat) => flat.unescaped(key),
+        LineObject::Tree(_) => None,
+    }
+}
+
 /// The text of at most 4,096 bytes, which its copies share. A longer one is refused before memory is asked for.
 pub(crate) fn text(alloc: Global, object: &LineObject<'_>) -> Result<Text, WireFault>
     ensures { AnswersField result (fields.text_field (data_of object.now)) }
 {
-    let text = string(object, Key::Text).ok_or(WireFault::BadField)?;
+    match unescaped(object, Key::Text) {
+        Some(text) => unescaped_text(alloc, text.get()),
+        None => shared_text(alloc, string(object, Key::Text).ok_or(WireFault::BadField)?),
+    }
+}
+
+/// The text of these bytes, of which none needs an escape.
+#[inline(always)]
+fn unescaped_text(alloc: Global, text: &str) -> Result<Text, WireFault>
+    requires { NeedsNoEscape text.now }
+    ensures { AnswersField result (fields.short_text text.now) }
+{
+    check_text(text)?;
+    Ok(Text::unescaped(alloc, text)?)
+}
+
+/// The text of these bytes.
+fn shared_text(alloc: Global, text: &str) -> Result<Text, WireFault>
+    ensures { AnswersField result (fields.short_text text.now) }
+{
+    check_text(text)?;
+    Ok(Text::shared(alloc, text)?)
+}
+
+/// `BadField` for more bytes than a text may have.
+#[inline(always)]
+fn check_text(text: &str) -> Result<(), WireFault>
+    ensures { result ≡ guard (nat_le (length text.now) 4096) BadField }
+{
     if text.len() > MAX_TEXT {
         return Err(WireFault::BadField);
     }
-    Ok(Text::shared(alloc, text)?)
+    Ok(())
 }
 
 /// The name of a principal. A text that is none is refused before memory is asked for.

@@ -18,13 +18,17 @@ ghost use Rattle.tg_wire.specs.Inner.Keys.{is_in_set, is_listed_in_either, key_t
 use crate::key::Key;
 use crate::op::Op;
 use crate::scan::{byte_at, read_key, read_number, read_text, spaces_end};
+use crate::unescaped::Unescaped;
 use arrayvec::ArrayVec;
 
 /// A member's value.
 #[derive(Clone, Copy, Drop)]
 pub(crate) enum Plain<'a> {
-    Text(&'a str),
+    // The first, so that room for members begins as zeros.
     Number(u64),
+    Text(Unescaped<'a>),
+    /// A text that may need escapes.
+    Escaped(&'a str),
 }
 
 /// A member: its key and its value.
@@ -176,7 +180,7 @@ impl<'a> Flat<'a> {
     {
         match self.get(key)? {
             Plain::Number(number) => Some(number),
-            Plain::Text(_) => None,
+            Plain::Text(_) | Plain::Escaped(_) => None,
         }
     }
 
@@ -187,7 +191,7 @@ impl<'a> Flat<'a> {
         match self.get(key) {
             None => Some(default),
             Some(Plain::Number(number)) => Some(number),
-            Some(Plain::Text(_)) => None,
+            Some(Plain::Text(_) | Plain::Escaped(_)) => None,
         }
     }
 
@@ -196,8 +200,20 @@ impl<'a> Flat<'a> {
         ensures { option_map (λ s. s.now) result ≡ fields.string_in (key_text key) (flat_data self.now.members.now) }
     {
         match self.get(key)? {
-            Plain::Text(text) => Some(text),
+            Plain::Text(text) => Some(text.get()),
+            Plain::Escaped(text) => Some(text),
             Plain::Number(_) => None,
+        }
+    }
+
+    /// A text, if it is known to need no escape.
+    #[inline(always)]
+    pub(crate) fn unescaped(&self, key: Key) -> Option<Unescaped<'a>>
+        ensures { IfSome result (λ s. fields.string_in (key_text key) (flat_data self.now.members.now) ≡ Some s.text.now) }
+    {
+        match self.get(key)? {
+            Plain::Text(text) => Some(text),
+            Plain::Escaped(_) | Plain::Number(_) => None,
         }
     }
 

@@ -18,6 +18,7 @@ mod plain;
 mod read;
 mod refusal;
 mod scan;
+mod unescaped;
 mod unshared;
 mod write;
 mod write_step;

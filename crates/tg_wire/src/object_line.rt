@@ -2,7 +2,7 @@
 
 ghost use Rattle.std.specs.Prelude.{◌≡◌, ◌∷◌, ◌++◌, [], false, decimal, IfOk, OnOk};
 ghost use Rattle.json.specs.Print.{quoted};
-ghost use Rattle.serde_json.specs.Data.{array, object};
+ghost use Rattle.serde_json.specs.Data.{array, object, string};
 ghost use Rattle.serde_json.specs.Written.{comma_if, compact_text, members_text};
 ghost use Rattle.tg_rights.specs.Promise.Written.{rights_text};
 ghost use Rattle.tg_wire.specs.Promise.Faults.{line_text};
@@ -15,13 +15,11 @@ use itoa::Buffer;
 use json::Writer;
 use std::alloc::AllocError;
 use std::mem;
-use tg_rights::Rights;
+use tg_rights::{Rights, Text};
 
 /// The value of a field to write.
 #[derive(Clone, Copy, Drop)]
 pub(crate) enum Told<'a> {
-    Nothing,
-    Truth(bool),
     Number(u64),
     Word(&'a str),
     Letters(Rights),
@@ -42,20 +40,50 @@ pub(crate) fn object_line(
     Ok(line)
 }
 
-/// The line of an object that begins with these bytes, and ends with this value. It ends with a line feed.
-#[inline(always)]
+/// The line of an object that begins with these bytes, and ends with this word. It ends with a line feed.
 #[tactic(auto, using(crate::proofs::ObjectLineLemmas::led))]
-pub(crate) fn led_line(
-    room: &mut LineRoom,
-    lead: &[u8],
-    told: &Told<'_>,
-) -> Result<Vec<u8>, AllocError>
-    ensures { IfOk result (λ line. line.items ≡ led_text lead.now (told_data told.now)) }
+pub(crate) fn word_line(room: &mut LineRoom, lead: &[u8], word: &str) -> Result<Vec<u8>, AllocError>
+    ensures { IfOk result (λ line. line.items ≡ led_text lead.now (string word.now)) }
 {
     let mut line = room.lend()?;
     line.extend_from_slice(lead)?;
-    put(&mut line, told)?;
+    put_text(&mut line, word)?;
     line.extend_from_slice(b"}\n")?;
+    Ok(line)
+}
+
+/// The line of an object that begins with these bytes, and ends with this text. It ends with a line feed.
+#[inline(always)]
+#[tactic(auto, using(crate::proofs::ObjectLineLemmas::led))]
+pub(crate) fn text_line(
+    room: &mut LineRoom,
+    lead: &[u8],
+    text: &Text,
+) -> Result<Vec<u8>, AllocError>
+    ensures { IfOk result (λ line. line.items ≡ led_text lead.now (string text.now)) }
+{
+    let mut line = room.lend()?;
+    line.extend_from_slice(lead)?;
+    put_known_text(&mut line, text)?;
+    line.extend_from_slice(b"}\n")?;
+    Ok(line)
+}
+
+/// The line of an object that has these bytes before a number, and these after it. It ends with a line feed.
+#[tactic(auto, using(crate::proofs::ObjectLineLemmas::between))]
+pub(crate) fn number_line(
+    room: &mut LineRoom,
+    lead: &[u8],
+    number: u64,
+    rest: &[u8],
+) -> Result<Vec<u8>, AllocError>
+    ensures { IfOk result (λ line. line.items ≡ lead.now ++ ((decimal number ++ rest.now) ++ 10 ∷ [])) }
+{
+    let mut line = room.lend()?;
+    line.extend_from_slice(lead)?;
+    put_number(&mut line, number)?;
+    line.extend_from_slice(rest)?;
+    line.push(b'\n')?;
     Ok(line)
 }
 
@@ -76,6 +104,25 @@ pub(crate) fn line_of_four(
     put_led(&mut line, second.0, second.1)?;
     put_led(&mut line, third.0, third.1)?;
     put_led(&mut line, fourth.0, fourth.1)?;
+    line.extend_from_slice(b"}\n")?;
+    Ok(line)
+}
+
+/// The same for an object of three fields.
+#[inline(always)]
+#[tactic(auto, using(crate::proofs::ObjectLineLemmas::three_in_a_row))]
+pub(crate) fn line_of_three(
+    room: &mut LineRoom,
+    first: (&[u8], &Told<'_>),
+    second: (&[u8], &Told<'_>),
+    third: (&[u8], &Told<'_>),
+) -> Result<Vec<u8>, AllocError>
+    ensures { IfOk result (λ line. line.items ≡ leads_text (field_of first.entry ∷ field_of second.entry ∷ field_of third.entry ∷ [])) }
+{
+    let mut line = room.lend()?;
+    put_led(&mut line, first.0, first.1)?;
+    put_led(&mut line, second.0, second.1)?;
+    put_led(&mut line, third.0, third.1)?;
     line.extend_from_slice(b"}\n")?;
     Ok(line)
 }
@@ -120,9 +167,6 @@ fn put(line: &mut Vec<u8>, told: &Told<'_>) -> Result<(), AllocError>
     ensures { OnOk result (line.new.items ≡ line.old.items ++ compact_text (told_data told.now)) }
 {
     match told {
-        Told::Nothing => line.extend_from_slice(b"null"),
-        Told::Truth(true) => line.extend_from_slice(b"true"),
-        Told::Truth(false) => line.extend_from_slice(b"false"),
         Told::Number(number) => put_number(line, *number),
         Told::Word(text) => put_text(line, text),
         Told::Letters(rights) => put_letters(line, *rights),
@@ -191,6 +235,18 @@ pub(crate) fn put_text(line: &mut Vec<u8>, text: &str) -> Result<(), AllocError>
         put_quoted(line, text.as_bytes())
     } else {
         put_escaped(line, text)
+    }
+}
+
+/// The same for a text that may know that it needs no escape.
+#[inline(always)]
+fn put_known_text(line: &mut Vec<u8>, text: &Text) -> Result<(), AllocError>
+    ensures { OnOk result (line.new.items ≡ line.old.items ++ quoted text.now) }
+{
+    if text.is_unescaped() {
+        put_quoted(line, text.get().as_bytes())
+    } else {
+        put_text(line, text.get())
     }
 }
 

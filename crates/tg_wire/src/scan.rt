@@ -1,9 +1,9 @@
 //! What is at a place of a line: spaces, a text without escapes, a whole number.
 
-ghost use Rattle.std.specs.Prelude.{◌≡◌, ◌<◌, ◌≤◌, ◌∷◌, ◌||◌, ◌==◌, ℕ, List, Some, IfSome, length, drop, get_or, map, false};
+ghost use Rattle.std.specs.Prelude.{◌≡◌, ◌<◌, ◌≤◌, ◌^◌, ◌∷◌, ◌||◌, ◌==◌, ℕ, List, Some, IfSome, length, drop, get_or, map, false};
 ghost use Rattle.std.specs.Char.{is_ascii_digit};
 ghost use Rattle.std.specs.Simd.Lanes.{mask_l};
-ghost use Rattle.std.specs.Str.Parse.{AllDigits};
+ghost use Rattle.std.specs.Str.Parse.{digits_value};
 ghost use Rattle.json.specs.Token.{string, number};
 ghost use Rattle.json.specs.Word.{is_space};
 ghost use Rattle.json.specs.Run.{is_plain, is_stop};
@@ -11,10 +11,14 @@ ghost use Rattle.json.specs.Lex.{token, between, lex};
 ghost use Rattle.serde_json.specs.Data.{unsigned};
 ghost use Rattle.serde_json.specs.Read.{number_of};
 ghost use Rattle.tg_wire.specs.Inner.Keys.{key_text};
-ghost use Rattle.tg_wire.specs.Inner.Runs.{EndsRun};
+ghost use Rattle.tg_wire.specs.Inner.Runs.{EndsRun, front};
 
 use crate::key::Key;
+use crate::unescaped::Unescaped;
 use std::simd::prelude::*;
+
+/// The greatest number that may get another digit: with a zero it is below 2 ^ 64.
+const MOST_BEFORE_A_DIGIT: u64 = 1_844_674_407_370_955_161;
 
 /// The byte at a place, or a space after the last one.
 #[inline(always)]
@@ -48,7 +52,7 @@ fn is_space(byte: u8) -> bool
     byte == b' ' || byte == b'\t' || byte == b'\n' || byte == b'\r'
 }
 
-/// The first quote, backslash or control byte from a place on, sixteen bytes at a time while there are so many.
+/// The first quote, backslash or control byte from a place on, 64 bytes at a time while there are so many, and then 16.
 // If inlined, the loop would also count up, at each byte, what the caller computes from the place.
 #[inline(never)]
 fn plain_end(bytes: &[u8], from: usize) -> usize
@@ -56,6 +60,9 @@ fn plain_end(bytes: &[u8], from: usize) -> usize
     ensures { EndsRun is_plain bytes.now from result }
 {
     let mut at = from;
+    while bytes.len() - at >= 64 && !has_stop(u8x64::from_slice(&bytes[at..])) {
+        at += 64;
+    }
     while bytes.len() - at >= 16 {
         let found = stops(u8x16::from_slice(&bytes[at..]));
         if found != 0 {
@@ -76,6 +83,17 @@ fn stops(bytes: u8x16) -> u64
         | bytes.simd_lt(u8x16::splat(b' '))).to_bitmask()
 }
 
+/// Whether the plain text of a string stops at one of the bytes.
+// A control byte or a quote is at most a space once its second bit is turned.
+#[inline(always)]
+fn has_stop(bytes: u8x64) -> bool
+    ensures { result ≡ false → mask_l (map is_stop bytes) ≡ 0 }
+{
+    ((bytes ^ u8x64::splat(2)).simd_le(u8x64::splat(b' '))
+        | bytes.simd_eq(u8x64::splat(b'\\'))).to_bitmask()
+        != 0
+}
+
 /// The same a byte at a time.
 #[inline(always)]
 fn plain_end_slowly(bytes: &[u8], from: usize) -> usize
@@ -89,16 +107,25 @@ fn plain_end_slowly(bytes: &[u8], from: usize) -> usize
     at
 }
 
+/// The number that the digits from a place on write, 0 without any, and the place after them; none if it is 2 ^ 64 or
+/// more.
 #[inline(always)]
-fn digits_end(bytes: &[u8], from: usize) -> usize
+fn read_digits(bytes: &[u8], from: usize) -> Option<(u64, usize)>
     requires { from ≤ length bytes.now }
-    ensures { EndsRun is_ascii_digit bytes.now from result }
+    ensures ends { IfSome result (λ r. EndsRun is_ascii_digit bytes.now from r.1) }
+    ensures value { IfSome result (λ r. digits_value 10 (front (drop from bytes.now)) ≡ r.0) }
+    ensures small { IfSome result (λ r. r.0 < 2 ^ 64) }
 {
     let mut at = from;
+    let mut number: u64 = 0;
     while at < bytes.len() && bytes[at].is_ascii_digit() {
+        if number > MOST_BEFORE_A_DIGIT {
+            return None;
+        }
+        number = (number * 10).checked_add(u64::from(bytes[at] - b'0'))?;
         at += 1;
     }
-    at
+    Some((number, at))
 }
 
 /// The key at a place, if one is there, and the place after it.
@@ -117,9 +144,9 @@ pub(crate) fn read_key(bytes: &[u8], quote: usize) -> Option<(Key, usize)>
 
 /// The text at a place, if one without escapes is there, and the place after it.
 #[inline(always)]
-pub(crate) fn read_text<'a>(line: &'a str, quote: usize) -> Option<(&'a str, usize)>
+pub(crate) fn read_text<'a>(line: &'a str, quote: usize) -> Option<(Unescaped<'a>, usize)>
     requires { quote ≤ length line.now }
-    ensures found { IfSome result (λ r. lex between (drop quote line.now) ≡ token (string r.0.now) ∷ lex between (drop r.1 line.now)) }
+    ensures found { IfSome result (λ r. lex between (drop quote line.now) ≡ token (string r.0.text.now) ∷ lex between (drop r.1 line.now)) }
     ensures bounds { IfSome result (λ r. (quote < r.1) × (r.1 ≤ length line.now)) }
 {
     let bytes = line.as_bytes();
@@ -130,17 +157,18 @@ pub(crate) fn read_text<'a>(line: &'a str, quote: usize) -> Option<(&'a str, usi
     if byte_at(bytes, end) != b'"' {
         return None;
     }
-    Some((&line[quote + 1..end], end + 1))
+    Some((Unescaped::new(&line[quote + 1..end]), end + 1))
 }
 
 /// The whole number that the bytes are, if they are its digits and no others.
 pub(crate) fn number_in(bytes: &[u8]) -> Option<u64>
     ensures { IfSome result (λ n. number_of bytes.now ≡ Some (unsigned n)) }
 {
-    if bytes.is_empty() || digits_end(bytes, 0) < bytes.len() {
+    let (number, end) = read_digits(bytes, 0)?;
+    if end == 0 || end < bytes.len() {
         return None;
     }
-    whole(bytes)
+    Some(number)
 }
 
 /// The whole number at a place, if one is there, and the place after it.
@@ -151,11 +179,11 @@ pub(crate) fn read_number(bytes: &[u8], at: usize) -> Option<(u64, usize)>
         × (lex between (drop at bytes.now) ≡ token (number digits) ∷ lex between (drop r.1 bytes.now))) }
     ensures bounds { IfSome result (λ r. (at < r.1) × (r.1 ≤ length bytes.now)) }
 {
-    let end = digits_end(bytes, at);
+    let (number, end) = read_digits(bytes, at)?;
     if end == at || !ends_number(byte_at(bytes, end)) || is_padded(bytes[at], end - at) {
         return None;
     }
-    Some((whole(&bytes[at..end])?, end))
+    Some((number, end))
 }
 
 #[inline(always)]
@@ -171,20 +199,4 @@ fn is_padded(first: u8, digits: usize) -> bool
     ensures { result ≡ false → (first ≡ 48) → (digits ≤ 1) }
 {
     first == b'0' && digits > 1
-}
-
-/// The number that digits write, if it is below 2 ^ 64.
-#[inline(always)]
-fn whole(digits: &[u8]) -> Option<u64>
-    requires some { 0 < length digits.now }
-    requires digits { AllDigits 10 digits.now }
-    ensures { IfSome result (λ n. number_of digits.now ≡ Some (unsigned n)) }
-{
-    let mut number: u64 = 0;
-    for digit in digits {
-        number = number
-            .checked_mul(10)?
-            .checked_add(u64::from(*digit - b'0'))?;
-    }
-    Some(number)
 }

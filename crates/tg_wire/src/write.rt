@@ -1,18 +1,20 @@
 //! From a reply, an answer, a cycle or a verdict to its line. The keys of a line are in rising order.
 
 ghost use Rattle.std.specs.Prelude.{◌≡◌, IfOk, codes};
-ghost use Rattle.serde_json.specs.Data.{object, member, no_members, string, number, unsigned};
+ghost use Rattle.serde_json.specs.Data.{array, object, member, no_members, string, number, unsigned};
 ghost use Rattle.tg_wire.specs.Promise.Faults.{line_text, seat_fault_text as text_of_seat_fault, ask_fault_text as text_of_ask_fault};
-ghost use Rattle.tg_wire.specs.Promise.Replies.{which_text as text_of_which, rule_text, denied_data, reply_line};
-ghost use Rattle.tg_wire.specs.Promise.Answers.{phase_text as text_of_phase, denied_step_data, noted_data, answer_line, swept_line, verdict_line};
+ghost use Rattle.tg_wire.specs.Promise.Replies.{edges_data, which_text as text_of_which, rule_text, denied_data, reply_line};
+ghost use Rattle.tg_wire.specs.Promise.Answers.{denied_step_data, noted_data, answer_line, swept_line, verdict_line};
 
 use crate::line_room::LineRoom;
-use crate::object_line::{Told, fixed_line, led_line, line_of_four, object_line};
+use crate::object_line::{
+    Told, fixed_line, line_of_four, line_of_three, number_line, object_line, text_line, word_line,
+};
 use crate::op::command_form;
 use std::alloc::{AllocError, Global};
 use tg_collect::{Note, Phase};
 use tg_graph::Verdict;
-use tg_rights::{Cause, Reply, Rule, Which};
+use tg_rights::{Cause, Reply, Rights, Rule, Which};
 use tg_vault::{Answer, AskFault, SeatFault, Swept};
 
 /// The line of a reply, which ends with a line feed. Keys are in rising order, with no white space. `AllocError` if an
@@ -32,22 +34,26 @@ pub fn write_reply_in(room: &mut LineRoom, reply: &Reply) -> Result<Vec<u8>, All
 {
     match reply {
         Reply::Done => fixed_line(room, b"{\"ok\":\"done\"}\n"),
-        Reply::Created(vertex) => led_line(
-            room,
-            b"{\"ok\":\"created\",\"vertex\":",
-            &Told::Number(*vertex),
-        ),
-        Reply::Text(text) => led_line(room, b"{\"ok\":\"text\",\"text\":", &Told::Word(text.get())),
-        Reply::Edges(edges) => object_line(
-            room,
-            &[
-                ("edges", Told::Edges(edges.get())),
-                ("ok", Told::Word("edges")),
-            ],
-        ),
+        Reply::Created(vertex) => {
+            number_line(room, b"{\"ok\":\"created\",\"vertex\":", *vertex, b"}")
+        }
+        Reply::Text(text) => text_line(room, b"{\"ok\":\"text\",\"text\":", text),
+        Reply::Edges(edges) => edges_line(room, edges.get()),
         Reply::Denied(rule, cause) => denied_line(room, *rule, *cause),
-        Reply::Full(which) => led_line(room, b"{\"full\":", &Told::Word(which_text(*which))),
+        Reply::Full(which) => word_line(room, b"{\"full\":", which_text(*which)),
     }
+}
+
+/// The line of the edges that were looked at.
+// Inlined, it would clear room for its fields at each answer.
+#[inline(never)]
+fn edges_line(room: &mut LineRoom, edges: &[(u64, Rights)]) -> Result<Vec<u8>, AllocError>
+    ensures { IfOk result (λ line. line.items ≡ line_text (object (member (codes "edges") (array (edges_data edges.now)) (member (codes "ok") (string (codes "edges")) no_members)))) }
+{
+    object_line(
+        room,
+        &[("edges", Told::Edges(edges)), ("ok", Told::Word("edges"))],
+    )
 }
 
 /// The line of an answer, which ends with a line feed. Keys are in rising order, with no white space. `AllocError` if
@@ -65,17 +71,15 @@ pub fn write_answer_in(room: &mut LineRoom, answer: &Answer) -> Result<Vec<u8>, 
     ensures { IfOk result (λ line. line.items ≡ answer_line answer.now) }
 {
     match answer {
-        Answer::Hello(vertex) => led_line(
-            room,
-            b"{\"ok\":\"hello\",\"vertex\":",
-            &Told::Number(*vertex),
-        ),
+        Answer::Hello(vertex) => {
+            number_line(room, b"{\"ok\":\"hello\",\"vertex\":", *vertex, b"}")
+        }
         Answer::Bye => fixed_line(room, b"{\"ok\":\"bye\"}\n"),
         Answer::Asked(_, reply) => write_reply_in(room, reply),
-        Answer::Shaded(Some(vertex)) => led_line(room, b"{\"shaded\":", &Told::Number(*vertex)),
-        Answer::Shaded(None) => led_line(room, b"{\"shaded\":", &Told::Nothing),
-        Answer::Seat(fault) => led_line(room, b"{\"error\":", &Told::Word(seat_fault_text(*fault))),
-        Answer::Ask(fault) => led_line(room, b"{\"error\":", &Told::Word(ask_fault_text(*fault))),
+        Answer::Shaded(Some(vertex)) => number_line(room, b"{\"shaded\":", *vertex, b"}"),
+        Answer::Shaded(None) => fixed_line(room, b"{\"shaded\":null}\n"),
+        Answer::Seat(fault) => word_line(room, b"{\"error\":", seat_fault_text(*fault)),
+        Answer::Ask(fault) => word_line(room, b"{\"error\":", ask_fault_text(*fault)),
         Answer::Noted(note) => noted_line(room, *note),
     }
 }
@@ -177,6 +181,7 @@ fn denied_for(room: &mut LineRoom, rule: Rule, cause: &str) -> Result<Vec<u8>, A
 }
 
 /// The line of a denial for a cause with a word and a vertex.
+#[tactic(auto, unfolding(crate::proofs::Literals::numbers_on_literals))]
 fn denied_at(
     room: &mut LineRoom,
     rule: Rule,
@@ -186,13 +191,11 @@ fn denied_at(
     ensures { IfOk result (λ line. line.items ≡ line_text (object (member (codes "cause") (string cause.now) (member (codes "denied") (string (rule_text rule))
         (member (codes "vertex") (number (unsigned vertex)) no_members))))) }
 {
-    object_line(
+    line_of_three(
         room,
-        &[
-            ("cause", Told::Word(cause)),
-            ("denied", Told::Word(command_form(rule).word)),
-            ("vertex", Told::Number(vertex)),
-        ],
+        (b"{\"cause\":", &Told::Word(cause)),
+        (b",\"denied\":", &Told::Word(command_form(rule).word)),
+        (b",\"vertex\":", &Told::Number(vertex)),
     )
 }
 
@@ -276,14 +279,44 @@ fn denied_step_at(
 fn noted_line(room: &mut LineRoom, note: Note) -> Result<Vec<u8>, AllocError>
     ensures { IfOk result (λ line. line.items ≡ line_text (noted_data note)) }
 {
-    object_line(
-        room,
-        &[
-            ("ended", Told::Truth(note.ended)),
-            ("freed", Told::Number(note.freed)),
-            ("phase", Told::Word(phase_text(note.phase))),
-        ],
-    )
+    match (note.ended, note.phase) {
+        (false, Phase::Idle) => number_line(
+            room,
+            b"{\"ended\":false,\"freed\":",
+            note.freed,
+            b",\"phase\":\"idle\"}",
+        ),
+        (false, Phase::Mark) => number_line(
+            room,
+            b"{\"ended\":false,\"freed\":",
+            note.freed,
+            b",\"phase\":\"mark\"}",
+        ),
+        (false, Phase::Sweep) => number_line(
+            room,
+            b"{\"ended\":false,\"freed\":",
+            note.freed,
+            b",\"phase\":\"sweep\"}",
+        ),
+        (true, Phase::Idle) => number_line(
+            room,
+            b"{\"ended\":true,\"freed\":",
+            note.freed,
+            b",\"phase\":\"idle\"}",
+        ),
+        (true, Phase::Mark) => number_line(
+            room,
+            b"{\"ended\":true,\"freed\":",
+            note.freed,
+            b",\"phase\":\"mark\"}",
+        ),
+        (true, Phase::Sweep) => number_line(
+            room,
+            b"{\"ended\":true,\"freed\":",
+            note.freed,
+            b",\"phase\":\"sweep\"}",
+        ),
+    }
 }
 
 fn which_text(which: Which) -> &'static str
@@ -316,15 +349,5 @@ fn ask_fault_text(fault: AskFault) -> &'static str
         AskFault::NoActor => "no actor",
         AskFault::Busy => "busy",
         AskFault::OutOfMemory => "out of memory",
-    }
-}
-
-fn phase_text(phase: Phase) -> &'static str
-    ensures { result.now ≡ text_of_phase phase }
-{
-    match phase {
-        Phase::Idle => "idle",
-        Phase::Mark => "mark",
-        Phase::Sweep => "sweep",
     }
 }

@@ -9,13 +9,14 @@ use Rattle.serde_json.specs.Read.{number_of}
 use Rattle.serde_json.specs.View.{view}
 use Rattle.tg_wire.specs.Inner.Keys.{key_text}
 use Rattle.tg_wire.specs.declared.flat.Plain.{Plain}
-use Rattle.tg_wire.specs.declared.flat.Plain.TheVariants.{Text, Number}
+use Rattle.tg_wire.specs.declared.flat.Plain.TheVariants.{Text, Escaped, Number}
 use Rattle.tg_wire.specs.declared.flat.Member.{Member}
 use Rattle.tg_wire.specs.declared.object.LineObject.{LineObject}
 use Rattle.tg_wire.specs.declared.object.LineObject.TheVariants as object_by
 
 abbrev pub plain_data : Plain → Data
-plain_data (Text s) = string s.now
+plain_data (Text s) = string s.text.now
+plain_data (Escaped s) = string s.now
 plain_data (Number n) = number (unsigned n)
 
 -- the members put in one after another, so that of equal keys the last one counts
@@ -35,7 +36,8 @@ data_of (object_by.Tree v) = view v
 
 -- the token is that of the value
 abbrev pub Spells : Token → Plain → Type 0
-Spells (token.string s) (Text t) = s ≡ t.now
+Spells (token.string s) (Text t) = s ≡ t.text.now
+Spells (token.string s) (Escaped t) = s ≡ t.now
 Spells (token.number s) (Number n) = number_of s ≡ Some (unsigned n)
 Spells _ _ = ⊥
 

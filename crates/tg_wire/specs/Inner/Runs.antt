@@ -1,8 +1,13 @@
 -- where bytes that pass a test end
-use Rattle.std.specs.Prelude.{◌≡◌, ◌≤◌, ◌+◌, ℕ, Bool, List, length, drop}
+use Rattle.std.specs.Prelude.{◌≡◌, ◌≤◌, ◌+◌, ℕ, Bool, List, length, take, drop}
+use Rattle.std.specs.Char.{is_ascii_digit}
 use Rattle.std.specs.List.{prefix_len}
 
 -- the end is the first place from this one on at which there is no such byte
 pub record EndsRun (test : ℕ → Bool) (bytes : List ℕ) (from end : ℕ) : Type 0 where
   pub value : end ≡ from + prefix_len test (drop from bytes)
   pub bound : end ≤ length bytes
+
+-- the digits in front of a text
+abbrev pub front : List ℕ → List ℕ
+front xs = take (prefix_len is_ascii_digit xs) xs

@@ -1,7 +1,7 @@
 -- the values of the fields of a line that is written
 use Rattle.std.specs.Prelude.{ℕ, List, [], ◌∷◌, ◌++◌}
 use Rattle.std.specs.Borrow.{Bor}
-use Rattle.serde_json.specs.Data.{Data, null, boolean, string, number, unsigned, array, Members, no_members, member}
+use Rattle.serde_json.specs.Data.{Data, string, number, unsigned, array, Members, no_members, member}
 use Rattle.serde_json.specs.Written.{compact_text}
 use Rattle.tg_rights.specs.Promise.Written.{rights_text}
 use Rattle.tg_wire.specs.Promise.Replies.{edges_data}
@@ -9,8 +9,6 @@ use Rattle.tg_wire.specs.declared.object_line.Told.{Told}
 use Rattle.tg_wire.specs.declared.object_line.Told.TheVariants as told
 
 abbrev pub told_data : Told → Data
-told_data told.Nothing = null
-told_data (told.Truth b) = boolean b
 told_data (told.Number n) = number (unsigned n)
 told_data (told.Word text) = string text.now
 told_data (told.Letters rights) = string (rights_text rights)

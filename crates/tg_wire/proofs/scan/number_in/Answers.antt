@@ -1,13 +1,15 @@
-use Rattle.std.proofs.Common.{◌≡◌, length, take, subst, arith}
+use Rattle.std.proofs.Common.{◌≡◌, ◌<◌, length, take, subst, arith, ◌∙◌, sym, ap, Some}
 use Rattle.std.proofs.Math.Seq.{take-length}
 use Rattle.std.specs.List.{prefix_len}
 use Rattle.std.specs.Char.{is_ascii_digit}
-use Rattle.std.specs.Str.Parse.{AllDigits}
-use Rattle.tg_wire.proofs.NumbersLemmas.{AllDigits-front}
+use Rattle.serde_json.specs.Data.{unsigned}
+use Rattle.serde_json.specs.Read.{number_of}
+use Rattle.tg_wire.proofs.NumbersLemmas.{front_number}
 use Rattle.tg_wire.proofs.scan.number_in.Goals as goal
 
-pub whole-requires-clause-digits : goal.whole-requires-clause-digits
-whole-requires-clause-digits c =
-    let ds = c.args.bytes.now in
-    let n : prefix_len is_ascii_digit ds ≡ length ds = omega (arith, c.digits_end.ensures.value, c.digits_end.ensures.bound, c.if-digits_end-bytes.false) in
-    subst (λ ds'. AllDigits 10 ds') (take-length ds) (subst (λ k. AllDigits 10 (take k ds)) n (AllDigits-front ds))
+pub returns : goal.returns
+returns c =
+    let d = c.args.bytes.now in
+    let k : prefix_len is_ascii_digit d ≡ length d = omega (arith, c.in_ok-number.ensures.ends.value, c.in_ok-number.ensures.ends.bound, c.if-end-bytes.false) in
+    let is = front_number d c.in_ok-number.number (omega (arith, c.in_ok-number.ensures.ends.value, c.if-end-eq0.false)) c.in_ok-number.ensures.value c.in_ok-number.ensures.small in
+    subst (λ ds. number_of ds ≡ Some (unsigned c.in_ok-number.number)) (take-length d) (subst (λ m. number_of (take m d) ≡ Some (unsigned c.in_ok-number.number)) k is)

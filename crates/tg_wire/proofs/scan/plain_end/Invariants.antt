@@ -8,3 +8,9 @@ invariant-loop-at l = (l.from + prefix_len is_plain (drop l.from l.bytes) ≡ l.
 
 abbrev pub decreases-loop-at : goal.decreases-loop-at
 decreases-loop-at l = length l.bytes - l.at
+
+abbrev pub invariant-loop-at-2 : goal.invariant-loop-at-2
+invariant-loop-at-2 l = (l.from + prefix_len is_plain (drop l.from l.bytes) ≡ l.at + prefix_len is_plain (drop l.at l.bytes)) × (l.at ≤ length l.bytes)
+
+abbrev pub decreases-loop-at-2 : goal.decreases-loop-at-2
+decreases-loop-at-2 l = length l.bytes - l.at
