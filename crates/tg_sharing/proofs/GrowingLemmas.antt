@@ -1,11 +1,11 @@
 -- How derivations grow.
-use Rattle.std.proofs.Common.{◌≡◌, ◌≢◌, ℕ, ◌<◌, ◌≤◌, ◌+◌, ◌∷◌, [], ◌++◌, List, Bool, true, false, cond, not, refl, sym, ap, subst, ◌∙◌, ◌==◌, ◌&&◌, ◌||◌, ◌⊎◌, inl, inr, Some, None, arith}
+use Rattle.std.proofs.Common.{◌≡◌, ◌≢◌, ℕ, ◌<◌, ◌≤◌, ◌+◌, ◌∷◌, [], ◌++◌, List, Bool, true, false, refl, sym, ap, subst, ◌∙◌, ◌||◌, ◌⊎◌, inl, inr, Some, None, arith}
 use Rattle.std.specs.Option.{option_map}
-use Rattle.std.specs.Cmp.{nat_cmp_total, unsigned_tied}
 use Rattle.std.specs.FinMap as map
 use Rattle.std.specs.FinSet as set
-use Rattle.std.proofs.lemmas.Bool.{eqb-true, eq-eqb, or_left, or_right, and_from}
-use Rattle.tg_rights.specs.Promise.Letters.{Letters, Right, read, write, take, grant, has, is_none, take_alone, grant_alone}
+use Rattle.std.proofs.lemmas.Bool.{eq-eqb, or_left, or_right, and_from}
+use Rattle.std.proofs.lemmas.Bool.Decides.{eqb_tells}
+use Rattle.tg_rights.specs.Promise.Letters.{Letters, Right, read, write, take, grant, has, includes, is_none, take_alone, grant_alone}
 use Rattle.tg_rights.specs.declared.kind.Kind.{Kind}
 use Rattle.tg_rights.specs.declared.kind.Kind.TheVariants as kind
 use Rattle.tg_rights.specs.declared.command.Command.{Command}
@@ -17,43 +17,43 @@ use Rattle.tg_rights.specs.declared.outcome.Reply.{Reply}
 use Rattle.tg_rights.specs.declared.outcome.Reply.TheVariants as reply
 use Rattle.tg_rights.proofs.LettersLemmas.{are_set_operations, some_right, right_some}
 use Rattle.tg_graph.specs.declared.derivation.Step.{Step}
-use Rattle.tg_graph.specs.Promise.Protection.{Triple, edge, Protection, IsEdge, IsGraph, IsSubject, has_retired, kind_of, label, vertex}
+use Rattle.tg_graph.specs.Promise.Protection.{Triple, edge, Protection, IsEdge, IsGraph, IsSubject, kind_of, label, vertex}
 use Rattle.tg_graph.specs.Promise.Derivations.{CarriesOut, Derives}
 use Rattle.tg_graph.specs.Promise.Rules.{Allowed, Applies, PlainlyDecided, after, done, is_create, last_serial, next_graph, reply_of}
 use Rattle.tg_graph.specs.Promise.Terms as effect
-use Rattle.tg_graph.specs.Promise.Laws.{AllowedIsMet}
 use Rattle.tg_graph.proofs.LabelLemmas.{contains-label}
 use Rattle.tg_graph.proofs.ProtectionLemmas.{edge_from, edge_to}
+use Rattle.tg_graph.proofs.RollLemmas.{untrue}
 use Rattle.tg_graph.proofs.TriplesLemmas.{contains-edge, triple_cmp_total}
 use Rattle.tg_graph.proofs.VertexLemmas.{IsVertex-from_kind}
-use Rattle.tg_sharing.specs.Promise.Spans.{Has, IsActor}
+use Rattle.tg_graph.specs.Promise.EachCommand.{EachIsAllowedSo, HasAllOver, HasOver}
+use Rattle.tg_sharing.specs.Promise.Spans.{IsActor}
 use Rattle.tg_sharing.specs.Inner.Growing.{Continues, TakesFrom, Gives, KeepsAll, Makes, take_and_grant}
 use Rattle.tg_sharing.specs.Inner.Paths.{Holds}
+use Rattle.tg_sharing.specs.Promise.Fetching.{alone}
 use Rattle.tg_sharing.specs.Inner.Fetching.{IsEnvoy}
 use Rattle.tg_sharing.specs.declared.builder.Derivation.{Derivation}
+use Rattle.tg_sharing.proofs.GrowthLemmas.{other_vertex, this_vertex}
 
 -- right by right
-pub holds_right : (G : Protection) (x : ℕ) (α : Letters) (y : ℕ) → Holds G x α y → (r : Right) → has α r ≡ true → Has G x r y
+pub holds_right : (G : Protection) (x : ℕ) (α : Letters) (y : ℕ) → Holds G x α y → HasAllOver G x α y
 holds_right G x α y = (are_set_operations.inclusion (label G x y) α).0
 
-pub holds_all : (G : Protection) (x : ℕ) (α : Letters) (y : ℕ) → ((r : Right) → has α r ≡ true → Has G x r y) → Holds G x α y
+pub holds_all : (G : Protection) (x : ℕ) (α : Letters) (y : ℕ) → HasAllOver G x α y → Holds G x α y
 holds_all G x α y = (are_set_operations.inclusion (label G x y) α).1
 
-pub take_held : (G : Protection) (x y : ℕ) → Has G x take y → Holds G x take_alone y
-take_held G x y h = holds_all G x take_alone y by where
-  by : (r : Right) → has take_alone r ≡ true → Has G x r y
-  by read e = absurd (cc e)
-  by write e = absurd (cc e)
-  by take e = h
-  by grant e = absurd (cc e)
+-- a right that is there is included alone
+pub includes_alone : (l : Letters) (r : Right) → has l r ≡ true → includes l (alone r) ≡ true
+includes_alone l read h = ap (λ (b : Bool). includes (record l { read = b }) (alone read)) h
+includes_alone l write h = ap (λ (b : Bool). includes (record l { write = b }) (alone write)) h
+includes_alone l take h = ap (λ (b : Bool). includes (record l { take = b }) (alone take)) h
+includes_alone l grant h = ap (λ (b : Bool). includes (record l { grant = b }) (alone grant)) h
 
-pub grant_held : (G : Protection) (x y : ℕ) → Has G x grant y → Holds G x grant_alone y
-grant_held G x y h = holds_all G x grant_alone y by where
-  by : (r : Right) → has grant_alone r ≡ true → Has G x r y
-  by read e = absurd (cc e)
-  by write e = absurd (cc e)
-  by take e = absurd (cc e)
-  by grant e = h
+pub take_held : (G : Protection) (x y : ℕ) → HasOver G x take y → Holds G x take_alone y
+take_held G x y = includes_alone (label G x y) take
+
+pub grant_held : (G : Protection) (x y : ℕ) → HasOver G x grant y → Holds G x grant_alone y
+grant_held G x y = includes_alone (label G x y) grant
 
 pub both_take : (G : Protection) (x y : ℕ) → Holds G x take_and_grant y → Holds G x take_alone y
 both_take G x y h = take_held G x y (holds_right G x take_and_grant y h take refl)
@@ -67,7 +67,7 @@ held_edge G x α y some h = let s = some_right α some in right_some (label G x 
 
 -- the ends of an edge are vertices below the next serial, and apart
 module _ (G : Protection) (g : IsGraph G) (x : ℕ) (α : Letters) (y : ℕ) (some : is_none α ≡ false) (h : Holds G x α y) where
-  some_held : (r : Right) × Has G x r y
+  some_held : (r : Right) × HasOver G x r y
   some_held = let s = some_right α some in (s.0, holds_right G x α y h s.0 s.1)
 
   pub held_low : y < G.next
@@ -116,8 +116,7 @@ carried G x c answer H (o, decided, told, is) a plain = by o decided is where
   by outcome.Allowed d is = is
   by (outcome.Denied rule why) d is = absurd (cc (a, d.1))
   by (outcome.Full which.Serials) d is = absurd (cc (plain, d.1))
-  by (outcome.Full which.Slots) d is = absurd d
-  by (outcome.Full which.Cells) d is = absurd d
+  by _ d is = absurd d
 
 -- an allowed create is carried out, if a serial is left
 pub created : (G : Protection) (x : ℕ) (k : Kind) (α : Letters) (answer : Reply) (H : Protection) → Applies G x (command.Create k α) answer H → Allowed G x (command.Create k α) →
@@ -128,23 +127,22 @@ created G x k α answer H (o, decided, told, is) a = by o decided told is where
   by outcome.Allowed d told is = inl (told, is, d.1 refl)
   by (outcome.Denied rule why) d told is = absurd (cc (a, d.1))
   by (outcome.Full which.Serials) d told is = inr (told, is, d.2)
-  by (outcome.Full which.Slots) d told is = absurd d
-  by (outcome.Full which.Cells) d told is = absurd d
+  by _ d told is = absurd d
 
 -- the edges of a union
 module _ (G : Protection) (x : ℕ) (l : Letters) (y : ℕ) where
   abbrev pub grown : Protection
   grown = record G { triples = set.union G.triples (edge x l y) }
 
-  there : (a : ℕ) (r : Right) (b : ℕ) → Has grown a r b ≡ ((set.contains G.triples (record { from = a; right = r; to = b }) || set.contains (edge x l y) (record { from = a; right = r; to = b })) ≡ true)
+  there : (a : ℕ) (r : Right) (b : ℕ) → HasOver grown a r b ≡ ((set.contains G.triples (record { from = a; right = r; to = b }) || set.contains (edge x l y) (record { from = a; right = r; to = b })) ≡ true)
   there a r b = let t : Triple = record { from = a; right = r; to = b } in ap (λ (q : Bool). q ≡ true) (sym (contains-label grown t) ∙ set.contains-union triple_cmp_total G.triples (edge x l y) t)
 
-  pub grown_keeps : (a : ℕ) (r : Right) (b : ℕ) → Has G a r b → Has grown a r b
+  pub grown_keeps : (a : ℕ) (r : Right) (b : ℕ) → HasOver G a r b → HasOver grown a r b
   grown_keeps a r b h =
       let t : Triple = record { from = a; right = r; to = b } in
       sym (contains-label grown t) ∙ set.contains-union triple_cmp_total G.triples (edge x l y) t ∙ or_left _ _ (contains-label G t ∙ h)
 
-  pub grown_has : (r : Right) → has l r ≡ true → Has grown x r y
+  pub grown_has : (r : Right) → has l r ≡ true → HasOver grown x r y
   grown_has r h =
       let t : Triple = record { from = x; right = r; to = y } in
       sym (contains-label grown t) ∙ set.contains-union triple_cmp_total G.triples (edge x l y) t
@@ -157,47 +155,27 @@ module _ (G : Protection) (x : ℕ) (l : Letters) (y : ℕ) where
   grown_holds = holds_all grown x l y grown_has
 
 -- an actor may take, and may grant
-apart_all : (x y z : ℕ) → x ≢ y → x ≢ z → y ≢ z → (not (x == y) && not (x == z) && not (y == z)) ≡ true
-apart_all x y z a b c = and_from _ _ (and_from _ _ (differ x y a) (differ x z b)) (differ y z c) where
-  differ : (p q : ℕ) → p ≢ q → not (p == q) ≡ true
-  differ p q apart = by (p == q) refl where
-    by : (b : Bool) → (p == q) ≡ b → not b ≡ true
-    by true e = absurd (apart (eqb-true p q e))
-    by false e = refl
-
-module _ (law : AllowedIsMet) (G : Protection) (g : IsGraph G) (x : ℕ) (act : IsActor G x) (α : Letters) (some : is_none α ≡ false) where
+module _ (law : EachIsAllowedSo) (G : Protection) (g : IsGraph G) (x : ℕ) (act : IsActor G x) (α : Letters) (some : is_none α ≡ false) where
   pub take_allowed : (y z : ℕ) → Holds G x take_alone z → Holds G z α y → x ≢ y → Allowed G x (command.Take α y z)
-  take_allowed y z t h apart = (law G x (command.Take α y z)).1 (record {
-    unretired = λ _. act.1;
-    named = ap not some;
-    apart = apart_all x y z apart (held_apart G g x take_alone z refl t) (λ is. held_apart G g z α y some h (sym is));
-    met = (t, (h, tt));
-    wants = tt;
-    principal = λ e. absurd (cc e);
-    name = tt;
+  take_allowed y z t h apart = ((law G x).takes α y z).1 (record {
+    unretired = act.1;
+    some = some;
+    apart = (apart, held_apart G g x take_alone z refl t, λ is. held_apart G g z α y some h (sym is));
+    over = holds_right G x take_alone z t take refl;
+    there = holds_right G z α y h;
   })
 
   pub grant_allowed : (y z : ℕ) → Holds G x grant_alone z → Holds G x α y → z ≢ y → Allowed G x (command.Grant α y z)
-  grant_allowed y z t h apart = (law G x (command.Grant α y z)).1 (record {
-    unretired = λ _. act.1;
-    named = ap not some;
-    apart = apart_all x y z (held_apart G g x α y some h) (held_apart G g x grant_alone z refl t) (λ is. apart (sym is));
-    met = (t, (h, tt));
-    wants = tt;
-    principal = λ e. absurd (cc e);
-    name = tt;
+  grant_allowed y z t h apart = ((law G x).grants α y z).1 (record {
+    unretired = act.1;
+    some = some;
+    apart = (held_apart G g x α y some h, held_apart G g x grant_alone z refl t, λ is. apart (sym is));
+    over = holds_right G x grant_alone z t grant refl;
+    own = holds_right G x α y h;
   })
 
   pub create_allowed : (k : Kind) → Allowed G x (command.Create k α)
-  create_allowed k = (law G x (command.Create k α)).1 (record {
-    unretired = λ _. act.1;
-    named = ap not some;
-    apart = refl;
-    met = tt;
-    wants = tt;
-    principal = λ e. absurd (cc e);
-    name = tt;
-  })
+  create_allowed k = ((law G x).creates k α).1 (record { unretired = act.1; some = some })
 
 -- a step that was carried out continues a derivation
 pub stepped : (d e : Derivation) (s : Step) → IsSubject d.graph s.actor → Allowed d.graph s.actor s.command → (is_create s.actor s.command ≡ true → d.graph.next ≤ last_serial) →
@@ -213,22 +191,15 @@ module _ (G : Protection) (g : IsGraph G) (x : ℕ) (k : Kind) (α : Letters) wh
   made = done G x (effect.Makes k α None)
 
   made_kind : (v : ℕ) → v < G.next → kind_of made v ≡ kind_of G v
-  made_kind v low = ap (option_map (λ e. e.kind)) (map.get-insert nat_cmp_total G.vertices G.next (record { kind = k; text = [] }) v ∙ ap (λ b. cond b (Some (record { kind = k; text = [] })) (vertex G v)) (unsigned_tied v G.next ∙ differ _ refl)) where
-    differ : (c : Bool) → (v == G.next) ≡ c → c ≡ false
-    differ true e = let is : v ≡ G.next = eqb-true v G.next e in absurd (omega (arith, low, is))
-    differ false e = refl
+  made_kind v low = ap (option_map (λ e. e.kind)) (other_vertex G G.next v (record { kind = k; text = [] }) (λ is. absurd (omega (arith, low, is))))
 
   made_new : kind_of made G.next ≡ Some k
-  made_new = ap (option_map (λ e. e.kind)) (map.get-insert nat_cmp_total G.vertices G.next (record { kind = k; text = [] }) G.next ∙ ap (λ b. cond b (Some (record { kind = k; text = [] })) (vertex G G.next)) (unsigned_tied G.next G.next ∙ eq-eqb G.next G.next refl))
-
-  fresh_unretired : (b : Bool) → has_retired G G.next ≡ b → b ≡ false
-  fresh_unretired true e = let low : G.next < G.next = g.roll.past G.next e in absurd (omega (arith, low))
-  fresh_unretired false e = refl
+  made_new = ap (option_map (λ e. e.kind)) (this_vertex G G.next (record { kind = k; text = [] }))
 
   pub made_actor : k ≡ kind.Subject → IsActor made G.next
-  made_actor is = (made_new ∙ ap (λ (k : Kind). Some k) is, fresh_unretired (has_retired G G.next) refl)
+  made_actor is = (made_new ∙ ap (λ (k : Kind). Some k) is, untrue _ (λ e. let low : G.next < G.next = g.roll.past G.next e in absurd (omega (arith, low))))
 
-  same_has : (a : ℕ) (r : Right) (b : ℕ) → Has (grown G x α G.next) a r b → Has made a r b
+  same_has : (a : ℕ) (r : Right) (b : ℕ) → HasOver (grown G x α G.next) a r b → HasOver made a r b
   same_has a r b h = let t : Triple = record { from = a; right = r; to = b } in sym (contains-label made t) ∙ contains-label (grown G x α G.next) t ∙ h
 
   pub made_Keeps : KeepsAll G made
@@ -242,7 +213,7 @@ module _ (G : Protection) (g : IsGraph G) (x : ℕ) (k : Kind) (α : Letters) wh
   made_holds = holds_all made x α G.next (λ r e. same_has x r G.next (grown_has G x α G.next r e))
 
 -- a take, a grant and a create that were carried out
-module _ (law : AllowedIsMet) (d e : Derivation) (g : IsGraph d.graph) (x : ℕ) (act : IsActor d.graph x) (α : Letters) (some : is_none α ≡ false) where
+module _ (law : EachIsAllowedSo) (d e : Derivation) (g : IsGraph d.graph) (x : ℕ) (act : IsActor d.graph x) (α : Letters) (some : is_none α ≡ false) where
   pub took : (y z : ℕ) → Holds d.graph x take_alone z → Holds d.graph z α y → x ≢ y → e.graph ≡ after d.graph x (command.Take α y z) →
       e.steps.items ≡ d.steps.items ++ record { actor = x; command = command.Take α y z } ∷ [] → Continues d e × Holds e.graph x α y
   took y z t h apart is more = (
@@ -257,22 +228,15 @@ module _ (law : AllowedIsMet) (d e : Derivation) (g : IsGraph d.graph) (x : ℕ)
     subst (λ (H : Protection). Holds H z α y) (sym is) (grown_holds d.graph z α y),
   )
 
--- what is one of two, or is not
-pub same_or_not : (x y : ℕ) → (x ≡ y) ⊎ (x ≢ y)
-same_or_not x y = by (x == y) refl where
-  by : (b : Bool) → (x == y) ≡ b → (x ≡ y) ⊎ (x ≢ y)
-  by true e = inl (eqb-true x y e)
-  by false e = inr (λ is. absurd (cc (e, eq-eqb x y is)))
-
 -- what was gained over another vertex can be drawn from
 pub draws_gained : (G : Protection) (x y : ℕ) → (x ≢ y → Holds G x take_alone y) → TakesFrom G x y
-draws_gained G x y f = elim (same_or_not x y) [ inl is ↦ inl is | inr apart ↦ inr (f apart) ]
+draws_gained G x y f = elim (eqb_tells x y) [ inl is ↦ inl is.1 | inr apart ↦ inr (f apart.1) ]
 
 pub gives_gained : (G : Protection) (x y : ℕ) → (x ≢ y → Holds G x grant_alone y) → Gives G x y
-gives_gained G x y f = elim (same_or_not x y) [ inl is ↦ inl is | inr apart ↦ inr (f apart) ]
+gives_gained G x y f = elim (eqb_tells x y) [ inl is ↦ inl is.1 | inr apart ↦ inr (f apart.1) ]
 
 -- a create that was carried out
-pub created_step : AllowedIsMet → (d e : Derivation) → IsGraph d.graph → (x : ℕ) → IsActor d.graph x → (k : Kind) → d.graph.next ≤ last_serial → e.graph ≡ after d.graph x (command.Create k take_and_grant) →
+pub created_step : EachIsAllowedSo → (d e : Derivation) → IsGraph d.graph → (x : ℕ) → IsActor d.graph x → (k : Kind) → d.graph.next ≤ last_serial → e.graph ≡ after d.graph x (command.Create k take_and_grant) →
     e.steps.items ≡ d.steps.items ++ record { actor = x; command = command.Create k take_and_grant } ∷ [] → Continues d e × Makes d e x k d.graph.next
 created_step law d e g x act k room is more = (
   stepped d e (record { actor = x; command = command.Create k take_and_grant }) act.0 (create_allowed law d.graph g x act take_and_grant refl k) (λ _. room) is more (subst (KeepsAll d.graph) (sym is) (made_Keeps d.graph g x k take_and_grant)),
@@ -292,16 +256,16 @@ same_graph d e is same = record {
 }
 
 -- edges of the first graph, later
-pub grant_later : (G W : Protection) → KeepsAll G W → (x y : ℕ) → Has G x grant y → Holds W x grant_alone y
+pub grant_later : (G W : Protection) → KeepsAll G W → (x y : ℕ) → HasOver G x grant y → Holds W x grant_alone y
 grant_later G W k x y h = keeps_holds G W k x grant_alone y (grant_held G x y h)
 
-pub take_later : (G W : Protection) → KeepsAll G W → (x y : ℕ) → Has G x take y → Holds W x take_alone y
+pub take_later : (G W : Protection) → KeepsAll G W → (x y : ℕ) → HasOver G x take y → Holds W x take_alone y
 take_later G W k x y h = keeps_holds G W k x take_alone y (take_held G x y h)
 
-pub edge_low : (G : Protection) → IsGraph G → (x : ℕ) (r : Right) (y : ℕ) → Has G x r y → y < G.next
+pub edge_low : (G : Protection) → IsGraph G → (x : ℕ) (r : Right) (y : ℕ) → HasOver G x r y → y < G.next
 edge_low G g x r y h = g.below_next y (edge_to G g x y (right_some (label G x y) r h))
 
-pub edge_high : (G : Protection) → IsGraph G → (x : ℕ) (r : Right) (y : ℕ) → Has G x r y → x < G.next
+pub edge_high : (G : Protection) → IsGraph G → (x : ℕ) (r : Right) (y : ℕ) → HasOver G x r y → x < G.next
 edge_high G g x r y h = g.below_next x (edge_from G g x y (right_some (label G x y) r h))
 
 pub keeps_envoy : (G H : Protection) → KeepsAll G H → (α : Letters) (to envoy : ℕ) → IsEnvoy G α to envoy → IsEnvoy H α to envoy

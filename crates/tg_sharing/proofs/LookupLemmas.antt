@@ -1,34 +1,31 @@
 -- Why a list of vertices that could come to have rights, or over which one could, has all of them and no other.
-use Rattle.std.proofs.Common.{◌≡◌, ◌≢◌, ℕ, List, [], ◌∷◌, Bool, true, false, cond, refl, sym, ap, subst, ◌∙◌, ◌⊎◌, inl, inr, ◌==◌, ◌||◌, Some, None}
-use Rattle.std.specs.Prelude.{◌↔◌, Option, filter_map}
+use Rattle.std.proofs.Common.{◌≡◌, ℕ, List, [], ◌∷◌, Bool, true, false, cond, refl, sym, ap, subst, ◌∙◌, ◌⊎◌, inl, inr, ◌==◌, ◌||◌, Some, None}
+use Rattle.std.specs.Prelude.{Option, filter_map}
 use Rattle.std.specs.List.{cons_option, list_any}
 use Rattle.std.specs.Cmp.{unsigned_tied}
-use Rattle.std.specs.Map.{keys_of}
 use Rattle.std.specs.Ordering.{eq_by_cmp, nat_cmp}
 use Rattle.std.specs.BTreeMap as tree
 use Rattle.std.proofs.lemmas.Option.{same_Some}
 use Rattle.std.proofs.lemmas.Bool.{eqb-true, eq-eqb, or_left, or_right}
 use Rattle.tg_lists.specs.Promise.Membership.{Contains}
 use Rattle.tg_rights.specs.Promise.Letters.{Letters, Right, take, grant, has, includes, is_none}
-use Rattle.tg_rights.proofs.Bools.{or_cases}
 use Rattle.tg_rights.proofs.LettersLemmas.{are_set_operations, right_some, some_right}
-use Rattle.tg_graph.specs.declared.derivation.Goal.{Goal}
-use Rattle.tg_graph.specs.declared.derivation.Step.{Step}
-use Rattle.tg_graph.specs.Promise.Derivations.{CanShare, Derives, IsShared}
+use Rattle.tg_graph.specs.Promise.Derivations.{CanShare}
 use Rattle.tg_graph.specs.Promise.Laws.{CommandsKeepGraphs}
 use Rattle.tg_graph.specs.Promise.Protection.{IsEdge, IsGraph, IsVertex, Protection, label}
 use Rattle.tg_sharing.specs.Promise.Fetching.{alone}
 use Rattle.tg_sharing.specs.Promise.Laws.{WithheldForEver}
 use Rattle.tg_sharing.specs.Promise.Lookups.{AreListed, RunsOut, holder_goal, present, target_goal}
 use Rattle.tg_sharing.specs.Inner.Lookups.{AreEnds, holder_of, is_unknown, target_found}
-use Rattle.tg_sharing.specs.Promise.Prospects.{AreCould, AreLabelsOf, IsCould, IsProspect}
-use Rattle.tg_sharing.specs.Promise.Spans.{AreClosed, Has}
+use Rattle.tg_sharing.specs.Promise.Prospects.{AreCould, IsCould, IsProspect}
+use Rattle.tg_graph.proofs.RollLemmas.{any_is}
+use Rattle.tg_graph.specs.Promise.EachCommand.{HasOver}
+use Rattle.tg_sharing.specs.Promise.Spans.{AreClosed}
 use Rattle.tg_sharing.specs.declared.prospect.Could.{Could}
 use Rattle.tg_sharing.specs.declared.prospect.Could.TheVariants as could
 use Rattle.tg_sharing.specs.declared.prospect.Prospect.{Prospect}
-use Rattle.tg_sharing.proofs.GrowingLemmas.{same_or_not}
-use Rattle.tg_sharing.proofs.LabelsLemmas.{Labels}
-use Rattle.tg_sharing.proofs.SharingLemmas.{alone_has, includes_alone, never_itself}
+use Rattle.tg_sharing.proofs.GrowingLemmas.{includes_alone}
+use Rattle.tg_sharing.proofs.SharingLemmas.{never_itself}
 
 -- ---- lists
 
@@ -55,18 +52,7 @@ from_kept {Y = Y} f (z ∷ zs) x y (inr h) is = by (f z) (from_kept f zs x y h i
   by None rest = rest
   by (Some w) rest = inr rest
 
--- if some element passes the test, one does; if none does, each fails it
-pub some_passes : {X : Type 0} (p : X → Bool) (xs : List X) → list_any p xs ≡ true → (x : X) × Contains xs x × (p x ≡ true)
-some_passes p [] h = absurd (cc h)
-some_passes p (x ∷ xs) h = elim (or_split (p x) (list_any p xs) h) [
-  | inl here ↦ (x, inl refl, here)
-  | inr later ↦ let rest = some_passes p xs later in (rest.0, inr rest.1, rest.2)
-]
-  where
-    or_split : (a b : Bool) → (a || b) ≡ true → (a ≡ true) ⊎ (b ≡ true)
-    or_split true b h = inl refl
-    or_split false b h = inr h
-
+-- if no element passes the test, each fails it
 pub none_passes : {X : Type 0} (p : X → Bool) (xs : List X) (x : X) → list_any p xs ≡ false → Contains xs x → p x ≡ false
 none_passes p [] x none h = absurd h
 none_passes p (y ∷ ys) x none (inl same) = ap p same ∙ first (p y) (list_any p ys) none where
@@ -84,7 +70,7 @@ is_in v xs = list_any (eq_by_cmp nat_cmp v) xs
 
 pub in_contains : (v : ℕ) (xs : List ℕ) → is_in v xs ≡ true → Contains xs v
 in_contains v xs h =
-    let found = some_passes (eq_by_cmp nat_cmp v) xs h in
+    let found = any_is (eq_by_cmp nat_cmp v) xs h in
     subst (Contains xs) (sym (eqb-true v found.0 (sym (unsigned_tied v found.0) ∙ found.2))) found.1
 
 pub contains_in : (v : ℕ) (xs : List ℕ) → Contains xs v → is_in v xs ≡ true
@@ -114,20 +100,20 @@ comes_in x new old is = is ∙ ap (λ b. cond b true (is_in x old)) (unsigned_ti
 
 -- from a vertex without edges nothing leads on
 module _ (G : Protection) (g : IsGraph G) (law : WithheldForEver) (ends : List ℕ) (are : AreEnds G ends) (v : ℕ) (out : Contains ends v → ⊥) where
-  no_out : (r : Right) (y : ℕ) → Has G v r y → ⊥
+  no_out : (r : Right) (y : ℕ) → HasOver G v r y → ⊥
   no_out r y h = out (are.whole v y (right_some (label G v y) r h)).0
 
-  no_in : (r : Right) (x : ℕ) → Has G x r v → ⊥
+  no_in : (r : Right) (x : ℕ) → HasOver G x r v → ⊥
   no_in r x h = out (are.whole x v (right_some (label G x v) r h)).1
 
   alone_closed : AreClosed G v (λ u. u == v) (λ u. u == v)
   alone_closed = record {
     own = λ act. eq-eqb v v refl;
     initial = λ u h. absurd (no_in grant u h);
-    taken = λ u w p h. absurd (no_out take w (subst (λ (x : ℕ). Has G x take w) (eqb-true u v p) h));
-    granting = λ u w p h. absurd (no_out grant w (subst (λ (x : ℕ). Has G x grant w) (eqb-true u v p) h));
-    granted = λ u w h p. absurd (no_in grant u (subst (λ (x : ℕ). Has G u grant x) (eqb-true w v p) h));
-    reaching = λ u w h p. absurd (no_in take u (subst (λ (x : ℕ). Has G u take x) (eqb-true w v p) h));
+    taken = λ u w p h. absurd (no_out take w (subst (λ (x : ℕ). HasOver G x take w) (eqb-true u v p) h));
+    granting = λ u w p h. absurd (no_out grant w (subst (λ (x : ℕ). HasOver G x grant w) (eqb-true u v p) h));
+    granted = λ u w h p. absurd (no_in grant u (subst (λ (x : ℕ). HasOver G u grant x) (eqb-true w v p) h));
+    reaching = λ u w h p. absurd (no_in take u (subst (λ (x : ℕ). HasOver G u take x) (eqb-true w v p) h));
     spans = λ w act p. p;
     bridges = λ w act p. p;
   }
@@ -136,30 +122,28 @@ module _ (G : Protection) (g : IsGraph G) (law : WithheldForEver) (ends : List �
   apart_never α to some there end =
       let wanted = some_right α some in
       law G (holder_goal α to v) (λ u. u == v) (λ u. u == v) wanted.0 g (g.below_next v there) (g.below_next to end) alone_closed wanted.1
-      (λ u either h. no_out wanted.0 to (subst (λ (x : ℕ). Has G x wanted.0 to) (elim either [ inl is ↦ is | inr p ↦ eqb-true u v p ]) h))
+      (λ u either h. no_out wanted.0 to (subst (λ (x : ℕ). HasOver G x wanted.0 to) (elim either [ inl is ↦ is | inr p ↦ eqb-true u v p ]) h))
 
 -- what is told of a vertex lists it, if it could
 told_of : (G : Protection) (α : Letters) (to v w : ℕ) (c : Could) (β : Letters) → holder_of G α to w c ≡ Some (v, β) → (c ≡ could.Ever) × (v ≡ w) × (β ≡ present G (holder_goal α to w))
-told_of G α to v w could.Never β is = absurd (cc is)
 told_of G α to v w could.Ever β is =
     let pair : ℕ × Letters = (v, β) in
     let listed : ℕ × Letters = (w, present G (holder_goal α to w)) in
     let same : pair ≡ listed = sym (same_Some listed pair is) in
     (refl, ap (λ (p : ℕ × Letters). p.0) same, ap (λ (p : ℕ × Letters). p.1) same)
-told_of G α to v w could.Unknown β is = absurd (cc is)
+told_of G α to v w _ β is = absurd (cc is)
 
 module _ (G : Protection) (g : IsGraph G) (law : WithheldForEver) (α : Letters) (to : ℕ) (some : is_none α ≡ false) (end : IsVertex G to) (ends asked : List ℕ) (are : AreEnds G ends) (same : asked ≡ ends)
     (found : List (ℕ × Could)) (those : AreCould G α to asked found) where
   -- serials run out, if that is why it is not known of one
   pub unknown_runs_out : list_any (λ p. is_unknown p.1) found ≡ true → RunsOut G
   unknown_runs_out h =
-      let one = some_passes (λ (p : ℕ × Could). is_unknown p.1) found h in
+      let one = any_is (λ (p : ℕ × Could). is_unknown p.1) found h in
       by one.0.0 one.0.1 one.2 (those.sound one.0.0 one.0.1 one.1).2
     where
       by : (v : ℕ) (c : Could) → is_unknown c ≡ true → IsCould G (record { from = v; to = to; rights = α }) c → RunsOut G
-      by v could.Never h is = absurd (cc h)
-      by v could.Ever h is = absurd (cc h)
       by v could.Unknown h is = is
+      by v _ h is = absurd (cc h)
 
   ever_told : (v : ℕ) → IsVertex G v → CanShare G (holder_goal α to v) → (c : Could) → is_unknown c ≡ false → IsCould G (holder_goal α to v) c → c ≡ could.Ever
   ever_told v there can could.Never known is = absurd (is can)
@@ -203,7 +187,7 @@ one_shared G from y α r there can = record {
 }
 
 -- a right is there or not
-has_or_not : (H : Protection) (x : ℕ) (r : Right) (y : ℕ) → Has H x r y ⊎ (Has H x r y → ⊥)
+has_or_not : (H : Protection) (x : ℕ) (r : Right) (y : ℕ) → HasOver H x r y ⊎ (HasOver H x r y → ⊥)
 has_or_not H x r y = by (has (label H x y) r) where
   by : (b : Bool) → (b ≡ true) ⊎ (b ≡ true → ⊥)
   by true = inl refl

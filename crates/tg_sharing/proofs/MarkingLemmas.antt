@@ -6,7 +6,8 @@ use Rattle.std.proofs.lemmas.Bool.{eqb-true, eq-eqb}
 use Rattle.tg_rights.specs.Promise.Letters.{Right, take, grant}
 use Rattle.tg_rights.proofs.LettersLemmas.{right_some}
 use Rattle.tg_graph.specs.Promise.Protection.{Protection, label}
-use Rattle.tg_sharing.specs.Promise.Spans.{AreClosed, Has, IsActor}
+use Rattle.tg_graph.specs.Promise.EachCommand.{HasOver}
+use Rattle.tg_sharing.specs.Promise.Spans.{AreClosed, IsActor}
 use Rattle.tg_sharing.specs.Inner.Marking.{AreEdgesClosed, AddsBridge, AddsSpan, AreGrantClosed, AreMarks, ArePairClosed, AreSettled, AreTakeClosed, Extends, Goes, IsBridge, IsNone, IsSpan, WasBridged, WasSpanned, bridge_of, is_bridged, is_spanned, size, span_of}
 use Rattle.tg_sharing.specs.declared.marks.Bridge.{Bridge}
 use Rattle.tg_sharing.specs.declared.marks.BridgeWay.{BridgeWay}
@@ -118,7 +119,7 @@ module _ (G : Protection) (m n : Marks) (e : Extends m n) where
 
   still_bridge : (v rank : ℕ) (w : BridgeWay) → IsBridge G m v rank w → IsBridge G n v rank w
   still_bridge v rank bridge.Own h = (h.0 ∙ sym e.from, h.1)
-  still_bridge v rank bridge.Initial h = subst (λ (f : ℕ). Has G v grant f) (sym e.from) h
+  still_bridge v rank bridge.Initial h = subst (λ (f : ℕ). HasOver G v grant f) (sym e.from) h
   still_bridge v rank (bridge.Granting u) h = (h.0, later_span u rank h.1)
   still_bridge v rank (bridge.Granted u) h = (h.0, later_span u rank h.1)
   still_bridge v rank (bridge.Reaching u) h = (h.0, later_bridge u rank h.1)
@@ -307,7 +308,7 @@ all_closed G m closed settled own = record {
   spans = λ v act p. settled v act ∙ p;
   bridges = λ v act p. sym (settled v act) ∙ p;
 } where
-  at : (x : ℕ) (r : Right) (y : ℕ) → Has G x r y → ArePairClosed G m x y
+  at : (x : ℕ) (r : Right) (y : ℕ) → HasOver G x r y → ArePairClosed G m x y
   at x r y h = closed x y (right_some (label G x y) r h)
 
 -- at first nothing is marked

@@ -16,7 +16,8 @@ use Rattle.tg_sharing.specs.Promise.Laws.{WithheldForEver}
 use Rattle.tg_sharing.specs.Inner.Marking.{is_bridged, is_spanned}
 use Rattle.tg_sharing.specs.Promise.Prospects.{AreCould, IsCould}
 use Rattle.tg_sharing.specs.Inner.Prospects.{IsGathered}
-use Rattle.tg_sharing.specs.Promise.Spans.{AreClosed, Has}
+use Rattle.tg_graph.specs.Promise.EachCommand.{HasOver}
+use Rattle.tg_sharing.specs.Promise.Spans.{AreClosed}
 use Rattle.tg_sharing.specs.declared.marks.Marks.{Marks}
 use Rattle.tg_sharing.specs.declared.prospect.Could.{Could}
 use Rattle.tg_sharing.proofs.LabelsLemmas.{Labels}
@@ -68,12 +69,12 @@ module _ (G H : Protection) (from x y : ℕ) (l : Letters) (found : List (ℕ ×
 -- what the vertex lacks in the end, it never has
 pub never_gathered : WithheldForEver → (G W : Protection) (m : Marks) (from : ℕ) → IsGraph G → IsVertex G from → m.from ≡ from → AreClosed G from (is_spanned m) (is_bridged m) → KeepsAll G W →
     ((u y : ℕ) → IsEdge G u y → IsGathered G W m u y) →
-    (y : ℕ) (r : Right) → IsVertex G y → y ≢ from → (Has W from r y → ⊥) → CanShare G (record { from = from; to = y; rights = alone r }) → ⊥
+    (y : ℕ) (r : Right) → IsVertex G y → y ≢ from → (HasOver W from r y → ⊥) → CanShare G (record { from = from; to = y; rights = alone r }) → ⊥
 never_gathered law G W m from g there own closed keeps gathered y r v apart lacks =
     law G (record { from = from; to = y; rights = alone r }) (is_spanned m) (is_bridged m) r g (g.below_next from there) (g.below_next y v) closed (alone_has r)
     (λ u either h. elim either [
-      | inl is ↦ lacks (keeps.rights from r y (subst (λ (x : ℕ). Has G x r y) is h))
-      | inr spanned ↦ lacks (subst (λ (x : ℕ). Has W x r y) own (gathered u y (right_some (label G u y) r h) (λ is. apart (is ∙ own)) spanned r h))
+      | inl is ↦ lacks (keeps.rights from r y (subst (λ (x : ℕ). HasOver G x r y) is h))
+      | inr spanned ↦ lacks (subst (λ (x : ℕ). HasOver W x r y) own (gathered u y (right_some (label G u y) r h) (λ is. apart (is ∙ own)) spanned r h))
     ])
 
 -- one more vertex is asked for

@@ -1,6 +1,6 @@
 -- Why an answer is right.
-use Rattle.std.proofs.Common.{◌≡◌, ℕ, ◌∷◌, [], List, true, false, refl, sym, subst, ◌∙◌, inl, inr}
-use Rattle.tg_rights.specs.Promise.Letters.{Letters, Right, read, write, take, grant, has, includes, is_none}
+use Rattle.std.proofs.Common.{◌≡◌, ◌∷◌, [], List, true, false, refl, sym, subst, ◌∙◌, inl, inr}
+use Rattle.tg_rights.specs.Promise.Letters.{Letters, Right, read, has, includes, is_none}
 use Rattle.tg_rights.proofs.LettersLemmas.{are_set_operations, right_some}
 use Rattle.tg_graph.specs.declared.derivation.Goal.{Goal}
 use Rattle.tg_graph.specs.declared.derivation.Step.{Step}
@@ -12,42 +12,15 @@ use Rattle.tg_sharing.specs.Inner.Fetching.{AreFetched, IsFetched, IsLacking}
 use Rattle.tg_sharing.specs.Promise.Laws.{WithheldForEver}
 use Rattle.tg_sharing.specs.Inner.Marking.{is_bridged, is_spanned}
 use Rattle.tg_sharing.specs.Inner.Paths.{Holds}
-use Rattle.tg_sharing.specs.Promise.Spans.{AreClosed, Has}
+use Rattle.tg_sharing.specs.Promise.Spans.{AreClosed}
 use Rattle.tg_sharing.specs.declared.marks.Marks.{Marks}
 use Rattle.tg_sharing.specs.declared.sharing.Found.{Found}
 use Rattle.tg_sharing.specs.declared.sharing.Found.TheVariants as found
-use Rattle.tg_sharing.proofs.GrowingLemmas.{held_apart, holds_all, holds_right}
+use Rattle.tg_sharing.proofs.GrowingLemmas.{held_apart, holds_all, holds_right, includes_alone}
 
 pub alone_has : (r : Right) → has (alone r) r ≡ true
 alone_has read = refl
-alone_has write = refl
-alone_has take = refl
-alone_has grant = refl
-
--- a right alone has no other
-only : (r s : Right) → has (alone r) s ≡ true → r ≡ s
-only read read e = refl
-only read write e = absurd (cc e)
-only read take e = absurd (cc e)
-only read grant e = absurd (cc e)
-only write read e = absurd (cc e)
-only write write e = refl
-only write take e = absurd (cc e)
-only write grant e = absurd (cc e)
-only take read e = absurd (cc e)
-only take write e = absurd (cc e)
-only take take e = refl
-only take grant e = absurd (cc e)
-only grant read e = absurd (cc e)
-only grant write e = absurd (cc e)
-only grant take e = absurd (cc e)
-only grant grant e = refl
-
-alone_held : (G : Protection) (x : ℕ) (r : Right) (y : ℕ) → Has G x r y → Holds G x (alone r) y
-alone_held G x r y h = holds_all G x (alone r) y (λ s e. subst (λ (q : Right). Has G x q y) (only r s e) h)
-
-pub includes_alone : (l : Letters) (r : Right) → has l r ≡ true → includes l (alone r) ≡ true
-includes_alone l r h = (are_set_operations.inclusion l (alone r)).1 (λ s e. subst (λ (q : Right). has l q ≡ true) (only r s e) h)
+alone_has _ = refl
 
 -- a goal of no rights is met
 pub nothing_shared : (G : Protection) (goal : Goal) → is_none goal.rights ≡ true → IsShared G goal
@@ -70,7 +43,7 @@ pub never_shared : WithheldForEver → (G : Protection) (goal : Goal) (m : Marks
 never_shared law G goal m r g from to own closed lacking =
     law G goal (is_spanned m) (is_bridged m) r g (g.below_next goal.from from) (g.below_next goal.to to) closed
     ((are_set_operations.inclusion goal.rights (alone r)).0 lacking.0 r (alone_has r))
-    (λ u either h. lacking.1 u (alone_held G u r goal.to h, elim either [ inl is ↦ inl (is ∙ sym own) | inr p ↦ inr p ]))
+    (λ u either h. lacking.1 u (includes_alone (label G u goal.to) r h, elim either [ inl is ↦ inl (is ∙ sym own) | inr p ↦ inr p ]))
 
 -- right by right, the goal is met
 pub all_shared : (G H : Protection) (m : Marks) (goal : Goal) → AreFetched G H m goal found.Here → IsShared H goal

@@ -1,18 +1,17 @@
 -- What is withheld from all that is spanned stays so, step by step.
-use Rattle.std.proofs.Common.{◌≡◌, ℕ, ◌<◌, ◌∷◌, [], List, Bool, true, false, cond, refl, sym, ap, subst, ◌∙◌, ◌⊎◌, inl, inr, ◌==◌, arith}
-use Rattle.std.proofs.lemmas.Bool.{eqb-true, eq-eqb}
+use Rattle.std.proofs.Common.{◌≡◌, ℕ, ◌<◌, ◌∷◌, [], List, Bool, true, cond, refl, sym, ap, subst, ◌∙◌, ◌⊎◌, inl, inr, ◌==◌, arith}
+use Rattle.std.proofs.lemmas.Bool.{eq-eqb, ne_eqb}
 use Rattle.tg_rights.specs.Promise.Letters.{Right, take, grant, has, includes}
-use Rattle.tg_rights.specs.declared.kind.Kind.TheVariants as kind
-use Rattle.tg_rights.proofs.LettersLemmas.{are_set_operations, right_some}
+use Rattle.tg_rights.proofs.LettersLemmas.{are_set_operations}
 use Rattle.tg_graph.specs.declared.derivation.Goal.{Goal}
 use Rattle.tg_graph.specs.declared.derivation.Step.{Step}
 use Rattle.tg_graph.specs.Promise.Derivations.{Derives, IsShared}
-use Rattle.tg_graph.specs.Promise.Laws.{AllowedIsMet, CommandsKeepGraphs}
+use Rattle.tg_graph.specs.Promise.Laws.{CommandsKeepGraphs}
 use Rattle.tg_graph.specs.Promise.Protection.{Protection, IsGraph, label}
-use Rattle.tg_graph.proofs.ProtectionLemmas.{edge_from, edge_to}
-use Rattle.tg_graph.proofs.VertexLemmas.{IsVertex-from_kind}
 use Rattle.tg_sharing.specs.Promise.Laws.{WithheldForEver}
-use Rattle.tg_sharing.specs.Promise.Spans.{AreClosed, Has, IsActor, IsWithheld}
+use Rattle.tg_graph.specs.Promise.EachCommand.{EachIsAllowedSo, HasOver}
+use Rattle.tg_sharing.specs.Promise.Spans.{AreClosed, IsActor, IsWithheld}
+use Rattle.tg_sharing.proofs.GrowingLemmas.{actor_low, edge_high, edge_low}
 use Rattle.tg_sharing.proofs.GrowthLemmas.{Grows, Source, grown}
 use Rattle.tg_sharing.proofs.GrowthLemmas as growth
 
@@ -21,21 +20,12 @@ abbrev with_made : ℕ → Bool → (ℕ → Bool) → ℕ → Bool
 with_made next b test v = cond (v == next) b (test v)
 
 with_made-old : (next : ℕ) (b : Bool) (test : ℕ → Bool) (v : ℕ) → v < next → with_made next b test v ≡ test v
-with_made-old next b test v low = by (v == next) refl where
-  by : (c : Bool) → (v == next) ≡ c → cond c b (test v) ≡ test v
-  by true is = let same : v ≡ next = eqb-true v next is in absurd (omega (arith, low, same))
-  by false is = refl
+with_made-old next b test v low = ap (λ c. cond c b (test v)) (ne_eqb v next (λ is. absurd (omega (arith, low, is))))
 
 with_made-new : (next : ℕ) (b : Bool) (test : ℕ → Bool) (v : ℕ) → v ≡ next → with_made next b test v ≡ b
 with_made-new next b test v is = ap (λ c. cond c b (test v)) (eq-eqb v next is)
 
 module _ (G : Protection) (g : IsGraph G) (from to : ℕ) (r : Right) (spanned bridged : ℕ → Bool) (closed : AreClosed G from spanned bridged) (lacks : IsWithheld G from spanned r to) where
-  low_from : (a : ℕ) (s : Right) (b : ℕ) → Has G a s b → a < G.next
-  low_from a s b h = g.below_next a (edge_from G g a b (right_some (label G a b) s h))
-
-  low_to : (a : ℕ) (s : Right) (b : ℕ) → Has G a s b → b < G.next
-  low_to a s b h = g.below_next b (edge_to G g a b (right_some (label G a b) s h))
-
   -- an edge between vertices of the graph that could be there: the sets are closed along it, and it gives away nothing
   record Fits (a : ℕ) (s : Right) (b : ℕ) : Type 0 where
     low : a < G.next
@@ -47,17 +37,17 @@ module _ (G : Protection) (g : IsGraph G) (from to : ℕ) (r : Right) (spanned b
     initial : s ≡ grant → b ≡ from → bridged a ≡ true
     lacking : s ≡ r → b ≡ to → (a ≡ from) ⊎ (spanned a ≡ true) → ⊥
 
-  module _ (a : ℕ) (s : Right) (b : ℕ) (h : Has G a s b) where
-    at : (q : Right) → s ≡ q → Has G a q b
-    at q e = subst (λ (q : Right). Has G a q b) e h
+  module _ (a : ℕ) (s : Right) (b : ℕ) (h : HasOver G a s b) where
+    at : (q : Right) → s ≡ q → HasOver G a q b
+    at q e = subst (λ (q : Right). HasOver G a q b) e h
 
-    over : (q : Right) (c : ℕ) → s ≡ q → b ≡ c → Has G a q c
-    over q c e is = subst (λ (c : ℕ). Has G a q c) is (at q e)
+    over : (q : Right) (c : ℕ) → s ≡ q → b ≡ c → HasOver G a q c
+    over q c e is = subst (λ (c : ℕ). HasOver G a q c) is (at q e)
 
-  kept : (a : ℕ) (s : Right) (b : ℕ) → Has G a s b → Fits a s b
+  kept : (a : ℕ) (s : Right) (b : ℕ) → HasOver G a s b → Fits a s b
   kept a s b h = record {
-    low = low_from a s b h;
-    low_end = low_to a s b h;
+    low = edge_high G g a s b h;
+    low_end = edge_low G g a s b h;
     taken = λ e p. closed.taken a b p (at a s b h take e);
     granting = λ e p. closed.granting a b p (at a s b h grant e);
     granted = λ e p. closed.granted a b (at a s b h grant e) p;
@@ -67,16 +57,13 @@ module _ (G : Protection) (g : IsGraph G) (from to : ℕ) (r : Right) (spanned b
   }
 
   module _ (x : ℕ) (act : IsActor G x) where
-    low_x : x < G.next
-    low_x = g.below_next x (IsVertex-from_kind G x kind.Subject act.0)
-
     own_spanned : x ≡ from → spanned x ≡ true
     own_spanned is = closed.spans x act (ap bridged is ∙ closed.own (subst (IsActor G) is act))
 
-    took : (z : ℕ) (s : Right) (b : ℕ) → Has G x take z → Has G z s b → Fits x s b
+    took : (z : ℕ) (s : Right) (b : ℕ) → HasOver G x take z → HasOver G z s b → Fits x s b
     took z s b t h = record {
-      low = low_x;
-      low_end = low_to z s b h;
+      low = actor_low G g x act;
+      low_end = edge_low G g z s b h;
       taken = λ e p. closed.taken z b (closed.taken x z p t) (at z s b h take e);
       granting = λ e p. closed.granting z b (closed.taken x z p t) (at z s b h grant e);
       granted = λ e p. closed.reaching x z t (closed.granted z b (at z s b h grant e) p);
@@ -87,10 +74,10 @@ module _ (G : Protection) (g : IsGraph G) (from to : ℕ) (r : Right) (spanned b
           lacks z (inr (closed.taken x z p t)) (over z s b h r to e is);
     }
 
-    gave : (a : ℕ) (s : Right) (b : ℕ) → Has G x grant a → Has G x s b → Fits a s b
+    gave : (a : ℕ) (s : Right) (b : ℕ) → HasOver G x grant a → HasOver G x s b → Fits a s b
     gave a s b k h = record {
-      low = low_to x grant a k;
-      low_end = low_to x s b h;
+      low = edge_low G g x grant a k;
+      low_end = edge_low G g x s b h;
       taken = λ e p. closed.taken x b (giver p) (at x s b h take e);
       granting = λ e p. closed.granting x b (giver p) (at x s b h grant e);
       granted = λ e p. closed.granting x a (closed.spans x act (closed.granted x b (at x s b h grant e) p)) k;
@@ -98,7 +85,7 @@ module _ (G : Protection) (g : IsGraph G) (from to : ℕ) (r : Right) (spanned b
       initial = λ e is. closed.granting x a (closed.spans x act (closed.initial x (over x s b h grant from e is))) k;
       lacking = λ e is either.
           let p : spanned x ≡ true = elim either [
-            | inl same ↦ closed.spans x act (closed.initial x (subst (λ (c : ℕ). Has G x grant c) same k))
+            | inl same ↦ closed.spans x act (closed.initial x (subst (λ (c : ℕ). HasOver G x grant c) same k))
             | inr p ↦ giver p
           ] in
           lacks x (inr p) (over x s b h r to e is);
@@ -116,7 +103,7 @@ module _ (G : Protection) (g : IsGraph G) (from to : ℕ) (r : Right) (spanned b
     abbrev IsMade : ℕ → ℕ → Type 0
     IsMade a b = (a ≡ x) × IsActor G x × (b ≡ G.next)
 
-    sourced : (a : ℕ) (s : Right) (b : ℕ) → Has H a s b → Fits a s b ⊎ IsMade a b
+    sourced : (a : ℕ) (s : Right) (b : ℕ) → HasOver H a s b → Fits a s b ⊎ IsMade a b
     sourced a s b h = by (grows.edges a s b h) where
       by : Source G x a s b → Fits a s b ⊎ IsMade a b
       by (growth.Kept h) = inl (kept a s b h)
@@ -140,13 +127,10 @@ module _ (G : Protection) (g : IsGraph G) (from to : ℕ) (r : Right) (spanned b
     not_new v low is = absurd (omega (arith, low, is))
 
     maker : (a : ℕ) → a ≡ x → IsActor G x → spanned_then a ≡ spanned x
-    maker a is act = ap spanned_then is ∙ spanned_old x (low_x x act)
+    maker a is act = ap spanned_then is ∙ spanned_old x (actor_low G g x act)
 
     maker_bridged : (a : ℕ) → a ≡ x → IsActor G x → spanned x ≡ true → bridged_then a ≡ true
-    maker_bridged a is act p = ap bridged_then is ∙ bridged_old x (low_x x act) ∙ closed.bridges x act p
-
-    low_actor : (v : ℕ) → IsActor G v → v < G.next
-    low_actor v act = g.below_next v (IsVertex-from_kind G v kind.Subject act.0)
+    maker_bridged a is act p = ap bridged_then is ∙ bridged_old x (actor_low G g x act) ∙ closed.bridges x act p
 
     closed_then : AreClosed H from spanned_then bridged_then
     closed_then = record {
@@ -175,11 +159,11 @@ module _ (G : Protection) (g : IsGraph G) (from to : ℕ) (r : Right) (spanned b
         | inr m ↦ maker_bridged u m.0 m.1 (sym (bridged_new v m.2) ∙ p)
       ];
       spans = λ v act p. elim (grows.actors v act) [
-        | inl old ↦ spanned_old v (low_actor v old) ∙ closed.spans v old (sym (bridged_old v (low_actor v old)) ∙ p)
+        | inl old ↦ spanned_old v (actor_low G g v old) ∙ closed.spans v old (sym (bridged_old v (actor_low G g v old)) ∙ p)
         | inr new ↦ spanned_new v new.0 ∙ sym (bridged_new v new.0) ∙ p
       ];
       bridges = λ v act p. elim (grows.actors v act) [
-        | inl old ↦ bridged_old v (low_actor v old) ∙ closed.bridges v old (sym (spanned_old v (low_actor v old)) ∙ p)
+        | inl old ↦ bridged_old v (actor_low G g v old) ∙ closed.bridges v old (sym (spanned_old v (actor_low G g v old)) ∙ p)
         | inr new ↦ bridged_new v new.0 ∙ sym (spanned_new v new.0) ∙ p
       ];
     }
@@ -190,7 +174,7 @@ module _ (G : Protection) (g : IsGraph G) (from to : ℕ) (r : Right) (spanned b
       | inr m ↦ not_new to low_goal m.2
     ]
 
-module _ (met : AllowedIsMet) (keep : CommandsKeepGraphs) (goal : Goal) (r : Right) (wanted : has goal.rights r ≡ true) where
+module _ (met : EachIsAllowedSo) (keep : CommandsKeepGraphs) (goal : Goal) (r : Right) (wanted : has goal.rights r ≡ true) where
   never : (steps : List Step) (G R : Protection) (spanned bridged : ℕ → Bool) → IsGraph G → goal.from < G.next → goal.to < G.next → AreClosed G goal.from spanned bridged →
       IsWithheld G goal.from spanned r goal.to → Derives G steps R → IsShared R goal → ⊥
   never [] G R spanned bridged g low low_goal closed lacks is shared =
@@ -204,6 +188,6 @@ module _ (met : AllowedIsMet) (keep : CommandsKeepGraphs) (goal : Goal) (r : Rig
       (closed_then G g goal.from goal.to r spanned bridged closed lacks s.actor H grows low low_goal)
       (lacks_then G g goal.from goal.to r spanned bridged closed lacks s.actor H grows low low_goal) rest shared
 
-pub withheld : AllowedIsMet → CommandsKeepGraphs → WithheldForEver
+pub withheld : EachIsAllowedSo → CommandsKeepGraphs → WithheldForEver
 withheld met keep G goal spanned bridged r g low low_goal closed wanted lacks can =
     never met keep goal r wanted can.steps G can.reached spanned bridged g low low_goal closed lacks can.derived can.shared

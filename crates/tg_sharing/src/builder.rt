@@ -9,7 +9,7 @@ ghost use Rattle.tg_sharing.specs.Inner.Paths.{Holds, TakePath, path_end};
 
 use std::alloc::{AllocError, Global};
 use std::collections::VecDeque;
-use tg_graph::{Graph, Step, allowed_is_met};
+use tg_graph::{Graph, Step, each_is_allowed_so};
 use tg_rights::{Command, Kind, Reply, Rights};
 
 /// Steps, and the graph to which they lead.
@@ -74,7 +74,7 @@ impl Derivation {
         ensures continues { OnOk result (Continues self.old self.new) }
         ensures gained { OnOk result (actor ≢ over → Holds self.new.graph actor rights over) }
     {
-        allowed_is_met();
+        each_is_allowed_so();
         self.graph.soundness();
         if actor == over {
             return Ok(());
@@ -109,7 +109,7 @@ impl Derivation {
         ensures continues { OnOk result (Continues self.old self.new) }
         ensures given { OnOk result (Holds self.new.graph to rights over) }
     {
-        allowed_is_met();
+        each_is_allowed_so();
         self.graph.soundness();
         if actor == to {
             return Ok(());
@@ -131,7 +131,7 @@ impl Derivation {
         ensures continues { OnOk result (Continues self.old self.new) }
         ensures made { IfOk result (λ o. MatchOption o (last_serial < self.new.graph.next) (Makes self.old self.new actor kind)) }
     {
-        allowed_is_met();
+        each_is_allowed_so();
         self.graph.soundness();
         let Reply::Created(serial) = self.graph.apply(actor, Command::create(kind, both()))? else {
             return Ok(None);

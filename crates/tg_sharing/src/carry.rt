@@ -6,7 +6,8 @@ ghost use Rattle.tg_sharing.specs.Inner.Fetching.{IsBrought, IsDrawn, IsOnTheWay
 ghost use Rattle.tg_sharing.specs.Inner.Growing.{Continues, KeepsAll};
 ghost use Rattle.tg_sharing.specs.Inner.Marking.{AreMarks, is_bridged, is_spanned};
 ghost use Rattle.tg_sharing.specs.Inner.Paths.{Holds};
-ghost use Rattle.tg_sharing.specs.Promise.Spans.{Has, IsActor};
+ghost use Rattle.tg_graph.specs.Promise.EachCommand.{HasOver};
+ghost use Rattle.tg_sharing.specs.Promise.Spans.{IsActor};
 
 use crate::builder::{Derivation, Load};
 use crate::marks::{BridgeWay, Marks};
@@ -63,7 +64,7 @@ impl Derivation {
         load: &Load,
     ) -> Result<Option<u64>, AllocError>
         requires way { IsOnTheWay graph.now self.old.graph marks.now load.now holder at }
-        requires edge { Has graph.now end grant at }
+        requires edge { HasOver graph.now end grant at }
         requires spanned { is_spanned marks.now end ≡ true }
         ensures continues { OnOk result (Continues self.old self.new) }
         ensures passed { IfOk result (λ o. MatchOption o (last_serial < self.new.graph.next) (IsPassed graph.now self.new.graph marks.now end load.now)) }
@@ -89,7 +90,7 @@ impl Derivation {
         load: &Load,
     ) -> Result<u64, AllocError>
         requires way { IsOnTheWay graph.now self.old.graph marks.now load.now holder at }
-        requires edge { Has graph.now at grant end }
+        requires edge { HasOver graph.now at grant end }
         requires spanned { is_spanned marks.now end ≡ true }
         ensures continues { OnOk result (Continues self.old self.new) }
         ensures passed { IfOk result (IsPassed graph.now self.new.graph marks.now end load.now) }

@@ -7,7 +7,8 @@ ghost use Rattle.tg_sharing.specs.Inner.Fetching.{IsBrought, IsEnvoy, IsSource, 
 ghost use Rattle.tg_sharing.specs.Inner.Growing.{Continues, TakesFrom, KeepsAll, take_and_grant};
 ghost use Rattle.tg_sharing.specs.Inner.Marking.{AreMarks, is_bridged, is_spanned};
 ghost use Rattle.tg_sharing.specs.Inner.Paths.{Holds};
-ghost use Rattle.tg_sharing.specs.Promise.Spans.{Has, IsActor};
+ghost use Rattle.tg_graph.specs.Promise.EachCommand.{HasOver};
+ghost use Rattle.tg_sharing.specs.Promise.Spans.{IsActor};
 
 use crate::builder::{Derivation, Load, both};
 use crate::carry::End;
@@ -59,7 +60,7 @@ impl Derivation {
         requires draws { TakesFrom self.old.graph holder at }
         requires held { Holds self.old.graph holder take_and_grant envoy }
         requires fresh { graph.now.next ≤ envoy }
-        requires edge { Has graph.now at grant goal.now.from }
+        requires edge { HasOver graph.now at grant goal.now.from }
         requires envoy { IsEnvoy self.old.graph rights goal.now.to envoy }
         requires some { is_none rights ≡ false }
         requires apart { goal.now.from ≢ goal.now.to }

@@ -2,7 +2,8 @@
 ghost use Rattle.std.specs.Prelude.{◌≡◌, ◌<◌, ◌^◌, ◌||◌, true, false, IsTrue, OnOk, IfOk};
 ghost use Rattle.tg_graph.specs.Promise.Protection.{label as rights_over};
 ghost use Rattle.tg_rights.specs.Promise.Letters.{has, take, grant};
-ghost use Rattle.tg_sharing.specs.Promise.Spans.{AreClosed, Has};
+ghost use Rattle.tg_graph.specs.Promise.EachCommand.{HasOver};
+ghost use Rattle.tg_sharing.specs.Promise.Spans.{AreClosed};
 ghost use Rattle.tg_sharing.specs.Inner.Marking.{AreEdgesClosed, AreGrantClosed, AreMarks, ArePairClosed, AreTakeClosed, Goes, IsFollowed, IsKnown, is_bridged, is_spanned, marked, size};
 
 use crate::marks::{BridgeWay, Marked, Marks, SpanWay};
@@ -38,7 +39,7 @@ pub(crate) fn is_followed(label: Rights, x: Marked, y: Marked, is_own: bool) -> 
 impl Marks {
     /// A terminal span goes on along a take.
     fn taken(&mut self, graph: &Graph, x: u64, y: u64) -> Result<(), AllocError>
-        requires edge { Has graph.now x take y }
+        requires edge { HasOver graph.now x take y }
         requires marks { AreMarks graph.now self.old }
         ensures goes { OnOk result (Goes graph.now self.old self.new) }
         ensures closed { OnOk result (is_spanned self.old x ≡ true → is_spanned self.new y ≡ true) }
@@ -51,7 +52,7 @@ impl Marks {
 
     /// And backwards.
     fn reaching(&mut self, graph: &Graph, x: u64, y: u64) -> Result<(), AllocError>
-        requires edge { Has graph.now x take y }
+        requires edge { HasOver graph.now x take y }
         requires marks { AreMarks graph.now self.old }
         ensures goes { OnOk result (Goes graph.now self.old self.new) }
         ensures closed { OnOk result (is_bridged self.old y ≡ true → is_bridged self.new x ≡ true) }
@@ -64,7 +65,7 @@ impl Marks {
 
     /// A bridge goes on along a grant from the end of a terminal span.
     fn granting(&mut self, graph: &Graph, x: u64, y: u64) -> Result<(), AllocError>
-        requires edge { Has graph.now x grant y }
+        requires edge { HasOver graph.now x grant y }
         requires marks { AreMarks graph.now self.old }
         ensures goes { OnOk result (Goes graph.now self.old self.new) }
         ensures closed { OnOk result (is_spanned self.old x ≡ true → is_bridged self.new y ≡ true) }
@@ -77,7 +78,7 @@ impl Marks {
 
     /// Or to it.
     fn granted(&mut self, graph: &Graph, x: u64, y: u64) -> Result<(), AllocError>
-        requires edge { Has graph.now x grant y }
+        requires edge { HasOver graph.now x grant y }
         requires marks { AreMarks graph.now self.old }
         ensures goes { OnOk result (Goes graph.now self.old self.new) }
         ensures closed { OnOk result (is_spanned self.old y ≡ true → is_bridged self.new x ≡ true) }
@@ -90,7 +91,7 @@ impl Marks {
 
     /// An initial span ends with a grant to the goal's own vertex.
     fn initial(&mut self, graph: &Graph, x: u64, y: u64) -> Result<(), AllocError>
-        requires edge { Has graph.now x grant y }
+        requires edge { HasOver graph.now x grant y }
         ensures goes { OnOk result (Goes graph.now self.old self.new) }
         ensures closed { OnOk result (y ≡ self.old.from → is_bridged self.new x ≡ true) }
     {
@@ -111,7 +112,7 @@ impl Marks {
         requires label { label ≡ rights_over graph.now x y }
         requires marks { AreMarks graph.now self.old }
         ensures goes { OnOk result (Goes graph.now self.old self.new) }
-        ensures closed { OnOk result (size self.old ≡ size self.new → Has graph.now x take y → AreTakeClosed self.old x y) }
+        ensures closed { OnOk result (size self.old ≡ size self.new → HasOver graph.now x take y → AreTakeClosed self.old x y) }
     {
         if label.contains(Rights::take()) {
             self.taken(graph, x, y)?;
@@ -131,7 +132,7 @@ impl Marks {
         requires label { label ≡ rights_over graph.now x y }
         requires marks { AreMarks graph.now self.old }
         ensures goes { OnOk result (Goes graph.now self.old self.new) }
-        ensures closed { OnOk result (size self.old ≡ size self.new → Has graph.now x grant y → AreGrantClosed self.old x y) }
+        ensures closed { OnOk result (size self.old ≡ size self.new → HasOver graph.now x grant y → AreGrantClosed self.old x y) }
     {
         if label.contains(Rights::grant()) {
             self.granting(graph, x, y)?;

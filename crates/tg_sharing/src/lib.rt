@@ -29,7 +29,7 @@ mod sharing;
 pub use lookup::{Listing, every_holder, every_target};
 pub use prospect::{Could, Prospect, what_could, who_could};
 pub use sharing::{Answer, can_share};
-use tg_graph::{allowed_is_met, commands_keep_graphs};
+use tg_graph::{commands_keep_graphs, each_is_allowed_so};
 
 // Laws: each function is a theorem, its contract, and costs nothing when it is called.
 
@@ -37,7 +37,7 @@ use tg_graph::{allowed_is_met, commands_keep_graphs};
 pub fn withheld_for_ever()
     ensures { WithheldForEver }
 {
-    allowed_is_met();
+    each_is_allowed_so();
     commands_keep_graphs();
 }
 

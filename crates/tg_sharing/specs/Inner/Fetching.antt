@@ -9,7 +9,8 @@ use Rattle.tg_graph.specs.Promise.Protection.{Protection}
 use Rattle.tg_sharing.specs.Inner.Growing.{TakesFrom, KeepsAll}
 use Rattle.tg_sharing.specs.Inner.Marking.{AreMarks, WasBridged, is_bridged, is_spanned, span_of}
 use Rattle.tg_sharing.specs.Inner.Paths.{Holds}
-use Rattle.tg_sharing.specs.Promise.Spans.{Has, IsActor}
+use Rattle.tg_graph.specs.Promise.EachCommand.{HasOver}
+use Rattle.tg_sharing.specs.Promise.Spans.{IsActor}
 use Rattle.tg_sharing.specs.declared.builder.Load.{Load}
 use Rattle.tg_sharing.specs.declared.carry.End.{End}
 use Rattle.tg_sharing.specs.declared.marks.Marks.{Marks}
@@ -54,7 +55,7 @@ pub record IsSource (G W : Protection) (m : Marks) (goal : Goal) (α : Letters) 
 -- from here the goal's own vertex can take the load, or be given it
 abbrev pub IsAtEnd : Protection → Marks → ℕ → Bool → Type 0
 IsAtEnd G m at true = (at ≡ m.from) × IsActor G at
-IsAtEnd G m at false = Has G at grant m.from
+IsAtEnd G m at false = HasOver G at grant m.from
 
 -- the load was brought there
 pub record IsBrought (G W : Protection) (m : Marks) (load : Load) (end : End) : Type 0 where

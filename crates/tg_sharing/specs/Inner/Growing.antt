@@ -6,7 +6,8 @@ use Rattle.tg_rights.specs.declared.kind.Kind.TheVariants as kind
 use Rattle.tg_graph.specs.Promise.Derivations.{Derives}
 use Rattle.tg_graph.specs.Promise.Protection.{Protection}
 use Rattle.tg_sharing.specs.Inner.Paths.{Holds}
-use Rattle.tg_sharing.specs.Promise.Spans.{Has, IsActor}
+use Rattle.tg_graph.specs.Promise.EachCommand.{HasOver}
+use Rattle.tg_sharing.specs.Promise.Spans.{IsActor}
 use Rattle.tg_sharing.specs.declared.builder.Derivation.{Derivation}
 
 -- x can take from y, if only because it is y
@@ -19,7 +20,7 @@ Gives G x y = (x ≡ y) ⊎ Holds G x grant_alone y
 
 -- H has all edges and actors that G has
 pub record KeepsAll (G H : Protection) : Type 0 where
-  pub rights : (x : ℕ) (r : Right) (y : ℕ) → Has G x r y → Has H x r y
+  pub rights : (x : ℕ) (r : Right) (y : ℕ) → HasOver G x r y → HasOver H x r y
   pub actors : (v : ℕ) → IsActor G v → IsActor H v
   pub next : G.next ≤ H.next
 

@@ -4,7 +4,8 @@ use Rattle.std.specs.Option.{is_some}
 use Rattle.std.specs.HashMap as hash
 use Rattle.tg_rights.specs.Promise.Letters.{Letters, has, take, grant}
 use Rattle.tg_graph.specs.Promise.Protection.{Protection, IsEdge}
-use Rattle.tg_sharing.specs.Promise.Spans.{Has, IsActor}
+use Rattle.tg_graph.specs.Promise.EachCommand.{HasOver}
+use Rattle.tg_sharing.specs.Promise.Spans.{IsActor}
 use Rattle.tg_sharing.specs.Inner.Paths.{TakePath, path_end}
 use Rattle.tg_sharing.specs.declared.marks.Span.{Span}
 use Rattle.tg_sharing.specs.declared.follow.Known.{Known}
@@ -46,15 +47,15 @@ WasBridged m v rank = (b : Bridge) × (bridge_of m v ≡ Some b) × (b.rank < ra
 -- the way in which v is spanned, by a mark of this rank, is one
 abbrev pub IsSpan : Protection → Marks → ℕ → ℕ → SpanWay → Type 0
 IsSpan G m v rank span.Itself = IsActor G v × WasBridged m v rank
-IsSpan G m v rank (span.Taken u) = Has G u take v × WasSpanned m u rank
+IsSpan G m v rank (span.Taken u) = HasOver G u take v × WasSpanned m u rank
 
 -- the way in which v is bridged, by a mark of this rank, is one
 abbrev pub IsBridge : Protection → Marks → ℕ → ℕ → BridgeWay → Type 0
 IsBridge G m v rank bridge.Own = (v ≡ m.from) × IsActor G v
-IsBridge G m v rank bridge.Initial = Has G v grant m.from
-IsBridge G m v rank (bridge.Granting u) = Has G u grant v × WasSpanned m u rank
-IsBridge G m v rank (bridge.Granted w) = Has G v grant w × WasSpanned m w rank
-IsBridge G m v rank (bridge.Reaching n) = Has G v take n × WasBridged m n rank
+IsBridge G m v rank bridge.Initial = HasOver G v grant m.from
+IsBridge G m v rank (bridge.Granting u) = HasOver G u grant v × WasSpanned m u rank
+IsBridge G m v rank (bridge.Granted w) = HasOver G v grant w × WasSpanned m w rank
+IsBridge G m v rank (bridge.Reaching n) = HasOver G v take n × WasBridged m n rank
 IsBridge G m v rank bridge.Spanned = IsActor G v × WasSpanned m v rank
 
 -- each mark is set for a reason
@@ -110,8 +111,8 @@ pub record AreGrantClosed (m : Marks) (x y : ℕ) : Type 0 where
   pub initial : y ≡ m.from → is_bridged m x ≡ true
 
 pub record ArePairClosed (G : Protection) (m : Marks) (x y : ℕ) : Type 0 where
-  pub take : Has G x take y → AreTakeClosed m x y
-  pub grant : Has G x grant y → AreGrantClosed m x y
+  pub take : HasOver G x take y → AreTakeClosed m x y
+  pub grant : HasOver G x grant y → AreGrantClosed m x y
 
 -- these are the marks of this vertex
 abbrev pub IsKnown : Marks → Known → Type 0

@@ -8,7 +8,7 @@ use Rattle.tg_graph.specs.declared.derivation.Step.{Step}
 use Rattle.tg_graph.specs.Promise.Rules.{last_serial}
 use Rattle.tg_graph.specs.Promise.Protection.{Protection, IsEdge, IsVertex, label}
 use Rattle.tg_sharing.specs.Promise.Fetching.{alone}
-use Rattle.tg_sharing.specs.Promise.Spans.{Has}
+use Rattle.tg_graph.specs.Promise.EachCommand.{HasOver}
 use Rattle.tg_sharing.specs.declared.prospect.Could.{Could}
 use Rattle.tg_sharing.specs.declared.prospect.Could.TheVariants as could
 use Rattle.tg_sharing.specs.declared.prospect.Prospect.{Prospect}
@@ -22,7 +22,7 @@ pub record IsProspect (G : Protection) (from : ℕ) (p : Prospect) : Type 0 wher
   pub reached : Protection
   pub derived : Derives G p.steps.items reached
   pub labels : AreLabelsOf G reached from p.labels.items
-  pub whole : (y : ℕ) (r : Right) → IsVertex G y → y ≢ from → (Has reached from r y → ⊥) → CanShare G (record { from = from; to = y; rights = alone r }) → ⊥
+  pub whole : (y : ℕ) (r : Right) → IsVertex G y → y ≢ from → (HasOver reached from r y → ⊥) → CanShare G (record { from = from; to = y; rights = alone r }) → ⊥
 
 -- more steps than so many can be carried out, or steps after which no serial is left
 abbrev pub IsTooMuch : Protection → ℕ → Type 0
