@@ -1,5 +1,5 @@
 -- The logs of seats that no entry has.
-use Rattle.std.proofs.Common.{◌≡◌, ◌≢◌, ℕ, zero, suc, ◌<◌, ◌≤◌, List, [], ◌∷◌, ◌++◌, length, take, refl, sym, ap, ◌∙◌, arith, nat_eq, Bool, true, false, slice_get, Option, Some, None, if◌then◌else◌, append_assoc}
+use Rattle.std.proofs.Common.{◌≡◌, ◌≢◌, ℕ, zero, suc, ◌<◌, ◌≤◌, List, [], ◌∷◌, ◌++◌, take, refl, sym, ap, ◌∙◌, arith, nat_eq, Bool, true, false, slice_get, Option, Some, None, if◌then◌else◌, append_assoc}
 use Rattle.std.proofs.lemmas.Option.{none-some, same_Some}
 use Rattle.std.proofs.lemmas.Bool.Decides.{nat_tests}
 use Rattle.tg_rights.specs.declared.limits.TheConstants.{SEATS}
@@ -25,10 +25,6 @@ joined_same k (l ∷ before) log is = behind (nat_eq l.seat k) l.exchanges.items
 joined_other : (k : ℕ) (before : List SeatLog) (log : SeatLog) → log.seat ≢ k → joined_logs k (before ++ log ∷ []) ≡ joined_logs k before ++ []
 joined_other k [] log other = let test : nat_eq log.seat k ≡ false = grind (arith, nat_tests) in rw test refl
 joined_other k (l ∷ before) log other = behind (nat_eq l.seat k) l.exchanges.items (joined_logs k before) [] (joined_logs k (before ++ log ∷ [])) (joined_other k before log other)
-
-pub no_items : {X : Type 0} (xs : List X) → length xs ≡ 0 → xs ≡ []
-no_items [] e = refl
-no_items (x ∷ xs) e = absurd (omega arith)
 
 append_end : {X : Type 0} (xs : List X) → xs ++ [] ≡ xs
 append_end [] = refl

@@ -29,8 +29,7 @@ module _ (limits : Limits) (G H K : Protection) (x : ℕ) (h : HasRightsOf H G) 
       let C : Command → Type 0 = λ d. ((L : Protection) → HasRightsOf L (next_graph G x d outcome.Allowed) → Onward L K rest) →
       Onward H K (cons_option (rewriting_step (record { actor = x; command = d })) rest) in
       subst C (sym (retired_leaves G x c gone permitted.0)) (λ on. on H h) onward
-  entry_onward c (outcome.Denied rule why) asks permitted onward = onward H h
-  entry_onward c (outcome.Full which) asks permitted onward = onward H h
+  entry_onward c _ asks permitted onward = onward H h
 
 run_onward : (limits : Limits) (earlier : List Entry) (G H K : Protection) (es : List Entry) → IsLawful earlier G → EntryRun limits earlier G es K → HasRightsOf H G →
     Onward H K (derivation_of es)

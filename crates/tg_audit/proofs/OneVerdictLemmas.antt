@@ -2,7 +2,7 @@
 use Rattle.std.proofs.Common.{◌≡◌, ℕ, zero, suc, ◌<◌, ◌≤◌, List, [], ◌∷◌, length, take, refl, sym, ap, ◌∙◌, subst, arith, Bool, true, false, cond, slice_get, Option, Some, None}
 use Rattle.std.proofs.lemmas.List.{take_all}
 use Rattle.std.proofs.lemmas.Option.{none-some, same_Some, slice_get_within, slice_get_cases}
-use Rattle.std.proofs.lemmas.Bool.{cases_lt, false≢true}
+use Rattle.std.proofs.lemmas.Bool.{cases_lt, false_from_ne_true, false≢true}
 use Rattle.std.proofs.Math.Nat.{eq-or-lt_of_le}
 use Rattle.std.proofs.Math.Logic.{◌⊎◌, inl, inr}
 use Rattle.tg_rights.specs.Promise.Command.{rule_of}
@@ -110,10 +110,6 @@ weighed_is : (H : Protection) (goal : Goal) (met : Bool) → is_met H goal ≡ m
 weighed_is H goal true is = record { reached = H; derived = refl; shared = is }
 weighed_is H goal false is = record { reached = H; derived = refl; unmet = λ met. false≢true (sym is ∙ met); rights = refl }
 
-unmet_false : (b : Bool) → (b ≡ true → ⊥) → b ≡ false
-unmet_false true unmet = absurd (unmet refl)
-unmet_false false unmet = refl
-
 is_weighed : (H : Protection) (goal : Goal) (v : Verdict) → IsVerdict H [] goal v → v ≡ weighed H goal (is_met H goal)
 is_weighed H goal verdict.Shared is =
     let M : Protection → Type 0 = λ F. is_met F goal ≡ true in
@@ -121,10 +117,8 @@ is_weighed H goal verdict.Shared is =
 is_weighed H goal (verdict.GoalMissing rights) is =
     let M : Protection → Type 0 = λ F. (is_met F goal ≡ true → ⊥) × (rights ≡ without goal.rights (label F goal.from goal.to)) in
     let here : M H = subst M is.derived (is.unmet, is.rights) in
-    ap verdict.GoalMissing here.1 ∙ sym (ap (weighed H goal) (unmet_false (is_met H goal) here.0))
-is_weighed H goal (verdict.ActorNotSubject index) is = absurd (none-some is.step is.at)
-is_weighed H goal (verdict.StepDenied index rule cause) is = absurd (none-some is.step is.at)
-is_weighed H goal (verdict.StepFull index) is = absurd (none-some is.step is.at)
+    ap verdict.GoalMissing here.1 ∙ sym (ap (weighed H goal) (false_from_ne_true (is_met H goal) here.0))
+is_weighed H goal _ is = absurd (none-some is.step is.at)
 
 -- a derivation of all steps has no step that stops
 whole_stops : (G : Protection) (steps : List Step) (H : Protection) (n : ℕ) (why : Stop) → Derives G steps H → StopsAt G steps n (λ K s. StopsBy K s why) → ⊥

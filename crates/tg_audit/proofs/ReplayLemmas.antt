@@ -25,23 +25,19 @@ use Rattle.tg_audit.proofs.FollowingLemmas.{drop_some}
 
 -- what the plain graph decides, if it can, is what a history permits
 decided_as_permitted : (limits : Limits) (G : Protection) (x : ℕ) (c : Command) (o p : Outcome) → Permitted limits G x c o → beyond o ≡ None → PlainlyDecided G x c p → p ≡ o
+decided_as_permitted limits G x c o (outcome.Full which.Slots) permitted plain decided = absurd decided
+decided_as_permitted limits G x c o (outcome.Full which.Cells) permitted plain decided = absurd decided
 decided_as_permitted limits G x c outcome.Allowed outcome.Allowed permitted plain decided = refl
 decided_as_permitted limits G x c outcome.Allowed (outcome.Denied rule why) permitted plain decided = absurd (none-some why (sym permitted.0 ∙ decided.1))
 decided_as_permitted limits G x c outcome.Allowed (outcome.Full which.Serials) permitted plain decided = absurd (let room = permitted.1 decided.1 in omega arith)
-decided_as_permitted limits G x c outcome.Allowed (outcome.Full which.Slots) permitted plain decided = absurd decided
-decided_as_permitted limits G x c outcome.Allowed (outcome.Full which.Cells) permitted plain decided = absurd decided
 decided_as_permitted limits G x c (outcome.Denied rule why) outcome.Allowed permitted plain decided = absurd (none-some why (sym decided.0 ∙ permitted.1))
 decided_as_permitted limits G x c (outcome.Denied rule why) (outcome.Denied other cause) permitted plain decided = λ i. outcome.Denied ((decided.0 ∙ sym permitted.0) i) (same_Some cause why (sym decided.1 ∙ permitted.1) i)
 decided_as_permitted limits G x c (outcome.Denied rule why) (outcome.Full which.Serials) permitted plain decided = absurd (none-some why (sym decided.0 ∙ permitted.1))
-decided_as_permitted limits G x c (outcome.Denied rule why) (outcome.Full which.Slots) permitted plain decided = absurd decided
-decided_as_permitted limits G x c (outcome.Denied rule why) (outcome.Full which.Cells) permitted plain decided = absurd decided
 decided_as_permitted limits G x c (outcome.Full which.Slots) p permitted plain decided = absurd (none-some which.Slots (sym plain))
 decided_as_permitted limits G x c (outcome.Full which.Cells) p permitted plain decided = absurd (none-some which.Cells (sym plain))
 decided_as_permitted limits G x c (outcome.Full which.Serials) outcome.Allowed permitted plain decided = absurd (let room = decided.1 permitted.1.0 in let none = permitted.1.1 in omega arith)
 decided_as_permitted limits G x c (outcome.Full which.Serials) (outcome.Denied rule why) permitted plain decided = absurd (none-some why (sym permitted.0 ∙ decided.1))
 decided_as_permitted limits G x c (outcome.Full which.Serials) (outcome.Full which.Serials) permitted plain decided = refl
-decided_as_permitted limits G x c (outcome.Full which.Serials) (outcome.Full which.Slots) permitted plain decided = absurd decided
-decided_as_permitted limits G x c (outcome.Full which.Serials) (outcome.Full which.Cells) permitted plain decided = absurd decided
 
 -- so its reply and the graph that it leaves are those of the outcome
 pub reply_permitted : (limits : Limits) (G H : Protection) (x : ℕ) (c d : Command) (o : Outcome) (answer : Reply) → Permitted limits G x c o → beyond o ≡ None → d ≡ c → Applies G x d answer H → answer ≡ reply_of G x c o
@@ -62,14 +58,12 @@ module _ (limits : Limits) (G : Protection) (x : ℕ) (retired : has_retired G x
   leave_settled : (o : Outcome) → Permitted limits G x command.Leave o → Settles command.Leave o reply.Done
   leave_settled outcome.Allowed permitted = (refl, refl)
   leave_settled (outcome.Denied rule why) permitted = absurd (none-some why (sym (leave_allowed G x command.Leave refl) ∙ permitted.1))
-  leave_settled (outcome.Full which.Serials) permitted = absurd (cc permitted.1.0)
-  leave_settled (outcome.Full which.Slots) permitted = absurd (cc permitted.1.0)
   leave_settled (outcome.Full which.Cells) permitted = absurd permitted.1.0
+  leave_settled _ permitted = absurd (cc permitted.1.0)
 
   denial_settled : (c : Command) (o : Outcome) → Permitted limits G x c o → denial G x c ≡ Some cause.Retired → Settles c o (reply.Denied (rule_of c) cause.Retired)
-  denial_settled c outcome.Allowed permitted denied = absurd (none-some cause.Retired (sym permitted.0 ∙ denied))
   denial_settled c (outcome.Denied rule why) permitted denied = (λ i. reply.Denied ((sym permitted.0) i) (same_Some cause.Retired why (sym denied ∙ permitted.1) i), refl)
-  denial_settled c (outcome.Full which) permitted denied = absurd (none-some cause.Retired (sym permitted.0 ∙ denied))
+  denial_settled c _ permitted denied = absurd (none-some cause.Retired (sym permitted.0 ∙ denied))
 
   pub retired_settled : (c : Command) (o : Outcome) → Permitted limits G x c o → Settles c o (retired_reply x c)
   retired_settled c o permitted = by (is_for_retired x c) refl where

@@ -24,8 +24,7 @@ derives_more G (t ∷ steps) (suc n) s H K at derived step = (derived.0, derived
 -- a step that stops determines the verdict
 pub stop_verdict : (G : Protection) (steps : List Step) (goal : Goal) (n : ℕ) (s : Step) (H : Protection) (why : Stop) → Derives G (take n steps) H → slice_get steps n ≡ Some s → StopsBy H s why → IsVerdict G steps goal (verdict_at n why)
 stop_verdict G steps goal n s H stop.NoSubject derived at stops = record { reached = H; step = s; derived = derived; at = at; why = stops }
-stop_verdict G steps goal n s H (stop.Denied rule cause) derived at stops = record { reached = H; step = s; derived = derived; at = at; why = stops }
-stop_verdict G steps goal n s H stop.NoSerial derived at stops = record { reached = H; step = s; derived = derived; at = at; why = stops }
+stop_verdict G steps goal n s H _ derived at stops = record { reached = H; step = s; derived = derived; at = at; why = stops }
 
 -- the verdict on no steps, after steps that are carried out
 pub end_verdict : (G : Protection) (steps : List Step) (goal : Goal) (H : Protection) (v : Verdict) → Derives G steps H → IsVerdict H [] goal v → IsVerdict G steps goal v
@@ -34,9 +33,7 @@ end_verdict G steps goal H (verdict.GoalMissing rights) derived is =
     let L : Protection → Type 0 = λ F. (IsShared F goal → ⊥) × (rights ≡ without goal.rights (label F goal.from goal.to)) in
     let here : L H = subst L is.derived (is.unmet, is.rights) in
     record { reached = H; derived = derived; unmet = here.0; rights = here.1 }
-end_verdict G steps goal H (verdict.ActorNotSubject index) derived is = absurd (none-some is.step is.at)
-end_verdict G steps goal H (verdict.StepDenied index rule cause) derived is = absurd (none-some is.step is.at)
-end_verdict G steps goal H (verdict.StepFull index) derived is = absurd (none-some is.step is.at)
+end_verdict G steps goal H _ derived is = absurd (none-some is.step is.at)
 
 pub can_share : (G : Protection) (steps : List Step) (goal : Goal) (v : Verdict) → IsVerdict G steps goal v → v ≡ verdict.Shared → CanShare G goal
 can_share G steps goal v is shared =

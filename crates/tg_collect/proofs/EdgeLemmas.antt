@@ -1,6 +1,6 @@
 -- A held slot gets other edges, or another text.
 use Rattle.std.proofs.Common.{◌≡◌, ◌≢◌, ℕ, ◌<◌, List, [], ◌∷◌, ◌++◌, length, append_assoc, Option, Some, None, ◌⊎◌, inl, inr, cond, eq-eqb, sym, ◌∙◌, subst, ap, refl, set, get_or-set_same, get_or-set_other, ◌≤◌, arith, append-nil}
-use Rattle.tg_collect.proofs.Common.{trims_stage, HasRoot, bare, cases_eq, Contains, Distinct, Edge, first_cell, HeapGraph, edges, remaining, Progress, Marking, progress_in, CursorFits, Letters, Found, IsHeap, Spot, Body, as_kept, slot_serial, spot_serial, put, put_each, at_within, Machine, lists_of, body, AtRest, progress_of, Whole, Stored, stored, kept_from, held, ne_eqb, cells, passed, split_whole, remaining_split, Trims, elsewhere, ahead, DropsEdge, PutsEdge, IsTarget, Invariant, puts_keeps, drops_keeps, left_puts, left_drops, is_at, progress_without, place, relabelled, body_of, held_keeps, left, shown_body, Idle, Sweeping}
+use Rattle.tg_collect.proofs.Common.{trims_stage, HasRoot, bare, cases_eq, Contains, Distinct, Edge, first_cell, HeapGraph, edges, remaining, Progress, Marking, progress_in, CursorFits, Letters, Found, IsHeap, Spot, Body, as_kept, slot_serial, spot_serial, put, put_each, at_within, Machine, lists_of, body, AtRest, progress_of, Whole, Stored, stored, kept_from, held, ne_eqb, cells, passed, split_whole, remaining_split, Trims, elsewhere, ahead, DropsEdge, PutsEdge, IsTarget, Invariant, puts_keeps, drops_keeps, left_puts, left_drops, is_at, progress_without, place, relabelled, body_of, held_keeps, left, shown_body}
 use Rattle.tg_collect.proofs.SlotLemmas.{put_list}
 use Rattle.tg_collect.proofs.ShownLemmas.{held_set, place_kept}
 use Rattle.tg_collect.proofs.StoreLemmas.{Holds, owner, owner_is, owner_within}
@@ -73,9 +73,7 @@ module _ (h : HeapGraph) (i k : ℕ) (within : i < length h.lists) where
     | inl here ↦ rw (here, eq-eqb i i refl, get_or-set_same h.lists i (before ++ (news ++ after)) [] within, was) (goes_on i before e news after (rw was at once) once' s.cursor (rw (here, was) at f))
     | inr other ↦ rw (ne_eqb s.slot i other, get_or-set_other h.lists i s.slot (before ++ (news ++ after)) [] other) (elsewhere (progress_in h (Marking (Some s))) (λ t is q. grind arith), f)
   ]
-  trims before e news after Idle was once once' f = (elsewhere _ (λ t is. absurd (cc)), tt)
-  trims before e news after (Marking None) was once once' f = (elsewhere _ (λ t is. absurd (cc)), tt)
-  trims before e news after (Sweeping j) was once once' f = (elsewhere _ (λ t is. absurd (cc)), tt)
+  trims before e news after _ was once once' f = (elsewhere _ (λ t is. absurd (cc)), tt)
 
 -- A cursor at an edge whose label changes stays.
 pub without_same : (p : Progress) (i c : ℕ) → progress_without p i c (Some c) ≡ p

@@ -1,6 +1,6 @@
 -- Lists that are gathered number by number, and then sorted.
 use Rattle.std.proofs.Common.{◌≡◌, ◌≢◌, ℕ, zero, suc, ◌<◌, ◌≤◌, List, [], ◌∷◌, ◌++◌, length, Option, Some, None, inl, inr, Bool, true, false, refl, sym, ◌∙◌, subst, ap, arith, get_or, map}
-use Rattle.tg_collect.proofs.Common.{get_or-map, length-map, apart_from_distinct, at_within, cases_eq, Contains, contains_append, contains_left, contains_right, Distinct, eq_by_cmp, eq_by_cmp_equiv, Equal, Greater, is_eq, is_lt, IsDistinct-IsPermutation, IsPermutation, IsPermutation-sym, IsSortedBy, IsSortedByKey, IsStore, IsTotalOrder, Less, Machine, MatchOrdering, spot_serial, nat_cmp, nat_cmp_total, on_total, option_to_list, Ordering, ordering_reverse, permuted, placed, ranks, ranks_by, recursion_from_All, Rises, rises_append, serial_tied, sorted_far, stored, untrue}
+use Rattle.tg_collect.proofs.Common.{get_or-map, length-map, apart_from_distinct, at_within, cases_eq, Contains, contains_append, contains_left, contains_right, Distinct, eq_by_cmp, eq_by_cmp_equiv, is_eq, is_lt, IsDistinct-IsPermutation, IsPermutation, IsPermutation-sym, IsSortedBy, IsSortedByKey, IsStore, IsTotalOrder, Less, Machine, MatchOrdering, spot_serial, nat_cmp, nat_cmp_total, on_total, option_to_list, Ordering, ordering_reverse, permuted, placed, ranks, ranks_by, recursion_from_All, Rises, rises_append, serial_tied, sorted_far, stored, untrue}
 use Rattle.std.specs.List.{IsDistinct}
 use Rattle.tg_collect.proofs.SlotLemmas.{at_index, zip_size}
 use Rattle.tg_collect.specs.Inner.Parts.{AreFound}
@@ -67,8 +67,7 @@ alone before (Some x) = (λ y h. absurd h, tt)
 -- Neither equal nor the later of two.
 less : (o : Ordering) → is_eq o ≡ false → is_lt (ordering_reverse o) ≡ false → o ≡ Less
 less Less apart up = refl
-less Equal apart up = absurd (cc)
-less Greater apart up = absurd (cc)
+less _ apart up = absurd (cc)
 
 -- What the slots of a store give, each with the serial of its slot, sorted by an order of which no two are equal.
 module _ (m : Machine) (s : IsStore (stored m)) where

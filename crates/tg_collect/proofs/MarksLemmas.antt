@@ -4,15 +4,14 @@ use Rattle.std.proofs.lemmas.Bool.{cases_eq}
 use Rattle.tg_slots.specs.Promise.Table as table
 use Rattle.tg_marking.specs.Promise.Values.{Contains}
 use Rattle.tg_collect.specs.declared.note.Phase.{Phase}
-use Rattle.tg_collect.specs.declared.note.Phase.TheVariants.{Idle, Mark, Sweep}
+use Rattle.tg_collect.specs.declared.note.Phase.TheVariants.{Idle}
 use Rattle.tg_collect.specs.Promise.Stored.{RootLists}
 use Rattle.tg_collect.specs.Promise.Readings.{mark_in, phase}
 use Rattle.tg_collect.specs.Promise.Views.{OneMarkAStep, most_marks}
 
 one : (rs : RootLists) (p : Phase) → p ≢ Idle → most_marks rs p ≡ 1
 one rs Idle other = absurd (other refl)
-one rs Mark other = refl
-one rs Sweep other = refl
+one rs _ other = refl
 
 -- what changes is the one element of the list outside of which nothing does
 only : (before after : ℕ → table.Mark) (slots : List ℕ) (i : ℕ) → length slots ≤ 1 → ((k : ℕ) → (Contains slots k → ⊥) → after k ≡ before k) → after i ≢ before i → (s : ℕ) × (slots ≡ s ∷ []) × (i ≡ s)

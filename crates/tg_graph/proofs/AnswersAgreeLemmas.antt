@@ -27,12 +27,9 @@ module _ (G H : Protection) (x : ℕ) (in_G : IsGraph G) (in_H : IsGraph H) (own
   same : (a b : Reply) → a ≡ b → SameReply a b
   same a b e = subst (SameReply a) e (itself a) where
     itself : (a : Reply) → SameReply a a
-    itself reply.Done = refl
     itself (reply.Created n) = tt
-    itself (reply.Text t) = refl
-    itself (reply.Edges es) = refl
-    itself (reply.Denied rule why) = refl
     itself (reply.Full w) = tt
+    itself _ = refl
 
   replied : (e : Does) → Entitled G (Reaches G x) (reaches_on G x) x (itself G H x own) e → SameReply (answered G e) (answered H e)
   replied (effect.Makes k α name) h = tt

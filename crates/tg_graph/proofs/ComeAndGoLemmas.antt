@@ -5,7 +5,7 @@ use Rattle.std.specs.Cmp.{nat_cmp_total, unsigned_tied}
 use Rattle.std.specs.FinSet as set
 use Rattle.std.proofs.lemmas.Bool.{eqb-true, eq-eqb, not-true, or_cases, or_left, or_right}
 use Rattle.tg_lists.specs.Promise.Membership.{Contains, Distinct}
-use Rattle.tg_lists.proofs.MembershipLemmas.{contains_append, contains_left, contains_right}
+use Rattle.tg_lists.proofs.MembershipLemmas.{contains_append, contains_left, contains_map, contains_right}
 use Rattle.tg_rights.specs.Promise.Command.{rule_of}
 use Rattle.tg_rights.specs.declared.command.Command.{Command}
 use Rattle.tg_rights.specs.declared.command.Command.TheVariants as command
@@ -16,7 +16,7 @@ use Rattle.tg_graph.specs.Promise.Laws.{ComeAndGo}
 use Rattle.tg_graph.specs.Promise.Protection.{same_name, serial_of, Protection, IsGraph, vertex}
 use Rattle.tg_graph.specs.Promise.Rules.{after, with_text}
 use Rattle.tg_graph.proofs.PartsStayLemmas.{with_text-retired}
-use Rattle.tg_graph.proofs.RollLemmas.{contains_filter, filter_contains, is-same_name, names_contain, same_name-is, untrue}
+use Rattle.tg_graph.proofs.RollLemmas.{contains_filter, filter_contains, is-same_name, same_name-is, untrue}
 
 finds : (ms : List Member) (name : List ℕ) (v : ℕ) → serial_of ms name ≡ Some v → Contains ms (record { name = name; serial = v })
 finds [] name v e = absurd (cc e)
@@ -32,7 +32,7 @@ is_found (m ∷ ms) name v d (inl is) =
     ap (λ b. cond b (Some m.serial) (serial_of ms name)) (is-same_name m.name name (ap (λ (m : Member). m.name) (sym is))) ∙ ap (λ (m : Member). Some m.serial) (sym is)
 is_found (m ∷ ms) name v d (inr h) =
     ap (λ b. cond b (Some m.serial) (serial_of ms name))
-    (untrue (same_name m.name name) (λ e. d.0 (subst (Contains (map (λ m. m.name) ms)) (sym (same_name-is m.name name e)) (names_contain ms (record { name = name; serial = v }) h))))
+    (untrue (same_name m.name name) (λ e. d.0 (subst (Contains (map (λ m. m.name) ms)) (sym (same_name-is m.name name e)) (contains_map (λ (m : Member). m.name) ms (record { name = name; serial = v }) h))))
     ∙ is_found ms name v d.1 h
 
 with_text-names : (G : Protection) (y : ℕ) (text : List ℕ) (o : Option Vertex) → (with_text G y text o).names ≡ G.names

@@ -27,13 +27,9 @@ use Rattle.tg_graph.specs.Promise.Opening.{ListedEdge}
 use Rattle.tg_graph.specs.Promise.Parts.{Before, Rises}
 use Rattle.tg_graph.specs.Inner.Parts.{members_of}
 use Rattle.tg_graph.proofs.RollLemmas.{untrue}
+pub use Rattle.tg_graph.proofs.RollLemmas.{mapped}
 use Rattle.tg_graph.specs.Promise.Views.{pair_cmp}
 use Rattle.tg_graph.proofs.ViewsLemmas.{pair_tied}
-
-pub mapped : {X Y : Type 0} (f : X → Y) (xs : List X) (y : Y) → Contains (map f xs) y → (x : X) × Contains xs x × (y ≡ f x)
-mapped f [] y h = absurd h
-mapped f (x ∷ xs) y (inl is) = (x, inl refl, is)
-mapped f (x ∷ xs) y (inr h) = let rest = mapped f xs y h in (rest.0, inr rest.1, rest.2)
 
 -- lists in order, one after the other, and with each element changed
 pub rises_append : {X : Type 0} (before : X → X → Type 0) (xs ys : List X) → Rises before xs → Rises before ys → ((x y : X) → Contains xs x → Contains ys y → before x y) → Rises before (xs ++ ys)

@@ -7,7 +7,7 @@ use Rattle.std.specs.Cmp.{nat_cmp_total, unsigned_tied}
 use Rattle.std.specs.FinMap as map
 use Rattle.std.specs.FinSet as set
 use Rattle.std.proofs.lemmas.Bool.{eqb-true, eq-eqb, and_parts, false_from_ne_true, ne_eqb, or_cases, or_left, or_right}
-use Rattle.tg_rights.specs.Promise.Letters.{Letters, Right, read, write, take, grant, none, rights_where, joined, without, is_none}
+use Rattle.tg_rights.specs.Promise.Letters.{Letters, Right, none, rights_where, joined, without, is_none}
 use Rattle.tg_rights.specs.declared.kind.Kind.{Kind}
 use Rattle.tg_rights.specs.declared.kind.Kind.TheVariants as kind
 use Rattle.tg_rights.specs.declared.command.Command.{Command}
@@ -137,7 +137,7 @@ module _ (G H : Protection) (Known : ℕ → Type 0) (alike : Alike G H Known) w
 -- a vertex that is not there has no rights
 pub no_edge_from : (G : Protection) (z : ℕ) → IsGraph G → label G G.next z ≡ none
 unfolding label
-no_edge_from G z g = λ i. record { read = absent read i; write = absent write i; take = absent take i; grant = absent grant i } where
+no_edge_from G z g = λ i. rights_where (λ r. absent r i) where
   absent : (r : Right) → set.contains G.triples (record { from = G.next; right = r; to = z }) ≡ false
   absent r = false_from_ne_true _ (λ e. let l : G.next < G.next = g.below_next G.next (g.from_vertex (record { from = G.next; right = r; to = z }) e) in absurd (omega arith))
 
@@ -313,11 +313,6 @@ module _ (G H : Protection) (part : IsPart G H) where
       part_of (after G x c) (after H x c) (known_after G H (IsVertex H) part_alike x x_there x_in in_G (terms x c).does) (alike_after G H (IsVertex H) part_alike x x_there x_in in_G c in_H next a)
       (into G H part_alike x x_there x_in in_G next (terms x c).does) (out G H part_alike x x_there x_in in_G next (terms x c).does) (retired_left (terms x c).does) where
         retired_left : (e : Does) → (done G x e).retired ≡ (done H x e).retired
-        retired_left (effect.Joins from α to) = part.retired
-        retired_left (effect.Makes k α name) = part.retired
-        retired_left (effect.Drops α over) = part.retired
         retired_left (effect.Rewrites over text) = with_text-retired G over text (vertex G over) ∙ part.retired ∙ sym (with_text-retired H over text (vertex H over))
-        retired_left (effect.Tells over) = part.retired
-        retired_left (effect.Lists at) = part.retired
         retired_left effect.Retires = ap (λ rs. set.insert rs x) part.retired
-        retired_left (effect.Acts agent) = part.retired
+        retired_left _ = part.retired

@@ -10,7 +10,7 @@ use Rattle.std.specs.FinMap as map
 use Rattle.std.specs.FinSet as set
 use Rattle.std.proofs.lemmas.Bool.{eqb-true, eq-eqb, leb-false, lt-leb, or_cases, or_left, or_right, not-true}
 use Rattle.tg_lists.specs.Promise.Membership.{Contains, Distinct}
-use Rattle.tg_lists.proofs.MembershipLemmas.{contains_append}
+use Rattle.tg_lists.proofs.MembershipLemmas.{contains_append, contains_map}
 use Rattle.tg_rights.specs.declared.kind.Kind.{Kind}
 use Rattle.tg_rights.specs.declared.kind.Kind.TheVariants as kind
 use Rattle.tg_rights.specs.declared.limits.TheConstants.{MAX_PRINCIPALS}
@@ -87,23 +87,18 @@ rise_filter p (m ∷ ms) r =
       | false ↦ rise_filter p ms r.1
     ]
 
-contains_names : (ms : List Member) (name : List ℕ) → Contains (map (λ m. m.name) ms) name → (m : Member) × Contains ms m × (name ≡ m.name)
-contains_names [] name h = absurd h
-contains_names (m ∷ ms) name (inl is) = (m, inl refl, is)
-contains_names (m ∷ ms) name (inr h) = let rest = contains_names ms name h in (rest.0, inr rest.1, rest.2)
-
-pub names_contain : (ms : List Member) (m : Member) → Contains ms m → Contains (map (λ m. m.name) ms) m.name
-names_contain [] m h = absurd h
-names_contain (n ∷ ms) m (inl is) = inl (ap (λ (m : Member). m.name) is)
-names_contain (n ∷ ms) m (inr h) = inr (names_contain ms m h)
+pub mapped : {X Y : Type 0} (f : X → Y) (xs : List X) (y : Y) → Contains (map f xs) y → (x : X) × Contains xs x × (y ≡ f x)
+mapped f [] y h = absurd h
+mapped f (x ∷ xs) y (inl is) = (x, inl refl, is)
+mapped f (x ∷ xs) y (inr h) = let rest = mapped f xs y h in (rest.0, inr rest.1, rest.2)
 
 apart_filter : (p : Member → Bool) (ms : List Member) → Distinct (map (λ m. m.name) ms) → Distinct (map (λ m. m.name) (filter p ms))
 apart_filter p [] d = tt
 apart_filter p (m ∷ ms) d =
     elim (p m) as (λ b. Distinct (map (λ m. m.name) (cond b (m ∷ filter p ms) (filter p ms)))) [
       | true ↦ (
-        λ h. let found = contains_names (filter p ms) m.name h in
-            d.0 (subst (Contains (map (λ m. m.name) ms)) (sym found.2) (names_contain ms found.0 (contains_filter p ms found.0 found.1).0)),
+        λ h. let found = mapped (λ (m : Member). m.name) (filter p ms) m.name h in
+            d.0 (subst (Contains (map (λ m. m.name) ms)) (sym found.2) (contains_map (λ (m : Member). m.name) ms found.0 (contains_filter p ms found.0 found.1).0)),
         apart_filter p ms d.1,
       )
       | false ↦ apart_filter p ms d.1
@@ -129,9 +124,9 @@ rise_push (k ∷ ms) m r below = (
 apart_push : (ms : List Member) (m : Member) → Distinct (map (λ m. m.name) ms) → ((n : Member) → Contains ms n → n.name ≢ m.name) → Distinct (map (λ m. m.name) (ms ++ m ∷ []))
 apart_push [] m d other = (λ h. absurd h, tt)
 apart_push (k ∷ ms) m d other = (
-  λ h. let found = contains_names (ms ++ m ∷ []) k.name h in
+  λ h. let found = mapped (λ (m : Member). m.name) (ms ++ m ∷ []) k.name h in
       elim (contains_append ms (m ∷ []) found.0 found.1) [
-        | inl old ↦ d.0 (subst (Contains (map (λ m. m.name) ms)) (sym found.2) (names_contain ms found.0 old))
+        | inl old ↦ d.0 (subst (Contains (map (λ m. m.name) ms)) (sym found.2) (contains_map (λ (m : Member). m.name) ms found.0 old))
         | inr last ↦ elim last [ inl is ↦ other k (inl refl) (found.2 ∙ ap (λ (m : Member). m.name) is) | inr never ↦ absurd never ]
       ],
   apart_push ms m d.1 (λ n h. other n (inr h)),

@@ -14,16 +14,10 @@ turned (Edges edges) b is = subst (λ b. SameReply b (Edges edges)) is refl
 turned (Denied rule why) b is = subst (λ b. SameReply b (Denied rule why)) is refl
 turned (Created n) (Created m) is = tt
 turned (Created n) (Full w) is = tt
-turned (Created n) Done is = sym is
-turned (Created n) (Text text) is = sym is
-turned (Created n) (Edges edges) is = sym is
-turned (Created n) (Denied rule why) is = sym is
+turned (Created n) _ is = sym is
 turned (Full w) (Created m) is = tt
 turned (Full w) (Full v) is = tt
-turned (Full w) Done is = sym is
-turned (Full w) (Text text) is = sym is
-turned (Full w) (Edges edges) is = sym is
-turned (Full w) (Denied rule why) is = sym is
+turned (Full w) _ is = sym is
 
 denied : (a b : Reply) → SameReply a b → (rule : Rule) (why : Cause) → a ≡ Denied rule why → b ≡ Denied rule why
 denied a b same rule why is = let told : SameReply (Denied rule why) b = subst (λ a. SameReply a b) is same in sym told

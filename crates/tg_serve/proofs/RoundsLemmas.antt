@@ -18,16 +18,12 @@ use Rattle.tg_serve.specs.Inner.Serving.{Announces, HasRounds}
 -- a vault that was closed as agreed has agreed
 pub closing_agrees : {L : Type 0} (ended : List (Ended L)) (c : Closed L) → IsClosed ended c → IfOk (found_of c) HasAgreed
 closing_agrees ended (closed.Done (settled.Agreed v) counted) is = record { logs = logs_of ended; settled = is.settled; headline = is.headline }
-closing_agrees ended (closed.Done (settled.Differs v logs seat index) counted) is = tt
-closing_agrees ended (closed.Done (settled.NoMemory v logs) counted) is = tt
-closing_agrees ended (closed.NoRoom shared back) is = tt
+closing_agrees ended _ is = tt
 
 -- what else was found ends the server
 pub closing_ends : {L : Type 0} (ended : List (Ended L)) (c : Closed L) → IsClosed ended c → IfErr (found_of c) EndsServer
-closing_ends ended (closed.Done (settled.Agreed v) counted) is = tt
 closing_ends ended (closed.Done (settled.Differs v logs seat index) counted) is = record { vault = v; logs = logs_of ended; place = is.settled.2; headline = is.headline }
-closing_ends ended (closed.Done (settled.NoMemory v logs) counted) is = tt
-closing_ends ended (closed.NoRoom shared back) is = tt
+closing_ends ended _ is = tt
 
 -- bytes that are sent one after the other
 pub sends_on : (old now new : Option (List ℕ)) (first second third : Bool) (xs ys : List ℕ) → SendsOn old first now second xs → SendsOn now second new third ys → SendsOn old first new third (xs ++ ys)

@@ -26,14 +26,12 @@ count_in_logs (e ∷ ended) =
 
 handed_back : (v : Contents) (logs : List SeatLog) (s : Settled) → SettledAs v logs s → vault_in s ≡ v
 handed_back v logs (settled.Agreed w) is = is.0
-handed_back v logs (settled.Differs w back seat index) is = is.0
-handed_back v logs (settled.NoMemory w back) is = is.0
+handed_back v logs _ is = is.0
 
 -- by the law of the auditor
 counted_where_agreed : (v : Contents) (logs : List SeatLog) (s : Settled) → AgreedCounts → SettledAs v logs s → IsAgreed s → length v.history ≡ sum_by (λ l. length l.exchanges.items) logs
 counted_where_agreed v logs (settled.Agreed w) law is agreed = law v logs is.1
-counted_where_agreed v logs (settled.Differs w back seat index) law is agreed = absurd agreed
-counted_where_agreed v logs (settled.NoMemory w back) law is agreed = absurd agreed
+counted_where_agreed v logs _ law is agreed = absurd agreed
 
 has_headline : CoursesHaveTheHeadline → (v : Contents) → IsReached v → HasHeadline v
 has_headline law v reached =

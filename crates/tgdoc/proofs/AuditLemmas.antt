@@ -190,11 +190,9 @@ is_read Says {n} {m} {line} {o} {left} taken says =
 
 -- an ending by the refusal of a line, after this many
 refusal_after : (e : Ending) (n : ℕ) → (end_after e n).fault ≡ None → record { lines = n; text = (end_after e n).text; fault = None } ≡ end_after e n
-refusal_after ending.Failed n is = absurd (cc)
-refusal_after ending.TooLong n is = absurd (cc)
-refusal_after ending.TooMany n is = absurd (cc)
 refusal_after (ending.Refused f) n is = refl
 refusal_after (ending.Unsound f) n is = refl
+refusal_after _ n is = absurd (cc)
 
 pub is_refused : (Refuses : List ℕ → List ℕ → Type 0) (e : Ending) {n m : ℕ} {line : List ℕ} {o left : Bytes} → TakesWanted n m line o left → RefusesBy Refuses line e → IfSome o (EndsBytes Refuses true n (end_after e m))
 is_refused Refuses e {n} {m} {line} {o} {left} taken refuses =
@@ -285,10 +283,7 @@ is_judged o left last n m k all G goal steps v first one two h j i is =
 
 lines_after : (e : Ending) (n : ℕ) → (end_after e n).lines ≡ n
 lines_after ending.Failed n = refl
-lines_after ending.TooLong n = refl
-lines_after ending.TooMany n = refl
-lines_after (ending.Refused f) n = refl
-lines_after (ending.Unsound f) n = refl
+lines_after _ n = refl
 
 pub audited_early : (finished : Finished) (old new : Option (List ℕ)) (failed : Bool) (e : Ending) (n : ℕ) (xs : List ℕ) → finished.lines ≡ n → finished.errors ≡ end_errors (end_after e n).fault → EndsOnce (end_after e n).fault failed finished.fault
     → Sends old new failed (end_after e n).text → EndsEarlyBytes (end_after e n) xs → BytesAudited finished old new failed xs

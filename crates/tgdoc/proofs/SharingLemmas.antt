@@ -57,13 +57,8 @@ fixed (command.Take α over from) = refl
 fixed (command.Grant α over to) = refl
 fixed (command.Create k α) = refl
 fixed (command.Remove α over) = refl
-fixed (command.Read over) = tt
-fixed (command.Write over text) = tt
-fixed (command.Look at) = tt
 fixed (command.Enrol name α) = refl
-fixed command.Retire = tt
-fixed (command.Assume agent) = tt
-fixed command.Leave = tt
+fixed _ = tt
 
 begun : (x : ℕ) (o : Option Command) (rest : List Step) → IsFixed o → AreRewritten rest → AreRewritten (cons_option (option_map (λ c. record { actor = x; command = c }) o) rest)
 begun x None rest h all = all
@@ -75,8 +70,7 @@ steps_rewritten (s ∷ ss) = begun s.actor (rewriting s.command) (rewriting_step
 
 entry_begun : (s : Step) (o : Outcome) (rest : List Step) → AreRewritten rest → AreRewritten (cons_option (rewriting_of s o) rest)
 entry_begun s outcome.Allowed rest all = begun s.actor (rewriting s.command) rest (fixed s.command) all
-entry_begun s (outcome.Denied rule why) rest all = all
-entry_begun s (outcome.Full which) rest all = all
+entry_begun s _ rest all = all
 
 pub history_rewritten : (entries : List Entry) → AreRewritten (derivation_of entries)
 history_rewritten [] = tt

@@ -1,6 +1,7 @@
 use Rattle.std.proofs.Common.{rules, arith, subst}
+use Rattle.std.proofs.lemmas.List.{nil_from_length}
 use Rattle.tg_audit.specs.Inner.Following.{IsLeastAbove}
-use Rattle.tg_audit.proofs.AboveLemmas.{least_empty, least_first, least_low, least_lower, least_stays, no_items}
+use Rattle.tg_audit.proofs.AboveLemmas.{least_empty, least_first, least_low, least_lower, least_stays}
 use Rattle.std.proofs.lemmas.Bool.Decides.{nat_tests}
 use Rattle.tg_audit.specs.declared.logs.Exchange.{Exchange}
 use Rattle.tg_audit.proofs.following.least_with.Goals as goal
@@ -9,7 +10,7 @@ pub returns-then-log-lt-SEATS : goal.returns-then-log-lt-SEATS
 returns-then-log-lt-SEATS c = λ before is. least_low before c.args.log.now c.args.least c.if-log-lt-SEATS.true is
 
 pub returns-then-is_empty : goal.returns-then-is_empty
-returns-then-is_empty c = λ before is. least_empty before c.args.log.now c.args.least (no_items {X = Exchange} c.args.log.now.exchanges.items (grind (arith, nat_tests))) is
+returns-then-is_empty c = λ before is. least_empty before c.args.log.now c.args.least (nil_from_length {X = Exchange} c.args.log.now.exchanges.items (grind (arith, nat_tests))) is
 
 pub returns-in-None : goal.returns-in-None
 returns-in-None c = λ before is. least_first before c.args.log.now c.if-log-lt-SEATS.false (search rules) (subst (IsLeastAbove before) c.in-None.is is)
