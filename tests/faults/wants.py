@@ -59,7 +59,8 @@ LISTED = {
     ("tg_vault/src/vault.rt", "with_key", "Store::with_key", "OpenFault::OutOfMemory"): 1,
     ("tg_vault/src/vault.rt", "with_key", "opening.principals().copy", "OpenFault::OutOfMemory"): 1,
     ("tg_vault/src/vault.rt", "with_key", "empty_seats", "OpenFault::OutOfMemory"): 1,
-    ("tg_vault/src/vault.rt", "command", "self.enter", "AskFault::OutOfMemory"): 1,
+    ("tg_vault/src/vault.rt", "command", "self.history.try_reserve", "AskFault::OutOfMemory"): 1,
+    ("tg_vault/src/vault.rt", "command", "self.state.answer", "AskFault::OutOfMemory"): 1,
     ("tg_vault/src/vault.rt", "command_copy", "command.copy", "AskFault::OutOfMemory"): 1,
     # A session submits nothing without room in its log and a copy of the command.
     ("tg_share/src/session.rt", "carry_out", "self.log.try_reserve", "AskFault::OutOfMemory"): 1,
@@ -125,7 +126,7 @@ SIZES = {
     ("tg_sharing/src/search.rt", "new", "Vec::with_capacity", "serials.len()"): 1,
     ("tg_talk/src/write_line.rt", "buffered", "BufWriter::with_capacity", "HELD_BACK, device"): 1,
     ("tg_vault/src/seats.rt", "empty_seats", "Vec::with_capacity", "SEATS as usize"): 1,
-    ("tg_vault/src/vault.rt", "enter", "self.history.try_reserve", "1"): 1,
+    ("tg_vault/src/vault.rt", "command", "self.history.try_reserve", "1"): 1,
     ("tg_vault/src/vault.rt", "go", "Vec::with_capacity", "events.len()"): 1,
     ("tg_wire/src/line_room.rt", "lend", "self.bytes.try_reserve", "ROOM"): 1,
     ("tg_wire/src/object_line.rt", "put_quoted", "line.reserve", "text.len() + 4"): 1,

@@ -2,13 +2,11 @@
 those of a model.
 """
 
-import re
 import resource
 import shutil
 import subprocess
 from pathlib import Path
 from random import Random
-from typing import Any
 
 from checking import Test, Tests, same, skipped
 from faults import faults
@@ -19,7 +17,7 @@ from models import picture as model
 from models.collector import Course
 from models.reading import line_of, read_config
 from program.programs import CONFIG, HELLO, PICTURE, WELCOME
-from running import asked, joined, ran
+from running import asked, instructions, joined, ran
 
 RUNS = 120
 LINES = 40_000
@@ -267,15 +265,6 @@ def memory_refused_to_last() -> Test:
         "hello not answered": TOO_LONG + opened(said(b"lines 3, errors 2"), True),
     }
     return memory_refused(CONFIG + HELLO + LONG, ends)
-
-
-def instructions(program: Path, given: bytes, *words: str) -> int:
-    """How many instructions the program takes for an input, as Valgrind counts them: the same,
-    whatever else the machine does."""
-    options = ("--tool=callgrind", "--callgrind-out-file=/dev/null")
-    how: dict[str, Any] = {"stdout": subprocess.DEVNULL, "check": True}
-    counted = ran(Path("valgrind"), *options, program, *words, given=given, **how)
-    return int(re.findall(rb"Collected : (\d+)", counted.stderr)[0])
 
 
 def last_picture_is_cheap(program: Path) -> None:

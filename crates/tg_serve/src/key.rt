@@ -4,16 +4,13 @@ ghost use Rattle.std.specs.Prelude.{◌≡◌, ◌%◌, ◌/◌, ◌^◌, bit_or
 use std::random::RandomSource;
 use tg_vault::Key;
 
-/// A key of random numbers; none if the source returns none. The source promises that nobody can guess them.
-pub(crate) fn random_key<S: RandomSource>(source: &S) -> Option<Key> {
-    let mut bytes = [0; 16];
-    source.fill_bytes(&mut bytes).ok()?;
-    Some(key_of(u128::from_le_bytes(bytes)))
-}
-
-/// A key of random numbers, or the fixed one if there are none.
+/// A key of random numbers, of which the source promises that nobody can guess them; or the fixed one if it returns none.
 pub(crate) fn key_or_fixed<S: RandomSource>(source: &S) -> Key {
-    random_key(source).unwrap_or(Key::FIXED)
+    let mut bytes = [0; 16];
+    match source.fill_bytes(&mut bytes) {
+        Ok(()) => key_of(u128::from_le_bytes(bytes)),
+        Err(_) => Key::FIXED,
+    }
 }
 
 /// The key of random bits: two odd numbers, of one half of them each.

@@ -89,17 +89,10 @@ pub fn text_of_answer(room: &mut LineRoom, answer: &Answer) -> Text
     ensures { TellsAnswer answer.now (shown_line result) (is_wrong result) }
 {
     match write_answer_in(room, answer) {
-        Ok(line) if is_error_answer(answer) => Text::ErrorLine(line),
+        Ok(line) if matches!(answer, Answer::Seat(_) | Answer::Ask(_)) => Text::ErrorLine(line),
         Ok(line) => Text::Line(line),
         Err(_) => Text::Refusal(WireFault::OutOfMemory),
     }
-}
-
-/// Whether the answer's line is an `error` line.
-fn is_error_answer(answer: &Answer) -> bool
-    ensures { result ≡ is_error_line answer.now }
-{
-    matches!(answer, Answer::Seat(_) | Answer::Ask(_))
 }
 
 /// The result of a turn: whether the next line is taken.
@@ -287,8 +280,10 @@ impl LinesSoFar {
             self.errors += 1;
         }
         match text {
-            Text::Line(line) => self.send_kept(writer, line),
-            Text::ErrorLine(line) => self.send_kept(writer, line),
+            Text::Line(line) | Text::ErrorLine(line) => {
+                send_line(writer, &line);
+                self.room.take_back(line);
+            }
             Text::Refusal(refused) => send_line(writer, error_line(refused)),
             Text::NotForASession => send_line(writer, not_for_a_session_line()),
         }
@@ -297,18 +292,6 @@ impl LinesSoFar {
         } else {
             None
         }
-    }
-
-    /// Writes a line, whose room is taken back.
-    #[inline(always)]
-    fn send_kept<W: Write + Drop>(&mut self, writer: &mut Out<W>, line: Vec<u8>)
-        requires { has_failed writer.old ≡ false }
-        ensures input { self.new.input ≡ self.old.input }
-        ensures errors { self.new.errors ≡ self.old.errors }
-        ensures sent { Sends (promised W.contents writer.old) (promised W.contents writer.new) (has_failed writer.new) line.items }
-    {
-        send_line(writer, &line);
-        self.room.take_back(line);
     }
 
     /// Writes the line of a text, and all that is held back; returns the writer's fault if it fails.

@@ -6,7 +6,6 @@ mod fault;
 mod input_lines;
 mod laws;
 mod line_buffer;
-mod newline;
 mod opening;
 mod refusal;
 mod steady;

@@ -7,8 +7,8 @@ ghost use Rattle.tg_wire.specs.declared.line.TheConstants.{LONGEST_LINE};
 ghost use Rattle.tg_talk.specs.Promise.Devices.{device_of, has_failed};
 ghost use Rattle.tg_talk.specs.Inner.InputLines.{EndsLines};
 
-use crate::newline::{last_lines_to, newline};
 use crate::watched::Watched;
+use memchr::{memchr, memrchr};
 use std::alloc::{AllocError, Global};
 use std::io::Read;
 use std::marker::Model;
@@ -142,7 +142,7 @@ impl LineBuffer {
                 Filled::Failed => return Found::Failed,
             }
         }
-        match newline(self.bytes()) {
+        match memchr(b'\n', self.bytes()) {
             Some(n) if n <= LONGEST_LINE => Found::Line(n),
             _ => Found::TooLong,
         }
@@ -182,6 +182,19 @@ fn move_down(bytes: &mut Vec<u8>, start: usize, end: usize)
     ensures len { length bytes.new.items ≡ length bytes.old.items }
 {
     bytes.copy_within(start..end, 0);
+}
+
+/// The place after the last line feed, or 0 if there is none; `before` is that place among the bytes before `from`,
+/// which are not searched again.
+fn last_lines_to(bytes: &[u8], from: usize, before: usize) -> usize
+    requires within { from ≤ length bytes.now }
+    requires known { EndsLines (take from bytes.now) before }
+    ensures { EndsLines bytes.now result }
+{
+    match memrchr(b'\n', &bytes[from..]) {
+        Some(last) => from + last + 1,
+        None => before,
+    }
 }
 
 /// One read at `at`, and how many bytes it returned; `None` if it failed.

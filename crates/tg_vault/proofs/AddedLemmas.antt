@@ -46,13 +46,8 @@ step_adds limits m _ _ n h = absurd h
 
 asked_append : (xs ys : List Answer) → asked_in (xs ++ ys) ≡ asked_in xs ++ asked_in ys
 asked_append [] ys = refl
-asked_append (answer.Hello x ∷ xs) ys = asked_append xs ys
-asked_append (answer.Bye ∷ xs) ys = asked_append xs ys
 asked_append (answer.Asked number reply ∷ xs) ys = ap (λ all. (number, reply) ∷ all) (asked_append xs ys)
-asked_append (answer.Shaded target ∷ xs) ys = asked_append xs ys
-asked_append (answer.Noted note ∷ xs) ys = asked_append xs ys
-asked_append (answer.Seat fault ∷ xs) ys = asked_append xs ys
-asked_append (answer.Ask fault ∷ xs) ys = asked_append xs ys
+asked_append (_ ∷ xs) ys = asked_append xs ys
 
 graph_append : (G : Protection) (xs ys : List Entry) → graph_of G (xs ++ ys) ≡ graph_of (graph_of G xs) ys
 graph_append G [] ys = refl

@@ -55,9 +55,8 @@ serial_found s f spot v each found at = serial_is s spot.place v (placed s f spo
 
 -- an effect that makes no vertex and no edge needs nothing
 pub needs_none : (G : Protection) (f g : ℕ) (d : Does) → is_new d ≡ false → (NewEdge G d → ⊥) → (w : Which) → IsUsedUp G f g d w → ⊥
-needs_none G f g d old none which.Serials u = cc (old, u.0)
-needs_none G f g d old none which.Slots u = cc (old, u.0)
 needs_none G f g d old none which.Cells u = none u.0
+needs_none G f g d old none _ u = cc (old, u.0)
 
 -- what the store's calls leave of edges and cells
 module _ (s t : Stored) (next seat : ℕ) where
@@ -186,9 +185,8 @@ module _ (s t : Stored) (next : ℕ) (names : List Member) (retired : set.FinSet
       cells = subst (λ l. t.free_cells + edges_at (joined l α) ≡ s.free_cells + edges_at l) (sym (label_seen s next next names retired from to)) (cells_joined s t next seat from to α some j.0);
     } where
       room : (w : Which) → IsUsedUp S (free_slots s) s.free_cells (effect.Joins from α to) w → ⊥
-      room which.Serials u = cc u.0
-      room which.Slots u = cc u.0
       room which.Cells u = had_room s t next seat from to α j.0 (λ e. u.0 (edge_seen s next next names retired from to e)) u.2
+      room _ u = cc u.0
     join_done x from to α (Err which.Cells) some j =
         record { used = (λ e. j.2 (edge_in s next from to (seen_edge s next next names retired from to e)), λ e. absurd (cc e), j.1); same = j.0; kept = (λ i. graph_seen (j.0 i) next names retired) }
     join_done x from to α _ some j = absurd j

@@ -23,50 +23,30 @@ use Rattle.tg_vault.proofs.EdgeLemmas.{edge_count_among}
 
 -- the next serial depends only on the effect
 done_next : (G H : Protection) (x : ℕ) (d : Does) → G.next ≡ H.next → (done G x d).next ≡ (done H x d).next
-done_next G H x (effect.Joins from α to) is = is
 done_next G H x (effect.Makes k α name) is = ap (λ n. n + 1) is
-done_next G H x (effect.Drops α over) is = is
 done_next G H x (effect.Rewrites over text) is = with_text-next G over text (vertex G over) ∙ is ∙ sym (with_text-next H over text (vertex H over))
-done_next G H x (effect.Tells over) is = is
-done_next G H x (effect.Lists at) is = is
-done_next G H x effect.Retires is = is
-done_next G H x (effect.Acts agent) is = is
+done_next G H x _ is = is
 
 pub next_same : (G H : Protection) (x : ℕ) (c : Command) (o : Outcome) → G.next ≡ H.next → (next_graph G x c o).next ≡ (next_graph H x c o).next
 next_same G H x c outcome.Allowed is = done_next G H x (terms x c).does is
-next_same G H x c (outcome.Denied rule cause) is = is
-next_same G H x c (outcome.Full w) is = is
+next_same G H x c _ is = is
 
 done_grows : (G : Protection) (x : ℕ) (d : Does) → G.next ≤ (done G x d).next
-done_grows G x (effect.Joins from α to) = omega arith
-done_grows G x (effect.Makes k α name) = omega arith
-done_grows G x (effect.Drops α over) = omega arith
 done_grows G x (effect.Rewrites over text) = let same = with_text-next G over text (vertex G over) in omega arith
-done_grows G x (effect.Tells over) = omega arith
-done_grows G x (effect.Lists at) = omega arith
-done_grows G x effect.Retires = omega arith
-done_grows G x (effect.Acts agent) = omega arith
+done_grows G x _ = omega arith
 
 pub next_grows : (G : Protection) (x : ℕ) (c : Command) (o : Outcome) → G.next ≤ (next_graph G x c o).next
 next_grows G x c outcome.Allowed = done_grows G x (terms x c).does
-next_grows G x c (outcome.Denied rule cause) = omega arith
-next_grows G x c (outcome.Full w) = omega arith
+next_grows G x c _ = omega arith
 
 -- a target is the same in graphs with the same next serial
 new_target_same : (G H : Protection) (d : Does) → G.next ≡ H.next → new_target G d ≡ new_target H d
-new_target_same G H (effect.Joins from α to) is = refl
 new_target_same G H (effect.Makes k α name) is = ap (λ n. Some n) is
-new_target_same G H (effect.Drops α over) is = refl
-new_target_same G H (effect.Rewrites over text) is = refl
-new_target_same G H (effect.Tells over) is = refl
-new_target_same G H (effect.Lists at) is = refl
-new_target_same G H effect.Retires is = refl
-new_target_same G H (effect.Acts agent) is = refl
+new_target_same G H _ is = refl
 
 pub target_same : (G H : Protection) (x : ℕ) (c : Command) (o : Outcome) → G.next ≡ H.next → target_of G x c o ≡ target_of H x c o
 target_same G H x c outcome.Allowed is = new_target_same G H (terms x c).does is
-target_same G H x c (outcome.Denied rule cause) is = refl
-target_same G H x c (outcome.Full w) is = refl
+target_same G H x c _ is = refl
 
 module _ (G : Protection) (g : IsGraph G) (x : ℕ) (x_in : IsVertex G x) where
   -- what an allowed command takes for granted
@@ -78,30 +58,20 @@ module _ (G : Protection) (g : IsGraph G) (x : ℕ) (x_in : IsVertex G x) where
 
   -- a vertex stays
   done_stays : (d : Does) → Given d → (v : ℕ) → IsVertex G v → IsVertex (done G x d) v
-  done_stays (effect.Joins from α to) h v is = is
   done_stays (effect.Makes k α name) h v is = IsVertex-insert G.vertices G.next (record { kind = k; text = [] }) v ∙ or_right _ _ is
-  done_stays (effect.Drops α over) h v is = is
   done_stays (effect.Rewrites over text) h v is =
       subst (λ (K : Protection). IsVertex K v) (sym (with_text-document G over text h.1))
       (IsVertex-insert G.vertices over (record { kind = kind.Document; text = text }) v ∙ or_right _ _ is)
-  done_stays (effect.Tells over) h v is = is
-  done_stays (effect.Lists at) h v is = is
-  done_stays effect.Retires h v is = is
-  done_stays (effect.Acts agent) h v is = is
+  done_stays _ h v is = is
 
   -- a create adds one vertex
   done_vertices : (d : Does) → Given d → vertex_count (done G x d) ≡ vertex_count G + cond (is_new d) 1 0
-  done_vertices (effect.Joins from α to) h = omega arith
   done_vertices (effect.Makes k α name) h = vertex_count-new G (record { kind = k; text = [] }) g
-  done_vertices (effect.Drops α over) h = omega arith
   done_vertices (effect.Rewrites over text) h =
       let told : Vertex = record { kind = kind.Document; text = text } in
       let same = ap vertex_count (with_text-document G over text h.1) ∙ vertex_count-again G over told h.0 in
       omega arith
-  done_vertices (effect.Tells over) h = omega arith
-  done_vertices (effect.Lists at) h = omega arith
-  done_vertices effect.Retires h = omega arith
-  done_vertices (effect.Acts agent) h = omega arith
+  done_vertices _ h = omega arith
 
   -- free cells and edges change by the same
   done_edges : (d : Does) (before after : ℕ) → Given d → EdgeMoves G before after x d → after + edge_count (done G x d) ≡ before + edge_count G
@@ -115,10 +85,8 @@ module _ (G : Protection) (g : IsGraph G) (x : ℕ) (x_in : IsVertex G x) where
       let told : Vertex = record { kind = kind.Document; text = text } in
       let same = ap edge_count (with_text-document G over text h.1) ∙ edge_count-again G over told h.0 in
       omega arith
-  done_edges (effect.Tells over) before after h moved = omega arith
-  done_edges (effect.Lists at) before after h moved = omega arith
-  done_edges (effect.Acts agent) before after h moved = omega arith
   done_edges effect.Retires before after h moved = let same = edge_count_among G (without_member G.names x) (set.insert G.retired x) in omega arith
+  done_edges _ before after h moved = omega arith
 
 -- the same of an entry, if its actor is a vertex where the rules allow the command, or leaves
 module _ (G : Protection) (g : IsGraph G) (x : ℕ) (c : Command) where
@@ -130,16 +98,14 @@ module _ (G : Protection) (g : IsGraph G) (x : ℕ) (c : Command) where
     | inl h ↦ done_stays G g x h.0 (terms x c).does (given G g x h.0 c h.1) v is
     | inr leaves ↦ subst (λ k. IsVertex (next_graph G x k outcome.Allowed) v) (sym leaves) is
   ]
-  vertex_stays (outcome.Denied rule cause) a v is = is
-  vertex_stays (outcome.Full w) a v is = is
+  vertex_stays _ a v is = is
 
   pub vertices_counted : (o : Outcome) → Carried o → vertex_count (next_graph G x c o) ≡ vertex_count G + slots_taken x c o
   vertices_counted outcome.Allowed a = elim (a refl) [
     | inl h ↦ done_vertices G g x h.0 (terms x c).does (given G g x h.0 c h.1)
     | inr leaves ↦ subst (λ k. vertex_count (next_graph G x k outcome.Allowed) ≡ vertex_count G + slots_taken x k outcome.Allowed) (sym leaves) (omega arith)
   ]
-  vertices_counted (outcome.Denied rule cause) a = omega arith
-  vertices_counted (outcome.Full w) a = omega arith
+  vertices_counted _ a = omega arith
 
   pub edges_counted : (o : Outcome) (before after : ℕ) → Carried o → CellsMoved G before after x c o → after + edge_count (next_graph G x c o) ≡ before + edge_count G
   edges_counted outcome.Allowed before after a moved = elim (a refl) [
@@ -147,5 +113,4 @@ module _ (G : Protection) (g : IsGraph G) (x : ℕ) (c : Command) where
     | inr leaves ↦
         subst (λ k. CellsMoved G before after x k outcome.Allowed → after + edge_count (next_graph G x k outcome.Allowed) ≡ before + edge_count G) (sym leaves) (λ (same : after ≡ before). omega arith) moved
   ]
-  edges_counted (outcome.Denied rule cause) before after a moved = omega arith
-  edges_counted (outcome.Full w) before after a moved = omega arith
+  edges_counted _ before after a moved = omega arith

@@ -46,16 +46,8 @@ phase_step : (old : Contents) (e : Event) (a : Answer) (new : Contents) → Stor
 phase_step old event.Collect (answer.Noted note) new s =
     let turns : PhaseTurns (phase old.store) (phase new.store) note.ended = collected_turns s.0 in
     (s.1, subst (λ (p : Phase). PhaseTurns (phase old.store) p note.ended) (sym s.1) turns)
-phase_step old event.Collect (answer.Hello x) new s = absurd s
-phase_step old event.Collect answer.Bye new s = absurd s
-phase_step old event.Collect (answer.Asked number reply) new s = absurd s
-phase_step old event.Collect (answer.Shaded target) new s = absurd s
-phase_step old event.Collect (answer.Seat fault) new s = absurd s
-phase_step old event.Collect (answer.Ask fault) new s = absurd s
-phase_step old (event.Hello seat name) a new s = acted_phase s.acted
-phase_step old (event.Bye seat) a new s = acted_phase s.acted
-phase_step old (event.Ask seat c) a new s = acted_phase s.acted
-phase_step old (event.Shade seat) a new s = acted_phase s.acted
+phase_step old event.Collect _ new s = absurd s
+phase_step old _ a new s = acted_phase s.acted
 
 -- what the headline says of a course
 pub course_events : (v : Contents) (es : List Event) (answers : List Answer) (w : Contents) → Course v es answers w → EventCourse v es answers w

@@ -38,43 +38,24 @@ use Rattle.tg_vault.proofs.AddedLemmas.{step_adds}
 
 -- what an answer adds to the ends of cycles, and to the collector steps since the last
 abbrev ended_of : Answer → ℕ
-ended_of (answer.Hello x) = 0
-ended_of answer.Bye = 0
-ended_of (answer.Asked number reply) = 0
-ended_of (answer.Shaded target) = 0
 ended_of (answer.Noted note) = cond note.ended 1 0
-ended_of (answer.Seat fault) = 0
-ended_of (answer.Ask fault) = 0
+ended_of _ = 0
 
 abbrev since_of : ℕ → Answer → ℕ
-since_of k (answer.Hello x) = k
-since_of k answer.Bye = k
-since_of k (answer.Asked number reply) = k
-since_of k (answer.Shaded target) = k
 since_of k (answer.Noted note) = cond note.ended 0 (k + 1)
-since_of k (answer.Seat fault) = k
-since_of k (answer.Ask fault) = k
+since_of k _ = k
 
 abbrev since_in : ℕ → List Answer → ℕ
 since_in k [] = k
 since_in k (a ∷ answers) = since_in (since_of k a) answers
 
 ended_more : (a : Answer) (answers : List Answer) → ended_in (a ∷ answers) ≡ ended_of a + ended_in answers
-ended_more (answer.Hello x) answers = omega arith
-ended_more answer.Bye answers = omega arith
-ended_more (answer.Asked number reply) answers = omega arith
-ended_more (answer.Shaded target) answers = omega arith
 ended_more (answer.Noted note) answers = sum_by-cons (λ n. cond n.ended 1 0) note (notes_in answers)
-ended_more (answer.Seat fault) answers = omega arith
-ended_more (answer.Ask fault) answers = omega arith
+ended_more _ answers = omega arith
 
 -- while no cycle ends, each collector step counts
 since_grows : (k : ℕ) (answers : List Answer) → ended_in answers ≡ 0 → since_in k answers ≡ k + length (notes_in answers)
 since_grows k [] none = omega arith
-since_grows k (answer.Hello x ∷ answers) none = since_grows k answers none
-since_grows k (answer.Bye ∷ answers) none = since_grows k answers none
-since_grows k (answer.Asked number reply ∷ answers) none = since_grows k answers none
-since_grows k (answer.Shaded target ∷ answers) none = since_grows k answers none
 since_grows k (answer.Noted note ∷ answers) none =
     let more = sum_by-cons (λ (n : Note). cond n.ended 1 0) note (notes_in answers) in
     by note.ended (let sum : cond note.ended 1 0 + ended_in answers ≡ 0 = sym more ∙ none in sum) (since_grows (k + 1) answers) where
@@ -82,8 +63,7 @@ since_grows k (answer.Noted note ∷ answers) none =
           since_in (cond b 0 (k + 1)) answers ≡ k + suc (length (notes_in answers))
       by true sum rest = absurd (omega arith)
       by false sum rest = rest (omega arith) ∙ (omega arith)
-since_grows k (answer.Seat fault ∷ answers) none = since_grows k answers none
-since_grows k (answer.Ask fault ∷ answers) none = since_grows k answers none
+since_grows k (_ ∷ answers) none = since_grows k answers none
 
 -- what is live in what is held depends neither on the next serial nor on who is a principal
 leads_held : (s : Stored) (n m : ℕ) (names : List Member) (retired : set.FinSet nat_cmp) (later : List ℕ) (x y : ℕ) → Leads (graph_seen s n names retired) x later y → Leads (held s m) x later y
@@ -130,20 +110,10 @@ module _ (next : ℕ) (first : Stored) (opens : IsStore first) where
 
   goes_run : (v : Contents) (e : Event) (a : Answer) (u : Contents) (ended since : ℕ) → next ≤ (graph_now v).next → StoreRun next first v.store ended since → VaultStep v e a u →
       StoreRun next first u.store (ended + ended_of a) (since_of since a)
-  goes_run v (event.Hello seat name) (answer.Hello x) u ended since low run g = same_counts u ended since (acts_run v u ended since low run g.stored g.coherent.store)
-  goes_run v (event.Hello seat name) (answer.Seat fault) u ended since low run g = same_counts u ended since (acts_run v u ended since low run g.stored g.coherent.store)
-  goes_run v (event.Hello seat name) _ u ended since low run g = absurd g.step
-  goes_run v (event.Bye seat) answer.Bye u ended since low run g = same_counts u ended since (acts_run v u ended since low run g.stored g.coherent.store)
-  goes_run v (event.Bye seat) (answer.Seat fault) u ended since low run g = same_counts u ended since (acts_run v u ended since low run g.stored g.coherent.store)
-  goes_run v (event.Bye seat) _ u ended since low run g = absurd g.step
-  goes_run v (event.Ask seat c) (answer.Asked number reply) u ended since low run g = same_counts u ended since (acts_run v u ended since low run g.stored g.coherent.store)
-  goes_run v (event.Ask seat c) (answer.Ask fault) u ended since low run g = same_counts u ended since (acts_run v u ended since low run g.stored g.coherent.store)
-  goes_run v (event.Ask seat c) _ u ended since low run g = absurd g.step
-  goes_run v (event.Shade seat) (answer.Shaded target) u ended since low run g = same_counts u ended since (acts_run v u ended since low run g.stored g.coherent.store)
-  goes_run v (event.Shade seat) (answer.Seat fault) u ended since low run g = same_counts u ended since (acts_run v u ended since low run g.stored g.coherent.store)
-  goes_run v (event.Shade seat) _ u ended since low run g = absurd g.step
   goes_run v event.Collect (answer.Noted note) u ended since low run g = collects_run v u note ended since run g.stored.0 g.coherent.store
   goes_run v event.Collect _ u ended since low run g = absurd g.step
+  goes_run v _ (answer.Noted note) u ended since low run g = absurd g.step
+  goes_run v _ _ u ended since low run g = same_counts u ended since (acts_run v u ended since low run g.stored g.coherent.store)
 
   course_store : (v : Contents) (es : List Event) (answers : List Answer) (w : Contents) (ended since : ℕ) → next ≤ (graph_now v).next → StoreRun next first v.store ended since → Course v es answers w →
       StoreRun next first w.store (ended + ended_in answers) (since_in since answers)
@@ -172,29 +142,14 @@ split v [] (a ∷ front) rest w course = absurd course
 
 -- the phase that the answers report
 goes_phase : (v : Contents) (e : Event) (a : Answer) (u : Contents) → VaultStep v e a u → phase u.store ≡ phase_after (phase v.store) (a ∷ [])
-goes_phase v (event.Hello seat name) (answer.Hello x) u g = acted_phase g.stored.acted
-goes_phase v (event.Hello seat name) (answer.Seat fault) u g = acted_phase g.stored.acted
-goes_phase v (event.Hello seat name) _ u g = absurd g.step
-goes_phase v (event.Bye seat) answer.Bye u g = acted_phase g.stored.acted
-goes_phase v (event.Bye seat) (answer.Seat fault) u g = acted_phase g.stored.acted
-goes_phase v (event.Bye seat) _ u g = absurd g.step
-goes_phase v (event.Ask seat c) (answer.Asked number reply) u g = acted_phase g.stored.acted
-goes_phase v (event.Ask seat c) (answer.Ask fault) u g = acted_phase g.stored.acted
-goes_phase v (event.Ask seat c) _ u g = absurd g.step
-goes_phase v (event.Shade seat) (answer.Shaded target) u g = acted_phase g.stored.acted
-goes_phase v (event.Shade seat) (answer.Seat fault) u g = acted_phase g.stored.acted
-goes_phase v (event.Shade seat) _ u g = absurd g.step
 goes_phase v event.Collect (answer.Noted note) u g = sym g.stored.1
 goes_phase v event.Collect _ u g = absurd g.step
+goes_phase v _ (answer.Noted note) u g = absurd g.step
+goes_phase v _ _ u g = acted_phase g.stored.acted
 
 phase_on : (p : Phase) (a : Answer) (answers : List Answer) → phase_after (phase_after p (a ∷ [])) answers ≡ phase_after p (a ∷ answers)
 phase_on p (answer.Hello x) answers = refl
-phase_on p answer.Bye answers = refl
-phase_on p (answer.Asked number reply) answers = refl
-phase_on p (answer.Shaded target) answers = refl
-phase_on p (answer.Noted note) answers = refl
-phase_on p (answer.Seat fault) answers = refl
-phase_on p (answer.Ask fault) answers = refl
+phase_on p _ answers = refl
 
 course_phase : (v : Contents) (es : List Event) (answers : List Answer) (w : Contents) → Course v es answers w → phase w.store ≡ phase_after (phase v.store) answers
 course_phase v [] [] w same = ap (λ (k : Contents). phase k.store) same
@@ -237,10 +192,6 @@ module _ (v : Contents) (s : IsCoherent v) where
 pub from_idle : runs.StoresAreComplete → (m : Contents) → IsCoherent m → phase m.store ≡ Idle → (after : List Event) (note : Note) (back : List Answer) (w : Contents) → Course m after (answer.Noted note ∷ back) w →
     2 ≤ ended_in (answer.Noted note ∷ back) → (x : ℕ) → HasSlot w x → Live (held m.store (graph_now m).next) (IsRootIn m.store) x ⊎ ((graph_now m).next ≤ x)
 from_idle law m sound idle [] note back w course two x slot = absurd course
-from_idle law m sound idle (event.Hello seat name ∷ es) note back w course two x slot = absurd course.1.step
-from_idle law m sound idle (event.Bye seat ∷ es) note back w course two x slot = absurd course.1.step
-from_idle law m sound idle (event.Ask seat c ∷ es) note back w course two x slot = absurd course.1.step
-from_idle law m sound idle (event.Shade seat ∷ es) note back w course two x slot = absurd course.1.step
 from_idle law m sound idle (event.Collect ∷ es) note back w course two x slot =
     let u : Contents = course.0 in
     let g : VaultStep m event.Collect (answer.Noted note) u = course.1 in
@@ -252,6 +203,7 @@ from_idle law m sound idle (event.Collect ∷ es) note back w course two x slot 
     let first : ◌≡◌ {A = ℕ} (cond note.ended 1 0) 0 = ap (λ b. cond b 1 0) open_end in
     law m.store u.store w.store next (0 + ended_in back) (since_in 0 back) note.freed sound.store idle
     (subst (λ b. Collected m.store u.store note.freed b) open_end g.stored.0) g.coherent.store (held_below m sound) run (omega arith) x slot
+from_idle law m sound idle _ note back w course two x slot = absurd course.1.step
 
 pub course_complete : runs.StoresAreComplete → (v : Contents) (es : List Event) (answers : List Answer) (w : Contents) → IsCoherent v → Course v es answers w → IsComplete v es answers w
 course_complete law v es answers w sound course = λ front back note is idle two.

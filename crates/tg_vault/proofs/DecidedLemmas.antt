@@ -126,33 +126,19 @@ module _ (v : Contents) (j : Ties v) (store : IsStore v.store) where
     -- the same edges are made in both
     new_edge_so : (d : Does) → Entitled H (IsVertex H) (λ v z k e. edge_to H held_is v z e) x actor_held d → NewEdge H d → NewEdge G d
     new_edge_so (effect.Joins from α to) h new = λ e. new (ap is_none (sym (j.part.labels from to h.0)) ∙ e)
-    new_edge_so (effect.Makes k α name) h new = new
-    new_edge_so (effect.Drops α over) h new = new
-    new_edge_so (effect.Rewrites over text) h new = new
-    new_edge_so (effect.Tells over) h new = new
-    new_edge_so (effect.Lists at) h new = new
-    new_edge_so effect.Retires h new = new
-    new_edge_so (effect.Acts agent) h new = new
+    new_edge_so _ h new = new
 
     new_edge_back : (d : Does) → Entitled H (IsVertex H) (λ v z k e. edge_to H held_is v z e) x actor_held d → NewEdge G d → NewEdge H d
     new_edge_back (effect.Joins from α to) h new = λ e. new (ap is_none (j.part.labels from to h.0) ∙ e)
-    new_edge_back (effect.Makes k α name) h new = new
-    new_edge_back (effect.Drops α over) h new = new
-    new_edge_back (effect.Rewrites over text) h new = new
-    new_edge_back (effect.Tells over) h new = new
-    new_edge_back (effect.Lists at) h new = new
-    new_edge_back effect.Retires h new = new
-    new_edge_back (effect.Acts agent) h new = new
+    new_edge_back _ h new = new
 
     pub used_up_so : (c : Command) (f g : ℕ) (w : Which) → Allowed H x c → IsUsedUp H f g (terms x c).does w → IsUsedUp G f g (terms x c).does w
-    used_up_so c f g which.Serials a u = u
-    used_up_so c f g which.Slots a u = u
     used_up_so c f g which.Cells a u = (new_edge_so (terms x c).does (entitled_held c a) u.0, u.1, u.2)
+    used_up_so c f g _ a u = u
 
     pub used_up_back : (c : Command) (f g : ℕ) (w : Which) → Allowed H x c → IsUsedUp G f g (terms x c).does w → IsUsedUp H f g (terms x c).does w
-    used_up_back c f g which.Serials a u = u
-    used_up_back c f g which.Slots a u = u
     used_up_back c f g which.Cells a u = (new_edge_back (terms x c).does (entitled_held c a) u.0, u.1, u.2)
+    used_up_back c f g _ a u = u
 
     pub decided_so : (c : Command) (f g : ℕ) (o : Outcome) → Decided H f g x c o → Decided G f g x c o
     decided_so c f g outcome.Allowed d = (judged_so c outcome.Allowed d.0, λ w u. d.1 w (used_up_back c f g w d.0 u))
@@ -163,14 +149,8 @@ module _ (v : Contents) (j : Ties v) (store : IsStore v.store) where
     pub replied_so : (c : Command) → Allowed H x c → allowed_reply H x c ≡ allowed_reply G x c
     replied_so c a = by (is_create x c) refl where
       made : (d : Does) → is_new d ≡ true → answered H d ≡ answered G d
-      made (effect.Joins from α to) new = absurd (cc new)
       made (effect.Makes k α name) new = refl
-      made (effect.Drops α over) new = absurd (cc new)
-      made (effect.Rewrites over text) new = absurd (cc new)
-      made (effect.Tells over) new = absurd (cc new)
-      made (effect.Lists at) new = absurd (cc new)
-      made effect.Retires new = absurd (cc new)
-      made (effect.Acts agent) new = absurd (cc new)
+      made _ new = absurd (cc new)
 
       by : (b : Bool) → is_create x c ≡ b → answered H (terms x c).does ≡ answered G (terms x c).does
       by true new = made (terms x c).does new
@@ -202,20 +182,16 @@ not_both G x c o a d = judged_once G x c outcome.Allowed o a d
 pub decided_permitted : (limits : Limits) (G : Protection) (f g x : ℕ) (c : Command) (o : Outcome) → limits.slots ≤ f + vertex_count G → limits.cells ≤ g + edge_count G →
     Decided G f g x c o → Permitted limits G x c o
 decided_permitted limits G f g x c outcome.Allowed slots cells d = (d.0, λ create. let left : last_serial < G.next → ⊥ = λ above. d.1 which.Serials (create, above) in omega arith)
-decided_permitted limits G f g x c (outcome.Denied rule cause) slots cells d = d
-decided_permitted limits G f g x c (outcome.Full which.Serials) slots cells d = d
 decided_permitted limits G f g x c (outcome.Full which.Slots) slots cells d = (d.0, (d.1.0, d.1.1, (let none = d.1.2 in omega arith)))
 decided_permitted limits G f g x c (outcome.Full which.Cells) slots cells d = (d.0, (d.1.0, (let none = d.1.2 in omega arith)))
+decided_permitted limits G f g x c _ slots cells d = d
 
 -- full for slots, exactly by the count
 pub exact_slots : (limits : Limits) (w : World) (f g x : ℕ) (c : Command) (o : Outcome) → w.used ≡ limits.slots - f → f ≤ limits.slots → Decided w.graph f g x c o → ExactSlots limits w x c o
 exact_slots limits w f g x c o used few d = (to o d, back o d) where
   to : (o : Outcome) → Decided w.graph f g x c o → o ≡ outcome.Full which.Slots → (is_create x c ≡ true) × Allowed w.graph x c × (w.graph.next ≤ last_serial) × (w.used ≡ limits.slots)
-  to outcome.Allowed d is = absurd (cc is)
-  to (outcome.Denied rule cause) d is = absurd (cc is)
-  to (outcome.Full which.Serials) d is = absurd (cc is)
   to (outcome.Full which.Slots) d is = (d.1.0, d.0, d.1.1, (let none = d.1.2 in omega arith))
-  to (outcome.Full which.Cells) d is = absurd (cc is)
+  to _ d is = absurd (cc is)
 
   back : (o : Outcome) → Decided w.graph f g x c o → (is_create x c ≡ true) × Allowed w.graph x c × (w.graph.next ≤ last_serial) × (w.used ≡ limits.slots) → o ≡ outcome.Full which.Slots
   back outcome.Allowed d h = absurd (d.1 which.Slots (h.0, h.2, (let full = h.3 in omega arith)))
@@ -226,21 +202,14 @@ exact_slots limits w f g x c o used few d = (to o d, back o d) where
 
 no_serial : (G : Protection) (f g : ℕ) (d : Does) → IsUsedUp G f g d which.Serials → IsUsedUp G f g d which.Cells → ⊥
 no_serial G f g (effect.Makes k α name) a b = let above = a.1 in let below = b.0 in absurd (omega arith)
-no_serial G f g (effect.Joins from α to) a b = cc a.0
-no_serial G f g (effect.Drops α over) a b = cc a.0
-no_serial G f g (effect.Rewrites over text) a b = cc a.0
-no_serial G f g (effect.Tells over) a b = cc a.0
-no_serial G f g (effect.Lists at) a b = cc a.0
-no_serial G f g effect.Retires a b = cc a.0
-no_serial G f g (effect.Acts agent) a b = cc a.0
+no_serial G f g _ a b = cc a.0
 
 -- full exactly if something is used up
 pub exact_full : (G : Protection) (f g x : ℕ) (c : Command) (o : Outcome) (w : Which) → Decided G f g x c o → (o ≡ outcome.Full w) ↔ (Allowed G x c × IsUsedUp G f g (terms x c).does w)
 exact_full G f g x c o w d = (to o d, back o d) where
   to : (o : Outcome) → Decided G f g x c o → o ≡ outcome.Full w → Allowed G x c × IsUsedUp G f g (terms x c).does w
-  to outcome.Allowed d is = absurd (cc is)
-  to (outcome.Denied rule cause) d is = absurd (cc is)
   to (outcome.Full u) d is = let same : u ≡ w = cc is in (d.0, subst (IsUsedUp G f g (terms x c).does) same d.1)
+  to _ d is = absurd (cc is)
 
   one : (u w : Which) → IsUsedUp G f g (terms x c).does u → IsUsedUp G f g (terms x c).does w → u ≡ w
   one which.Serials which.Serials a b = refl

@@ -50,8 +50,7 @@ alike G K f g x c (outcome.Full w) in_G in_K agree d other = absurd other
 
 allowed_of : (G : Protection) (f g x : ℕ) (c : Command) (o : Outcome) → Decided G f g x c o → o ≡ outcome.Allowed → Allowed G x c
 allowed_of G f g x c outcome.Allowed d is = d.0
-allowed_of G f g x c (outcome.Denied rule cause) d is = absurd (cc is)
-allowed_of G f g x c (outcome.Full w) d is = absurd (cc is)
+allowed_of G f g x c _ d is = absurd (cc is)
 
 -- a target is reached from the actor, or new
 module _ (H : Protection) (root : ℕ → Type 0) (x : ℕ) (is_root : root x) (x_in : IsVertex H x) where
@@ -61,13 +60,8 @@ module _ (H : Protection) (root : ℕ → Type 0) (x : ℕ) (is_root : root x) (
   done_target : (d : Does) → Entitled H (Reaches H x) (reaches_on H x) x here d → (y : ℕ) → new_target H d ≡ Some y → Live H root y ⊎ (H.next ≤ y)
   done_target (effect.Joins from α to) h y is = let same : to ≡ y = cc is in inl (x, is_root, subst (Reaches H x) same h.1)
   done_target (effect.Makes k α name) h y is = let same : H.next ≡ y = cc is in inr (omega arith)
-  done_target (effect.Drops α over) h y is = absurd (cc is)
-  done_target (effect.Rewrites over text) h y is = absurd (cc is)
-  done_target (effect.Tells over) h y is = absurd (cc is)
-  done_target (effect.Lists at) h y is = absurd (cc is)
-  done_target effect.Retires h y is = absurd (cc is)
-  done_target (effect.Acts None) h y is = absurd (cc is)
   done_target (effect.Acts (Some agent)) h y is = let same : agent ≡ y = cc is in inl (x, is_root, subst (Reaches H x) same h.0)
+  done_target _ h y is = absurd (cc is)
 
   target_live : (c : Command) → Allowed H x c → (y : ℕ) → new_target H (terms x c).does ≡ Some y → Live H root y ⊎ (H.next ≤ y)
   target_live c a y is = done_target (terms x c).does (entitled H (Reaches H x) (reaches_on H x) x here c a) y is
@@ -77,21 +71,15 @@ new_is_next next x c outcome.Allowed y is = by (is_create x c) is where
   by : (b : Bool) → cond b (Some next) None ≡ Some y → next ≤ y
   by true is = let same : next ≡ y = cc is in omega arith
   by false is = absurd (cc is)
-new_is_next next x c (outcome.Denied rule cause) y is = absurd (cc is)
-new_is_next next x c (outcome.Full w) y is = absurd (cc is)
+new_is_next next x c _ y is = absurd (cc is)
 
 -- the labels that change are the same in both
 module _ (v : Contents) (j : Ties v) (store : IsStore v.store) (x : ℕ) (before after : ℕ) where
   done_moves : (actor : IsActor v x) (d : Does) → Entitled (held_now v) (IsVertex (held_now v)) (λ w z k e. edge_to (held_now v) (held_is v j store) w z e) x (actor_held v j store x actor) d →
       EdgeMoves (held_now v) before after x d → EdgeMoves (graph_now v) before after x d
   done_moves actor (effect.Joins from α to) h moved = subst (λ l. after + edges_at (joined l α) ≡ before + edges_at l) (sym (j.part.labels from to h.0)) moved
-  done_moves actor (effect.Makes k α name) h moved = moved
   done_moves actor (effect.Drops α over) h moved = subst (λ l. after + edges_at (without l α) ≡ before + edges_at l) (sym (j.part.labels x over (actor_held v j store x actor))) moved
-  done_moves actor (effect.Rewrites over text) h moved = moved
-  done_moves actor (effect.Tells over) h moved = moved
-  done_moves actor (effect.Lists at) h moved = moved
-  done_moves actor effect.Retires h moved = moved
-  done_moves actor (effect.Acts agent) h moved = moved
+  done_moves actor _ h moved = moved
 
   moved_so : (c : Command) (o : Outcome) → (o ≡ outcome.Allowed → Allowed (held_now v) x c) → (Allowed (held_now v) x c → IsActor v x ⊎ (c ≡ command.Leave)) →
       CellsMoved (held_now v) before after x c o → CellsMoved (graph_now v) before after x c o
@@ -99,8 +87,7 @@ module _ (v : Contents) (j : Ties v) (store : IsStore v.store) (x : ℕ) (before
     | inl actor ↦ done_moves actor (terms x c).does (entitled_held v j store x actor c (a refl)) moved
     | inr leaves ↦ subst (λ k. CellsMoved (held_now v) before after x k outcome.Allowed → CellsMoved (graph_now v) before after x k outcome.Allowed) (sym leaves) (λ (same : after ≡ before). same) moved
   ]
-  moved_so c (outcome.Denied rule cause) a acts moved = moved
-  moved_so c (outcome.Full w) a acts moved = moved
+  moved_so c _ a acts moved = moved
 
 -- each agent was assumed
 assumed_after : (earlier : List Entry) (e : Entry) (agents : List (Option ℕ)) → ((k y : ℕ) → at_seat agents k ≡ Some y → WasAssumed earlier k y) → (k y : ℕ) → at_seat (agents_after agents e.seat e.actor e.command e.outcome) k ≡ Some y →
@@ -185,8 +172,7 @@ module _ (v : Contents) (seat x : ℕ) (c : Command) (answer : Answered) (new : 
       | inl actor ↦ replied_so v j s.store x actor c (a refl)
       | inr leaves ↦ subst (λ k. reply_of H x k outcome.Allowed ≡ reply_of G x k outcome.Allowed) (sym leaves) refl
     ]
-    by (outcome.Denied rule cause) a = refl
-    by (outcome.Full w) a = refl
+    by _ a = refl
 
   graph_left : graph_now left ≡ next_graph G x c o
   graph_left = graph_of_more v.opening v.history e
@@ -244,8 +230,7 @@ module _ (v : Contents) (seat x : ℕ) (c : Command) (answer : Answered) (new : 
       | inl actor ↦ target_live H (IsRootIn v.store) x actor.root (actor_held v j s.store x actor) c (a refl) y is
       | inr leaves ↦ absurd (cc (sym (ap (λ k. new_target H (terms x k).does) leaves) ∙ is))
     ]
-    live (outcome.Denied rule cause) a y is = absurd (cc is)
-    live (outcome.Full w) a y is = absurd (cc is)
+    live _ a y is = absurd (cc is)
 
   still_vault : IsVault left
   still_vault = record {
@@ -262,8 +247,7 @@ module _ (v : Contents) (seat x : ℕ) (c : Command) (answer : Answered) (new : 
       | inl actor ↦ part_stays G H j.part x c in_G (held_is v j s.store) refl (actor_held v j s.store x actor) (IsVertex-from_kind G x _ actor.subject) (a refl)
       | inr leaves ↦ subst (λ k. IsPart (next_graph G x k outcome.Allowed) (next_graph H x k outcome.Allowed)) (sym leaves) j.part
     ]
-    by (outcome.Denied rule cause) a there = j.part
-    by (outcome.Full w) a there = j.part
+    by _ a there = j.part
 
   names_are : new.names ≡ (graph_now left).names
   names_are = ap (λ (K : Protection). K.names) s.carried.graph ∙ sym part_next.names ∙ sym (ap (λ (K : Protection). K.names) graph_left)

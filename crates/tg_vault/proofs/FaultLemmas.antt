@@ -17,27 +17,14 @@ IsFirst first OutOfMemory = first ≡ None
 
 means : (a b c : Bool) (fault : AskFault) → IsFirst (refusal a b c) fault → MeansOfItsSeat a b c fault
 means true b c NoSeat is = ((λ _. refl, λ _. refl), (λ e. absurd (cc e), λ h. absurd (cc h.0)), (λ e. absurd (cc e), λ h. absurd (cc h.0)), (λ e. absurd (cc e), λ h. absurd (cc h.0)))
-means true b c NoActor is = absurd (cc is)
-means true b c Busy is = absurd (cc is)
-means true b c OutOfMemory is = absurd (cc is)
 means false false c NoActor is = ((λ e. absurd (cc e), λ e. absurd (cc e)), (λ _. (refl, refl), λ _. refl), (λ e. absurd (cc e), λ h. absurd (cc h.1)), (λ e. absurd (cc e), λ h. absurd (cc h.1)))
-means false false c NoSeat is = absurd (cc is)
-means false false c Busy is = absurd (cc is)
-means false false c OutOfMemory is = absurd (cc is)
 means false true true Busy is = ((λ e. absurd (cc e), λ e. absurd (cc e)), (λ e. absurd (cc e), λ h. absurd (cc h.1)), (λ _. (refl, refl, refl), λ _. refl), (λ e. absurd (cc e), λ h. absurd (cc h.2)))
-means false true true NoSeat is = absurd (cc is)
-means false true true NoActor is = absurd (cc is)
-means false true true OutOfMemory is = absurd (cc is)
 means false true false OutOfMemory is = ((λ e. absurd (cc e), λ e. absurd (cc e)), (λ e. absurd (cc e), λ h. absurd (cc h.1)), (λ e. absurd (cc e), λ h. absurd (cc h.2)), (λ _. (refl, refl, refl), λ _. refl))
-means false true false NoSeat is = absurd (cc is)
-means false true false NoActor is = absurd (cc is)
-means false true false Busy is = absurd (cc is)
+means _ _ _ _ is = absurd (cc is)
 
 is_first : (w : World) (seat : ℕ) (fault : AskFault) → IsAskFault w seat fault → IsFirst (refusal (no_seat w seat) (in_use w seat) (has_target w seat)) fault
 is_first w seat NoSeat is = is
-is_first w seat NoActor is = is
-is_first w seat Busy is = is
-is_first w seat OutOfMemory is = is
+is_first w seat _ is = is
 
 pub faults_are_ordered : FaultsAreOrdered
 faults_are_ordered w seat fault is = means (no_seat w seat) (in_use w seat) (has_target w seat) fault (is_first w seat fault is)

@@ -60,14 +60,5 @@ module _ (G : Protection) (x : ℕ) (c : Command) (allowed : Allowed G x c) wher
 
 -- only an assume makes somebody the agent
 pub acts_for : (x : ℕ) (c : Command) (agent : ℕ) → effect.Acts (Some agent) ≡ (terms x c).does → c ≡ command.Assume agent
-acts_for x (command.Take α over from) agent is = absurd (cc is)
-acts_for x (command.Grant α over to) agent is = absurd (cc is)
-acts_for x (command.Create k α) agent is = absurd (cc is)
-acts_for x (command.Remove α over) agent is = absurd (cc is)
-acts_for x (command.Read over) agent is = absurd (cc is)
-acts_for x (command.Write over text) agent is = absurd (cc is)
-acts_for x (command.Look at) agent is = absurd (cc is)
-acts_for x (command.Enrol name α) agent is = absurd (cc is)
-acts_for x command.Retire agent is = absurd (cc is)
 acts_for x (command.Assume other) agent is = let same : agent ≡ other = cc is in ap (λ n. command.Assume n) (sym same)
-acts_for x command.Leave agent is = absurd (cc is)
+acts_for x _ agent is = absurd (cc is)

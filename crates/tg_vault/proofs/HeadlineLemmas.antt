@@ -34,8 +34,7 @@ carried_out limits G e p = record { only = only e.outcome p; unless_full = unles
 
   only : (o : Outcome) → P o → o ≡ outcome.Allowed → Allowed G e.actor e.command
   only outcome.Allowed p is = p.0
-  only (outcome.Denied rule cause) p is = absurd (cc is)
-  only (outcome.Full w) p is = absurd (cc is)
+  only _ p is = absurd (cc is)
 
   unless_full : (o : Outcome) → P o → Allowed G e.actor e.command → (o ≡ outcome.Allowed) ⊎ ((w : Which) × (o ≡ outcome.Full w))
   unless_full outcome.Allowed p a = inl refl
@@ -43,9 +42,8 @@ carried_out limits G e p = record { only = only e.outcome p; unless_full = unles
   unless_full (outcome.Full w) p a = inr (w, refl)
 
   full : (o : Outcome) → P o → (w : Which) → o ≡ outcome.Full w → Allowed G e.actor e.command × MayBeFull limits G e.actor e.command w
-  full outcome.Allowed p w is = absurd (cc is)
-  full (outcome.Denied rule cause) p w is = absurd (cc is)
   full (outcome.Full v) p w is = let same : v ≡ w = cc is in subst (λ u. Allowed G e.actor e.command × MayBeFull limits G e.actor e.command u) same (p.0, p.1)
+  full _ p w is = absurd (cc is)
 
 denied : (limits : Limits) (G : Protection) (e : Entry) → Permitted limits G e.actor e.command e.outcome → IsDenialNamed G e
 denied limits G e p rule cause = (named e.outcome p, denies e.outcome p) where
@@ -53,14 +51,12 @@ denied limits G e p rule cause = (named e.outcome p, denies e.outcome p) where
   P = Permitted limits G e.actor e.command
 
   named : (o : Outcome) → P o → o ≡ outcome.Denied rule cause → Denied G e.actor e.command rule cause
-  named outcome.Allowed p is = absurd (cc is)
   named (outcome.Denied r why) p is = let same_rule : r ≡ rule = cc is in let same_cause : why ≡ cause = cc is in subst (λ (q : Rule × Cause). Denied G e.actor e.command q.0 q.1) (λ i. (same_rule i, same_cause i)) p
-  named (outcome.Full w) p is = absurd (cc is)
+  named _ p is = absurd (cc is)
 
   denies : (o : Outcome) → P o → Denied G e.actor e.command rule cause → o ≡ outcome.Denied rule cause
-  denies outcome.Allowed p d = absurd (cc (not_both G e.actor e.command (outcome.Denied rule cause) p.0 d))
   denies (outcome.Denied r why) p d = judged_once G e.actor e.command (outcome.Denied rule cause) (outcome.Denied r why) d p
-  denies (outcome.Full w) p d = absurd (cc (not_both G e.actor e.command (outcome.Denied rule cause) p.0 d))
+  denies _ p d = absurd (cc (not_both G e.actor e.command (outcome.Denied rule cause) p.0 d))
 
 each_carried_out : (limits : Limits) (G : Protection) (es : List Entry) (H : Protection) → EntryRun limits [] G es H → EachEntry (IsCarriedOutWhenAllowed limits) G es
 each_carried_out limits = each (IsCarriedOutWhenAllowed limits) limits (carried_out limits) []

@@ -54,13 +54,11 @@ module _ (limits : Limits) (earlier : List Entry) (G : Protection) (seat x : ℕ
     | inl subject ↦ graph_stays G x c l.graph subject permitted.0
     | inr gone ↦ subst (λ k. IsGraph (next_graph G x k outcome.Allowed)) (sym (retired_leaves G x c gone permitted.0)) l.graph
   ]
-  turn_graph (outcome.Denied rule cause) asks permitted = l.graph
-  turn_graph (outcome.Full which) asks permitted = l.graph
+  turn_graph _ asks permitted = l.graph
 
   turn_subject : (o : Outcome) (y : ℕ) → IsSubject G y → IsSubject (next_graph G x c o) y
   turn_subject outcome.Allowed y subject = subject_stays G x c l.graph y subject
-  turn_subject (outcome.Denied rule cause) y subject = subject
-  turn_subject (outcome.Full which) y subject = subject
+  turn_subject _ y subject = subject
 
   -- whom a seat assumes is a subject
   turn_assumed : (o : Outcome) (y : ℕ) → c ≡ command.Assume y → o ≡ outcome.Allowed → Permitted limits G x c o → IsSubject G y
@@ -108,28 +106,22 @@ kept_active (m ∷ ms) x y other active = by (kept_active ms x y other) (not (m.
 
 -- who is or was a principal is one or was one afterwards
 done_was : (G : Protection) (x : ℕ) (d : Does) (y : ℕ) → WasPrincipal G y → WasPrincipal (done G x d) y
-done_was G x (effect.Joins from α to) y was = was
-done_was G x (effect.Makes k α None) y was = was
 done_was G x (effect.Makes k α (Some name)) y (inl active) =
     let m = member_found G.names y active in
     let new : Member = record { name = name; serial = G.next } in
     inl (member_finds (G.names ++ new ∷ []) y (m.0, contains_left G.names (new ∷ []) m.0 m.1, m.2))
 done_was G x (effect.Makes k α (Some name)) y (inr gone) = inr gone
-done_was G x (effect.Drops α over) y was = was
 done_was G x (effect.Rewrites over text) y was = by (vertex G over) where
   by : (o : Option Vertex) → WasPrincipal (with_text G over text o) y
   by None = was
   by (Some e) = was
-done_was G x (effect.Tells over) y was = was
-done_was G x (effect.Lists at) y was = was
-done_was G x (effect.Acts agent) y was = was
 done_was G x effect.Retires y (inl active) = by (y == x) refl where
   by : (b : Bool) → (y == x) ≡ b → WasPrincipal (done G x effect.Retires) y
   by true same = inr (set.contains-insert nat_cmp_total G.retired x y ∙ or_left _ _ (unsigned_tied y x ∙ same))
   by false other = inl (kept_active G.names x y other active)
 done_was G x effect.Retires y (inr gone) = inr (set.contains-insert nat_cmp_total G.retired x y ∙ or_right _ _ gone)
+done_was G x _ y was = was
 
 pub was_stays : (G : Protection) (x : ℕ) (c : Command) (o : Outcome) (y : ℕ) → WasPrincipal G y → WasPrincipal (next_graph G x c o) y
 was_stays G x c outcome.Allowed y was = done_was G x (terms x c).does y was
-was_stays G x c (outcome.Denied rule cause) y was = was
-was_stays G x c (outcome.Full which) y was = was
+was_stays G x c _ y was = was

@@ -177,9 +177,8 @@ module _ (limits : Limits) (G H : Protection) (r : IsRestriction G H (IsVertex H
   Stays k o = Permitted limits G x k o × IsRestriction (next_graph G x k o) (next_graph H x k o) (IsVertex (next_graph H x k o)) × (reply_of G x k o ≡ reply_of H x k o)
 
   never_full : (w : Which) → MayBeFull limits H x command.Leave w → ⊥
-  never_full which.Serials may = cc may.0
-  never_full which.Slots may = cc may.0
   never_full which.Cells may = may.0
+  never_full _ may = cc may.0
 
   retired_stays : (o : Outcome) → Permitted limits H x c o → Stays c o
   retired_stays outcome.Allowed permitted =

@@ -17,19 +17,12 @@ module _ (agents : List (Option ℕ)) (seat x : ℕ) (c : Command) (k y : ℕ) w
   Became o = ((k ≡ seat) × (c ≡ command.Assume y) × (o ≡ outcome.Allowed)) ⊎ (at_seat agents k ≡ Some y)
 
   done_agent : (d : Does) → d ≡ (terms x c).does → at_seat (new_agents agents seat d) k ≡ Some y → Became outcome.Allowed
-  done_agent (effect.Joins from α to) does at = inr at
-  done_agent (effect.Makes kind α name) does at = inr at
-  done_agent (effect.Drops α over) does at = inr at
-  done_agent (effect.Rewrites over text) does at = inr at
-  done_agent (effect.Tells over) does at = inr at
-  done_agent (effect.Lists of) does at = inr at
-  done_agent effect.Retires does at = inr at
   done_agent (effect.Acts agent) does at = elim (set_seat agents seat k agent y at) [ inl new ↦ inl (new.0, acts_for x c y (ap (λ a. effect.Acts a) (sym new.1) ∙ does), refl) | inr before ↦ inr before ]
+  done_agent _ does at = inr at
 
   pub agent_after : (o : Outcome) → at_seat (agents_after agents seat x c o) k ≡ Some y → Became o
   agent_after outcome.Allowed at = done_agent (terms x c).does refl at
-  agent_after (outcome.Denied rule cause) at = inr at
-  agent_after (outcome.Full w) at = inr at
+  agent_after _ at = inr at
 
 -- a pending target was one before, or is the seat's
 pub target_after : (pending : List (Option ℕ)) (seat : ℕ) (new : Option ℕ) (k y : ℕ) → at_seat (with_pending pending seat new) k ≡ Some y → (k ≡ seat) ⊎ (at_seat pending k ≡ Some y)

@@ -49,7 +49,17 @@ fn allowed(reply: Reply) -> Answered
     }
 }
 
+// Where one that is seldom wanted is inlined, room for it is cleared at each command: so these three are not.
+/// An allowed command, which was carried out, with nothing to return.
+#[inline(never)]
+fn done() -> Answered
+    ensures { result ≡ allowed reply.Done }
+{
+    allowed(Reply::Done)
+}
+
 /// An allowed command, which was carried out with this reply, or for which this is used up.
+#[inline(never)]
 fn settled(done: Result<Reply, Which>) -> Answered
     ensures { result ≡ settled done }
 {
@@ -63,6 +73,7 @@ fn settled(done: Result<Reply, Which>) -> Answered
 }
 
 /// A command that its rule denies.
+#[inline(never)]
 fn denied(rule: Rule, cause: &Cause) -> Answered
     ensures { result ≡ denied rule cause.now }
 {
@@ -269,26 +280,26 @@ impl State {
             }
             Effect::Drops { rights, over } => {
                 self.store.remove_rights(id, over, rights);
-                Ok(allowed(Reply::Done))
+                Ok(done())
             }
             Effect::Rewrites { over } => {
                 replace(&mut self.store, alloc, found.spot(over).place, command)?;
-                Ok(allowed(Reply::Done))
+                Ok(done())
             }
             Effect::Tells { over } => tell(&self.store, alloc, found.spot(over).place),
             Effect::Lists { at } => list(&self.store, alloc, found.spot(at).place),
             Effect::Retires => {
                 self.retire(actor.serial)?;
-                Ok(allowed(Reply::Done))
+                Ok(done())
             }
             Effect::Acts { agent } => match agent {
                 Some(agent) => {
                     self.store.assume(seat, found.spot(agent).place);
-                    Ok(allowed(Reply::Done))
+                    Ok(done())
                 }
                 None => {
                     self.store.leave(seat);
-                    Ok(allowed(Reply::Done))
+                    Ok(done())
                 }
             },
         }
@@ -318,7 +329,7 @@ impl State {
             Actor::At(spot) => self.answer_at(alloc, seat, spot, command),
             Actor::Gone(serial) if is_for_retired(serial, command) => {
                 self.store.leave(seat);
-                Ok(allowed(Reply::Done))
+                Ok(done())
             }
             Actor::Gone(_) => Ok(denied(command.rule(), &Cause::Retired)),
         }

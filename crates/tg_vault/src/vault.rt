@@ -1,5 +1,5 @@
 //! The vault: the seats, the store, and the history of the commands.
-ghost use Rattle.std.specs.Prelude.{◌≡◌, ◌<◌, ◌≤◌, ◌+◌, ℕ, ◌⊎◌, ◌∷◌, [], length, slice_get, Some, None, IfOk, IfErr, IfSome, IfNone, OnErr, OnOk, MatchResult, take};
+ghost use Rattle.std.specs.Prelude.{◌≡◌, ◌<◌, ◌≤◌, ◌⊎◌, ◌∷◌, [], length, slice_get, Some, None, IfOk, IfErr, IfSome, IfNone, OnErr, OnOk, MatchResult, take};
 ghost use Rattle.tg_rights.specs.declared.limits.TheConstants.{SEATS};
 ghost use Rattle.tg_graph.specs.Promise.Opening.{first_fault, IsRefusal};
 ghost use Rattle.tg_vault.specs.declared.event.Event.TheVariants as event;
@@ -7,7 +7,7 @@ ghost use Rattle.tg_vault.specs.declared.event.Answer.TheVariants as answer;
 ghost use Rattle.tg_collect.specs.Promise.Readings.{pending_of};
 ghost use Rattle.tg_collect.specs.Promise.Stored.{FIXED};
 ghost use Rattle.tg_collect.specs.Promise.Sessions.{AgentLeft, Shaded};
-ghost use Rattle.tg_vault.specs.Promise.World.{actor_at, at_seat, bye_fault, shade_fault, ask_refusal, Enters, IsAskFault};
+ghost use Rattle.tg_vault.specs.Promise.World.{at_seat, bye_fault, shade_fault, ask_refusal, IsAskFault};
 ghost use Rattle.tg_vault.specs.Promise.Contents.{Contents, StepOf, IsFresh, RunOf, Keeps, IsVault, moment, Fits, IsSmall, IsExact, StoreAnswer};
 ghost use Rattle.tg_vault.specs.Promise.StoreSteps.{SessionStep, StoreStep};
 ghost use Rattle.tg_vault.specs.Promise.Agreement.{SameForAgreeing};
@@ -21,7 +21,7 @@ use crate::entry::Entry;
 use crate::event::{Answer, AskFault, Event, SeatFault};
 use crate::laws::courses_have_the_headline;
 use crate::seats::{at_seat, empty_seats};
-use std::alloc::{AllocError, Global};
+use std::alloc::Global;
 use std::collections::BTreeSet;
 use std::marker::Model;
 use tg_collect::{Key, Note, Store};
@@ -288,10 +288,22 @@ impl Vault {
         ensures unchanged { OnErr result (self.new ≡ self.old) }
     {
         let principal = self.ready_at(seat)?;
-        match self.enter(seat, principal, command) {
-            Ok(entered) => Ok(entered),
-            Err(_) => Err(AskFault::OutOfMemory),
-        }
+        let number = self.count();
+        let Ok(()) = self.history.try_reserve(1) else {
+            return Err(AskFault::OutOfMemory);
+        };
+        self.opening.soundness();
+        self.state.store.soundness();
+        let actor = acting_at(&self.state.store, &self.state.retired, seat, principal);
+        let Ok(answered) = self.state.answer(self.alloc, seat, actor, &command) else {
+            return Err(AskFault::OutOfMemory);
+        };
+        self.state.store.soundness();
+        let entry = Entry::new(seat, actor.serial(), command, answered.outcome);
+        let Ok(()) = self.history.push(entry) else {
+            unreachable!();
+        };
+        Ok((number, answered.reply))
     }
 
     /// Who sits on the seat, if a command may be asked there.
@@ -305,37 +317,6 @@ impl Vault {
             Err(SeatFault::NoActor) => Err(AskFault::NoActor),
             Err(_) => Err(AskFault::Busy),
         }
-    }
-
-    /// Carries out the command of the seat's actor and enters it.
-    #[tactic(auto, using(crate::proofs::CollectLemmas::still_acts))]
-    fn enter(
-        &mut self,
-        seat: u64,
-        principal: u64,
-        command: Command,
-    ) -> Result<(u64, Reply), AllocError>
-        requires seat { seat < SEATS }
-        requires seated { at_seat self.old.seats seat ≡ Some principal }
-        requires idle { pending_of self.old.store seat ≡ None }
-        ensures number { IfOk result (λ r. r.0 ≡ length self.old.history) }
-        ensures ok { IfOk result (λ r. (actor : ℕ) × (actor_at (moment self.old).world seat ≡ Some actor) × Enters self.old.limits (moment self.old) seat actor command r.1 (moment self.new)) }
-        ensures err { OnErr result (self.new ≡ self.old) }
-        ensures keeps { Keeps self.old self.new }
-        ensures agrees { IfOk result (λ r. SameForAgreeing self.old self.new r.1) }
-        ensures exact { IfOk result (λ r. IsExact self.old self.new) }
-        ensures acts { SessionStep self.old self.new }
-    {
-        let number = self.count();
-        self.history.try_reserve(1)?;
-        self.opening.soundness();
-        self.state.store.soundness();
-        let actor = acting_at(&self.state.store, &self.state.retired, seat, principal);
-        let answered = self.state.answer(self.alloc, seat, actor, &command)?;
-        self.state.store.soundness();
-        let entry = Entry::new(seat, actor.serial(), command, answered.outcome);
-        self.history.push(entry)?;
-        Ok((number, answered.reply))
     }
 
     /// Carries out a copy of the command; the copy is made only once the seat is known to have no fault.

@@ -1,17 +1,12 @@
 //! One line: read, carried out, answered.
 
-ghost use Rattle.std.specs.Prelude.{◌≡◌, false};
-ghost use Rattle.tg_vault.specs.declared.event.Answer.{Answer};
-ghost use Rattle.tg_vault.specs.declared.vault.Swept.{Swept};
-ghost use Rattle.tg_vault.specs.Promise.Contents.{Keeps};
-ghost use Rattle.tg_vault.specs.Promise.Course.{VaultStep};
-ghost use Rattle.tg_vault.specs.Promise.Cycles.{IsCycle};
-ghost use Rattle.tg_talk.specs.Promise.Answering.{TellsAnswer, is_wrong, one_if, shown_line};
+ghost use Rattle.std.specs.Prelude.{false};
+ghost use Rattle.tg_talk.specs.Promise.Answering.{is_wrong, one_if, shown_line};
 ghost use Rattle.tgdoc.specs.Inner.Running.{AnswersLine, RunnerSays, TellsSwept};
 
 use std::alloc::Global;
 use tg_talk::{Responder, Said, Text, text_of_answer};
-use tg_vault::{Event, Swept, Vault};
+use tg_vault::{Swept, Vault};
 use tg_wire::{Line, LineRoom, WireFault, read_line_in, write_swept_in};
 
 /// Who answers the lines of a run: a vault, on which their events are carried out.
@@ -42,29 +37,16 @@ pub(crate) fn answer(alloc: Global, vault: &mut Vault, bytes: &[u8], room: &mut 
     ensures { AnswersLine vault.old bytes.now vault.new (shown_line result) (one_if (is_wrong result)) }
 {
     match read_line_in(room, alloc, bytes) {
-        Ok(Line::Act(event)) => carry_out(vault, event, room),
-        Ok(Line::Cycle) => sweep(vault, room),
+        Ok(Line::Act(event)) => {
+            let answer = vault.run_one(event);
+            text_of_answer(room, &answer)
+        }
+        Ok(Line::Cycle) => {
+            let swept = vault.cycle();
+            tell_swept(room, swept)
+        }
         Err(fault) => Text::Refusal(fault),
     }
-}
-
-/// Carries out one event, and returns the answer's line.
-#[inline(always)]
-fn carry_out(vault: &mut Vault, event: Event, room: &mut LineRoom) -> Text
-    ensures { (answer : Answer) × VaultStep vault.old event answer vault.new × TellsAnswer answer (shown_line result) (is_wrong result) }
-{
-    let answer = vault.run_one(event);
-    text_of_answer(room, &answer)
-}
-
-/// Carries out a cycle of the collector, and returns the line of what it did.
-#[inline(always)]
-fn sweep(vault: &mut Vault, room: &mut LineRoom) -> Text
-    ensures keeps { Keeps vault.old vault.new }
-    ensures swept { (swept : Swept) × IsCycle vault.old swept vault.new × TellsSwept swept (shown_line result) (is_wrong result) }
-{
-    let swept = vault.cycle();
-    tell_swept(room, swept)
 }
 
 /// The line of what a cycle did, or `out of memory` in its place.

@@ -1,6 +1,6 @@
 //! Keys from sources that return what is known, or nothing.
 
-use crate::key::{key_or_fixed, random_key};
+use crate::key::key_or_fixed;
 use std::io;
 use std::io::ErrorKind;
 use std::random::RandomSource;
@@ -29,22 +29,6 @@ impl RandomSource for Broken {
     fn fill_bytes(&self, _buf: &mut [u8]) -> io::Result<()> {
         Err(io::Error::from(ErrorKind::Other))
     }
-}
-
-#[test]
-fn a_key_has_all_sixteen_bytes(rt: HostRuntime) {
-    match random_key(&Counting) {
-        Some(key) => {
-            assert!(rt; key.owner == 0x0706_0504_0302_0101);
-            assert!(rt; key.serial == 0x0F0E_0D0C_0B0A_0909);
-        }
-        None => panic!(rt; "no key"),
-    }
-}
-
-#[test]
-fn no_bytes_are_no_key(rt: HostRuntime) {
-    assert!(rt; random_key(&Broken).is_none());
 }
 
 #[test]

@@ -18,7 +18,7 @@ returns-in-Gone-clause-carried c =
     let retired = set_of c.args.self.now.retired.keys in
     let leaves = only_leave c.in-Gone.serial c.args.command.now (sym c.is_for_retired.ensures ∙ c.if-is_for_retired.true) in
     subst (λ (a : Actor × Answered). CarriedOut c.args.self.now (record c.args.self.now { store = c.leave.new.self }) c.args.seat (serial_in a.0) c.args.command.now a.1)
-    (sym (λ i. (c.in-Gone.is i, c.allowed.ensures i)))
+    (sym (λ i. (c.in-Gone.is i, c.done.ensures i)))
     (carried_by c.args.self.now.store c.leave.new.self c.args.self.now.next c.args.self.now.names retired c.args.seat c.requires.listed _ c.in-Gone.serial c.args.command.now (effect.Acts None) (Ok reply.Done)
     (ap (λ k. (terms c.in-Gone.serial k).does) (sym leaves)) (leave_allowed (graph_seen c.args.self.now.store c.args.self.now.next c.args.self.now.names retired) c.in-Gone.serial c.args.command.now leaves)
     (leave_done c.args.self.now.store c.leave.new.self c.args.self.now.next c.args.self.now.names retired c.args.seat c.requires.listed c.in-Gone.serial c.leave.ensures.left c.leave.ensures.acted))

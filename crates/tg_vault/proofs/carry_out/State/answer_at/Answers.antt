@@ -120,7 +120,7 @@ returns-in-Drops-clause-carried c =
     let w = (goal.at.returns-in-Drops-clause-carried c).In-Ok in
     let here = edge w c.in-Drops.over c.in-Drops.rights c.in-Drops.ensures c.args.self.now.next in
     let removed = subst (λ x. RightsRemoved c.args.self.now.store c.remove_rights.new.self x c.in-Drops.over c.in-Drops.rights) (serial_is c.args.self.now.store c.args.actor.place c.args.actor.serial c.requires.actor) c.remove_rights.ensures.removed in
-    carried w c.remove_rights.new.self _ (effect.Drops c.in-Drops.rights c.in-Drops.over) (Ok reply.Done) c.allowed.result c.in-Drops.ensures c.allowed.ensures
+    carried w c.remove_rights.new.self _ (effect.Drops c.in-Drops.rights c.in-Drops.over) (Ok reply.Done) c.done.result c.in-Drops.ensures c.done.ensures
     (drop_done c.args.self.now.store c.remove_rights.new.self c.args.self.now.next c.args.self.now.names (set_of c.args.self.now.retired.keys) c.args.seat c.requires.listed c.args.actor.serial c.in-Drops.over c.in-Drops.rights here removed c.remove_rights.ensures.acted)
 
 pub returns-in_ok-replace-in-Rewrites-clause-carried : goal.returns-in_ok-replace-in-Rewrites-clause-carried
@@ -128,7 +128,7 @@ returns-in_ok-replace-in-Rewrites-clause-carried c =
     let over = serial_found c.args.self.now.store c.in-Ok.found c.spot.result c.in-Rewrites.over c.in-Ok.ensures.places c.spot.ensures.is c.spot.ensures.serial in
     let text = text_in c.args.command.now in
     let replaced = subst (λ v. (old : List ℕ) × TextReplaced c.args.self.now.store c.replace.new.store v text old) over c.in_ok-replace-in-Rewrites.ensures.replaced in
-    carried (goal.at.returns-in_ok-replace-in-Rewrites-clause-carried c).In-Ok c.replace.new.store _ (effect.Rewrites c.in-Rewrites.over text) (Ok reply.Done) c.allowed-in-Rewrites.result c.in-Rewrites.ensures c.allowed-in-Rewrites.ensures
+    carried (goal.at.returns-in_ok-replace-in-Rewrites-clause-carried c).In-Ok c.replace.new.store _ (effect.Rewrites c.in-Rewrites.over text) (Ok reply.Done) c.done-in-Rewrites.result c.in-Rewrites.ensures c.done-in-Rewrites.ensures
     (rewrite_done c.args.self.now.store c.replace.new.store c.args.self.now.next c.args.self.now.names (set_of c.args.self.now.retired.keys) c.args.seat c.requires.listed c.args.actor.serial c.in-Rewrites.over text replaced.0 replaced.1
     c.in_ok-replace-in-Rewrites.ensures.acted)
 
@@ -156,20 +156,20 @@ pub returns-in_ok-retire-in-Retires-clause-carried : goal.returns-in_ok-retire-i
 returns-in_ok-retire-in-Retires-clause-carried c =
     let e = c.in_ok-retire-in-Retires.ensures in
     let new = c.retire.new.self in
-    carried (goal.at.returns-in_ok-retire-in-Retires-clause-carried c).In-Ok new.store _ effect.Retires (Ok reply.Done) c.allowed-in-Retires.result c.in-Retires.ensures c.allowed-in-Retires.ensures
+    carried (goal.at.returns-in_ok-retire-in-Retires-clause-carried c).In-Ok new.store _ effect.Retires (Ok reply.Done) c.done-in-Retires.result c.in-Retires.ensures c.done-in-Retires.ensures
     (subst (λ n. ByEffect c.args.self.now.store new.store c.args.self.now.next c.args.self.now.names (set_of c.args.self.now.retired.keys) c.args.seat (graph_seen new.store n new.names (set_of new.retired.keys)) c.args.actor.serial effect.Retires (Ok reply.Done)) (sym e.next)
     (retire_done c.args.self.now.store new.store c.args.self.now.next c.args.self.now.names (set_of c.args.self.now.retired.keys) c.args.seat c.requires.listed c.args.actor.serial new.names (set_of new.retired.keys) e.left e.gone e.retired e.acted))
 
 pub returns-in-Some-clause-carried : goal.returns-in-Some-clause-carried
 returns-in-Some-clause-carried c =
     let agent = serial_found c.args.self.now.store c.in-Ok.found c.spot-in-Some.result c.in-Some.agent c.in-Ok.ensures.places c.spot-in-Some.ensures.is c.spot-in-Some.ensures.serial in
-    carried (goal.at.returns-in-Some-clause-carried c).In-Ok c.assume.new.self _ (effect.Acts (Some c.in-Some.agent)) (Ok reply.Done) c.allowed-in-Some.result (ap (λ a. effect.Acts a) (sym c.in-Some.is) ∙ c.in-Acts.ensures) c.allowed-in-Some.ensures
+    carried (goal.at.returns-in-Some-clause-carried c).In-Ok c.assume.new.self _ (effect.Acts (Some c.in-Some.agent)) (Ok reply.Done) c.done-in-Some.result (ap (λ a. effect.Acts a) (sym c.in-Some.is) ∙ c.in-Acts.ensures) c.done-in-Some.ensures
     (assume_done c.args.self.now.store c.assume.new.self c.args.self.now.next c.args.self.now.names (set_of c.args.self.now.retired.keys) c.args.seat c.requires.listed c.args.actor.serial c.in-Some.agent
     (subst (Assumed c.args.self.now.store c.assume.new.self c.args.seat) agent c.assume.ensures.assumed) (subst (λ x. Acted c.args.self.now.store c.assume.new.self None (Some x)) agent c.assume.ensures.acted))
 
 pub returns-in-None-clause-carried : goal.returns-in-None-clause-carried
 returns-in-None-clause-carried c =
-    carried (goal.at.returns-in-None-clause-carried c).In-Ok c.leave.new.self _ (effect.Acts None) (Ok reply.Done) c.allowed-in-None.result (ap (λ a. effect.Acts a) (sym c.in-None.is) ∙ c.in-Acts.ensures) c.allowed-in-None.ensures
+    carried (goal.at.returns-in-None-clause-carried c).In-Ok c.leave.new.self _ (effect.Acts None) (Ok reply.Done) c.done-in-None.result (ap (λ a. effect.Acts a) (sym c.in-None.is) ∙ c.in-Acts.ensures) c.done-in-None.ensures
     (leave_done c.args.self.now.store c.leave.new.self c.args.self.now.next c.args.self.now.names (set_of c.args.self.now.retired.keys) c.args.seat c.requires.listed c.args.actor.serial c.leave.ensures.left c.leave.ensures.acted)
 
 pub returns-in_err-replace-in-Rewrites-clause-needed : goal.returns-in_err-replace-in-Rewrites-clause-needed

@@ -2,7 +2,7 @@ use Rattle.std.proofs.Common.{Some, None, subst}
 use Rattle.std.proofs.lemmas.List.{take_rest}
 use Rattle.memchr.specs.Find.{IsLastByte, is_byte}
 use Rattle.tg_talk.proofs.InputLinesLemmas.{ends_found, ends_known}
-use Rattle.tg_talk.proofs.newline.last_lines_to.Goals as goal
+use Rattle.tg_talk.proofs.line_buffer.last_lines_to.Goals as goal
 
 pub returns-in-Some : goal.returns-in-Some
 returns-in-Some c =

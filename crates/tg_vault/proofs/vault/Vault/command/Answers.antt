@@ -9,16 +9,16 @@ use Rattle.tg_vault.specs.Promise.StoreSteps.{SessionStep}
 use Rattle.tg_vault.specs.Promise.Agreement.{SameForAgreeing}
 use Rattle.tg_vault.proofs.DecidedLemmas.{next_unheld, none_gone, root_active}
 use Rattle.tg_vault.proofs.EntryLemmas.{Pushed, pushed_joined, pushed_enters, pushed_same, pushed_exact, pushed_acts, next_unparked}
-use Rattle.tg_vault.proofs.vault.Vault.enter.Goals as goal
+use Rattle.tg_vault.proofs.vault.Vault.command.Goals as goal
 
 pub acting_at-actor-requires-clause-active : goal.acting_at-actor-requires-clause-active
-acting_at-actor-requires-clause-active c = λ h. ap (λ rs. set.contains rs c.args.principal) c.self.invariant.retired ∙ root_active _ c.self.invariant.joins c.soundness-2.ensures.sound c.args.principal h
+acting_at-actor-requires-clause-active c = λ h. ap (λ rs. set.contains rs c.in_ok-principal.principal) c.self.invariant.retired ∙ root_active _ c.self.invariant.joins c.soundness-2.ensures.sound c.in_ok-principal.principal h
 
 pub acting_at-actor-requires-clause-gone : goal.acting_at-actor-requires-clause-gone
 acting_at-actor-requires-clause-gone c = λ none.
-    let sits = subst (λ (w : Contents). at_seat w.seats c.args.seat ≡ Some c.args.principal) (sym c.self.view_is) c.requires.seated in
-    ap (λ rs. set.contains rs c.args.principal) c.self.invariant.retired
-    ∙ none_gone _ c.self.invariant.joins c.soundness-2.ensures.sound c.args.principal (c.self.invariant.joins.vault.seated c.args.seat c.args.principal sits) none
+    let sits = subst (λ (w : Contents). at_seat w.seats c.args.seat ≡ Some c.in_ok-principal.principal) (sym c.self.view_is) c.in_ok-principal.ensures.ok.1 in
+    ap (λ rs. set.contains rs c.in_ok-principal.principal) c.self.invariant.retired
+    ∙ none_gone _ c.self.invariant.joins c.soundness-2.ensures.sound c.in_ok-principal.principal (c.self.invariant.joins.vault.seated c.args.seat c.in_ok-principal.principal sits) none
 
 pub answer-requires-clause-unheld : goal.answer-requires-clause-unheld
 answer-requires-clause-unheld c = subst (λ n. IsHeldIn c.self.inside.state.store n → ⊥) (sym c.self.invariant.serial) (next_unheld _ c.self.invariant.joins c.soundness-2.ensures.sound)
@@ -29,42 +29,45 @@ answer-requires-clause-unparked c = subst (λ n. IsParkedIn c.self.inside.state.
 pub answer-requires-clause-listed : goal.answer-requires-clause-listed
 answer-requires-clause-listed c = c.self.invariant.joins.principals
 
-acts : (c : goal.In_ok-push) → actor_at (moment (contents c.self.inside)).world c.args.seat ≡ Some (serial_in c.acting_at-actor.result)
+acts : (c : goal.In-Ok-push) → actor_at (moment (contents c.self.inside)).world c.args.seat ≡ Some (serial_in c.acting_at-actor.result)
 acts c =
-    let sits = subst (λ (w : Contents). at_seat w.seats c.args.seat ≡ Some c.args.principal) (sym c.self.view_is) c.requires.seated in
+    let sits = subst (λ (w : Contents). at_seat w.seats c.args.seat ≡ Some c.in_ok-principal.principal) (sym c.self.view_is) c.in_ok-principal.ensures.ok.1 in
     ap (acting (at_seat (agents c.self.inside.state.store) c.args.seat)) sits ∙ c.acting_at-actor.ensures.actor
 
-pushed : (c : goal.In_ok-push) →
-    Pushed (contents c.self.inside) c.self.inside.state.next c.self.inside.state.retired.keys c.args.seat (serial_in c.acting_at-actor.result) c.args.command c.in_ok-answered.answered c.answer.new.self c.push.new.self.items
+pushed : (c : goal.In-Ok-push) →
+    Pushed (contents c.self.inside) c.self.inside.state.next c.self.inside.state.retired.keys c.args.seat (serial_in c.acting_at-actor.result) c.args.command c.in-Ok-answer.answered c.answer.new.self c.push.new.self.items
 pushed c = record {
   joined = c.self.invariant;
   store = c.soundness-2.ensures.sound;
-  within = c.requires.seat;
+  within = c.in_ok-principal.ensures.ok.0;
   acts = acts c;
-  carried = c.in_ok-answered.ensures.carried;
+  carried = c.in-Ok-answer.ensures.carried;
   history_is =
-      c.in_ok-push.ensures.items
+      c.in-Ok-push.ensures.items
       ∙ (λ i. c.try_reserve.ensures.items i ++ c.new-entry.ensures i ∷ [])
-      ∙ ap (λ (x : ℕ). c.self.inside.history.items ++ record { seat = c.args.seat; actor = x; command = c.args.command; outcome = c.in_ok-answered.answered.outcome } ∷ []) c.serial.ensures;
+      ∙ ap (λ (x : ℕ). c.self.inside.history.items ++ record { seat = c.args.seat; actor = x; command = c.args.command; outcome = c.in-Ok-answer.answered.outcome } ∷ []) c.serial.ensures;
 }
 
 pub invariant_of-self-2 : goal.invariant_of-self-2
 invariant_of-self-2 c = pushed_joined (contents c.self.inside) _ _ _ _ _ _ _ _ (pushed c)
 
-pub returns-clause-ok : goal.returns-clause-ok
-returns-clause-ok c =
-    subst (λ (w : Contents). (actor : ℕ) × (actor_at (moment w).world c.args.seat ≡ Some actor)
-    × Enters w.limits (moment w) c.args.seat actor c.args.command c.in_ok-answered.answered.reply (moment (record (contents c.self.inside) { store = c.answer.new.self.store; names = c.answer.new.self.names; history = c.push.new.self.items }))) c.self.view_is
-    (serial_in c.acting_at-actor.result, acts c, pushed_enters (contents c.self.inside) _ _ _ _ _ _ _ _ (pushed c))
+pub returns-clause-step : goal.returns-clause-step
+returns-clause-step c = (
+  c.in_ok-principal.ensures.ok.3,
+  c.count-number.ensures,
+  subst (λ (w : Contents). (actor : ℕ) × (actor_at (moment w).world c.args.seat ≡ Some actor)
+      × Enters w.limits (moment w) c.args.seat actor c.args.command c.in-Ok-answer.answered.reply (moment (record (contents c.self.inside) { store = c.answer.new.self.store; names = c.answer.new.self.names; history = c.push.new.self.items }))) c.self.view_is
+      (serial_in c.acting_at-actor.result, acts c, pushed_enters (contents c.self.inside) _ _ _ _ _ _ _ _ (pushed c)),
+)
 
 pub returns-clause-keeps : goal.returns-clause-keeps
 returns-clause-keeps c =
     subst (λ (w : Contents). Keeps w (record (contents c.self.inside) { store = c.answer.new.self.store; names = c.answer.new.self.names; history = c.push.new.self.items })) c.self.view_is
-    (record { opening = refl; limits = refl; key = c.in_ok-answered.ensures.carried.acted.key })
+    (record { opening = refl; limits = refl; key = c.in-Ok-answer.ensures.carried.acted.key })
 
 pub returns-clause-agrees : goal.returns-clause-agrees
 returns-clause-agrees c =
-    subst (λ (w : Contents). SameForAgreeing w (record (contents c.self.inside) { store = c.answer.new.self.store; names = c.answer.new.self.names; history = c.push.new.self.items }) c.in_ok-answered.answered.reply) c.self.view_is
+    subst (λ (w : Contents). SameForAgreeing w (record (contents c.self.inside) { store = c.answer.new.self.store; names = c.answer.new.self.names; history = c.push.new.self.items }) c.in-Ok-answer.answered.reply) c.self.view_is
     (pushed_same (contents c.self.inside) _ _ _ _ _ _ _ _ (pushed c))
 
 pub returns-clause-exact : goal.returns-clause-exact
