@@ -1,13 +1,13 @@
 //! The line of an object, written field by field into one buffer.
 
-ghost use Rattle.std.specs.Prelude.{◌≡◌, ◌∷◌, ◌++◌, [], false, decimal, IfOk, OnOk};
+ghost use Rattle.std.specs.Prelude.{◌≡◌, ◌+◌, ◌%◌, ◌∷◌, ◌++◌, [], false, decimal, IfOk, OnOk};
 ghost use Rattle.json.specs.Print.{quoted};
 ghost use Rattle.serde_json.specs.Data.{array, object, string};
-ghost use Rattle.serde_json.specs.Written.{comma_if, compact_text, members_text};
+ghost use Rattle.serde_json.specs.Written.{compact_text, members_text};
 ghost use Rattle.tg_rights.specs.Promise.Written.{rights_text};
 ghost use Rattle.tg_wire.specs.Promise.Faults.{line_text};
 ghost use Rattle.tg_wire.specs.Promise.Replies.{edge_data, edges_data};
-ghost use Rattle.tg_wire.specs.Inner.Told.{field_of, led_text, leads_text, told_data, told_members};
+ghost use Rattle.tg_wire.specs.Inner.Told.{byte_if, field_of, led_text, leads_text, told_data, told_members};
 
 use crate::line_room::LineRoom;
 use crate::plain::is_plain;
@@ -151,7 +151,7 @@ fn put_fields(line: &mut Vec<u8>, fields: &[(&str, Told<'_>)]) -> Result<(), All
 {
     let mut later = false;
     for (key, told) in fields {
-        put_comma(line, later)?;
+        put_if(line, later, b',')?;
         put_text(line, *key)?;
         line.push(b':')?;
         put(line, told)?;
@@ -180,7 +180,7 @@ fn put_edges(line: &mut Vec<u8>, edges: &[(u64, Rights)]) -> Result<(), AllocErr
     line.push(b'[')?;
     let mut later = false;
     for (serial, rights) in edges {
-        put_comma(line, later)?;
+        put_if(line, later, b',')?;
         put_edge(line, *serial, *rights)?;
         later = true;
     }
@@ -200,19 +200,43 @@ fn put_edge(line: &mut Vec<u8>, serial: u64, rights: Rights) -> Result<(), Alloc
     Ok(())
 }
 
-/// A comma, if something stands before.
+/// A byte, if it is shown.
 #[inline(always)]
-fn put_comma(line: &mut Vec<u8>, later: bool) -> Result<(), AllocError>
-    ensures { OnOk result (line.new.items ≡ line.old.items ++ comma_if later) }
+fn put_if(line: &mut Vec<u8>, shown: bool, byte: u8) -> Result<(), AllocError>
+    ensures { OnOk result (line.new.items ≡ line.old.items ++ byte_if shown byte) }
 {
-    if later {
-        line.push(b',')?;
+    if shown {
+        line.push(byte)?;
     }
     Ok(())
 }
 
-/// A number's digits.
+/// A number's digits. Those of a number of more than four are made apart, and copied.
 pub(crate) fn put_number(line: &mut Vec<u8>, number: u64) -> Result<(), AllocError>
+    ensures { OnOk result (line.new.items ≡ line.old.items ++ decimal number) }
+{
+    if number >= 10_000 {
+        return put_many_digits(line, number);
+    }
+    let tens = number / 10;
+    let hundreds = tens / 10;
+    let thousands = hundreds / 10;
+    put_if(line, thousands > 0, last_digit(thousands))?;
+    put_if(line, hundreds > 0, last_digit(hundreds))?;
+    put_if(line, tens > 0, last_digit(tens))?;
+    line.push(last_digit(number))?;
+    Ok(())
+}
+
+#[inline(always)]
+fn last_digit(number: u64) -> u8
+    ensures { result ≡ 48 + number % 10 }
+{
+    b'0' + (number % 10) as u8
+}
+
+#[inline(never)]
+fn put_many_digits(line: &mut Vec<u8>, number: u64) -> Result<(), AllocError>
     ensures { OnOk result (line.new.items ≡ line.old.items ++ decimal number) }
 {
     let mut buffer = Buffer::new();
@@ -224,7 +248,13 @@ pub(crate) fn put_number(line: &mut Vec<u8>, number: u64) -> Result<(), AllocErr
 pub(crate) fn put_letters(line: &mut Vec<u8>, rights: Rights) -> Result<(), AllocError>
     ensures { OnOk result (line.new.items ≡ line.old.items ++ quoted (rights_text rights)) }
 {
-    put_quoted(line, rights.letters().as_bytes())
+    line.push(b'"')?;
+    put_if(line, rights.contains(Rights::read()), b'r')?;
+    put_if(line, rights.contains(Rights::write()), b'w')?;
+    put_if(line, rights.contains(Rights::take()), b't')?;
+    put_if(line, rights.contains(Rights::grant()), b'g')?;
+    line.push(b'"')?;
+    Ok(())
 }
 
 /// A text, in quotes, with the escapes that it needs.

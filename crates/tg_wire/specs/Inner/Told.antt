@@ -1,5 +1,5 @@
 -- the values of the fields of a line that is written
-use Rattle.std.specs.Prelude.{ℕ, List, [], ◌∷◌, ◌++◌}
+use Rattle.std.specs.Prelude.{ℕ, List, [], ◌∷◌, ◌++◌, Bool, if◌then◌else◌}
 use Rattle.std.specs.Borrow.{Bor}
 use Rattle.serde_json.specs.Data.{Data, string, number, unsigned, array, Members, no_members, member}
 use Rattle.serde_json.specs.Written.{compact_text}
@@ -34,3 +34,7 @@ led_members (f ∷ fs) = f.0 ++ (compact_text f.1 ++ led_members fs)
 -- the line of an object of such fields
 abbrev pub leads_text : List (List ℕ × Data) → List ℕ
 leads_text fs = led_members fs ++ 10 ∷ []
+
+-- a byte, if it is shown
+abbrev pub byte_if : Bool → ℕ → List ℕ
+byte_if shown byte = if shown then byte ∷ [] else []

@@ -1,8 +1,27 @@
-use Rattle.std.proofs.Common.{◌≡◌, ◌∷◌, ◌++◌, [], OnOk, sym, ◌∙◌, subst}
-use Rattle.tg_wire.proofs.ObjectLineLemmas.{letters_are_plain}
+use Rattle.std.proofs.Common.{◌≡◌, ◌&&◌, Bool, true, false, refl, ap, ◌∙◌}
+use Rattle.tg_rights.specs.Promise.Letters.{Letters, includes, read_alone, write_alone, take_alone}
+use Rattle.tg_wire.proofs.ObjectLineLemmas.{letters_in_a_row}
 use Rattle.tg_wire.proofs.object_line.put_letters.Goals as goal
+
+and_true : (b : Bool) → (b && true) ≡ b
+and_true true = refl
+and_true false = refl
+
+has_read : (a : Letters) → includes a read_alone ≡ a.read
+has_read a = and_true ((a.read && true) && true) ∙ and_true (a.read && true) ∙ and_true a.read
+
+has_write : (a : Letters) → includes a write_alone ≡ a.write
+has_write a = and_true (a.write && true) ∙ and_true a.write
+
+has_take : (a : Letters) → includes a take_alone ≡ a.take
+has_take a = and_true a.take
 
 pub returns : goal.returns
 returns c =
-    subst (λ s. OnOk c.put_quoted.result (c.put_quoted.new.line.items ≡ c.args.line.now.items ++ 34 ∷ (s ++ 34 ∷ [])))
-    (c.as_bytes.ensures.value ∙ c.letters.ensures ∙ sym (letters_are_plain c.args.rights)) c.put_quoted.ensures
+    let rights = c.args.rights in
+    let read = c.contains.ensures ∙ ap (includes rights) c.read.ensures ∙ has_read rights in
+    let write = c.contains-2.ensures ∙ ap (includes rights) c.write.ensures ∙ has_write rights in
+    let take = c.contains-3.ensures ∙ ap (includes rights) c.take.ensures ∙ has_take rights in
+    let grant : c.contains-4.result ≡ rights.grant = c.contains-4.ensures ∙ ap (includes rights) c.grant.ensures in
+    rw (c.in_ok-push-2.ensures.items, c.in_ok-put_if-4.ensures, c.in_ok-put_if-3.ensures, c.in_ok-put_if-2.ensures, c.in_ok-put_if.ensures, c.in_ok-push.ensures.items, read, write, take, grant)
+    (letters_in_a_row c.args.line.now.items rights)
