@@ -1,6 +1,5 @@
 -- The keys that a line may have, as a set.
-use Rattle.std.proofs.Common.{◌≡◌, ℕ, Bool, true, false, ◌&&◌, List, [], ◌∷◌, ◌++◌, refl, sym}
-use Rattle.std.proofs.lemmas.Bool.{and_parts}
+use Rattle.std.proofs.Common.{◌≡◌, ◌++◌, refl}
 use Rattle.tg_rights.specs.declared.command.Rule.TheVariants as rule
 use Rattle.tg_wire.specs.Inner.Keys.{is_in_set, key_text}
 use Rattle.tg_wire.specs.Inner.Known.{known_set}

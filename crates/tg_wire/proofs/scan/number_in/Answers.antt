@@ -1,4 +1,4 @@
-use Rattle.std.proofs.Common.{◌≡◌, ◌<◌, length, take, subst, arith, ◌∙◌, sym, ap, Some}
+use Rattle.std.proofs.Common.{◌≡◌, length, take, subst, arith, Some}
 use Rattle.std.proofs.Math.Seq.{take-length}
 use Rattle.std.specs.List.{prefix_len}
 use Rattle.std.specs.Char.{is_ascii_digit}
