@@ -233,6 +233,19 @@ def answered(lines: Callable[[], Rows]) -> Test:
     return test
 
 
+def escapes_are_read_in_place(program: Path) -> None:
+    """Escapes of a backslash and one letter are cheaper than the same bytes as numbers: by at least
+    800 instructions for a line."""
+    if not shutil.which("valgrind"):
+        return skipped("Valgrind")
+    opening = joined(b'{"principals":["alice"]}', hello(b"alice"), create(b"rw"), SHADE)
+    texts = (rb"a \"b\"", rb"a \u0022b\u0022")
+    writes = [joined(*[write(2, text)] * READS) for text in texts]
+    costs = [instructions(program, opening + lines, "run") for lines in writes]
+    print(f"  {READS} writes: {costs[0]} instructions, with numbers {costs[1]}")
+    assert costs[1] - costs[0] >= 800 * READS, "they are found token by token"
+
+
 def long_text_is_not_looked_at(program: Path) -> None:
     """A read of the longest text is cheaper if that came without escapes: by at least a quarter of
     an instruction for each of its bytes."""
@@ -252,6 +265,7 @@ def tests() -> Tests:
     yield "every-slot-of-a-principal-that-retired", answered(lines_of_all_slots)
     yield "each-seat-acts-for-a-subject", answered(lines_of_64_agents)
     yield "long-text-is-not-looked-at", long_text_is_not_looked_at
+    yield "escapes-are-read-in-place", escapes_are_read_in_place
     yield "run-at-every-limit", answered(lines_of_run)
     yield "talks-at-every-limit", talks_at_every_limit
     yield "a-full-vault-is-rebased", a_full_vault_is_rebased

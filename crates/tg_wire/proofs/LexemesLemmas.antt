@@ -1,15 +1,16 @@
 -- What JSON's lexer finds at a place of a line.
-use Rattle.std.proofs.Common.{◌≡◌, ℕ, suc, ◌+◌, ◌-◌, ◌<◌, ◌≤◌, Bool, true, false, cond, ◌||◌, ◌==◌, List, [], ◌∷◌, ◌++◌, length, take, drop, get_or, nat_lt, Option, Some, None, option_and_then, refl, sym, ap, ◌∙◌, arith, add-zero, lt_of_not-le}
+use Rattle.std.proofs.Common.{◌≡◌, ℕ, suc, ◌+◌, ◌-◌, ◌<◌, ◌≤◌, Bool, true, false, cond, ◌||◌, ◌==◌, List, [], ◌∷◌, ◌++◌, length, take, drop, get_or, nat_lt, Option, Some, None, is_some, option_and_then, refl, sym, ap, ◌∙◌, arith, add-zero, lt_of_not-le}
 use Rattle.std.proofs.lemmas.List.{drop_more, drop-drop, append-nil, append_assoc, get_or-drop, get_or_past, length-drop}
 use Rattle.std.proofs.lemmas.Bool.{cond-false, cond-true, true_from_ne_false, eqb-true, ne_eqb, or_parts, not-true, false≢true}
 use Rattle.std.proofs.lemmas.List.Sums.{prefix_len-le-length}
 use Rattle.std.specs.List.{prefix_len}
 use Rattle.std.specs.Char.{is_ascii_digit}
 use Rattle.json.specs.Token.{string, number, boolean, null}
-use Rattle.json.specs.Text.{content, plain, after_backslash, prepend}
+use Rattle.json.specs.Text.{content, plain, after_backslash, prepend, short_escape}
 use Rattle.json.specs.Ascii.{true_text, false_text, null_text}
 use Rattle.json.specs.Word.{head, is_operator, is_space, ends_word, after_minus, after_digits, after_whole, after_fraction, after_exponent, after_number, number_before, literal, word}
 use Rattle.json.specs.Run.{is_plain}
+use Rattle.tg_wire.specs.Inner.Runs.{Decodes}
 use Rattle.json.specs.Lex.{Lexeme, token, quote, backslash, operator, space, other, class, operator_lexeme, string_token, Mode, between, in_word, in_string, lex_byte, lex}
 
 -- ---- one byte
@@ -149,16 +150,74 @@ run_len p d from end is = omega arith
 pub spaces_at : (d : List ℕ) (from end : ℕ) → EndsAt is_space d from end → lex between (drop from d) ≡ lex between (drop end d)
 spaces_at d from end is = lex-spaces (drop from d) ∙ ap (lex between) (rest_at is_space d from end is)
 
+-- what is behind a quote, from one place to another further on in the same text: what was read between them
+pub record ReadsOn (d : List ℕ) (from at : ℕ) (text : List ℕ) : Type 0 where
+  pub content : content plain (drop from d) ≡ prepend text (content plain (drop at d))
+  pub after : lex in_string (drop from d) ≡ lex in_string (drop at d)
+
+pub reads_none : (d : List ℕ) (from : ℕ) → ReadsOn d from from []
+reads_none d from = record { content = prepend-nil _; after = refl }
+
+pub reads_further : (d : List ℕ) (from at end : ℕ) (text more : List ℕ) → ReadsOn d from at text → ReadsOn d at end more → ReadsOn d from end (text ++ more)
+reads_further d from at end text more first second =
+    record {
+      content = first.content ∙ ap (prepend text) second.content ∙ prepend-prepend text more _;
+      after = first.after ∙ second.after;
+    }
+
+pub reads_plain : (d : List ℕ) (at end : ℕ) → EndsAt is_plain d at end → ReadsOn d at end (take (end - at) (drop at d))
+reads_plain d at end is =
+    let xs = drop at d in
+    let rest = rest_at is_plain d at end is in
+    record {
+      content = content-plain xs ∙ ap (λ s. prepend (take (prefix_len is_plain xs) xs) (content plain s)) rest ∙ ap (λ k. prepend (take k xs) (content plain (drop end d))) (run_len is_plain d at end is);
+      after = lex-plain xs ∙ ap (lex in_string) rest;
+    }
+
+escaped_content : (x c : ℕ) (xs : List ℕ) → short_escape x ≡ Some c → content plain (92 ∷ x ∷ xs) ≡ prepend (c ∷ []) (content plain xs)
+unfolding content short_escape
+escaped_content x c xs means =
+    let short : (x == 117) ≡ false = ne_eqb x 117 (λ is. false≢true (sym (ap is_some (sym means ∙ ap short_escape is)))) in
+    cond-false (x == 117) _ _ short ∙ ap (option_and_then (λ y. prepend (y ∷ []) (content plain xs))) means
+
+escaped_over : (x : ℕ) (xs : List ℕ) → lex in_string (92 ∷ x ∷ xs) ≡ lex in_string xs
+unfolding lex
+escaped_over x xs = refl
+
+-- a backslash, and a byte that says which byte is meant
+pub reads_escape : (d : List ℕ) (at c : ℕ) → get_or d at 32 ≡ 92 → short_escape (get_or d (at + 1) 32) ≡ Some c → ReadsOn d at (at + 2) (c ∷ [])
+unfolding short_escape
+reads_escape d at c is means =
+    let x = get_or d (at + 1) 32 in
+    let solid : ¬ (x ≡ 32) = λ blank. false≢true (sym (ap is_some (sym means ∙ ap short_escape blank))) in
+    let next : at + 1 + 1 ≡ at + 2 = omega arith in
+    let both : drop at d ≡ 92 ∷ x ∷ drop (at + 2) d =
+    at_place d at 92 is (λ z. omega arith) ∙ ap (λ t. 92 ∷ t) (at_place d (at + 1) x refl solid ∙ ap (λ k. x ∷ drop k d) next) in
+    record {
+      content = ap (content plain) both ∙ escaped_content x c (drop (at + 2) d) means;
+      after = ap (lex in_string) both ∙ escaped_over x (drop (at + 2) d);
+    }
+
+pub escape_within : (d : List ℕ) (at c : ℕ) → short_escape (get_or d (at + 1) 32) ≡ Some c → at + 2 ≤ length d
+unfolding short_escape
+escape_within d at c means =
+    let inside = within d (at + 1) _ refl (λ blank. false≢true (sym (ap is_some (sym means ∙ ap short_escape blank)))) in
+    omega arith
+
+pub decoded : (d : List ℕ) (from end : ℕ) (text : List ℕ) → ReadsOn d from end text → get_or d end 32 ≡ 34 → Decodes d from text (end + 1)
+decoded d from end text reads closes =
+    record {
+      content = reads.content ∙ ap (prepend text) (content_at d end closes) ∙ ap Some (append-nil text);
+      after = reads.after ∙ closing_at d end closes;
+    }
+
+pub decoded_at : (d : List ℕ) (i end : ℕ) (text : List ℕ) → get_or d i 32 ≡ 34 → Decodes d (i + 1) text end → lex between (drop i d) ≡ token (string text) ∷ lex between (drop end d)
+decoded_at d i end text opens is =
+    quote_at d i opens ∙ ap (λ o. token (string_token o) ∷ lex in_string (drop (i + 1) d)) is.content ∙ ap (λ ls. token (string text) ∷ ls) is.after
+
 pub text_at : (d : List ℕ) (i end : ℕ) → get_or d i 32 ≡ 34 → EndsAt is_plain d (i + 1) end → get_or d end 32 ≡ 34
     → lex between (drop i d) ≡ token (string (take (end - (i + 1)) (drop (i + 1) d))) ∷ lex between (drop (end + 1) d)
-text_at d i end opens is closes =
-    let xs = drop (i + 1) d in
-    let rest = rest_at is_plain d (i + 1) end is in
-    let text : content plain xs ≡ Some (take (end - (i + 1)) xs) =
-    content-plain xs ∙ ap (λ s. prepend (take (prefix_len is_plain xs) xs) (content plain s)) rest ∙ ap (prepend (take (prefix_len is_plain xs) xs)) (content_at d end closes)
-    ∙ ap Some (append-nil _) ∙ ap (λ k. Some (take k xs)) (run_len is_plain d (i + 1) end is) in
-    let after : lex in_string xs ≡ lex between (drop (end + 1) d) = lex-plain xs ∙ ap (lex in_string) rest ∙ closing_at d end closes in
-    quote_at d i opens ∙ ap (λ o. token (string_token o) ∷ lex in_string xs) text ∙ ap (λ ls. token (string (take (end - (i + 1)) xs)) ∷ ls) after
+text_at d i end opens is closes = decoded_at d i (end + 1) _ opens (decoded d (i + 1) end _ (reads_plain d (i + 1) end is) closes)
 
 -- ---- numbers
 

@@ -1,8 +1,8 @@
 //! A line's object in which each key is one that some line has, and each member a text or a whole number, as a list of
-//! its members; and how it is read if no text has escapes.
+//! its members; and how it is read if at most one text has escapes, each of a backslash and one byte.
 
 ghost use Rattle.std.specs.Prelude.{◌≡◌, ◌<◌, ◌≤◌, ◌∷◌, ◌++◌, [], Some, IfSome, OnSome, option_map, length, drop, if◌then◌else◌};
-ghost use Rattle.std.specs.Str.{IsUtf8, bytes_eq};
+ghost use Rattle.std.specs.Str.{bytes_eq};
 ghost use Rattle.std.specs.List.{list_all};
 ghost use Rattle.json.specs.Token.{Token, string};
 ghost use Rattle.json.specs.Lex.{token, colon, between, lex};
@@ -15,9 +15,10 @@ ghost use Rattle.tg_wire.specs.Promise.Ops.{op_form};
 ghost use Rattle.tg_wire.specs.Promise.Reading.{json_of, knows_all as knows_all_of};
 ghost use Rattle.tg_wire.specs.Inner.Keys.{is_in_set, is_listed_in_either, key_text, key_texts};
 
+use crate::decoded::{TextRoom, read_decoded};
 use crate::key::Key;
 use crate::op::Op;
-use crate::scan::{byte_at, read_key, read_number, read_text, spaces_end};
+use crate::scan::{byte_at, read_key, read_number, read_text, spaces_end, text_of};
 use crate::unescaped::Unescaped;
 use arrayvec::ArrayVec;
 
@@ -56,30 +57,23 @@ pub(crate) struct Flat<'a> {
     members: &'a [Member<'a>],
 }
 
-/// Reads the members of a line's object into room for them, if it is flat. `None` does not mean that it is not flat.
-pub(crate) fn read_flat<'a>(bytes: &'a [u8], found: &mut Members<'a>) -> Option<()>
+/// Reads the members of a line's object into room for them, if it is flat, and a text that has escapes into room of its
+/// own. `None` does not mean that it is not flat.
+pub(crate) fn read_flat<'a>(
+    bytes: &'a [u8],
+    room: &'a mut Vec<u8>,
+    found: &mut Members<'a>,
+) -> Option<()>
     requires { found.old.items ≡ [] }
     ensures { OnSome result (json_of bytes.now ≡ Some (flat_data found.new.items)) }
 {
     let line = text_of(bytes)?;
-    read_object(line, found)
-}
-
-/// The bytes as a text, if they are UTF-8. Nearly all lines are ASCII, which is found out eight bytes at a time.
-#[inline(always)]
-fn text_of(bytes: &[u8]) -> Option<&str>
-    ensures same { IfSome result (λ text. text.now ≡ bytes.now) }
-    ensures utf8 { IfSome result (λ text. IsUtf8 bytes.now) }
-{
-    if bytes.is_ascii() {
-        return Some(unsafe { std::str::from_utf8_unchecked(bytes) });
-    }
-    std::str::from_utf8(bytes).ok()
+    read_object(line, TextRoom::new(room), found)
 }
 
 /// The same for a text.
 #[inline(always)]
-fn read_object<'a>(line: &'a str, found: &mut Members<'a>) -> Option<()>
+fn read_object<'a>(line: &'a str, room: TextRoom<'a>, found: &mut Members<'a>) -> Option<()>
     requires { found.old.items ≡ [] }
     ensures { OnSome result (read line.now ≡ Some (flat_data found.new.items)) }
 {
@@ -88,7 +82,7 @@ fn read_object<'a>(line: &'a str, found: &mut Members<'a>) -> Option<()>
     if byte_at(bytes, brace) != b'{' {
         return None;
     }
-    let after = read_members(line, brace + 1, found)?;
+    let after = read_members(line, brace + 1, room, found)?;
     if spaces_end(bytes, after) < bytes.len() {
         return None;
     }
@@ -97,16 +91,22 @@ fn read_object<'a>(line: &'a str, found: &mut Members<'a>) -> Option<()>
 
 /// The members after the opening brace, and the place after the closing one.
 #[inline(always)]
-fn read_members<'a>(line: &'a str, from: usize, found: &mut Members<'a>) -> Option<usize>
+fn read_members<'a>(
+    line: &'a str,
+    from: usize,
+    room: TextRoom<'a>,
+    found: &mut Members<'a>,
+) -> Option<usize>
     requires room { from ≤ length line.now }
     requires none { found.old.items ≡ [] }
     ensures found { IfSome result (λ after. ReadsMembers line.now from after found.new.items) }
     ensures bound { IfSome result (λ after. after ≤ length line.now) }
 {
     let bytes = line.as_bytes();
+    let mut room = room;
     let mut at = from;
     loop {
-        let (member, end) = read_member(line, at)?;
+        let (member, end) = read_member(line, at, &mut room)?;
         if found.is_full() {
             return None;
         }
@@ -121,7 +121,11 @@ fn read_members<'a>(line: &'a str, from: usize, found: &mut Members<'a>) -> Opti
 
 /// The member at a place, and the place of the comma or the brace after it.
 #[inline(always)]
-fn read_member<'a>(line: &'a str, from: usize) -> Option<(Member<'a>, usize)>
+fn read_member<'a>(
+    line: &'a str,
+    from: usize,
+    room: &mut TextRoom<'a>,
+) -> Option<(Member<'a>, usize)>
     requires { from ≤ length line.now }
     ensures found { IfSome result (λ r. (t : Token) × Spells t r.0.value
         × (lex between (drop from line.now) ≡ token (string (key_text r.0.key)) ∷ colon ∷ token t ∷ lex between (drop r.1 line.now))) }
@@ -133,21 +137,24 @@ fn read_member<'a>(line: &'a str, from: usize) -> Option<(Member<'a>, usize)>
     if byte_at(bytes, between) != b':' {
         return None;
     }
-    let (value, end) = read_value(line, spaces_end(bytes, between + 1))?;
+    let (value, end) = read_value(line, spaces_end(bytes, between + 1), room)?;
     Some((Member { key, value }, spaces_end(bytes, end)))
 }
 
 /// The value at a place, and the place after it.
 #[inline(always)]
-fn read_value<'a>(line: &'a str, at: usize) -> Option<(Plain<'a>, usize)>
+fn read_value<'a>(line: &'a str, at: usize, room: &mut TextRoom<'a>) -> Option<(Plain<'a>, usize)>
     requires { at ≤ length line.now }
     ensures found { IfSome result (λ r. (t : Token) × Spells t r.0
         × (lex between (drop at line.now) ≡ token t ∷ lex between (drop r.1 line.now))) }
     ensures bounds { IfSome result (λ r. (at < r.1) × (r.1 ≤ length line.now)) }
 {
     if byte_at(line.as_bytes(), at) == b'"' {
-        let (text, after) = read_text(line, at)?;
-        Some((Plain::Text(text), after))
+        if let Some((text, after)) = read_text(line, at) {
+            return Some((Plain::Text(text), after));
+        }
+        let (text, after) = read_decoded(line.as_bytes(), at, room)?;
+        Some((Plain::Escaped(text), after))
     } else {
         let (number, after) = read_number(line.as_bytes(), at)?;
         Some((Plain::Number(number), after))

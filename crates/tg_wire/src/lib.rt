@@ -2,6 +2,7 @@
 #![tactic(auto)]
 
 mod config;
+mod decoded;
 mod escaped;
 mod explain;
 mod fault;

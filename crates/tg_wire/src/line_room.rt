@@ -11,12 +11,14 @@ const ROOM: usize = 128;
 
 /// Room in which lines are written, one after another: a line allocates only if it is longer than all lines before it
 /// in the same buffer. A new buffer begins at the start, after a line for which memory ran out, and when a line without
-/// room is taken back. It is empty between two lines. Beside it is room for the texts of a line that is read, if they
-/// have escapes: it is taken at the first such line, and grows to the length of the longest.
+/// room is taken back. It is empty between two lines. Beside it is room for a text that is read and has escapes, and for
+/// all texts of a line with others than of two bytes: it is taken at the first such line, and grows to the length of the
+/// longest.
 #[derive(Drop)]
 pub struct LineRoom {
     alloc: Global,
     bytes: Vec<u8>,
+    text: Vec<u8>,
     scratch: Option<Box<Scratch>>,
     ghost empty: { bytes.items ≡ [] },
 }
@@ -27,8 +29,15 @@ impl LineRoom {
         LineRoom {
             alloc,
             bytes: Vec::new(alloc),
+            text: Vec::new(alloc),
             scratch: None,
         }
+    }
+
+    /// Room for one text of a line that is read.
+    #[inline(always)]
+    pub(crate) fn for_text(&mut self) -> &mut Vec<u8> {
+        &mut self.text
     }
 
     /// Room for the texts of a line that is read.

@@ -1,7 +1,7 @@
 //! From a line to what it asks for, and from a line to a step.
 
 ghost use Rattle.tg_wire.specs.declared.line.TheConstants.{LONGEST_LINE};
-ghost use Rattle.std.specs.Prelude.{◌≡◌, ◌≤◌, ◌++◌, Err, Some, length};
+ghost use Rattle.std.specs.Prelude.{◌≡◌, ◌≤◌, ◌++◌, Err, Some, IfSome, length};
 ghost use Rattle.tg_wire.specs.Inner.Flat.{data_of};
 ghost use Rattle.tg_wire.specs.Promise.Ops.{command_form, op_form};
 ghost use Rattle.tg_wire.specs.Promise.Lines.{line_extras, line_in, line_of, step_in, step_of, op_in, rule_in};
@@ -41,14 +41,24 @@ pub fn read_line_in(room: &mut LineRoom, alloc: Global, bytes: &[u8]) -> Result<
     ensures short { result ≡ Err OutOfMemory → length bytes.now ≤ LONGEST_LINE }
 {
     check_length(bytes)?;
-    let mut members = Members::new();
-    if read_flat(bytes, &mut members).is_some() {
-        return line_of_object(alloc, &LineObject::Flat(Flat::new(members.as_slice())));
+    match line_of_flat(room, alloc, bytes) {
+        Some(line) => line,
+        None => line_of_other(room, alloc, bytes),
     }
-    line_of_other(room, alloc, bytes)
 }
 
-/// The same for a line that is not too long, and in which a text has escapes or something is not flat.
+/// The same for a line that is not too long, if its object is found to be flat.
+#[inline(always)]
+fn line_of_flat(room: &mut LineRoom, alloc: Global, bytes: &[u8]) -> Option<Result<Line, WireFault>>
+    ensures { IfSome result (λ line. Answers line (line_of_json bytes.now)) }
+{
+    let mut members = Members::new();
+    read_flat(bytes, room.for_text(), &mut members)?;
+    let flat = Flat::new(members.as_slice());
+    Some(line_of_object(alloc, &LineObject::Flat(flat)))
+}
+
+/// The same where other escapes are, or something is not flat.
 #[inline(never)]
 fn line_of_other(room: &mut LineRoom, alloc: Global, bytes: &[u8]) -> Result<Line, WireFault>
     ensures { Answers result (line_of_json bytes.now) }
@@ -117,8 +127,9 @@ pub fn read_step(alloc: Global, bytes: &[u8]) -> Result<Step, WireFault>
     ensures short { result ≡ Err OutOfMemory → length bytes.now ≤ LONGEST_LINE }
 {
     check_length(bytes)?;
+    let mut room = Vec::new(alloc);
     let mut members = Members::new();
-    if read_flat(bytes, &mut members).is_some() {
+    if read_flat(bytes, &mut room, &mut members).is_some() {
         return step_of_object(alloc, &LineObject::Flat(Flat::new(members.as_slice())));
     }
     step_of_object(alloc, &tree(alloc, bytes)?)

@@ -2,6 +2,7 @@
 
 ghost use Rattle.std.specs.Prelude.{◌≡◌, ◌<◌, ◌≤◌, ◌^◌, ◌∷◌, ◌||◌, ◌==◌, ℕ, List, Some, IfSome, length, drop, get_or, map, false};
 ghost use Rattle.std.specs.Char.{is_ascii_digit};
+ghost use Rattle.std.specs.Str.{IsUtf8};
 ghost use Rattle.std.specs.Simd.Lanes.{mask_l};
 ghost use Rattle.std.specs.Str.Parse.{digits_value};
 ghost use Rattle.json.specs.Token.{string, number};
@@ -19,6 +20,18 @@ use std::simd::prelude::*;
 
 /// The greatest number that may get another digit: with a zero it is below 2 ^ 64.
 const MOST_BEFORE_A_DIGIT: u64 = 1_844_674_407_370_955_161;
+
+/// The bytes as a text, if they are UTF-8. Nearly all lines are ASCII, which is found out eight bytes at a time.
+#[inline(always)]
+pub(crate) fn text_of(bytes: &[u8]) -> Option<&str>
+    ensures same { IfSome result (λ text. text.now ≡ bytes.now) }
+    ensures utf8 { IfSome result (λ text. IsUtf8 bytes.now) }
+{
+    if bytes.is_ascii() {
+        return Some(unsafe { std::str::from_utf8_unchecked(bytes) });
+    }
+    std::str::from_utf8(bytes).ok()
+}
 
 /// The byte at a place, or a space after the last one.
 #[inline(always)]
@@ -55,7 +68,7 @@ fn is_space(byte: u8) -> bool
 /// The first quote, backslash or control byte from a place on, 64 bytes at a time while there are so many, and then 16.
 // If inlined, the loop would also count up, at each byte, what the caller computes from the place.
 #[inline(never)]
-fn plain_end(bytes: &[u8], from: usize) -> usize
+pub(crate) fn plain_end(bytes: &[u8], from: usize) -> usize
     requires { from ≤ length bytes.now }
     ensures { EndsRun is_plain bytes.now from result }
 {
