@@ -1,5 +1,6 @@
 -- A flat object: from the lexemes of its members to its value, and what is found in it.
 use Rattle.std.proofs.Common.{◌≡◌, ℕ, ◌+◌, ◌-◌, ◌<◌, ◌≤◌, get_or, take, length, List, [], ◌∷◌, ◌++◌, Option, Some, None, IfSome, Ordering, Less, Equal, Greater, nat_cmp, is_eq, ◌&&◌, Bool, true, false, true≢false, max, option_map, option_and_then, drop, bytes_eq, refl, sym, ap, ◌∙◌, arith, append-nil}
+use Rattle.std.proofs.Math.Bool.{and-true}
 use Rattle.std.proofs.lemmas.List.{take_more}
 use Rattle.std.proofs.Math.Seq.{take-length}
 use Rattle.std.specs.Prelude.{⊤}
@@ -239,10 +240,6 @@ and_in true false c = refl
 and_in false true c = refl
 and_in false false c = refl
 
-and_true : (a : Bool) → (a && true) ≡ a
-and_true true = refl
-and_true false = refl
-
 module _ (P : List ℕ → Bool) where
   keys_put_at : (o : Ordering) (k l : List ℕ) (d e : Data) (ms : Members) → slice_cmp nat_cmp k l ≡ o → list_all P (member_keys (put k d ms)) ≡ (P k && list_all P (member_keys ms))
       → list_all P (member_keys (match_ordering o (member k d (member l e ms)) (member l d ms) (member l e (put k d ms)))) ≡ (P k && (P l && list_all P (member_keys ms)))
@@ -268,7 +265,7 @@ all_either a b (m ∷ ms) = ap (λ x. x && list_all (λ m. is_among (key_texts a
 
 -- the keys of a flat object are known if those of its members are
 pub flat_known : (a b : List Key) (ms : List Member) → knows_all (key_texts a ++ key_texts b) (flat_data ms) ≡ list_all (λ m. is_listed_in_either a b (key_text m.key)) ms
-flat_known a b ms = keys_put_all (is_among (key_texts a ++ key_texts b)) ms no_members ∙ and_true _ ∙ all_either a b ms
+flat_known a b ms = keys_put_all (is_among (key_texts a ++ key_texts b)) ms no_members ∙ and-true _ ∙ all_either a b ms
 
 -- the same by a set of keys
 all_in : (set : ℕ) (names : List (List ℕ)) (ms : List Member) → ((key : Key) → is_in_set set key ≡ is_among names (key_text key))
@@ -278,4 +275,4 @@ all_in set names (m ∷ ms) same = ap (λ x. x && list_all (λ m. is_among names
 
 pub flat_known_in : (set : ℕ) (names : List (List ℕ)) (ms : List Member) → ((key : Key) → is_in_set set key ≡ is_among names (key_text key))
     → knows_all names (flat_data ms) ≡ list_all (λ m. is_in_set set m.key) ms
-flat_known_in set names ms same = keys_put_all (is_among names) ms no_members ∙ and_true _ ∙ all_in set names ms same
+flat_known_in set names ms same = keys_put_all (is_among names) ms no_members ∙ and-true _ ∙ all_in set names ms same

@@ -184,24 +184,26 @@ escaped_over : (x : ℕ) (xs : List ℕ) → lex in_string (92 ∷ x ∷ xs) ≡
 unfolding lex
 escaped_over x xs = refl
 
+-- a space behind a backslash means no byte
+no_blank : (x c : ℕ) → short_escape x ≡ Some c → ¬ (x ≡ 32)
+unfolding short_escape
+no_blank x c means blank = false≢true (sym (ap is_some (sym means ∙ ap short_escape blank)))
+
 -- a backslash, and a byte that says which byte is meant
 pub reads_escape : (d : List ℕ) (at c : ℕ) → get_or d at 32 ≡ 92 → short_escape (get_or d (at + 1) 32) ≡ Some c → ReadsOn d at (at + 2) (c ∷ [])
-unfolding short_escape
 reads_escape d at c is means =
     let x = get_or d (at + 1) 32 in
-    let solid : ¬ (x ≡ 32) = λ blank. false≢true (sym (ap is_some (sym means ∙ ap short_escape blank))) in
     let next : at + 1 + 1 ≡ at + 2 = omega arith in
     let both : drop at d ≡ 92 ∷ x ∷ drop (at + 2) d =
-    at_place d at 92 is (λ z. omega arith) ∙ ap (λ t. 92 ∷ t) (at_place d (at + 1) x refl solid ∙ ap (λ k. x ∷ drop k d) next) in
+    at_place d at 92 is (λ z. omega arith) ∙ ap (λ t. 92 ∷ t) (at_place d (at + 1) x refl (no_blank x c means) ∙ ap (λ k. x ∷ drop k d) next) in
     record {
       content = ap (content plain) both ∙ escaped_content x c (drop (at + 2) d) means;
       after = ap (lex in_string) both ∙ escaped_over x (drop (at + 2) d);
     }
 
 pub escape_within : (d : List ℕ) (at c : ℕ) → short_escape (get_or d (at + 1) 32) ≡ Some c → at + 2 ≤ length d
-unfolding short_escape
 escape_within d at c means =
-    let inside = within d (at + 1) _ refl (λ blank. false≢true (sym (ap is_some (sym means ∙ ap short_escape blank)))) in
+    let inside = within d (at + 1) _ refl (no_blank _ c means) in
     omega arith
 
 pub decoded : (d : List ℕ) (from end : ℕ) (text : List ℕ) → ReadsOn d from end text → get_or d end 32 ≡ 34 → Decodes d from text (end + 1)

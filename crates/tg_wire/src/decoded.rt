@@ -24,7 +24,7 @@ impl<'a> TextRoom<'a> {
 
 /// The text at a place, if one with such escapes is there and there is room for it, and the place after it. It takes
 /// the room. `None` does not mean that no text is there.
-// Inlined, it would clear room at each text.
+// Out of line, since few texts have escapes.
 #[inline(never)]
 pub(crate) fn read_decoded<'a>(
     bytes: &[u8],

@@ -1,20 +1,17 @@
-use Rattle.std.proofs.Common.{◌≡◌, ◌&&◌, Bool, true, false, refl, ap, ◌∙◌}
+use Rattle.std.proofs.Common.{◌≡◌, ◌&&◌, true, ap, ◌∙◌}
+use Rattle.std.proofs.Math.Bool.{and-true}
 use Rattle.tg_rights.specs.Promise.Letters.{Letters, includes, read_alone, write_alone, take_alone}
 use Rattle.tg_wire.proofs.ObjectLineLemmas.{letters_in_a_row}
 use Rattle.tg_wire.proofs.object_line.put_letters.Goals as goal
 
-and_true : (b : Bool) → (b && true) ≡ b
-and_true true = refl
-and_true false = refl
-
 has_read : (a : Letters) → includes a read_alone ≡ a.read
-has_read a = and_true ((a.read && true) && true) ∙ and_true (a.read && true) ∙ and_true a.read
+has_read a = and-true ((a.read && true) && true) ∙ and-true (a.read && true) ∙ and-true a.read
 
 has_write : (a : Letters) → includes a write_alone ≡ a.write
-has_write a = and_true (a.write && true) ∙ and_true a.write
+has_write a = and-true (a.write && true) ∙ and-true a.write
 
 has_take : (a : Letters) → includes a take_alone ≡ a.take
-has_take a = and_true a.take
+has_take a = and-true a.take
 
 pub returns : goal.returns
 returns c =
