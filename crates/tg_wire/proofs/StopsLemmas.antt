@@ -1,5 +1,5 @@
 -- Where the plain text of a string stops, seen many bytes at a time through a mask of the bytes at which it does.
-use Rattle.std.proofs.Common.{◌≡◌, ℕ, zero, suc, ◌+◌, ◌*◌, ◌%◌, ◌^◌, ◌<◌, ◌≤◌, ltb, leb, Bool, true, false, not, ◌&&◌, cond, eqb, T, List, [], ◌∷◌, map, length, take, drop, get_or, ◌-◌, refl, sym, ap, ap₂, ◌∙◌, subst, ◌⊎◌, inl, inr, arith, w8, Fits}
+use Rattle.std.proofs.Common.{◌≡◌, ℕ, zero, suc, ◌+◌, ◌*◌, ◌%◌, ◌^◌, ◌<◌, ◌≤◌, ltb, leb, Bool, true, false, not, ◌&&◌, ◌||◌, cond, eqb, T, List, [], ◌∷◌, map, replicate, length, take, drop, ◌-◌, refl, sym, ap, ap₂, ◌∙◌, subst, ◌⊎◌, inl, inr, arith, w8, Fits}
 use Rattle.std.proofs.lemmas.Bool.{cases_order, eq-eqb, ne_eqb}
 use Rattle.std.proofs.lemmas.List.{get_or-take, length-map, length-drop, length-take}
 use Rattle.std.proofs.lemmas.List.Folds.{prefix_len-append}
@@ -10,7 +10,7 @@ use Rattle.json.specs.Run.{is_stop, is_plain}
 use Rattle.tg_rights.specs.Promise.Escapes.{NeedsNoEscape, is_escaped}
 use lib.Bits.{bit_or}
 use lib.Count.{count_trailing_zeros}
-use lib.Lanes.{zip2, chunk, mask_l, top, Each1}
+use lib.Lanes.{zip2, chunk, mask_l, sel_l, top, Each1}
 
 -- ---- the mask of a comparison of bytes, held to a test at each of the 256 bytes
 
@@ -50,6 +50,9 @@ is_less a b = cond (ltb a b) 255 0
 abbrev pub is_at_most : ℕ → ℕ → ℕ
 is_at_most a b = cond (leb a b) 255 0
 
+abbrev pub less_by : ℕ → ℕ → ℕ
+less_by a b = (a + (256 - b)) % 256
+
 zip2-map : (f g : ℕ → ℕ) (xs : List ℕ) → zip2 bit_or (map f xs) (map g xs) ≡ map (λ x. bit_or (f x) (g x)) xs
 zip2-map f g [] = refl
 zip2-map f g (x ∷ xs) = ap (λ r. bit_or (f x) (g x) ∷ r) (zip2-map f g xs)
@@ -66,6 +69,22 @@ pub masked : (f : ℕ → ℕ) (p : ℕ → Bool) (v z : List ℕ) → length v 
     → mask_l (map (top 7) z) % 2 ^ 64 ≡ mask_l (map p v)
 masked f p v z short fits e all =
     ap (λ l. mask_l l % 2 ^ 64) (ap (map (top 7)) e ∙ each_byte f p all v fits) ∙ mask_l-mod (map p v) 64 (omega (arith, length-map v p))
+
+-- a choice between two bytes, by what is found at each
+pub chosen : (p : ℕ → Bool) (a b : ℕ) (v : List ℕ) (n : ℕ) → length v ≡ n → sel_l (map p v) (replicate n a) (replicate n b) ≡ map (λ x. cond (p x) a b) v
+chosen p a b [] n e = refl
+chosen p a b (x ∷ xs) zero e = absurd (omega arith)
+chosen p a b (x ∷ xs) (suc n) e = ap (λ l. cond (p x) a b ∷ l) (chosen p a b xs n (omega arith))
+
+either_bit : (a b : Bool) (m n : ℕ) → (m ≡ 0 → n ≡ 0) → cond (a || b) 1 0 + 2 * m ≡ 0 → cond a 1 0 + 2 * n ≡ 0
+either_bit true b m n ih e = let no : ⊥ = omega arith in absurd no
+either_bit false true m n ih e = let no : ⊥ = omega arith in absurd no
+either_bit false false m n ih e = let z = ih (omega arith) in omega arith
+
+-- no byte passes a test if none passes that or another
+pub none_of_either : (p q : ℕ → Bool) (v : List ℕ) → mask_l (map (λ x. p x || q x) v) ≡ 0 → mask_l (map p v) ≡ 0
+none_of_either p q [] e = refl
+none_of_either p q (x ∷ xs) e = either_bit (p x) (q x) _ _ (none_of_either p q xs) e
 
 -- ---- a run of plain bytes
 

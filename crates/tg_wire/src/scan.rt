@@ -96,15 +96,17 @@ fn stops(bytes: u8x16) -> u64
         | bytes.simd_lt(u8x16::splat(b' '))).to_bitmask()
 }
 
-/// Whether the plain text of a string stops at one of the bytes.
-// A control byte or a quote is at most a space once its second bit is turned.
+/// Whether the plain text of a string stops at one of the bytes, or one is perhaps not ASCII.
+// A control byte or a quote is at most a space once its second bit is turned, and then 33 less has its top bit: so has
+// much that is not ASCII. One instruction takes the top bits of 16 bytes.
 #[inline(always)]
 fn has_stop(bytes: u8x64) -> bool
     ensures { result ≡ false → mask_l (map is_stop bytes) ≡ 0 }
 {
-    ((bytes ^ u8x64::splat(2)).simd_le(u8x64::splat(b' '))
-        | bytes.simd_eq(u8x64::splat(b'\\'))).to_bitmask()
-        != 0
+    let low = (bytes ^ u8x64::splat(2)) - u8x64::splat(33);
+    let backslash = bytes.simd_eq(u8x64::splat(b'\\'));
+    let found = low | backslash.select(u8x64::splat(255), u8x64::splat(0));
+    found.simd_ge(u8x64::splat(128)).to_bitmask() != 0
 }
 
 /// The same a byte at a time.
