@@ -9,6 +9,50 @@ use std::mem;
 /// Room for most lines.
 const ROOM: usize = 128;
 
+/// Room for the texts of a line that is read and has escapes: for one with escapes of two bytes, and for all of a line
+/// with others. Either is made at the first such line, and grows to the length of the longest.
+#[derive(Drop)]
+pub(crate) struct TextsRoom {
+    text: Vec<u8>,
+    tokens: TokensRoom,
+}
+
+/// Room for the texts of a line that is read token by token, once there was one.
+#[derive(Drop)]
+pub(crate) struct TokensRoom {
+    alloc: Global,
+    scratch: Option<Box<Scratch>>,
+}
+
+impl TextsRoom {
+    fn new(alloc: Global) -> TextsRoom {
+        TextsRoom {
+            text: Vec::new(alloc),
+            tokens: TokensRoom {
+                alloc,
+                scratch: None,
+            },
+        }
+    }
+
+    /// Lends both.
+    #[inline(always)]
+    pub(crate) fn parts(&mut self) -> (&mut Vec<u8>, &mut TokensRoom) {
+        (&mut self.text, &mut self.tokens)
+    }
+}
+
+impl TokensRoom {
+    /// Lends the room, which is made if there is none yet.
+    pub(crate) fn lend(&mut self) -> Result<&mut Scratch, AllocError> {
+        let scratch = match self.scratch.take() {
+            Some(kept) => kept,
+            None => Box::new(self.alloc, Scratch::new(self.alloc))?,
+        };
+        Ok(self.scratch.insert(scratch))
+    }
+}
+
 /// Room in which lines are written, one after another: a line allocates only if it is longer than all lines before it
 /// in the same buffer. A new buffer begins at the start, after a line for which memory ran out, and when a line without
 /// room is taken back. It is empty between two lines. Beside it is room for a text that is read and has escapes, and for
@@ -18,8 +62,7 @@ const ROOM: usize = 128;
 pub struct LineRoom {
     alloc: Global,
     bytes: Vec<u8>,
-    text: Vec<u8>,
-    scratch: Option<Box<Scratch>>,
+    texts: TextsRoom,
     ghost empty: { bytes.items ≡ [] },
 }
 
@@ -29,24 +72,14 @@ impl LineRoom {
         LineRoom {
             alloc,
             bytes: Vec::new(alloc),
-            text: Vec::new(alloc),
-            scratch: None,
+            texts: TextsRoom::new(alloc),
         }
     }
 
-    /// Room for one text of a line that is read.
-    #[inline(always)]
-    pub(crate) fn for_text(&mut self) -> &mut Vec<u8> {
-        &mut self.text
-    }
-
     /// Room for the texts of a line that is read.
-    pub(crate) fn scratch(&mut self) -> Result<&mut Scratch, AllocError> {
-        let scratch = match self.scratch.take() {
-            Some(kept) => kept,
-            None => Box::new(self.alloc, Scratch::new(self.alloc))?,
-        };
-        Ok(self.scratch.insert(scratch))
+    #[inline(always)]
+    pub(crate) fn texts(&mut self) -> &mut TextsRoom {
+        &mut self.texts
     }
 
     /// Lends the room for one line; there is none left until it comes back.

@@ -1,7 +1,7 @@
 //! From a line to what it asks for, and from a line to a step.
 
 ghost use Rattle.tg_wire.specs.declared.line.TheConstants.{LONGEST_LINE};
-ghost use Rattle.std.specs.Prelude.{◌≡◌, ◌≤◌, ◌++◌, Err, Some, IfSome, length};
+ghost use Rattle.std.specs.Prelude.{◌≡◌, ◌≤◌, ◌++◌, Err, Some, length};
 ghost use Rattle.tg_wire.specs.Inner.Flat.{data_of};
 ghost use Rattle.tg_wire.specs.Promise.Ops.{command_form, op_form};
 ghost use Rattle.tg_wire.specs.Promise.Lines.{line_extras, line_in, line_of, step_in, step_of, op_in, rule_in};
@@ -16,7 +16,7 @@ use crate::field;
 use crate::flat::{Flat, Members, read_flat};
 use crate::key::Key;
 use crate::line::Line;
-use crate::line_room::LineRoom;
+use crate::line_room::{LineRoom, TokensRoom};
 use crate::object::{LineObject, check_length, check_required, is_known, knows_all, tree};
 use crate::op::{Op, command_form, step_rule_named};
 use std::alloc::Global;
@@ -41,29 +41,20 @@ pub fn read_line_in(room: &mut LineRoom, alloc: Global, bytes: &[u8]) -> Result<
     ensures short { result ≡ Err OutOfMemory → length bytes.now ≤ LONGEST_LINE }
 {
     check_length(bytes)?;
-    match line_of_flat(room, alloc, bytes) {
-        Some(line) => line,
-        None => line_of_other(room, alloc, bytes),
-    }
-}
-
-/// The same for a line that is not too long, if its object is found to be flat.
-#[inline(always)]
-fn line_of_flat(room: &mut LineRoom, alloc: Global, bytes: &[u8]) -> Option<Result<Line, WireFault>>
-    ensures { IfSome result (λ line. Answers line (line_of_json bytes.now)) }
-{
+    let (text, tokens) = room.texts().parts();
     let mut members = Members::new();
-    read_flat(bytes, room.for_text(), &mut members)?;
-    let flat = Flat::new(members.as_slice());
-    Some(line_of_object(alloc, &LineObject::Flat(flat)))
+    if read_flat(bytes, text, &mut members).is_some() {
+        return line_of_object(alloc, &LineObject::Flat(Flat::new(members.as_slice())));
+    }
+    line_of_other(tokens, alloc, bytes)
 }
 
-/// The same where other escapes are, or something is not flat.
+/// The same for a line that is not too long, where other escapes are, or something is not flat.
 #[inline(never)]
-fn line_of_other(room: &mut LineRoom, alloc: Global, bytes: &[u8]) -> Result<Line, WireFault>
+fn line_of_other(room: &mut TokensRoom, alloc: Global, bytes: &[u8]) -> Result<Line, WireFault>
     ensures { Answers result (line_of_json bytes.now) }
 {
-    let scratch = room.scratch()?;
+    let scratch = room.lend()?;
     let mut members = Members::new();
     if read_escaped(bytes, scratch, &mut members)?.is_some() {
         return line_of_object(alloc, &LineObject::Flat(Flat::new(members.as_slice())));
