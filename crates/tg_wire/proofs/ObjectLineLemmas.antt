@@ -1,27 +1,37 @@
 -- A line as it is written, one part after another.
-use Rattle.std.proofs.Common.{◌≡◌, ℕ, zero, suc, ◌+◌, ◌/◌, ◌%◌, ◌^◌, ◌<◌, ◌≤◌, ◌⊎◌, inl, inr, nat_lt, ◌++◌, ◌∷◌, [], Bool, true, false, refl, sym, ap, ◌∙◌, List, append_assoc, decimal, arith}
-use Rattle.std.specs.Prelude.{if◌then◌else◌}
-use Rattle.std.proofs.lemmas.Bool.{cases_order, lt-ltb}
+use Rattle.std.proofs.Common.{◌≡◌, ℕ, ◌+◌, ◌/◌, ◌%◌, ◌<◌, ◌≤◌, ◌++◌, ◌∷◌, [], Bool, true, false, refl, sym, ap, ◌∙◌, List, append_assoc, decimal, arith}
+use Rattle.std.specs.Prelude.{if◌then◌else◌, Result, Ok, Err, OnOk}
+use Rattle.std.specs.Result.{is_ok}
 use Rattle.std.proofs.lemmas.Fmt.{decimal_step, decimal_digit}
 use Rattle.json.specs.Print.{escape, escape_byte, quoted}
 use Rattle.json.specs.Token as token
 use Rattle.json.specs.Token.{Token}
 use Rattle.json.specs.Print.{print}
-use Rattle.serde_json.specs.Data.{Data, string, Items, item, Members, member}
+use Rattle.serde_json.specs.Data.{Data, object, string, Items, item, Members, member}
 use Rattle.serde_json.proofs.Texts.{print-outline}
 use Rattle.serde_json.specs.Written.{comma_if, compact_text, items_text, members_text}
 use Rattle.tg_rights.specs.Promise.Letters.{Letters}
 use Rattle.tg_rights.specs.Promise.Written.{rights_text}
+use Rattle.tg_wire.specs.Promise.Faults.{line_text}
 use Rattle.tg_wire.specs.Inner.Told.{byte_if, led_text}
 
-pub led : (lead : List ℕ) (d : Data) → (lead ++ compact_text d) ++ 125 ∷ 10 ∷ [] ≡ led_text lead d
-led lead d = append_assoc lead (compact_text d) (125 ∷ 10 ∷ []) ∙ ap (λ s. lead ++ s) (sym (append_assoc (compact_text d) (125 ∷ []) (10 ∷ [])))
+pub led : (front lead : List ℕ) (d : Data) → ((front ++ lead) ++ compact_text d) ++ 125 ∷ 10 ∷ [] ≡ front ++ led_text lead d
+led front lead d = simp append_assoc
 
-pub between : (lead d rest : List ℕ) → ((lead ++ d) ++ rest) ++ 10 ∷ [] ≡ lead ++ ((d ++ rest) ++ 10 ∷ [])
-between lead d rest = simp append_assoc
+pub between : (front lead d rest : List ℕ) → (((front ++ lead) ++ d) ++ rest) ++ 10 ∷ [] ≡ front ++ (lead ++ ((d ++ rest) ++ 10 ∷ []))
+between front lead d rest = simp append_assoc
+
+pub braced : (front : List ℕ) (ms : Members) → ((front ++ 123 ∷ []) ++ members_text false ms) ++ 10 ∷ [] ≡ front ++ line_text (object ms)
+braced front ms = simp append_assoc
 
 in_a_row : (a b c d e f : List ℕ) → ((((a ++ b) ++ c) ++ d) ++ e) ++ f ≡ a ++ (b ++ (c ++ (d ++ (e ++ f))))
 in_a_row a b c d e f = simp append_assoc
+
+-- a text that needs no escape, between its quotes and what stands around them
+pub closed : (front lead s : List ℕ) → escape s ≡ s → ((front ++ lead) ++ s) ++ 34 ∷ 125 ∷ 10 ∷ [] ≡ front ++ (lead ++ (((escape s ++ 34 ∷ []) ++ 125 ∷ []) ++ 10 ∷ []))
+closed front lead s plain =
+    let flat : ((front ++ lead) ++ s) ++ 34 ∷ 125 ∷ 10 ∷ [] ≡ front ++ (lead ++ (((s ++ 34 ∷ []) ++ 125 ∷ []) ++ 10 ∷ [])) = simp append_assoc in
+    flat ∙ ap (λ l. front ++ (lead ++ (((l ++ 34 ∷ []) ++ 125 ∷ []) ++ 10 ∷ []))) (sym plain)
 
 -- one more member
 pub member_more : (front : List ℕ) (later : Bool) (key : List ℕ) (d : Data) (ms : Members)
@@ -68,61 +78,38 @@ letters_in_a_row front rights =
     let spelled : ((r ++ w) ++ t) ++ g ≡ rights_text rights = refl in
     flat ∙ ap (λ l. front ++ 34 ∷ (l ++ 34 ∷ [])) (spelled ∙ sym (letters_are_plain rights))
 
--- the digits before the last one of a number
-abbrev front_digits : ℕ → List ℕ
-front_digits n = if nat_lt 0 n then decimal n else []
+-- the digits of a number of one, of two, of three and of four
+pub one_digit : (n : ℕ) → n < 10 → decimal n ≡ (48 + n % 10) ∷ []
+one_digit n small = decimal_digit n small ∙ ap (λ m. (48 + m) ∷ []) (omega arith)
 
-shown_digits : (n : ℕ) → nat_lt 0 n ≡ true → front_digits n ≡ decimal n
-shown_digits n some = ap (λ b. if b then decimal n else []) some
+pub two_digits : (n : ℕ) → 10 ≤ n → n < 100 → decimal n ≡ (48 + n / 10 % 10) ∷ (48 + n % 10) ∷ []
+two_digits n big small = decimal_step n big (omega arith) ∙ ap (λ l. l ++ (48 + n % 10) ∷ []) (one_digit (n / 10) (omega arith))
 
-last_digit_after : (n : ℕ) → n < 2 ^ 64 → decimal n ≡ front_digits (n / 10) ++ (48 + n % 10) ∷ []
-last_digit_after n small = by (cases_order n 10)
-  where
-    many : 10 ≤ n → decimal n ≡ front_digits (n / 10) ++ (48 + n % 10) ∷ []
-    many big =
-        let some : 0 < n / 10 = omega (arith, big) in
-        decimal_step n big small ∙ ap (λ l. l ++ (48 + n % 10) ∷ []) (sym (shown_digits (n / 10) (lt-ltb 0 (n / 10) some)))
+pub three_digits : (n : ℕ) → 100 ≤ n → n < 1000 → decimal n ≡ (48 + n / 10 / 10 % 10) ∷ (48 + n / 10 % 10) ∷ (48 + n % 10) ∷ []
+three_digits n big small = decimal_step n (omega arith) (omega arith) ∙ ap (λ l. l ++ (48 + n % 10) ∷ []) (two_digits (n / 10) (omega arith) (omega arith))
 
-    by : (n ≡ 10) ⊎ ((n < 10) ⊎ (10 < n)) → decimal n ≡ front_digits (n / 10) ++ (48 + n % 10) ∷ []
-    by (inl is) = many (omega (arith, is))
-    by (inr (inl few)) =
-        let none : n / 10 ≡ 0 = omega (arith, few) in
-        let same : n ≡ n % 10 = omega (arith, few) in
-        decimal_digit n few ∙ ap (λ m. (48 + m) ∷ []) same ∙ ap (λ m. front_digits m ++ (48 + n % 10) ∷ []) (sym none)
-    by (inr (inr more)) = many (omega (arith, more))
+pub four_digits : (n : ℕ) → 1000 ≤ n → n < 10000
+    → decimal n ≡ (48 + n / 10 / 10 / 10 % 10) ∷ (48 + n / 10 / 10 % 10) ∷ (48 + n / 10 % 10) ∷ (48 + n % 10) ∷ []
+four_digits n big small = decimal_step n (omega arith) (omega arith) ∙ ap (λ l. l ++ (48 + n % 10) ∷ []) (three_digits (n / 10) (omega arith) (omega arith))
 
-one_digit_more : (n : ℕ) → n < 2 ^ 64 → front_digits n ≡ front_digits (n / 10) ++ byte_if (nat_lt 0 n) (48 + n % 10)
-one_digit_more zero small = refl
-one_digit_more (suc n) small =
-    let some : nat_lt 0 (suc n) ≡ true = lt-ltb 0 (suc n) (omega arith) in
-    shown_digits (suc n) some ∙ last_digit_after (suc n) small ∙ ap (λ b. front_digits (suc n / 10) ++ byte_if b (48 + suc n % 10)) (sym some)
+-- bytes that are appended, in other words
+pub appended : {E : Type 0} (r : Result (Unit {0}) E) (front other : List ℕ) {new bytes said : List ℕ} → new ≡ (if is_ok r then front ++ bytes else other) → bytes ≡ said → OnOk r (new ≡ front ++ said)
+appended (Ok done) front other is same = is ∙ ap (λ l. front ++ l) same
+appended (Err fault) front other is same = tt
 
-pub few_digits : (front : List ℕ) (n : ℕ) → n < 10000
-    → (((front ++ byte_if (nat_lt 0 (n / 10 / 10 / 10)) (48 + n / 10 / 10 / 10 % 10)) ++ byte_if (nat_lt 0 (n / 10 / 10)) (48 + n / 10 / 10 % 10)) ++ byte_if (nat_lt 0 (n / 10)) (48 + n / 10 % 10))
-    ++ (48 + n % 10) ∷ [] ≡ front ++ decimal n
-few_digits front n small =
-    let tens = n / 10 in
-    let hundreds = tens / 10 in
-    let thousands = hundreds / 10 in
-    let first = byte_if (nat_lt 0 thousands) (48 + thousands % 10) in
-    let second = byte_if (nat_lt 0 hundreds) (48 + hundreds % 10) in
-    let third = byte_if (nat_lt 0 tens) (48 + tens % 10) in
-    let none : thousands / 10 ≡ 0 = omega arith in
-    let one : front_digits thousands ≡ first = one_digit_more thousands (omega arith) ∙ ap (λ m. front_digits m ++ first) none in
-    let two : front_digits hundreds ≡ first ++ second = one_digit_more hundreds (omega arith) ∙ ap (λ l. l ++ second) one in
-    let three : front_digits tens ≡ (first ++ second) ++ third = one_digit_more tens (omega arith) ∙ ap (λ l. l ++ third) two in
-    let four : decimal n ≡ ((first ++ second) ++ third) ++ (48 + n % 10) ∷ [] = last_digit_after n (omega arith) ∙ ap (λ l. l ++ (48 + n % 10) ∷ []) three in
-    let flat : (((front ++ first) ++ second) ++ third) ++ (48 + n % 10) ∷ [] ≡ front ++ (((first ++ second) ++ third) ++ (48 + n % 10) ∷ []) = simp append_assoc in
-    flat ∙ ap (λ l. front ++ l) (sym four)
+-- what is put after the same, in other words
+pub said_as : {E : Type 0} (r : Result (Unit {0}) E) (new front : List ℕ) {said other : List ℕ} → said ≡ other → OnOk r (new ≡ front ++ said) → OnOk r (new ≡ front ++ other)
+said_as (Ok done) new front same is = is ∙ ap (λ l. front ++ l) same
+said_as (Err fault) new front same is = tt
 
 -- what a writer of JSON prints for one text
 pub text_told : (lead s : List ℕ) (ts : List Token) → ts ≡ token.string s ∷ [] → lead ++ print ts ≡ lead ++ quoted s
 text_told lead s ts is = ap (λ l. lead ++ print l) is ∙ ap (λ l. lead ++ l) (print-outline (string s))
 
-pub four_in_a_row : (a x b y c z d w : List ℕ)
-    → ((((a ++ x) ++ (b ++ y)) ++ (c ++ z)) ++ (d ++ w)) ++ 125 ∷ 10 ∷ [] ≡ (a ++ (x ++ (b ++ (y ++ (c ++ (z ++ (d ++ (w ++ 125 ∷ [])))))))) ++ 10 ∷ []
-four_in_a_row a x b y c z d w = simp append_assoc
+pub four_in_a_row : (front a x b y c z d w : List ℕ)
+    → ((((front ++ (a ++ x)) ++ (b ++ y)) ++ (c ++ z)) ++ (d ++ w)) ++ 125 ∷ 10 ∷ [] ≡ front ++ ((a ++ (x ++ (b ++ (y ++ (c ++ (z ++ (d ++ (w ++ 125 ∷ [])))))))) ++ 10 ∷ [])
+four_in_a_row front a x b y c z d w = simp append_assoc
 
-pub three_in_a_row : (a x b y c z : List ℕ)
-    → (((a ++ x) ++ (b ++ y)) ++ (c ++ z)) ++ 125 ∷ 10 ∷ [] ≡ (a ++ (x ++ (b ++ (y ++ (c ++ (z ++ 125 ∷ [])))))) ++ 10 ∷ []
-three_in_a_row a x b y c z = simp append_assoc
+pub three_in_a_row : (front a x b y c z : List ℕ)
+    → (((front ++ (a ++ x)) ++ (b ++ y)) ++ (c ++ z)) ++ 125 ∷ 10 ∷ [] ≡ front ++ ((a ++ (x ++ (b ++ (y ++ (c ++ (z ++ 125 ∷ [])))))) ++ 10 ∷ [])
+three_in_a_row front a x b y c z = simp append_assoc

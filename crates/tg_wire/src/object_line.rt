@@ -15,7 +15,7 @@ use itoa::Buffer;
 use json::Writer;
 use std::alloc::AllocError;
 use std::mem;
-use tg_rights::{Rights, Text};
+use tg_rights::Rights;
 
 /// The value of a field to write.
 #[derive(Clone, Copy, Drop)]
@@ -34,97 +34,98 @@ pub(crate) fn object_line(
     ensures { IfOk result (λ line. line.items ≡ line_text (object (told_members fields.now))) }
 {
     let mut line = room.lend()?;
-    line.push(b'{')?;
-    put_fields(&mut line, fields)?;
-    line.push(b'\n')?;
+    put_object(&mut line, fields)?;
     Ok(line)
+}
+
+// Each of the rest of a line is put after what the room has, which is nothing: so no line is moved from call to call.
+/// The same, put into the line's room.
+#[tactic(auto, using(crate::proofs::ObjectLineLemmas::braced))]
+pub(crate) fn put_object(line: &mut Vec<u8>, fields: &[(&str, Told<'_>)]) -> Result<(), AllocError>
+    ensures { OnOk result (line.new.items ≡ line.old.items ++ line_text (object (told_members fields.now))) }
+{
+    line.push(b'{')?;
+    put_fields(line, fields)?;
+    line.push(b'\n')?;
+    Ok(())
 }
 
 /// The line of an object that begins with these bytes, and ends with this word. It ends with a line feed.
 #[tactic(auto, using(crate::proofs::ObjectLineLemmas::led))]
-pub(crate) fn word_line(room: &mut LineRoom, lead: &[u8], word: &str) -> Result<Vec<u8>, AllocError>
-    ensures { IfOk result (λ line. line.items ≡ led_text lead.now (string word.now)) }
+pub(crate) fn put_led_word(line: &mut Vec<u8>, lead: &[u8], word: &str) -> Result<(), AllocError>
+    ensures { OnOk result (line.new.items ≡ line.old.items ++ led_text lead.now (string word.now)) }
 {
-    let mut line = room.lend()?;
     line.extend_from_slice(lead)?;
-    put_text(&mut line, word)?;
+    put_text(line, word)?;
     line.extend_from_slice(b"}\n")?;
-    Ok(line)
+    Ok(())
 }
 
-/// The line of an object that begins with these bytes, and ends with this text. It ends with a line feed.
+/// The line of an object that has these bytes before the bytes of a text, a quote the last of them, and a quote after it.
+/// It ends with a line feed.
 #[inline(always)]
-#[tactic(auto, using(crate::proofs::ObjectLineLemmas::led))]
-pub(crate) fn text_line(
-    room: &mut LineRoom,
-    lead: &[u8],
-    text: &Text,
-) -> Result<Vec<u8>, AllocError>
-    ensures { IfOk result (λ line. line.items ≡ led_text lead.now (string text.now)) }
+pub(crate) fn put_led_text(line: &mut Vec<u8>, lead: &[u8], text: &[u8]) -> Result<(), AllocError>
+    ensures { OnOk result (line.new.items ≡ ((line.old.items ++ lead.now) ++ text.now) ++ 34 ∷ 125 ∷ 10 ∷ []) }
 {
-    let mut line = room.lend()?;
     line.extend_from_slice(lead)?;
-    put_known_text(&mut line, text)?;
-    line.extend_from_slice(b"}\n")?;
-    Ok(line)
+    line.extend_from_slice(text)?;
+    line.extend_from_slice(b"\"}\n")?;
+    Ok(())
 }
 
 /// The line of an object that has these bytes before a number, and these after it. It ends with a line feed.
 #[tactic(auto, using(crate::proofs::ObjectLineLemmas::between))]
-pub(crate) fn number_line(
-    room: &mut LineRoom,
+pub(crate) fn put_led_number(
+    line: &mut Vec<u8>,
     lead: &[u8],
     number: u64,
     rest: &[u8],
-) -> Result<Vec<u8>, AllocError>
-    ensures { IfOk result (λ line. line.items ≡ lead.now ++ ((decimal number ++ rest.now) ++ 10 ∷ [])) }
+) -> Result<(), AllocError>
+    ensures { OnOk result (line.new.items ≡ line.old.items ++ (lead.now ++ ((decimal number ++ rest.now) ++ 10 ∷ []))) }
 {
-    let mut line = room.lend()?;
     line.extend_from_slice(lead)?;
-    put_number(&mut line, number)?;
+    put_number(line, number)?;
     line.extend_from_slice(rest)?;
     line.push(b'\n')?;
-    Ok(line)
+    Ok(())
 }
 
 /// The line of an object of four fields: the bytes before each value, and the value. It ends with a line feed.
 #[inline(always)]
 #[tactic(auto, using(crate::proofs::ObjectLineLemmas::four_in_a_row))]
-pub(crate) fn line_of_four(
-    room: &mut LineRoom,
+pub(crate) fn put_four(
+    line: &mut Vec<u8>,
     first: (&[u8], &Told<'_>),
     second: (&[u8], &Told<'_>),
     third: (&[u8], &Told<'_>),
     fourth: (&[u8], &Told<'_>),
-) -> Result<Vec<u8>, AllocError>
-    ensures { IfOk result (λ line. line.items ≡ leads_text (field_of first.entry ∷ field_of second.entry ∷ field_of third.entry ∷ field_of fourth.entry ∷ [])) }
+) -> Result<(), AllocError>
+    ensures { OnOk result (line.new.items ≡ line.old.items ++ leads_text (field_of first.entry ∷ field_of second.entry ∷ field_of third.entry ∷ field_of fourth.entry ∷ [])) }
 {
-    let mut line = room.lend()?;
-    put_led(&mut line, first.0, first.1)?;
-    put_led(&mut line, second.0, second.1)?;
-    put_led(&mut line, third.0, third.1)?;
-    put_led(&mut line, fourth.0, fourth.1)?;
+    put_led(line, first.0, first.1)?;
+    put_led(line, second.0, second.1)?;
+    put_led(line, third.0, third.1)?;
+    put_led(line, fourth.0, fourth.1)?;
     line.extend_from_slice(b"}\n")?;
-    Ok(line)
+    Ok(())
 }
 
 /// The same for an object of three fields.
 #[inline(always)]
 #[tactic(auto, using(crate::proofs::ObjectLineLemmas::three_in_a_row))]
-pub(crate) fn line_of_three(
-    room: &mut LineRoom,
+pub(crate) fn put_three(
+    line: &mut Vec<u8>,
     first: (&[u8], &Told<'_>),
     second: (&[u8], &Told<'_>),
     third: (&[u8], &Told<'_>),
-) -> Result<Vec<u8>, AllocError>
-    ensures { IfOk result (λ line. line.items ≡ leads_text (field_of first.entry ∷ field_of second.entry ∷ field_of third.entry ∷ [])) }
+) -> Result<(), AllocError>
+    ensures { OnOk result (line.new.items ≡ line.old.items ++ leads_text (field_of first.entry ∷ field_of second.entry ∷ field_of third.entry ∷ [])) }
 {
-    let mut line = room.lend()?;
-    put_led(&mut line, first.0, first.1)?;
-    put_led(&mut line, second.0, second.1)?;
-    put_led(&mut line, third.0, third.1)?;
+    put_led(line, first.0, first.1)?;
+    put_led(line, second.0, second.1)?;
+    put_led(line, third.0, third.1)?;
     line.extend_from_slice(b"}\n")?;
-    Ok(line)
+    Ok(())
 }
 
 /// The bytes before a value, and the value.
@@ -134,15 +135,6 @@ fn put_led(line: &mut Vec<u8>, lead: &[u8], told: &Told<'_>) -> Result<(), Alloc
 {
     line.extend_from_slice(lead)?;
     put(line, told)
-}
-
-/// A line that is always the same.
-pub(crate) fn fixed_line(room: &mut LineRoom, line: &[u8]) -> Result<Vec<u8>, AllocError>
-    ensures { IfOk result (λ told. told.items ≡ line.now) }
-{
-    let mut bytes = room.lend()?;
-    bytes.extend_from_slice(line)?;
-    Ok(bytes)
 }
 
 /// Fields, with a comma between two, and the closing brace.
@@ -218,14 +210,20 @@ pub(crate) fn put_number(line: &mut Vec<u8>, number: u64) -> Result<(), AllocErr
     if number >= 10_000 {
         return put_many_digits(line, number);
     }
-    let tens = number / 10;
-    let hundreds = tens / 10;
-    let thousands = hundreds / 10;
-    put_if(line, thousands > 0, last_digit(thousands))?;
-    put_if(line, hundreds > 0, last_digit(hundreds))?;
-    put_if(line, tens > 0, last_digit(tens))?;
-    line.push(last_digit(number))?;
-    Ok(())
+    let one = last_digit(number);
+    if number < 10 {
+        return line.extend_from_slice(&[one]);
+    }
+    let ten = last_digit(number / 10);
+    if number < 100 {
+        return line.extend_from_slice(&[ten, one]);
+    }
+    let hundred = last_digit(number / 10 / 10);
+    if number < 1_000 {
+        return line.extend_from_slice(&[hundred, ten, one]);
+    }
+    let thousand = last_digit(number / 10 / 10 / 10);
+    line.extend_from_slice(&[thousand, hundred, ten, one])
 }
 
 #[inline(always)]
@@ -265,18 +263,6 @@ pub(crate) fn put_text(line: &mut Vec<u8>, text: &str) -> Result<(), AllocError>
         put_quoted(line, text.as_bytes())
     } else {
         put_escaped(line, text)
-    }
-}
-
-/// The same for a text that may know that it needs no escape.
-#[inline(always)]
-fn put_known_text(line: &mut Vec<u8>, text: &Text) -> Result<(), AllocError>
-    ensures { OnOk result (line.new.items ≡ line.old.items ++ quoted text.now) }
-{
-    if text.is_unescaped() {
-        put_quoted(line, text.get().as_bytes())
-    } else {
-        put_text(line, text.get())
     }
 }
 

@@ -1,6 +1,8 @@
 //! From a reply, an answer, a cycle or a verdict to its line. The keys of a line are in rising order.
 
-ghost use Rattle.std.specs.Prelude.{◌≡◌, IfOk, codes};
+ghost use Rattle.std.specs.Prelude.{◌≡◌, ◌++◌, IfOk, OnOk, codes};
+ghost use Rattle.std.specs.Bool.{OnTrue};
+ghost use Rattle.json.specs.Print.{escape};
 ghost use Rattle.serde_json.specs.Data.{array, object, member, no_members, string, number, unsigned};
 ghost use Rattle.tg_wire.specs.Promise.Faults.{line_text, seat_fault_text as text_of_seat_fault, ask_fault_text as text_of_ask_fault};
 ghost use Rattle.tg_wire.specs.Promise.Replies.{edges_data, which_text as text_of_which, rule_text, denied_data, reply_line};
@@ -8,13 +10,14 @@ ghost use Rattle.tg_wire.specs.Promise.Answers.{denied_step_data, noted_data, an
 
 use crate::line_room::LineRoom;
 use crate::object_line::{
-    Told, fixed_line, line_of_four, line_of_three, number_line, object_line, text_line, word_line,
+    Told, object_line, put_four, put_led_number, put_led_text, put_led_word, put_object, put_three,
 };
 use crate::op::command_form;
+use crate::plain::is_plain;
 use std::alloc::{AllocError, Global};
 use tg_collect::{Note, Phase};
 use tg_graph::Verdict;
-use tg_rights::{Cause, Reply, Rights, Rule, Which};
+use tg_rights::{Cause, Reply, Rights, Rule, Text, Which};
 use tg_vault::{Answer, AskFault, SeatFault, Swept};
 
 /// The line of a reply, which ends with a line feed. Keys are in rising order, with no white space. `AllocError` if an
@@ -28,30 +31,60 @@ pub fn write_reply(alloc: Global, reply: &Reply) -> Result<Vec<u8>, AllocError>
 /// The same, in a buffer that is kept from line to line. `AllocError` if an allocation failed; the buffer is then lost,
 /// and the next line allocates another.
 #[inline(always)]
-#[tactic(auto, unfolding(crate::specs::Promise::Replies::reply_line, crate::proofs::Literals::numbers_on_literals))]
 pub fn write_reply_in(room: &mut LineRoom, reply: &Reply) -> Result<Vec<u8>, AllocError>
     ensures { IfOk result (λ line. line.items ≡ reply_line reply.now) }
 {
+    let mut line = room.lend()?;
+    put_reply(&mut line, reply)?;
+    Ok(line)
+}
+
+#[inline(always)]
+#[tactic(auto, unfolding(crate::specs::Promise::Replies::reply_line, crate::proofs::Literals::numbers_on_literals))]
+fn put_reply(line: &mut Vec<u8>, reply: &Reply) -> Result<(), AllocError>
+    ensures { OnOk result (line.new.items ≡ line.old.items ++ reply_line reply.now) }
+{
     match reply {
-        Reply::Done => fixed_line(room, b"{\"ok\":\"done\"}\n"),
+        Reply::Done => line.extend_from_slice(b"{\"ok\":\"done\"}\n"),
         Reply::Created(vertex) => {
-            number_line(room, b"{\"ok\":\"created\",\"vertex\":", *vertex, b"}")
+            put_led_number(line, b"{\"ok\":\"created\",\"vertex\":", *vertex, b"}")
         }
-        Reply::Text(text) => text_line(room, b"{\"ok\":\"text\",\"text\":", text),
-        Reply::Edges(edges) => edges_line(room, edges.get()),
-        Reply::Denied(rule, cause) => denied_line(room, *rule, *cause),
-        Reply::Full(which) => word_line(room, b"{\"full\":", which_text(*which)),
+        Reply::Text(text) => put_told_text(line, text),
+        Reply::Edges(edges) => put_told_edges(line, edges.get()),
+        Reply::Denied(rule, cause) => put_denied(line, *rule, *cause),
+        Reply::Full(which) => put_led_word(line, b"{\"full\":", which_text(*which)),
     }
+}
+
+/// The line of a text that was read.
+#[inline(always)]
+#[tactic(auto, unfolding(crate::proofs::Literals::numbers_on_literals))]
+fn put_told_text(line: &mut Vec<u8>, text: &Text) -> Result<(), AllocError>
+    ensures { OnOk result (line.new.items ≡ line.old.items ++ line_text (object (member (codes "ok") (string (codes "text")) (member (codes "text") (string text.now) no_members)))) }
+{
+    if is_plain_text(text) {
+        let bytes = text.get().as_bytes();
+        return put_led_text(line, b"{\"ok\":\"text\",\"text\":\"", bytes);
+    }
+    put_led_word(line, b"{\"ok\":\"text\",\"text\":", text.get())
+}
+
+/// Whether no byte of the text needs an escape; some texts know.
+#[inline(always)]
+fn is_plain_text(text: &Text) -> bool
+    ensures { OnTrue result (escape text.now ≡ text.now) }
+{
+    text.is_unescaped() || is_plain(text.get().as_bytes())
 }
 
 /// The line of the edges that were looked at.
 // Inlined, it would clear room for its fields at each answer.
 #[inline(never)]
-fn edges_line(room: &mut LineRoom, edges: &[(u64, Rights)]) -> Result<Vec<u8>, AllocError>
-    ensures { IfOk result (λ line. line.items ≡ line_text (object (member (codes "edges") (array (edges_data edges.now)) (member (codes "ok") (string (codes "edges")) no_members)))) }
+fn put_told_edges(line: &mut Vec<u8>, edges: &[(u64, Rights)]) -> Result<(), AllocError>
+    ensures { OnOk result (line.new.items ≡ line.old.items ++ line_text (object (member (codes "edges") (array (edges_data edges.now)) (member (codes "ok") (string (codes "edges")) no_members)))) }
 {
-    object_line(
-        room,
+    put_object(
+        line,
         &[("edges", Told::Edges(edges)), ("ok", Told::Word("edges"))],
     )
 }
@@ -66,21 +99,30 @@ pub fn write_answer(alloc: Global, answer: &Answer) -> Result<Vec<u8>, AllocErro
 
 /// The same, in a buffer that is kept, and with the error of `write_reply_in`.
 #[inline(always)]
-#[tactic(auto, unfolding(crate::specs::Promise::Answers::answer_line, crate::specs::Promise::Replies::reply_line, crate::proofs::Literals::numbers_on_literals))]
 pub fn write_answer_in(room: &mut LineRoom, answer: &Answer) -> Result<Vec<u8>, AllocError>
     ensures { IfOk result (λ line. line.items ≡ answer_line answer.now) }
 {
+    let mut line = room.lend()?;
+    put_answer(&mut line, answer)?;
+    Ok(line)
+}
+
+#[inline(always)]
+#[tactic(auto, unfolding(crate::specs::Promise::Answers::answer_line, crate::specs::Promise::Replies::reply_line, crate::proofs::Literals::numbers_on_literals))]
+fn put_answer(line: &mut Vec<u8>, answer: &Answer) -> Result<(), AllocError>
+    ensures { OnOk result (line.new.items ≡ line.old.items ++ answer_line answer.now) }
+{
     match answer {
         Answer::Hello(vertex) => {
-            number_line(room, b"{\"ok\":\"hello\",\"vertex\":", *vertex, b"}")
+            put_led_number(line, b"{\"ok\":\"hello\",\"vertex\":", *vertex, b"}")
         }
-        Answer::Bye => fixed_line(room, b"{\"ok\":\"bye\"}\n"),
-        Answer::Asked(_, reply) => write_reply_in(room, reply),
-        Answer::Shaded(Some(vertex)) => number_line(room, b"{\"shaded\":", *vertex, b"}"),
-        Answer::Shaded(None) => fixed_line(room, b"{\"shaded\":null}\n"),
-        Answer::Seat(fault) => word_line(room, b"{\"error\":", seat_fault_text(*fault)),
-        Answer::Ask(fault) => word_line(room, b"{\"error\":", ask_fault_text(*fault)),
-        Answer::Noted(note) => noted_line(room, *note),
+        Answer::Bye => line.extend_from_slice(b"{\"ok\":\"bye\"}\n"),
+        Answer::Asked(_, reply) => put_reply(line, reply),
+        Answer::Shaded(Some(vertex)) => put_led_number(line, b"{\"shaded\":", *vertex, b"}"),
+        Answer::Shaded(None) => line.extend_from_slice(b"{\"shaded\":null}\n"),
+        Answer::Seat(fault) => put_led_word(line, b"{\"error\":", seat_fault_text(*fault)),
+        Answer::Ask(fault) => put_led_word(line, b"{\"error\":", ask_fault_text(*fault)),
+        Answer::Noted(note) => put_note(line, *note),
     }
 }
 
@@ -145,34 +187,34 @@ fn step_line(room: &mut LineRoom, step: u64, verdict: &str) -> Result<Vec<u8>, A
 
 /// The line of a denial for this cause.
 #[tactic(auto, unfolding(crate::proofs::Literals::numbers_on_literals))]
-fn denied_line(room: &mut LineRoom, rule: Rule, cause: Cause) -> Result<Vec<u8>, AllocError>
-    ensures { IfOk result (λ line. line.items ≡ line_text (denied_data rule cause)) }
+fn put_denied(line: &mut Vec<u8>, rule: Rule, cause: Cause) -> Result<(), AllocError>
+    ensures { OnOk result (line.new.items ≡ line.old.items ++ line_text (denied_data rule cause)) }
 {
     match cause {
-        Cause::Retired => denied_for(room, rule, "retired"),
-        Cause::Empty => denied_for(room, rule, "empty"),
-        Cause::NotDistinct => denied_for(room, rule, "not distinct"),
-        Cause::Missing { from, to, rights } => line_of_four(
-            room,
+        Cause::Retired => put_denied_for(line, rule, "retired"),
+        Cause::Empty => put_denied_for(line, rule, "empty"),
+        Cause::NotDistinct => put_denied_for(line, rule, "not distinct"),
+        Cause::Missing { from, to, rights } => put_four(
+            line,
             (b"{\"denied\":", &Told::Word(command_form(rule).word)),
             (b",\"from\":", &Told::Number(from)),
             (b",\"missing\":", &Told::Letters(rights)),
             (b",\"to\":", &Told::Number(to)),
         ),
-        Cause::NotDocument { vertex } => denied_at(room, rule, "not document", vertex),
-        Cause::NotSubject { vertex } => denied_at(room, rule, "not subject", vertex),
-        Cause::NotPrincipal => denied_for(room, rule, "not principal"),
-        Cause::NameTaken => denied_for(room, rule, "name taken"),
-        Cause::Crowded => denied_for(room, rule, "crowded"),
+        Cause::NotDocument { vertex } => put_denied_at(line, rule, "not document", vertex),
+        Cause::NotSubject { vertex } => put_denied_at(line, rule, "not subject", vertex),
+        Cause::NotPrincipal => put_denied_for(line, rule, "not principal"),
+        Cause::NameTaken => put_denied_for(line, rule, "name taken"),
+        Cause::Crowded => put_denied_for(line, rule, "crowded"),
     }
 }
 
 /// The line of a denial for a cause with no field but its word.
-fn denied_for(room: &mut LineRoom, rule: Rule, cause: &str) -> Result<Vec<u8>, AllocError>
-    ensures { IfOk result (λ line. line.items ≡ line_text (object (member (codes "cause") (string cause.now) (member (codes "denied") (string (rule_text rule)) no_members)))) }
+fn put_denied_for(line: &mut Vec<u8>, rule: Rule, cause: &str) -> Result<(), AllocError>
+    ensures { OnOk result (line.new.items ≡ line.old.items ++ line_text (object (member (codes "cause") (string cause.now) (member (codes "denied") (string (rule_text rule)) no_members)))) }
 {
-    object_line(
-        room,
+    put_object(
+        line,
         &[
             ("cause", Told::Word(cause)),
             ("denied", Told::Word(command_form(rule).word)),
@@ -182,17 +224,12 @@ fn denied_for(room: &mut LineRoom, rule: Rule, cause: &str) -> Result<Vec<u8>, A
 
 /// The line of a denial for a cause with a word and a vertex.
 #[tactic(auto, unfolding(crate::proofs::Literals::numbers_on_literals))]
-fn denied_at(
-    room: &mut LineRoom,
-    rule: Rule,
-    cause: &str,
-    vertex: u64,
-) -> Result<Vec<u8>, AllocError>
-    ensures { IfOk result (λ line. line.items ≡ line_text (object (member (codes "cause") (string cause.now) (member (codes "denied") (string (rule_text rule))
+fn put_denied_at(line: &mut Vec<u8>, rule: Rule, cause: &str, vertex: u64) -> Result<(), AllocError>
+    ensures { OnOk result (line.new.items ≡ line.old.items ++ line_text (object (member (codes "cause") (string cause.now) (member (codes "denied") (string (rule_text rule))
         (member (codes "vertex") (number (unsigned vertex)) no_members))))) }
 {
-    line_of_three(
-        room,
+    put_three(
+        line,
         (b"{\"cause\":", &Told::Word(cause)),
         (b",\"denied\":", &Told::Word(command_form(rule).word)),
         (b",\"vertex\":", &Told::Number(vertex)),
@@ -276,42 +313,42 @@ fn denied_step_at(
 }
 
 /// The line of what a collector step did.
-fn noted_line(room: &mut LineRoom, note: Note) -> Result<Vec<u8>, AllocError>
-    ensures { IfOk result (λ line. line.items ≡ line_text (noted_data note)) }
+fn put_note(line: &mut Vec<u8>, note: Note) -> Result<(), AllocError>
+    ensures { OnOk result (line.new.items ≡ line.old.items ++ line_text (noted_data note)) }
 {
     match (note.ended, note.phase) {
-        (false, Phase::Idle) => number_line(
-            room,
+        (false, Phase::Idle) => put_led_number(
+            line,
             b"{\"ended\":false,\"freed\":",
             note.freed,
             b",\"phase\":\"idle\"}",
         ),
-        (false, Phase::Mark) => number_line(
-            room,
+        (false, Phase::Mark) => put_led_number(
+            line,
             b"{\"ended\":false,\"freed\":",
             note.freed,
             b",\"phase\":\"mark\"}",
         ),
-        (false, Phase::Sweep) => number_line(
-            room,
+        (false, Phase::Sweep) => put_led_number(
+            line,
             b"{\"ended\":false,\"freed\":",
             note.freed,
             b",\"phase\":\"sweep\"}",
         ),
-        (true, Phase::Idle) => number_line(
-            room,
+        (true, Phase::Idle) => put_led_number(
+            line,
             b"{\"ended\":true,\"freed\":",
             note.freed,
             b",\"phase\":\"idle\"}",
         ),
-        (true, Phase::Mark) => number_line(
-            room,
+        (true, Phase::Mark) => put_led_number(
+            line,
             b"{\"ended\":true,\"freed\":",
             note.freed,
             b",\"phase\":\"mark\"}",
         ),
-        (true, Phase::Sweep) => number_line(
-            room,
+        (true, Phase::Sweep) => put_led_number(
+            line,
             b"{\"ended\":true,\"freed\":",
             note.freed,
             b",\"phase\":\"sweep\"}",

@@ -1,8 +1,23 @@
-use Rattle.std.proofs.Common.{arith}
-use Rattle.tg_wire.proofs.ObjectLineLemmas.{few_digits}
+use Rattle.std.proofs.Common.{◌∷◌, [], sym, ap, ap₂, ◌∙◌}
+use Rattle.tg_wire.proofs.ObjectLineLemmas.{appended, one_digit, two_digits, three_digits, four_digits}
 use Rattle.tg_wire.proofs.object_line.put_number.Goals as goal
+
+pub returns-then-number-lt10 : goal.returns-then-number-lt10
+returns-then-number-lt10 c = appended _ _ _ c.extend_from_slice.ensures.items (ap (λ d. d ∷ []) c.last_digit-one.ensures ∙ sym (one_digit c.args.number c.if-number-lt10.true))
+
+pub returns-then-number-lt100 : goal.returns-then-number-lt100
+returns-then-number-lt100 c =
+    appended _ _ _ c.extend_from_slice-then-number-lt100.ensures.items
+    (ap₂ (λ d e. d ∷ e ∷ []) c.last_digit-ten.ensures c.last_digit-one.ensures ∙ sym (two_digits c.args.number c.if-number-lt10.false c.if-number-lt100.true))
+
+pub returns-then-number-lt1000 : goal.returns-then-number-lt1000
+returns-then-number-lt1000 c =
+    appended _ _ _ c.extend_from_slice-then-number-lt1000.ensures.items
+    (ap₂ (λ d l. d ∷ l) c.last_digit-hundred.ensures (ap₂ (λ d e. d ∷ e ∷ []) c.last_digit-ten.ensures c.last_digit-one.ensures)
+    ∙ sym (three_digits c.args.number c.if-number-lt100.false c.if-number-lt1000.true))
 
 pub returns : goal.returns
 returns c =
-    rw (c.in_ok-push.ensures.items, c.in_ok-put_if-3.ensures, c.in_ok-put_if-2.ensures, c.in_ok-put_if.ensures, c.last_digit.ensures, c.last_digit-2.ensures, c.last_digit-3.ensures, c.last_digit-4.ensures)
-    (few_digits c.args.line.now.items c.args.number (omega (arith, c.if-number-ge10000.false)))
+    appended _ _ _ c.extend_from_slice-2.ensures.items
+    (ap₂ (λ d l. d ∷ l) c.last_digit-thousand.ensures (ap₂ (λ d l. d ∷ l) c.last_digit-hundred.ensures (ap₂ (λ d e. d ∷ e ∷ []) c.last_digit-ten.ensures c.last_digit-one.ensures))
+    ∙ sym (four_digits c.args.number c.if-number-lt1000.false c.if-number-ge10000.false))
