@@ -1,7 +1,7 @@
 -- A decision has passed each vertex that the effect works on, and has met what the effect takes for granted.
-use Rattle.std.proofs.Common.{◌≡◌, ◌≢◌, ℕ, List, Some, false, sym, ap, subst, ◌∙◌, inl, inr}
+use Rattle.std.proofs.Common.{◌≡◌, ◌≢◌, ℕ, List, Some, false, true, sym, ap, subst, ◌∙◌, inl, inr}
 use Rattle.std.specs.Prelude.{Option}
-use Rattle.tg_rights.specs.Promise.Letters.{Letters, is_none}
+use Rattle.tg_rights.specs.Promise.Letters.{Letters, includes, is_none}
 use Rattle.tg_rights.specs.declared.kind.Kind.{Kind}
 use Rattle.tg_rights.specs.declared.command.Command.{Command}
 use Rattle.tg_rights.specs.declared.command.Command.TheVariants as command
@@ -51,6 +51,9 @@ module _ (G : Protection) (x : ℕ) (c : Command) (allowed : Allowed G x c) wher
 
   pub dropped_edge : (over : ℕ) (α : Letters) → effect.Drops α over ≡ (terms x c).does → IsEdge G x over
   dropped_edge over α is = let g = granted (effect.Drops α over) is in includes_some (label G x over) α g.0 g.1
+
+  pub dropped_has : (over : ℕ) (α : Letters) → effect.Drops α over ≡ (terms x c).does → includes (label G x over) α ≡ true
+  dropped_has over α is = (granted (effect.Drops α over) is).0
 
   pub joined_named : (from to : ℕ) (α : Letters) → effect.Joins from α to ≡ (terms x c).does → is_none α ≡ false
   joined_named from to α is = (granted (effect.Joins from α to) is).3

@@ -6,13 +6,14 @@ ghost use Rattle.tg_rights.specs.Promise.Letters.{is_none, includes};
 ghost use Rattle.tg_rights.specs.declared.limits.TheConstants.{SEATS};
 ghost use Rattle.tg_rights.specs.declared.outcome.Reply.TheVariants as reply;
 ghost use Rattle.tg_graph.specs.Inner.Deciding.{IsSubjectIfNamed};
+ghost use Rattle.tg_graph.specs.Promise.Deciding.{Each, LeadTo, WasFound};
 ghost use Rattle.tg_graph.specs.Promise.Protection.{MayBeNamed, without_member, label};
 ghost use Rattle.tg_graph.specs.Promise.Rules.{Allowed, edges_of, text_of};
 ghost use Rattle.tg_graph.specs.Promise.Terms.{terms, name_in, text_in};
 ghost use Rattle.tg_collect.specs.Promise.Readings.{held, free_slots, IsEdgeIn, IsHeldIn, IsParkedIn, pending_of, place, principals, serial_at};
 ghost use Rattle.tg_collect.specs.Promise.Sessions.{Assumed, AgentLeft, Retired, RightsRemoved, TextReplaced, Acted};
 ghost use Rattle.tg_vault.specs.Inner.Acting.{IsHere, serial_in};
-ghost use Rattle.tg_vault.specs.Inner.CarriedOut.{CarriedOut, HasPlace, Joined, Made, Stores, allowed, copies, denied, settled};
+ghost use Rattle.tg_vault.specs.Inner.CarriedOut.{CarriedOut, HasPlace, Joined, Made, Stores, copies, denied, settled};
 ghost use Rattle.tg_vault.specs.Promise.Seen.{serials};
 ghost use Rattle.tg_vault.specs.Inner.Seen.{seen_in, set_of};
 
@@ -20,7 +21,9 @@ use crate::acting::Actor;
 use std::alloc::{AllocError, Global};
 use std::collections::BTreeSet;
 use tg_collect::{HeapFull, Store};
-use tg_graph::{Effect, LAST_SERIAL, Roll, Spot, decide, effect_of, into_text, is_for_retired};
+use tg_graph::{
+    Effect, Found, LAST_SERIAL, Roll, Spot, decide, effect_of, into_text, is_for_retired,
+};
 use tg_rights::{Cause, Command, EdgeList, Kind, Name, Outcome, Reply, Rights, Rule, Text, Which};
 
 /// What a command changes: the store, the active principals, who has retired, and the next serial.
@@ -39,32 +42,18 @@ pub struct Answered {
     pub reply: Reply,
 }
 
-/// An allowed command, which was carried out.
-fn allowed(reply: Reply) -> Answered
-    ensures { result ≡ allowed reply }
-{
-    Answered {
-        outcome: Outcome::Allowed,
-        reply,
-    }
-}
-
-// Where one that is seldom wanted is inlined, room for it is cleared at each command: so these three are not.
-/// An allowed command, which was carried out, with nothing to return.
-#[inline(never)]
-fn done() -> Answered
-    ensures { result ≡ allowed reply.Done }
-{
-    allowed(Reply::Done)
-}
-
+// Each call that returns an `Answered` clears room for it first, for each command, whether it is made or not. So it is
+// made of a reply, in one place, and the calls that are seldom made are out of line together.
 /// An allowed command, which was carried out with this reply, or for which this is used up.
-#[inline(never)]
+#[inline(always)]
 fn settled(done: Result<Reply, Which>) -> Answered
     ensures { result ≡ settled done }
 {
     match done {
-        Ok(reply) => allowed(reply),
+        Ok(reply) => Answered {
+            outcome: Outcome::Allowed,
+            reply,
+        },
         Err(which) => Answered {
             outcome: Outcome::Full(which),
             reply: Reply::Full(which),
@@ -117,12 +106,13 @@ fn name_of(command: &Command, alloc: Global) -> Result<Option<Name>, AllocError>
 }
 
 /// The reply is a copy of the text.
-fn tell(store: &Store, alloc: Global, at: u32) -> Result<Answered, AllocError>
+#[inline(always)]
+fn tell(store: &Store, alloc: Global, at: u32) -> Result<Reply, AllocError>
     requires { IsSome (place store.now at) }
-    ensures { IfOk result (λ answer. (next : ℕ) → answer ≡ allowed (reply.Text (text_of (held store.now next) (serial_at store.now at)))) }
+    ensures { IfOk result (λ told. (next : ℕ) → told ≡ reply.Text (text_of (held store.now next) (serial_at store.now at))) }
 {
     let text = store.text(at).copy(alloc)?;
-    Ok(allowed(Reply::Text(text)))
+    Ok(Reply::Text(text))
 }
 
 /// A copy of the text that the command brings takes the place of the old one.
@@ -138,12 +128,12 @@ fn replace(store: &mut Store, alloc: Global, at: u32, command: &Command) -> Resu
 }
 
 /// The reply is the edges, by rising serial.
-fn list(store: &Store, alloc: Global, of: u32) -> Result<Answered, AllocError>
+fn list(store: &Store, alloc: Global, of: u32) -> Result<Reply, AllocError>
     requires { IsSome (place store.now of) }
-    ensures { IfOk result (λ answer. (next : ℕ) → answer ≡ allowed (reply.Edges (edges_of (held store.now next) (serial_at store.now of)))) }
+    ensures { IfOk result (λ told. (next : ℕ) → told ≡ reply.Edges (edges_of (held store.now next) (serial_at store.now of))) }
 {
     let edges = store.edges(alloc, of)?;
-    Ok(allowed(Reply::Edges(EdgeList::new(edges))))
+    Ok(Reply::Edges(EdgeList::new(edges)))
 }
 
 impl State {
@@ -240,6 +230,70 @@ impl State {
         Ok(())
     }
 
+    /// Carries a command out that the rules allow, if nothing that it needs is used up; the vertices that they passed
+    /// were found. `AllocError` leaves everything as it was; it occurs only for a command that copies a text, a name or a
+    /// list, and for a retire.
+    #[inline(always)]
+    fn carry_out(
+        &mut self,
+        alloc: Global,
+        seat: u64,
+        actor: Spot<u32>,
+        command: &Command,
+        found: &Found<u32>,
+    ) -> Result<Result<Reply, Which>, AllocError>
+        requires seat { seat < SEATS }
+        requires idle { pending_of self.old.store seat ≡ None }
+        requires listed { principals self.old.store ≡ serials self.old.names }
+        requires actor { place self.old.store actor.place ≡ Some actor.serial }
+        requires unheld { IsHeldIn self.old.store self.old.next → ⊥ }
+        requires unparked { IsParkedIn self.old.store self.old.next → ⊥ }
+        requires allowed { Allowed (seen_in self.old) actor.serial command.now }
+        requires at { found.now.actor ≡ actor }
+        requires places { Each (λ spot. place self.old.store spot.place ≡ Some spot.serial) found.now }
+        requires found { (v : ℕ) → LeadTo (terms actor.serial command.now).needs v → WasFound found.now v }
+        ensures carried { IfOk result (λ done. CarriedOut self.old self.new seat actor.serial command.now (settled done)) }
+        ensures memory { OnErr result (copies (terms actor.serial command.now).does ≡ true) }
+        ensures unchanged { OnErr result (self.new ≡ self.old) }
+    {
+        let id = actor.place;
+        match effect_of(actor.serial, command) {
+            Effect::Joins { from, rights, to } => {
+                let source = found.spot(from).place;
+                let target = found.spot(to).place;
+                Ok(join(&mut self.store, seat, source, target, rights))
+            }
+            Effect::Makes { kind, rights } => {
+                let name = name_of(command, alloc)?;
+                Ok(self.make(alloc, seat, id, kind, rights, name))
+            }
+            Effect::Drops { rights, over } => {
+                self.store.remove_rights(id, over, rights);
+                Ok(Ok(Reply::Done))
+            }
+            Effect::Rewrites { over } => {
+                replace(&mut self.store, alloc, found.spot(over).place, command)?;
+                Ok(Ok(Reply::Done))
+            }
+            Effect::Tells { over } => Ok(Ok(tell(&self.store, alloc, found.spot(over).place)?)),
+            Effect::Lists { at } => Ok(Ok(list(&self.store, alloc, found.spot(at).place)?)),
+            Effect::Retires => {
+                self.retire(actor.serial)?;
+                Ok(Ok(Reply::Done))
+            }
+            Effect::Acts { agent } => match agent {
+                Some(agent) => {
+                    self.store.assume(seat, found.spot(agent).place);
+                    Ok(Ok(Reply::Done))
+                }
+                None => {
+                    self.store.leave(seat);
+                    Ok(Ok(Reply::Done))
+                }
+            },
+        }
+    }
+
     /// Decides the command of an actor that has not retired, and carries it out if the rules allow it and nothing that
     /// it needs is used up. `AllocError` leaves everything as it was; it occurs only for an allowed command that copies
     /// a text, a name or a list, and for a retire, so never for a denial.
@@ -267,46 +321,30 @@ impl State {
             Ok(found) => found,
             Err(cause) => return Ok(denied(command.rule(), &cause)),
         };
-        let id = actor.place;
-        match effect_of(actor.serial, command) {
-            Effect::Joins { from, rights, to } => {
-                let source = found.spot(from).place;
-                let target = found.spot(to).place;
-                Ok(settled(join(&mut self.store, seat, source, target, rights)))
-            }
-            Effect::Makes { kind, rights } => {
-                let name = name_of(command, alloc)?;
-                Ok(settled(self.make(alloc, seat, id, kind, rights, name)))
-            }
-            Effect::Drops { rights, over } => {
-                self.store.remove_rights(id, over, rights);
-                Ok(done())
-            }
-            Effect::Rewrites { over } => {
-                replace(&mut self.store, alloc, found.spot(over).place, command)?;
-                Ok(done())
-            }
-            Effect::Tells { over } => tell(&self.store, alloc, found.spot(over).place),
-            Effect::Lists { at } => list(&self.store, alloc, found.spot(at).place),
-            Effect::Retires => {
-                self.retire(actor.serial)?;
-                Ok(done())
-            }
-            Effect::Acts { agent } => match agent {
-                Some(agent) => {
-                    self.store.assume(seat, found.spot(agent).place);
-                    Ok(done())
-                }
-                None => {
-                    self.store.leave(seat);
-                    Ok(done())
-                }
-            },
+        let done = self.carry_out(alloc, seat, actor, command, &found)?;
+        Ok(settled(done))
+    }
+
+    /// Decides the command of an actor that has retired: each but a leave is denied, which is carried out.
+    #[inline(never)]
+    fn answer_gone(&mut self, seat: u64, actor: u64, command: &Command) -> Answered
+        requires seat { seat < SEATS }
+        requires idle { pending_of self.old.store seat ≡ None }
+        requires listed { principals self.old.store ≡ serials self.old.names }
+        requires retired { set.contains (set_of self.old.retired.keys) actor ≡ true }
+        ensures { CarriedOut self.old self.new seat actor command.now result }
+    {
+        if is_for_retired(actor, command) {
+            self.store.leave(seat);
+            settled(Ok(Reply::Done))
+        } else {
+            denied(command.rule(), &Cause::Retired)
         }
     }
 
     /// Decides the actor's command and carries it out as `answer_at` does. An actor that has retired is denied each
     /// command but a leave, which is carried out.
+    #[inline(always)]
     pub fn answer(
         &mut self,
         alloc: Global,
@@ -327,11 +365,7 @@ impl State {
     {
         match actor {
             Actor::At(spot) => self.answer_at(alloc, seat, spot, command),
-            Actor::Gone(serial) if is_for_retired(serial, command) => {
-                self.store.leave(seat);
-                Ok(done())
-            }
-            Actor::Gone(_) => Ok(denied(command.rule(), &Cause::Retired)),
+            Actor::Gone(serial) => Ok(self.answer_gone(seat, serial, command)),
         }
     }
 }

@@ -336,6 +336,7 @@ impl Vault {
     }
 
     /// Carries out one event.
+    #[inline(never)]
     #[tactic(auto, using(crate::proofs::CollectLemmas::still_acts))]
     fn step(&mut self, event: &Event) -> Answer
         ensures step { StepOf self.old event.now result self.new }
@@ -367,6 +368,7 @@ impl Vault {
     /// A run of one event: carries it out and returns its answer; `Ask(OutOfMemory)` if an allocation failed. `run`
     /// copies the commands that it borrows, and takes the vault by value; here both stay in place. `courses_join` joins
     /// successive calls into a course, and `courses_have_the_headline` says of it what `run` promises.
+    #[inline(always)]
     pub fn run_one(&mut self, event: Event) -> Answer
         ensures step { VaultStep self.old event result self.new }
         ensures headline { Headline self.old (event ∷ []) (result ∷ []) self.new }
@@ -379,6 +381,7 @@ impl Vault {
     }
 
     /// Carries out one event, without copying its command.
+    #[inline(always)]
     fn act(&mut self, event: Event) -> Answer
         ensures step { StepOf self.old event result self.new }
         ensures keeps { Keeps self.old self.new }
