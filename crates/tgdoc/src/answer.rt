@@ -37,10 +37,7 @@ pub(crate) fn answer(alloc: Global, vault: &mut Vault, bytes: &[u8], room: &mut 
     ensures { AnswersLine vault.old bytes.now vault.new (shown_line result) (one_if (is_wrong result)) }
 {
     match read_line_in(room, alloc, bytes) {
-        Ok(Line::Act(event)) => {
-            let answer = vault.run_one(event);
-            text_of_answer(room, &answer)
-        }
+        Ok(Line::Act(event)) => text_of_answer(room, &vault.run_one(event)),
         Ok(Line::Cycle) => {
             let swept = vault.cycle();
             tell_swept(room, swept)

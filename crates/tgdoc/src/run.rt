@@ -19,6 +19,7 @@ use crate::question::Question;
 use crate::sharing::end_sharing;
 use std::alloc::{AllocError, Global};
 use std::io::{BufWriter, Read, Write};
+use std::mem;
 use tg_talk::{Finished, InputLines, Next, Over, TalkFault, Watched, answer_lines, open_vault};
 use tg_vault::{Key, Vault, courses_have_the_headline, courses_join};
 use tg_wire::{WireFault, error_line};
@@ -154,6 +155,8 @@ fn take_rest<R: Read, W: Write + Drop>(
                 carried: (),
                 finished,
             } = answer_lines(alloc, input, &mut runner, (), reader, writer);
+            // The process ends next, and frees it at once.
+            mem::forget(runner);
             finished
         }
         Output::Pictures { each } => {
