@@ -53,7 +53,7 @@ FLAG_LINES = [
 # Each place, by file, function, what is handed on, and what is made of it; and how often.
 LISTED = {
     # The faults of the lower crates are the refusals of lists, maps and texts.
-    ("tg_audit/src/settling.rt", "settle", "first_difference", "Settled::NoMemory"): 1,
+    ("tg_audit/src/settling.rt", "settle_with_logs", "first_difference", "Settled::NoMemory"): 1,
     ("tg_graph/src/graph.rt", "build", "Graph::open", "OpenFault::OutOfMemory"): 1,
     ("tg_vault/src/rebase.rt", "begin_anew", "vault.live_graph", "Rebased::NoMemory"): 1,
     ("tg_vault/src/vault.rt", "with_key", "Store::with_key", "OpenFault::OutOfMemory"): 1,
@@ -65,7 +65,7 @@ LISTED = {
     # A session submits nothing without room in its log and a copy of the command.
     ("tg_share/src/session.rt", "carry_out", "self.log.try_reserve", "AskFault::OutOfMemory"): 1,
     ("tg_share/src/session.rt", "carry_out", "command.copy", "AskFault::OutOfMemory"): 1,
-    ("tg_share/src/closing.rt", "close", "Vec::with_capacity", "Closed::NoRoom"): 1,
+    ("tg_share/src/closing.rt", "close_with_logs", "Vec::with_capacity", "Closed::NoRoom"): 1,
     # Lines: each lack of memory is one fault, and the parser says which of its own errors mean that
     # memory ran out.
     ("tg_wire/src/fault.rt", "from", "AllocError", "WireFault::OutOfMemory"): 1,
@@ -119,7 +119,7 @@ SIZES = {
     ("tg_load/src/crowd.rt", "act_at_once", "threads.try_reserve", "1"): 1,
     ("tg_serve/src/attending.rt", "attend", "Vec::with_capacity", "LONGEST"): 1,
     ("tg_serve/src/client.rt", "new", "Vec::with_capacity", "room"): 1,
-    ("tg_share/src/closing.rt", "close", "Vec::with_capacity", "ended.len()"): 1,
+    ("tg_share/src/closing.rt", "close_with_logs", "Vec::with_capacity", "ended.len()"): 1,
     ("tg_share/src/session.rt", "carry_out", "self.log.try_reserve", "1"): 1,
     ("tg_talk/src/line_buffer.rt", "new", "vec!", "CAPACITY"): 1,
     ("tg_sharing/src/search.rt", "near_of", "Vec::with_capacity", "serials.len()"): 1,

@@ -46,7 +46,7 @@ OF_A_VAULT = (
     Contract("tg_vault/src/vault.rt", "run_one"),
     Contract("tg_vault/src/vault.rt", "command", ("agrees",)),
     Contract("tg_vault/src/rebase.rt", "rebase"),
-    Contract("tg_vault/src/rebase.rt", "rebase_with_history"),
+    Contract("tg_vault/src/rebase.rt", "rebase_with_past"),
 )
 
 # In the order of the page, where each adds to those above it. The numbered items have no title.

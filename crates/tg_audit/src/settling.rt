@@ -1,5 +1,5 @@
 //! Settling: the logs of all callers against the history.
-ghost use Rattle.tg_audit.specs.Promise.Settling.{SettledAs};
+ghost use Rattle.tg_audit.specs.Promise.Settling.{GivesBack, SettledAs};
 
 use crate::following::first_difference;
 use crate::logs::{SeatLog, Settled};
@@ -14,14 +14,29 @@ use tg_vault::Vault;
 pub fn settle(alloc: Global, vault: Vault, logs: Vec<SeatLog>) -> Settled
     ensures { SettledAs vault logs.items result }
 {
+    let (settled, logs) = settle_with_logs(alloc, vault, logs);
+    drop(logs);
+    settled
+}
+
+/// As `settle`, with the logs if they agree, which it drops: so they can be dropped later. Otherwise they are in the
+/// result, and there are no others.
+pub fn settle_with_logs(alloc: Global, vault: Vault, logs: Vec<SeatLog>) -> (Settled, Vec<SeatLog>)
+    ensures settled { SettledAs vault logs.items result.0 }
+    ensures logs { GivesBack logs.items result.0 result.1.items }
+{
+    let none = Vec::new(alloc);
     match first_difference(alloc, &vault, logs.as_slice()) {
-        Err(_) => Settled::NoMemory { vault, logs },
-        Ok(None) => Settled::Agreed(vault),
-        Ok(Some(place)) => Settled::Differs {
-            vault,
-            logs,
-            seat: place.0,
-            index: place.1,
-        },
+        Err(_) => (Settled::NoMemory { vault, logs }, none),
+        Ok(None) => (Settled::Agreed(vault), logs),
+        Ok(Some(place)) => {
+            let settled = Settled::Differs {
+                vault,
+                logs,
+                seat: place.0,
+                index: place.1,
+            };
+            (settled, none)
+        }
     }
 }

@@ -9,7 +9,7 @@ ghost use Rattle.tg_serve.specs.Inner.Serving.{HasRounds};
 use crate::desk::Desk;
 use crate::door::{Door, wait_in_ticks};
 use crate::operating::Operating;
-use crate::serve::{Served, Service, Unsettled, serve_round};
+use crate::serve::{Leavings, Served, Service, Unsettled, serve_round};
 use crate::telling::{agree, announce, tell, tell_rebase};
 use std::alloc::Global;
 use std::io::Write;
@@ -19,9 +19,10 @@ use std::rt::Clock;
 use std::sync::Wait;
 use std::sync::ledger::Blank;
 use std::thread::Threads;
+use tg_graph::Graph;
 use tg_share::PARTS;
 use tg_talk::Watched;
-use tg_vault::{Entry, Rebased, Vault};
+use tg_vault::{Entry, Past, Rebased, Vault};
 
 /// Serves this many connections in rounds of `round`, as `serve_operated` does, without bounds: a client may keep the
 /// server waiting for ever, and a round may take all memory.
@@ -115,15 +116,17 @@ pub fn serve_operated<R: Threads + Wait + Clock + Sync, W: Write>(
 /// Leaves the history of the last round at the desk, if it was settled.
 fn keep_last<R: Wait>(service: &Service<'_, R>, found: Result<Vault, Unsettled>) {
     if let Ok(last) = found {
-        keep(service, last.into_history());
+        let _ = keep(service, last.into_history());
     }
 }
 
-/// Leaves the history of a round at the desk, if it is to be kept there; otherwise drops it.
-fn keep<R: Wait>(service: &Service<'_, R>, history: Vec<Entry>) {
-    if service.operating.keeps_history {
-        service.desk.keep_history(service.rt, history);
+/// Leaves the history of a round at the desk, if it is to be kept there; otherwise returns it.
+fn keep<R: Wait>(service: &Service<'_, R>, history: Vec<Entry>) -> Option<Vec<Entry>> {
+    if !service.operating.keeps_history {
+        return Some(history);
     }
+    service.desk.keep_history(service.rt, history);
+    None
 }
 
 /// The number, or 1 in place of 0.
@@ -165,13 +168,18 @@ fn serve_rounds<R: Threads + Wait + Clock + Sync, W: Write>(
     ensures told { IfOk result (λ _. is_announced ≡ true → HasRounds service.now.operating connections round (W.contents (device_of writer.old)) (W.contents (device_of writer.new)) (has_failed writer.new)) }
 {
     let mut vault = opened;
+    let mut past = None;
     let mut left = connections;
     let mut number = 1u64;
     'rounds: for _ in service.rt.forever() {
         let size = size_of(service, left, round);
         let door = Door::new(service.listener, size);
         service.desk.begin_round(number);
-        let settled = serve_round::<Brand, R>(service, &door, Blank::new(PARTS), vault)?;
+        let (found, logs) = serve_round::<Brand, R>(service, &door, Blank::new(PARTS), vault, past);
+        let settled = match found {
+            Ok(settled) => settled,
+            Err(end) => return Err(end),
+        };
         service.desk.conclude_round();
         service.desk.settle(service.rt, service.operating);
         left = left_after(service, &door, left, size);
@@ -181,7 +189,13 @@ fn serve_rounds<R: Threads + Wait + Clock + Sync, W: Write>(
         let Some(next) = number.checked_add(1) else {
             return Ok(settled);
         };
-        vault = rebase(service, writer, is_announced, settled, number)?;
+        let fresh = rebase(service, writer, is_announced, settled, number)?;
+        vault = fresh.vault;
+        past = Some(Leavings {
+            history: fresh.history,
+            opening: fresh.opening,
+            logs,
+        });
         number = next;
     }
     unreachable!()
@@ -234,32 +248,45 @@ fn is_last<R>(service: &Service<'_, R>, left: u64, connections: u64, round: u64)
     left == 0 || (connections <= round && !goes_on)
 }
 
-/// Rebases the vault of a round, and writes how many entries that dropped; returns the vault of the next round. Its
-/// history is left at the desk, also if the rebase fails.
+/// The vault of the next round, and of the one before the opening graph, and the history, unless it is at the desk.
+#[derive(Drop)]
+struct Fresh {
+    vault: Vault,
+    history: Option<Vec<Entry>>,
+    opening: Option<Graph>,
+}
+
+/// Rebases the vault of a round, and writes how many entries that dropped. Its history is left at the desk, if it is to be
+/// kept there, also if the rebase fails.
 fn rebase<R: Wait, W: Write>(
     service: &Service<'_, R>,
     writer: &mut Watched<W>,
     is_announced: bool,
     settled: Vault,
     round: u64,
-) -> Result<Vault, Unsettled>
-    ensures fresh { IfOk result (IsRebased settled) }
+) -> Result<Fresh, Unsettled>
+    ensures fresh { IfOk result (λ fresh. IsRebased settled fresh.vault) }
     ensures ended { IfErr result EndsServer }
     ensures told { IfOk result (λ _. is_announced ≡ true → SendsOn (W.contents (device_of writer.old)) (has_failed writer.old) (W.contents (device_of writer.new)) (has_failed writer.new) (rebased_line (length settled.history) round)) }
 {
-    let (rebased, history) = settled.rebase_with_history();
+    let (rebased, past) = settled.rebase_with_past();
     match rebased {
         Rebased::Fresh { vault, dropped } => {
-            keep(service, history);
+            let Past { history, opening } = past;
+            let history = keep(service, history);
             tell_rebase(writer, is_announced, dropped, round);
-            Ok(vault)
+            Ok(Fresh {
+                vault,
+                history,
+                opening,
+            })
         }
         Rebased::Seated { vault, .. } => {
-            keep(service, vault.into_history());
+            let _ = keep(service, vault.into_history());
             Err(Unsettled::Seated)
         }
         Rebased::NoMemory { vault } => {
-            keep(service, vault.into_history());
+            let _ = keep(service, vault.into_history());
             Err(Unsettled::OutOfMemory)
         }
     }

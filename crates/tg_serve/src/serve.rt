@@ -18,10 +18,11 @@ use std::sync::ledger::{Blank, Ledger};
 use std::thread;
 use std::thread::Threads;
 use std::time::Duration;
-use tg_audit::Settled;
+use tg_audit::{SeatLog, Settled};
+use tg_graph::Graph;
 use tg_share::{Closed, Ended, Open, PARTS, Shared, Worked};
 use tg_talk::{TalkFault, Watched, buffered, talk};
-use tg_vault::{Room, Vault};
+use tg_vault::{Entry, Room, Vault};
 
 /// The result of serving.
 #[derive(Clone, Copy, Debug, PartialEq, Eq)]
@@ -44,6 +45,14 @@ pub(crate) enum Unsettled {
     Seated,
 }
 
+/// What a round leaves that the next one does not need.
+#[derive(Drop)]
+pub(crate) struct Leavings {
+    pub(crate) history: Option<Vec<Entry>>,
+    pub(crate) opening: Option<Graph>,
+    pub(crate) logs: Vec<SeatLog>,
+}
+
 /// What each round is served with.
 #[derive(Drop)]
 pub(crate) struct Service<'a, R> {
@@ -56,20 +65,22 @@ pub(crate) struct Service<'a, R> {
 }
 
 /// Serves the connections that are left at the door, each in a talk of a worker on the worker's own seat, while a
-/// collector runs, and settles the logs. All threads have ended then.
+/// collector runs, and settles the logs. All threads have ended then. What the round before has left is dropped once there
+/// are workers: that takes a while, and clients need not wait for it. Returns the vault, and logs that agree with it.
 pub(crate) fn serve_round<L: Ledger + Send + Sync, R: Threads + Wait + Clock + Sync>(
     service: &Service<'_, R>,
     door: &Door<'_>,
     blank: Blank,
     vault: Vault,
-) -> Result<Vault, Unsettled>
+    past: Option<Leavings>,
+) -> (Result<Vault, Unsettled>, Vec<SeatLog>)
     requires name { blank.name ≡ L.name }
     requires parts { blank.parts ≡ L.parts }
     requires all { blank.parts ≡ PARTS }
     requires empty { vault.history ≡ [] }
-    ensures found { IsFound L result }
-    ensures agreed { IfOk result HasAgreed }
-    ensures ended { IfErr result EndsServer }
+    ensures found { IsFound L result.0 }
+    ensures agreed { IfOk result.0 HasAgreed }
+    ensures ended { IfErr result.0 EndsServer }
 {
     let shared = Shared::<L>::new(service.alloc, blank, vault);
     let budget = Budget::new(service.operating.memory, service.workers);
@@ -82,9 +93,12 @@ pub(crate) fn serve_round<L: Ledger + Send + Sync, R: Threads + Wait + Clock + S
         desk: service.desk,
         operating: service.operating,
     };
-    match serve_in_threads(&round, service.workers) {
-        Some(ended) => found_in(shared.close(ended)),
-        None => Err(Unsettled::NoMemory),
+    match serve_in_threads(&round, service.workers, past) {
+        Some(ended) => {
+            let (closed, logs) = shared.close_with_logs(ended);
+            (found_in(closed), logs)
+        }
+        None => (Err(Unsettled::NoMemory), Vec::new(service.alloc)),
     }
 }
 
@@ -117,11 +131,12 @@ struct Round<'a, L: Ledger, R> {
     operating: Operating,
 }
 
-/// The workers and the collector, each in a thread of its own. Returns the ended sessions of all connections; `None` if
-/// an allocation or the start of a thread failed.
+/// The workers and the collector, each in a thread of its own, beside which what the round before has left is dropped.
+/// Returns the ended sessions of all connections; `None` if an allocation or the start of a thread failed.
 fn serve_in_threads<L: Ledger + Send + Sync, R: Threads + Wait + Clock + Sync>(
     round: &Round<'_, L, R>,
     workers: u64,
+    past: Option<Leavings>,
 ) -> Option<Vec<Ended<L>>> {
     let is_over = AtomicBool::new(false);
     let over = &is_over;
@@ -140,6 +155,7 @@ fn serve_in_threads<L: Ledger + Send + Sync, R: Threads + Wait + Clock + Sync>(
         if is_short {
             round.door.close();
         }
+        drop(past);
         let mut all = Vec::new(round.alloc);
         for shift in shifts {
             match shift.join(round.rt) {

@@ -1,12 +1,12 @@
 //! The end of a shared vault: what its sessions received, against its history.
 ghost use Rattle.std.specs.Prelude.{◌≡◌};
 ghost use Rattle.tg_share.specs.declared.locked.TheConstants.{PARTS};
-ghost use Rattle.tg_share.specs.Promise.Closing.{IsClosed};
+ghost use Rattle.tg_share.specs.Promise.Closing.{HandsBack, IsClosed};
 
 use crate::locked::Locked;
 use crate::session::{Ended, Shared};
 use std::sync::ledger::Ledger;
-use tg_audit::{Settled, agreed_counts, settle};
+use tg_audit::{SeatLog, Settled, agreed_counts, settle_with_logs};
 use tg_vault::courses_have_the_headline;
 
 /// What `close` returns.
@@ -31,11 +31,24 @@ impl<L: Ledger> Shared<L> {
         requires { L.parts ≡ PARTS }
         ensures { IsClosed ended.items result }
     {
+        let (closed, logs) = self.close_with_logs(ended);
+        drop(logs);
+        closed
+    }
+
+    /// As `close`, with the logs if they agree, which it drops: so they can be dropped later.
+    pub fn close_with_logs(self, ended: Vec<Ended<L>>) -> (Closed<L>, Vec<SeatLog>)
+        requires { L.parts ≡ PARTS }
+        ensures closed { IsClosed ended.items result.0 }
+        ensures logs { HandsBack ended.items result.0 result.1.items }
+    {
+        let none = Vec::new(self.alloc);
         let Ok(mut logs) = Vec::with_capacity(self.alloc, ended.len()) else {
-            return Closed::NoRoom {
+            let closed = Closed::NoRoom {
                 shared: self,
                 ended,
             };
+            return (closed, none);
         };
         let Shared { locked, alloc } = self;
         let inner = locked.into_inner();
@@ -60,9 +73,7 @@ impl<L: Ledger> Shared<L> {
         entries.audit(&mut rest);
         courses_have_the_headline();
         agreed_counts();
-        Closed::Done {
-            settled: settle(alloc, vault, logs),
-            counted,
-        }
+        let (settled, logs) = settle_with_logs(alloc, vault, logs);
+        (Closed::Done { settled, counted }, logs)
     }
 }

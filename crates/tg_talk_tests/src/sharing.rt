@@ -321,13 +321,27 @@ pub fn with_one<L: Ledger>(
     Some(ended)
 }
 
-/// Closes, and once more if there was no room.
+/// Closes, and once more if there was no room. Logs that agree have to come back, or it is said that not all sessions
+/// were counted.
 pub fn closed<L: Ledger>(shared: Shared<L>, ended: Vec<Ended<L>>) -> Closed<L>
     requires { L.parts ≡ PARTS }
 {
-    match shared.close(ended) {
-        Closed::Done { settled, counted } => Closed::Done { settled, counted },
+    let sessions = ended.len();
+    let (closed, logs) = shared.close_with_logs(ended);
+    match closed {
+        Closed::Done { settled, counted } => Closed::Done {
+            counted: counted && logs.len() == sessions_agreed(&settled, sessions),
+            settled,
+        },
         Closed::NoRoom { shared, ended } => shared.close(ended),
+    }
+}
+
+/// So many sessions, if their logs agree.
+fn sessions_agreed(settled: &Settled, sessions: usize) -> usize {
+    match settled {
+        Settled::Agreed(_) => sessions,
+        _ => 0,
     }
 }
 

@@ -5,7 +5,7 @@ use crate::cases::{Ask, Asked, ONE_MORE, Want, command, is_reply, rule_of};
 use crate::vault::{ALICE, BOB, Case, Line, played};
 use std::alloc::{AllocError, Global};
 use std::process::Abort;
-use tg_audit::{Exchange, SeatLog, Settled, replay, settle};
+use tg_audit::{Exchange, SeatLog, Settled, replay, settle_with_logs};
 use tg_rights::{Cause, Reply, Rule, Which};
 use tg_vault::Vault;
 
@@ -217,6 +217,14 @@ pub fn vault_as_worked_out(
     vault_of(settled)
 }
 
+/// Whether the logs were given back if they agree, and otherwise none.
+fn are_given_back(settled: &Settled, back: &[SeatLog], settlement: &Settlement) -> bool {
+    match settled {
+        Settled::Agreed(_) => back.len() == settlement.logs.len(),
+        _ => back.is_empty(),
+    }
+}
+
 /// The vault, with whose history the settlement's logs are settled as worked out.
 fn after(
     rt: &impl Abort,
@@ -225,7 +233,9 @@ fn after(
     settlement: &Settlement,
 ) -> Result<Vault, AllocError> {
     let logs = logs_of(rt, alloc, settlement)?;
-    vault_as_worked_out(rt, settle(alloc, vault, logs), settlement)
+    let (settled, back) = settle_with_logs(alloc, vault, logs);
+    assert!(rt; are_given_back(&settled, &back, settlement));
+    vault_as_worked_out(rt, settled, settlement)
 }
 
 /// The same for a vault that an earlier settlement returned, if there was memory.

@@ -225,13 +225,22 @@ fn changed_edges(history: &[Entry]) -> bool {
     changes.eq([Some(1), Some(1), None, None, Some(1)])
 }
 
-/// The vault hands its history over as it begins anew, and has none then.
+/// Whether it is the graph of alice and bob alone.
+fn is_of_two(opening: Option<&Graph>) -> bool {
+    match opening {
+        Some(graph) => graph.kind(2) == Some(Kind::Subject) && graph.kind(3).is_none(),
+        None => false,
+    }
+}
+
+/// The vault hands its history and its opening graph over as it begins anew, and has neither then.
 fn hands_its_history_over(rt: &impl Abort, alloc: Global) -> Result<(), AllocError> {
     let vault = played(rt, alloc, &TWO_RETIRE)?;
-    let (rebased, history) = vault.rebase_with_history();
+    let (rebased, past) = vault.rebase_with_past();
     let anew = vault_with_memory(rebased)?;
-    assert!(rt; are_of_two_who_retired(&history));
-    assert!(rt; changed_edges(&history));
+    assert!(rt; are_of_two_who_retired(&past.history));
+    assert!(rt; changed_edges(&past.history));
+    assert!(rt; is_of_two(past.opening.as_ref()));
     assert!(rt; anew.into_history().is_empty());
     Ok(())
 }
@@ -244,8 +253,9 @@ fn a_rebase_hands_its_history_over(rt: HostRuntime) -> Result<(), AllocError> {
 /// A vault with somebody on a seat hands nothing over, and has its entries still.
 fn keeps_its_history(rt: &impl Abort, alloc: Global) -> Result<(), AllocError> {
     let used = opened(rt, alloc)?;
-    let (rebased, none) = used.rebase_with_history();
-    assert!(rt; none.is_empty());
+    let (rebased, none) = used.rebase_with_past();
+    assert!(rt; none.history.is_empty());
+    assert!(rt; none.opening.is_none());
     let vault = vault_of(rebased);
     assert!(rt; vault.into_history().len() == 4);
     Ok(())

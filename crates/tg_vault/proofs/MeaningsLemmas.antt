@@ -128,7 +128,7 @@ cycles_are_short old new swept cycle is = subst (λ b. swept.steps ≤ b) (ap (�
 
 pub rebased_means : RebasedHasMeaning
 rebased_means v w = record {
-  dropped = λ count entries r handed. ap length handed ∙ sym r.1;
+  dropped = λ count past r handed. ap length handed.0 ∙ sym r.1;
   rights = λ r x y active. (let agree = r.agrees x active in agree.labels [] x y (vertex_of (graph_now v) x agree.subject, refl));
   replies = λ r e es H legal. (r.legal (e ∷ es) H legal).replies.0;
   no_memory = λ r. ap (graph_of w.opening) r.2 ∙ ap (λ G. graph_of G v.history) r.3;

@@ -20,7 +20,7 @@ pub use laws::{
     full_has_meaning, headline_has_meaning, hellos_leave_room, live_is_not_parked, one_least_seat,
     one_room, one_scene, reads_tell_no_more, rebased_has_meaning,
 };
-pub use rebase::Rebased;
+pub use rebase::{Past, Rebased};
 pub use room::Room;
 pub use scene::{Scene, Sitting};
 pub use tg_collect::Key;

@@ -1,12 +1,12 @@
 //! A vault whose history begins anew with what is live.
-ghost use Rattle.std.specs.Prelude.{◌≡◌, [], filter, map, IfOk, IfSome, IfNone};
+ghost use Rattle.std.specs.Prelude.{◌≡◌, [], filter, map, IfOk, IfSome, IfNone, Some};
 ghost use Rattle.std.specs.FinSet as set;
 ghost use Rattle.tg_graph.specs.Promise.Parts.{Listed};
 ghost use Rattle.tg_graph.specs.Inner.Parts.{members_of};
 ghost use Rattle.tg_graph.specs.Promise.Protection.{has_retired};
 ghost use Rattle.tg_collect.specs.Promise.Readings.{phase};
 ghost use Rattle.tg_collect.specs.declared.note.Phase.TheVariants.{Idle};
-ghost use Rattle.tg_vault.specs.Promise.Rebase.{HandsOver, Rebases, ThreeCycles};
+ghost use Rattle.tg_vault.specs.Promise.Rebase.{HandsOver, IsNone, Rebases, ThreeCycles};
 ghost use Rattle.tg_vault.specs.Inner.Rebase.{reopening};
 ghost use Rattle.tg_vault.specs.Inner.Seen.{set_of};
 ghost use Rattle.tg_vault.specs.Promise.World.{IsLeastInUse, NobodySits};
@@ -16,6 +16,7 @@ use crate::seats::first_in_use;
 use crate::vault::Vault;
 use std::alloc::{AllocError, Global};
 use std::collections::BTreeSet;
+use std::mem;
 use tg_collect::runs_are_complete_and_bounded;
 use tg_graph::{
     Graph, Member, Parts, parts_are_one_graph, restrictions_agree, restrictions_permit,
@@ -34,6 +35,26 @@ pub enum Rebased {
     NoMemory { vault: Vault },
 }
 
+/// What a rebase takes out of a vault.
+#[derive(Drop)]
+pub struct Past {
+    /// The entries of the history, in order.
+    pub history: Vec<Entry>,
+    /// The opening graph.
+    pub opening: Option<Graph>,
+}
+
+impl Past {
+    fn none(alloc: Global) -> Past
+        ensures { IsNone result }
+    {
+        Past {
+            history: Vec::new(alloc),
+            opening: None,
+        }
+    }
+}
+
 impl Vault {
     /// `Seated` if somebody sits on a seat, whatever memory there is, and nothing changes. Otherwise makes three cycles,
     /// makes what is live the opening graph, and drops the history. Names, the next serial and the numbers of slots and
@@ -46,18 +67,19 @@ impl Vault {
     pub fn rebase(self) -> Rebased
         ensures { Rebases self result }
     {
-        let (rebased, history) = self.rebase_with_history();
-        drop(history);
+        let (rebased, past) = self.rebase_with_past();
+        drop(past);
         rebased
     }
 
-    /// As `rebase`, with the history that it drops: all entries, in order, if the vault is fresh, and otherwise none. They
-    /// are moved, not copied, so that they can be kept without making the rebase longer.
-    pub fn rebase_with_history(self) -> (Rebased, Vec<Entry>)
+    /// As `rebase`, with what it drops: the whole history and the opening graph if the vault is fresh, and otherwise
+    /// nothing. They are moved, not copied, so that the history can be kept, and both be dropped later, without making
+    /// the rebase longer.
+    pub fn rebase_with_past(self) -> (Rebased, Past)
         ensures rebased { Rebases self result.0 }
-        ensures history { HandsOver self result.0 result.1.items }
+        ensures past { HandsOver self result.0 result.1 }
     {
-        let none = Vec::new(self.alloc);
+        let none = Past::none(self.alloc);
         match self.first_taken() {
             Some(seat) => (Rebased::Seated { vault: self, seat }, none),
             None => self.begin_anew(none),
@@ -92,12 +114,12 @@ impl Vault {
         first_in_use(seats)
     }
 
-    /// The rebase of a vault with nobody on a seat, and the history that it drops, or none.
-    fn begin_anew(self, none: Vec<Entry>) -> (Rebased, Vec<Entry>)
+    /// The rebase of a vault with nobody on a seat, and what it drops, or nothing.
+    fn begin_anew(self, none: Past) -> (Rebased, Past)
         requires nobody { NobodySits self.seats }
-        requires none { none.items ≡ [] }
+        requires none { IsNone none }
         ensures rebased { Rebases self result.0 }
-        ensures history { HandsOver self result.0 result.1.items }
+        ensures past { HandsOver self result.0 result.1 }
     {
         let mut vault = self;
         vault.soundness();
@@ -111,8 +133,8 @@ impl Vault {
         match vault.live_graph() {
             Ok(opening) => {
                 let dropped = vault.count();
-                let history = vault.reopen(opening, none);
-                (Rebased::Fresh { vault, dropped }, history)
+                let past = vault.reopen(opening, none.history);
+                (Rebased::Fresh { vault, dropped }, past)
             }
             Err(_) => (Rebased::NoMemory { vault }, none),
         }
@@ -150,19 +172,24 @@ impl Vault {
     }
 
     /// Puts the graph of what is held in the place of the opening graph, and this history without entries in the place of
-    /// the other, which it returns. Allocates nothing.
-    fn reopen(&mut self, opening: Graph, none: Vec<Entry>) -> Vec<Entry>
+    /// the other; returns both. Allocates nothing.
+    fn reopen(&mut self, opening: Graph, none: Vec<Entry>) -> Past
         requires none { none.items ≡ [] }
         requires nobody { NobodySits self.old.seats }
         requires idle { phase self.old.store ≡ Idle }
         requires opening { opening ≡ reopening self.old }
         ensures fresh { self.new ≡ record self.old { opening = opening; history = [] } }
-        ensures history { result.items ≡ self.old.history }
+        ensures history { result.history.items ≡ self.old.history }
+        ensures before { result.opening ≡ Some self.old.opening }
     {
         self.state.store.soundness();
-        keep_retired(&mut self.state.retired, &opening);
-        self.opening = opening;
-        std::mem::replace(&mut self.history, none)
+        let before = mem::replace(&mut self.opening, opening);
+        keep_retired(&mut self.state.retired, &self.opening);
+        let history = mem::replace(&mut self.history, none);
+        Past {
+            history,
+            opening: Some(before),
+        }
     }
 }
 

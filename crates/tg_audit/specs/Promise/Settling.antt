@@ -49,3 +49,9 @@ abbrev pub SettledAs : Contents → List SeatLog → Settled → Type 0
 SettledAs v logs (settled.Agreed w) = (w ≡ v) × IsPlace v logs None
 SettledAs v logs (settled.Differs w back seat index) = (w ≡ v) × (back.items ≡ logs) × IsPlace v logs (Some (seat, index))
 SettledAs v logs (settled.NoMemory w back) = (w ≡ v) × (back.items ≡ logs)
+
+-- what is given back beside it: the logs if they agree
+abbrev pub GivesBack : List SeatLog → Settled → List SeatLog → Type 0
+GivesBack logs (settled.Agreed w) back = back ≡ logs
+GivesBack logs (settled.Differs w others seat index) back = back ≡ []
+GivesBack logs (settled.NoMemory w others) back = back ≡ []

@@ -1,10 +1,10 @@
 -- what a shared vault leaves when it is closed
-use Rattle.std.specs.Prelude.{◌≡◌, ℕ, Bool, true, List, length, map, sum_by}
+use Rattle.std.specs.Prelude.{◌≡◌, ℕ, Bool, true, List, [], length, map, sum_by}
 use Rattle.tg_vault.specs.Promise.Contents.{Contents}
 use Rattle.tg_audit.specs.declared.logs.SeatLog.{SeatLog}
 use Rattle.tg_audit.specs.declared.logs.Settled.{Settled}
 use Rattle.tg_audit.specs.declared.logs.Settled.TheVariants as settled
-use Rattle.tg_audit.specs.Promise.Settling.{SettledAs}
+use Rattle.tg_audit.specs.Promise.Settling.{GivesBack, SettledAs}
 use Rattle.tg_share.specs.declared.session.Ended.{Ended}
 use Rattle.tg_share.specs.declared.closing.Closed.{Closed}
 use Rattle.tg_share.specs.declared.closing.Closed.TheVariants as closed
@@ -39,3 +39,8 @@ pub record IsSettled {L : Type 0} (ended : List (Ended L)) (outcome : Settled) (
 abbrev pub IsClosed : {L : Type 0} → List (Ended L) → Closed L → Type 0
 IsClosed ended (closed.Done settled counted) = IsSettled ended settled counted
 IsClosed ended (closed.NoRoom shared back) = back.items ≡ ended
+
+-- what is handed back beside it: the logs if they agree
+abbrev pub HandsBack : {L : Type 0} → List (Ended L) → Closed L → List SeatLog → Type 0
+HandsBack ended (closed.Done settled counted) logs = GivesBack (logs_of ended) settled logs
+HandsBack ended (closed.NoRoom shared back) logs = logs ≡ []

@@ -22,6 +22,7 @@ use Rattle.tg_vault.specs.declared.event.Event.TheVariants as event
 use Rattle.tg_vault.specs.declared.event.Answer.{Answer}
 use Rattle.tg_vault.specs.declared.event.Answer.TheVariants as answer
 use Rattle.tg_vault.specs.declared.event.SeatFault.{SeatFault}
+use Rattle.tg_vault.specs.declared.rebase.Past.{Past}
 use Rattle.tg_vault.specs.declared.rebase.Rebased.TheVariants as rebased
 use Rattle.tg_vault.specs.declared.room.Room.{Room}
 use Rattle.tg_vault.specs.declared.scene.Scene.{Scene}
@@ -101,7 +102,7 @@ CyclesAreShort = (old new : Contents) (swept : Swept) → IsCycle old swept new 
 -- a rebase: what is handed over is what is dropped; a principal has the rights that it had; and the next command is replied
 -- to as without it; if memory is lacking, the graph of the history is what it was
 pub record RebasedMeans (v w : Contents) : Type 0 where
-  pub dropped : (count : ℕ) (entries : List Entry) → Rebases v (rebased.Fresh w count) → HandsOver v (rebased.Fresh w count) entries → length entries ≡ count
+  pub dropped : (count : ℕ) (past : Past) → Rebases v (rebased.Fresh w count) → HandsOver v (rebased.Fresh w count) past → length past.history.items ≡ count
   pub rights : IsRebased v w → (x y : ℕ) → is_active (graph_now v) x ≡ true → label (graph_now v) x y ≡ label w.opening x y
   pub replies : IsRebased v w → (e : Entry) (es : List Entry) (H : Protection) → Legal w.limits w.opening (e ∷ es) H →
       reply_of (graph_now v) e.actor e.command e.outcome ≡ reply_of w.opening e.actor e.command e.outcome

@@ -1,11 +1,12 @@
 -- what a rebase leaves of a vault: what is live in the graph of its history, as the opening graph of another
-use Rattle.std.specs.Prelude.{◌≡◌, ℕ, true, List, [], ◌∷◌, length}
+use Rattle.std.specs.Prelude.{◌≡◌, ℕ, true, List, [], ◌∷◌, length, Some, None}
 use Rattle.tg_graph.specs.Promise.Fullness.{Limits}
 use Rattle.tg_graph.specs.Promise.Protection.{Agree, IsRestriction, Live, Protection, IsGraph, IsVertex, is_active}
 use Rattle.tg_graph.specs.Promise.Rules.{next_graph, reply_of}
 use Rattle.tg_collect.specs.declared.note.Phase.TheVariants.{Idle}
 use Rattle.tg_collect.specs.Promise.Readings.{IsParkedIn, phase}
 use Rattle.tg_vault.specs.declared.entry.Entry.{Entry}
+use Rattle.tg_vault.specs.declared.rebase.Past.{Past}
 use Rattle.tg_vault.specs.declared.rebase.Rebased.{Rebased}
 use Rattle.tg_vault.specs.declared.rebase.Rebased.TheVariants as rebased
 use Rattle.tg_vault.specs.declared.vault.Swept.{Swept}
@@ -66,8 +67,11 @@ Rebases v (rebased.Fresh w dropped) = NobodySits v.seats × (dropped ≡ length 
 Rebases v (rebased.Seated w seat) = (w ≡ v) × IsLeastInUse v.seats seat
 Rebases v (rebased.NoMemory w) = NobodySits v.seats × ThreeCycles v w × (w.history ≡ v.history) × (w.opening ≡ v.opening)
 
--- the entries that a rebase hands over: the whole history if the vault is fresh, otherwise none
-abbrev pub HandsOver : Contents → Rebased → List Entry → Type 0
-HandsOver v (rebased.Fresh w dropped) entries = entries ≡ v.history
-HandsOver v (rebased.Seated w seat) entries = entries ≡ []
-HandsOver v (rebased.NoMemory w) entries = entries ≡ []
+abbrev pub IsNone : Past → Type 0
+IsNone past = (past.history.items ≡ []) × (past.opening ≡ None)
+
+-- what a rebase hands over: the whole history and the opening graph if the vault is fresh, otherwise nothing
+abbrev pub HandsOver : Contents → Rebased → Past → Type 0
+HandsOver v (rebased.Fresh w dropped) past = (past.history.items ≡ v.history) × (past.opening ≡ Some v.opening)
+HandsOver v (rebased.Seated w seat) past = IsNone past
+HandsOver v (rebased.NoMemory w) past = IsNone past

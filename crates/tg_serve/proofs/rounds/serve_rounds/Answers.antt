@@ -1,6 +1,6 @@
-use Rattle.std.proofs.Common.{◌≡◌, ◌<◌, ◌≤◌, ◌+◌, ◌-◌, ℕ, arith, inl, subst, sym}
+use Rattle.std.proofs.Common.{◌≡◌, ◌<◌, ◌≤◌, ◌+◌, ◌-◌, ℕ, IfOk, arith, inl, subst, sym}
 use Rattle.tg_talk.specs.Promise.Devices.{device_of, has_failed}
-use Rattle.tg_serve.specs.Promise.Serving.{IsAlone}
+use Rattle.tg_serve.specs.Promise.Serving.{HasAgreed, IsAlone}
 use Rattle.tg_serve.proofs.RoundsLemmas.{GoesOn, RoundsSoFar, goes_on, is_over, rounds_end, rounds_go_on, rounds_none}
 use Rattle.tg_serve.proofs.rounds.serve_rounds.Goals as goal
 
@@ -19,14 +19,14 @@ rounds-preserved g c =
     c.left_after-left.ensures.counted (c.is_last.ensures alone) c.if-is_last.false
     in
     record {
-      empty = c.in_ok-vault.ensures.fresh.history;
+      empty = c.in_ok-fresh.ensures.fresh.history;
       few = λ alone. (
           let few : c.rounds.number + left ≤ c.args.connections + 1 = c.rounds.invariant.few alone in
           let fewer : after < left = (more alone).fewer in
           omega (arith, next));
       so_far = λ told.
           subst (λ (n : ℕ). RoundsSoFar operating c.args.connections round after n (g.W.Write.contents (device_of c.args.writer.now)) (g.W.Write.contents (device_of c.rebase.new.writer)) (has_failed c.rebase.new.writer)) (sym next)
-          (rounds_go_on _ _ _ _ _ _ c.in_ok-settled.settled c.in_ok-vault.vault _ _ _ _ _ more (c.rounds.invariant.so_far told) c.in_ok-settled.ensures.agreed c.in_ok-vault.ensures.fresh (c.in_ok-vault.ensures.told told));
+          (rounds_go_on _ _ _ _ _ _ c.in-Ok.settled c.in_ok-fresh.fresh.vault _ _ _ _ _ more (c.rounds.invariant.so_far told) (subst (λ r. IfOk r HasAgreed) c.in-Ok.is c.serve_round-found.ensures.agreed) c.in_ok-fresh.ensures.fresh (c.in_ok-fresh.ensures.told told));
     }
 
 pub returns-then-is_last-clause-told : goal.returns-then-is_last-clause-told
