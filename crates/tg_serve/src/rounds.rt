@@ -256,8 +256,8 @@ struct Fresh {
     opening: Option<Graph>,
 }
 
-/// Rebases the vault of a round, and writes how many entries that dropped. Its history is left at the desk, if it is to be
-/// kept there, also if the rebase fails.
+/// Rebases the vault of a round, and writes how many entries that dropped. Its history is left at the desk, if it is to
+/// be kept there, also if the rebase fails.
 fn rebase<R: Wait, W: Write>(
     service: &Service<'_, R>,
     writer: &mut Watched<W>,

@@ -231,8 +231,8 @@ impl State {
     }
 
     /// Carries a command out that the rules allow, if nothing that it needs is used up; the vertices that they passed
-    /// were found. `AllocError` leaves everything as it was; it occurs only for a command that copies a text, a name or a
-    /// list, and for a retire.
+    /// were found. `AllocError` leaves everything as it was; it occurs only for a command that copies a text, a name or
+    /// a list, and for a retire.
     #[inline(always)]
     fn carry_out(
         &mut self,

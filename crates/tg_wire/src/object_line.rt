@@ -61,8 +61,8 @@ pub(crate) fn put_led_word(line: &mut Vec<u8>, lead: &[u8], word: &str) -> Resul
     Ok(())
 }
 
-/// The line of an object that has these bytes before the bytes of a text, a quote the last of them, and a quote after it.
-/// It ends with a line feed.
+/// The line of an object that has these bytes before the bytes of a text, a quote the last of them, and a quote after
+/// it. It ends with a line feed.
 #[inline(always)]
 pub(crate) fn put_led_text(line: &mut Vec<u8>, lead: &[u8], text: &[u8]) -> Result<(), AllocError>
     ensures { OnOk result (line.new.items ≡ ((line.old.items ++ lead.now) ++ text.now) ++ 34 ∷ 125 ∷ 10 ∷ []) }
