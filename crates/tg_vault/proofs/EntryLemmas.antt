@@ -29,7 +29,7 @@ use Rattle.tg_vault.specs.Promise.Contents.{Contents, IsVault, graph_now, held_n
 use Rattle.tg_vault.specs.Inner.Fits.{IsTied}
 use Rattle.tg_vault.specs.Promise.StoreSteps.{SessionStep}
 use Rattle.tg_vault.specs.Promise.Agreement.{SameForAgreeing, JudgedAlike, IsOfGraph}
-use Rattle.tg_vault.specs.declared.carry_out.Answered.{Answered}
+use Rattle.tg_vault.specs.Inner.CarriedOut.{Answered}
 use Rattle.tg_vault.specs.declared.carry_out.State.{State}
 use Rattle.tg_vault.specs.Inner.CarriedOut.{CarriedIn, Decided, CellsMoved, EdgeMoves, new_serial}
 use Rattle.tg_vault.proofs.HistoryLemmas.{along_more, graph_of_more, was_stays}

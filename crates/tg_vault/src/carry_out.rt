@@ -1,5 +1,5 @@
 //! Carrying out what the rules allow in the store.
-ghost use Rattle.std.specs.Prelude.{◌≡◌, ◌≢◌, ◌<◌, ◌+◌, ℕ, List, IfOk, IfErr, OnErr, OnOk, IsSome, Some, None, true, false};
+ghost use Rattle.std.specs.Prelude.{◌≡◌, ◌≢◌, ◌<◌, ◌+◌, ℕ, Err, List, IfOk, IfErr, OnErr, OnOk, IsSome, Some, None, true, false};
 ghost use Rattle.std.specs.FinSet as set;
 ghost use Rattle.std.specs.Option.{is_some};
 ghost use Rattle.tg_rights.specs.Promise.Letters.{is_none, includes};
@@ -13,13 +13,14 @@ ghost use Rattle.tg_graph.specs.Promise.Terms.{terms, name_in, text_in};
 ghost use Rattle.tg_collect.specs.Promise.Readings.{held, free_slots, IsEdgeIn, IsHeldIn, IsParkedIn, pending_of, place, principals, serial_at};
 ghost use Rattle.tg_collect.specs.Promise.Sessions.{Assumed, AgentLeft, Retired, RightsRemoved, TextReplaced, Acted};
 ghost use Rattle.tg_vault.specs.Inner.Acting.{IsHere, serial_in};
-ghost use Rattle.tg_vault.specs.Inner.CarriedOut.{CarriedOut, HasPlace, Joined, Made, Stores, copies, denied, settled};
+ghost use Rattle.tg_vault.specs.Inner.CarriedOut.{CarriedOut, HasPlace, Joined, Made, Stores, answered, copies, created, denied, done, settled};
 ghost use Rattle.tg_vault.specs.Promise.Seen.{serials};
 ghost use Rattle.tg_vault.specs.Inner.Seen.{seen_in, set_of};
 
 use crate::acting::Actor;
 use std::alloc::{AllocError, Global};
 use std::collections::BTreeSet;
+use std::mem;
 use tg_collect::{HeapFull, Store};
 use tg_graph::{
     Effect, Found, LAST_SERIAL, Roll, Spot, decide, effect_of, into_text, is_for_retired,
@@ -35,61 +36,76 @@ pub struct State {
     pub next: u64,
 }
 
-/// How a command was decided, and the reply, which follows from that and the graph.
-#[derive(Drop)]
-pub struct Answered {
-    pub outcome: Outcome,
-    pub reply: Reply,
-}
-
-// Each call that returns an `Answered` clears room for it first, for each command, whether it is made or not. So it is
-// made of a reply, in one place, and the calls that are seldom made are out of line together.
-/// An allowed command, which was carried out with this reply, or for which this is used up.
+// A reply is put where the caller has room for it: as a result it would be moved from call to call, and whole, as it can
+// be a text.
+/// Puts a reply in the place of `Done`, of which nothing has to be dropped.
 #[inline(always)]
-fn settled(done: Result<Reply, Which>) -> Answered
-    ensures { result ≡ settled done }
+fn put(told: &mut Reply, new: Reply)
+    requires { told.old ≡ reply.Done }
+    ensures { told.new ≡ new }
 {
-    match done {
-        Ok(reply) => Answered {
-            outcome: Outcome::Allowed,
-            reply,
-        },
-        Err(which) => Answered {
-            outcome: Outcome::Full(which),
-            reply: Reply::Full(which),
-        },
-    }
+    mem::forget(mem::replace(told, new));
 }
 
 /// A command that its rule denies.
 #[inline(never)]
-fn denied(rule: Rule, cause: &Cause) -> Answered
-    ensures { result ≡ denied rule cause.now }
+fn deny(told: &mut Reply, rule: Rule, cause: &Cause) -> Outcome
+    requires { told.old ≡ reply.Done }
+    ensures { answered result told.new ≡ denied rule cause.now }
 {
-    Answered {
-        outcome: Outcome::Denied(rule, *cause),
-        reply: Reply::Denied(rule, *cause),
+    put(told, Reply::Denied(rule, *cause));
+    Outcome::Denied(rule, *cause)
+}
+
+/// An allowed command for which this is used up.
+#[inline(always)]
+fn refuse(told: &mut Reply, which: Which) -> Outcome
+    requires { told.old ≡ reply.Done }
+    ensures { answered result told.new ≡ settled (Err which) }
+{
+    put(told, Reply::Full(which));
+    Outcome::Full(which)
+}
+
+/// An allowed command that was carried out, or for which this is used up.
+#[inline(always)]
+fn settle(told: &mut Reply, joined: Result<(), Which>) -> Outcome
+    requires { told.old ≡ reply.Done }
+    ensures { answered result told.new ≡ settled (done joined) }
+{
+    match joined {
+        Ok(()) => Outcome::Allowed,
+        Err(which) => refuse(told, which),
+    }
+}
+
+/// An allowed command that made a vertex of this serial, or for which this is used up.
+#[inline(always)]
+fn settle_made(told: &mut Reply, made: Result<u64, Which>) -> Outcome
+    requires { told.old ≡ reply.Done }
+    ensures { answered result told.new ≡ settled (created made) }
+{
+    match made {
+        Ok(serial) => {
+            put(told, Reply::Created(serial));
+            Outcome::Allowed
+        }
+        Err(which) => refuse(told, which),
     }
 }
 
 /// The edge gains the rights, and its target becomes the seat's; full if it is new and no cell is free.
-fn join(
-    store: &mut Store,
-    seat: u64,
-    owner: u32,
-    target: u32,
-    rights: Rights,
-) -> Result<Reply, Which>
+fn join(store: &mut Store, seat: u64, owner: u32, target: u32, rights: Rights) -> Result<(), Which>
     requires seat { seat < SEATS }
     requires idle { pending_of store.old seat ≡ None }
     requires source { IsSome (place store.old owner) }
     requires target { IsSome (place store.old target) }
     requires distinct { target ≢ owner }
     requires some { is_none rights ≡ false }
-    ensures { Joined store.old store.new seat (serial_at store.old owner) (serial_at store.old target) rights result }
+    ensures { Joined store.old store.new seat (serial_at store.old owner) (serial_at store.old target) rights (done result) }
 {
     match store.store_edge(seat, owner, target, rights) {
-        Ok(()) => Ok(Reply::Done),
+        Ok(()) => Ok(()),
         Err(_) => Err(Which::Cells),
     }
 }
@@ -107,12 +123,18 @@ fn name_of(command: &Command, alloc: Global) -> Result<Option<Name>, AllocError>
 
 /// The reply is a copy of the text.
 #[inline(always)]
-fn tell(store: &Store, alloc: Global, at: u32) -> Result<Reply, AllocError>
-    requires { IsSome (place store.now at) }
-    ensures { IfOk result (λ told. (next : ℕ) → told ≡ reply.Text (text_of (held store.now next) (serial_at store.now at))) }
+fn tell(store: &Store, alloc: Global, at: u32, told: &mut Reply) -> Result<(), AllocError>
+    requires told { told.old ≡ reply.Done }
+    requires at { IsSome (place store.now at) }
+    ensures { OnOk result ((next : ℕ) → told.new ≡ reply.Text (text_of (held store.now next) (serial_at store.now at))) }
 {
-    let text = store.text(at).copy(alloc)?;
-    Ok(Reply::Text(text))
+    match store.text(at).copy(alloc) {
+        Ok(text) => {
+            put(told, Reply::Text(text));
+            Ok(())
+        }
+        Err(failed) => Err(failed),
+    }
 }
 
 /// A copy of the text that the command brings takes the place of the old one.
@@ -128,12 +150,14 @@ fn replace(store: &mut Store, alloc: Global, at: u32, command: &Command) -> Resu
 }
 
 /// The reply is the edges, by rising serial.
-fn list(store: &Store, alloc: Global, of: u32) -> Result<Reply, AllocError>
-    requires { IsSome (place store.now of) }
-    ensures { IfOk result (λ told. (next : ℕ) → told ≡ reply.Edges (edges_of (held store.now next) (serial_at store.now of))) }
+fn list(store: &Store, alloc: Global, of: u32, told: &mut Reply) -> Result<(), AllocError>
+    requires told { told.old ≡ reply.Done }
+    requires of { IsSome (place store.now of) }
+    ensures { OnOk result ((next : ℕ) → told.new ≡ reply.Edges (edges_of (held store.now next) (serial_at store.now of))) }
 {
     let edges = store.edges(alloc, of)?;
-    Ok(Reply::Edges(EdgeList::new(edges)))
+    put(told, Reply::Edges(EdgeList::new(edges)));
+    Ok(())
 }
 
 impl State {
@@ -189,7 +213,7 @@ impl State {
         kind: Kind,
         rights: Rights,
         name: Option<Name>,
-    ) -> Result<Reply, Which>
+    ) -> Result<u64, Which>
         requires seat { seat < SEATS }
         requires idle { pending_of self.old.store seat ≡ None }
         requires source { IsSome (place self.old.store id) }
@@ -199,7 +223,7 @@ impl State {
         requires subject { IsSubjectIfNamed kind name }
         requires room { HasPlace (principals self.old.store) name }
         requires named { MayBeNamed self.old.names name }
-        ensures { Made self.old self.new seat (serial_at self.old.store id) kind rights name result }
+        ensures { Made self.old self.new seat (serial_at self.old.store id) kind rights name (created result) }
     {
         if self.next > LAST_SERIAL {
             return Err(Which::Serials);
@@ -212,7 +236,7 @@ impl State {
         let serial = self.next;
         self.next += 1;
         self.names.add(name, serial);
-        Ok(Reply::Created(serial))
+        Ok(serial)
     }
 
     /// The actor has retired, and is a principal no longer. Only the first of this can fail.
@@ -232,7 +256,7 @@ impl State {
 
     /// Carries a command out that the rules allow, if nothing that it needs is used up; the vertices that they passed
     /// were found. `AllocError` leaves everything as it was; it occurs only for a command that copies a text, a name or
-    /// a list, and for a retire.
+    /// a list, and for a retire. The reply takes the place of `Done`.
     #[inline(always)]
     fn carry_out(
         &mut self,
@@ -241,7 +265,8 @@ impl State {
         actor: Spot<u32>,
         command: &Command,
         found: &Found<u32>,
-    ) -> Result<Result<Reply, Which>, AllocError>
+        told: &mut Reply,
+    ) -> Result<Outcome, AllocError>
         requires seat { seat < SEATS }
         requires idle { pending_of self.old.store seat ≡ None }
         requires listed { principals self.old.store ≡ serials self.old.names }
@@ -251,8 +276,9 @@ impl State {
         requires allowed { Allowed (seen_in self.old) actor.serial command.now }
         requires at { found.now.actor ≡ actor }
         requires places { Each (λ spot. place self.old.store spot.place ≡ Some spot.serial) found.now }
+        requires told { told.old ≡ reply.Done }
         requires found { (v : ℕ) → LeadTo (terms actor.serial command.now).needs v → WasFound found.now v }
-        ensures carried { IfOk result (λ done. CarriedOut self.old self.new seat actor.serial command.now (settled done)) }
+        ensures carried { IfOk result (λ decided. CarriedOut self.old self.new seat actor.serial command.now (answered decided told.new)) }
         ensures memory { OnErr result (copies (terms actor.serial command.now).does ≡ true) }
         ensures unchanged { OnErr result (self.new ≡ self.old) }
     {
@@ -261,34 +287,42 @@ impl State {
             Effect::Joins { from, rights, to } => {
                 let source = found.spot(from).place;
                 let target = found.spot(to).place;
-                Ok(join(&mut self.store, seat, source, target, rights))
+                let joined = join(&mut self.store, seat, source, target, rights);
+                Ok(settle(told, joined))
             }
             Effect::Makes { kind, rights } => {
                 let name = name_of(command, alloc)?;
-                Ok(self.make(alloc, seat, id, kind, rights, name))
+                let made = self.make(alloc, seat, id, kind, rights, name);
+                Ok(settle_made(told, made))
             }
             Effect::Drops { rights, over } => {
                 self.store.remove_rights(id, over, rights);
-                Ok(Ok(Reply::Done))
+                Ok(Outcome::Allowed)
             }
             Effect::Rewrites { over } => {
                 replace(&mut self.store, alloc, found.spot(over).place, command)?;
-                Ok(Ok(Reply::Done))
+                Ok(Outcome::Allowed)
             }
-            Effect::Tells { over } => Ok(Ok(tell(&self.store, alloc, found.spot(over).place)?)),
-            Effect::Lists { at } => Ok(Ok(list(&self.store, alloc, found.spot(at).place)?)),
+            Effect::Tells { over } => {
+                tell(&self.store, alloc, found.spot(over).place, told)?;
+                Ok(Outcome::Allowed)
+            }
+            Effect::Lists { at } => {
+                list(&self.store, alloc, found.spot(at).place, told)?;
+                Ok(Outcome::Allowed)
+            }
             Effect::Retires => {
                 self.retire(actor.serial)?;
-                Ok(Ok(Reply::Done))
+                Ok(Outcome::Allowed)
             }
             Effect::Acts { agent } => match agent {
                 Some(agent) => {
                     self.store.assume(seat, found.spot(agent).place);
-                    Ok(Ok(Reply::Done))
+                    Ok(Outcome::Allowed)
                 }
                 None => {
                     self.store.leave(seat);
-                    Ok(Ok(Reply::Done))
+                    Ok(Outcome::Allowed)
                 }
             },
         }
@@ -304,7 +338,8 @@ impl State {
         seat: u64,
         actor: Spot<u32>,
         command: &Command,
-    ) -> Result<Answered, AllocError>
+        told: &mut Reply,
+    ) -> Result<Outcome, AllocError>
         requires seat { seat < SEATS }
         requires idle { pending_of self.old.store seat ≡ None }
         requires listed { principals self.old.store ≡ serials self.old.names }
@@ -312,33 +347,34 @@ impl State {
         requires unretired { set.contains (set_of self.old.retired.keys) actor.serial ≡ false }
         requires unheld { IsHeldIn self.old.store self.old.next → ⊥ }
         requires unparked { IsParkedIn self.old.store self.old.next → ⊥ }
-        ensures carried { IfOk result (λ answer. CarriedOut self.old self.new seat actor.serial command.now answer) }
+        requires told { told.old ≡ reply.Done }
+        ensures carried { IfOk result (λ decided. CarriedOut self.old self.new seat actor.serial command.now (answered decided told.new)) }
         ensures needed { OnErr result (Allowed (seen_in self.old) actor.serial command.now) }
         ensures memory { OnErr result (copies (terms actor.serial command.now).does ≡ true) }
         ensures unchanged { OnErr result (self.new ≡ self.old) }
     {
         let found = match decide(&self.store, self.names.as_slice(), actor, command) {
             Ok(found) => found,
-            Err(cause) => return Ok(denied(command.rule(), &cause)),
+            Err(cause) => return Ok(deny(told, command.rule(), &cause)),
         };
-        let done = self.carry_out(alloc, seat, actor, command, &found)?;
-        Ok(settled(done))
+        self.carry_out(alloc, seat, actor, command, &found, told)
     }
 
     /// Decides the command of an actor that has retired: each but a leave is denied, which is carried out.
     #[inline(never)]
-    fn answer_gone(&mut self, seat: u64, actor: u64, command: &Command) -> Answered
+    fn answer_gone(&mut self, seat: u64, actor: u64, command: &Command, told: &mut Reply) -> Outcome
         requires seat { seat < SEATS }
         requires idle { pending_of self.old.store seat ≡ None }
         requires listed { principals self.old.store ≡ serials self.old.names }
         requires retired { set.contains (set_of self.old.retired.keys) actor ≡ true }
-        ensures { CarriedOut self.old self.new seat actor command.now result }
+        requires told { told.old ≡ reply.Done }
+        ensures { CarriedOut self.old self.new seat actor command.now (answered result told.new) }
     {
         if is_for_retired(actor, command) {
             self.store.leave(seat);
-            settled(Ok(Reply::Done))
+            Outcome::Allowed
         } else {
-            denied(command.rule(), &Cause::Retired)
+            deny(told, command.rule(), &Cause::Retired)
         }
     }
 
@@ -351,21 +387,23 @@ impl State {
         seat: u64,
         actor: Actor,
         command: &Command,
-    ) -> Result<Answered, AllocError>
+        told: &mut Reply,
+    ) -> Result<Outcome, AllocError>
         requires seat { seat < SEATS }
         requires idle { pending_of self.old.store seat ≡ None }
         requires listed { principals self.old.store ≡ serials self.old.names }
         requires here { IsHere self.old.store (set_of self.old.retired.keys) actor }
         requires unheld { IsHeldIn self.old.store self.old.next → ⊥ }
         requires unparked { IsParkedIn self.old.store self.old.next → ⊥ }
-        ensures carried { IfOk result (λ answer. CarriedOut self.old self.new seat (serial_in actor) command.now answer) }
+        requires told { told.old ≡ reply.Done }
+        ensures carried { IfOk result (λ decided. CarriedOut self.old self.new seat (serial_in actor) command.now (answered decided told.new)) }
         ensures needed { OnErr result (Allowed (seen_in self.old) (serial_in actor) command.now) }
         ensures memory { OnErr result (copies (terms (serial_in actor) command.now).does ≡ true) }
         ensures unchanged { OnErr result (self.new ≡ self.old) }
     {
         match actor {
-            Actor::At(spot) => self.answer_at(alloc, seat, spot, command),
-            Actor::Gone(serial) => Ok(self.answer_gone(seat, serial, command)),
+            Actor::At(spot) => self.answer_at(alloc, seat, spot, command, told),
+            Actor::Gone(serial) => Ok(self.answer_gone(seat, serial, command, told)),
         }
     }
 }

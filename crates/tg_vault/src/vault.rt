@@ -1,6 +1,7 @@
 //! The vault: the seats, the store, and the history of the commands.
 ghost use Rattle.std.specs.Prelude.{◌≡◌, ◌<◌, ◌≤◌, ◌⊎◌, ◌∷◌, [], length, slice_get, Some, None, IfOk, IfErr, IfSome, IfNone, OnErr, OnOk, MatchResult, take};
 ghost use Rattle.tg_rights.specs.declared.limits.TheConstants.{SEATS};
+ghost use Rattle.tg_rights.specs.declared.outcome.Reply.TheVariants as reply;
 ghost use Rattle.tg_graph.specs.Promise.Opening.{first_fault, IsRefusal};
 ghost use Rattle.tg_vault.specs.declared.event.Event.TheVariants as event;
 ghost use Rattle.tg_vault.specs.declared.event.Answer.TheVariants as answer;
@@ -24,6 +25,7 @@ use crate::seats::{at_seat, empty_seats};
 use std::alloc::Global;
 use std::collections::BTreeSet;
 use std::marker::Model;
+use std::mem;
 use tg_collect::{Key, Note, Store};
 use tg_graph::{Config, Graph, OpenFault, Roll, serial_of};
 use tg_rights::{Command, Reply, SEATS};
@@ -278,12 +280,32 @@ impl Vault {
     ///
     /// The outcome and the reply are those of every graph that the actor cannot tell from the graph of the history, a
     /// new vertex's serial and fullness aside.
-    #[tactic(auto, using(crate::proofs::CollectLemmas::still_acts))]
     pub fn command(&mut self, seat: u64, command: Command) -> Result<(u64, Reply), AskFault>
         ensures step { MatchResult result (λ r. StepOf self.old (event.Ask seat command) (answer.Asked r.0 r.1) self.new) (λ fault. StepOf self.old (event.Ask seat command) (answer.Ask fault) self.new) }
         ensures keeps { Keeps self.old self.new }
         ensures agrees { IfOk result (λ r. SameForAgreeing self.old self.new r.1) }
         ensures exact { IfOk result (λ r. IsExact self.old self.new) }
+        ensures acts { SessionStep self.old self.new }
+        ensures unchanged { OnErr result (self.new ≡ self.old) }
+    {
+        let mut asked = command;
+        let mut told = Reply::Done;
+        match self.ask(seat, &mut asked, &mut told) {
+            Ok(number) => Ok((number, told)),
+            Err(fault) => Err(fault),
+        }
+    }
+
+    /// The same for a command that is taken from its place once it is entered, with the reply in the place of `Done`: so
+    /// neither is moved before.
+    #[inline(never)]
+    #[tactic(auto, using(crate::proofs::CollectLemmas::still_acts))]
+    fn ask(&mut self, seat: u64, command: &mut Command, told: &mut Reply) -> Result<u64, AskFault>
+        requires { told.old ≡ reply.Done }
+        ensures step { MatchResult result (λ number. StepOf self.old (event.Ask seat command.old) (answer.Asked number told.new) self.new) (λ fault. StepOf self.old (event.Ask seat command.old) (answer.Ask fault) self.new) }
+        ensures keeps { Keeps self.old self.new }
+        ensures agrees { OnOk result (SameForAgreeing self.old self.new told.new) }
+        ensures exact { OnOk result (IsExact self.old self.new) }
         ensures acts { SessionStep self.old self.new }
         ensures unchanged { OnErr result (self.new ≡ self.old) }
     {
@@ -295,15 +317,16 @@ impl Vault {
         self.opening.soundness();
         self.state.store.soundness();
         let actor = acting_at(&self.state.store, &self.state.retired, seat, principal);
-        let Ok(answered) = self.state.answer(self.alloc, seat, actor, &command) else {
+        let Ok(outcome) = self.state.answer(self.alloc, seat, actor, command, told) else {
             return Err(AskFault::OutOfMemory);
         };
         self.state.store.soundness();
-        let entry = Entry::new(seat, actor.serial(), command, answered.outcome);
+        let asked = mem::replace(command, Command::Leave);
+        let entry = Entry::new(seat, actor.serial(), asked, outcome);
         let Ok(()) = self.history.push(entry) else {
             unreachable!();
         };
-        Ok((number, answered.reply))
+        Ok(number)
     }
 
     /// Who sits on the seat, if a command may be asked there.
@@ -388,12 +411,16 @@ impl Vault {
         ensures stored { StoreStep self.old event result self.new }
         ensures told { StoreAnswer self.old event result self.new }
     {
-        match event {
-            Event::Ask { seat, command } => match self.command(seat, command) {
-                Ok((number, reply)) => Answer::Asked(number, reply),
-                Err(fault) => Answer::Ask(fault),
-            },
-            other => self.step(&other),
+        let mut event = event;
+        match &mut event {
+            Event::Ask { seat, command } => {
+                let mut told = Reply::Done;
+                match self.ask(*seat, command, &mut told) {
+                    Ok(number) => Answer::Asked(number, told),
+                    Err(fault) => Answer::Ask(fault),
+                }
+            }
+            other => self.step(other),
         }
     }
 

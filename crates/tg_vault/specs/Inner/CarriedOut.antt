@@ -21,7 +21,6 @@ use Rattle.tg_graph.specs.Promise.Fullness.{edges_at}
 use Rattle.tg_collect.specs.Promise.Stored.{Stored}
 use Rattle.tg_collect.specs.Promise.Readings.{IsEdgeIn, agents, pending, principals, free_slots}
 use Rattle.tg_collect.specs.Promise.Sessions.{EdgeStored, VertexStored, PrincipalStored, Acted}
-use Rattle.tg_vault.specs.declared.carry_out.Answered.{Answered}
 use Rattle.tg_vault.specs.declared.carry_out.State.{State}
 use Rattle.tg_vault.specs.Promise.World.{agents_after, target_of, with_pending, slots_taken}
 use Rattle.tg_vault.specs.Promise.Seen.{serials}
@@ -72,16 +71,33 @@ copies (effect.Lists at) = true
 copies effect.Retires = true
 copies (effect.Acts agent) = false
 
+-- how a command was decided, and the reply, which follows from that and the graph
+pub record Answered : Type 0 where
+  pub outcome : Outcome
+  pub reply : Reply
+
+abbrev pub answered : Outcome → Reply → Answered
+answered decided told = record { outcome = decided; reply = told }
+
+-- the reply where a call returns that it is done, or the serial of what it made
+abbrev pub done : {U : Type 0} → Result U Which → Result Reply Which
+done (Ok u) = Ok reply.Done
+done (Err w) = Err w
+
+abbrev pub created : Result ℕ Which → Result Reply Which
+created (Ok serial) = Ok (reply.Created serial)
+created (Err w) = Err w
+
 -- the outcome with the reply of a command that was carried out, that may be full, and that its rule denies
 abbrev pub allowed : Reply → Answered
-allowed told = record { outcome = outcome.Allowed; reply = told }
+allowed told = answered outcome.Allowed told
 
 abbrev pub settled : Result Reply Which → Answered
 settled (Ok told) = allowed told
-settled (Err w) = record { outcome = outcome.Full w; reply = reply.Full w }
+settled (Err w) = answered (outcome.Full w) (reply.Full w)
 
 abbrev pub denied : Rule → Cause → Answered
-denied rule cause = record { outcome = outcome.Denied rule cause; reply = reply.Denied rule cause }
+denied rule cause = answered (outcome.Denied rule cause) (reply.Denied rule cause)
 
 -- the command of x, from the seat, was decided in the graph G, which is what is held and kept, and carried out in the
 -- store, with this outcome and the reply that follows from it; K is what is held and kept then

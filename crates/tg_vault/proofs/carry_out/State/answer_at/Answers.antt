@@ -21,13 +21,13 @@ granted c =
 pub carry_out-requires-clause-allowed : goal.carry_out-requires-clause-allowed
 carry_out-requires-clause-allowed c = granted (goal.at.carry_out-requires-clause-allowed c).In-Ok
 
-pub returns-in_err-done-clause-needed : goal.returns-in_err-done-clause-needed
-returns-in_err-done-clause-needed c = whatever c.from_residual.result (granted (goal.at.returns-in_err-done-clause-needed c).In-Ok)
+pub returns-clause-needed : goal.returns-clause-needed
+returns-clause-needed c = whatever c.carry_out.result (granted (goal.at.returns-clause-needed c).In-Ok)
 
 pub returns-in-Err-clause-carried : goal.returns-in-Err-clause-carried
 returns-in-Err-clause-carried c =
     let retired = set_of c.args.self.now.retired.keys in
     subst (CarriedOut c.args.self.now c.args.self.now c.args.seat c.args.actor.serial c.args.command.now)
-    (sym (c.denied.ensures ∙ ap (λ rule. denied rule c.in-Err.cause) c.rule.ensures))
+    (sym (c.deny.ensures ∙ ap (λ rule. denied rule c.in-Err.cause) c.rule.ensures))
     (denied_carried c.args.self.now.store c.args.self.now.next c.args.self.now.names retired c.args.seat c.requires.listed c.args.actor.serial c.args.command.now c.in-Err.cause
     (denial_seen c.args.self.now.store c.args.self.now.next c.args.self.now.names c.as_slice.result.now retired c.args.actor.serial c.args.command.now c.as_slice.ensures c.requires.unretired ∙ c.in-Err.ensures.denied))

@@ -4,12 +4,13 @@ use Rattle.tg_collect.specs.Promise.Readings.{IsHeldIn, IsParkedIn, agents}
 use Rattle.tg_vault.specs.Inner.Acting.{serial_in}
 use Rattle.tg_vault.specs.Promise.World.{Enters, acting, actor_at, at_seat}
 use Rattle.tg_vault.specs.Promise.Contents.{Contents, Keeps, moment, IsExact}
+use Rattle.tg_vault.specs.Inner.CarriedOut.{answered}
 use Rattle.tg_vault.specs.Inner.Contents.{contents}
 use Rattle.tg_vault.specs.Promise.StoreSteps.{SessionStep}
 use Rattle.tg_vault.specs.Promise.Agreement.{SameForAgreeing}
 use Rattle.tg_vault.proofs.DecidedLemmas.{next_unheld, none_gone, root_active}
 use Rattle.tg_vault.proofs.EntryLemmas.{Pushed, pushed_joined, pushed_enters, pushed_same, pushed_exact, pushed_acts, next_unparked}
-use Rattle.tg_vault.proofs.vault.Vault.command.Goals as goal
+use Rattle.tg_vault.proofs.vault.Vault.ask.Goals as goal
 
 pub acting_at-actor-requires-clause-active : goal.acting_at-actor-requires-clause-active
 acting_at-actor-requires-clause-active c = λ h. ap (λ rs. set.contains rs c.in_ok-principal.principal) c.self.invariant.retired ∙ root_active _ c.self.invariant.joins c.soundness-2.ensures.sound c.in_ok-principal.principal h
@@ -35,7 +36,7 @@ acts c =
     ap (acting (at_seat (agents c.self.inside.state.store) c.args.seat)) sits ∙ c.acting_at-actor.ensures.actor
 
 pushed : (c : goal.In-Ok-push) →
-    Pushed (contents c.self.inside) c.self.inside.state.next c.self.inside.state.retired.keys c.args.seat (serial_in c.acting_at-actor.result) c.args.command c.in-Ok-answer.answered c.answer.new.self c.push.new.self.items
+    Pushed (contents c.self.inside) c.self.inside.state.next c.self.inside.state.retired.keys c.args.seat (serial_in c.acting_at-actor.result) c.args.command.now (answered c.in-Ok-answer.outcome c.answer.new.told) c.answer.new.self c.push.new.self.items
 pushed c = record {
   joined = c.self.invariant;
   store = c.soundness-2.ensures.sound;
@@ -45,7 +46,7 @@ pushed c = record {
   history_is =
       c.in-Ok-push.ensures.items
       ∙ (λ i. c.try_reserve.ensures.items i ++ c.new-entry.ensures i ∷ [])
-      ∙ ap (λ (x : ℕ). c.self.inside.history.items ++ record { seat = c.args.seat; actor = x; command = c.args.command; outcome = c.in-Ok-answer.answered.outcome } ∷ []) c.serial.ensures;
+      ∙ (λ i. c.self.inside.history.items ++ record { seat = c.args.seat; actor = c.serial.ensures i; command = c.replace-asked.ensures.value i; outcome = c.in-Ok-answer.outcome } ∷ []);
 }
 
 pub invariant_of-self-2 : goal.invariant_of-self-2
@@ -56,7 +57,7 @@ returns-clause-step c = (
   c.in_ok-principal.ensures.ok.3,
   c.count-number.ensures,
   subst (λ (w : Contents). (actor : ℕ) × (actor_at (moment w).world c.args.seat ≡ Some actor)
-      × Enters w.limits (moment w) c.args.seat actor c.args.command c.in-Ok-answer.answered.reply (moment (record (contents c.self.inside) { store = c.answer.new.self.store; names = c.answer.new.self.names; history = c.push.new.self.items }))) c.self.view_is
+      × Enters w.limits (moment w) c.args.seat actor c.args.command.now c.answer.new.told (moment (record (contents c.self.inside) { store = c.answer.new.self.store; names = c.answer.new.self.names; history = c.push.new.self.items }))) c.self.view_is
       (serial_in c.acting_at-actor.result, acts c, pushed_enters (contents c.self.inside) _ _ _ _ _ _ _ _ (pushed c)),
 )
 
@@ -67,7 +68,7 @@ returns-clause-keeps c =
 
 pub returns-clause-agrees : goal.returns-clause-agrees
 returns-clause-agrees c =
-    subst (λ (w : Contents). SameForAgreeing w (record (contents c.self.inside) { store = c.answer.new.self.store; names = c.answer.new.self.names; history = c.push.new.self.items }) c.in-Ok-answer.answered.reply) c.self.view_is
+    subst (λ (w : Contents). SameForAgreeing w (record (contents c.self.inside) { store = c.answer.new.self.store; names = c.answer.new.self.names; history = c.push.new.self.items }) c.answer.new.told) c.self.view_is
     (pushed_same (contents c.self.inside) _ _ _ _ _ _ _ _ (pushed c))
 
 pub returns-clause-exact : goal.returns-clause-exact
