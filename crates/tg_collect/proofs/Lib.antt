@@ -7,6 +7,7 @@ pub mod StoreLemmas
 -- Lemma files of this crate's own proofs.
 mod CallLemmas
 mod Common
+mod CycleLemmas
 mod EdgeLemmas
 mod EdgesLemmas
 mod FiguresLemmas

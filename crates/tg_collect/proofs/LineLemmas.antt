@@ -1,6 +1,6 @@
 -- Each step of the machine is a line of the table.
 use Rattle.std.proofs.Common.{◌≡◌, ◌+◌, ◌<◌, ◌≤◌, List, [], ◌∷◌, ◌++◌, length, Option, Some, None, Bool, true, false, sym, ◌∙◌, subst, ap, refl, arith, ◌≢◌, ◌⊎◌, inl, inr, ℕ, get_or-set_other, filter, is_some}
-use Rattle.tg_collect.proofs.Common.{turns_name, Contains, Grey, Has, Edge, first_cell, HeapGraph, edges, mark_at, IsHeap, remaining, Spot, Body, slot_mark, Machine, RootLists, lists_of, body_of, body, progress_in, progress_of, CursorFits, Whole, spot_mark, put, IsListed, stored, same_Some, passed, split_whole, remaining_split, shade_all, Line, starts, scans, blackens, shades_target, whitens, strips, frees, IsScanned, Phased, shade_each, line_keeps, line_collected, bounded, Steps, all_shaded, shown_body, all_slots, slots_of, phase_in, Collected, most_marks, Counts, AreRoots, HasRoot, Invariant, Root, bare, IsLinkedBy}
+use Rattle.tg_collect.proofs.Common.{turns_name, Contains, Grey, Has, Edge, first_cell, HeapGraph, edges, mark_at, IsHeap, remaining, Spot, Body, slot_mark, Machine, RootLists, lists_of, body_of, body, progress_in, progress_of, CursorFits, Whole, spot_mark, put, IsListed, stored, same_Some, passed, split_whole, remaining_split, shade_all, Line, finishes, starts, starts_sweep, scans, blackens, shades_target, whitens, strips, frees, IsScanned, Phased, shade_each, line_keeps, line_collected, bounded, Steps, all_shaded, shown_body, all_slots, slots_of, phase_in, Collected, most_marks, Counts, AreRoots, HasRoot, Invariant, Root, bare, IsLinkedBy}
 use Rattle.tg_marking.specs.Promise.Values as values
 use Rattle.tg_collect.specs.declared.machine.Progress.TheVariants as course
 use Rattle.tg_collect.specs.declared.machine.Progress as declared
@@ -9,7 +9,8 @@ use Rattle.tg_collect.specs.declared.note.Phase.TheVariants as phases
 use Rattle.tg_marking.specs.Promise.Values.{slot_serial, spot, Progress}
 use Rattle.tg_marking.proofs.SpotLemmas.{kept_name}
 use Rattle.tg_collect.specs.Promise.Views.{ChangesMarks}
-use Rattle.tg_collect.proofs.SlotLemmas.{mark_so, listed_root, celled, free_so, all_same}
+use Rattle.tg_collect.specs.Inner.Machine.{NoneWhite, so_far}
+use Rattle.tg_collect.proofs.SlotLemmas.{mark_so, listed_root, celled, free_so, all_same, zip_size}
 use Rattle.tg_collect.proofs.ShownLemmas.{held_same}
 
 -- The cell under scan is in its slot's list.
@@ -126,3 +127,15 @@ collected m n freed ended s ok ok' w = record {
 
   freed_so : ((phase_in (values.shown (progress_of m)) ≡ phases.Sweep) ⊎ (freed ≡ 0)) × (freed ≤ 1)
   freed_so = line_frees (body m) (body n) (progress_of m) (progress_of n) freed ended s.line
+
+-- If nothing is grey and no target is white, the sweep begins.
+pub sweep_begins : (m : Machine) → m.heap.table.grey ≡ [] → NoneWhite m → Steps (so_far m (course.Marking None)) (so_far m (course.Sweeping 0)) 0 false
+sweep_begins m grey white = step_of (so_far m (course.Marking None)) m.heap (course.Sweeping 0) refl refl (starts_sweep grey white) tt (grind arith)
+
+-- If the sweep has passed all slots, the cycle ends.
+pub sweep_ends : (m : Machine) (k : ℕ) → length m.heap.table.slots ≤ k → Steps (so_far m (course.Sweeping k)) (so_far m course.Idle) 0 true
+sweep_ends m k past = step_of (so_far m (course.Sweeping k)) m.heap course.Idle refl refl (finishes k (rw zip_size past)) tt (grind arith)
+
+-- A step frees one slot at most.
+pub frees_one : {m n : Machine} {freed : ℕ} {ended : Bool} → Steps m n freed ended → freed ≤ 1
+frees_one {m} {n} {freed} {ended} s = (line_frees (body m) (body n) (progress_of m) (progress_of n) freed ended s.line).1

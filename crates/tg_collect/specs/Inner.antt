@@ -1,4 +1,5 @@
 -- What only proofs and private contracts need.
+pub mod Cycles
 pub mod Machine
 pub mod PackedProgress
 pub mod Stored

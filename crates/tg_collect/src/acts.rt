@@ -37,6 +37,8 @@ pub enum Act {
     End,
     /// A cycle that frees no slot: steps of the marking, steps of the sweep, and the step that ends it.
     Cycle(u32, u32),
+    /// The steps of a cycle that are left, at once: the slots that they free, and how many there are.
+    Rest(u64, u64),
     Pending(u64, Option<u64>),
     FreeSlots(u32),
     FreeCells(u32),

@@ -29,7 +29,7 @@ pub use laws::{
     held_changes, one_mark_a_step, openings_can_be_stored, runs_are_complete_and_bounded,
     steps_in_the_graph, texts_come_back,
 };
-pub use note::{Note, Phase};
+pub use note::{Note, Phase, Swept};
 pub use store::Store;
 pub use tg_heap::{HeapFull, Key};
 pub use tg_slots::Colour;

@@ -1,7 +1,7 @@
 //! The scripts of calls, with every note of the collector in the steps that were worked out by hand.
 use crate::acts::Act::{
     Agent, Assume, At, Create, Cycle, Edge, End, Enrol, FreeCells, FreeSlots, Join, Leave, Mark,
-    Pending, Principals, Reads, Reclaim, Remove, Retire, Shade, Sweep, Write,
+    Pending, Principals, Reads, Reclaim, Remove, Rest, Retire, Shade, Sweep, Write,
 };
 use crate::acts::{PLAIN, Script};
 use tg_heap::HeapFull;
@@ -21,6 +21,67 @@ pub const SCRIPTS: &[Script] = &[
             Reclaim(1),
             End,
             Create(0, 1, 4, "r", None),
+        ],
+        ..PLAIN
+    },
+    Script {
+        name: "the rest of a cycle, from each kind of place",
+        edges: &[(1, "tg", 2)],
+        acts: &[
+            Rest(0, 11),
+            Mark(1),
+            Rest(0, 10),
+            Mark(2),
+            Rest(0, 9),
+            Mark(3),
+            Rest(0, 8),
+            Mark(4),
+            Rest(0, 7),
+            Mark(6),
+            Rest(0, 5),
+            Mark(6),
+            Sweep(1),
+            Rest(0, 4),
+            Mark(6),
+            Sweep(4),
+            Rest(0, 1),
+        ],
+        ..PLAIN
+    },
+    Script {
+        name: "the rest of a cycle frees what is unreachable since the one before",
+        cells: 4,
+        acts: &[
+            Create(0, 1, 3, "r", None),
+            Shade(0, Some(3)),
+            Remove(1, 3, "r"),
+            Rest(0, 12),
+            Mark(3),
+            Rest(1, 7),
+            Create(0, 1, 4, "r", None),
+            Shade(0, Some(4)),
+            Remove(1, 4, "r"),
+            Rest(0, 12),
+            Mark(5),
+            Sweep(2),
+            Rest(1, 3),
+            FreeSlots(1),
+        ],
+        ..PLAIN
+    },
+    Script {
+        name: "the rest of a cycle shades what is pending",
+        cells: 4,
+        acts: &[
+            Create(0, 1, 3, "r", None),
+            Remove(1, 3, "r"),
+            Rest(0, 13),
+            Mark(5),
+            Rest(0, 8),
+            Shade(0, Some(3)),
+            Rest(0, 12),
+            Rest(1, 10),
+            FreeSlots(1),
         ],
         ..PLAIN
     },

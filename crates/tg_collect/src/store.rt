@@ -12,11 +12,12 @@ ghost use Rattle.tg_heap.specs.Promise.Graph.{edges};
 ghost use Rattle.tg_collect.specs.Promise.Readings.{IsHeldIn, IsParkedIn, IsEdgeIn, held, vertices, principals, place, serial_at, pending_of, agent_of, free_slots, slot_count, phase};
 ghost use Rattle.tg_collect.specs.Promise.Stored.{FIXED};
 ghost use Rattle.tg_collect.specs.Promise.Views.{IsStore, Collected};
+ghost use Rattle.tg_collect.specs.Promise.Runs.{Cycled};
 ghost use Rattle.tg_collect.specs.Promise.Sessions.{Shaded, EdgeStored, VertexStored, PrincipalStored, Retired, Assumed, AgentLeft, RightsRemoved, TextReplaced, Acted};
 ghost use Rattle.tg_collect.specs.Promise.Openings.{IsOpening, Opened};
 
 use crate::machine::{Machine, Root};
-use crate::note::{Note, Phase};
+use crate::note::{Note, Phase, Swept};
 use std::alloc::{AllocError, Global};
 use std::marker::Model;
 use tg_graph::Graph;
@@ -371,6 +372,13 @@ impl Store {
         let note = self.machine.collect();
         self.machine.heap.soundness();
         note
+    }
+
+    /// The collector steps up to and including the first that ends a cycle.
+    pub fn cycle(&mut self) -> Swept
+        ensures { Cycled self.old self.new result.freed result.steps }
+    {
+        self.machine.cycle()
     }
 }
 

@@ -10,12 +10,12 @@ ghost use Rattle.tg_rights.specs.declared.limits.TheConstants.{SEATS};
 
 use crate::acts::Act::{
     Agent, Assume, At, Create, Cycle, Edge, End, Enrol, FreeCells, FreeSlots, Join, Leave, Mark,
-    Pending, Principals, Reads, Reclaim, Remove, Retire, Shade, Sweep, Write,
+    Pending, Principals, Reads, Reclaim, Remove, Rest, Retire, Shade, Sweep, Write,
 };
 use crate::acts::{Act, Script};
 use crate::machine::Machine;
 use crate::scripts::SCRIPTS;
-use crate::{Note, Phase, Store};
+use crate::{Note, Phase, Store, Swept};
 use std::alloc::{AllocError, Global};
 use std::process::Abort;
 use tg_graph::{Config, Graph, OpenFault};
@@ -314,6 +314,11 @@ fn cycles(store: &mut Store, marked: u32, swept: u32) -> bool {
         && steps(store, 1, Phase::Idle, 0, true)
 }
 
+/// Whether the steps that are left of a cycle free so many slots, and are so many.
+fn is_rest(store: &mut Store, freed: u64, steps: u64) -> bool {
+    store.cycle() == Swept { freed, steps }
+}
+
 /// Carries out one line of a script; returns whether it goes as it says.
 fn goes(rt: &impl Abort, alloc: Global, store: &mut Store, act: &Act) -> Result<bool, AllocError> {
     match act {
@@ -358,6 +363,7 @@ fn goes(rt: &impl Abort, alloc: Global, store: &mut Store, act: &Act) -> Result<
         Reclaim(count) => Ok(steps(store, *count, Phase::Sweep, 1, false)),
         End => Ok(steps(store, 1, Phase::Idle, 0, true)),
         Cycle(marked, swept) => Ok(cycles(store, *marked, *swept)),
+        Rest(freed, steps) => Ok(is_rest(store, *freed, *steps)),
         Pending(seat, target) => Ok(pending(rt, store, *seat) == *target),
         FreeSlots(count) => Ok(store.free_slots() == *count),
         FreeCells(count) => Ok(store.free_cells() == *count),

@@ -27,7 +27,7 @@ use Rattle.tg_collect.proofs.RunLemmas.{ended_idle}
 use Rattle.tg_collect.proofs.ShownLemmas.{same_key}
 use Rattle.tg_collect.proofs.StoreLemmas.{idle_unparked, same_truth}
 use Rattle.tg_vault.specs.declared.entry.Entry.{Entry}
-use Rattle.tg_vault.specs.declared.vault.Swept.{Swept}
+use Rattle.tg_collect.specs.declared.note.Swept.{Swept}
 use Rattle.tg_vault.specs.Promise.History.{EntryRun, EntryStep, MayAsk}
 use Rattle.tg_vault.specs.Inner.Seen.{set_of}
 use Rattle.tg_vault.specs.Promise.World.{Moment, NobodySits, Run}

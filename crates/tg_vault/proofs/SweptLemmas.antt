@@ -1,5 +1,5 @@
 -- A cycle, step by step.
-use Rattle.std.proofs.Common.{◌≡◌, ℕ, ◌+◌, ◌≤◌, List, [], ◌∷◌, ◌++◌, length, map, sym, subst, ◌∙◌, inl, inr, true, false, length-append, arith}
+use Rattle.std.proofs.Common.{◌≡◌, ℕ, ◌+◌, ◌≤◌, List, [], ◌∷◌, ◌++◌, length, map, sym, subst, ◌∙◌, inl, inr, Bool, true, false, refl, length-append, arith}
 use Rattle.std.specs.Prelude.{sum_by, All}
 use Rattle.std.proofs.lemmas.List.Elements.{All-append, All-cons, All-nil}
 use Rattle.std.proofs.lemmas.List.Sums.{sum_by-cons, sum_by-append}
@@ -9,11 +9,17 @@ use Rattle.tg_vault.specs.declared.event.Event.{Event}
 use Rattle.tg_vault.specs.declared.event.Event.TheVariants as event
 use Rattle.tg_vault.specs.declared.event.Answer.{Answer}
 use Rattle.tg_vault.specs.declared.event.Answer.TheVariants as answer
-use Rattle.tg_collect.specs.Promise.Readings.{cycle_bound, slot_count, free_slots}
-use Rattle.tg_vault.specs.Promise.Contents.{Contents, IsSmall}
+use Rattle.tg_collect.specs.Promise.Readings.{cycle_bound, phase, slot_count, free_slots}
+use Rattle.tg_collect.specs.Promise.Stored.{Stored}
+use Rattle.tg_collect.specs.Promise.Runs as runs
+use Rattle.tg_collect.specs.Promise.Runs.{Collecting, Cycled, begins}
+use Rattle.tg_collect.specs.Promise.Views.{Collected, IsStore}
+use Rattle.tg_vault.specs.Promise.Contents.{Contents, IsSmall, Keeps, Ties}
 use Rattle.tg_vault.specs.Promise.Course.{Course, VaultStep, IsCoherent}
 use Rattle.tg_vault.specs.Promise.Cycles.{IsCycle}
-use Rattle.tg_vault.proofs.CourseLemmas.{course_more}
+use Rattle.tg_vault.proofs.CourseLemmas.{course_keeps, course_more, keeps_on}
+use Rattle.tg_vault.proofs.CollectLemmas.{collected_joins, collected_step}
+use Rattle.tg_vault.proofs.FitsLemmas.{fits_are}
 
 abbrev pub collects : List Note → List Event
 collects notes = map (λ _. event.Collect) notes
@@ -91,3 +97,61 @@ module _ (v w u : Contents) (freed steps : ℕ) (note : Note) (s : SoFar v w fre
       steps = more_steps;
       few = few_steps;
     }
+
+-- A collector step of the store is one of the vault.
+collects_one : (w : Contents) → IsCoherent w → (t : Stored) → IsStore t → (count : ℕ) (ended : Bool) → Collected w.store t count ended →
+    VaultStep w event.Collect (answer.Noted (record { freed = count; phase = phase t; ended = ended })) (record w { store = t })
+collects_one w coherent t store count ended c =
+    let ties = collected_joins w coherent.ties t coherent.store store count ended c in
+    record {
+      step = collected_step w coherent.ties t coherent.store store count ended c;
+      keeps = record { opening = refl; limits = refl; key = c.key };
+      stored = (c, refl);
+      told = tt;
+      fits = fits_are (record w { store = t }) ties store;
+      coherent = record { ties = ties; store = store };
+    }
+
+module _ (v : Contents) (coherent : IsCoherent v) (small : IsSmall v) where
+  still_small : (t : Stored) → IsSmall (record v { store = t })
+  still_small t = record { slots = small.slots; cells = small.cells }
+
+  collected_so_far : (s : Stored) (freed n : ℕ) → Collecting v.store s freed n → SoFar v (record v { store = s }) freed n
+  collected_so_far _ _ _ begins = record {
+    notes = [];
+    course = refl;
+    none = All-nil _;
+    freed_is = refl;
+    steps_are = refl;
+    slots = omega arith;
+    left = omega arith;
+    coherent = coherent;
+    small = small;
+  }
+  collected_so_far _ _ _ (runs.steps a b freed n count rest c store) =
+      let before = collected_so_far a freed n rest in
+      goes_on v (record v { store = a }) (record v { store = b }) freed n (record { freed = count; phase = phase b; ended = false }) before
+      (collects_one (record v { store = a }) before.coherent b store count false c) (still_small b) refl
+
+  -- a cycle of the store is one of the vault
+  module _ (t : Stored) (store : IsStore t) (freed n : ℕ) (c : Cycled v.store t freed n) where
+    abbrev last : Contents
+    last = record v { store = c.last }
+
+    before : SoFar v last freed c.before
+    before = collected_so_far c.last freed c.before c.collecting
+
+    ends : VaultStep last event.Collect (answer.Noted (record { freed = 0; phase = phase t; ended = true })) (record v { store = t })
+    ends = collects_one last before.coherent t store 0 true c.ends
+
+    pub cycled : IsCycle v (record { freed = freed; steps = n }) (record v { store = t })
+    cycled =
+        let all = ends_here v last (record v { store = t }) freed c.before (record { freed = 0; phase = phase t; ended = true }) before ends coherent refl in
+        let same : freed + 0 ≡ freed = omega arith in
+        subst (λ k. IsCycle v (record { freed = freed; steps = k }) (record v { store = t })) (sym c.count) (subst (λ f. IsCycle v (record { freed = f; steps = c.before + 1 }) (record v { store = t })) same all)
+
+    pub cycled_ties : Ties (record v { store = t })
+    cycled_ties = ends.coherent.ties
+
+    pub cycled_keeps : Keeps v (record v { store = t })
+    cycled_keeps = keeps_on v last (record v { store = t }) (course_keeps v (collects before.notes) (noted before.notes) last before.course) ends.keeps

@@ -23,5 +23,5 @@ pub use laws::{
 pub use rebase::{Past, Rebased};
 pub use room::Room;
 pub use scene::{Scene, Sitting};
-pub use tg_collect::Key;
-pub use vault::{Ran, Swept, Vault};
+pub use tg_collect::{Key, Swept};
+pub use vault::{Ran, Vault};

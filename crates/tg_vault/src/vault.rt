@@ -26,7 +26,7 @@ use std::alloc::Global;
 use std::collections::BTreeSet;
 use std::marker::Model;
 use std::mem;
-use tg_collect::{Key, Note, Store};
+use tg_collect::{Key, Note, Store, Swept};
 use tg_graph::{Config, Graph, OpenFault, Roll, serial_of};
 use tg_rights::{Command, Reply, SEATS};
 
@@ -61,15 +61,6 @@ impl Model for Vault {
     ghost view = { λ v. contents v };
 
     ghost invariant = { λ v. IsTied (contents v) v.state.next v.state.retired.keys };
-}
-
-/// What the collector steps of a cycle did.
-#[derive(Clone, Copy, PartialEq, Eq, Debug)]
-pub struct Swept {
-    /// The slots that were freed.
-    pub freed: u64,
-    /// The collector steps.
-    pub steps: u64,
 }
 
 /// What a run of events leaves.
@@ -432,17 +423,9 @@ impl Vault {
         ensures keeps { Keeps self.old self.new }
     {
         self.soundness();
-        let mut freed = 0;
-        let mut steps = 0;
-        'step: loop {
-            let note = self.collect();
-            self.soundness();
-            freed += note.freed;
-            steps += 1;
-            if note.ended {
-                return Swept { freed, steps };
-            }
-        }
+        let swept = self.state.store.cycle();
+        self.state.store.soundness();
+        swept
     }
 
     /// Carries out the events in order, each as one atomic step, and answers each. Room for all answers is taken first:

@@ -11,7 +11,7 @@ use Rattle.tg_vault.specs.declared.event.Event.{Event}
 use Rattle.tg_vault.specs.declared.event.Event.TheVariants as event
 use Rattle.tg_vault.specs.declared.event.Answer.{Answer}
 use Rattle.tg_vault.specs.declared.event.Answer.TheVariants as answer
-use Rattle.tg_vault.specs.declared.vault.Swept.{Swept}
+use Rattle.tg_collect.specs.declared.note.Swept.{Swept}
 use Rattle.tg_vault.specs.Promise.Contents.{Contents, graph_now}
 use Rattle.tg_audit.specs.Promise.Verdicts.{IsMet, IsVerdict}
 use Rattle.tg_wire.specs.Promise.Configs.{opening_of}

@@ -72,6 +72,13 @@ pub record AreRoots (rs : RootLists) (b : Body) : Type 0 where
   pub agents : length rs.agents ≡ SEATS
   pub named : (r : Root) → IsListed rs r → slot_serial b r.slot ≡ Some r.serial
 
+-- the machine when its collector has come this far, and a slot under scan
+abbrev pub so_far : Machine → Progress → Machine
+so_far m p = record m { progress = p }
+
+abbrev pub scanning : ℕ → Option ℕ → Progress
+scanning i cursor = Marking (Some (record { slot = i; cursor = cursor }))
+
 -- the invariant of the store
 pub record Whole (m : Machine) : Type 0 where
   pub kept : Invariant (body m) (progress_of m)

@@ -37,3 +37,16 @@ StoresAreComplete = (v w u : Stored) (next ended since count : ℕ) → IsStore 
 -- there are fewer collector steps than the bound between two ends of cycles
 abbrev pub StoresAreBounded : Type 0
 StoresAreBounded = (v u : Stored) (next ended since : ℕ) → IsStore v → StoreRun next v u ended since → since < cycle_bound (slot_count v) v.cells
+
+-- collector steps that end no cycle: the last state, the slots that they freed, and how many steps there were
+pub data Collecting (first : Stored) : Stored → (freed steps : ℕ) → Type 0 where
+  begins : Collecting first first 0 0
+  steps : (v w : Stored) (freed steps count : ℕ) → Collecting first v freed steps → Collected v w count false → IsStore w → Collecting first w (freed + count) (steps + 1)
+
+-- collector steps up to and including the first that ends a cycle, and what they freed
+pub record Cycled (v w : Stored) (freed steps : ℕ) : Type 0 where
+  pub last : Stored
+  pub before : ℕ
+  pub collecting : Collecting v last freed before
+  pub ends : Collected last w 0 true
+  pub count : steps ≡ before + 1

@@ -8,7 +8,7 @@ use Rattle.tg_vault.specs.declared.event.Event.{Event}
 use Rattle.tg_vault.specs.declared.event.Event.TheVariants as event
 use Rattle.tg_vault.specs.declared.event.Answer.{Answer}
 use Rattle.tg_vault.specs.declared.event.Answer.TheVariants as answer
-use Rattle.tg_vault.specs.declared.vault.Swept.{Swept}
+use Rattle.tg_collect.specs.declared.note.Swept.{Swept}
 use Rattle.tg_collect.specs.Promise.Readings.{cycle_bound, phase}
 use Rattle.tg_vault.specs.Promise.World.{Moment, Run}
 use Rattle.tg_vault.specs.Promise.Contents.{Contents, moment, IsRoot, HasSlot}

@@ -26,7 +26,7 @@ use Rattle.tg_vault.specs.declared.rebase.Past.{Past}
 use Rattle.tg_vault.specs.declared.rebase.Rebased.TheVariants as rebased
 use Rattle.tg_vault.specs.declared.room.Room.{Room}
 use Rattle.tg_vault.specs.declared.scene.Scene.{Scene}
-use Rattle.tg_vault.specs.declared.vault.Swept.{Swept}
+use Rattle.tg_collect.specs.declared.note.Swept.{Swept}
 use Rattle.tg_vault.specs.Promise.Agreement.{SameForAgreeing}
 use Rattle.tg_vault.specs.Promise.Headline.{Headline, asked_in}
 use Rattle.tg_vault.specs.Promise.History.{Legal, WasPrincipal, graph_of}

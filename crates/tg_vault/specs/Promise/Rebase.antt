@@ -9,7 +9,7 @@ use Rattle.tg_vault.specs.declared.entry.Entry.{Entry}
 use Rattle.tg_vault.specs.declared.rebase.Past.{Past}
 use Rattle.tg_vault.specs.declared.rebase.Rebased.{Rebased}
 use Rattle.tg_vault.specs.declared.rebase.Rebased.TheVariants as rebased
-use Rattle.tg_vault.specs.declared.vault.Swept.{Swept}
+use Rattle.tg_collect.specs.declared.note.Swept.{Swept}
 use Rattle.tg_vault.specs.Promise.History.{Legal}
 use Rattle.tg_vault.specs.Promise.World.{IsLeastInUse, NobodySits}
 use Rattle.tg_vault.specs.Promise.Contents.{Contents, graph_now, held_now, moment, IsRoot}

@@ -10,7 +10,7 @@ use Rattle.tg_graph.specs.declared.derivation.Verdict.TheVariants as verdict
 use Rattle.tg_collect.specs.declared.note.Phase.{Phase}
 use Rattle.tg_collect.specs.declared.note.Phase.TheVariants as phase
 use Rattle.tg_collect.specs.declared.note.Note.{Note}
-use Rattle.tg_vault.specs.declared.vault.Swept.{Swept}
+use Rattle.tg_collect.specs.declared.note.Swept.{Swept}
 use Rattle.tg_vault.specs.declared.event.Answer.{Answer}
 use Rattle.tg_vault.specs.declared.event.Answer.TheVariants as answer
 use Rattle.tg_wire.specs.Promise.Faults.{line_text, error_data, seat_fault_text, ask_fault_text}

@@ -1,7 +1,7 @@
 -- what a run does for a line
 use Rattle.std.specs.Prelude.{◌≡◌, ℕ, List, Bool, true, false, Option, ◌⊎◌}
 use Rattle.tg_vault.specs.Promise.Contents.{Contents, Keeps}
-use Rattle.tg_vault.specs.declared.vault.Swept.{Swept}
+use Rattle.tg_collect.specs.declared.note.Swept.{Swept}
 use Rattle.tg_wire.specs.Promise.Answers.{swept_line}
 use Rattle.tg_wire.specs.Promise.Faults.{fault_line}
 use Rattle.tg_wire.specs.declared.fault.WireFault.TheVariants as wire

@@ -7,7 +7,7 @@ use Rattle.tg_vault.specs.declared.event.Event.{Event}
 use Rattle.tg_vault.specs.declared.event.Event.TheVariants.{Collect}
 use Rattle.tg_vault.specs.declared.event.Answer.{Answer}
 use Rattle.tg_vault.specs.declared.event.Answer.TheVariants.{Noted}
-use Rattle.tg_vault.specs.declared.vault.Swept.{Swept}
+use Rattle.tg_collect.specs.declared.note.Swept.{Swept}
 use Rattle.tg_vault.specs.Promise.Contents.{Contents, IsFresh}
 use Rattle.tg_talk.specs.Promise.Opening.{RefusesOpening}
 use Rattle.tg_vault.specs.Promise.Course.{Course}

@@ -1,7 +1,10 @@
-use Rattle.std.proofs.Common.{◌∙◌, ap}
-use Rattle.tg_slots.specs.Promise.Table.{Has}
-use Rattle.tg_collect.proofs.LineLemmas.{sweep_dark}
+use Rattle.std.proofs.Common.{arith, refl}
+use Rattle.tg_collect.proofs.Common.{finishes}
+use Rattle.tg_collect.proofs.LineLemmas.{step_of}
+use Rattle.tg_collect.proofs.SlotLemmas.{zip_size}
 use Rattle.tg_collect.proofs.machine.Machine.sweep.Goals as goal
 
-pub unreachable-requires : goal.unreachable-requires
-unreachable-requires c = sweep_dark c.args.self.now c.args.at c.requires.at c.requires.whole (c.in-Some-Grey.ensures ∙ ap Has c.in-Some-Grey.field-0-is)
+pub returns-then-at-len-clause-line : goal.returns-then-at-len-clause-line
+returns-then-at-len-clause-line c =
+    let m = c.args.self.now in
+    rw c.of-self.ensures (step_of m m.heap _ c.requires.at refl (finishes c.args.at (rw zip_size (let past = c.if-at-len.true in let size = c.len.ensures in omega (arith, past, size)))) tt (grind arith))

@@ -1,25 +1,28 @@
-use Rattle.tg_vault.specs.declared.event.Event.TheVariants as event
-use Rattle.tg_vault.specs.declared.event.Answer.TheVariants as answer
-use Rattle.tg_vault.specs.Promise.Course.{VaultStep}
-use Rattle.tg_vault.proofs.CourseLemmas.{course_keeps, keeps_on}
-use Rattle.tg_vault.proofs.SweptLemmas.{goes_on, ends_here}
+use Rattle.std.proofs.Common.{subst, sym}
+use Rattle.tg_vault.specs.Promise.Contents.{Contents, IsSmall, Keeps}
+use Rattle.tg_vault.specs.Promise.Course.{IsCoherent}
+use Rattle.tg_vault.specs.Promise.Cycles.{IsCycle}
+use Rattle.tg_vault.specs.Inner.Contents.{contents}
+use Rattle.tg_vault.proofs.SweptLemmas.{cycled, cycled_keeps, cycled_ties}
 use Rattle.tg_vault.proofs.vault.Vault.cycle.Goals as goal
 
-pub returns-then-note-clause-cycle : goal.returns-then-note-clause-cycle
-returns-then-note-clause-cycle c =
-    let went : VaultStep c.step.self event.Collect (answer.Noted c.collect-note.result) c.collect-note.new.self =
-    record { step = c.collect-note.ensures.step; keeps = c.collect-note.ensures.keeps; stored = c.collect-note.ensures.stored; told = tt; fits = c.soundness-in-step.ensures.fits; coherent = c.soundness-in-step.ensures.coherent } in
-    ends_here c.args.self.now c.step.self c.collect-note.new.self c.step.freed c.step.steps c.collect-note.result c.step.invariant.so_far went c.soundness.ensures.coherent c.if-note.true
+pub invariant_of-self : goal.invariant_of-self
+invariant_of-self c = record {
+  joins =
+      cycled_ties (contents c.self.inside) (subst IsCoherent (sym c.self.view_is) c.soundness.ensures.coherent) (subst IsSmall (sym c.self.view_is) c.soundness.ensures.small)
+      c.cycle-swept.new.self c.soundness-2.ensures.sound _ _ c.cycle-swept.ensures;
+  serial = c.self.invariant.serial;
+  retired = c.self.invariant.retired;
+}
 
-pub returns-then-note-clause-keeps : goal.returns-then-note-clause-keeps
-returns-then-note-clause-keeps c =
-    keeps_on c.args.self.now c.step.self c.collect-note.new.self (course_keeps c.args.self.now _ _ c.step.self c.step.invariant.so_far.course) c.collect-note.ensures.keeps
+pub returns-clause-cycle : goal.returns-clause-cycle
+returns-clause-cycle c =
+    subst (λ (w : Contents). IsCycle w c.cycle-swept.result (record (contents c.self.inside) { store = c.cycle-swept.new.self })) c.self.view_is
+    (cycled (contents c.self.inside) (subst IsCoherent (sym c.self.view_is) c.soundness.ensures.coherent) (subst IsSmall (sym c.self.view_is) c.soundness.ensures.small)
+    c.cycle-swept.new.self c.soundness-2.ensures.sound _ _ c.cycle-swept.ensures)
 
-pub step-preserved : goal.step-preserved
-step-preserved c =
-    let went : VaultStep c.step.self event.Collect (answer.Noted c.collect-note.result) c.collect-note.new.self =
-    record { step = c.collect-note.ensures.step; keeps = c.collect-note.ensures.keeps; stored = c.collect-note.ensures.stored; told = tt; fits = c.soundness-in-step.ensures.fits; coherent = c.soundness-in-step.ensures.coherent } in
-    record {
-      so_far =
-          goes_on c.args.self.now c.step.self c.collect-note.new.self c.step.freed c.step.steps c.collect-note.result c.step.invariant.so_far went c.soundness-in-step.ensures.small c.if-note.false;
-    }
+pub returns-clause-keeps : goal.returns-clause-keeps
+returns-clause-keeps c =
+    subst (λ (w : Contents). Keeps w (record (contents c.self.inside) { store = c.cycle-swept.new.self })) c.self.view_is
+    (cycled_keeps (contents c.self.inside) (subst IsCoherent (sym c.self.view_is) c.soundness.ensures.coherent) (subst IsSmall (sym c.self.view_is) c.soundness.ensures.small)
+    c.cycle-swept.new.self c.soundness-2.ensures.sound _ _ c.cycle-swept.ensures)
