@@ -232,6 +232,13 @@ def written(bugs: Iterable[Bug]) -> dict[str, str]:
     return texts
 
 
+def made(folder: str) -> None:
+    """Makes the crate with its bugs in the folder."""
+    for path, text in (FILES | written(BUGS)).items():
+        Path(folder, path).parent.mkdir(parents=True, exist_ok=True)
+        Path(folder, path).write_text(text, encoding="utf-8")
+
+
 def said(line: str) -> tuple[str, str]:
     """The bug's name and its result, from a line of the runner."""
     name, _, result = line.removeprefix("planted tiny/").partition(": ")
@@ -241,9 +248,7 @@ def said(line: str) -> tuple[str, str]:
 def edits_of_a_crate_are_told_apart(program: Path) -> None:
     """Seven bugs are refused; harmless ones, an absent text and a lost name count as failed."""
     with tempfile.TemporaryDirectory() as folder:
-        for path, text in (FILES | written(BUGS)).items():
-            Path(folder, path).parent.mkdir(parents=True, exist_ok=True)
-            Path(folder, path).write_text(text, encoding="utf-8")
+        made(folder)
         tried = ran(program, "--jobs", "1", cwd=folder, timeout=900)
     lines = tried.stdout.decode().splitlines()
     found = dict(said(line) for line in lines if line.startswith("planted tiny/"))
@@ -252,6 +257,16 @@ def edits_of_a_crate_are_told_apart(program: Path) -> None:
         print(*lines, tried.stderr.decode(), sep="\n    ")
     same(wrong, [], "not as wanted")
     same((lines[-1:], tried.returncode), (["7 passed, 5 failed"], 1))
+
+
+def bugs_without_time_are_counted(program: Path) -> None:
+    """Without a minute for checks no bug fails but the one that cannot be made."""
+    with tempfile.TemporaryDirectory() as folder:
+        made(folder)
+        tried = ran(program, "--jobs", "1", "--minutes", "0", cwd=folder, timeout=900)
+    left = f"planted: no time for {len(BUGS) - 1}: tiny {len(BUGS) - 1}"
+    lines = tried.stdout.decode().splitlines()
+    same((left in lines, lines[-1:], tried.returncode), (True, ["0 passed, 1 failed"], 1))
 
 
 def names_pick_tests(program: Path) -> None:
@@ -270,6 +285,7 @@ def tests() -> Tests:
     yield from reports_tests.tests()
     yield from reach_tests.tests()
     yield "edits-of-a-crate-are-told-apart", edits_of_a_crate_are_told_apart
+    yield "bugs-without-time-are-counted", bugs_without_time_are_counted
     yield "names-pick-tests", names_pick_tests
 
 

@@ -1,10 +1,11 @@
 """The planted bugs of several crates, tried at once."""
 
 import os
+from collections import Counter
 from concurrent.futures import Future, ThreadPoolExecutor, as_completed
 
 from planting import kit
-from planting.bugs import must_fail, planted
+from planting.bugs import Bug, must_fail, planted
 from planting.kit import Crate
 from planting.trial import Trial
 from planting.turns import Turns
@@ -35,7 +36,7 @@ class Planting:
     ) -> None:
         # (its first call sets a signal's handler, which only the main thread may)
         kit.guard()
-        # (the dearest crates are last in the list, and have the first turns)
+        # (the last in the list have the first turns: as the crates stand there, the dearest)
         self.ranks = {it.name: -at for at, it in enumerate(crates)}
         self.bugs = {it.name: [*(must_fail(it) if are_all else []), *planted(it)] for it in crates}
         self.turns, self.seeds, self.log = turns, seeds, log
@@ -59,20 +60,31 @@ class Planting:
         self.pool.shutdown()
 
     def end(self) -> bool:
-        """Reports each bug once its crate's have been tried; returns whether all were refused."""
+        """Reports each bug once its crate's have been tried; returns whether all were refused that
+        there was time for."""
         for ended in as_completed(self.running):
             ended.result()
-            for bug in self.running[ended].bugs:
+            for bug in self.tried(self.running[ended].bugs):
                 print(f"planted {bug.name}: {bug.verdict().said}", flush=True)
         trials = self.begun.values()
-        bugs = [bug for trial in trials for bug in trial.bugs]
+        every = [bug for trial in trials for bug in trial.bugs]
+        bugs = self.tried(every)
         dearest = sorted(bugs, key=lambda it: -it.seconds)[:10]
         times = ", ".join(f"{it.name} {it.seconds:.0f}" for it in dearest)
         print(f"planted: dearest, in seconds: {times}")
         print(f"planted: {sum(it.checks.count for it in trials)} checks")
+        if len(bugs) < len(every):
+            # (a bug's name begins with its crate's)
+            crates = Counter(it.name.split("/")[0] for it in every if it not in bugs)
+            left = ", ".join(f"{name} {count}" for name, count in crates.items())
+            print(f"planted: no time for {len(every) - len(bugs)}: {left}")
         failed = [it for it in bugs if not it.verdict().is_refused]
         for bug in failed:
             # Once more, since of a long output often only the end is kept.
             print(f"planted FAILED {bug.name}: {bug.verdict().said}")
         print(f"{len(bugs) - len(failed)} passed, {len(failed)} failed", flush=True)
         return not failed
+
+    def tried(self, bugs: list[Bug]) -> list[Bug]:
+        """The bugs but for those that were left when no turn came any more."""
+        return [it for it in bugs if it.result or not self.turns.is_closed]

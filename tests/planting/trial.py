@@ -3,8 +3,10 @@
 import re
 import sys
 import tempfile
-from collections.abc import Iterable
+from collections.abc import Callable, Iterable
 from concurrent.futures import ThreadPoolExecutor
+from contextlib import suppress
+from typing import TypeVar
 
 from planting.bugs import Bug, Result, can_be_edited
 from planting.checks import Checks, Ran
@@ -12,11 +14,13 @@ from planting.copies import Copies, Numbered
 from planting.kit import Crate, Function, Texts
 from planting.laws import Asked, Laws
 from planting.reports import BY_FORM, Report, first_fault, refusal
-from planting.turns import Turns
+from planting.turns import Closed, Turns
 
 # The bugs that one check tries at most, and how many that then need no copy are worth a check of
 # their own.
 MOST, APART = 40, 8
+
+Item = TypeVar("Item")
 
 
 class Trial:
@@ -165,7 +169,7 @@ class Trial:
         return room
 
     def run(self, pool: ThreadPoolExecutor) -> None:
-        """Tries all the bugs."""
+        """Tries all the bugs, unless no turn comes any more: then the others get no result."""
         with tempfile.TemporaryDirectory(prefix="planted-") as room:
             self.checks.keep_in(room)
             copied = [it for it in self.bugs if not it.result and it.fits(self.source)]
@@ -174,13 +178,25 @@ class Trial:
             if not self.checks.were and batches:
                 # (it makes what the others begin with; the laws are for bugs in definitions)
                 laws = self.laws.laws() if len(copied) < len(self.bugs) else []
-                self.batch(batches.pop(0), laws)
+                with suppress(Closed):
+                    self.batch(batches.pop(0), laws)
             groups = self.laws.groups(others)
             if not self.checks.has_kept() and groups:
-                self.by_laws(groups.pop(0))
-            list(pool.map(self.batch, batches))
-            list(pool.map(self.by_laws, groups))
-            list(pool.map(self.alone, [it for it in self.bugs if not it.result]))
+                with suppress(Closed):
+                    self.by_laws(groups.pop(0))
+            list(pool.map(while_open(self.batch), batches))
+            list(pool.map(while_open(self.by_laws), groups))
+            list(pool.map(while_open(self.alone), [it for it in self.bugs if not it.result]))
+
+
+def while_open(task: Callable[[Item], None]) -> Callable[[Item], None]:
+    """The task, which is given up when no turn comes any more; checks that run go on."""
+
+    def tried(item: Item) -> None:
+        with suppress(Closed):
+            task(item)
+
+    return tried
 
 
 def is_unread(bug: Bug, number: int, report: Report) -> bool:

@@ -81,3 +81,12 @@ class Turns:
         with self.changed:
             self.is_closed = True
             self.changed.notify_all()
+
+    def close_in(self, seconds: float) -> None:
+        """Gives no more turns once so many seconds are over."""
+        if seconds > 0:
+            timer = threading.Timer(seconds, self.close)
+            timer.daemon = True
+            timer.start()
+        else:
+            self.close()

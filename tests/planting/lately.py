@@ -1,0 +1,25 @@
+"""What was changed lately, and so comes before what has its turn by the date."""
+
+import subprocess
+from collections.abc import Collection
+from pathlib import Path
+
+from planting.kit import Crate
+
+# What counts as lately.
+LATELY = "3 days ago"
+
+
+def changed_lately(root: Path) -> set[str]:
+    """The files that commits of the last days have changed, as far as git tells."""
+    words = ["git", "log", f"--since={LATELY}", "--name-only", "--format="]
+    ran = subprocess.run(words, cwd=root, capture_output=True, text=True)
+    return set(ran.stdout.split())
+
+
+def in_turn(crates: list[Crate], changed: Collection[str], day: int) -> list[Crate]:
+    """The crates so that the last have the first turns on this day, by its number: those in which
+    one of these files is, and then the others, each of them first on some day."""
+    first = day % max(len(crates), 1)
+    touched = {file.split("/")[1] for file in changed if file.startswith("crates/")}
+    return sorted(crates[first:] + crates[:first], key=lambda it: it.name in touched)
