@@ -11,6 +11,7 @@ pub mod CountLemmas
 pub mod EntryLemmas
 pub mod CollectLemmas
 mod FaultLemmas
+mod NamedLemmas
 pub mod FitsLemmas
 pub mod CourseLemmas
 pub mod FreshLemmas

@@ -1,7 +1,7 @@
 //! The entries of the history.
 ghost use Rattle.std.specs.Prelude.{◌≡◌, ◌<◌};
 ghost use Rattle.tg_rights.specs.declared.limits.TheConstants.{SEATS};
-ghost use Rattle.tg_vault.specs.Inner.Recorded.{cause_of, outcome_of};
+ghost use Rattle.tg_vault.specs.Inner.Recorded.{AreNamed, IsNamed, IsOfCommand, cause_of, first_named, outcome_of, second_named, serial_at};
 
 use std::marker::Model;
 use tg_rights::{Cause, Command, Outcome, Rights, Rule, Which};
@@ -28,6 +28,14 @@ enum Why {
     Crowded,
 }
 
+// Where a serial stands that a cause names, which is the actor's or one of the command's: a byte of that word.
+#[derive(Clone, Copy, Debug)]
+enum Place {
+    Actor,
+    First,
+    Second,
+}
+
 /// A command that was decided. Contracts see its seat, its actor, the command and the outcome.
 #[derive(Debug, Drop)]
 pub struct Entry {
@@ -35,14 +43,14 @@ pub struct Entry {
     verdict: Verdict,
     // Why it was denied, if it was, and the serials that the cause names, of which `from` is the only one or the first.
     why: Why,
-    from: u64,
-    to: u64,
+    from: Place,
+    to: Place,
     actor: u64,
     command: Command,
 }
 
 // There is one for each command until the round ends.
-const _: () = prove!(size_of::<Entry>() == 80);
+const _: () = prove!(size_of::<Entry>() == 64);
 
 impl Model for Entry {
     ghost use Rattle.tg_vault.specs.Promise.Recorded.{Recorded};
@@ -53,31 +61,92 @@ impl Model for Entry {
     ghost view = { recorded };
 }
 
-/// An outcome as a verdict and a cause, which means nothing unless the command was denied.
-fn verdict_of(outcome: Outcome) -> (Verdict, Cause)
-    ensures { outcome_of result.0 result.1 ≡ outcome }
+/// The serials that a command names, of two that of the vertex over which rights are asked first; 0 if there is none.
+fn named_in(command: &Command) -> (u64, u64)
+    ensures first { result.0 ≡ first_named command.now }
+    ensures second { result.1 ≡ second_named command.now }
 {
-    match outcome {
-        Outcome::Allowed => (Verdict::Allowed, Cause::Empty),
-        Outcome::Denied(rule, cause) => (Verdict::Denied(rule), cause),
-        Outcome::Full(which) => (Verdict::Full(which), Cause::Empty),
+    match command {
+        Command::Take { over, from, .. } => (*over, *from),
+        Command::Grant { over, to, .. } => (*over, *to),
+        Command::Remove { over, .. } => (*over, 0),
+        Command::Read { over } => (*over, 0),
+        Command::Write { over, .. } => (*over, 0),
+        Command::Look { at } => (*at, 0),
+        Command::Assume { agent } => (*agent, 0),
+        _ => (0, 0),
     }
 }
 
-/// A cause apart from the serials that it names; 0 in place of those that it does not name.
-fn apart(cause: Cause) -> (Why, u64, u64)
-    ensures { cause_of result.0 result.1 result.2 ≡ cause }
+impl Place {
+    /// Where this serial stands, which is the actor's or one of the command's.
+    fn of(serial: u64, actor: u64, command: &Command) -> Place
+        requires { IsNamed actor command.now serial }
+        ensures { serial_at result actor command.now ≡ serial }
+    {
+        if serial == actor {
+            return Place::Actor;
+        }
+        if serial == named_in(command).0 {
+            return Place::First;
+        }
+        Place::Second
+    }
+
+    /// The serial that stands there.
+    fn serial(self, actor: u64, command: &Command) -> u64
+        ensures { result ≡ serial_at self actor command.now }
+    {
+        match self {
+            Place::Actor => actor,
+            Place::First => named_in(command).0,
+            Place::Second => named_in(command).1,
+        }
+    }
+}
+
+/// A cause apart from the serials that it names, each by where it stands; `Actor` for those that it does not name.
+fn apart(cause: Cause, actor: u64, command: &Command) -> (Why, Place, Place)
+    requires { AreNamed actor command.now cause }
+    ensures { cause_of result.0 (serial_at result.1 actor command.now) (serial_at result.2 actor command.now) ≡ cause }
 {
     match cause {
-        Cause::Retired => (Why::Retired, 0, 0),
-        Cause::Empty => (Why::Empty, 0, 0),
-        Cause::NotDistinct => (Why::NotDistinct, 0, 0),
-        Cause::Missing { rights, from, to } => (Why::Missing(rights), from, to),
-        Cause::NotDocument { vertex } => (Why::NotDocument, vertex, 0),
-        Cause::NotSubject { vertex } => (Why::NotSubject, vertex, 0),
-        Cause::NotPrincipal => (Why::NotPrincipal, 0, 0),
-        Cause::NameTaken => (Why::NameTaken, 0, 0),
-        Cause::Crowded => (Why::Crowded, 0, 0),
+        Cause::Retired => (Why::Retired, Place::Actor, Place::Actor),
+        Cause::Empty => (Why::Empty, Place::Actor, Place::Actor),
+        Cause::NotDistinct => (Why::NotDistinct, Place::Actor, Place::Actor),
+        Cause::Missing { rights, from, to } => (
+            Why::Missing(rights),
+            Place::of(from, actor, command),
+            Place::of(to, actor, command),
+        ),
+        Cause::NotDocument { vertex } => (
+            Why::NotDocument,
+            Place::of(vertex, actor, command),
+            Place::Actor,
+        ),
+        Cause::NotSubject { vertex } => (
+            Why::NotSubject,
+            Place::of(vertex, actor, command),
+            Place::Actor,
+        ),
+        Cause::NotPrincipal => (Why::NotPrincipal, Place::Actor, Place::Actor),
+        Cause::NameTaken => (Why::NameTaken, Place::Actor, Place::Actor),
+        Cause::Crowded => (Why::Crowded, Place::Actor, Place::Actor),
+    }
+}
+
+/// An outcome as a verdict and the parts of a cause, which mean nothing unless the command was denied.
+fn parts(outcome: Outcome, actor: u64, command: &Command) -> (Verdict, Why, Place, Place)
+    requires { IsOfCommand actor command.now outcome }
+    ensures { outcome_of result.0 (cause_of result.1 (serial_at result.2 actor command.now) (serial_at result.3 actor command.now)) ≡ outcome }
+{
+    match outcome {
+        Outcome::Allowed => (Verdict::Allowed, Why::Empty, Place::Actor, Place::Actor),
+        Outcome::Denied(rule, cause) => {
+            let (why, from, to) = apart(cause, actor, command);
+            (Verdict::Denied(rule), why, from, to)
+        }
+        Outcome::Full(which) => (Verdict::Full(which), Why::Empty, Place::Actor, Place::Actor),
     }
 }
 
@@ -103,11 +172,11 @@ impl Why {
 impl Entry {
     /// The command that came from this seat, 0 to 63, for this actor, and how it was decided.
     pub(crate) fn new(seat: u64, actor: u64, command: Command, outcome: Outcome) -> Entry
-        requires { seat < SEATS }
+        requires seat { seat < SEATS }
+        requires named { IsOfCommand actor command outcome }
         ensures { result ≡ record { seat = seat; actor = actor; command = command; outcome = outcome } }
     {
-        let (verdict, cause) = verdict_of(outcome);
-        let (why, from, to) = apart(cause);
+        let (verdict, why, from, to) = parts(outcome, actor, &command);
         Entry {
             seat: seat as u8,
             verdict,
@@ -146,7 +215,11 @@ impl Entry {
     {
         match self.verdict {
             Verdict::Allowed => Outcome::Allowed,
-            Verdict::Denied(rule) => Outcome::Denied(rule, self.why.of(self.from, self.to)),
+            Verdict::Denied(rule) => {
+                let from = self.from.serial(self.actor, &self.command);
+                let to = self.to.serial(self.actor, &self.command);
+                Outcome::Denied(rule, self.why.of(from, to))
+            }
             Verdict::Full(which) => Outcome::Full(which),
         }
     }

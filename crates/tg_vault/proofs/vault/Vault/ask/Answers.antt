@@ -5,10 +5,12 @@ use Rattle.tg_vault.specs.Inner.Acting.{serial_in}
 use Rattle.tg_vault.specs.Promise.World.{Enters, acting, actor_at, at_seat}
 use Rattle.tg_vault.specs.Promise.Contents.{Contents, Keeps, moment, IsExact}
 use Rattle.tg_vault.specs.Inner.CarriedOut.{answered}
+use Rattle.tg_vault.specs.Inner.Recorded.{IsOfCommand}
 use Rattle.tg_vault.specs.Inner.Contents.{contents}
 use Rattle.tg_vault.specs.Promise.StoreSteps.{SessionStep}
 use Rattle.tg_vault.specs.Promise.Agreement.{SameForAgreeing}
 use Rattle.tg_vault.proofs.DecidedLemmas.{next_unheld, none_gone, root_active}
+use Rattle.tg_vault.proofs.NamedLemmas.{decided_names}
 use Rattle.tg_vault.proofs.EntryLemmas.{Pushed, pushed_joined, pushed_enters, pushed_same, pushed_exact, pushed_acts, next_unparked}
 use Rattle.tg_vault.proofs.vault.Vault.ask.Goals as goal
 
@@ -29,6 +31,12 @@ answer-requires-clause-unparked c = subst (λ n. IsParkedIn c.self.inside.state.
 
 pub answer-requires-clause-listed : goal.answer-requires-clause-listed
 answer-requires-clause-listed c = c.self.invariant.joins.principals
+
+pub new-entry-requires-clause-named : goal.new-entry-requires-clause-named
+new-entry-requires-clause-named c =
+    subst (λ x. IsOfCommand x c.replace-asked.result c.in-Ok-answer.outcome) (sym c.serial.ensures)
+    (subst (λ asked. IsOfCommand (serial_in c.acting_at-actor.result) asked c.in-Ok-answer.outcome) (sym c.replace-asked.ensures.value)
+    (decided_names _ _ _ (serial_in c.acting_at-actor.result) c.args.command.now c.in-Ok-answer.outcome c.in-Ok-answer.ensures.carried.decided))
 
 acts : (c : goal.In-Ok-push) → actor_at (moment (contents c.self.inside)).world c.args.seat ≡ Some (serial_in c.acting_at-actor.result)
 acts c =
