@@ -44,6 +44,7 @@ OF_A_VAULT = (
     Contract("tg_vault/src/vault.rt", "with_key"),
     Contract("tg_vault/src/vault.rt", "run"),
     Contract("tg_vault/src/vault.rt", "run_one"),
+    Contract("tg_vault/src/vault.rt", "run_one_into"),
     Contract("tg_vault/src/vault.rt", "command", ("agrees",)),
     Contract("tg_vault/src/rebase.rt", "rebase"),
     Contract("tg_vault/src/rebase.rt", "rebase_with_past"),

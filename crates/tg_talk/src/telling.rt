@@ -13,7 +13,7 @@ use std::sync::ledger::Ledger;
 use tg_rights::{Command, Word};
 use tg_share::{Gate, Session, Shared};
 use tg_vault::{Answer, AskFault, Event, SeatFault};
-use tg_wire::{Line, LineRoom, read_line_in, write_reply_in};
+use tg_wire::{Line, LineRoom, read_line_in, read_line_into, write_reply_in};
 
 /// The name of a hello.
 fn hello_in(line: Line) -> Option<Word>
@@ -74,17 +74,20 @@ pub(crate) fn hear_session<'s, L: Ledger, R: Wait + Clock, G: Gate>(
     ensures heard { SaysTo (Some session.old) bytes.now (saying result) (Some session.new) }
     ensures seat { session.new.seat ≡ session.old.seat }
 {
-    match read_line_in(room, alloc, bytes) {
+    let mut line = Line::Cycle;
+    match read_line_into(room, alloc, bytes, &mut line) {
         Err(fault) => Said::Answer((), Text::Refusal(fault)),
-        Ok(Line::Cycle) => Said::Answer((), Text::NotForASession),
-        Ok(Line::Act(event)) => match event {
-            Event::Hello { seat: _, name: _ } => {
-                Said::Answer((), text_of_answer(room, &Answer::Seat(SeatFault::Bound)))
-            }
-            Event::Bye { seat: _ } => Said::Last((), text_of_answer(room, &Answer::Bye)),
-            Event::Ask { seat: _, command } => ask(rt, session, gate, command, room),
-            Event::Shade { seat: _ } => Said::Answer((), Text::NotForASession),
-            Event::Collect => Said::Answer((), Text::NotForASession),
+        Ok(()) => match line {
+            Line::Cycle => Said::Answer((), Text::NotForASession),
+            Line::Act(event) => match event {
+                Event::Hello { seat: _, name: _ } => {
+                    Said::Answer((), text_of_answer(room, &Answer::Seat(SeatFault::Bound)))
+                }
+                Event::Bye { seat: _ } => Said::Last((), text_of_answer(room, &Answer::Bye)),
+                Event::Ask { seat: _, command } => ask(rt, session, gate, command, room),
+                Event::Shade { seat: _ } => Said::Answer((), Text::NotForASession),
+                Event::Collect => Said::Answer((), Text::NotForASession),
+            },
         },
     }
 }

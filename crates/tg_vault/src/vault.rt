@@ -387,31 +387,53 @@ impl Vault {
         ensures step { VaultStep self.old event result self.new }
         ensures headline { Headline self.old (event ∷ []) (result ∷ []) self.new }
     {
+        let mut event = event;
+        let mut answer = Answer::Bye;
+        self.run_one_into(&mut event, &mut answer);
+        answer
+    }
+
+    /// As `run_one`, with the answer put in the place of another one, and the event left where it is, so that neither is
+    /// moved. The event is used up: a command that is entered is taken out of it.
+    #[inline(always)]
+    pub fn run_one_into(&mut self, event: &mut Event, answer: &mut Answer)
+        ensures step { VaultStep self.old event.old answer.new self.new }
+        ensures headline { Headline self.old (event.old ∷ []) (answer.new ∷ []) self.new }
+    {
         self.soundness();
         courses_have_the_headline();
-        let answer = self.act(event);
+        self.act(event, answer);
         self.soundness();
-        answer
     }
 
     /// Carries out one event, without copying its command.
     #[inline(always)]
-    fn act(&mut self, event: Event) -> Answer
-        ensures step { StepOf self.old event result self.new }
+    fn act(&mut self, event: &mut Event, answer: &mut Answer)
+        ensures step { StepOf self.old event.old answer.new self.new }
         ensures keeps { Keeps self.old self.new }
-        ensures stored { StoreStep self.old event result self.new }
-        ensures told { StoreAnswer self.old event result self.new }
+        ensures stored { StoreStep self.old event.old answer.new self.new }
+        ensures told { StoreAnswer self.old event.old answer.new self.new }
     {
-        let mut event = event;
-        match &mut event {
-            Event::Ask { seat, command } => {
-                let mut told = Reply::Done;
-                match self.ask(*seat, command, &mut told) {
-                    Ok(number) => Answer::Asked(number, told),
-                    Err(fault) => Answer::Ask(fault),
-                }
+        match event {
+            Event::Ask { seat, command } => self.act_for(*seat, command, answer),
+            other => *answer = self.step(other),
+        }
+    }
+
+    /// Carries out a command, and puts the answer in the place of another.
+    #[inline(always)]
+    fn act_for(&mut self, seat: u64, command: &mut Command, answer: &mut Answer)
+        ensures step { StepOf self.old (event.Ask seat command.old) answer.new self.new }
+        ensures keeps { Keeps self.old self.new }
+        ensures stored { StoreStep self.old (event.Ask seat command.old) answer.new self.new }
+        ensures told { StoreAnswer self.old (event.Ask seat command.old) answer.new self.new }
+    {
+        *answer = Answer::Asked(0, Reply::Done);
+        if let Answer::Asked(number, told) = answer {
+            match self.ask(seat, command, told) {
+                Ok(entered) => *number = entered,
+                Err(fault) => *answer = Answer::Ask(fault),
             }
-            other => self.step(other),
         }
     }
 

@@ -33,7 +33,7 @@ pub use laws::{
 };
 pub use line::{LONGEST_LINE, Line};
 pub use line_room::LineRoom;
-pub use read::{read_line, read_line_in, read_step};
+pub use read::{read_line, read_line_in, read_line_into, read_step};
 pub use refusal::{error_line, open_fault_line};
 pub use unshared::{Unshared, write_could_in, write_unshared_in};
 pub use write::{

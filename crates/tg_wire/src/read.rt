@@ -6,8 +6,11 @@ ghost use Rattle.tg_wire.specs.Inner.Flat.{data_of};
 ghost use Rattle.tg_wire.specs.Promise.Ops.{command_form, op_form};
 ghost use Rattle.tg_wire.specs.Promise.Lines.{line_extras, line_in, line_of, step_in, step_of, op_in, rule_in};
 ghost use Rattle.tg_wire.specs.Inner.Lines.{line_of_json};
-ghost use Rattle.tg_wire.specs.Promise.Reading.{Answers, fields_of, guard, knows_all as knows_all_of, or_else};
+ghost use Rattle.tg_wire.specs.Promise.Reading.{Answers, fields_of, filled, guard, knows_all as knows_all_of, or_else};
 ghost use Rattle.tg_wire.specs.Inner.Reading.{AnswersField};
+ghost use Rattle.tg_wire.specs.declared.line.Line.TheVariants.{Act};
+ghost use Rattle.tg_vault.specs.declared.event.Event.TheVariants.{Ask};
+ghost use Rattle.tg_rights.specs.declared.command.Command.TheVariants.{Leave};
 ghost use Rattle.tg_wire.specs.declared.fault.WireFault.TheVariants.{NoOp, OutOfMemory, UnknownField};
 
 use crate::escaped::read_escaped;
@@ -20,6 +23,7 @@ use crate::line_room::{LineRoom, TokensRoom};
 use crate::object::{LineObject, check_length, check_required, is_known, knows_all, tree};
 use crate::op::{Op, command_form, step_rule_named};
 use std::alloc::Global;
+use std::mem;
 use tg_graph::Step;
 use tg_rights::{Command, Rule};
 use tg_vault::Event;
@@ -40,36 +44,73 @@ pub fn read_line_in(room: &mut LineRoom, alloc: Global, bytes: &[u8]) -> Result<
     ensures answered { Answers result (line_of bytes.now) }
     ensures short { result ≡ Err OutOfMemory → length bytes.now ≤ LONGEST_LINE }
 {
+    let mut line = Line::Cycle;
+    match read_line_into(room, alloc, bytes, &mut line) {
+        Ok(()) => Ok(line),
+        Err(fault) => Err(fault),
+    }
+}
+
+/// As `read_line_in`, with the value put in the place of another one, so that it is not moved. If there is a fault, what
+/// is there then means nothing.
+#[inline(always)]
+#[tactic(auto, unfolding(crate::specs::Promise::Lines::line_of))]
+pub fn read_line_into(
+    room: &mut LineRoom,
+    alloc: Global,
+    bytes: &[u8],
+    line: &mut Line,
+) -> Result<(), WireFault>
+    ensures answered { Answers (filled result line.new) (line_of bytes.now) }
+    ensures short { result ≡ Err OutOfMemory → length bytes.now ≤ LONGEST_LINE }
+{
+    let command = Command::Leave;
+    *line = Line::Act(Event::Ask { seat: 0, command });
     check_length(bytes)?;
     let (text, tokens) = room.texts().parts();
     let mut members = Members::new();
     if read_flat(bytes, text, &mut members).is_some() {
-        return line_of_object(alloc, &LineObject::Flat(Flat::new(members.as_slice())));
+        return put_object(
+            alloc,
+            &LineObject::Flat(Flat::new(members.as_slice())),
+            line,
+        );
     }
-    line_of_other(tokens, alloc, bytes)
+    put_other(tokens, alloc, bytes, line)
 }
 
 /// The same for a line that is not too long, where other escapes are, or something is not flat.
 #[inline(never)]
-fn line_of_other(room: &mut TokensRoom, alloc: Global, bytes: &[u8]) -> Result<Line, WireFault>
-    ensures { Answers result (line_of_json bytes.now) }
+fn put_other(
+    room: &mut TokensRoom,
+    alloc: Global,
+    bytes: &[u8],
+    line: &mut Line,
+) -> Result<(), WireFault>
+    requires { line.old ≡ Act (Ask 0 Leave) }
+    ensures { Answers (filled result line.new) (line_of_json bytes.now) }
 {
     let scratch = room.lend()?;
     let mut members = Members::new();
     if read_escaped(bytes, scratch, &mut members)?.is_some() {
-        return line_of_object(alloc, &LineObject::Flat(Flat::new(members.as_slice())));
+        return put_object(
+            alloc,
+            &LineObject::Flat(Flat::new(members.as_slice())),
+            line,
+        );
     }
-    line_of_object(alloc, &tree(alloc, bytes)?)
+    put_object(alloc, &tree(alloc, bytes)?, line)
 }
 
-// Where it is inlined, it is known which kind of object it reads, and the value is made in its place.
+// Where it is inlined, it is known which kind of object it reads.
 #[inline(always)]
-fn line_of_object(alloc: Global, object: &LineObject<'_>) -> Result<Line, WireFault>
-    ensures { Answers result (line_in (data_of object.now)) }
+fn put_object(alloc: Global, object: &LineObject<'_>, line: &mut Line) -> Result<(), WireFault>
+    requires { line.old ≡ Act (Ask 0 Leave) }
+    ensures { Answers (filled result line.new) (line_in (data_of object.now)) }
 {
     let op = op(object)?;
-    match line(alloc, op, object) {
-        Ok(line) => only_known(line, op, object),
+    match put_op(alloc, op, object, line) {
+        Ok(()) => only_known(line, op, object),
         Err(fault) => {
             // A missing field comes before a bad one, and no good line lacks one.
             check_required(op.keys(), object)?;
@@ -78,14 +119,22 @@ fn line_of_object(alloc: Global, object: &LineObject<'_>) -> Result<Line, WireFa
     }
 }
 
-/// A good line, if its object has no other fields.
+/// Puts a value in the place of another, of which nothing has to be dropped.
 #[inline(always)]
-fn only_known(line: Line, op: Op, object: &LineObject<'_>) -> Result<Line, WireFault>
-    requires { (op_form op).value (data_of object.now) ≡ Some line }
-    ensures { result ≡ fields_of (op_form op).fields line_extras (op_form op).value (data_of object.now) }
+fn put<T: Drop>(place: &mut T, value: T)
+    ensures { place.new ≡ value }
+{
+    mem::forget(mem::replace(place, value));
+}
+
+/// Whether the object of this good line has no other fields.
+#[inline(always)]
+fn only_known(line: &Line, op: Op, object: &LineObject<'_>) -> Result<(), WireFault>
+    requires { (op_form op).value (data_of object.now) ≡ Some line.now }
+    ensures { filled result line.now ≡ fields_of (op_form op).fields line_extras (op_form op).value (data_of object.now) }
 {
     knows_line(op, object)?;
-    Ok(line)
+    Ok(())
 }
 
 /// `UnknownField` if the object has a field that a line of this op does not have.
@@ -133,7 +182,8 @@ fn step_of_object(alloc: Global, object: &LineObject<'_>) -> Result<Step, WireFa
     check_required(&[Key::Actor], object)?;
     check_required(command_form(rule).keys, object)?;
     let actor = field::number(object, Key::Actor).ok_or(WireFault::BadField)?;
-    let command = command(alloc, rule, object)?;
+    let mut command = Command::Leave;
+    put_command(alloc, rule, object, &mut command)?;
     knows_all(&[Key::Op, Key::Actor], command_form(rule).keys, object)?;
     Ok(Step { actor, command })
 }
@@ -155,88 +205,97 @@ fn rule(object: &LineObject<'_>) -> Result<Rule, WireFault>
     step_rule_named(word).ok_or(WireFault::NoOp)
 }
 
-/// The line of an op: `BadField` if a field that it needs is missing or bad, `OutOfMemory` if an allocation failed.
-/// Other fields are not looked at.
+/// The line of an op, in the place of a command's: `BadField` if a field that it needs is missing or bad, `OutOfMemory`
+/// if an allocation failed. Other fields are not looked at.
 #[inline(always)]
-fn line(alloc: Global, op: Op, object: &LineObject<'_>) -> Result<Line, WireFault>
-    ensures { AnswersField result ((op_form op).value (data_of object.now)) }
+fn put_op(alloc: Global, op: Op, object: &LineObject<'_>, line: &mut Line) -> Result<(), WireFault>
+    requires { line.old ≡ Act (Ask 0 Leave) }
+    ensures { AnswersField (filled result line.new) ((op_form op).value (data_of object.now)) }
 {
     let seat = field::seat(object).ok_or(WireFault::BadField)?;
     match op {
         Op::Hello => {
             let name = field::word(alloc, object, Key::Name)?;
-            Ok(Line::Act(Event::Hello { seat, name }))
+            put(line, Line::Act(Event::Hello { seat, name }));
         }
-        Op::Bye => Ok(Line::Act(Event::Bye { seat })),
-        Op::Shade => Ok(Line::Act(Event::Shade { seat })),
-        Op::Collect => Ok(Line::Act(Event::Collect)),
-        Op::Cycle => Ok(Line::Cycle),
+        Op::Bye => put(line, Line::Act(Event::Bye { seat })),
+        Op::Shade => put(line, Line::Act(Event::Shade { seat })),
+        Op::Collect => put(line, Line::Act(Event::Collect)),
+        Op::Cycle => put(line, Line::Cycle),
         Op::Ask(rule) => {
-            let command = command(alloc, rule, object)?;
-            Ok(Line::Act(Event::Ask { seat, command }))
+            if let Line::Act(event) = line {
+                if let Event::Ask {
+                    seat: place,
+                    command,
+                } = event
+                {
+                    *place = seat;
+                    put_command(alloc, rule, object, command)?;
+                }
+            }
         }
     }
+    Ok(())
 }
 
-/// The command of a rule, with the same faults.
+/// The command of a rule, with the same faults, in the place of `Leave`.
 #[inline(always)]
-fn command(alloc: Global, rule: Rule, object: &LineObject<'_>) -> Result<Command, WireFault>
-    ensures { AnswersField result ((command_form rule).value (data_of object.now)) }
+fn put_command(
+    alloc: Global,
+    rule: Rule,
+    object: &LineObject<'_>,
+    command: &mut Command,
+) -> Result<(), WireFault>
+    requires { command.old ≡ Leave }
+    ensures { AnswersField (filled result command.new) ((command_form rule).value (data_of object.now)) }
 {
     match rule {
         Rule::Take => {
             let rights = field::rights(object).ok_or(WireFault::BadField)?;
             let over = field::number(object, Key::Over).ok_or(WireFault::BadField)?;
             let from = field::number(object, Key::From).ok_or(WireFault::BadField)?;
-            Ok(Command::Take { rights, over, from })
+            put(command, Command::Take { rights, over, from });
         }
         Rule::Grant => {
             let rights = field::rights(object).ok_or(WireFault::BadField)?;
             let over = field::number(object, Key::Over).ok_or(WireFault::BadField)?;
             let to = field::number(object, Key::To).ok_or(WireFault::BadField)?;
-            Ok(Command::Grant { rights, over, to })
+            put(command, Command::Grant { rights, over, to });
         }
         Rule::Create => {
             let kind = field::kind(object).ok_or(WireFault::BadField)?;
             let rights = field::rights(object).ok_or(WireFault::BadField)?;
-            Ok(Command::Create { kind, rights })
+            put(command, Command::Create { kind, rights });
         }
         Rule::Remove => {
             let rights = field::rights(object).ok_or(WireFault::BadField)?;
             let over = field::number(object, Key::Over).ok_or(WireFault::BadField)?;
-            Ok(Command::Remove { rights, over })
+            put(command, Command::Remove { rights, over });
         }
         Rule::Read => {
             let over = field::number(object, Key::Over).ok_or(WireFault::BadField)?;
-            Ok(Command::Read { over })
+            put(command, Command::Read { over });
         }
         Rule::Write => {
             let over = field::number(object, Key::Over).ok_or(WireFault::BadField)?;
             let text = field::text(alloc, object)?;
-            Ok(Command::Write { over, text })
+            put(command, Command::Write { over, text });
         }
         Rule::Look => {
             let at = field::number(object, Key::At).ok_or(WireFault::BadField)?;
-            Ok(Command::Look { at })
+            put(command, Command::Look { at });
         }
-        Rule::Enrol => enrol(alloc, object),
-        Rule::Retire => Ok(Command::Retire),
-        Rule::Assume => assume(object),
-        Rule::Leave => Ok(Command::Leave),
+        Rule::Enrol => {
+            let rights = field::rights(object).ok_or(WireFault::BadField)?;
+            let name = field::name(alloc, object)?;
+            put(command, Command::Enrol { name, rights });
+        }
+        Rule::Retire => put(command, Command::Retire),
+        Rule::Assume => {
+            let agent = field::number(object, Key::Agent).ok_or(WireFault::BadField)?;
+            put(command, Command::Assume { agent });
+        }
+        Rule::Leave => {}
     }
-}
-
-fn enrol(alloc: Global, object: &LineObject<'_>) -> Result<Command, WireFault>
-    ensures { AnswersField result ((command_form Rule.Enrol).value (data_of object.now)) }
-{
-    let rights = field::rights(object).ok_or(WireFault::BadField)?;
-    let name = field::name(alloc, object)?;
-    Ok(Command::Enrol { name, rights })
-}
-
-fn assume(object: &LineObject<'_>) -> Result<Command, WireFault>
-    ensures { AnswersField result ((command_form Rule.Assume).value (data_of object.now)) }
-{
-    let agent = field::number(object, Key::Agent).ok_or(WireFault::BadField)?;
-    Ok(Command::Assume { agent })
+    Ok(())
 }

@@ -1,13 +1,14 @@
 //! One line: read, carried out, answered.
 
-ghost use Rattle.std.specs.Prelude.{false};
+ghost use Rattle.std.specs.Prelude.{◌≡◌, ℕ, List, Ok, false};
 ghost use Rattle.tg_talk.specs.Promise.Answering.{is_wrong, one_if, shown_line};
+ghost use Rattle.tg_wire.specs.Promise.Lines.{line_of};
 ghost use Rattle.tgdoc.specs.Inner.Running.{AnswersLine, RunnerSays, TellsSwept};
 
 use std::alloc::Global;
 use tg_talk::{Responder, Said, Text, text_of_answer};
-use tg_vault::{Swept, Vault};
-use tg_wire::{Line, LineRoom, WireFault, read_line_in, write_swept_in};
+use tg_vault::{Answer, Swept, Vault};
+use tg_wire::{Line, LineRoom, WireFault, read_line_into, write_swept_in};
 
 /// Who answers the lines of a run: a vault, on which their events are carried out.
 #[derive(Drop)]
@@ -36,13 +37,28 @@ impl Responder for Runner {
 pub(crate) fn answer(alloc: Global, vault: &mut Vault, bytes: &[u8], room: &mut LineRoom) -> Text
     ensures { AnswersLine vault.old bytes.now vault.new (shown_line result) (one_if (is_wrong result)) }
 {
-    match read_line_in(room, alloc, bytes) {
-        Ok(Line::Act(event)) => text_of_answer(room, &vault.run_one(event)),
-        Ok(Line::Cycle) => {
+    let mut line = Line::Cycle;
+    match read_line_into(room, alloc, bytes, &mut line) {
+        Ok(()) => carry_out(vault, &mut line, room),
+        Err(fault) => Text::Refusal(fault),
+    }
+}
+
+/// Carries out what a line asks for, which stays in its place, and returns the answer's line.
+#[inline(always)]
+fn carry_out(vault: &mut Vault, line: &mut Line, room: &mut LineRoom) -> Text
+    ensures { (bytes : List ℕ) → line_of bytes ≡ Ok line.old → AnswersLine vault.old bytes vault.new (shown_line result) (one_if (is_wrong result)) }
+{
+    match line {
+        Line::Act(event) => {
+            let mut answer = Answer::Bye;
+            vault.run_one_into(event, &mut answer);
+            text_of_answer(room, &answer)
+        }
+        Line::Cycle => {
             let swept = vault.cycle();
             tell_swept(room, swept)
         }
-        Err(fault) => Text::Refusal(fault),
     }
 }
 

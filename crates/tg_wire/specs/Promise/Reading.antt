@@ -80,3 +80,8 @@ abbrev pub AnswersBy : {V A : Type 0} → (V → A) → Result V WireFault → R
 AnswersBy view (Ok v) r = r ≡ Ok (view v)
 AnswersBy view (Err OutOfMemory) r = Unit {0}
 AnswersBy view (Err e) r = r ≡ Err e
+
+-- the value that was put into its place, or why none was
+abbrev pub filled : {U A : Type 0} → Result U WireFault → A → Result A WireFault
+filled (Ok u) value = Ok value
+filled (Err fault) value = Err fault

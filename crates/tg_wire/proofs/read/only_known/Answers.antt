@@ -11,4 +11,4 @@ returns c =
     let d = data_of c.args.object.now in
     let form = op_form c.args.op in
     let known = sym c.knows_line.ensures ∙ c.in_ok-knows_line.was in
-    read_well form.fields line_extras form.value d c.args.line _ (line_given c.args.op d c.args.line c.requires) c.requires known
+    read_well form.fields line_extras form.value d c.args.line.now _ (line_given c.args.op d c.args.line.now c.requires) c.requires known
