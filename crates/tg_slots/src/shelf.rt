@@ -5,7 +5,7 @@ ghost use Rattle.std.specs.Option.{option_map};
 ghost use Rattle.tg_lists.specs.Promise.Columns.{HasRight};
 ghost use Rattle.tg_slots.specs.Promise.Table.{in_slot, with_slot_text, coloured};
 ghost use Rattle.tg_slots.specs.Inner.Linked.{Shelved, at, occupant_at, written};
-ghost use Rattle.tg_slots.specs.Inner.Shelf.{IsMatched, colour_of, is_filled, form_kind, leading, link_of, form_serial, shelved, telling, form_text, tint_of};
+ghost use Rattle.tg_slots.specs.Inner.Shelf.{IsMatched, colour_of, is_filled, form_kind, form_serial, shelved, telling, form_text, tint_of};
 
 use crate::{Colour, Occupant};
 use std::alloc::{AllocError, Global};
@@ -22,27 +22,27 @@ enum Tint {
     Black,
 }
 
-// What else a slot holds. The tag and the small fields fit into one word.
+// The tint, and the next slot of the slot's list.
+#[derive(Clone, Copy, Drop)]
+struct Lead {
+    tint: Tint,
+    link: u32,
+}
+
+// What else a slot holds. The tag and the kind fit into one word.
 #[derive(Drop)]
 enum Form {
-    Free {
-        link: u32,
-    },
-    Taken {
-        kind: Kind,
-        link: u32,
-        serial: u64,
-        text: Text,
-    },
+    Free,
+    Taken { kind: Kind, serial: u64, text: Text },
 }
 
 /// Slots from index 0 on, with room for more: each has a vertex or is free, and leads to the next one of its list.
 ///
-/// The collector looks at colours far more often than at anything else, so these lie in a column of their own, a byte
-/// for each slot.
+/// A step of the collector looks at colours and links, and at nothing else here, so these lie in a column of their own,
+/// eight bytes for each slot.
 #[derive(Drop)]
 pub(crate) struct Shelf {
-    slots: Columns<Tint, Form>,
+    slots: Columns<Lead, Form>,
 }
 
 impl Model for Shelf {
@@ -77,29 +77,11 @@ impl Tint {
 }
 
 impl Form {
-    fn link(&self) -> u32
-        ensures { result ≡ link_of self.now }
-    {
-        match self {
-            Form::Free { link } => *link,
-            Form::Taken { link, .. } => *link,
-        }
-    }
-
-    fn lead_to(&mut self, next: u32)
-        ensures { self.new ≡ leading self.old next }
-    {
-        match self {
-            Form::Free { link } => *link = next,
-            Form::Taken { link, .. } => *link = next,
-        }
-    }
-
     fn serial(&self) -> Option<u64>
         ensures { result ≡ form_serial self.now }
     {
         match self {
-            Form::Free { .. } => None,
+            Form::Free => None,
             Form::Taken { serial, .. } => Some(*serial),
         }
     }
@@ -108,7 +90,7 @@ impl Form {
         ensures { result ≡ form_kind self.now }
     {
         match self {
-            Form::Free { .. } => None,
+            Form::Free => None,
             Form::Taken { kind, .. } => Some(*kind),
         }
     }
@@ -117,7 +99,7 @@ impl Form {
         ensures { option_map (λ t. t.now) result ≡ form_text self.now }
     {
         match self {
-            Form::Free { .. } => None,
+            Form::Free => None,
             Form::Taken { text, .. } => Some(text),
         }
     }
@@ -128,13 +110,13 @@ impl Form {
         ensures old { form_text self.old ≡ Some result }
     {
         match self {
-            Form::Free { .. } => unreachable!(),
+            Form::Free => unreachable!(),
             Form::Taken { text, .. } => std::mem::replace(text, new),
         }
     }
 }
 
-fn form_at(slots: &Columns<Tint, Form>, id: u32) -> Option<&Form>
+fn form_at(slots: &Columns<Lead, Form>, id: u32) -> Option<&Form>
     ensures { MatchOption result (length slots.now.items ≤ id) (λ f. HasRight slots.now.items id f.now) }
 {
     if (id as usize) < slots.len() {
@@ -167,7 +149,7 @@ impl Shelf {
         ensures { result ≡ in_slot (λ o. o.colour) (occupant_at self.now.items id) }
     {
         if (id as usize) < self.slots.len() {
-            self.slots.left(id as usize).colour()
+            self.slots.left(id as usize).tint.colour()
         } else {
             None
         }
@@ -207,9 +189,10 @@ impl Shelf {
     pub fn link(&self, id: u32) -> Option<u32>
         ensures { MatchOption result (length self.now.items ≤ id) (λ next. (id < length self.now.items) × (next ≡ (at self.now.items id).link)) }
     {
-        match form_at(&self.slots, id) {
-            Some(form) => Some(form.link()),
-            None => None,
+        if (id as usize) < self.slots.len() {
+            Some(self.slots.left(id as usize).link)
+        } else {
+            None
         }
     }
 
@@ -218,7 +201,8 @@ impl Shelf {
         requires { id < length self.old.items }
         ensures { self.new ≡ record self.old { items = set self.old.items id (record { occupant = None; link = link }) } }
     {
-        self.slots.set(id as usize, Tint::Free, Form::Free { link });
+        let tint = Tint::Free;
+        self.slots.set(id as usize, Lead { tint, link }, Form::Free);
     }
 
     /// Puts a vertex into a slot, or into the next one, for which there is room. The slot is then in no list, so it does
@@ -230,16 +214,16 @@ impl Shelf {
         ensures room { self.old.room ≤ self.new.room }
     {
         let tint = Tint::of(occupant.colour);
+        let lead = Lead { tint, link: 0 };
         let form = Form::Taken {
             kind: occupant.kind,
-            link: 0,
             serial: occupant.serial,
             text: occupant.text,
         };
         if (id as usize) < self.slots.len() {
-            self.slots.set(id as usize, tint, form);
+            self.slots.set(id as usize, lead, form);
         } else {
-            self.slots.push(tint, form);
+            self.slots.push(lead, form);
         }
     }
 
@@ -248,7 +232,9 @@ impl Shelf {
         requires { occupant_at self.old.items id ≢ None }
         ensures { self.new ≡ record self.old { items = set self.old.items id (record { occupant = coloured colour (occupant_at self.old.items id); link = (at self.old.items id).link }) } }
     {
-        self.slots.set_left(id as usize, Tint::of(colour));
+        let tint = Tint::of(colour);
+        let link = self.slots.left(id as usize).link;
+        self.slots.set_left(id as usize, Lead { tint, link });
     }
 
     /// Gives the vertex in a slot a colour, and lets the slot lead to another one.
@@ -256,8 +242,8 @@ impl Shelf {
         requires { occupant_at self.old.items id ≢ None }
         ensures { self.new ≡ record self.old { items = set self.old.items id (record { occupant = coloured colour (occupant_at self.old.items id); link = next }) } }
     {
-        self.slots.set_left(id as usize, Tint::of(colour));
-        self.slots.right_mut(id as usize).lead_to(next);
+        let tint = Tint::of(colour);
+        self.slots.set_left(id as usize, Lead { tint, link: next });
     }
 
     /// Replaces the text of the vertex in a slot, and returns the old one.

@@ -5,6 +5,7 @@ use Rattle.tg_slots.specs.declared.colour.Colour.{Colour}
 use Rattle.tg_slots.specs.declared.colour.Colour.TheVariants as colour
 use Rattle.tg_slots.specs.declared.shelf.Tint.{Tint}
 use Rattle.tg_slots.specs.declared.shelf.Tint.TheVariants as tint
+use Rattle.tg_slots.specs.declared.shelf.Lead.{Lead}
 use Rattle.tg_slots.specs.declared.shelf.Form.{Form}
 use Rattle.tg_slots.specs.declared.shelf.Form.TheVariants as form
 use Rattle.tg_slots.specs.declared.shelf.Shelf.TheInside.{Inside}
@@ -28,30 +29,22 @@ shade_of tint.White = colour.White
 shade_of tint.Grey = colour.Grey
 shade_of tint.Black = colour.Black
 
-abbrev pub link_of : Form → ℕ
-link_of (form.Free link) = link
-link_of (form.Taken kind link serial text) = link
-
--- the fields of what else a slot holds, and what it is once one of them has changed
+-- the fields of what else a slot holds, and what it is once the text has changed
 abbrev pub form_serial : Form → Option ℕ
-form_serial (form.Free link) = None
-form_serial (form.Taken kind link serial text) = Some serial
+form_serial form.Free = None
+form_serial (form.Taken kind serial text) = Some serial
 
 abbrev pub form_kind : Form → Option Kind
-form_kind (form.Free link) = None
-form_kind (form.Taken kind link serial text) = Some kind
+form_kind form.Free = None
+form_kind (form.Taken kind serial text) = Some kind
 
 abbrev pub form_text : Form → Option (List ℕ)
-form_text (form.Free link) = None
-form_text (form.Taken kind link serial text) = Some text
-
-abbrev pub leading : Form → ℕ → Form
-leading (form.Free link) next = form.Free next
-leading (form.Taken kind link serial text) next = form.Taken kind next serial text
+form_text form.Free = None
+form_text (form.Taken kind serial text) = Some text
 
 abbrev pub telling : Form → List ℕ → Form
-telling (form.Free link) new = form.Free link
-telling (form.Taken kind link serial text) new = form.Taken kind link serial new
+telling form.Free new = form.Free
+telling (form.Taken kind serial text) new = form.Taken kind serial new
 
 -- whether a slot has a vertex, by its tint and by what else it holds
 abbrev pub is_coloured : Tint → Bool
@@ -61,19 +54,19 @@ is_coloured tint.Grey = true
 is_coloured tint.Black = true
 
 abbrev pub is_filled : Form → Bool
-is_filled (form.Free link) = false
-is_filled (form.Taken kind link serial text) = true
+is_filled form.Free = false
+is_filled (form.Taken kind serial text) = true
 
-abbrev pub linked : Tint → Form → Linked
-linked t (form.Free link) = record { occupant = None; link = link }
-linked t (form.Taken kind link serial text) = record { occupant = Some (record { serial = serial; kind = kind; colour = shade_of t; text = text }); link = link }
+abbrev pub linked : Lead → Form → Linked
+linked l form.Free = record { occupant = None; link = l.link }
+linked l (form.Taken kind serial text) = record { occupant = Some (record { serial = serial; kind = kind; colour = shade_of l.tint; text = text }); link = l.link }
 
-abbrev pub all_linked : List (Tint × Form) → List Linked
+abbrev pub all_linked : List (Lead × Form) → List Linked
 all_linked ps = map (λ p. linked p.0 p.1) ps
 
 abbrev pub shelved : Inside → Shelved
 shelved s = record { items = all_linked s.slots.items; room = s.slots.room }
 
 -- a slot has a vertex by its tint if it has one by what else it holds
-abbrev pub IsMatched : Tint × Form → Type 0
-IsMatched p = is_coloured p.0 ≡ is_filled p.1
+abbrev pub IsMatched : Lead × Form → Type 0
+IsMatched p = is_coloured p.0.tint ≡ is_filled p.1

@@ -1,11 +1,8 @@
-use Rattle.std.proofs.Common.{◌∙◌}
-use Rattle.tg_slots.proofs.ShelfLemmas.{past, read_form}
+use Rattle.tg_slots.proofs.ShelfLemmas.{link_read, past}
 use Rattle.tg_slots.proofs.shelf.Shelf.link.Goals as goal
 
-pub returns-in-Some : goal.returns-in-Some
-returns-in-Some c =
-    let holds = read_form c.self.inside.slots.items c.args.id c.in-Some.form.now c.in-Some.ensures in
-    rw (← c.self.view_is) (holds.within, c.link.ensures ∙ holds.link)
+pub returns-then-id-len : goal.returns-then-id-len
+returns-then-id-len c = rw (← c.self.view_is) (link_read c.self.inside.slots.items c.args.id c.left.result.now c.left.ensures)
 
-pub returns-in-None : goal.returns-in-None
-returns-in-None c = rw (← c.self.view_is) (past c.self.inside.slots.items c.args.id c.in-None.ensures).0
+pub returns-else-id-len : goal.returns-else-id-len
+returns-else-id-len c = rw (← c.self.view_is) (past c.self.inside.slots.items c.args.id (rw c.len.ensures at c.if-id-len.false)).0
