@@ -78,27 +78,6 @@ module _ {L R : Type 0} where
   with_right_set (p ∷ ps) zero b w h = let here = h.here in let same : p ≡ (h.other, b) = cc in ap (λ (q : L × R). (q.0, w) ∷ ps) same
   with_right_set (p ∷ ps) (suc i) b w h = ap (λ (l : List (L × R)). p ∷ l) (with_right_set ps i b w (record { other = h.other; here = h.here }))
 
-  pub with_both_set : (ps : List (L × R)) (i : ℕ) (w : L) (v : R) → with_right (with_left ps i w) i v ≡ set ps i (w, v)
-  with_both_set [] i w v = refl
-  with_both_set (p ∷ ps) zero w v = refl
-  with_both_set (p ∷ ps) (suc i) w v = ap (λ (l : List (L × R)). p ∷ l) (with_both_set ps i w v)
-
-  -- After the left half was written there are as many pairs, and beside it is the right half that was there.
-  pub with_left_length : (ps : List (L × R)) (i : ℕ) (w : L) → length (with_left ps i w) ≡ length ps
-  with_left_length [] i w = refl
-  with_left_length (p ∷ ps) zero w = refl
-  with_left_length (p ∷ ps) (suc i) w = ap suc (with_left_length ps i w)
-
-  pub beside : (ps : List (L × R)) (i : ℕ) (a w : L) (b : R) → HasLeft ps i a → HasRight (with_left ps i w) i b → slice_get ps i ≡ Some (a, b)
-  beside [] i a w b h k = let here = h.here in absurd (cc)
-  beside (p ∷ ps) zero a w b h k =
-      let here = h.here in
-      let there = k.here in
-      let was : p ≡ (a, h.other) = cc in
-      let is : (w, p.1) ≡ (k.other, b) = cc in
-      ap Some (was ∙ ap (λ (r : R). (a, r)) (sym (ap (λ (q : L × R). q.1) was) ∙ ap (λ (q : L × R). q.1) is))
-  beside (p ∷ ps) (suc i) a w b h k = beside ps i a w b (record { other = h.other; here = h.here }) (record { other = k.other; here = k.here })
-
   -- The pairs seen as other values: what is read of one, and what is there once a pair, or half of it, has changed.
   module _ {X : Type 0} (f : L × R → X) where
     pub seen : (ps : List (L × R)) (i : ℕ) (p : L × R) (d : X) → slice_get ps i ≡ Some p → get_or (map f ps) i d ≡ f p
@@ -112,6 +91,3 @@ module _ {L R : Type 0} where
 
     pub right_changed : (g : X → X) (ps : List (L × R)) (i : ℕ) (b w : R) (d : X) (h : HasRight ps i b) → f (h.other, w) ≡ g (f (h.other, b)) → map f (with_right ps i w) ≡ set (map f ps) i (g (get_or (map f ps) i d))
     right_changed g ps i b w d h changes = ap (map f) (with_right_set ps i b w h) ∙ changed g ps i (h.other, b) (h.other, w) d h.here changes
-
-    pub both_changed : (g : X → X) (ps : List (L × R)) (i : ℕ) (a w : L) (b v : R) (d : X) → HasLeft ps i a → HasRight (with_left ps i w) i b → f (w, v) ≡ g (f (a, b)) → map f (with_right (with_left ps i w) i v) ≡ set (map f ps) i (g (get_or (map f ps) i d))
-    both_changed g ps i a w b v d h k changes = ap (map f) (with_both_set ps i w v) ∙ changed g ps i (a, b) (w, v) d (beside ps i a w b h k) changes
