@@ -13,7 +13,10 @@ LATELY = "3 days ago"
 def changed_lately(root: Path) -> set[str]:
     """The files that commits of the last days have changed, as far as git tells."""
     words = ["git", "log", f"--since={LATELY}", "--name-only", "--format="]
-    ran = subprocess.run(words, cwd=root, capture_output=True, text=True)
+    try:
+        ran = subprocess.run(words, cwd=root, capture_output=True, text=True)
+    except OSError:
+        return set()
     return set(ran.stdout.split())
 
 
