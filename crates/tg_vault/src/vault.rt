@@ -27,7 +27,7 @@ use std::collections::BTreeSet;
 use std::marker::Model;
 use std::mem;
 use tg_collect::{Key, Note, Store, Swept};
-use tg_graph::{Config, Graph, OpenFault, Roll, serial_of};
+use tg_graph::{Config, Graph, OpenFault, serial_of};
 use tg_rights::{Command, Reply, SEATS};
 
 /// The whole state of the server: the opening graph, the active principals by their names, who has retired, the seats,
