@@ -61,7 +61,7 @@ impl Model for Entry {
     ghost view = { recorded };
 }
 
-/// The serials that a command names, of two that of the vertex over which rights are asked first; 0 if there is none.
+/// The serials that a command names, `over` before `from` or `to`; 0 in place of those that it does not name.
 fn named_in(command: &Command) -> (u64, u64)
     ensures first { result.0 ≡ first_named command.now }
     ensures second { result.1 ≡ second_named command.now }

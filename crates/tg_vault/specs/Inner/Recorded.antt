@@ -33,7 +33,7 @@ outcome_of Allowed c = outcome.Allowed
 outcome_of (Denied rule) c = outcome.Denied rule c
 outcome_of (Full which) c = outcome.Full which
 
--- the serials that a command names, of two that of the vertex over which rights are asked first; 0 if there is none
+-- the serials that a command names, `over` before `from` or `to`; 0 in place of those that it does not name
 abbrev pub first_named : Command → ℕ
 first_named (command.Take α over from) = over
 first_named (command.Grant α over to) = over
