@@ -8,7 +8,7 @@ use tg_vault::Room;
 
 /// What an exchange counts besides its texts and lists: its entry in the history and its place in the log, each with
 /// the room that is left behind it for more.
-const EXCHANGE: u64 = 352;
+const EXCHANGE: u64 = 320;
 
 /// What a text that is written counts besides its bytes: the block by which its copies share it.
 const TEXT: u64 = 48;

@@ -19,4 +19,4 @@ reply_bytes _ = 0
 
 -- an exchange, with its entry
 abbrev pub exchange_bytes : Command → Reply → ℕ
-exchange_bytes c r = 352 + command_bytes c + reply_bytes r
+exchange_bytes c r = 320 + command_bytes c + reply_bytes r

@@ -23,10 +23,10 @@ fn exchanges_are_counted(rt: HostRuntime) -> Result<(), AllocError> {
     let alloc = rt.alloc();
     let write = Command::write(3, text(alloc, "hello")?);
     let told = Reply::Text(text(alloc, "hello")?);
-    assert_eq!(rt; exchange_bytes(&Command::leave(), &Reply::Done), 352);
-    assert_eq!(rt; exchange_bytes(&write, &Reply::Done), 405);
-    assert_eq!(rt; exchange_bytes(&Command::read(3), &told), 352);
-    assert_eq!(rt; exchange_bytes(&Command::look(1), &two_edges(alloc)?), 416);
+    assert_eq!(rt; exchange_bytes(&Command::leave(), &Reply::Done), 320);
+    assert_eq!(rt; exchange_bytes(&write, &Reply::Done), 373);
+    assert_eq!(rt; exchange_bytes(&Command::read(3), &told), 320);
+    assert_eq!(rt; exchange_bytes(&Command::look(1), &two_edges(alloc)?), 384);
     Ok(())
 }
 
@@ -35,7 +35,7 @@ fn an_enrol_counts_its_name_twice(rt: HostRuntime) -> Result<(), AllocError> {
     let content = String::from_str(rt.alloc(), "carol")?;
     let name = Name::new(content).ok().expect(&rt, "no name");
     let enrol = Command::enrol(name, Rights::take());
-    assert_eq!(rt; exchange_bytes(&enrol, &Reply::Created(3)), 362);
+    assert_eq!(rt; exchange_bytes(&enrol, &Reply::Created(3)), 330);
     Ok(())
 }
 
@@ -59,12 +59,12 @@ fn workers_share_what_is_left(rt: HostRuntime) {
 
 /// Edges, and what an exchange may count: a text of 4,096 bytes with its 48, or 32 bytes for each edge, up to 65,535.
 const MOST: &[(u64, u64)] = &[
-    (0, 4_496),
-    (129, 4_496),
-    (130, 4_512),
-    (1_000, 32_352),
-    (65_535, 2_097_472),
-    (1_048_576, 2_097_472),
+    (0, 4_464),
+    (129, 4_464),
+    (130, 4_480),
+    (1_000, 32_320),
+    (65_535, 2_097_440),
+    (1_048_576, 2_097_440),
 ];
 
 #[test]
@@ -82,21 +82,21 @@ const EMPTY: Room = Room {
     free_cells: 100_000,
 };
 
-/// Without a look there may be 65,535 edges, so a line may take 2,097,472 bytes; with no edge, one worker and the 2,000
-/// lines that it may have taken, 352 + 32 * 2,000 = 64,352.
+/// Without a look there may be 65,535 edges, so a line may take 2,097,440 bytes; with no edge, one worker and the 2,000
+/// lines that it may have taken, 320 + 32 * 2,000 = 64,320.
 #[test]
 fn lines_are_set_aside(rt: HostRuntime) {
-    let budget = Budget::new(Some(643_520), 1);
+    let budget = Budget::new(Some(643_200), 1);
     let unseen = budget.set_aside(20);
-    assert_eq!(rt; (unseen.lines, unseen.bytes), (1, 2_097_472));
+    assert_eq!(rt; (unseen.lines, unseen.bytes), (1, 2_097_440));
     budget.give_back(unseen.bytes);
     budget.look(EMPTY);
     let first = budget.set_aside(4);
-    assert_eq!(rt; (first.lines, first.bytes), (4, 257_408));
+    assert_eq!(rt; (first.lines, first.bytes), (4, 257_280));
     let second = budget.set_aside(20);
-    assert_eq!(rt; (second.lines, second.bytes), (6, 386_112));
+    assert_eq!(rt; (second.lines, second.bytes), (6, 385_920));
     let third = budget.set_aside(20);
-    assert_eq!(rt; (third.lines, third.bytes), (1, 64_352));
+    assert_eq!(rt; (third.lines, third.bytes), (1, 64_320));
 }
 
 const NONE: SetAside = SetAside { lines: 0, bytes: 0 };
@@ -104,7 +104,7 @@ const NONE: SetAside = SetAside { lines: 0, bytes: 0 };
 /// The third exchange reaches the bound; then no line is taken any more.
 #[test]
 fn nothing_is_taken_once_the_bound_is_reached(rt: HostRuntime) {
-    let budget = Budget::new(Some(1_056), 1);
+    let budget = Budget::new(Some(960), 1);
     let leave = Command::leave();
     assert!(rt; !budget.keep(&leave, &Reply::Done));
     assert!(rt; !budget.keep(&leave, &Reply::Done));

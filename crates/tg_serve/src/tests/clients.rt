@@ -239,7 +239,7 @@ fn lines_are_handed_out_one_by_one(rt: HostRuntime) -> Result<(), AllocError> {
 /// Once no memory is left a client's lines are at an end.
 #[test]
 fn lines_end_once_no_memory_is_left(rt: HostRuntime) -> Result<(), AllocError> {
-    let budget = Budget::new(Some(352), 1);
+    let budget = Budget::new(Some(320), 1);
     assert!(rt; budget.keep(&Command::leave(), &Reply::Done));
     let (found, failed) = reads(rt.alloc(), LINES, None, &budget)?;
     assert!(rt; found.is_empty());
