@@ -85,10 +85,14 @@ impl Machine {
         ensures { IfOk result (λ found. AreFound (arrows (stored self.now) with_parked) Before found.items) }
     {
         let mut found = Vec::new(alloc);
+        let mut few = Vec::new(alloc);
         for slot in 0..self.heap.len() {
             let from = self.source_at(slot, with_parked);
-            self.add_arrows(&mut found, from, slot)?;
+            self.add_arrows(&mut few, from, slot)?;
+            few.sort_unstable_by_key(|arrow| arrow.2);
+            found.append(&mut few)?;
         }
+        // As long as no slot was used again they are in order, and one look at each is enough.
         found.sort_unstable_by_key(|arrow| (arrow.0, arrow.2));
         Ok(found)
     }
