@@ -74,10 +74,9 @@ LISTED = {
     # A talk, a run and an audit have buffers, and a line in place of each answer that has no room.
     ("tg_talk/src/write_line.rt", "buffered", "BufWriter::with_capacity", "AllocError"): 1,
     ("tg_talk/src/answering.rt", "text_of_answer", "write_answer_in", "WireFault::OutOfMemory"): 1,
-    ("tg_talk/src/answering.rt", "answer", "Said::Nothing(then)", "TalkFault::OutOfMemory"): 1,
+    ("tg_talk/src/answering.rt", "answer", "Said::Nothing", "TalkFault::OutOfMemory"): 1,
     ("tg_talk/src/telling.rt", "ask", "write_reply_in", "Said::Nothing"): 1,
     ("tg_talk/src/talking.rt", "talk", "InputLines::new", "TalkFault::OutOfMemory"): 1,
-    ("tg_talk/src/talking.rt", "respond", "Said::Nothing(_)", "Said::Nothing"): 1,
     ("tgdoc/src/answer.rt", "tell_swept", "write_swept_in", "WireFault::OutOfMemory"): 1,
     ("tgdoc/src/run.rt", "take_lines", "InputLines::new", "TalkFault::OutOfMemory"): 1,
     ("tgdoc/src/pictures.rt", "drawn", "draw_line", "WireFault::OutOfMemory"): 1,
@@ -128,7 +127,7 @@ SIZES = {
     ("tg_vault/src/seats.rt", "empty_seats", "Vec::with_capacity", "SEATS as usize"): 1,
     ("tg_vault/src/vault.rt", "ask", "self.history.try_reserve", "1"): 1,
     ("tg_vault/src/vault.rt", "go", "Vec::with_capacity", "events.len()"): 1,
-    ("tg_wire/src/line_room.rt", "lend", "self.bytes.try_reserve", "ROOM"): 1,
+    ("tg_wire/src/line_room.rt", "begin", "self.line.try_reserve", "ROOM"): 1,
     ("tg_wire/src/object_line.rt", "put_quoted", "line.reserve", "text.len() + 4"): 1,
 }
 

@@ -36,9 +36,9 @@ ends_there true told h = inr h
 ends_there false told h = inl h
 
 -- and the next line is taken
-pub line_continues : {S C : Type 0} → (Says : How S) (c : C) (s t : S) (line text : List ℕ) (n e d k : ℕ) (unread was now : Option (List ℕ)) (failed : Bool)
-    → EndsOnce None failed None → d ≡ e + k → Says s line (goes_on text k) t → Sends was now failed text → AnswersTaken Says (GoOn c) line (point s n e unread was) (point t n d unread now) failed
-line_continues Says c s t line text n e d k unread was now failed ends counted says sent m come xs within short count takes = record {
+pub line_continues : {S : Type 0} → (Says : How S) (s t : S) (line text : List ℕ) (n e d k : ℕ) (unread was now : Option (List ℕ)) (failed : Bool)
+    → EndsOnce None failed None → d ≡ e + k → Says s line (goes_on text k) t → Sends was now failed text → AnswersTaken Says GoOn line (point s n e unread was) (point t n d unread now) failed
+line_continues Says s t line text n e d k unread was now failed ends counted says sent m come xs within short count takes = record {
   text = text;
   left = takes.rest;
   is = takes.unread;
@@ -47,10 +47,10 @@ line_continues Says c s t line text n e d k unread was now failed ends counted s
 }
 
 -- and no further line is taken
-pub line_closes : {S C : Type 0} → (Says : How S) (c : C) (f : Option TalkFault) (s t : S) (line text : List ℕ) (n e d : ℕ) (unread was now : Option (List ℕ)) (failed : Bool)
+pub line_closes : {S : Type 0} → (Says : How S) (f : Option TalkFault) (s t : S) (line text : List ℕ) (n e d : ℕ) (unread was now : Option (List ℕ)) (failed : Bool)
     → ((m : ℕ) (ls : List (List ℕ)) → m < 1000000 → length line ≤ 16384 → n ≡ m + 1 → LinesAnswered Says s m e (line ∷ ls) t f n d [] text)
-    → Sends was now failed text → AnswersTaken Says (Over c f) line (point s n e unread was) (point t n d unread now) failed
-line_closes Says c f s t line text n e d unread was now failed told sent m come xs within short count takes =
+    → Sends was now failed text → AnswersTaken Says (Over f) line (point s n e unread was) (point t n d unread now) failed
+line_closes Says f s t line text n e d unread was now failed told sent m come xs within short count takes =
     record { text = text; told = rw takes.taken (told m (lines_of takes.rest) within short count); sent = sent }
 
 -- ---- no answer by who answers

@@ -15,7 +15,7 @@ mod watched;
 mod wording;
 mod write_line;
 
-pub use answering::{Finished, Over, Responder, Said, Text, answer_lines, text_of_answer};
+pub use answering::{Finished, Responder, Said, Text, answer_lines, text_of_answer};
 pub use fault::TalkFault;
 pub use input_lines::{InputLines, Next};
 pub use laws::{ends_have_meanings, talks_have_meanings};

@@ -1,19 +1,21 @@
 //! A talk: a client's lines, answered over one session.
 
-ghost use Rattle.std.specs.Prelude.{◌≡◌, ◌↔◌, ◌≤◌, [], true, false, IfSome, IsNone, Some};
+ghost use Rattle.std.specs.Prelude.{◌≡◌, ◌≢◌, ◌↔◌, ◌≤◌, [], true, false, IfSome, IsNone, None, Some};
 ghost use Rattle.std.specs.Io.KnownBytes.{Keeps};
 ghost use Rattle.tg_talk.specs.Promise.Devices.{device_of, has_failed, owed, promised};
 ghost use Rattle.tg_talk.specs.Promise.Talks.{HasTalked};
-ghost use Rattle.tg_talk.specs.Inner.Talking.{HostSays, Leaves};
+ghost use Rattle.tg_talk.specs.Promise.Answering.{Saying, saying};
+ghost use Rattle.tg_talk.specs.Inner.Talking.{HostSays, Leaves, SaysTo};
 ghost use Rattle.tg_talk.specs.declared.fault.TalkFault.TheVariants.{OutOfMemory, Reading, Writing};
 
-use crate::answering::{Over, Responder, Said, answer_lines};
+use crate::answering::{Responder, Said, answer_lines};
 use crate::fault::TalkFault;
 use crate::input_lines::InputLines;
 use crate::telling::{hear_session, hear_stranger};
 use crate::watched::Watched;
 use std::alloc::Global;
 use std::io::{BufWriter, Read, Write};
+use std::mem;
 use std::rt::Clock;
 use std::sync::Wait;
 use std::sync::ledger::Ledger;
@@ -76,50 +78,71 @@ pub fn talk<L: Ledger, D: Read, W: Write + Drop, R: Wait + Clock, G: Gate>(
         shared,
         seat,
         gate,
+        sitting: None,
     };
-    let Over { carried, finished } = answer_lines(alloc, input, &mut host, None, reader, writer);
+    let finished = answer_lines(alloc, input, &mut host, reader, writer);
     Talked {
         lines: finished.lines,
         fault: finished.fault,
-        ended: leave(rt, carried),
+        ended: leave(rt, host.into_sitting()),
     }
 }
 
-/// Who answers the lines of a client.
-#[derive(Drop)]
+/// Who answers the lines of a client, and who sits there, once a hello has succeeded.
 struct Host<'a, 's, L: Ledger, R: Wait + Clock, G: Gate> {
     rt: &'a R,
     alloc: Global,
     shared: &'s Shared<L>,
     seat: u64,
     gate: &'a G,
+    sitting: Option<Session<'s, L>>,
+}
+
+impl<'a, 's, L: Ledger, R: Wait + Clock, G: Gate> Host<'a, 's, L, R, G> {
+    /// Answers a line while nobody sits there.
+    #[inline(never)]
+    fn hear(&mut self, line: &[u8], room: &mut LineRoom) -> Said
+        requires { self.old.sitting ≡ None }
+        ensures seat { self.new.seat ≡ self.old.seat }
+        ensures told { SaysTo None line.now (saying room.new result) self.new.sitting }
+        ensures sits { IfSome self.new.sitting (λ s. s.seat ≡ self.old.seat) }
+        ensures answered { saying room.new result ≢ Saying.unanswered }
+    {
+        let (text, come) = hear_stranger(self.rt, self.alloc, self.shared, self.seat, line, room);
+        // Nobody sat there before; a session cannot be dropped, so the other case has to end it.
+        if let Some(before) = mem::replace(&mut self.sitting, come) {
+            drop(before.end(self.rt));
+        }
+        Said::Answer(text)
+    }
+
+    /// Who sits there.
+    fn into_sitting(self) -> Option<Session<'s, L>>
+        ensures { result ≡ self.entry.sitting }
+    {
+        let Host {
+            rt: _,
+            alloc: _,
+            shared: _,
+            seat: _,
+            gate: _,
+            sitting,
+        } = self;
+        sitting
+    }
 }
 
 impl<'a, 's, L: Ledger, R: Wait + Clock, G: Gate> Responder for Host<'a, 's, L, R, G> {
-    type Carried = Option<Session<'s, L>>;
+    ghost stays = { λ start now. (now.seat ≡ start.seat) × IfSome now.sitting (λ s. s.seat ≡ start.seat) };
 
-    ghost stays = { λ start now sitting. (now.seat ≡ start.seat) × IfSome sitting (λ s. s.seat ≡ start.seat) };
-
-    ghost says = { HostSays };
+    ghost says = { HostSays (λ host. host.sitting) };
 
     ghost may_give_up = { true };
 
-    fn respond(
-        &mut self,
-        carried: Option<Session<'s, L>>,
-        line: &[u8],
-        room: &mut LineRoom,
-    ) -> Said<Option<Session<'s, L>>> {
-        match carried {
-            None => hear_stranger(self.rt, self.alloc, self.shared, self.seat, line, room),
-            Some(session) => {
-                let mut session = session;
-                match hear_session(self.rt, self.alloc, &mut session, self.gate, line, room) {
-                    Said::Answer(_, text) => Said::Answer(Some(session), text),
-                    Said::Last(_, text) => Said::Last(Some(session), text),
-                    Said::Nothing(_) => Said::Nothing(Some(session)),
-                }
-            }
+    fn respond(&mut self, line: &[u8], room: &mut LineRoom) -> Said {
+        match &mut self.sitting {
+            None => self.hear(line, room),
+            Some(session) => hear_session(self.rt, self.alloc, session, self.gate, line, room),
         }
     }
 }

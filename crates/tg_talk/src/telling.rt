@@ -2,8 +2,9 @@
 
 ghost use Rattle.std.specs.Prelude.{◌≡◌, Some, None, IfSome, IfNone, false};
 ghost use Rattle.tg_talk.specs.Promise.Talks.{is_hello};
-ghost use Rattle.tg_talk.specs.Promise.Answering.{carried_in, saying};
+ghost use Rattle.tg_talk.specs.Promise.Answering.{saying};
 ghost use Rattle.tg_talk.specs.Inner.Talking.{Asks, IsHello, SaysTo};
+ghost use Rattle.tg_talk.specs.declared.answering.Said.TheVariants as said;
 
 use crate::answering::{Said, Text, text_of_answer};
 use std::alloc::Global;
@@ -43,19 +44,19 @@ pub(crate) fn hear_stranger<'s, L: Ledger, R: Wait>(
     seat: u64,
     bytes: &[u8],
     room: &mut LineRoom,
-) -> Said<Option<Session<'s, L>>>
-    ensures told { SaysTo None bytes.now (saying result) (carried_in result) }
-    ensures seat { IfSome (carried_in result) (λ s. s.seat ≡ seat) }
+) -> (Text, Option<Session<'s, L>>)
+    ensures told { SaysTo None bytes.now (saying room.new (said.Answer result.0)) result.1 }
+    ensures seat { IfSome result.1 (λ s. s.seat ≡ seat) }
 {
     match read_line_in(room, alloc, bytes) {
-        Err(fault) => Said::Answer(None, Text::Refusal(fault)),
+        Err(fault) => (Text::Refusal(fault), None),
         Ok(line) => match hello_in(line) {
-            None => Said::Answer(None, text_of_answer(room, &Answer::Ask(AskFault::NoActor))),
+            None => (text_of_answer(room, &Answer::Ask(AskFault::NoActor)), None),
             Some(name) => match shared.session(rt, alloc, seat, name.get()) {
-                Err(fault) => Said::Answer(None, text_of_answer(room, &Answer::Seat(fault))),
+                Err(fault) => (text_of_answer(room, &Answer::Seat(fault)), None),
                 Ok(session) => {
                     let text = text_of_answer(room, &Answer::Hello(session.actor()));
-                    Said::Answer(Some(session), text)
+                    (text, Some(session))
                 }
             },
         },
@@ -70,23 +71,23 @@ pub(crate) fn hear_session<'s, L: Ledger, R: Wait + Clock, G: Gate>(
     gate: &G,
     bytes: &[u8],
     room: &mut LineRoom,
-) -> Said<()>
-    ensures heard { SaysTo (Some session.old) bytes.now (saying result) (Some session.new) }
+) -> Said
+    ensures heard { SaysTo (Some session.old) bytes.now (saying room.new result) (Some session.new) }
     ensures seat { session.new.seat ≡ session.old.seat }
 {
     let mut line = Line::Cycle;
     match read_line_into(room, alloc, bytes, &mut line) {
-        Err(fault) => Said::Answer((), Text::Refusal(fault)),
+        Err(fault) => Said::Answer(Text::Refusal(fault)),
         Ok(()) => match line {
-            Line::Cycle => Said::Answer((), Text::NotForASession),
+            Line::Cycle => Said::Answer(Text::NotForASession),
             Line::Act(event) => match event {
                 Event::Hello { seat: _, name: _ } => {
-                    Said::Answer((), text_of_answer(room, &Answer::Seat(SeatFault::Bound)))
+                    Said::Answer(text_of_answer(room, &Answer::Seat(SeatFault::Bound)))
                 }
-                Event::Bye { seat: _ } => Said::Last((), text_of_answer(room, &Answer::Bye)),
+                Event::Bye { seat: _ } => Said::Last(text_of_answer(room, &Answer::Bye)),
                 Event::Ask { seat: _, command } => ask(rt, session, gate, command, room),
-                Event::Shade { seat: _ } => Said::Answer((), Text::NotForASession),
-                Event::Collect => Said::Answer((), Text::NotForASession),
+                Event::Shade { seat: _ } => Said::Answer(Text::NotForASession),
+                Event::Collect => Said::Answer(Text::NotForASession),
             },
         },
     }
@@ -99,14 +100,14 @@ fn ask<'s, L: Ledger, R: Wait + Clock, G: Gate>(
     gate: &G,
     command: Command,
     room: &mut LineRoom,
-) -> Said<()>
-    ensures { Asks session.old command (saying result) session.new }
+) -> Said
+    ensures { Asks session.old command (saying room.new result) session.new }
 {
     match session.submit(rt, command, gate) {
         Ok(reply) => match write_reply_in(room, reply) {
-            Ok(line) => Said::Answer((), Text::Line(line)),
-            Err(_) => Said::Nothing(()),
+            Ok(()) => Said::Answer(Text::Line),
+            Err(_) => Said::Nothing,
         },
-        Err(fault) => Said::Answer((), text_of_answer(room, &Answer::Ask(fault))),
+        Err(fault) => Said::Answer(text_of_answer(room, &Answer::Ask(fault))),
     }
 }

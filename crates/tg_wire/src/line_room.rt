@@ -1,10 +1,8 @@
 //! Room for lines: for those of answers, and for the texts of one that is read.
 
-ghost use Rattle.std.specs.Prelude.{◌≡◌, [], IfOk};
-
 use json::Scratch;
 use std::alloc::{AllocError, Global};
-use std::mem;
+use std::marker::Model;
 
 /// Room for most lines.
 const ROOM: usize = 128;
@@ -53,48 +51,81 @@ impl TokensRoom {
     }
 }
 
-/// Room in which lines are written, one after another: a line allocates only if it is longer than all lines before it
-/// in the same buffer. A new buffer begins at the start, after a line for which memory ran out, and when a line without
-/// room is taken back. It is empty between two lines. Beside it is room for a text that is read and has escapes, and for
-/// all texts of a line with others than of two bytes: it is taken at the first such line, and grows to the length of the
+/// Room in which lines are written, one after another, seen as the last of them: a line allocates only if it is longer
+/// than all lines before it in the same room. Beside it is room for a text that is read and has escapes, and for all
+/// texts of a line with others than of two bytes: it is taken at the first such line, and grows to the length of the
 /// longest.
 #[derive(Drop)]
 pub struct LineRoom {
-    alloc: Global,
-    bytes: Vec<u8>,
+    pub(crate) line: Vec<u8>,
     texts: TextsRoom,
-    ghost empty: { bytes.items ≡ [] },
+}
+
+impl Model for LineRoom {
+    ghost use Rattle.std.specs.Prelude.{List, ℕ};
+
+    ghost Value = { List ℕ };
+
+    ghost view = { λ room. room.line.items };
 }
 
 impl LineRoom {
-    /// No room yet. Allocates nothing.
-    pub fn new(alloc: Global) -> LineRoom {
+    ghost use Rattle.std.specs.Prelude.{◌≡◌, [], OnOk};
+
+    /// No line, and no room yet. Allocates nothing.
+    pub fn new(alloc: Global) -> LineRoom
+        ensures { result ≡ [] }
+    {
         LineRoom {
-            alloc,
-            bytes: Vec::new(alloc),
+            line: Vec::new(alloc),
             texts: TextsRoom::new(alloc),
         }
+    }
+
+    /// Lends the line that was written last; nothing is known of it if memory for it ran out.
+    #[inline(always)]
+    pub fn line(&self) -> &[u8]
+        ensures { result.now ≡ self.now }
+    {
+        self.line.as_slice()
+    }
+
+    /// The line that was written last, which is all that is kept.
+    pub fn into_line(self) -> Vec<u8>
+        ensures { result.items ≡ self }
+    {
+        let LineRoom { line, texts } = self;
+        drop(texts);
+        line
+    }
+
+    /// A line of the caller's in place of the last, with its room.
+    pub fn put(&mut self, line: Vec<u8>)
+        ensures { self.new ≡ line.items }
+    {
+        self.line = line;
+    }
+
+    /// Drops the line, and keeps its room. Allocates nothing.
+    #[inline(always)]
+    pub fn clear(&mut self)
+        ensures { self.new ≡ [] }
+    {
+        self.line.clear();
+    }
+
+    /// No line, with room for most.
+    #[inline(always)]
+    pub(crate) fn begin(&mut self) -> Result<(), AllocError>
+        ensures { OnOk result (self.new ≡ []) }
+    {
+        self.clear();
+        self.line.try_reserve(ROOM)
     }
 
     /// Room for the texts of a line that is read.
     #[inline(always)]
     pub(crate) fn texts(&mut self) -> &mut TextsRoom {
         &mut self.texts
-    }
-
-    /// Lends the room for one line; there is none left until it comes back.
-    #[inline(always)]
-    pub(crate) fn lend(&mut self) -> Result<Vec<u8>, AllocError>
-        ensures { IfOk result (λ bytes. bytes.items ≡ []) }
-    {
-        self.bytes.try_reserve(ROOM)?;
-        Ok(mem::replace(&mut self.bytes, Vec::new(self.alloc)))
-    }
-
-    /// Takes the room of a line that is no longer wanted, in place of the room here. Allocates nothing.
-    pub fn take_back(&mut self, line: Vec<u8>) {
-        let mut bytes = line;
-        bytes.clear();
-        self.bytes = bytes;
     }
 }

@@ -1,6 +1,6 @@
 //! The line of an object, written field by field into one buffer.
 
-ghost use Rattle.std.specs.Prelude.{◌≡◌, ◌+◌, ◌%◌, ◌∷◌, ◌++◌, [], false, decimal, IfOk, OnOk};
+ghost use Rattle.std.specs.Prelude.{◌≡◌, ◌+◌, ◌%◌, ◌∷◌, ◌++◌, [], false, decimal, OnOk};
 ghost use Rattle.json.specs.Print.{quoted};
 ghost use Rattle.serde_json.specs.Data.{array, object, string};
 ghost use Rattle.serde_json.specs.Written.{compact_text, members_text};
@@ -30,12 +30,11 @@ pub(crate) enum Told<'a> {
 pub(crate) fn object_line(
     room: &mut LineRoom,
     fields: &[(&str, Told<'_>)],
-) -> Result<Vec<u8>, AllocError>
-    ensures { IfOk result (λ line. line.items ≡ line_text (object (told_members fields.now))) }
+) -> Result<(), AllocError>
+    ensures { OnOk result (room.new ≡ line_text (object (told_members fields.now))) }
 {
-    let mut line = room.lend()?;
-    put_object(&mut line, fields)?;
-    Ok(line)
+    room.begin()?;
+    put_object(&mut room.line, fields)
 }
 
 // Each of the rest of a line is put after what the room has, which is nothing: so no line is moved from call to call.

@@ -64,8 +64,7 @@ pub fn read_line_into(
     ensures answered { Answers (filled result line.new) (line_of bytes.now) }
     ensures short { result ≡ Err OutOfMemory → length bytes.now ≤ LONGEST_LINE }
 {
-    let command = Command::Leave;
-    *line = Line::Act(Event::Ask { seat: 0, command });
+    begin(line);
     check_length(bytes)?;
     let (text, tokens) = room.texts().parts();
     let mut members = Members::new();
@@ -77,6 +76,24 @@ pub fn read_line_into(
         );
     }
     put_other(tokens, alloc, bytes, line)
+}
+
+/// Puts a leave at seat 0 in the place of a line. One that was carried out is a leave already, of which only the seat is
+/// written.
+#[inline(always)]
+fn begin(line: &mut Line)
+    ensures { line.new ≡ Act (Ask 0 Leave) }
+{
+    if let Line::Act(event) = line {
+        if let Event::Ask { seat, command } = event {
+            if let Command::Leave = command {
+                *seat = 0;
+                return;
+            }
+        }
+    }
+    let command = Command::Leave;
+    *line = Line::Act(Event::Ask { seat: 0, command });
 }
 
 /// The same for a line that is not too long, where other escapes are, or something is not flat.

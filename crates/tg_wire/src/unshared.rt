@@ -1,6 +1,6 @@
 //! The answers to whether rights can ever be shared that bring no steps, and to which vertices they can be.
 
-ghost use Rattle.std.specs.Prelude.{◌≡◌, IfOk};
+ghost use Rattle.std.specs.Prelude.{◌≡◌, OnOk};
 ghost use Rattle.serde_json.specs.Data.{object, member, no_members, string};
 ghost use Rattle.tg_wire.specs.Promise.Faults.{line_text};
 ghost use Rattle.tg_wire.specs.Promise.Unshared.{could_line, unshared_line};
@@ -27,12 +27,11 @@ pub enum Unshared {
     TooMuch,
 }
 
-/// The line of the answer, which ends with a line feed. Keys are in rising order, with no white space. In a buffer that is
-/// kept from line to line. `AllocError` if an allocation failed; the buffer is then lost, and the next line allocates
-/// another.
+/// The line of the answer, which ends with a line feed. Keys are in rising order, with no white space. In room that is
+/// kept from line to line. `AllocError` if an allocation failed; nothing is then known of the room's line.
 #[tactic(auto, unfolding(crate::specs::Promise::Unshared::unshared_line))]
-pub fn write_unshared_in(room: &mut LineRoom, unshared: Unshared) -> Result<Vec<u8>, AllocError>
-    ensures { IfOk result (λ line. line.items ≡ unshared_line unshared) }
+pub fn write_unshared_in(room: &mut LineRoom, unshared: Unshared) -> Result<(), AllocError>
+    ensures { OnOk result (room.new ≡ unshared_line unshared) }
 {
     match unshared {
         Unshared::Never => worded_line(room, "verdict", "never"),
@@ -50,18 +49,18 @@ pub fn write_unshared_in(room: &mut LineRoom, unshared: Unshared) -> Result<Vec<
     }
 }
 
-/// The line of the vertices of which rights can ever be shared, each with those of the rights that are there now. In a
-/// buffer that is kept, and with the error of `write_unshared_in`.
+/// The line of the vertices of which rights can ever be shared, each with those of the rights that are there now. In
+/// room that is kept, and with the error of `write_unshared_in`.
 #[tactic(auto, unfolding(crate::specs::Promise::Unshared::could_line))]
-pub fn write_could_in(room: &mut LineRoom, could: &[(u64, Rights)]) -> Result<Vec<u8>, AllocError>
-    ensures { IfOk result (λ line. line.items ≡ could_line could.now) }
+pub fn write_could_in(room: &mut LineRoom, could: &[(u64, Rights)]) -> Result<(), AllocError>
+    ensures { OnOk result (room.new ≡ could_line could.now) }
 {
     object_line(room, &[("could", Told::Edges(could))])
 }
 
 /// The line of an object with this word under this key.
-fn worded_line(room: &mut LineRoom, key: &str, word: &str) -> Result<Vec<u8>, AllocError>
-    ensures { IfOk result (λ line. line.items ≡ line_text (object (member key.now (string word.now) no_members))) }
+fn worded_line(room: &mut LineRoom, key: &str, word: &str) -> Result<(), AllocError>
+    ensures { OnOk result (room.new ≡ line_text (object (member key.now (string word.now) no_members))) }
 {
     object_line(room, &[(key, Told::Word(word))])
 }

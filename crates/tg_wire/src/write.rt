@@ -25,18 +25,19 @@ use tg_vault::{Answer, AskFault, SeatFault, Swept};
 pub fn write_reply(alloc: Global, reply: &Reply) -> Result<Vec<u8>, AllocError>
     ensures { IfOk result (λ line. line.items ≡ reply_line reply.now) }
 {
-    write_reply_in(&mut LineRoom::new(alloc), reply)
+    let mut room = LineRoom::new(alloc);
+    write_reply_in(&mut room, reply)?;
+    Ok(room.into_line())
 }
 
-/// The same, in a buffer that is kept from line to line. `AllocError` if an allocation failed; the buffer is then lost,
-/// and the next line allocates another.
+/// The same, in room that is kept from line to line. `AllocError` if an allocation failed; nothing is then known of the
+/// room's line.
 #[inline(always)]
-pub fn write_reply_in(room: &mut LineRoom, reply: &Reply) -> Result<Vec<u8>, AllocError>
-    ensures { IfOk result (λ line. line.items ≡ reply_line reply.now) }
+pub fn write_reply_in(room: &mut LineRoom, reply: &Reply) -> Result<(), AllocError>
+    ensures { OnOk result (room.new ≡ reply_line reply.now) }
 {
-    let mut line = room.lend()?;
-    put_reply(&mut line, reply)?;
-    Ok(line)
+    room.begin()?;
+    put_reply(&mut room.line, reply)
 }
 
 #[inline(always)]
@@ -94,17 +95,18 @@ fn put_told_edges(line: &mut Vec<u8>, edges: &[(u64, Rights)]) -> Result<(), All
 pub fn write_answer(alloc: Global, answer: &Answer) -> Result<Vec<u8>, AllocError>
     ensures { IfOk result (λ line. line.items ≡ answer_line answer.now) }
 {
-    write_answer_in(&mut LineRoom::new(alloc), answer)
+    let mut room = LineRoom::new(alloc);
+    write_answer_in(&mut room, answer)?;
+    Ok(room.into_line())
 }
 
-/// The same, in a buffer that is kept, and with the error of `write_reply_in`.
+/// The same, in room that is kept, and with the error of `write_reply_in`.
 #[inline(always)]
-pub fn write_answer_in(room: &mut LineRoom, answer: &Answer) -> Result<Vec<u8>, AllocError>
-    ensures { IfOk result (λ line. line.items ≡ answer_line answer.now) }
+pub fn write_answer_in(room: &mut LineRoom, answer: &Answer) -> Result<(), AllocError>
+    ensures { OnOk result (room.new ≡ answer_line answer.now) }
 {
-    let mut line = room.lend()?;
-    put_answer(&mut line, answer)?;
-    Ok(line)
+    room.begin()?;
+    put_answer(&mut room.line, answer)
 }
 
 #[inline(always)]
@@ -131,13 +133,15 @@ fn put_answer(line: &mut Vec<u8>, answer: &Answer) -> Result<(), AllocError>
 pub fn write_swept(alloc: Global, swept: Swept) -> Result<Vec<u8>, AllocError>
     ensures { IfOk result (λ line. line.items ≡ swept_line swept) }
 {
-    write_swept_in(&mut LineRoom::new(alloc), swept)
+    let mut room = LineRoom::new(alloc);
+    write_swept_in(&mut room, swept)?;
+    Ok(room.into_line())
 }
 
-/// The same, in a buffer that is kept, and with the error of `write_reply_in`.
+/// The same, in room that is kept, and with the error of `write_reply_in`.
 #[tactic(auto, unfolding(crate::specs::Promise::Answers::swept_line))]
-pub fn write_swept_in(room: &mut LineRoom, swept: Swept) -> Result<Vec<u8>, AllocError>
-    ensures { IfOk result (λ line. line.items ≡ swept_line swept) }
+pub fn write_swept_in(room: &mut LineRoom, swept: Swept) -> Result<(), AllocError>
+    ensures { OnOk result (room.new ≡ swept_line swept) }
 {
     object_line(
         room,
@@ -150,11 +154,18 @@ pub fn write_swept_in(room: &mut LineRoom, swept: Swept) -> Result<Vec<u8>, Allo
 
 /// The line of a verdict, which ends with a line feed. Keys are in rising order, with no white space. `AllocError` if
 /// an allocation failed.
-#[tactic(auto, unfolding(crate::specs::Promise::Answers::verdict_line))]
 pub fn write_verdict(alloc: Global, verdict: &Verdict) -> Result<Vec<u8>, AllocError>
     ensures { IfOk result (λ line. line.items ≡ verdict_line verdict.now) }
 {
-    let room = &mut LineRoom::new(alloc);
+    let mut room = LineRoom::new(alloc);
+    write_verdict_in(&mut room, verdict)?;
+    Ok(room.into_line())
+}
+
+#[tactic(auto, unfolding(crate::specs::Promise::Answers::verdict_line))]
+fn write_verdict_in(room: &mut LineRoom, verdict: &Verdict) -> Result<(), AllocError>
+    ensures { OnOk result (room.new ≡ verdict_line verdict.now) }
+{
     match verdict {
         Verdict::Shared => object_line(room, &[("verdict", Told::Word("shared"))]),
         Verdict::ActorNotSubject { index } => step_line(room, *index, "actor not subject"),
@@ -173,8 +184,8 @@ pub fn write_verdict(alloc: Global, verdict: &Verdict) -> Result<Vec<u8>, AllocE
 }
 
 /// The line of this verdict on the step of this number.
-fn step_line(room: &mut LineRoom, step: u64, verdict: &str) -> Result<Vec<u8>, AllocError>
-    ensures { IfOk result (λ line. line.items ≡ line_text (object (member (codes "step") (number (unsigned step)) (member (codes "verdict") (string verdict.now) no_members)))) }
+fn step_line(room: &mut LineRoom, step: u64, verdict: &str) -> Result<(), AllocError>
+    ensures { OnOk result (room.new ≡ line_text (object (member (codes "step") (number (unsigned step)) (member (codes "verdict") (string verdict.now) no_members)))) }
 {
     object_line(
         room,
@@ -242,8 +253,8 @@ fn denied_step_line(
     step: u64,
     rule: Rule,
     cause: Cause,
-) -> Result<Vec<u8>, AllocError>
-    ensures { IfOk result (λ line. line.items ≡ line_text (denied_step_data step rule cause)) }
+) -> Result<(), AllocError>
+    ensures { OnOk result (room.new ≡ line_text (denied_step_data step rule cause)) }
 {
     match cause {
         Cause::Retired => denied_step_for(room, step, rule, "retired"),
@@ -274,8 +285,8 @@ fn denied_step_for(
     step: u64,
     rule: Rule,
     cause: &str,
-) -> Result<Vec<u8>, AllocError>
-    ensures { IfOk result (λ line. line.items ≡ line_text (object (member (codes "cause") (string cause.now) (member (codes "denied") (string (rule_text rule))
+) -> Result<(), AllocError>
+    ensures { OnOk result (room.new ≡ line_text (object (member (codes "cause") (string cause.now) (member (codes "denied") (string (rule_text rule))
         (member (codes "step") (number (unsigned step)) (member (codes "verdict") (string (codes "step denied")) no_members)))))) }
 {
     object_line(
@@ -296,8 +307,8 @@ fn denied_step_at(
     rule: Rule,
     cause: &str,
     vertex: u64,
-) -> Result<Vec<u8>, AllocError>
-    ensures { IfOk result (λ line. line.items ≡ line_text (object (member (codes "cause") (string cause.now) (member (codes "denied") (string (rule_text rule))
+) -> Result<(), AllocError>
+    ensures { OnOk result (room.new ≡ line_text (object (member (codes "cause") (string cause.now) (member (codes "denied") (string (rule_text rule))
         (member (codes "step") (number (unsigned step)) (member (codes "verdict") (string (codes "step denied")) (member (codes "vertex") (number (unsigned vertex)) no_members))))))) }
 {
     object_line(

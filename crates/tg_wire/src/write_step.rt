@@ -1,6 +1,6 @@
 //! From a step or a goal of a derivation to its line, as an auditor reads it. The keys of a line are in rising order.
 
-ghost use Rattle.std.specs.Prelude.{◌≡◌, ◌<◌, ◌^◌, IfOk, Ok, Some};
+ghost use Rattle.std.specs.Prelude.{◌≡◌, ◌<◌, ◌^◌, Ok, OnOk, Some};
 ghost use Rattle.tg_graph.specs.Promise.Rewriting.{rewriting};
 ghost use Rattle.tg_wire.specs.Promise.Lines.{goal_of, step_of};
 ghost use Rattle.tg_wire.specs.Promise.StepLines.{Rewrites, goal_line, goal_text, kind_text as text_of_kind, step_line, step_text};
@@ -13,12 +13,11 @@ use tg_graph::{Goal, Step};
 use tg_rights::{Command, Kind};
 
 /// The line of a step, which ends with a line feed: its command's fields and the actor, in rising order of their keys,
-/// with no white space. One of take, grant, create and remove is read back by `read_step`. In a buffer that is kept
-/// from line to line. `AllocError` if an allocation failed; the buffer is then lost, and the next line allocates
-/// another.
+/// with no white space. One of take, grant, create and remove is read back by `read_step`. In room that is kept from line
+/// to line. `AllocError` if an allocation failed; nothing is then known of the room's line.
 #[tactic(auto, unfolding(crate::specs::Promise::StepLines::step_line))]
-pub fn write_step_in(room: &mut LineRoom, step: &Step) -> Result<Vec<u8>, AllocError>
-    ensures { IfOk result (λ line. line.items ≡ step_line step.now) }
+pub fn write_step_in(room: &mut LineRoom, step: &Step) -> Result<(), AllocError>
+    ensures { OnOk result (room.new ≡ step_line step.now) }
 {
     let actor = ("actor", Told::Number(step.actor));
     match &step.command {
@@ -108,10 +107,10 @@ pub fn write_step_in(room: &mut LineRoom, step: &Step) -> Result<Vec<u8>, AllocE
 }
 
 /// The line of a goal, which ends with a line feed, its keys in rising order, with no white space. It is read back by
-/// `read_goal`. In a buffer that is kept, and with the error of `write_step_in`.
+/// `read_goal`. In room that is kept, and with the error of `write_step_in`.
 #[tactic(auto, unfolding(crate::specs::Promise::StepLines::goal_line))]
-pub fn write_goal_in(room: &mut LineRoom, goal: &Goal) -> Result<Vec<u8>, AllocError>
-    ensures { IfOk result (λ line. line.items ≡ goal_line goal.now) }
+pub fn write_goal_in(room: &mut LineRoom, goal: &Goal) -> Result<(), AllocError>
+    ensures { OnOk result (room.new ≡ goal_line goal.now) }
 {
     object_line(
         room,

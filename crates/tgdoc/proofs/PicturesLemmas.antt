@@ -4,7 +4,7 @@ use Rattle.std.specs.Prelude.{◌↔◌}
 use Rattle.tg_vault.specs.Promise.Contents.{Contents}
 use Rattle.tg_vault.specs.Promise.Course.{CoursesJoin}
 use Rattle.tg_talk.specs.Promise.InputLines.{lines_of}
-use Rattle.tg_talk.specs.Promise.Answering.{goes_on, closes, unanswered, RestAnswered, both}
+use Rattle.tg_talk.specs.Promise.Answering.{goes_on, closes, unanswered, RestAnswered}
 use Rattle.tg_talk.specs.Promise.Endings.{EndsOnce}
 use Rattle.tg_talk.specs.declared.answering.Finished.{Finished}
 use Rattle.tg_talk.specs.declared.fault.TalkFault.{TalkFault}
@@ -19,22 +19,22 @@ use Rattle.tgdoc.specs.declared.pictures.Artist.{Artist}
 use Rattle.tgdoc.proofs.RestLemmas.{runs_more}
 
 -- what the vault carried out since the start leads to where the run is, which is the vault of whoever answers now
-record Led (start : Contents) (each : Bool) (now : Artist × Unit {0}) (reached : RunSoFar) : Type 0 where
+record Led (start : Contents) (each : Bool) (now : Artist) (reached : RunSoFar) : Type 0 where
   pub run : VaultRan start reached.steps reached.vault
-  pub vault : reached.vault ≡ now.0.vault
-  pub same : now.0.each ≡ each
+  pub vault : reached.vault ≡ now.vault
+  pub same : now.each ≡ each
 
-follows : CoursesJoin → (start : Contents) (each : Bool) → Follows {S = Artist × Unit {0}} {T = RunSoFar} (both ArtistSays) (DrawSays each) (Led start each)
+follows : CoursesJoin → (start : Contents) (each : Bool) → Follows {T = RunSoFar} ArtistSays (DrawSays each) (Led start each)
 follows join start each s t reached line (goes_on text errors) led says =
     let steps : AnsweredEvents = says.answers.steps in
-    let ran : VaultRan reached.vault steps t.0.vault = subst (λ (v : Contents). VaultRan v steps t.0.vault) (sym led.vault) says.answers.run in (
-      record { steps = reached.steps ++ steps; vault = t.0.vault },
-      record { run = runs_more join start reached.vault t.0.vault reached.steps steps led.run ran; vault = refl; same = says.same ∙ led.same },
+    let ran : VaultRan reached.vault steps t.vault = subst (λ (v : Contents). VaultRan v steps t.vault) (sym led.vault) says.answers.run in (
+      record { steps = reached.steps ++ steps; vault = t.vault },
+      record { run = runs_more join start reached.vault t.vault reached.steps steps led.run ran; vault = refl; same = says.same ∙ led.same },
       record {
         answer = says.answer;
         count = says.count;
         carried = record { steps = steps; are = refl; run = ran; answers = says.answers.answers };
-        shown = subst (λ (b : Bool). Shown b t.0.vault line says.answer says.count text errors) led.same says.shown;
+        shown = subst (λ (b : Bool). Shown b t.vault line says.answer says.count text errors) led.same says.shown;
       },
     )
 follows join start each s t reached line (closes text errors) led says = absurd says
@@ -48,11 +48,11 @@ record LinesLed (artist now : Artist) (finished : Finished) (xs before last : Li
   pub vault : after ≡ now.vault
   pub told : LinesDrawn artist.each artist.vault steps after (lines_of xs) finished before last
 
-lines_led : CoursesJoin → (artist now : Artist) (u v : Unit {0}) (n : ℕ) (finished : Finished) (old new : Option (List ℕ)) (failed : Bool) (xs : List ℕ) → n ≡ 1
-    → (rest : RestAnswered {S = Artist × Unit {0}} (both ArtistSays) (artist, u) n (now, v) finished old new failed xs) → LinesLed artist now finished xs rest.before rest.last
-lines_led join artist now u v n finished old new failed xs one rest =
+lines_led : CoursesJoin → (artist now : Artist) (n : ℕ) (finished : Finished) (old new : Option (List ℕ)) (failed : Bool) (xs : List ℕ) → n ≡ 1
+    → (rest : RestAnswered ArtistSays artist n now finished old new failed xs) → LinesLed artist now finished xs rest.before rest.last
+lines_led join artist now n finished old new failed xs one rest =
     let begun : RunSoFar = record { steps = []; vault = artist.vault } in
-    let (reached, led, told) = followed {S = Artist × Unit {0}} {T = RunSoFar} (both ArtistSays) (DrawSays artist.each) (Led artist.vault artist.each) (follows join artist.vault artist.each) (artist, u) (now, v) begun 1 0 (lines_of xs)
+    let (reached, led, told) = followed {T = RunSoFar} ArtistSays (DrawSays artist.each) (Led artist.vault artist.each) (follows join artist.vault artist.each) artist now begun 1 0 (lines_of xs)
     finished.fault finished.lines finished.errors rest.before rest.last (record { run = refl; vault = refl; same = refl }) (rw one at rest.told) in
     record { steps = reached.steps; after = reached.vault; run = led.run; vault = led.vault; told = told }
 
@@ -69,11 +69,11 @@ module _ (stops : Option TalkFault → Bool) (Writes : Ending) where
     told_last true ended finished failed first refusal text never told fine written = absurd (true≢false never)
     told_last false ended finished failed first refusal text only told fine written = at_end ended failed first refusal told fine written refl
 
-  pub last_left : CoursesJoin → (artist now : Artist) (u v : Unit {0}) (n : ℕ) (ended finished : Finished) (old between new : Option (List ℕ)) (was failed : Bool) (xs : List ℕ) → n ≡ 1 → now.each ≡ artist.each
-      → EndsWith now.each stops (Writes now.vault) ended finished between was new failed → RestAnswered {S = Artist × Unit {0}} (both ArtistSays) (artist, u) n (now, v) ended old between was xs
+  pub last_left : CoursesJoin → (artist now : Artist) (n : ℕ) (ended finished : Finished) (old between new : Option (List ℕ)) (was failed : Bool) (xs : List ℕ) → n ≡ 1 → now.each ≡ artist.each
+      → EndsWith now.each stops (Writes now.vault) ended finished between was new failed → RestAnswered ArtistSays artist n now ended old between was xs
       → InputLeft (EachOrLast stops Writes artist.each) artist.vault finished old new failed xs
-  last_left join artist now u v n ended finished old between new was failed xs one same (rests why is kept still) rest =
-      let led = lines_led join artist now u v n ended old between was xs one rest in
+  last_left join artist now n ended finished old between new was failed xs one same (rests why is kept still) rest =
+      let led = lines_led join artist now n ended old between was xs one rest in
       let each : (artist.each ≡ true) ⊎ (stops ended.fault ≡ true) = subst (λ (b : Bool). (b ≡ true) ⊎ (stops ended.fault ≡ true)) same why in
       rw (is, kept, still) (record {
         steps = led.steps;
@@ -84,8 +84,8 @@ module _ (stops : Option TalkFault → Bool) (Writes : Ending) where
         told = told_rests artist.vault led.steps led.after (lines_of xs) artist.each ended rest.before rest.last led.told each;
         sent = rest.sent;
       })
-  last_left join artist now u v n ended finished old between new was failed xs one same (writes only fine whole last) rest =
-      let led = lines_led join artist now u v n ended old between was xs one rest in
+  last_left join artist now n ended finished old between new was failed xs one same (writes only fine whole last) rest =
+      let led = lines_led join artist now n ended old between was xs one rest in
       let written : WrittenAtEnd (Writes led.after ended) ended finished failed last.text = subst (λ (w : Contents). WrittenAtEnd (Writes w ended) ended finished failed last.text) (sym led.vault) last.written in
       record {
         steps = led.steps;
@@ -98,13 +98,13 @@ module _ (stops : Option TalkFault → Bool) (Writes : Ending) where
       }
 
   -- the same of one who never writes anything for a line
-  pub answer_left : CoursesJoin → (artist now : Artist) (u v : Unit {0}) (n : ℕ) (ended finished : Finished) (old between new : Option (List ℕ)) (was failed : Bool) (xs : List ℕ) → n ≡ 1 → now.each ≡ artist.each → artist.each ≡ false
-      → EndsWith false stops (Writes now.vault) ended finished between was new failed → RestAnswered {S = Artist × Unit {0}} (both ArtistSays) (artist, u) n (now, v) ended old between was xs
+  pub answer_left : CoursesJoin → (artist now : Artist) (n : ℕ) (ended finished : Finished) (old between new : Option (List ℕ)) (was failed : Bool) (xs : List ℕ) → n ≡ 1 → now.each ≡ artist.each → artist.each ≡ false
+      → EndsWith false stops (Writes now.vault) ended finished between was new failed → RestAnswered ArtistSays artist n now ended old between was xs
       → InputLeft (EachOrLast stops Writes false) artist.vault finished old new failed xs
-  answer_left join artist now u v n ended finished old between new was failed xs one same quiet ends rest =
+  answer_left join artist now n ended finished old between new was failed xs one same quiet ends rest =
       let end = subst (λ (b : Bool). EndsWith b stops (Writes now.vault) ended finished between was new failed) (sym (same ∙ quiet)) ends in
       subst (λ (b : Bool). InputLeft (EachOrLast stops Writes b) artist.vault finished old new failed xs) quiet
-      (last_left join artist now u v n ended finished old between new was failed xs one same end rest)
+      (last_left join artist now n ended finished old between new was failed xs one same end rest)
 
 -- the fault of an ending that draws the last vault is the one before, or that the writer failed
 pub fine_other : (f : Option TalkFault) → is_broken f ≡ false → f ≢ Some talk.Writing

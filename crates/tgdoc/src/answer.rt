@@ -15,39 +15,45 @@ use tg_wire::{Line, LineRoom, WireFault, read_line_into, write_swept_in};
 pub(crate) struct Runner {
     pub alloc: Global,
     pub vault: Vault,
+    // What the last line asked for, in whose place the next is read.
+    pub line: Line,
 }
 
 impl Responder for Runner {
-    type Carried = ();
-
-    ghost stays = { λ start now carried. Unit {0} };
+    ghost stays = { λ start now. Unit {0} };
 
     ghost says = { RunnerSays };
 
     ghost may_give_up = { false };
 
     #[inline(always)]
-    fn respond(&mut self, _carried: (), line: &[u8], room: &mut LineRoom) -> Said<()> {
-        Said::Answer((), answer(self.alloc, &mut self.vault, line, room))
+    fn respond(&mut self, line: &[u8], room: &mut LineRoom) -> Said {
+        Said::Answer(answer(self.alloc, &mut self.vault, &mut self.line, line, room))
     }
 }
 
-/// Reads a line, carries out its event or a cycle of the collector, and returns the answer's line.
+/// Reads a line, whose value takes the place of another, carries out its event or a cycle of the collector, and writes
+/// the answer's line into the room.
 #[inline(always)]
-pub(crate) fn answer(alloc: Global, vault: &mut Vault, bytes: &[u8], room: &mut LineRoom) -> Text
-    ensures { AnswersLine vault.old bytes.now vault.new (shown_line result) (one_if (is_wrong result)) }
+pub(crate) fn answer(
+    alloc: Global,
+    vault: &mut Vault,
+    line: &mut Line,
+    bytes: &[u8],
+    room: &mut LineRoom,
+) -> Text
+    ensures { AnswersLine vault.old bytes.now vault.new (shown_line room.new result) (one_if (is_wrong result)) }
 {
-    let mut line = Line::Cycle;
-    match read_line_into(room, alloc, bytes, &mut line) {
-        Ok(()) => carry_out(vault, &mut line, room),
+    match read_line_into(room, alloc, bytes, line) {
+        Ok(()) => carry_out(vault, line, room),
         Err(fault) => Text::Refusal(fault),
     }
 }
 
-/// Carries out what a line asks for, which stays in its place, and returns the answer's line.
+/// Carries out what a line asks for, which stays in its place, and writes the answer's line into the room.
 #[inline(always)]
 fn carry_out(vault: &mut Vault, line: &mut Line, room: &mut LineRoom) -> Text
-    ensures { (bytes : List ℕ) → line_of bytes ≡ Ok line.old → AnswersLine vault.old bytes vault.new (shown_line result) (one_if (is_wrong result)) }
+    ensures { (bytes : List ℕ) → line_of bytes ≡ Ok line.old → AnswersLine vault.old bytes vault.new (shown_line room.new result) (one_if (is_wrong result)) }
 {
     match line {
         Line::Act(event) => {
@@ -64,10 +70,10 @@ fn carry_out(vault: &mut Vault, line: &mut Line, room: &mut LineRoom) -> Text
 
 /// The line of what a cycle did, or `out of memory` in its place.
 fn tell_swept(room: &mut LineRoom, swept: Swept) -> Text
-    ensures { TellsSwept swept (shown_line result) (is_wrong result) }
+    ensures { TellsSwept swept (shown_line room.new result) (is_wrong result) }
 {
     match write_swept_in(room, swept) {
-        Ok(line) => Text::Line(line),
+        Ok(()) => Text::Line,
         Err(_) => Text::Refusal(WireFault::OutOfMemory),
     }
 }

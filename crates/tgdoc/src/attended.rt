@@ -143,9 +143,8 @@ fn append<N: Files>(rt: &N, alloc: Global, path: &str, history: &[Entry]) -> io:
     let mut room = LineRoom::new(alloc);
     for entry in history {
         if let Some(step) = entry_step(entry) {
-            let line = write_step_in(&mut room, &step)?;
-            writer.write_all(&line)?;
-            room.take_back(line);
+            write_step_in(&mut room, &step)?;
+            writer.write_all(room.line())?;
         }
     }
     writer.flush()

@@ -62,9 +62,9 @@ fn listed(alloc: Global, could: &[(u64, Rights)]) -> Result<Told, AllocError>
     ensures { IfOk result (λ told. (told.text.items ≡ could_line could.now) × (told.is_error ≡ false)) }
 {
     let mut room = LineRoom::new(alloc);
-    let text = write_could_in(&mut room, could)?;
+    write_could_in(&mut room, could)?;
     Ok(Told {
-        text,
+        text: room.into_line(),
         is_error: false,
     })
 }

@@ -1,5 +1,5 @@
 //! The vault drawn in place of answers.
-ghost use Rattle.std.specs.Prelude.{◌≡◌, ◌≢◌, ◌↔◌, ◌≤◌, [], true, false, IfOk, Some};
+ghost use Rattle.std.specs.Prelude.{◌≡◌, ◌≢◌, ◌↔◌, ◌≤◌, ℕ, List, [], true, false, IfOk, Some};
 ghost use Rattle.tg_draw.specs.Promise.Picture.{Draws};
 ghost use Rattle.tg_talk.specs.Promise.Answering.{is_wrong, one_if, shown_line};
 ghost use Rattle.tg_talk.specs.Promise.Devices.{has_failed, owed, promised};
@@ -15,7 +15,7 @@ use std::io::{BufWriter, Write};
 use tg_draw::draw;
 use tg_talk::{Finished, Responder, Said, TalkFault, Text, Watched};
 use tg_vault::Vault;
-use tg_wire::{LineRoom, WireFault, error_line};
+use tg_wire::{Line, LineRoom, WireFault, error_line};
 
 /// Who answers the lines of a run that is drawn: with a picture of the vault after each, or with nothing.
 #[derive(Drop)]
@@ -26,42 +26,41 @@ pub(crate) struct Artist {
 }
 
 impl Responder for Artist {
-    type Carried = ();
-
-    ghost stays = { λ start now carried. (now.each ≡ start.each) × (now.vault.opening ≡ start.vault.opening) };
+    ghost stays = { λ start now. (now.each ≡ start.each) × (now.vault.opening ≡ start.vault.opening) };
 
     ghost says = { ArtistSays };
 
     ghost may_give_up = { false };
 
     #[inline(always)]
-    fn respond(&mut self, _carried: (), line: &[u8], room: &mut LineRoom) -> Said<()> {
-        let answered = answer(self.alloc, &mut self.vault, line, room);
-        Said::Answer(
-            (),
-            shown(self.alloc, self.each, &self.vault, line, answered),
-        )
+    fn respond(&mut self, line: &[u8], room: &mut LineRoom) -> Said {
+        let mut asked = Line::Cycle;
+        let answered = answer(self.alloc, &mut self.vault, &mut asked, line, room);
+        Said::Answer(shown(self, line, answered, room))
     }
 }
 
 /// What is written for a line with this answer.
-fn shown(alloc: Global, each: bool, vault: &Vault, line: &[u8], answered: Text) -> Text
-    ensures { Shown each vault.now line.now (shown_line answered) (one_if (is_wrong answered)) (shown_line result) (one_if (is_wrong result)) }
+fn shown(artist: &Artist, line: &[u8], answered: Text, room: &mut LineRoom) -> Text
+    ensures { Shown artist.now.each artist.now.vault line.now (shown_line room.old answered) (one_if (is_wrong answered)) (shown_line room.new result) (one_if (is_wrong result)) }
 {
-    if each {
-        drawn(alloc, vault, line, &answered)
+    if artist.each {
+        drawn(artist.alloc, &artist.vault, line, answered, room)
     } else {
-        quiet(alloc, answered)
+        quiet(answered, room)
     }
 }
 
 /// The picture of the vault for a line with this answer, or `out of memory` in its place.
-fn drawn(alloc: Global, vault: &Vault, line: &[u8], answered: &Text) -> Text
-    ensures { DrawnFor vault.now line.now (shown_line answered.now) (one_if (is_wrong answered.now)) (shown_line result) (one_if (is_wrong result)) }
+fn drawn(alloc: Global, vault: &Vault, line: &[u8], answered: Text, room: &mut LineRoom) -> Text
+    ensures { DrawnFor vault.now line.now (shown_line room.old answered) (one_if (is_wrong answered)) (shown_line room.new result) (one_if (is_wrong result)) }
 {
-    match draw_line(alloc, vault, line, answered.bytes()) {
+    match draw_line(alloc, vault, line, answered.bytes(room)) {
         Err(_) => Text::Refusal(WireFault::OutOfMemory),
-        Ok(picture) => counted(picture, answered.is_error()),
+        Ok(picture) => {
+            room.put(picture);
+            counted(answered.is_error())
+        }
     }
 }
 
@@ -90,38 +89,25 @@ fn label_of(alloc: Global, line: &[u8], answered: &[u8]) -> Result<Vec<u8>, Allo
     Ok(label)
 }
 
-/// A line that counts as an `error` line or not.
-fn counted(line: Vec<u8>, is_error: bool) -> Text
-    ensures text { shown_line result ≡ line.items }
+/// The room's line, which counts as an `error` line or not.
+fn counted(is_error: bool) -> Text
+    ensures text { (line : List ℕ) → shown_line line result ≡ line }
     ensures error { is_wrong result ≡ is_error }
 {
     if is_error {
-        Text::ErrorLine(line)
+        Text::ErrorLine
     } else {
-        Text::Line(line)
+        Text::Line
     }
 }
 
-/// Nothing, which counts as the text does. It keeps the room of a line; a refusal has none, and the next line allocates
-/// its own.
-fn quiet(alloc: Global, text: Text) -> Text
-    ensures silent { shown_line result ≡ [] }
+/// Nothing, which counts as the text does.
+fn quiet(text: Text, room: &mut LineRoom) -> Text
+    ensures silent { shown_line room.new result ≡ [] }
     ensures error { is_wrong result ≡ is_wrong text }
 {
-    match text {
-        Text::Line(line) => Text::Line(emptied(line)),
-        Text::ErrorLine(line) => Text::ErrorLine(emptied(line)),
-        Text::Refusal(_) => Text::ErrorLine(Vec::new(alloc)),
-        Text::NotForASession => Text::ErrorLine(Vec::new(alloc)),
-    }
-}
-
-fn emptied(line: Vec<u8>) -> Vec<u8>
-    ensures { result.items ≡ [] }
-{
-    let mut bytes = line;
-    bytes.clear();
-    bytes
+    room.clear();
+    counted(text.is_error())
 }
 
 /// Draws the vault after the last line, if it is not drawn after each, and neither the reader nor the writer failed.

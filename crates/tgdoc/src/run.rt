@@ -20,9 +20,9 @@ use crate::sharing::end_sharing;
 use std::alloc::{AllocError, Global};
 use std::io::{BufWriter, Read, Write};
 use std::mem;
-use tg_talk::{Finished, InputLines, Next, Over, TalkFault, Watched, answer_lines, open_vault};
+use tg_talk::{Finished, InputLines, Next, TalkFault, Watched, answer_lines, open_vault};
 use tg_vault::{Key, Vault, courses_have_the_headline, courses_join};
-use tg_wire::{WireFault, error_line};
+use tg_wire::{Line, WireFault, error_line};
 
 /// What is written for the lines of a run.
 #[derive(Clone, Copy)]
@@ -150,21 +150,16 @@ fn take_rest<R: Read, W: Write + Drop>(
     courses_join();
     match how {
         Output::Answers => {
-            let mut runner = Runner { alloc, vault };
-            let Over {
-                carried: (),
-                finished,
-            } = answer_lines(alloc, input, &mut runner, (), reader, writer);
+            let line = Line::Cycle;
+            let mut runner = Runner { alloc, vault, line };
+            let finished = answer_lines(alloc, input, &mut runner, reader, writer);
             // The process ends next, and frees it at once.
             mem::forget(runner);
             finished
         }
         Output::Pictures { each } => {
             let mut artist = Artist { alloc, vault, each };
-            let Over {
-                carried: (),
-                finished,
-            } = answer_lines(alloc, input, &mut artist, (), reader, writer);
+            let finished = answer_lines(alloc, input, &mut artist, reader, writer);
             end_drawing(&artist, finished, writer)
         }
         Output::Sharing { question } => {
@@ -174,10 +169,7 @@ fn take_rest<R: Read, W: Write + Drop>(
                 vault,
                 each: false,
             };
-            let Over {
-                carried: (),
-                finished,
-            } = answer_lines(alloc, input, &mut artist, (), reader, writer);
+            let finished = answer_lines(alloc, input, &mut artist, reader, writer);
             end_sharing(alloc, &artist.vault, &first, question, finished, writer)
         }
     }

@@ -234,8 +234,8 @@ fn goal_text(alloc: Global, goal: &Goal) -> Result<Vec<u8>, AllocError>
     ensures { IfOk result (λ line. line.items ≡ goal_line goal.now) }
 {
     let mut room = LineRoom::new(alloc);
-    let line = write_goal_in(&mut room, goal)?;
-    Ok(line)
+    write_goal_in(&mut room, goal)?;
+    Ok(room.into_line())
 }
 
 /// Adds the lines of the steps, each by one of the four rules.
@@ -258,8 +258,7 @@ fn push_step(room: &mut LineRoom, text: &mut Vec<u8>, step: &Step) -> Result<(),
     ensures read { step_of (step_text step.now) ≡ Ok step.now }
 {
     step_reads_back(step);
-    let line = write_step_in(room, step)?;
-    text.extend_from_slice(&line)?;
-    room.take_back(line);
+    write_step_in(room, step)?;
+    text.extend_from_slice(room.line())?;
     Ok(())
 }

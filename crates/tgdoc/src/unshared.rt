@@ -51,8 +51,8 @@ fn unshared_text(alloc: Global, unshared: Unshared) -> Result<Vec<u8>, AllocErro
     ensures { IfOk result (λ text. text.items ≡ unshared_line unshared) }
 {
     let mut room = LineRoom::new(alloc);
-    let line = write_unshared_in(&mut room, unshared)?;
-    Ok(line)
+    write_unshared_in(&mut room, unshared)?;
+    Ok(room.into_line())
 }
 
 /// Whether the answer counts as an `error` line.

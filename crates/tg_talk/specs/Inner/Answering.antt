@@ -9,17 +9,13 @@ use Rattle.tg_talk.specs.declared.fault.TalkFault.{TalkFault}
 use Rattle.tg_talk.specs.declared.answering.Turn.{Turn}
 use Rattle.tg_talk.specs.declared.answering.Turn.TheVariants as turn
 
-abbrev pub goes_on_in : {C : Type 0} → Turn C → Bool
-goes_on_in (turn.GoOn c) = true
-goes_on_in (turn.Ended c f) = false
+abbrev pub goes_on_in : Turn → Bool
+goes_on_in turn.GoOn = true
+goes_on_in (turn.Ended f) = false
 
-abbrev pub carried_by : {C : Type 0} → Turn C → C
-carried_by (turn.GoOn c) = c
-carried_by (turn.Ended c f) = c
-
-abbrev pub fault_in : {C : Type 0} → Turn C → Option TalkFault
-fault_in (turn.GoOn c) = None
-fault_in (turn.Ended c f) = f
+abbrev pub fault_in : Turn → Option TalkFault
+fault_in turn.GoOn = None
+fault_in (turn.Ended f) = f
 
 -- A point in the input: what answers; the lines taken, and the `error` lines among their answers; the bytes that are to
 -- come; and what the writer has got, followed by what it holds back.
@@ -50,11 +46,11 @@ pub record Closes {S : Type 0} (Says : How S) (f : Option TalkFault) (here there
   pub sent : Sends here.promised there.promised failed text
 
 -- what a turn does, if the bytes xs are to come
-abbrev pub Turned : {S C : Type 0} → How S → Turn C → Point S → Point S → Bool → List ℕ → Type 0
-Turned Says (turn.GoOn c) here there failed xs = Continues Says here there xs
-Turned Says (turn.Ended c f) here there failed xs = Closes Says f here there failed xs
+abbrev pub Turned : {S : Type 0} → How S → Turn → Point S → Point S → Bool → List ℕ → Type 0
+Turned Says turn.GoOn here there failed xs = Continues Says here there xs
+Turned Says (turn.Ended f) here there failed xs = Closes Says f here there failed xs
 
 -- what it does after it has taken a line, which is counted at the first of these points
-abbrev pub AnswersTaken : {S C : Type 0} → How S → Turn C → List ℕ → Point S → Point S → Bool → Type 0
+abbrev pub AnswersTaken : {S : Type 0} → How S → Turn → List ℕ → Point S → Point S → Bool → Type 0
 AnswersTaken Says res line here there failed =
     (n : ℕ) (unread : Option (List ℕ)) (xs : List ℕ) → n < 1000000 → length line ≤ 16384 → here.lines ≡ n + 1 → TakesLine line xs here.unread → Turned Says res (record here { lines = n; unread = unread }) there failed xs

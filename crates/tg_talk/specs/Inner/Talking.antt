@@ -53,5 +53,6 @@ seated sitting = record { sits = actor_of sitting; log = log_of sitting }
 abbrev pub SaysTo : Option Sitting → List ℕ → Saying → Option Sitting → Type 0
 SaysTo old line how new = TalkSays (seated old) line how (seated new)
 
-abbrev pub HostSays : {H : Type 0} → H → Option Sitting → List ℕ → Saying → H → Option Sitting → Type 0
-HostSays host sitting line how now then = SaysTo sitting line how then
+-- the same of whoever has one who sits
+abbrev pub HostSays : {H : Type 0} → (H → Option Sitting) → H → List ℕ → Saying → H → Type 0
+HostSays sits host line how now = SaysTo (sits host) line how (sits now)

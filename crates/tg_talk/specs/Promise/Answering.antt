@@ -16,17 +16,17 @@ use Rattle.tg_talk.specs.declared.answering.Said.{Said}
 use Rattle.tg_talk.specs.declared.answering.Said.TheVariants as said
 use Rattle.tg_talk.specs.declared.answering.Finished.{Finished}
 
--- the line of an answer, or that of a refusal
-abbrev pub shown_line : Text → List ℕ
-shown_line (text.Line line) = line.items
-shown_line (text.ErrorLine line) = line.items
-shown_line (text.Refusal f) = fault_line f
-shown_line text.NotForASession = not_for_a_session_line
+-- the line of an answer, if this is the room's, or that of a refusal
+abbrev pub shown_line : List ℕ → Text → List ℕ
+shown_line line text.Line = line
+shown_line line text.ErrorLine = line
+shown_line line (text.Refusal f) = fault_line f
+shown_line line text.NotForASession = not_for_a_session_line
 
 -- it is an `error` line
 abbrev pub is_wrong : Text → Bool
-is_wrong (text.Line line) = false
-is_wrong (text.ErrorLine line) = true
+is_wrong text.Line = false
+is_wrong text.ErrorLine = true
 is_wrong (text.Refusal f) = true
 is_wrong text.NotForASession = true
 
@@ -48,15 +48,11 @@ pub data Saying : Type 0 where
 abbrev pub How : Type 0 → Type 1
 How S = S → List ℕ → Saying → S → Type 0
 
-abbrev pub saying : {C : Type 0} → Said C → Saying
-saying (said.Answer c t) = goes_on (shown_line t) (one_if (is_wrong t))
-saying (said.Last c t) = closes (shown_line t) (one_if (is_wrong t))
-saying (said.Nothing c) = unanswered
-
-abbrev pub carried_in : {C : Type 0} → Said C → C
-carried_in (said.Answer c t) = c
-carried_in (said.Last c t) = c
-carried_in (said.Nothing c) = c
+-- the same by what is said and the room's line
+abbrev pub saying : List ℕ → Said → Saying
+saying line (said.Answer t) = goes_on (shown_line line t) (one_if (is_wrong t))
+saying line (said.Last t) = closes (shown_line line t) (one_if (is_wrong t))
+saying line said.Nothing = unanswered
 
 -- Lines are answered, each as `Says` has it of what was before it, of the line, and of what is then. After n lines, e
 -- of them answered by `error` lines: the lines that are left; what is at the end; the fault, the lines taken in all,
@@ -83,10 +79,6 @@ pub data LinesAnswered {S : Type 0} (Says : How S) : S → ℕ → ℕ → List 
       → LinesAnswered Says s n e (l ∷ ls) u f m d (text ++ before) last
 
 -- ---- a turn
-
--- what answers, and what it carries on from line to line, are one
-abbrev pub both : {S C : Type 0} → (S → C → List ℕ → Saying → S → C → Type 0) → S × C → List ℕ → Saying → S × C → Type 0
-both Says s line how t = Says s.0 s.1 line how t.0 t.1
 
 -- the result of the lines that were left after n of them, if the bytes xs are to come
 pub record RestAnswered {S : Type 0} (Says : How S) (s : S) (n : ℕ) (t : S) (finished : Finished) (old new : Option (List ℕ)) (failed : Bool) (xs : List ℕ) : Type 0 where

@@ -259,22 +259,16 @@ fn growth_refused_in_write_reply(rt: HostRuntime) {
     assert!(rt; matches!(&answered(&rt, the_reply_is_written), Ok(true)));
 }
 
-/// Whether the reply of a create is written in the room, which then comes back; written again if memory runs out.
+/// Whether the reply of a create is written in the room; written again if memory runs out.
 fn is_written_in(rt: &HostRuntime, room: &mut LineRoom, vertex: u64, wanted: &[u8]) -> bool {
     let reply = Reply::Created(vertex);
-    let line = match write_reply_in(room, &reply) {
-        Ok(line) => line,
-        Err(_) => {
-            let _ = rt.println("no memory");
-            let Ok(line) = write_reply_in(room, &reply) else {
-                return false;
-            };
-            line
+    if write_reply_in(room, &reply).is_err() {
+        let _ = rt.println("no memory");
+        if write_reply_in(room, &reply).is_err() {
+            return false;
         }
-    };
-    let same = line.as_slice() == wanted;
-    room.take_back(line);
-    same
+    }
+    room.line() == wanted
 }
 
 /// Room that could not be allocated is allocated with the next line, and kept for the one after it.

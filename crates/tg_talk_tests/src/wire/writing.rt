@@ -106,13 +106,6 @@ fn replies_and_answers_are_written(rt: HostRuntime) -> Result<(), AllocError> {
     Ok(())
 }
 
-/// Whether the line is this one; its room comes back.
-fn was(room: &mut LineRoom, line: Vec<u8>, wanted: &[u8]) -> bool {
-    let same = line.as_slice() == wanted;
-    room.take_back(line);
-    same
-}
-
 #[test]
 fn lines_are_written_one_after_another_in_one_room(rt: HostRuntime) -> Result<(), AllocError> {
     let room = &mut LineRoom::new(rt.alloc());
@@ -121,22 +114,31 @@ fn lines_are_written_one_after_another_in_one_room(rt: HostRuntime) -> Result<()
         freed: 0,
         ended: false,
     };
-    let noted = write_answer_in(room, &Answer::Noted(note))?;
-    assert!(rt;
-        was(
-            room,
-            noted,
-            b"{\"ended\":false,\"freed\":0,\"phase\":\"mark\"}\n"
-        )
-    );
-    let done = write_reply_in(room, &Reply::Done)?;
-    assert!(rt; was(room, done, b"{\"ok\":\"done\"}\n"));
+    write_answer_in(room, &Answer::Noted(note))?;
+    assert!(rt; room.line() == b"{\"ended\":false,\"freed\":0,\"phase\":\"mark\"}\n");
+    write_reply_in(room, &Reply::Done)?;
+    assert!(rt; room.line() == b"{\"ok\":\"done\"}\n");
     let swept = Swept {
         freed: 2,
         steps: 13,
     };
-    let cycle = write_swept_in(room, swept)?;
-    assert!(rt; was(room, cycle, b"{\"freed\":2,\"steps\":13}\n"));
+    write_swept_in(room, swept)?;
+    assert!(rt; room.line() == b"{\"freed\":2,\"steps\":13}\n");
+    Ok(())
+}
+
+#[test]
+fn a_line_of_the_callers_takes_the_place_of_another(rt: HostRuntime) -> Result<(), AllocError> {
+    let mut room = LineRoom::new(rt.alloc());
+    write_reply_in(&mut room, &Reply::Done)?;
+    let mut own = Vec::new(rt.alloc());
+    own.extend_from_slice(b"digraph {\n")?;
+    room.put(own);
+    assert!(rt; room.line() == b"digraph {\n");
+    room.clear();
+    assert!(rt; room.line().is_empty());
+    write_reply_in(&mut room, &Reply::Done)?;
+    assert!(rt; room.into_line().as_slice() == b"{\"ok\":\"done\"}\n");
     Ok(())
 }
 

@@ -17,10 +17,10 @@ pub record ArtistDraws (old : Artist) (line text : List ℕ) (errors : ℕ) (new
   pub shown : Shown old.each new.vault line answer count text errors
 
 -- what becomes of a line of a run that is drawn
-abbrev pub ArtistSays : Artist → Unit {0} → List ℕ → Saying → Artist → Unit {0} → Type 0
-ArtistSays old u line (goes_on text errors) new v = ArtistDraws old line text errors new
-ArtistSays old u line (closes text errors) new v = ⊥
-ArtistSays old u line unanswered new v = ⊥
+abbrev pub ArtistSays : Artist → List ℕ → Saying → Artist → Type 0
+ArtistSays old line (goes_on text errors) new = ArtistDraws old line text errors new
+ArtistSays old line (closes text errors) new = ⊥
+ArtistSays old line unanswered new = ⊥
 
 -- a text is written after the last line, once the lines have ended in this way
 pub record WrittenLast (Writes : List ℕ → Bool → Type 0) (ended finished : Finished) (old new : Option (List ℕ)) (failed : Bool) : Type 0 where

@@ -24,10 +24,10 @@ pub record AnswersLine (v : Contents) (line : List ℕ) (after : Contents) (text
   pub answers : LineAnswer line steps text errors
 
 -- what becomes of a line of a run
-abbrev pub RunnerSays : Runner → Unit {0} → List ℕ → Saying → Runner → Unit {0} → Type 0
-RunnerSays old u line (goes_on text errors) new v = AnswersLine old.vault line new.vault text errors
-RunnerSays old u line (closes text errors) new v = ⊥
-RunnerSays old u line unanswered new v = ⊥
+abbrev pub RunnerSays : Runner → List ℕ → Saying → Runner → Type 0
+RunnerSays old line (goes_on text errors) new = AnswersLine old.vault line new.vault text errors
+RunnerSays old line (closes text errors) new = ⊥
+RunnerSays old line unanswered new = ⊥
 
 -- the result of the lines after the configuration, if the bytes xs are to come
 pub record InputLeft (Told : Telling) (v : Contents) (finished : Finished) (old new : Option (List ℕ)) (failed : Bool) (xs : List ℕ) : Type 0 where

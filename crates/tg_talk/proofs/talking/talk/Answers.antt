@@ -1,4 +1,4 @@
-use Rattle.std.proofs.Common.{[], ap}
+use Rattle.std.proofs.Common.{[], ap, refl}
 use Rattle.tg_talk.proofs.SendsLemmas.{sends_nothing}
 use Rattle.tg_talk.proofs.TakingLemmas.{always, at_start}
 use Rattle.tg_talk.proofs.TalkLemmas.{talked}
@@ -11,5 +11,5 @@ returns-in_default-clause-talked g c = always _ (HasTalked _ _ _ _ _ _) (λ xs. 
 
 pub returns-clause-talked : goal.returns-clause-talked
 returns-clause-talked g c =
-    at_start _ _ (RestAnswered _ _ _ _ _ _ _ _) (HasTalked _ _ _ _ _ _) c.in-Ok.ensures c.answer_lines-carried.ensures.answered
-    (λ xs rest. talked _ _ _ _ _ _ _ _ _ xs c.leave.ensures (ap (λ i. i.taken) c.in-Ok.ensures) rest)
+    at_start _ _ (RestAnswered _ _ _ _ _ _ _ _) (HasTalked _ _ _ _ _ _) c.in-Ok.ensures c.answer_lines-finished.ensures.answered
+    (λ xs rest. talked (λ h. h.sitting) _ _ _ _ _ _ _ _ _ xs refl c.into_sitting.ensures c.leave.ensures (ap (λ i. i.taken) c.in-Ok.ensures) rest)

@@ -16,7 +16,7 @@ returns-in-Hello-clause-heard g c =
 
 pub returns-in-Ask-clause-heard : goal.returns-in-Ask-clause-heard
 returns-in-Ask-clause-heard g c =
-    heard_ask c.args.session.now c.ask.new.session c.args.bytes.now (saying c.ask.result) _ _ (c.in-Ok.ensures.answered ∙ ap Ok c.in-Act.is ∙ ap (λ e. Ok (Act e)) c.in-Ask.is) c.ask.ensures
+    heard_ask c.args.session.now c.ask.new.session c.args.bytes.now (saying c.ask.new.room c.ask.result) _ _ (c.in-Ok.ensures.answered ∙ ap Ok c.in-Act.is ∙ ap (λ e. Ok (Act e)) c.in-Ask.is) c.ask.ensures
 
 pub returns-in-Shade-clause-heard : goal.returns-in-Shade-clause-heard
 returns-in-Shade-clause-heard g c =

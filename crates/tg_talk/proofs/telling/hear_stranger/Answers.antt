@@ -19,5 +19,5 @@ returns-in-Err-session-clause-told g c =
 pub returns-clause-told : goal.returns-clause-told
 returns-clause-told g c =
     let hello : IsHello c.in-Ok.line c.get.result.now = subst (IsHello c.in-Ok.line) (sym c.get.ensures) c.in-Some.ensures.hello in
-    let tells : Tells (answer.Hello c.in-Ok-session.session.actor) (shown_line c.text_of_answer-text.result) = subst (λ actor. Tells (answer.Hello actor) (shown_line c.text_of_answer-text.result)) c.actor.ensures (_, c.text_of_answer-text.ensures) in
+    let tells : Tells (answer.Hello c.in-Ok-session.session.actor) (shown_line c.text_of_answer-text.new.room c.text_of_answer-text.result) = subst (λ actor. Tells (answer.Hello actor) (shown_line c.text_of_answer-text.new.room c.text_of_answer-text.result)) c.actor.ensures (_, c.text_of_answer-text.ensures) in
     stranger_seated c.args.bytes.now _ _ c.in-Ok.line c.args.seat c.in-Ok-session.session c.in-Ok.ensures.answered hello c.in-Ok-session.ensures.ok.1 c.in-Ok-session.ensures.seated tells

@@ -13,6 +13,6 @@ returns-in-Ok c =
     let label : Draws v (line_label c.args.line.now c.bytes.result.now) c.in-Ok.picture.items = c.in-Ok.ensures in
     record {
       lacks = false;
-      pictured = drawn (subst (Draws v _) (sym c.counted.ensures.text) (subst (λ (answer : List ℕ). Draws v (line_label c.args.line.now answer) c.in-Ok.picture.items) c.bytes.ensures label));
+      pictured = drawn (subst (Draws v _) (sym (c.counted.ensures.text _ ∙ c.put.ensures)) (subst (λ (answer : List ℕ). Draws v (line_label c.args.line.now answer) c.in-Ok.picture.items) c.bytes.ensures label));
       counted = ap one_if (c.counted.ensures.error ∙ c.is_error.ensures);
     }

@@ -24,18 +24,18 @@ returns-in-Line-clause-turned g c =
 
 pub returns-in-TooLong-clause-turned : goal.returns-in-TooLong-clause-turned
 returns-in-TooLong-clause-turned g c =
-    rw c.refuse-fault.ensures.input (weaker _ (Takes next.TooLong _ [] None) (Closes _ _ _ _ _) c.in-TooLong.ensures.takes
+    rw c.refuse.ensures.input (weaker _ (Takes next.TooLong _ [] None) (Closes _ _ _ _ _) c.in-TooLong.ensures.takes
     (λ xs (within, (line, has, long)). record {
       text = c.error_line-text.result.now;
-      told = told_long _ _ _ _ xs _ _ _ _ line within long has c.in-TooLong.ensures.count c.refuse-fault.ensures.errors c.error_line-text.ensures (ends_fault talk.TooLong _ _ c.refuse-fault.ensures.fault);
-      sent = c.refuse-fault.ensures.sent;
+      told = told_long _ _ _ _ xs _ _ _ _ line within long has c.in-TooLong.ensures.count c.refuse.ensures.errors c.error_line-text.ensures (ends_fault talk.TooLong _ _ c.refuse.ensures.fault);
+      sent = c.refuse.ensures.sent;
     }))
 
 pub returns-in-TooMany-clause-turned : goal.returns-in-TooMany-clause-turned
 returns-in-TooMany-clause-turned g c =
-    rw c.refuse-fault-in-TooMany.ensures.input (weaker _ (Takes next.TooMany _ [] None) (Closes _ _ _ _ _) c.in-TooMany.ensures.takes
+    rw c.refuse-in-TooMany.ensures.input (weaker _ (Takes next.TooMany _ [] None) (Closes _ _ _ _ _) c.in-TooMany.ensures.takes
     (λ xs (full, (line, has)). record {
       text = c.too_many_line.result.now;
-      told = told_too_many _ _ _ _ xs _ _ _ _ line full has c.in-TooMany.ensures.count c.refuse-fault-in-TooMany.ensures.errors c.too_many_line.ensures (ends_fault talk.TooMany _ _ c.refuse-fault-in-TooMany.ensures.fault);
-      sent = c.refuse-fault-in-TooMany.ensures.sent;
+      told = told_too_many _ _ _ _ xs _ _ _ _ line full has c.in-TooMany.ensures.count c.refuse-in-TooMany.ensures.errors c.too_many_line.ensures (ends_fault talk.TooMany _ _ c.refuse-in-TooMany.ensures.fault);
+      sent = c.refuse-in-TooMany.ensures.sent;
     }))

@@ -5,7 +5,7 @@ use Rattle.tgdoc.proofs.pictures.ArtistResponder.respond.Goals as goal
 pub returns-clause-says : goal.returns-clause-says
 returns-clause-says c = record {
   same = refl;
-  answer = shown_line c.answer-answered.result;
+  answer = shown_line c.answer-answered.new.room c.answer-answered.result;
   count = one_if (is_wrong c.answer-answered.result);
   answers = c.answer-answered.ensures;
   shown = c.shown.ensures;
