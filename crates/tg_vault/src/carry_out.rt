@@ -22,9 +22,7 @@ use std::alloc::{AllocError, Global};
 use std::collections::BTreeSet;
 use std::mem;
 use tg_collect::{HeapFull, Store};
-use tg_graph::{
-    Effect, Found, LAST_SERIAL, Roll, Spot, decide, effect_of, into_text, is_for_retired,
-};
+use tg_graph::{Effect, Found, LAST_SERIAL, Roll, Spot, decide, effect_of, is_for_retired};
 use tg_rights::{Cause, Command, EdgeList, Kind, Name, Outcome, Reply, Rights, Rule, Text, Which};
 
 /// What a command changes: the store, the active principals, who has retired, and the next serial.
@@ -128,12 +126,20 @@ fn tell(store: &Store, alloc: Global, at: u32, told: &mut Reply) -> Result<(), A
     requires at { IsSome (place store.now at) }
     ensures { OnOk result ((next : ℕ) → told.new ≡ reply.Text (text_of (held store.now next) (serial_at store.now at))) }
 {
-    match store.text(at).copy(alloc) {
-        Ok(text) => {
-            put(told, Reply::Text(text));
-            Ok(())
-        }
-        Err(failed) => Err(failed),
+    put(told, Reply::Text(Text::empty(alloc)));
+    if let Reply::Text(text) = told {
+        text.copy_from(alloc, store.text(at))?;
+    }
+    Ok(())
+}
+
+/// A copy of the text that the command brings; the empty one if it brings none.
+fn copied_text(alloc: Global, command: &Command) -> Result<Text, AllocError>
+    ensures { IfOk result (λ text. text ≡ text_in command.now) }
+{
+    match command {
+        Command::Write { text, .. } => text.copy(alloc),
+        _ => Ok(Text::empty(alloc)),
     }
 }
 
@@ -144,7 +150,7 @@ fn replace(store: &mut Store, alloc: Global, at: u32, command: &Command) -> Resu
     ensures acted { OnOk result (Acted store.old store.new None None) }
     ensures unchanged { OnErr result (store.new ≡ store.old) }
 {
-    let text = into_text(command.copy(alloc)?, alloc);
+    let text = copied_text(alloc, command)?;
     store.set_text(at, text);
     Ok(())
 }
