@@ -21,6 +21,9 @@ led front lead d = simp append_assoc
 pub between : (front lead d rest : List ℕ) → (((front ++ lead) ++ d) ++ rest) ++ 10 ∷ [] ≡ front ++ (lead ++ ((d ++ rest) ++ 10 ∷ []))
 between front lead d rest = simp append_assoc
 
+pub ended : (front lead d : List ℕ) → ((front ++ lead) ++ d) ++ 125 ∷ 10 ∷ [] ≡ front ++ (lead ++ ((d ++ 125 ∷ []) ++ 10 ∷ []))
+ended front lead d = simp append_assoc
+
 pub braced : (front : List ℕ) (ms : Members) → ((front ++ 123 ∷ []) ++ members_text false ms) ++ 10 ∷ [] ≡ front ++ line_text (object ms)
 braced front ms = simp append_assoc
 

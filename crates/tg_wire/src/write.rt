@@ -10,7 +10,8 @@ ghost use Rattle.tg_wire.specs.Promise.Answers.{denied_step_data, noted_data, an
 
 use crate::line_room::LineRoom;
 use crate::object_line::{
-    Told, object_line, put_four, put_led_number, put_led_text, put_led_word, put_object, put_three,
+    Told, object_line, put_four, put_last_number, put_led_number, put_led_text, put_led_word,
+    put_object, put_three,
 };
 use crate::op::command_form;
 use crate::plain::is_plain;
@@ -48,7 +49,7 @@ fn put_reply(line: &mut Vec<u8>, reply: &Reply) -> Result<(), AllocError>
     match reply {
         Reply::Done => line.extend_from_slice(b"{\"ok\":\"done\"}\n"),
         Reply::Created(vertex) => {
-            put_led_number(line, b"{\"ok\":\"created\",\"vertex\":", *vertex, b"}")
+            put_last_number(line, b"{\"ok\":\"created\",\"vertex\":", *vertex)
         }
         Reply::Text(text) => put_told_text(line, text),
         Reply::Edges(edges) => put_told_edges(line, edges.get()),
@@ -116,11 +117,11 @@ fn put_answer(line: &mut Vec<u8>, answer: &Answer) -> Result<(), AllocError>
 {
     match answer {
         Answer::Hello(vertex) => {
-            put_led_number(line, b"{\"ok\":\"hello\",\"vertex\":", *vertex, b"}")
+            put_last_number(line, b"{\"ok\":\"hello\",\"vertex\":", *vertex)
         }
         Answer::Bye => line.extend_from_slice(b"{\"ok\":\"bye\"}\n"),
         Answer::Asked(_, reply) => put_reply(line, reply),
-        Answer::Shaded(Some(vertex)) => put_led_number(line, b"{\"shaded\":", *vertex, b"}"),
+        Answer::Shaded(Some(vertex)) => put_last_number(line, b"{\"shaded\":", *vertex),
         Answer::Shaded(None) => line.extend_from_slice(b"{\"shaded\":null}\n"),
         Answer::Seat(fault) => put_led_word(line, b"{\"error\":", seat_fault_text(*fault)),
         Answer::Ask(fault) => put_led_word(line, b"{\"error\":", ask_fault_text(*fault)),
