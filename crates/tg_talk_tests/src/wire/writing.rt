@@ -115,15 +115,15 @@ fn lines_are_written_one_after_another_in_one_room(rt: HostRuntime) -> Result<()
         ended: false,
     };
     write_answer_in(room, &Answer::Noted(note))?;
-    assert!(rt; room.line() == b"{\"ended\":false,\"freed\":0,\"phase\":\"mark\"}\n");
+    assert!(rt; room.line() == b"{\"ended\":false,\"freed\":0,\"phase\":\"mark\"}\n".as_slice());
     write_reply_in(room, &Reply::Done)?;
-    assert!(rt; room.line() == b"{\"ok\":\"done\"}\n");
+    assert!(rt; room.line() == b"{\"ok\":\"done\"}\n".as_slice());
     let swept = Swept {
         freed: 2,
         steps: 13,
     };
     write_swept_in(room, swept)?;
-    assert!(rt; room.line() == b"{\"freed\":2,\"steps\":13}\n");
+    assert!(rt; room.line() == b"{\"freed\":2,\"steps\":13}\n".as_slice());
     Ok(())
 }
 
@@ -134,11 +134,11 @@ fn a_line_of_the_callers_takes_the_place_of_another(rt: HostRuntime) -> Result<(
     let mut own = Vec::new(rt.alloc());
     own.extend_from_slice(b"digraph {\n")?;
     room.put(own);
-    assert!(rt; room.line() == b"digraph {\n");
+    assert!(rt; room.line() == b"digraph {\n".as_slice());
     room.clear();
     assert!(rt; room.line().is_empty());
     write_reply_in(&mut room, &Reply::Done)?;
-    assert!(rt; room.into_line().as_slice() == b"{\"ok\":\"done\"}\n");
+    assert!(rt; room.into_line().as_slice() == b"{\"ok\":\"done\"}\n".as_slice());
     Ok(())
 }
 
