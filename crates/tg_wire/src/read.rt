@@ -78,8 +78,8 @@ pub fn read_line_into(
     put_other(tokens, alloc, bytes, line)
 }
 
-/// Puts a leave at seat 0 in the place of a line. One that was carried out is a leave already, of which only the seat is
-/// written.
+/// Puts a leave at seat 0 in the place of a line. Where a command was entered from, a leave stands already, of which
+/// only the seat is written.
 #[inline(always)]
 fn begin(line: &mut Line)
     ensures { line.new ≡ Act (Ask 0 Leave) }
