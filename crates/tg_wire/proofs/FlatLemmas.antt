@@ -21,14 +21,15 @@ use Rattle.serde_json.specs.Data.{Data, object, Members, no_members, member, put
 use Rattle.serde_json.specs.Read.{read, of_json, of_members}
 use Rattle.serde_json.specs.Find.{get, get_member, as_array}
 use Rattle.serde_json.proofs.Views.{get_member-put, get_member-put_other}
-use Rattle.tg_wire.specs.Inner.Flat.{Spells, AreSpelled, member_lexemes, key_tokens, plain_data, put_all, flat_data, ReadsMembers, TakesObject}
+use Rattle.tg_wire.specs.Inner.Flat.{Spells, AreSpelled, member_lexemes, key_tokens, ReadsMembers, TakesObject}
+use Rattle.tg_wire.specs.Inner.Members.{plain_data, put_all, flat_data}
 use Rattle.tg_wire.specs.Promise.Reading.{is_among, member_keys, knows_all}
 use Rattle.tg_wire.specs.Inner.Keys.{key_text, key_texts, is_in_set, is_listed_in_either}
 use Rattle.tg_wire.proofs.KeysLemmas.{among_either}
 use Rattle.tg_wire.specs.declared.key.Key.{Key}
-use Rattle.tg_wire.specs.declared.flat.Plain.{Plain}
-use Rattle.tg_wire.specs.declared.flat.Plain.TheVariants.{Text, Escaped, Number}
-use Rattle.tg_wire.specs.declared.flat.Member.{Member}
+use Rattle.tg_wire.specs.declared.member.Plain.{Plain}
+use Rattle.tg_wire.specs.declared.member.Plain.TheVariants.{Text, Escaped, Number}
+use Rattle.tg_wire.specs.declared.member.Member.{Member}
 
 pub some_weaker : {A : Type 0} (o : Option A) (P Q : A → Type 0) → ((a : A) → P a → Q a) → IfSome o P → IfSome o Q
 some_weaker None P Q f h = tt
@@ -166,40 +167,6 @@ line_read line from after ms opens found over =
     let lexemes = found.lexemes ∙ ap (λ ls. member_lexemes found.front (lex.token (token.string found.key) ∷ lex.colon ∷ lex.token found.value ∷ lex.token token.end_object ∷ ls)) over in
     tokens_read line ks ms found.spelled (object_tokens line _ opens ∙ ap (λ ls. token.begin_object ∷ punctuate lex.fresh ls) lexemes
     ∙ ap (λ ts. token.begin_object ∷ ts) (members_tokens_at lex.fresh found.front found.key found.value refl are))
-
--- ---- what is found
-
-put_all_last : (ms : List Member) (m : Member) (found : Members) → put_all (ms ++ m ∷ []) found ≡ put (key_text m.key) (plain_data m.value) (put_all ms found)
-put_all_last [] m found = refl
-put_all_last (x ∷ ms) m found = put_all_last ms m _
-
-found_here : (ms : List Member) (m : Member) (name : List ℕ) → key_text m.key ≡ name → get_member name (put_all (ms ++ m ∷ []) no_members) ≡ Some (plain_data m.value)
-found_here ms m name is =
-    ap (get_member name) (put_all_last ms m no_members) ∙ ap (λ k. get_member name (put k (plain_data m.value) (put_all ms no_members))) is ∙ get_member-put name (plain_data m.value) (put_all ms no_members)
-
-found_before : (ms : List Member) (m : Member) (name : List ℕ) → (key_text m.key ≡ name → ⊥) → get_member name (put_all (ms ++ m ∷ []) no_members) ≡ get_member name (put_all ms no_members)
-found_before ms m name other =
-    ap (get_member name) (put_all_last ms m no_members) ∙ get_member-put_other name (key_text m.key) (plain_data m.value) (put_all ms no_members) (λ e. other (sym e))
-
--- what is found among the first members, as many as that
-abbrev pub found_among : List Member → List ℕ → ℕ → Option Data
-found_among ms name n = get_member name (put_all (take n ms) no_members)
-
-pub found_in_all : (ms : List Member) (name : List ℕ) → get_member name (put_all ms no_members) ≡ found_among ms name (length ms)
-found_in_all ms name = ap (λ l. get_member name (put_all l no_members)) (sym (take-length ms))
-
--- A search from the last member on: the last of these members has the key, or those before it decide.
-module _ (ms : List Member) (n : ℕ) (d : Member) (name : List ℕ) (some : 0 < n) (within : n ≤ length ms) where
-  one_less : found_among ms name n ≡ get_member name (put_all (take (n - 1) ms ++ get_or ms (n - 1) d ∷ []) no_members)
-  one_less =
-      let more : n ≡ n - 1 + 1 = omega (arith, some) in
-      ap (found_among ms name) more ∙ ap (λ l. get_member name (put_all l no_members)) (take_more ms (n - 1) d (omega (arith, some, within)))
-
-  pub found_last : bytes_eq (key_text (get_or ms (n - 1) d).key) name ≡ true → found_among ms name n ≡ Some (plain_data (get_or ms (n - 1) d).value)
-  found_last is = one_less ∙ found_here (take (n - 1) ms) (get_or ms (n - 1) d) name ((bytes_eq-Decides _ name).0 is)
-
-  pub found_sooner : bytes_eq (key_text (get_or ms (n - 1) d).key) name ≡ false → found_among ms name n ≡ found_among ms name (n - 1)
-  found_sooner is = one_less ∙ found_before (take (n - 1) ms) (get_or ms (n - 1) d) name (λ same. true≢false (sym ((bytes_eq-Decides _ name).1 same) ∙ is))
 
 -- ---- no list is found
 

@@ -12,10 +12,10 @@ use Rattle.tg_wire.specs.declared.op.Op.{Op}
 use Rattle.tg_wire.specs.declared.op.Op.TheVariants as op
 
 -- something of each key
-abbrev each_key : (Key → Type 0) → Type 0
+abbrev pub each_key : (Key → Type 0) → Type 0
 each_key P = P key.Op × P key.Seat × P key.Actor × P key.Agent × P key.Over × P key.From × P key.To × P key.At × P key.Rights × P key.Kind × P key.Text × P key.Name × P key.Principals × P key.Edges × P key.Next × P key.Slots × P key.Cells
 
-of_key : (P : Key → Type 0) → each_key P → (k : Key) → P k
+pub of_key : (P : Key → Type 0) → each_key P → (k : Key) → P k
 of_key P h key.Op = h.0
 of_key P h key.Seat = h.1
 of_key P h key.Actor = h.2

@@ -11,6 +11,7 @@ pub mod FlatLemmas
 pub mod ObjectLineLemmas
 pub mod FieldsLemmas
 pub mod LineTextLemmas
+pub mod MembersLemmas
 pub mod RepliesLemmas
 mod WorkedAnswersLemmas
 pub mod WorkedLinesLemmas

@@ -2,6 +2,7 @@
 pub mod Keys
 pub mod Known
 pub mod Reading
+pub mod Members
 pub mod Flat
 pub mod Lines
 pub mod Runs

@@ -5,11 +5,13 @@ ghost use Rattle.json.specs.Token.{begin_object};
 ghost use Rattle.json.specs.Reads.{token_of};
 ghost use Rattle.serde_json.specs.Data.{unsigned};
 ghost use Rattle.serde_json.specs.Read.{number_of};
-ghost use Rattle.tg_wire.specs.Inner.Flat.{Spells, TakesMembers, TakesObject, flat_data};
+ghost use Rattle.tg_wire.specs.Inner.Flat.{Spells, TakesMembers, TakesObject};
+ghost use Rattle.tg_wire.specs.Inner.Members.{flat_data};
 ghost use Rattle.tg_wire.specs.Promise.Reading.{json_of};
 
-use crate::flat::{Member, Members, Plain};
 use crate::key::Key;
+use crate::member::{Member, Plain};
+use crate::members::Members;
 use crate::scan::number_in;
 use json::{Reader, Scratch, Token};
 use std::alloc::AllocError;
@@ -22,8 +24,8 @@ pub(crate) fn read_escaped<'a>(
     scratch: &'a mut Scratch,
     found: &mut Members<'a>,
 ) -> Result<Option<()>, AllocError>
-    requires { found.old.items ≡ [] }
-    ensures { IfOk result (λ done. OnSome done (json_of bytes.now ≡ Some (flat_data found.new.items))) }
+    requires { found.old.list.items ≡ [] }
+    ensures { IfOk result (λ done. OnSome done (json_of bytes.now ≡ Some (flat_data found.new.list.items))) }
 {
     let Ok(line) = std::str::from_utf8(bytes) else {
         return Ok(None);
@@ -34,8 +36,8 @@ pub(crate) fn read_escaped<'a>(
 
 /// Takes all tokens, if they are those of such an object.
 fn take_object<'a>(reader: &mut Reader<'a>, found: &mut Members<'a>) -> Option<()>
-    requires { found.old.items ≡ [] }
-    ensures { OnSome result (TakesObject reader.old found.new.items) }
+    requires { found.old.list.items ≡ [] }
+    ensures { OnSome result (TakesObject reader.old found.new.list.items) }
 {
     let Some(Token::BeginObject) = reader.next() else {
         return None;
@@ -49,18 +51,15 @@ fn take_object<'a>(reader: &mut Reader<'a>, found: &mut Members<'a>) -> Option<(
 
 /// Takes the tokens up to the end of the object.
 fn take_members<'a>(reader: &mut Reader<'a>, found: &mut Members<'a>) -> Option<()>
-    requires { found.old.items ≡ [] }
-    ensures { OnSome result (TakesMembers reader.old reader.new found.new.items) }
+    requires { found.old.list.items ≡ [] }
+    ensures { OnSome result (TakesMembers reader.old reader.new found.new.list.items) }
 {
     loop {
         match reader.next()? {
             Token::Key(word) => {
                 let key = Key::named(word)?;
                 let value = value_of(reader.next()?)?;
-                if found.is_full() {
-                    return None;
-                }
-                found.push(Member { key, value });
+                found.add(Member { key, value })?;
             }
             Token::EndObject => return Some(()),
             _ => return None,

@@ -9,7 +9,8 @@ ghost use Rattle.json.specs.Lex.{token, colon, between, lex};
 ghost use Rattle.serde_json.specs.Read.{read};
 ghost use Rattle.serde_json.specs.Find.{get};
 ghost use Rattle.tg_wire.specs.Promise.Fields as fields;
-ghost use Rattle.tg_wire.specs.Inner.Flat.{Spells, ReadsMembers, plain_data, flat_data};
+ghost use Rattle.tg_wire.specs.Inner.Flat.{Spells, ReadsMembers};
+ghost use Rattle.tg_wire.specs.Inner.Members.{plain_data, flat_data};
 ghost use Rattle.tg_wire.specs.Promise.Lines.{line_extras};
 ghost use Rattle.tg_wire.specs.Promise.Ops.{op_form};
 ghost use Rattle.tg_wire.specs.Promise.Reading.{json_of, knows_all as knows_all_of};
@@ -17,44 +18,16 @@ ghost use Rattle.tg_wire.specs.Inner.Keys.{is_in_set, is_listed_in_either, key_t
 
 use crate::decoded::{TextRoom, read_decoded};
 use crate::key::Key;
+use crate::member::{Member, Plain};
+use crate::members::Members;
 use crate::op::Op;
 use crate::scan::{byte_at, read_key, read_number, read_text, spaces_end, text_of};
 use crate::unescaped::Unescaped;
-use arrayvec::ArrayVec;
-
-/// A member's value.
-#[derive(Clone, Copy, Drop)]
-pub(crate) enum Plain<'a> {
-    // The first, so that room for members begins as zeros.
-    Number(u64),
-    Text(Unescaped<'a>),
-    /// A text that may need escapes.
-    Escaped(&'a str),
-}
-
-/// A member: its key and its value.
-#[derive(Clone, Copy, Drop)]
-pub(crate) struct Member<'a> {
-    pub(crate) key: Key,
-    pub(crate) value: Plain<'a>,
-}
-
-impl Default for Member<'_> {
-    fn default() -> Self {
-        Member {
-            key: Key::Op,
-            value: Plain::Number(0),
-        }
-    }
-}
-
-/// Room for the members of a flat object; a valid line has at most five.
-pub(crate) type Members<'a> = ArrayVec<Member<'a>, 5>;
 
 /// A flat object: its members in the order of the line.
 #[derive(Clone, Copy, Drop)]
 pub(crate) struct Flat<'a> {
-    members: &'a [Member<'a>],
+    members: &'a Members<'a>,
 }
 
 /// Reads the members of a line's object into room for them, if it is flat, and a text that has escapes into room of its
@@ -64,8 +37,8 @@ pub(crate) fn read_flat<'a>(
     room: &'a mut Vec<u8>,
     found: &mut Members<'a>,
 ) -> Option<()>
-    requires { found.old.items ≡ [] }
-    ensures { OnSome result (json_of bytes.now ≡ Some (flat_data found.new.items)) }
+    requires { found.old.list.items ≡ [] }
+    ensures { OnSome result (json_of bytes.now ≡ Some (flat_data found.new.list.items)) }
 {
     let line = text_of(bytes)?;
     read_object(line, TextRoom::new(room), found)
@@ -74,8 +47,8 @@ pub(crate) fn read_flat<'a>(
 /// The same for a text.
 #[inline(always)]
 fn read_object<'a>(line: &'a str, room: TextRoom<'a>, found: &mut Members<'a>) -> Option<()>
-    requires { found.old.items ≡ [] }
-    ensures { OnSome result (read line.now ≡ Some (flat_data found.new.items)) }
+    requires { found.old.list.items ≡ [] }
+    ensures { OnSome result (read line.now ≡ Some (flat_data found.new.list.items)) }
 {
     let bytes = line.as_bytes();
     let brace = spaces_end(bytes, 0);
@@ -98,8 +71,8 @@ fn read_members<'a>(
     found: &mut Members<'a>,
 ) -> Option<usize>
     requires room { from ≤ length line.now }
-    requires none { found.old.items ≡ [] }
-    ensures found { IfSome result (λ after. ReadsMembers line.now from after found.new.items) }
+    requires none { found.old.list.items ≡ [] }
+    ensures found { IfSome result (λ after. ReadsMembers line.now from after found.new.list.items) }
     ensures bound { IfSome result (λ after. after ≤ length line.now) }
 {
     let bytes = line.as_bytes();
@@ -107,10 +80,7 @@ fn read_members<'a>(
     let mut at = from;
     loop {
         let (member, end) = read_member(line, at, &mut room)?;
-        if found.is_full() {
-            return None;
-        }
-        found.push(member);
+        found.add(member)?;
         match byte_at(bytes, end) {
             b',' => at = end + 1,
             b'}' => return Some(end + 1),
@@ -162,7 +132,7 @@ fn read_value<'a>(line: &'a str, at: usize, room: &mut TextRoom<'a>) -> Option<(
 }
 
 impl<'a> Flat<'a> {
-    pub(crate) fn new(members: &'a [Member<'a>]) -> Flat<'a>
+    pub(crate) fn new(members: &'a Members<'a>) -> Flat<'a>
         ensures { result.members.now ≡ members.now }
     {
         Flat { members }
@@ -171,19 +141,14 @@ impl<'a> Flat<'a> {
     /// The last member of that key.
     #[inline(always)]
     pub(crate) fn get(&self, key: Key) -> Option<Plain<'a>>
-        ensures { option_map plain_data result ≡ get (key_text key) (flat_data self.now.members.now) }
+        ensures { option_map plain_data result ≡ get (key_text key) (flat_data self.now.members.now.list.items) }
     {
-        for at in (0..self.members.len()).rev() {
-            if self.members[at].key.is(key) {
-                return Some(self.members[at].value);
-            }
-        }
-        None
+        self.members.last(key)
     }
 
     #[inline(always)]
     pub(crate) fn number(&self, key: Key) -> Option<u64>
-        ensures { result ≡ fields.number_in (key_text key) (flat_data self.now.members.now) }
+        ensures { result ≡ fields.number_in (key_text key) (flat_data self.now.members.now.list.items) }
     {
         match self.get(key)? {
             Plain::Number(number) => Some(number),
@@ -193,7 +158,7 @@ impl<'a> Flat<'a> {
 
     #[inline(always)]
     pub(crate) fn optional_number(&self, key: Key, default: u64) -> Option<u64>
-        ensures { result ≡ fields.optional_number (key_text key) default (flat_data self.now.members.now) }
+        ensures { result ≡ fields.optional_number (key_text key) default (flat_data self.now.members.now.list.items) }
     {
         match self.get(key) {
             None => Some(default),
@@ -204,7 +169,7 @@ impl<'a> Flat<'a> {
 
     #[inline(always)]
     pub(crate) fn string(&self, key: Key) -> Option<&'a str>
-        ensures { option_map (λ s. s.now) result ≡ fields.string_in (key_text key) (flat_data self.now.members.now) }
+        ensures { option_map (λ s. s.now) result ≡ fields.string_in (key_text key) (flat_data self.now.members.now.list.items) }
     {
         match self.get(key)? {
             Plain::Text(text) => Some(text.get()),
@@ -216,7 +181,7 @@ impl<'a> Flat<'a> {
     /// A text, if it is known to need no escape.
     #[inline(always)]
     pub(crate) fn unescaped(&self, key: Key) -> Option<Unescaped<'a>>
-        ensures { IfSome result (λ s. fields.string_in (key_text key) (flat_data self.now.members.now) ≡ Some s.text.now) }
+        ensures { IfSome result (λ s. fields.string_in (key_text key) (flat_data self.now.members.now.list.items) ≡ Some s.text.now) }
     {
         match self.get(key)? {
             Plain::Text(text) => Some(text),
@@ -227,7 +192,7 @@ impl<'a> Flat<'a> {
     /// Whether each key is one of these.
     #[inline(always)]
     pub(crate) fn knows_all(&self, others: &[Key], required: &[Key]) -> bool
-        ensures { result ≡ knows_all_of (key_texts others.now ++ key_texts required.now) (flat_data self.now.members.now) }
+        ensures { result ≡ knows_all_of (key_texts others.now ++ key_texts required.now) (flat_data self.now.members.now.list.items) }
     {
         self.are_known(others, required)
     }
@@ -235,29 +200,17 @@ impl<'a> Flat<'a> {
     /// Whether each key is one that a line of this op may have.
     #[inline(always)]
     pub(crate) fn knows_line(&self, op: Op) -> bool
-        ensures { result ≡ knows_all_of (line_extras ++ (op_form op).fields) (flat_data self.now.members.now) }
+        ensures { result ≡ knows_all_of (line_extras ++ (op_form op).fields) (flat_data self.now.members.now.list.items) }
     {
-        self.has_only(op.known())
-    }
-
-    /// Whether each key is in this set.
-    #[inline(always)]
-    fn has_only(&self, set: u32) -> bool
-        ensures { result ≡ list_all (λ m. is_in_set set m.key) self.now.members.now }
-    {
-        for member in self.members {
-            if !member.key.is_in_set(set) {
-                return false;
-            }
-        }
-        true
+        self.members.are_in(op.known())
     }
 
     #[inline(always)]
     fn are_known(&self, others: &[Key], required: &[Key]) -> bool
-        ensures { result ≡ list_all (λ m. is_listed_in_either others.now required.now (key_text m.key)) self.now.members.now }
+        ensures { result ≡ list_all (λ m. is_listed_in_either others.now required.now (key_text m.key)) self.now.members.now.list.items }
     {
         self.members
+            .as_slice()
             .iter()
             .all(|member| member.key.is_in_either(others, required))
     }

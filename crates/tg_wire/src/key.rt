@@ -3,14 +3,13 @@
 ghost use Rattle.std.specs.Prelude.{◌≡◌, ◌↔◌, ◌∷◌, ◌++◌, [], IfSome, IfNone, true};
 ghost use Rattle.std.specs.Io.{StartsWith};
 ghost use Rattle.std.specs.Str.{bytes_eq};
-ghost use Rattle.tg_wire.specs.Inner.Keys.{is_in_set, is_listed, is_listed_in_either, key_bit, key_text};
+ghost use Rattle.tg_wire.specs.Inner.Keys.{is_in_set, is_listed, is_listed_in_either, key_bit, key_place, key_text};
 
 /// A key that some line has.
 #[derive(Clone, Copy, Debug, PartialEq, Eq)]
 pub(crate) enum Key {
     Op,
     Seat,
-    Actor,
     Agent,
     Over,
     From,
@@ -20,6 +19,7 @@ pub(crate) enum Key {
     Kind,
     Text,
     Name,
+    Actor,
     Principals,
     Edges,
     Next,
@@ -27,11 +27,13 @@ pub(crate) enum Key {
     Cells,
 }
 
+/// How many keys there are.
+pub(crate) const KEY_COUNT: usize = 17;
+
 /// Each key.
-const KEYS: [Key; 17] = [
+const KEYS: [Key; KEY_COUNT] = [
     Key::Op,
     Key::Seat,
-    Key::Actor,
     Key::Agent,
     Key::Over,
     Key::From,
@@ -41,6 +43,7 @@ const KEYS: [Key; 17] = [
     Key::Kind,
     Key::Text,
     Key::Name,
+    Key::Actor,
     Key::Principals,
     Key::Edges,
     Key::Next,
@@ -48,7 +51,7 @@ const KEYS: [Key; 17] = [
     Key::Cells,
 ];
 
-// A bit for each key that an event line may have, in a set of keys.
+// A bit for each key, in a set of keys.
 pub(crate) const OP: u32 = 1 << 0;
 
 pub(crate) const SEAT: u32 = 1 << 1;
@@ -70,6 +73,18 @@ pub(crate) const KIND: u32 = 1 << 8;
 pub(crate) const TEXT: u32 = 1 << 9;
 
 pub(crate) const NAME: u32 = 1 << 10;
+
+const ACTOR: u32 = 1 << 11;
+
+const PRINCIPALS: u32 = 1 << 12;
+
+const EDGES: u32 = 1 << 13;
+
+const NEXT: u32 = 1 << 14;
+
+const SLOTS: u32 = 1 << 15;
+
+const CELLS: u32 = 1 << 16;
 
 impl Key {
     /// The key as lines have it, without quotes.
@@ -184,9 +199,35 @@ impl Key {
         self == other
     }
 
-    /// The key's bit in a set of keys; none if no event line has the key.
+    /// Its place among all keys, counted from 0.
     #[inline(always)]
-    fn bit(self) -> u32
+    pub(crate) fn place(self) -> usize
+        ensures { result ≡ key_place self }
+    {
+        match self {
+            Key::Op => 0,
+            Key::Seat => 1,
+            Key::Agent => 2,
+            Key::Over => 3,
+            Key::From => 4,
+            Key::To => 5,
+            Key::At => 6,
+            Key::Rights => 7,
+            Key::Kind => 8,
+            Key::Text => 9,
+            Key::Name => 10,
+            Key::Actor => 11,
+            Key::Principals => 12,
+            Key::Edges => 13,
+            Key::Next => 14,
+            Key::Slots => 15,
+            Key::Cells => 16,
+        }
+    }
+
+    /// The key's bit in a set of keys.
+    #[inline(always)]
+    pub(crate) fn bit(self) -> u32
         ensures { result ≡ key_bit self }
     {
         match self {
@@ -201,7 +242,12 @@ impl Key {
             Key::Kind => KIND,
             Key::Text => TEXT,
             Key::Name => NAME,
-            Key::Actor | Key::Principals | Key::Edges | Key::Next | Key::Slots | Key::Cells => 0,
+            Key::Actor => ACTOR,
+            Key::Principals => PRINCIPALS,
+            Key::Edges => EDGES,
+            Key::Next => NEXT,
+            Key::Slots => SLOTS,
+            Key::Cells => CELLS,
         }
     }
 

@@ -12,6 +12,8 @@ mod key;
 mod laws;
 mod line;
 mod line_room;
+mod member;
+mod members;
 mod object;
 mod object_line;
 mod op;

@@ -16,10 +16,11 @@ ghost use Rattle.tg_wire.specs.declared.fault.WireFault.TheVariants.{NoOp, OutOf
 use crate::escaped::read_escaped;
 use crate::fault::WireFault;
 use crate::field;
-use crate::flat::{Flat, Members, read_flat};
+use crate::flat::{Flat, read_flat};
 use crate::key::Key;
 use crate::line::Line;
 use crate::line_room::{LineRoom, TokensRoom};
+use crate::members::Members;
 use crate::object::{LineObject, check_length, check_required, is_known, knows_all, tree};
 use crate::op::{Op, command_form, step_rule_named};
 use std::alloc::Global;
@@ -69,11 +70,7 @@ pub fn read_line_into(
     let (text, tokens) = room.texts().parts();
     let mut members = Members::new();
     if read_flat(bytes, text, &mut members).is_some() {
-        return put_object(
-            alloc,
-            &LineObject::Flat(Flat::new(members.as_slice())),
-            line,
-        );
+        return put_object(alloc, &LineObject::Flat(Flat::new(&members)), line);
     }
     put_other(tokens, alloc, bytes, line)
 }
@@ -110,11 +107,7 @@ fn put_other(
     let scratch = room.lend()?;
     let mut members = Members::new();
     if read_escaped(bytes, scratch, &mut members)?.is_some() {
-        return put_object(
-            alloc,
-            &LineObject::Flat(Flat::new(members.as_slice())),
-            line,
-        );
+        return put_object(alloc, &LineObject::Flat(Flat::new(&members)), line);
     }
     put_object(alloc, &tree(alloc, bytes)?, line)
 }
@@ -187,7 +180,7 @@ pub fn read_step(alloc: Global, bytes: &[u8]) -> Result<Step, WireFault>
     let mut room = Vec::new(alloc);
     let mut members = Members::new();
     if read_flat(bytes, &mut room, &mut members).is_some() {
-        return step_of_object(alloc, &LineObject::Flat(Flat::new(members.as_slice())));
+        return step_of_object(alloc, &LineObject::Flat(Flat::new(&members)));
     }
     step_of_object(alloc, &tree(alloc, bytes)?)
 }

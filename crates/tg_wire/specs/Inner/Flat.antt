@@ -4,32 +4,20 @@ use Rattle.json.specs.Token as token
 use Rattle.json.specs.Token.{Token}
 use Rattle.json.specs.Lex as lex
 use Rattle.json.specs.Lex.{Lexeme}
-use Rattle.serde_json.specs.Data.{Data, string, number, unsigned, object, Members, no_members, put}
+use Rattle.serde_json.specs.Data.{Data, unsigned}
 use Rattle.serde_json.specs.Read.{number_of}
 use Rattle.serde_json.specs.View.{view}
 use Rattle.tg_wire.specs.Inner.Keys.{key_text}
-use Rattle.tg_wire.specs.declared.flat.Plain.{Plain}
-use Rattle.tg_wire.specs.declared.flat.Plain.TheVariants.{Text, Escaped, Number}
-use Rattle.tg_wire.specs.declared.flat.Member.{Member}
+use Rattle.tg_wire.specs.Inner.Members.{flat_data}
+use Rattle.tg_wire.specs.declared.member.Plain.{Plain}
+use Rattle.tg_wire.specs.declared.member.Plain.TheVariants.{Text, Escaped, Number}
+use Rattle.tg_wire.specs.declared.member.Member.{Member}
 use Rattle.tg_wire.specs.declared.object.LineObject.{LineObject}
 use Rattle.tg_wire.specs.declared.object.LineObject.TheVariants as object_by
 
-abbrev pub plain_data : Plain → Data
-plain_data (Text s) = string s.text.now
-plain_data (Escaped s) = string s.now
-plain_data (Number n) = number (unsigned n)
-
--- the members put in one after another, so that of equal keys the last one counts
-abbrev pub put_all : List Member → Members → Members
-put_all [] found = found
-put_all (m ∷ ms) found = put_all ms (put (key_text m.key) (plain_data m.value) found)
-
-abbrev pub flat_data : List Member → Data
-flat_data ms = object (put_all ms no_members)
-
 -- the object of a line, whichever way it was read
 abbrev pub data_of : LineObject → Data
-data_of (object_by.Flat f) = flat_data f.members.now
+data_of (object_by.Flat f) = flat_data f.members.now.list.items
 data_of (object_by.Tree v) = view v
 
 -- ---- from the lexemes of a line

@@ -9,5 +9,5 @@ pub returns : goal.returns
 returns c =
     let line = c.in-Ok.line.now in
     let text : (line ≡ c.args.bytes.now) × IsUtf8 c.args.bytes.now = search rules in
-    let ms = c.take_object.new.found.items in
+    let ms = c.take_object.new.found.list.items in
     some_weaker c.take_object.result _ _ (λ done took. json_of-read c.args.bytes.now _ text.1 (ap read (sym text.0) ∙ object_read line ms (subst (λ ts. TakesObject ts ms) c.in_ok-reader.ensures.ok took))) c.take_object.ensures

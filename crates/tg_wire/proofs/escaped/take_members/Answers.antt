@@ -13,6 +13,6 @@ loop-word-preserved c =
     let first : c.loop-word.reader ≡ token.key word ∷ c.next.new.self = c.in_ok-word.ensures.value ∙ ap (λ x. token_of x ∷ c.next.new.self) c.in-Key.is in
     let second : c.next.new.self ≡ t ∷ c.next-in-Key.new.self = c.in_ok-next-in-Key.ensures.value in (
       before.0 ++ (word, t) ∷ [],
-      subst (AreSpelled (before.0 ++ (word, t) ∷ [])) (sym c.push.ensures.items) (spelled_more before.0 c.loop-word.found.items word t _ before.1 (sym c.in_ok-key-in-Key.ensures) c.in_ok-value-in-Key.ensures),
+      subst (AreSpelled (before.0 ++ (word, t) ∷ [])) (sym c.in_ok-add-in-Key.ensures) (spelled_more before.0 c.loop-word.found.list.items word t _ before.1 (sym c.in_ok-key-in-Key.ensures) c.in_ok-value-in-Key.ensures),
       before.2 ∙ ap (λ ts. key_tokens before.0 ++ ts) (first ∙ ap (λ ts. token.key word ∷ ts) second) ∙ key_tokens_more before.0 word t c.next-in-Key.new.self,
     )

@@ -4,7 +4,7 @@ use Rattle.tg_wire.specs.Inner.Flat.{AreSpelled, key_tokens}
 use Rattle.tg_wire.proofs.escaped.take_members.Given as goal
 
 abbrev pub invariant-loop-word : goal.invariant-loop-word
-invariant-loop-word l = (keys : List (List ℕ × Token)) × AreSpelled keys l.found.items × (l.fn.reader ≡ key_tokens keys ++ l.reader)
+invariant-loop-word l = (keys : List (List ℕ × Token)) × AreSpelled keys l.found.list.items × (l.fn.reader ≡ key_tokens keys ++ l.reader)
 
 abbrev pub decreases-loop-word : goal.decreases-loop-word
 decreases-loop-word l = length l.reader

@@ -6,4 +6,4 @@ use Rattle.tg_wire.proofs.FlatLemmas.{flat_no_list}
 use Rattle.tg_wire.proofs.field.list.Goals as goal
 
 pub returns-in-Flat : goal.returns-in-Flat
-returns-in-Flat c = flat_no_list c.in-Flat.field-0.members.now (key_text c.args.key) ∙ ap (λ o. option_and_then as_array (get (key_text c.args.key) (data_of o))) (sym c.in-Flat.is)
+returns-in-Flat c = flat_no_list c.in-Flat.field-0.members.now.list.items (key_text c.args.key) ∙ ap (λ o. option_and_then as_array (get (key_text c.args.key) (data_of o))) (sym c.in-Flat.is)

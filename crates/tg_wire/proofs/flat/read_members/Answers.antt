@@ -18,7 +18,7 @@ loop-member-preserved c =
       omega (arith, within d end 44 is_comma (λ z. omega arith)),
       (
         front.0 ++ (key_text member.key, found.0) ∷ [],
-        subst (AreSpelled (front.0 ++ (key_text member.key, found.0) ∷ [])) (sym c.push.ensures.items) (spelled_more front.0 _ (key_text member.key) found.0 member front.1 refl found.1),
+        subst (AreSpelled (front.0 ++ (key_text member.key, found.0) ∷ [])) (sym c.in_ok-add.ensures) (spelled_more front.0 _ (key_text member.key) found.0 member front.1 refl found.1),
         front.2 ∙ ap (member_lexemes front.0) (found.2 ∙ ap (λ ls. token (string (key_text member.key)) ∷ colon ∷ token found.0 ∷ ls) (operator_at d end 44 refl is_comma (λ z. omega arith)))
             ∙ lexemes_more front.0 (key_text member.key) found.0 (lex between (drop (end + 1) d)),
       ),
@@ -36,6 +36,6 @@ returns-in-125-clause-found c =
       front = front.0;
       key = key_text member.key;
       value = found.0;
-      spelled = subst (AreSpelled (front.0 ++ (key_text member.key, found.0) ∷ [])) (sym c.push.ensures.items) (spelled_more front.0 _ (key_text member.key) found.0 member front.1 refl found.1);
+      spelled = subst (AreSpelled (front.0 ++ (key_text member.key, found.0) ∷ [])) (sym c.in_ok-add.ensures) (spelled_more front.0 _ (key_text member.key) found.0 member front.1 refl found.1);
       lexemes = front.2 ∙ ap (member_lexemes front.0) (found.2 ∙ ap (λ ls. token (string (key_text member.key)) ∷ colon ∷ token found.0 ∷ ls) (operator_at d end 125 refl is_brace (λ z. omega arith)));
     }

@@ -7,7 +7,7 @@ use Rattle.tg_wire.proofs.flat.read_members.Given as goal
 abbrev pub invariant-loop-member : goal.invariant-loop-member
 invariant-loop-member l =
     (l.at ≤ length l.line)
-    × ((front : List (List ℕ × Token)) × AreSpelled front l.found.items × (lex between (drop l.fn.from l.line) ≡ member_lexemes front (lex between (drop l.at l.line))))
+    × ((front : List (List ℕ × Token)) × AreSpelled front l.found.list.items × (lex between (drop l.fn.from l.line) ≡ member_lexemes front (lex between (drop l.at l.line))))
 
 abbrev pub decreases-loop-member : goal.decreases-loop-member
 decreases-loop-member l = length l.line - l.at

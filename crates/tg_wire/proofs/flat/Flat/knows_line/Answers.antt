@@ -11,6 +11,6 @@ use Rattle.tg_wire.proofs.flat.Flat.knows_line.Goals as goal
 pub returns : goal.returns
 returns c =
     let op = c.args.op in
-    let ms = c.args.self.now.members.now in
-    c.has_only.ensures ∙ ap (λ set. list_all (λ m. is_in_set set m.key) ms) c.known.ensures
+    let ms = c.args.self.now.members.now.list.items in
+    c.are_in.ensures ∙ ap (λ set. list_all (λ m. is_in_set set m.key) ms) c.known.ensures
     ∙ sym (flat_known_in (known_set op) (line_extras ++ (op_form op).fields) ms (set_is_known op))
