@@ -249,12 +249,12 @@ def gone_wrong(
     return test
 
 
-def up_to_three_times(test: Test) -> Test:
+def up_to_ten_times(test: Test) -> Test:
     """The test, made again if it fails: which worker takes the second client is left to the system,
     and one that takes both leaves the other without a list."""
 
     def tried(program: Path) -> None:
-        for left in (2, 1, 0):
+        for left in reversed(range(10)):
             try:
                 test(program)
                 return
@@ -519,7 +519,7 @@ def tests() -> Tests:
     first, others, all_memory = (Fault("memory", whose=whose) for whose in ("first", "others", ""))
     for name, test in {
         "a-server-itself-refused-once": gone_wrong(first, own_memory_refused),
-        "workers-refused-once": up_to_three_times(gone_wrong(others, workers_memory_refused)),
+        "workers-refused-once": up_to_ten_times(gone_wrong(others, workers_memory_refused)),
         "a-server-refused-from-then-on": gone_wrong(all_memory, memory_refused_from_then_on, True),
         "a-server-in-rounds-refused-once": gone_wrong(
             first, own_memory_refused_in_rounds, options=TWO_ROUNDS
