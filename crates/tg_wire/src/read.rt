@@ -52,8 +52,8 @@ pub fn read_line_in(room: &mut LineRoom, alloc: Global, bytes: &[u8]) -> Result<
     }
 }
 
-/// As `read_line_in`, with the value put in the place of another one, so that it is not moved. If there is a fault, what
-/// is there then means nothing.
+/// As `read_line_in`, with the value put in the place of another one, so that it is not moved. If there is a fault,
+/// what is there then means nothing.
 #[inline(always)]
 #[tactic(auto, unfolding(crate::specs::Promise::Lines::line_of))]
 pub fn read_line_into(
@@ -129,12 +129,22 @@ fn put_object(alloc: Global, object: &LineObject<'_>, line: &mut Line) -> Result
     }
 }
 
-/// Puts a value in the place of another, of which nothing has to be dropped.
+/// Puts a line in the place of a leave, of which nothing has to be dropped.
 #[inline(always)]
-fn put<T: Drop>(place: &mut T, value: T)
-    ensures { place.new ≡ value }
+fn replace_leave(place: &mut Line, line: Line)
+    requires { place.old ≡ Act (Ask 0 Leave) }
+    ensures { place.new ≡ line }
 {
-    mem::forget(mem::replace(place, value));
+    mem::forget(mem::replace(place, line));
+}
+
+/// The same of a command.
+#[inline(always)]
+fn replace_command(place: &mut Command, command: Command)
+    requires { place.old ≡ Leave }
+    ensures { place.new ≡ command }
+{
+    mem::forget(mem::replace(place, command));
 }
 
 /// Whether the object of this good line has no other fields.
@@ -226,12 +236,12 @@ fn put_op(alloc: Global, op: Op, object: &LineObject<'_>, line: &mut Line) -> Re
     match op {
         Op::Hello => {
             let name = field::word(alloc, object, Key::Name)?;
-            put(line, Line::Act(Event::Hello { seat, name }));
+            replace_leave(line, Line::Act(Event::Hello { seat, name }));
         }
-        Op::Bye => put(line, Line::Act(Event::Bye { seat })),
-        Op::Shade => put(line, Line::Act(Event::Shade { seat })),
-        Op::Collect => put(line, Line::Act(Event::Collect)),
-        Op::Cycle => put(line, Line::Cycle),
+        Op::Bye => replace_leave(line, Line::Act(Event::Bye { seat })),
+        Op::Shade => replace_leave(line, Line::Act(Event::Shade { seat })),
+        Op::Collect => replace_leave(line, Line::Act(Event::Collect)),
+        Op::Cycle => replace_leave(line, Line::Cycle),
         Op::Ask(rule) => {
             if let Line::Act(event) = line {
                 if let Event::Ask {
@@ -264,46 +274,46 @@ fn put_command(
             let rights = field::rights(object).ok_or(WireFault::BadField)?;
             let over = field::number(object, Key::Over).ok_or(WireFault::BadField)?;
             let from = field::number(object, Key::From).ok_or(WireFault::BadField)?;
-            put(command, Command::Take { rights, over, from });
+            replace_command(command, Command::Take { rights, over, from });
         }
         Rule::Grant => {
             let rights = field::rights(object).ok_or(WireFault::BadField)?;
             let over = field::number(object, Key::Over).ok_or(WireFault::BadField)?;
             let to = field::number(object, Key::To).ok_or(WireFault::BadField)?;
-            put(command, Command::Grant { rights, over, to });
+            replace_command(command, Command::Grant { rights, over, to });
         }
         Rule::Create => {
             let kind = field::kind(object).ok_or(WireFault::BadField)?;
             let rights = field::rights(object).ok_or(WireFault::BadField)?;
-            put(command, Command::Create { kind, rights });
+            replace_command(command, Command::Create { kind, rights });
         }
         Rule::Remove => {
             let rights = field::rights(object).ok_or(WireFault::BadField)?;
             let over = field::number(object, Key::Over).ok_or(WireFault::BadField)?;
-            put(command, Command::Remove { rights, over });
+            replace_command(command, Command::Remove { rights, over });
         }
         Rule::Read => {
             let over = field::number(object, Key::Over).ok_or(WireFault::BadField)?;
-            put(command, Command::Read { over });
+            replace_command(command, Command::Read { over });
         }
         Rule::Write => {
             let over = field::number(object, Key::Over).ok_or(WireFault::BadField)?;
             let text = field::text(alloc, object)?;
-            put(command, Command::Write { over, text });
+            replace_command(command, Command::Write { over, text });
         }
         Rule::Look => {
             let at = field::number(object, Key::At).ok_or(WireFault::BadField)?;
-            put(command, Command::Look { at });
+            replace_command(command, Command::Look { at });
         }
         Rule::Enrol => {
             let rights = field::rights(object).ok_or(WireFault::BadField)?;
             let name = field::name(alloc, object)?;
-            put(command, Command::Enrol { name, rights });
+            replace_command(command, Command::Enrol { name, rights });
         }
-        Rule::Retire => put(command, Command::Retire),
+        Rule::Retire => replace_command(command, Command::Retire),
         Rule::Assume => {
             let agent = field::number(object, Key::Agent).ok_or(WireFault::BadField)?;
-            put(command, Command::Assume { agent });
+            replace_command(command, Command::Assume { agent });
         }
         Rule::Leave => {}
     }
