@@ -258,16 +258,14 @@ impl Store {
         if self.machine.heap.free_cells() == 0 {
             return Err((HeapFull::Cells, text));
         }
-        match self.machine.place_vertex(serial, kind, text) {
-            Err(text) => Err((HeapFull::Slots, text)),
-            Ok(slot) => {
-                self.machine.heap.soundness();
-                let root = Root { serial, slot };
-                self.machine.link_edge(seat as usize, id, root, rights);
-                self.machine.heap.soundness();
-                Ok(())
-            }
-        }
+        let Ok(slot) = self.machine.place_vertex(serial, kind, text) else {
+            unreachable!()
+        };
+        self.machine.heap.soundness();
+        let root = Root { serial, slot };
+        self.machine.link_edge(seat as usize, id, root, rights);
+        self.machine.heap.soundness();
+        Ok(())
     }
 
     /// Puts a new subject into a slot, as `store_vertex` does with the same errors, and makes it a principal, of whom
@@ -374,7 +372,8 @@ impl Store {
         note
     }
 
-    /// The collector steps up to and including the first that ends a cycle.
+    /// The collector steps up to and including the first that ends a cycle: how many slots they freed, and how many
+    /// there were.
     pub fn cycle(&mut self) -> Swept
         ensures { Cycled self.old self.new result.freed result.steps }
     {

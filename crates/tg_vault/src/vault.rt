@@ -36,8 +36,8 @@ use tg_rights::{Command, Reply, SEATS};
 /// many. Contracts see its `Contents`. Only they have the graph of the history; what is stored is the part of the graph
 /// still in use.
 ///
-/// The history is kept whole until a rebase, and is legal: each entry's outcome is one that the take-grant rules (Lipton
-/// and Snyder 1977; Bishop) permit in the graph that the entries before it leave.
+/// The history is kept whole until a rebase, and is legal: each entry's outcome is one that the take-grant rules
+/// (Lipton and Snyder 1977; Bishop) permit in the graph that the entries before it leave.
 #[derive(Drop)]
 pub struct Vault {
     pub(crate) alloc: Global,
@@ -86,9 +86,9 @@ impl Vault {
         Vault::with_key(alloc, Key::FIXED, config)
     }
 
-    /// The same under a key of the caller's, which the vault keeps, also in a rebase, and which changes no answer. A key
-    /// that nobody can guess is meant to keep anybody from choosing edges that are slow to find. Errors are those of `new`, in the same order: the first fault
-    /// of the configuration, and `OutOfMemory` only if there is no other.
+    /// The same under a key of the caller's, which the vault keeps, also in a rebase, and which changes no answer. A
+    /// key that nobody can guess is meant to keep anybody from choosing edges that are slow to find. Errors are those
+    /// of `new`, in the same order: the first fault of the configuration, and `OutOfMemory` only if there is no other.
     pub fn with_key(alloc: Global, key: Key, config: Config) -> Result<Vault, OpenFault>
         ensures ok { IfOk result (λ vault. IsFresh config vault) }
         ensures key { IfOk result (λ vault. vault.store.key ≡ key) }
@@ -287,8 +287,8 @@ impl Vault {
         }
     }
 
-    /// The same for a command that is taken from its place once it is entered, with the reply in the place of `Done`: so
-    /// neither is moved before.
+    /// The same for a command that is taken from its place once it is entered, with the reply in the place of `Done`:
+    /// so neither is moved before.
     #[inline(never)]
     #[tactic(auto, using(crate::proofs::CollectLemmas::still_acts))]
     fn ask(&mut self, seat: u64, command: &mut Command, told: &mut Reply) -> Result<u64, AskFault>
@@ -329,7 +329,8 @@ impl Vault {
             Ok(principal) => Ok(principal),
             Err(SeatFault::NoSeat) => Err(AskFault::NoSeat),
             Err(SeatFault::NoActor) => Err(AskFault::NoActor),
-            Err(_) => Err(AskFault::Busy),
+            Err(SeatFault::Busy) => Err(AskFault::Busy),
+            Err(SeatFault::Bound | SeatFault::NoPrincipal) => unreachable!(),
         }
     }
 
@@ -393,8 +394,8 @@ impl Vault {
         answer
     }
 
-    /// As `run_one`, with the answer put in the place of another one, and the event left where it is, so that neither is
-    /// moved. The event is used up: a command that is entered is taken out of it.
+    /// As `run_one`, with the answer put in the place of another one, and the event left where it is, so that neither
+    /// is moved. The event is used up: a command that is entered is taken out of it.
     #[inline(always)]
     pub fn run_one_into(&mut self, event: &mut Event, answer: &mut Answer)
         ensures step { VaultStep self.old event.old answer.new self.new }

@@ -194,8 +194,8 @@ pub(crate) fn name(alloc: Global, object: &LineObject<'_>) -> Result<Name, WireF
     if !is_name(text) {
         return Err(WireFault::BadField);
     }
-    match Name::new(String::from_str(alloc, text)?) {
-        Ok(name) => Ok(name),
-        Err(_) => Err(WireFault::BadField),
-    }
+    let Ok(name) = Name::new(String::from_str(alloc, text)?) else {
+        unreachable!()
+    };
+    Ok(name)
 }

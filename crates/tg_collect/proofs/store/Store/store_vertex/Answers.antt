@@ -22,16 +22,16 @@ pub link_edge-requires-clause-none : goal.link_edge-requires-clause-none
 link_edge-requires-clause-none c = still_none c.self.inside.machine c.place_vertex.new.self c.args.id c.in-Ok.slot c.args.serial c.args.kind c.args.text c.soundness.ensures.sound c.self.invariant
     (rw (← c.self.view_is) at c.requires.source) (rw (← c.self.view_is) at c.requires.unheld) (rw (← c.self.view_is) at c.requires.unparked) c.in-Ok.ensures.step
 
-done : (c : goal.After-soundness-in-Ok-2) → Whole c.link_edge.new.self × VertexStored (stored c.self.inside.machine) (stored c.link_edge.new.self) c.args.seat (serial_at (stored c.self.inside.machine) c.args.id) c.args.serial c.args.kind c.args.text c.args.rights
+done : (c : goal.After-soundness-3) → Whole c.link_edge.new.self × VertexStored (stored c.self.inside.machine) (stored c.link_edge.new.self) c.args.seat (serial_at (stored c.self.inside.machine) c.args.id) c.args.serial c.args.kind c.args.text c.args.rights
 done c = vertex_called c.self.inside.machine c.place_vertex.new.self c.args.id c.in-Ok.slot c.args.serial c.args.kind c.args.text c.soundness.ensures.sound c.self.invariant
     (rw (← c.self.view_is) at c.requires.source) (rw (← c.self.view_is) at c.requires.unheld) (rw (← c.self.view_is) at c.requires.unparked) c.in-Ok.ensures.step
-    c.link_edge.new.self c.args.seat c.args.rights c.soundness-in-Ok.ensures.sound c.soundness-in-Ok-2.ensures.sound (rw (← c.self.view_is) at c.requires.idle) c.requires.seat c.link_edge.ensures.step
+    c.link_edge.new.self c.args.seat c.args.rights c.soundness-2.ensures.sound c.soundness-3.ensures.sound (rw (← c.self.view_is) at c.requires.idle) c.requires.seat c.link_edge.ensures.step
 
-pub invariant_of-self-in-Ok : goal.invariant_of-self-in-Ok
-invariant_of-self-in-Ok c = (done c).0
+pub invariant_of-self : goal.invariant_of-self
+invariant_of-self c = (done c).0
 
-pub returns-in-Ok-clause-ok : goal.returns-in-Ok-clause-ok
-returns-in-Ok-clause-ok c = rw (← c.self.view_is) (done c).1
+pub returns-clause-ok : goal.returns-clause-ok
+returns-clause-ok c = rw (← c.self.view_is) (done c).1
 
-pub returns-in-Ok-clause-acted : goal.returns-in-Ok-clause-acted
-returns-in-Ok-clause-acted c = rw (← c.self.view_is) (acted_vertex (stored c.self.inside.machine) (stored c.link_edge.new.self) c.args.seat _ c.args.serial c.args.kind c.args.text c.args.rights (done c).1)
+pub returns-clause-acted : goal.returns-clause-acted
+returns-clause-acted c = rw (← c.self.view_is) (acted_vertex (stored c.self.inside.machine) (stored c.link_edge.new.self) c.args.seat _ c.args.serial c.args.kind c.args.text c.args.rights (done c).1)
