@@ -43,7 +43,7 @@ impl Model for Cells {
     ghost invariant = { IsKept };
 }
 
-// The number, if it is that of a cell that was used so far.
+/// The number, if it is that of a cell that was used so far.
 fn cell_or_none(cells: &Pool, number: u32) -> Option<u32>
     ensures { result ≡ cond (ltb number (length cells.now.items)) (Some number) None }
 {
@@ -54,8 +54,8 @@ fn cell_or_none(cells: &Pool, number: u32) -> Option<u32>
     }
 }
 
-// The first free one of the cells used so far, once this free cell is used: the next one in their list. If the cell was
-// never used, there is none, which is said by `size`.
+/// The first free one of the cells used so far, once this free cell is used: the next one in their list. If the cell
+/// was never used, there is none, which is said by `size`.
 fn free_after(cells: &Pool, number: u32, size: u32) -> u32
     ensures { result ≡ cond (ltb number (length cells.now.items)) (cell_at cells.now.items number).next size }
 {
@@ -66,7 +66,7 @@ fn free_after(cells: &Pool, number: u32, size: u32) -> u32
     }
 }
 
-// If a list has lost its first cell, which had none before it, its head is the next one.
+/// If a list has lost its first cell, which had none before it, its head is the next one.
 fn set_head(heads: &mut [u32], owner: u32, is_first: bool, next: u32)
     requires { owner < length heads.old }
     ensures { heads.new ≡ cond is_first (set heads.old owner next) heads.old }
@@ -76,8 +76,8 @@ fn set_head(heads: &mut [u32], owner: u32, is_first: bool, next: u32)
     }
 }
 
-// How many buckets there are for that many cells: a power of two, from one for two cells to one for each. With more,
-// rows would hardly be shorter, and the heads would take more of the processor's cache.
+/// How many buckets there are for that many cells: a power of two, from one for two cells to one for each. With more,
+/// rows would hardly be shorter, and the heads would take more of the processor's cache.
 fn buckets_for(count: u32) -> u32
     requires { count ≤ MAX_CELLS }
     ensures power { IsPowerOfTwo result }

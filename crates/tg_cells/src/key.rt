@@ -22,9 +22,9 @@ impl Key {
     };
 }
 
-// The bucket of an edge, among this many, a power of two. One owner's edges to a block of 64 serials, which differ only
-// in their lowest six bits, lie side by side in the heads, so that they share lines of the processor's cache, and among
-// 64 buckets or more no two of them lie in one. The key determines where each block begins, for each owner.
+/// The bucket of an edge, among this many, a power of two. One owner's edges to a block of 64 serials, which differ
+/// only in their lowest six bits, lie side by side in the heads, so that they share lines of the processor's cache, and
+/// among 64 buckets or more no two of them lie in one. The key determines where each block begins, for each owner.
 #[tactic(auto, unfolding(crate::specs::Inner::Index::bucket_of))]
 pub(crate) fn bucket_of(key: Key, owner: u32, serial: u64, buckets: usize) -> usize
     requires { 1 ≤ buckets }

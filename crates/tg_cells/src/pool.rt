@@ -52,7 +52,7 @@ impl Model for Pool {
 }
 
 impl Cell {
-    // The cell as it lies in the two columns.
+    /// The cell as it lies in the two columns.
     fn halves(self) -> (Hop, Rest)
         ensures hop { result.0 ≡ hop_of self }
         ensures rest { result.1 ≡ rest_of self }

@@ -246,8 +246,8 @@ impl Machine {
         }
     }
 
-    /// The step of the marking phase when no slot is under scan. If there is neither a grey slot nor a white target, all
-    /// white slots are parked: the sweep begins.
+    /// The step of the marking phase when no slot is under scan. If there is neither a grey slot nor a white target,
+    /// all white slots are parked: the sweep begins.
     fn mark_next(&mut self) -> Progress
         requires whole { Whole (so_far self.old (Progress.Marking None)) }
         ensures line { Steps (so_far self.old (Progress.Marking None)) (so_far self.new result) 0 false }

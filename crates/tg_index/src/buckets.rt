@@ -39,7 +39,7 @@ impl Model for Buckets {
     ghost invariant = { IsInside };
 }
 
-// The number, if it is one of those that were used.
+/// The number, if it is one of those that were used.
 fn number_or_none(links: &[Link], number: u32) -> Option<u32>
     ensures { result ≡ cond (ltb number (length links.now)) (Some number) None }
 {
@@ -50,7 +50,7 @@ fn number_or_none(links: &[Link], number: u32) -> Option<u32>
     }
 }
 
-// Links the number, if it is one of those that were used, back to another.
+/// Links the number, if it is one of those that were used, back to another.
 fn set_previous(links: &mut [Link], number: u32, previous: u32)
     ensures { links.new ≡ with_previous links.old number previous }
 {
@@ -59,7 +59,7 @@ fn set_previous(links: &mut [Link], number: u32, previous: u32)
     }
 }
 
-// Links the number, if it is one of those that were used, on to another.
+/// Links the number, if it is one of those that were used, on to another.
 fn set_next(links: &mut [Link], number: u32, next: u32)
     ensures { links.new ≡ with_next links.old number next }
 {
@@ -68,7 +68,7 @@ fn set_next(links: &mut [Link], number: u32, next: u32)
     }
 }
 
-// If a row has lost its first number, which had none before it, its head is the next one.
+/// If a row has lost its first number, which had none before it, its head is the next one.
 fn set_head(heads: &mut [u32], bucket: usize, is_first: bool, next: u32)
     requires { bucket < length heads.old }
     ensures { heads.new ≡ cond is_first (set heads.old bucket next) heads.old }
@@ -78,7 +78,7 @@ fn set_head(heads: &mut [u32], bucket: usize, is_first: bool, next: u32)
     }
 }
 
-// Makes the number the first of a row, with `next` after it.
+/// Makes the number the first of a row, with `next` after it.
 fn write(links: &mut Vec<Link>, number: u32, next: u32, size: u32)
     requires used { number ≤ length links.old.items }
     requires within { number < size }

@@ -31,7 +31,7 @@ impl<L, R> Model for Columns<L, R> {
     ghost invariant = { λ c. length c.left.items ≡ length c.right.items };
 }
 
-// Appends an element for which there is room.
+/// Appends an element for which there is room.
 fn append<T: Drop>(items: &mut Vec<T>, item: T)
     requires { length items.old.items < vec_capacity items.old }
     ensures items { items.new.items ≡ items.old.items ++ item ∷ [] }

@@ -1,5 +1,6 @@
-//! The collector as mathematics: a store as one list of slots, the lines of the step table, the sessions' steps, and what
-//! all of them keep. Each function here is a law, with an empty body and a theorem for a contract; there is no code.
+//! The collector as mathematics: a store as one list of slots, the lines of the step table, the sessions' steps, and
+//! what all of them keep. Each function here is a law, with an empty body and a theorem for a contract; there is no
+//! code.
 //!
 //! The collector is the one of Dijkstra, Lamport, Martin, Scholten and Steffens (1978), with a list of grey slots.
 #![tactic(auto)]

@@ -17,7 +17,9 @@ pub use locked::PARTS;
 pub use session::{Ended, Session, Shared, Worked};
 use tg_vault::courses_have_the_headline;
 
-/// A law, at no cost: the entry that an event adds is one actor's.
+// Laws: each function is a theorem, its contract, and costs nothing when it is called.
+
+/// The entry that an event adds is one actor's.
 pub fn entries_have_one_actor()
     ensures { OneActor }
 {}

@@ -17,8 +17,9 @@ use tg_vault::{AskFault, SeatFault, Vault};
 /// The parts that the ledger of entries is cut into: one for each session, and one that stays with the vault.
 pub const PARTS: u64 = 4_294_967_295;
 
-/// A vault to which nothing but events has happened since it had no entries, and the ledger that counts its entries: the
-/// book has their number, the sessions' shares add up to it. Contracts see the vault, and how many parts were given.
+/// A vault to which nothing but events has happened since it had no entries, and the ledger that counts its entries:
+/// the book has their number, the sessions' shares add up to it. Contracts see the vault, and how many parts were
+/// given.
 #[derive(Drop)]
 pub struct Locked<L: Ledger> {
     pub vault: Vault,

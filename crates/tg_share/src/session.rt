@@ -38,8 +38,8 @@ pub struct Worked {
     pub ended: u64,
 }
 
-/// A principal on a seat, with a log of the commands that were submitted there, each with its actor and its reply, and a
-/// share of the ledger that counts the log. It has to be ended: it cannot be dropped.
+/// A principal on a seat, with a log of the commands that were submitted there, each with its actor and its reply, and
+/// a share of the ledger that counts the log. It has to be ended: it cannot be dropped.
 pub struct Session<'a, L: Ledger> {
     shared: &'a Shared<L>,
     alloc: Global,
@@ -174,6 +174,7 @@ impl<'a, L: Ledger> Session<'a, L> {
             .ask(self.seat, asked, &mut self.share)?;
         gate.pause(rt, Place::AfterStore);
         gate.after_entry(rt, &command, &reply);
+        // The session has the seat, so there is no fault; no clause says so.
         let _ = self.shared.locked.hold(rt).shade(self.seat);
         let Ok(()) = self.log.push(Exchange {
             actor,
@@ -208,6 +209,7 @@ impl<'a, L: Ledger> Session<'a, L> {
             log,
             share,
         } = self;
+        // The session has the seat, and `submit` leaves no target there, so there is no fault; no clause says so.
         let _ = shared.locked.hold(rt).bye(seat);
         Ended {
             log: SeatLog {
@@ -230,10 +232,10 @@ impl<'a, L: Ledger> Session<'a, L> {
     ghost use Rattle.tg_share.specs.Promise.Sessions.{HasAsked};
 
     /// Submits the command by the event ask, pauses, and shades what it left as the seat's target by the event shade.
-    /// The reply is that of the last exchange of the log, whose actor is the entry's: the one for whom the seat acts, or
-    /// else its principal. After a fault the log is as before, nothing is entered and the command is dropped. Faults, in
-    /// this order: `OutOfMemory`, without an event, if there is no memory for the log or for a copy of the command; then
-    /// those of `Vault::command`, never `NoSeat`.
+    /// The reply is that of the last exchange of the log, whose actor is the entry's: the one for whom the seat acts,
+    /// or else its principal. After a fault the log is as before, nothing is entered and the command is dropped.
+    /// Faults, in this order: `OutOfMemory`, without an event, if there is no memory for the log or for a copy of the
+    /// command; then those of `Vault::command`, never `NoSeat`.
     pub fn submit<R: Wait + Clock, G: Gate>(
         &mut self,
         rt: &R,

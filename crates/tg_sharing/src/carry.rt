@@ -14,8 +14,8 @@ use crate::marks::{BridgeWay, Marks};
 use std::alloc::{AllocError, Global};
 use tg_graph::Graph;
 
-/// Where a load was brought: who has it, and from where it can take. That vertex is the goal's own, which takes the load,
-/// or it may grant to the goal's own.
+/// Where a load was brought: who has it, and from where it can take. That vertex is the goal's own, which takes the
+/// load, or it may grant to the goal's own.
 #[derive(Clone, Copy)]
 pub(crate) struct End {
     pub(crate) holder: u64,

@@ -1,5 +1,5 @@
-//! How the goal's own vertex comes to have rights that a spanned vertex has. They go from hand to hand themselves, or, where
-//! a vertex on the way may be the one over which they are, an envoy goes: a new subject that has them.
+//! How the goal's own vertex comes to have rights that a spanned vertex has. They go from hand to hand themselves, or,
+//! where a vertex on the way may be the one over which they are, an envoy goes: a new subject that has them.
 ghost use Rattle.std.specs.Prelude.{◌≡◌, ◌≢◌, ◌<◌, ◌≤◌, true, false, IfOk, OnOk, MatchOption};
 ghost use Rattle.tg_rights.specs.Promise.Letters.{is_none, grant};
 ghost use Rattle.tg_graph.specs.Promise.Rules.{last_serial};
@@ -144,8 +144,8 @@ impl Derivation {
         Ok(())
     }
 
-    /// The goal's own vertex comes to have the rights, which an actor can take from a vertex: by an envoy, which the actor
-    /// makes, and which is no vertex on the way.
+    /// The goal's own vertex comes to have the rights, which an actor can take from a vertex: by an envoy, which the
+    /// actor makes, and which is no vertex on the way.
     fn send(
         &mut self,
         alloc: Global,

@@ -1,6 +1,6 @@
-//! What vertices come to have by takes and grants alone, without a new vertex: rights spread from edge to edge until the
-//! goal is met or nothing is new, and then the steps on which the goal's rights rest are followed back. That none is missed
-//! is not proved here.
+//! What vertices come to have by takes and grants alone, without a new vertex: rights spread from edge to edge until
+//! the goal is met or nothing is new, and then the steps on which the goal's rights rest are followed back. That none
+//! is missed is not proved here.
 use crate::marks::{Marks, is_actor};
 use std::alloc::{AllocError, Global};
 use std::collections::VecDeque;
@@ -250,7 +250,8 @@ impl Search {
         self.add(holder, over, rights)
     }
 
-    /// Goes on from an edge: its holder takes and grants by it, and its rights are taken from the holder and granted by it.
+    /// Goes on from an edge: its holder takes and grants by it, and its rights are taken from the holder and granted by
+    /// it.
     fn go_on(&mut self, holder: usize, over: usize) -> Result<(), AllocError> {
         for other in 0..self.serials.len() {
             self.pass(holder, Way::Take, other, over)?;
@@ -286,8 +287,8 @@ impl Search {
         }
     }
 
-    /// The steps on which the goal's rights rest, in the order in which they were found, each of those rights alone that
-    /// are needed.
+    /// The steps on which the goal's rights rest, in the order in which they were found, each of those rights alone
+    /// that are needed.
     fn needed(&self, alloc: Global, goal: &Goal) -> Result<Vec<Passing>, AllocError> {
         let mut needed = Table::new(alloc, self.serials.len())?;
         needed.add(FROM, TO, goal.rights);
@@ -306,8 +307,8 @@ impl Search {
     }
 }
 
-/// Steps by which the goal's own vertex comes to have the goal's rights without a new vertex, if some are found. If no more
-/// than `MOST` vertices are spanned, they are found if there are any.
+/// Steps by which the goal's own vertex comes to have the goal's rights without a new vertex, if some are found. If no
+/// more than `MOST` vertices are spanned, they are found if there are any.
 pub(crate) fn passings(
     alloc: Global,
     graph: &Graph,

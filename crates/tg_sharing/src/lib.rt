@@ -1,15 +1,15 @@
-//! Whether rights can ever be shared in a take-grant protection graph, whatever its subjects do (Lipton and Snyder 1977;
-//! Bishop's can.share).
+//! Whether rights can ever be shared in a take-grant protection graph, whatever its subjects do (Lipton and Snyder
+//! 1977; Bishop's can.share).
 //!
-//! Two sets of vertices answer it for one vertex that is to have rights. An accomplice is an actor, a subject that has not
-//! retired, who can pass rights on to that vertex. *Spanned* are the vertices to which a terminal span, takes one after
-//! another, leads from an accomplice. *Bridged* are those from which takes lead to an accomplice, or to where the grant of
-//! a bridge or of the initial span follows. Rights can be shared exactly if spanned vertices, or the vertex itself, have
-//! them.
+//! Two sets of vertices answer it for one vertex that is to have rights. An accomplice is an actor, a subject that has
+//! not retired, who can pass rights on to that vertex. *Spanned* are the vertices to which a terminal span, takes one
+//! after another, leads from an accomplice. *Bridged* are those from which takes lead to an accomplice, or to where the
+//! grant of a bridge or of the initial span follows. Rights can be shared exactly if spanned vertices, or the vertex
+//! itself, have them.
 //!
-//! `marks` sets these marks, each for a reason; `search` finds quickly in which order, and `follow` shows that there are no
-//! more; `builder`, `carry` and `fetch` derive steps from the reasons, `gains` and `plain` look for some that make no
-//! vertices, and `sharing` answers, `prospect` and `lookup` of many vertices at once.
+//! `marks` sets these marks, each for a reason; `search` finds quickly in which order, and `follow` shows that there
+//! are no more; `builder`, `carry` and `fetch` derive steps from the reasons, `gains` and `plain` look for some that
+//! make no vertices, and `sharing` answers, `prospect` and `lookup` of many vertices at once.
 #![tactic(auto)]
 
 ghost use Rattle.tg_sharing.specs.Promise.Laws.{SharingHasMeaning, WithheldForEver};

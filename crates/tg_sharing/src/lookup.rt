@@ -26,8 +26,8 @@ pub enum Listing {
 }
 
 /// All vertices that could ever come to have the rights, of which there has to be one, over `to`, whatever the subjects
-/// do: no other one can. `TooMuch` exactly if more than `most` vertices are an end of an edge; each of those takes as long
-/// as `can_share`. `Unknown` only where serials run out. `AllocError` if there is no memory for the answer.
+/// do: no other one can. `TooMuch` exactly if more than `most` vertices are an end of an edge; each of those takes as
+/// long as `can_share`. `Unknown` only where serials run out. `AllocError` if there is no memory for the answer.
 pub fn every_holder(
     alloc: Global,
     graph: &Graph,
@@ -53,9 +53,9 @@ pub fn every_holder(
     Ok(Listing::All(holders(alloc, graph, rights, to, &found)?))
 }
 
-/// All vertices over which `from` could ever come to have the rights, of which there has to be one, whatever the subjects
-/// do: over no other one can it. `TooMuch` only if the derivation of all that it could have takes more steps than `most`,
-/// or more new vertices than there are serials. `AllocError` if there is no memory for the answer.
+/// All vertices over which `from` could ever come to have the rights, of which there has to be one, whatever the
+/// subjects do: over no other one can it. `TooMuch` only if the derivation of all that it could have takes more steps
+/// than `most`, or more new vertices than there are serials. `AllocError` if there is no memory for the answer.
 pub fn every_target(
     alloc: Global,
     graph: &Graph,

@@ -25,7 +25,8 @@ pub struct Prospect {
 }
 
 impl Derivation {
-    /// The goal's own vertex comes to have the rights of one edge, if it ever can by this edge. False if that is not known.
+    /// The goal's own vertex comes to have the rights of one edge, if it ever can by this edge. False if that is not
+    /// known.
     fn gather(
         &mut self,
         alloc: Global,
@@ -106,10 +107,10 @@ fn labels_of(
     Ok(found)
 }
 
-/// All that the vertex could ever come to have, whatever the subjects do: with steps after which it has all that at once,
-/// and no derivation gives it any right over a vertex of the graph that it lacks then. `None` if that is not known, since
-/// it takes more steps than `most`, or more new vertices than there are serials. Each edge may take as many steps as there
-/// are vertices on the way to it. `AllocError` if there is no memory for the answer.
+/// All that the vertex could ever come to have, whatever the subjects do: with steps after which it has all that at
+/// once, and no derivation gives it any right over a vertex of the graph that it lacks then. `None` if that is not
+/// known, since it takes more steps than `most`, or more new vertices than there are serials. Each edge may take as
+/// many steps as there are vertices on the way to it. `AllocError` if there is no memory for the answer.
 pub fn what_could(
     alloc: Global,
     graph: &Graph,

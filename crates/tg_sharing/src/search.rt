@@ -18,8 +18,8 @@ struct End {
 /// A search that has come some way.
 #[derive(Drop)]
 struct Search {
-    /// The goal's own vertex and the ends of all edges with take or grant, by rising serial. Vertices are named by their
-    /// places here.
+    /// The goal's own vertex and the ends of all edges with take or grant, by rising serial. Vertices are named by
+    /// their places here.
     serials: Vec<u64>,
     /// The marks of each vertex.
     marks: Vec<Marked>,
@@ -152,7 +152,8 @@ impl Search {
         }
     }
 
-    /// Gives the vertex these marks, and both if it may act and has either. What has changed is left to be gone on from.
+    /// Gives the vertex these marks, and both if it may act and has either. What has changed is left to be gone on
+    /// from.
     fn mark(&mut self, graph: &Graph, place: usize, marks: Marked) -> Result<(), AllocError> {
         if marks == self.marks_at(place) {
             return Ok(());

@@ -24,8 +24,8 @@ pub enum Answer {
     Never,
     /// By these steps.
     By(Vec<Step>),
-    /// Not known: no serial is left after these steps, the first of a derivation that makes more vertices. Others may do
-    /// with fewer; in a graph of up to 128 vertices none does without (see `can_share`).
+    /// Not known: no serial is left after these steps, the first of a derivation that makes more vertices. Others may
+    /// do with fewer; in a graph of up to 128 vertices none does without (see `can_share`).
     Unknown(Vec<Step>),
 }
 
@@ -199,8 +199,8 @@ fn makes_vertex(step: &Step) -> bool {
     matches!(step.command, Command::Create { kind: _, rights: _ })
 }
 
-/// Whether a plain derivation may be found where this is the answer: it makes vertices, which counts if `for_steps` says
-/// so, or is not known.
+/// Whether a plain derivation may be found where this is the answer: it makes vertices, which counts if `for_steps`
+/// says so, or is not known.
 fn is_open(answer: &Answer, for_steps: bool) -> bool {
     match answer {
         Answer::Never => false,
@@ -258,11 +258,12 @@ pub(crate) fn answered(
 }
 
 /// Whether the goal's rights can ever be shared, whatever the subjects do (Bishop's can.share, for a set of rights):
-/// `Never`, or `By` steps that the rules allow one after another and that meet the goal. `Unknown` only where serials run
-/// out, of which there are nearly 2^64. `AllocError` if there is no memory for the answer.
+/// `Never`, or `By` steps that the rules allow one after another and that meet the goal. `Unknown` only where serials
+/// run out, of which there are nearly 2^64. `AllocError` if there is no memory for the answer.
 ///
-/// No step makes a vertex where some derivation does without, if at most 128 vertices are spanned, as in each graph of up
-/// to 128; tests say so, and no clause. If more are spanned, a derivation that does without is looked for among 128 of them.
+/// No step makes a vertex where some derivation does without, if at most 128 vertices are spanned, as in each graph of
+/// up to 128; tests say so, and no clause. If more are spanned, a derivation that does without is looked for among 128
+/// of them.
 pub fn can_share(alloc: Global, graph: &Graph, goal: Goal) -> Result<Answer, AllocError>
     requires from { IsVertex graph.now goal.from }
     requires to { IsVertex graph.now goal.to }

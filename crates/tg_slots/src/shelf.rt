@@ -205,8 +205,8 @@ impl Shelf {
         self.slots.set(id as usize, Lead { tint, link }, Form::Free);
     }
 
-    /// Puts a vertex into a slot, or into the next one, for which there is room. The slot is then in no list, so it does
-    /// not matter where it leads.
+    /// Puts a vertex into a slot, or into the next one, for which there is room. The slot is then in no list, so it
+    /// does not matter where it leads.
     pub fn fill(&mut self, id: u32, occupant: Occupant)
         requires used { id ≤ length self.old.items }
         requires within { id < self.old.room }

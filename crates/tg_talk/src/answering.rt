@@ -108,8 +108,8 @@ struct LinesSoFar {
 
 /// Has the responder answer each line that is left in the input. Answers to lines that came together are written
 /// together, and nothing is held back when more is read, nor at the end. It ends after the responder's last answer, at
-/// the end of the input, at a line of more than 16,384 bytes, at the line after the millionth, and when the reader or the
-/// writer fails.
+/// the end of the input, at a line of more than 16,384 bytes, at the line after the millionth, and when the reader or
+/// the writer fails.
 pub fn answer_lines<S: Responder, D: Read, W: Write + Drop>(
     alloc: Global,
     input: InputLines,

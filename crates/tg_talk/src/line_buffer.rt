@@ -79,7 +79,7 @@ impl LineBuffer {
         Ok(LineBuffer::over(bytes))
     }
 
-    // A buffer over this memory, with nothing read.
+    /// A buffer over this memory, with nothing read.
     fn over(bytes: Vec<u8>) -> LineBuffer
         requires { length bytes.items ≡ CAPACITY }
         ensures { result ≡ [] }

@@ -182,8 +182,8 @@ const TOURS: &[Tour] = &[
         worked: NOTHING,
         last: A_CYCLE,
     },
-    // An enrol makes a vertex, as a create does, and a denied command is entered too. With one more subject, and an edge
-    // to it, 1 + 3 * 2 + 1 + 1 + 3 + 1 = 13 steps.
+    // An enrol makes a vertex, as a create does, and a denied command is entered too. With one more subject, and an
+    // edge to it, 1 + 3 * 2 + 1 + 1 + 3 + 1 = 13 steps.
     Tour {
         opening: ONE_MORE,
         lines: GUEST,

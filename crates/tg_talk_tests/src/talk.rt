@@ -207,8 +207,8 @@ const ROWS: &[(&[u8], &[u8])] = &[
 
 const NOT_JSON: &[u8] = b"{\"error\":\"not json\"}\n";
 
-/// How many lines there are in so many bytes of the rows, if they are answered like this: a last line that is cut is `not
-/// json`, unless it lacks its line feed alone.
+/// How many lines there are in so many bytes of the rows, if they are answered like this: a last line that is cut is
+/// `not json`, unless it lacks its line feed alone.
 fn lines_answered(count: usize, out: &[u8]) -> Option<u64> {
     let mut left = count;
     let mut rest = out;

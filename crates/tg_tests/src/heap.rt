@@ -15,7 +15,7 @@ use tg_heap::{Dropped, Heap, HeapFull};
 use tg_rights::{Kind, Rights, Text};
 use tg_slots::Colour;
 
-// The slot has a vertex; the condition of a call is then known.
+/// The slot has a vertex; the condition of a call is then known.
 fn is_taken(rt: &impl Abort, heap: &Heap, id: u32)
     ensures { mark_at heap.now id ≢ Free }
 {
@@ -33,7 +33,7 @@ fn has_colour(rt: &impl Abort, heap: &Heap, id: u32, colour: Colour)
     );
 }
 
-// Puts a white document without text into the first free slot.
+/// Puts a white document without text into the first free slot.
 fn put(rt: &impl Abort, alloc: Global, heap: &mut Heap, serial: u64) -> u32 {
     match heap.add_vertex(serial, Kind::Document, Colour::White, Text::empty(alloc)) {
         Ok(id) => id,
@@ -54,7 +54,7 @@ fn add(
     heap.add_rights(id, target, rights)
 }
 
-// Adds an edge that is not there, while a cell is free.
+/// Adds an edge that is not there, while a cell is free.
 fn add_first(rt: &impl Abort, heap: &mut Heap, id: u32, target: u32, rights: Rights) {
     assert!(rt; !rights.is_empty());
     is_taken(rt, heap, id);
@@ -85,7 +85,7 @@ fn shade(rt: &impl Abort, heap: &mut Heap, id: u32) {
     heap.shade(id);
 }
 
-// Takes the first of the grey list, and makes it black.
+/// Takes the first of the grey list, and makes it black.
 fn scan(rt: &impl Abort, heap: &mut Heap) -> u32 {
     heap.soundness();
     match heap.pop_grey() {
@@ -97,7 +97,7 @@ fn scan(rt: &impl Abort, heap: &mut Heap) -> u32 {
     }
 }
 
-// Frees a white slot with all its cells.
+/// Frees a white slot with all its cells.
 fn clear(rt: &impl Abort, heap: &mut Heap, id: u32) {
     has_colour(rt, heap, id, Colour::White);
     while heap.strip_one_cell(id) {}

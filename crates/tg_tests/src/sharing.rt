@@ -1,5 +1,5 @@
-//! What no clause of tg_sharing says: that answers come, and that the definitions give those of cases that were worked by
-//! hand.
+//! What no clause of tg_sharing says: that answers come, and that the definitions give those of cases that were worked
+//! by hand.
 use crate::sharing_cases::{CASES, Case, SHARED, SPLIT, Want, graph, rights};
 use std::alloc::{AllocError, Global};
 use std::process::Abort;

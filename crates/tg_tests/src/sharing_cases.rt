@@ -36,7 +36,8 @@ pub(crate) struct Case {
     pub(crate) want: Want,
 }
 
-/// Alice (1) may grant to bob (2), who has take over carol (3). Alice has made a document (4) that she may read and write.
+/// Alice (1) may grant to bob (2), who has take over carol (3). Alice has made a document (4) that she may read and
+/// write.
 pub(crate) const SHARED: Case = Case {
     edges: &[(1, "g", 2), (2, "t", 3)],
     next: 4,

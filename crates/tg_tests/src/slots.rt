@@ -7,7 +7,7 @@ use std::process::Abort;
 use tg_rights::{Kind, Text};
 use tg_slots::{Colour, Slots};
 
-// The slot has this colour; the condition of a call is then known.
+/// The slot has this colour; the condition of a call is then known.
 fn has_colour(rt: &impl Abort, slots: &Slots, id: u32, colour: Colour)
     ensures { mark slots.now id ≡ Has colour }
 {
@@ -18,7 +18,7 @@ fn has_colour(rt: &impl Abort, slots: &Slots, id: u32, colour: Colour)
     );
 }
 
-// Takes the first free slot for a white document without text.
+/// Takes the first free slot for a white document without text.
 fn take(rt: &impl Abort, alloc: Global, slots: &mut Slots, serial: u64) -> u32 {
     match slots.take_free(serial, Kind::Document, Colour::White, Text::empty(alloc)) {
         Ok(id) => id,
@@ -36,7 +36,7 @@ fn shade(rt: &impl Abort, slots: &mut Slots, id: u32) {
     slots.push_grey(id);
 }
 
-// Takes the first of the grey list, and makes it black.
+/// Takes the first of the grey list, and makes it black.
 fn scan(rt: &impl Abort, slots: &mut Slots) -> u32 {
     slots.soundness();
     match slots.pop_grey() {

@@ -184,8 +184,8 @@ fn each_case_is_answered_alike_under_another_key(rt: HostRuntime) -> Result<(), 
     Ok(())
 }
 
-/// Three times alice makes two documents, links one to the other and drops both, and two cycles free them. Then she makes
-/// one more.
+/// Three times alice makes two documents, links one to the other and drops both, and two cycles free them. Then she
+/// makes one more.
 const ROUNDS: Case = Case {
     opening: Opening {
         slots: 4,

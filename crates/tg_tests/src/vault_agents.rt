@@ -16,8 +16,8 @@ const ALICE_AGAIN: Line = Line::Hello(2, "alice", Ok(1));
 /// Alice on seat 0 makes a subject, 3, over which she has t and g.
 const MADE: Line = Line::Ask(0, Ask::Subject("tg"), Want::Created(3));
 
-/// Alice's seat acts for a subject of hers over which she gives up her rights on another seat; it is kept, and freed once
-/// it is left.
+/// Alice's seat acts for a subject of hers over which she gives up her rights on another seat; it is kept, and freed
+/// once it is left.
 const ACTING: Case = Case {
     opening: FOUR,
     lines: &[

@@ -152,8 +152,8 @@ fn growth_refused_in_commands_on_a_text(rt: HostRuntime) -> Result<(), AllocErro
     plays_again(&rt, rt.alloc(), &ON_A_TEXT)
 }
 
-/// Alice enrols carol, who retires: an enrol needs memory for the copy of its name, a retire for the vault's set of those
-/// who have retired.
+/// Alice enrols carol, who retires: an enrol needs memory for the copy of its name, a retire for the vault's set of
+/// those who have retired.
 const ENROLLED: Case = Case {
     opening: TWO,
     lines: &[

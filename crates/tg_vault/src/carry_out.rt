@@ -34,8 +34,8 @@ pub struct State {
     pub next: u64,
 }
 
-// A reply is put where the caller has room for it: as a result it would be moved from call to call, and whole, as it can
-// be a text.
+// A reply is put where the caller has room for it: as a result it would be moved from call to call, and whole, as it
+// can be a text.
 /// Puts a reply in the place of `Done`, of which nothing has to be dropped.
 #[inline(always)]
 fn put(told: &mut Reply, new: Reply)

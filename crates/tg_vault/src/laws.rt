@@ -19,8 +19,8 @@ pub fn courses_join()
     ensures { CoursesJoin }
 {}
 
-/// A command is not entered for exactly one cause: its seat is none, nobody sits there, the seat has a pending target, or
-/// else memory is lacking.
+/// A command is not entered for exactly one cause: its seat is none, nobody sits there, the seat has a pending target,
+/// or else memory is lacking.
 pub fn faults_are_ordered()
     ensures { FaultsAreOrdered }
 {}

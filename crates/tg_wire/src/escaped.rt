@@ -16,9 +16,9 @@ use crate::scan::number_in;
 use json::{Reader, Scratch, Token};
 use std::alloc::AllocError;
 
-/// Reads the members of a line's object into room for them, if each is a text or a whole number whose key some line has.
-/// `None` does not mean that one is not. Texts with escapes are written to the scratch, which grows to the length of the
-/// line.
+/// Reads the members of a line's object into room for them, if each is a text or a whole number whose key some line
+/// has. `None` does not mean that one is not. Texts with escapes are written to the scratch, which grows to the length
+/// of the line.
 pub(crate) fn read_escaped<'a>(
     bytes: &'a [u8],
     scratch: &'a mut Scratch,

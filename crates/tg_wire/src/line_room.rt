@@ -52,8 +52,8 @@ impl TokensRoom {
 }
 
 /// Room in which lines are written, one after another, seen as the last of them: a line allocates only if it is longer
-/// than all lines before it in the same room. Beside it is room for a text that is read and has escapes, and for all
-/// texts of a line with others than of two bytes: it is taken at the first such line, and grows to the length of the
+/// than all lines before it in the same room. It also has the room that
+/// `read_line_in` needs for texts with escapes, which is taken at the first such line and grows to the length of the
 /// longest.
 #[derive(Drop)]
 pub struct LineRoom {
@@ -99,7 +99,7 @@ impl LineRoom {
         line
     }
 
-    /// A line of the caller's in place of the last, with its room.
+    /// Replaces the last line, and its room, by a line of the caller's.
     pub fn put(&mut self, line: Vec<u8>)
         ensures { self.new ≡ line.items }
     {

@@ -13,8 +13,8 @@ use tg_graph::{Goal, Step};
 use tg_rights::{Command, Kind};
 
 /// The line of a step, which ends with a line feed: its command's fields and the actor, in rising order of their keys,
-/// with no white space. One of take, grant, create and remove is read back by `read_step`. In room that is kept from line
-/// to line. `AllocError` if an allocation failed; nothing is then known of the room's line.
+/// with no white space. One of take, grant, create and remove is read back by `read_step`. In room that is kept from
+/// line to line. `AllocError` if an allocation failed; nothing is then known of the room's line.
 #[tactic(auto, unfolding(crate::specs::Promise::StepLines::step_line))]
 pub fn write_step_in(room: &mut LineRoom, step: &Step) -> Result<(), AllocError>
     ensures { OnOk result (room.new ≡ step_line step.now) }

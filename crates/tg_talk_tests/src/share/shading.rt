@@ -37,7 +37,8 @@ fn collect_beside<L: Ledger, R: Wait + Clock>(
     Some((worked, agreed(shared, both(alloc, first, second))))
 }
 
-/// A document is shaded before its create is answered: though its session goes on, it is freed once it has been removed.
+/// A document is shaded before its create is answered: though its session goes on, it is freed once it has been
+/// removed.
 #[test]
 fn a_target_is_shaded_before_the_answer(rt: HostRuntime) -> Result<(), AllocError> {
     let vault = opened(&rt, rt.alloc(), &ONE_MORE)?;
@@ -97,8 +98,8 @@ fn collect_in_the_gate<L: Ledger, R: Wait + Clock>(
     )
 }
 
-/// A gate is told of an entry before its target is shaded: the target is a root, so two cycles do not free it, though no
-/// edge leads to it any more.
+/// A gate is told of an entry before its target is shaded: the target is a root, so two cycles do not free it, though
+/// no edge leads to it any more.
 #[test]
 fn a_target_is_a_root_in_the_gate(rt: HostRuntime) -> Result<(), AllocError> {
     let vault = opened(&rt, rt.alloc(), &ONE_MORE)?;
