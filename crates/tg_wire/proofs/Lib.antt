@@ -9,6 +9,7 @@ pub mod StopsLemmas
 pub mod NumbersLemmas
 pub mod FlatLemmas
 pub mod ObjectLineLemmas
+mod EdgesLemmas
 pub mod FieldsLemmas
 pub mod LineTextLemmas
 pub mod MembersLemmas

@@ -7,9 +7,9 @@ use Rattle.json.specs.Print.{escape, escape_byte, quoted}
 use Rattle.json.specs.Token as token
 use Rattle.json.specs.Token.{Token}
 use Rattle.json.specs.Print.{print}
-use Rattle.serde_json.specs.Data.{Data, object, string, Items, item, Members, member}
+use Rattle.serde_json.specs.Data.{Data, object, string, Members, member}
 use Rattle.serde_json.proofs.Texts.{print-outline}
-use Rattle.serde_json.specs.Written.{comma_if, compact_text, items_text, members_text}
+use Rattle.serde_json.specs.Written.{comma_if, compact_text, members_text}
 use Rattle.tg_rights.specs.Promise.Letters.{Letters}
 use Rattle.tg_rights.specs.Promise.Written.{rights_text}
 use Rattle.tg_wire.specs.Promise.Faults.{line_text}
@@ -40,11 +40,6 @@ closed front lead s plain =
 pub member_more : (front : List ℕ) (later : Bool) (key : List ℕ) (d : Data) (ms : Members)
     → ((((front ++ comma_if later) ++ quoted key) ++ 58 ∷ []) ++ compact_text d) ++ members_text true ms ≡ front ++ members_text later (member key d ms)
 member_more front later key d ms = in_a_row front (comma_if later) (quoted key) (58 ∷ []) (compact_text d) (members_text true ms)
-
--- one more item
-pub item_more : (front : List ℕ) (later : Bool) (d : Data) (ds : Items)
-    → ((front ++ comma_if later) ++ compact_text d) ++ items_text true ds ≡ front ++ items_text later (item d ds)
-item_more front later d ds = simp append_assoc
 
 plain_letters : (r : Bool) (w : Bool) (t : Bool) (g : Bool) → escape (rights_text (record { read = r; write = w; take = t; grant = g })) ≡ rights_text (record { read = r; write = w; take = t; grant = g })
 unfolding escape_byte

@@ -3,6 +3,7 @@
 
 mod config;
 mod decoded;
+mod edges;
 mod escaped;
 mod explain;
 mod fault;

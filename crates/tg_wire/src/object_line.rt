@@ -2,13 +2,13 @@
 
 ghost use Rattle.std.specs.Prelude.{◌≡◌, ◌+◌, ◌%◌, ◌∷◌, ◌++◌, [], false, decimal, OnOk};
 ghost use Rattle.json.specs.Print.{quoted};
-ghost use Rattle.serde_json.specs.Data.{array, object, string};
+ghost use Rattle.serde_json.specs.Data.{object, string};
 ghost use Rattle.serde_json.specs.Written.{compact_text, members_text};
 ghost use Rattle.tg_rights.specs.Promise.Written.{rights_text};
 ghost use Rattle.tg_wire.specs.Promise.Faults.{line_text};
-ghost use Rattle.tg_wire.specs.Promise.Replies.{edge_data, edges_data};
 ghost use Rattle.tg_wire.specs.Inner.Told.{byte_if, field_of, led_text, leads_text, told_data, told_members};
 
+use crate::edges::put_edges;
 use crate::line_room::LineRoom;
 use crate::plain::is_plain;
 use itoa::Buffer;
@@ -182,32 +182,6 @@ fn put(line: &mut Vec<u8>, told: &Told<'_>) -> Result<(), AllocError>
         Told::Letters(rights) => put_letters(line, *rights),
         Told::Edges(edges) => put_edges(line, edges),
     }
-}
-
-fn put_edges(line: &mut Vec<u8>, edges: &[(u64, Rights)]) -> Result<(), AllocError>
-    ensures { OnOk result (line.new.items ≡ line.old.items ++ compact_text (array (edges_data edges.now))) }
-{
-    line.push(b'[')?;
-    let mut later = false;
-    for (serial, rights) in edges {
-        put_if(line, later, b',')?;
-        put_edge(line, *serial, *rights)?;
-        later = true;
-    }
-    line.push(b']')?;
-    Ok(())
-}
-
-#[inline(always)]
-fn put_edge(line: &mut Vec<u8>, serial: u64, rights: Rights) -> Result<(), AllocError>
-    ensures { OnOk result (line.new.items ≡ line.old.items ++ compact_text (edge_data (serial, rights))) }
-{
-    line.push(b'[')?;
-    put_number(line, serial)?;
-    line.push(b',')?;
-    put_letters(line, rights)?;
-    line.push(b']')?;
-    Ok(())
 }
 
 /// A byte, if it is shown.

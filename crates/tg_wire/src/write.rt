@@ -8,6 +8,7 @@ ghost use Rattle.tg_wire.specs.Promise.Faults.{line_text, seat_fault_text as tex
 ghost use Rattle.tg_wire.specs.Promise.Replies.{edges_data, which_text as text_of_which, rule_text, denied_data, reply_line};
 ghost use Rattle.tg_wire.specs.Promise.Answers.{denied_step_data, noted_data, answer_line, swept_line, verdict_line};
 
+use crate::edges::put_edges;
 use crate::line_room::LineRoom;
 use crate::object_line::{
     Told, object_line, put_four, put_last_number, put_led_number, put_led_text, put_led_word,
@@ -80,15 +81,12 @@ fn is_plain_text(text: &Text) -> bool
 }
 
 /// The line of the edges that were looked at.
-// Inlined, it would clear room for its fields at each answer.
-#[inline(never)]
 fn put_told_edges(line: &mut Vec<u8>, edges: &[(u64, Rights)]) -> Result<(), AllocError>
     ensures { OnOk result (line.new.items ≡ line.old.items ++ line_text (object (member (codes "edges") (array (edges_data edges.now)) (member (codes "ok") (string (codes "edges")) no_members)))) }
 {
-    put_object(
-        line,
-        &[("edges", Told::Edges(edges)), ("ok", Told::Word("edges"))],
-    )
+    line.extend_from_slice(b"{\"edges\":")?;
+    put_edges(line, edges)?;
+    line.extend_from_slice(b",\"ok\":\"edges\"}\n")
 }
 
 /// The line of an answer, which ends with a line feed. Keys are in rising order, with no white space. `AllocError` if

@@ -1,10 +1,11 @@
 -- the values of the fields of a line that is written
-use Rattle.std.specs.Prelude.{ℕ, List, [], ◌∷◌, ◌++◌, Bool, if◌then◌else◌}
+use Rattle.std.specs.Prelude.{ℕ, List, [], ◌∷◌, ◌++◌, Bool, true, if◌then◌else◌}
 use Rattle.std.specs.Borrow.{Bor}
 use Rattle.serde_json.specs.Data.{Data, string, number, unsigned, array, Members, no_members, member}
-use Rattle.serde_json.specs.Written.{compact_text}
+use Rattle.serde_json.specs.Written.{comma_if, compact_text}
 use Rattle.tg_rights.specs.Promise.Written.{rights_text}
-use Rattle.tg_wire.specs.Promise.Replies.{edges_data}
+use Rattle.tg_rights.specs.Promise.Letters.{Letters}
+use Rattle.tg_wire.specs.Promise.Replies.{edge_data, edges_data}
 use Rattle.tg_wire.specs.declared.object_line.Told.{Told}
 use Rattle.tg_wire.specs.declared.object_line.Told.TheVariants as told
 
@@ -38,3 +39,8 @@ leads_text fs = led_members fs ++ 10 ∷ []
 -- a byte, if it is shown
 abbrev pub byte_if : Bool → ℕ → List ℕ
 byte_if shown byte = if shown then byte ∷ [] else []
+
+-- edges with a comma between two, and before the first if others precede them
+abbrev pub edges_text : Bool → List (ℕ × Letters) → List ℕ
+edges_text later [] = []
+edges_text later (e ∷ es) = comma_if later ++ (compact_text (edge_data e) ++ edges_text true es)
