@@ -1,15 +1,19 @@
 //! The logs of all seats, followed along the history.
-ghost use Rattle.std.specs.Prelude.{◌≡◌, ◌↔◌, IsTrue, ◌<◌, ◌+◌, ◌≤◌, ◌^◌, [], ◌∷◌, ◌++◌, List, Some, IfOk, IfSome, IfNone, length, slice_get};
+ghost use Rattle.std.specs.Prelude.{◌≡◌, ◌↔◌, IsTrue, ◌<◌, ◌+◌, ◌≤◌, ◌^◌, [], ◌∷◌, ◌++◌, List, Some, IfOk, IfSome, IfNone, OnOk, length, slice_get};
 ghost use Rattle.tg_rights.specs.declared.limits.TheConstants.{SEATS};
+ghost use Rattle.tg_graph.specs.Promise.Fullness.{Limits, Permitted};
+ghost use Rattle.tg_graph.specs.Promise.Rules.{next_graph};
 ghost use Rattle.tg_audit.specs.declared.logs.Exchange.{Exchange};
 ghost use Rattle.tg_audit.specs.declared.logs.SeatLog.{SeatLog};
-ghost use Rattle.tg_audit.specs.Inner.Following.{HasFollowed, FollowsAll, IsLeastAbove, followed, left_of, told};
+ghost use Rattle.tg_audit.specs.Inner.Following.{HasFollowed, FollowsAll, IsLeastAbove, followed, left_of, told_in};
+ghost use Rattle.tg_audit.specs.Inner.Replies.{IsSubjectOrRetired};
 ghost use Rattle.tg_audit.specs.Promise.Settling.{DifferAt, IsPlace, joined_logs};
 
 use crate::logs::{Exchange, SeatLog};
-use crate::replaying::reply_to;
+use crate::replaying::{is_reply, reply_to};
 use std::alloc::{AllocError, Global};
-use tg_rights::{Reply, SEATS};
+use tg_graph::Graph;
+use tg_rights::SEATS;
 use tg_vault::{Entry, Vault};
 
 /// Where an exchange is: the number of a log, and the index in it.
@@ -50,40 +54,61 @@ fn next(logs: &[SeatLog], seat: u64, from: Position) -> Option<(&Exchange, Posit
     None
 }
 
-/// Whether the exchange is that of the entry, with this reply.
-fn is_told(entry: &Entry, reply: &Reply, exchange: &Exchange) -> bool
-    ensures { IsTrue result ↔ told entry.now reply.now ≡ exchange.now }
+/// Whether the exchange is that of the entry, with the reply of the graph, which carries the entry's command out.
+fn is_told(
+    graph: &mut Graph,
+    entry: &Entry,
+    exchange: &Exchange,
+) -> Result<bool, AllocError>
+    requires asks { IsSubjectOrRetired graph.old entry.now.actor }
+    requires permitted { (limits : Limits) × Permitted limits graph.old entry.now.actor entry.now.command entry.now.outcome }
+    ensures same { IfOk result (λ same. IsTrue same ↔ told_in graph.old entry.now ≡ exchange.now) }
+    ensures graph { OnOk result (graph.new ≡ next_graph graph.old entry.now.actor entry.now.command entry.now.outcome) }
 {
+    let is_reply = is_reply(graph, entry, &exchange.reply)?;
     if entry.actor() != exchange.actor {
-        return false;
+        return Ok(false);
     }
     if *entry.command() != exchange.command {
-        return false;
+        return Ok(false);
     }
-    *reply == exchange.reply
+    Ok(is_reply)
 }
 
-/// The progress after the next entry of the seat.
-fn compared(logs: &[SeatLog], progress: Progress, entry: &Entry, reply: &Reply) -> Progress
-    requires { followed progress + 1 < 2 ^ 64 }
-    ensures follows { (entries rest : List Exchange) → HasFollowed entry.now.seat logs.now entries (told entry.now reply.now ∷ rest) progress → HasFollowed entry.now.seat logs.now entries rest result }
-    ensures count { followed result ≤ followed progress + 1 }
-{
-    match progress {
-        Progress::Apart { index } => Progress::Apart { index },
-        Progress::Beside { position, index } => match next(logs, entry.seat(), position) {
-            None => Progress::Apart { index },
-            Some(found) => {
-                if is_told(entry, reply, found.0) {
-                    Progress::Beside {
-                        position: found.1,
-                        index: index + 1,
-                    }
-                } else {
-                    Progress::Apart { index }
-                }
-            }
-        },
+impl Progress {
+    /// Follows the logs of the seat along its next entry, whose command the graph carries out.
+    fn advance(
+        &mut self,
+        alloc: Global,
+        graph: &mut Graph,
+        logs: &[SeatLog],
+        entry: &Entry,
+    ) -> Result<(), AllocError>
+        requires room { followed self.old + 1 < 2 ^ 64 }
+        requires asks { IsSubjectOrRetired graph.old entry.now.actor }
+        requires permitted { (limits : Limits) × Permitted limits graph.old entry.now.actor entry.now.command entry.now.outcome }
+        ensures follows { OnOk result ((entries rest : List Exchange) → HasFollowed entry.now.seat logs.now entries (told_in graph.old entry.now ∷ rest) self.old → HasFollowed entry.now.seat logs.now entries rest self.new) }
+        ensures count { OnOk result (followed self.new ≤ followed self.old + 1) }
+        ensures graph { OnOk result (graph.new ≡ next_graph graph.old entry.now.actor entry.now.command entry.now.outcome) }
+    {
+        let Progress::Beside { position, index } = self else {
+            reply_to(alloc, graph, entry)?;
+            return Ok(());
+        };
+        let Some(found) = next(logs, entry.seat(), *position) else {
+            let index = *index;
+            reply_to(alloc, graph, entry)?;
+            *self = Progress::Apart { index };
+            return Ok(());
+        };
+        if is_told(graph, entry, found.0)? {
+            *position = found.1;
+            *index += 1;
+        } else {
+            let index = *index;
+            *self = Progress::Apart { index };
+        }
+        Ok(())
     }
 }
 
@@ -161,9 +186,8 @@ fn follow(alloc: Global, vault: &Vault, logs: &[SeatLog]) -> Result<[Progress; 6
     let mut table = [start; SEATS as usize];
     for number in 0..vault.count() {
         let entry = entry_at(vault, number);
-        let reply = reply_to(alloc, &mut graph, entry)?;
         let seat = entry.seat() as usize;
-        table[seat] = compared(logs, table[seat], entry, &reply);
+        table[seat].advance(alloc, &mut graph, logs, entry)?;
     }
     Ok(table)
 }

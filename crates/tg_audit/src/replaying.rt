@@ -1,5 +1,5 @@
 //! The replies of a history, by the plain graph alone.
-ghost use Rattle.std.specs.Prelude.{◌≡◌, IfOk, OnOk};
+ghost use Rattle.std.specs.Prelude.{◌≡◌, ◌↔◌, IsTrue, IfOk, OnOk};
 ghost use Rattle.tg_graph.specs.Promise.Fullness.{Limits, Permitted};
 ghost use Rattle.tg_graph.specs.Promise.Rules.{next_graph, reply_of};
 ghost use Rattle.tg_audit.specs.Promise.Replies.{replies_of};
@@ -57,6 +57,32 @@ pub fn reply_to(alloc: Global, graph: &mut Graph, entry: &Entry) -> Result<Reply
             graph.apply(actor, command)
         }
     }
+}
+
+/// Carries out the entry's command as `reply_to` does, and says whether this is the reply: nothing is copied but what is
+/// stored.
+pub fn is_reply(graph: &mut Graph, entry: &Entry, told: &Reply) -> Result<bool, AllocError>
+    requires asks { IsSubjectOrRetired graph.old entry.now.actor }
+    requires permitted { (limits : Limits) × Permitted limits graph.old entry.now.actor entry.now.command entry.now.outcome }
+    ensures same { IfOk result (λ same. IsTrue same ↔ reply_of graph.old entry.now.actor entry.now.command entry.now.outcome ≡ told.now) }
+    ensures graph { OnOk result (graph.new ≡ next_graph graph.old entry.now.actor entry.now.command entry.now.outcome) }
+{
+    let actor = entry.actor();
+    let asked = entry.command();
+    if graph.retired(actor) {
+        return Ok(are_same(retired_reply(actor, asked), told));
+    }
+    match beyond(entry.outcome()) {
+        Some(which) => Ok(are_same(Reply::Full(which), told)),
+        None => graph.repeat(actor, asked, told),
+    }
+}
+
+/// Whether the one reply is the other.
+fn are_same(reply: Reply, told: &Reply) -> bool
+    ensures { IsTrue result ↔ reply ≡ told.now }
+{
+    reply == *told
 }
 
 /// The replies of all entries, each by the plain graph that the entries before it leave, starting from a copy of the

@@ -30,6 +30,7 @@ mod ComeAndGoLemmas
 mod EachCommandLemmas
 mod EachDoesLemmas
 mod EdgesOfLemmas
+mod RepeatingLemmas
 mod SameEdgesLemmas
 mod SameReplyLemmas
 mod SearchingLemmas

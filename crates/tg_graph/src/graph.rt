@@ -186,7 +186,7 @@ impl Graph {
     }
 
     /// How the rules alone decide a command of a vertex.
-    fn decide(&self, actor: u64, command: &Command) -> Outcome
+    pub(crate) fn decide(&self, actor: u64, command: &Command) -> Outcome
         ensures { Judged self.now actor command.now result }
     {
         if self.retired(actor) && !is_for_retired(actor, command) {
@@ -292,7 +292,12 @@ impl Graph {
     }
 
     /// Joins the rights to the label.
-    fn add_rights(&mut self, from: u64, to: u64, rights: Rights) -> Result<(), AllocError>
+    pub(crate) fn add_rights(
+        &mut self,
+        from: u64,
+        to: u64,
+        rights: Rights,
+    ) -> Result<(), AllocError>
         requires from_vertex { IsVertex self.old from }
         requires to_vertex { IsVertex self.old to }
         requires distinct { from ≢ to }
@@ -305,7 +310,7 @@ impl Graph {
     }
 
     /// Takes the rights out of the label.
-    fn drop_rights(&mut self, from: u64, to: u64, rights: Rights)
+    pub(crate) fn drop_rights(&mut self, from: u64, to: u64, rights: Rights)
         ensures { self.new ≡ record self.old { triples = set.difference self.old.triples (edge from rights to) } }
     {
         let left = self.rights(from, to).minus(rights);
@@ -317,7 +322,7 @@ impl Graph {
     }
 
     /// Adds a vertex of the next serial, over which the actor has the rights; with a name it is a principal.
-    fn add_vertex(
+    pub(crate) fn add_vertex(
         &mut self,
         actor: u64,
         kind: Kind,
@@ -353,7 +358,7 @@ impl Graph {
     }
 
     /// Makes the actor a principal no longer.
-    fn retire(&mut self, actor: u64) -> Result<(), AllocError>
+    pub(crate) fn retire(&mut self, actor: u64) -> Result<(), AllocError>
         requires { IsVertex self.old actor }
         ensures ok { OnOk result (self.new ≡ record self.old {
           names = without_member self.old.names actor;
@@ -377,7 +382,7 @@ impl Graph {
     }
 
     /// Makes the text that of the vertex.
-    fn set_text(&mut self, of: u64, text: Text)
+    pub(crate) fn set_text(&mut self, of: u64, text: Text)
         ensures { self.new ≡ with_text self.old of text (vertex self.old of) }
     {
         if let Some(found) = self.vertices.get_mut(&of) {
@@ -386,7 +391,7 @@ impl Graph {
     }
 
     /// The vertex's edges by rising serial. It goes through the vertex's own labels, not through all vertices.
-    fn edges(&self, of: u64) -> Result<EdgeList, AllocError>
+    pub(crate) fn edges(&self, of: u64) -> Result<EdgeList, AllocError>
         ensures { IfOk result (λ edges. edges ≡ edges_of self.now of) }
     {
         let mut edges = Vec::new(self.alloc);

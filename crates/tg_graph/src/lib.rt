@@ -11,6 +11,7 @@ mod derivation;
 mod graph;
 mod member;
 mod parts;
+mod repeating;
 mod roll;
 mod rules;
 mod search;

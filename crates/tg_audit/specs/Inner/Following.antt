@@ -2,6 +2,8 @@
 use Rattle.std.specs.Prelude.{◌≡◌, ◌≢◌, ◌<◌, ◌≤◌, ℕ, List, [], ◌∷◌, ◌++◌, Option, Some, None, length, drop, nat_eq, slice_get, if◌then◌else◌}
 use Rattle.tg_rights.specs.declared.limits.TheConstants.{SEATS}
 use Rattle.tg_rights.specs.declared.outcome.Reply.{Reply}
+use Rattle.tg_graph.specs.Promise.Protection.{Protection}
+use Rattle.tg_graph.specs.Promise.Rules.{reply_of}
 use Rattle.tg_vault.specs.declared.entry.Entry.{Entry}
 use Rattle.tg_vault.specs.Promise.Contents.{Contents}
 use Rattle.tg_audit.specs.declared.logs.Exchange.{Exchange}
@@ -14,6 +16,10 @@ use Rattle.tg_audit.specs.Promise.Settling.{DifferAt, exchanges_of, joined_logs}
 -- an entry with its reply
 abbrev pub told : Entry → Reply → Exchange
 told e r = record { actor = e.actor; command = e.command; reply = r }
+
+-- an entry with its reply, in the graph that the entries before it leave
+abbrev pub told_in : Protection → Entry → Exchange
+told_in G e = told e (reply_of G e.actor e.command e.outcome)
 
 -- the logs of a seat, without this many exchanges of the first one
 abbrev pub joined_from : ℕ → ℕ → List SeatLog → List Exchange
