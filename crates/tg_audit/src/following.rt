@@ -55,11 +55,7 @@ fn next(logs: &[SeatLog], seat: u64, from: Position) -> Option<(&Exchange, Posit
 }
 
 /// Whether the exchange is that of the entry, with the reply of the graph, which carries the entry's command out.
-fn is_told(
-    graph: &mut Graph,
-    entry: &Entry,
-    exchange: &Exchange,
-) -> Result<bool, AllocError>
+fn is_told(graph: &mut Graph, entry: &Entry, exchange: &Exchange) -> Result<bool, AllocError>
     requires asks { IsSubjectOrRetired graph.old entry.now.actor }
     requires permitted { (limits : Limits) × Permitted limits graph.old entry.now.actor entry.now.command entry.now.outcome }
     ensures same { IfOk result (λ same. IsTrue same ↔ told_in graph.old entry.now ≡ exchange.now) }

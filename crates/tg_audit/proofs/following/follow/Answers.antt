@@ -1,6 +1,7 @@
-use Rattle.std.proofs.Common.{◌<◌, ◌≡◌, ◌∙◌, Some, arith, slice_get, slice_index_or}
+use Rattle.std.proofs.Common.{◌<◌, ◌≡◌, ◌∙◌, Some, arith, refl, slice_get, slice_index_or}
 use Rattle.std.proofs.lemmas.Option.{slice_get-get_or}
 use Rattle.tg_rights.specs.declared.limits.TheConstants.{SEATS}
+use Rattle.tg_graph.specs.Promise.Rules.{reply_of}
 use Rattle.tg_audit.specs.Promise.Replies.{replies_of}
 use Rattle.tg_audit.proofs.ReplayLemmas.{left_asks, left_permitted, replayed_none, replays}
 use Rattle.tg_audit.proofs.TableLemmas.{followed_end, followed_fresh, followed_more, start}
@@ -15,14 +16,14 @@ loop-number-init c =
       replayed = replayed_none v G (c.in_ok-graph.ensures.equal ∙ c.opening.ensures) c.soundness.ensures.coherent.ties.opened c.soundness.ensures.vault.legal;
     }
 
-pub reply_to-requires-clause-asks : goal.reply_to-requires-clause-asks
-reply_to-requires-clause-asks c = left_asks c.args.vault.now c.loop-number.graph c.loop-number.number c.entry_at-entry.result.now c.loop-number.invariant.replayed.left c.entry_at-entry.ensures.entry
+pub advance-requires-clause-asks : goal.advance-requires-clause-asks
+advance-requires-clause-asks c = left_asks c.args.vault.now c.loop-number.graph c.loop-number.number c.entry_at-entry.result.now c.loop-number.invariant.replayed.left c.entry_at-entry.ensures.entry
 
-pub reply_to-requires-clause-permitted : goal.reply_to-requires-clause-permitted
-reply_to-requires-clause-permitted c = left_permitted c.args.vault.now c.loop-number.graph c.loop-number.number c.entry_at-entry.result.now c.loop-number.invariant.replayed.left c.entry_at-entry.ensures.entry
+pub advance-requires-clause-permitted : goal.advance-requires-clause-permitted
+advance-requires-clause-permitted c = left_permitted c.args.vault.now c.loop-number.graph c.loop-number.number c.entry_at-entry.result.now c.loop-number.invariant.replayed.left c.entry_at-entry.ensures.entry
 
-pub compared-requires : goal.compared-requires
-compared-requires c =
+pub advance-requires-clause-room : goal.advance-requires-clause-room
+advance-requires-clause-room c =
     let seat = c.seat-seat.result in
     let within : seat < SEATS = rw (← c.seat-seat.ensures) at c.entry_at-entry.ensures.seat in
     let p = slice_index_or c.loop-number.table seat start in
@@ -33,15 +34,16 @@ compared-requires c =
 pub loop-number-preserved : goal.loop-number-preserved
 loop-number-preserved c =
     let v = c.args.vault.now in
+    let G = c.loop-number.graph in
     let n = c.loop-number.number in
     let e = c.entry_at-entry.result.now in
-    let r = c.in_ok-reply.reply in
+    let r = reply_of G e.actor e.command e.outcome in
     let p = slice_index_or c.loop-number.table e.seat start in
     let followed = c.loop-number.invariant.followed in
     let here : slice_get c.loop-number.table e.seat ≡ Some p = slice_get-get_or c.loop-number.table e.seat start (omega (arith, followed.whole, c.entry_at-entry.ensures.seat)) in
-    let next = replays v c.loop-number.graph c.reply_to.new.graph n e r c.loop-number.invariant.replayed c.entry_at-entry.ensures.entry c.in_ok-reply.ensures.reply c.in_ok-reply.ensures.graph in
+    let next = replays v G c.advance.new.graph n e r c.loop-number.invariant.replayed c.entry_at-entry.ensures.entry refl c.in_ok-advance.ensures.graph in
     record {
-      followed = rw c.seat-seat.ensures (followed_more v c.args.logs.now (replies_of v.opening v.history) n c.loop-number.table e r p c.compared.result followed c.entry_at-entry.ensures.entry next.told c.entry_at-entry.ensures.seat here (rw c.seat-seat.ensures at c.compared.ensures.follows) (rw c.seat-seat.ensures at c.compared.ensures.count));
+      followed = rw c.seat-seat.ensures (followed_more v c.args.logs.now (replies_of v.opening v.history) n c.loop-number.table e r p c.advance.new.self followed c.entry_at-entry.ensures.entry next.told c.entry_at-entry.ensures.seat here (rw c.seat-seat.ensures at c.in_ok-advance.ensures.follows) (rw c.seat-seat.ensures at c.in_ok-advance.ensures.count));
       replayed = next.replayed;
     }
 
