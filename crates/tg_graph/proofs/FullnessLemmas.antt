@@ -6,7 +6,13 @@ use Rattle.std.specs.Ordering.{nat_cmp, eq_by_cmp, is_lt}
 use Rattle.std.specs.Cmp.{nat_cmp_total}
 use Rattle.std.specs.FinMap as map
 use Rattle.std.specs.FinMap.Entries.{below_all, same_entries}
+use Rattle.std.specs.declared.cmp.Ordering.TheVariants.{Less}
+use Rattle.std.specs.List.{AllByRecursion}
+use Rattle.std.specs.List.Sorted.{IsStrictlySortedBy}
+use Rattle.std.specs.Map.{keys_of}
 use Rattle.std.proofs.lemmas.Bool.{eqb-true}
+use Rattle.std.proofs.lemmas.Map.Entries.{length-keys_of}
+use Rattle.tg_rights.proofs.Bools.{true_both}
 use Rattle.tg_graph.specs.declared.vertex.Vertex.{Vertex}
 use Rattle.tg_graph.specs.Promise.Protection.{Protection, IsGraph, IsVertex, label}
 use Rattle.tg_graph.specs.Promise.Fullness.{edge_count, vertex_count}
@@ -79,3 +85,22 @@ vertex_count-new G e g =
     length-keys (map.insert G.vertices G.next e) ∙ map.len-insert nat_cmp_total G.vertices G.next e
     ∙ ap (λ b. cond b (map.len G.vertices) (map.len G.vertices + 1)) (ap is_some (next_is_free G g))
     ∙ ap (λ n. n + 1) (sym (length-keys G.vertices))
+
+-- the vertices of a graph are as many as the entries of the map that has them
+below_is : (x : ℕ) (es : Entries) → AllByRecursion (λ q. nat_cmp x q ≡ Less) (keys_of es) → T (below_all nat_cmp x es)
+below_is x [] below = tt
+below_is x (e ∷ es) below = true_both _ _ (subst T (sym (ap is_lt below.0)) tt) (below_is x es below.1)
+
+sorted_is : (es : Entries) → IsStrictlySortedBy nat_cmp (keys_of es) → T (map.is_sorted nat_cmp es)
+unfolding IsStrictlySortedBy
+sorted_is [] sorted = tt
+sorted_is (e ∷ es) sorted = true_both _ _ (below_is e.0 es sorted.0) (sorted_is es sorted.1)
+
+pub vertex_count-shown : (G : Protection) (es : Entries) → G.vertices ≡ map.from_entries es → IsStrictlySortedBy nat_cmp (keys_of es) → vertex_count G ≡ length es
+vertex_count-shown G es is sorted =
+    ap (λ (m : map.FinMap nat_cmp Vertex). length (map.keys m)) is
+    ∙ ap (λ (fs : Entries). length (map_list (λ e. e.0) fs)) (
+    same_entries nat_cmp nat_cmp_total map.nat_cmp-IsAntisymmetric (map.entries M) es (map.entries_sorted M) (sorted_is es sorted) (λ q. sym (map.get-entries M q) ∙ map.get-from_entries nat_cmp_total es q)
+    ) ∙ length-keys_of es where
+      M : map.FinMap nat_cmp Vertex
+      M = map.from_entries es

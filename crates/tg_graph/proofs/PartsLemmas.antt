@@ -160,7 +160,7 @@ module _ (p : Parts) (ok : AreParts p) (vs : Entries) (es : Labels) (ms : List M
 -- ---- lists have exactly what one graph has
 
 -- an option is known by what it may be
-same_option : {X : Type 0} (o q : Option X) → ((x : X) → o ≡ Some x → q ≡ Some x) → ((x : X) → q ≡ Some x → o ≡ Some x) → o ≡ q
+pub same_option : {X : Type 0} (o q : Option X) → ((x : X) → o ≡ Some x → q ≡ Some x) → ((x : X) → q ≡ Some x → o ≡ Some x) → o ≡ q
 same_option None None f g = refl
 same_option None (Some x) f g = g x refl
 same_option (Some x) q f g = sym (f x refl)
@@ -171,7 +171,7 @@ same_bool false true f g = g refl
 same_bool false false f g = refl
 
 -- a label is known by what it may be where there is an edge
-same_label : (l m : Letters) → (is_none l ≡ false → l ≡ m) → (is_none m ≡ false → m ≡ l) → l ≡ m
+pub same_label : (l m : Letters) → (is_none l ≡ false → l ≡ m) → (is_none m ≡ false → m ≡ l) → l ≡ m
 same_label l m f g = by (is_none l) (is_none m) refl refl where
   by : (a b : Bool) → is_none l ≡ a → is_none m ≡ b → l ≡ m
   by false b e f' = f e

@@ -1,5 +1,5 @@
 -- A restriction of a graph: it agrees with the graph, permits no more, replies alike, and stays one.
-use Rattle.std.proofs.Common.{◌≡◌, ℕ, ◌<◌, ◌≤◌, ◌+◌, List, [], true, length, refl, sym, ap, subst, ◌∙◌, inl, inr, arith}
+use Rattle.std.proofs.Common.{◌≡◌, ℕ, ◌<◌, ◌≤◌, ◌+◌, List, [], ◌∷◌, Bool, true, false, true≢false, length, refl, sym, ap, subst, ◌∙◌, inl, inr, arith}
 use Rattle.std.specs.Prelude.{Option}
 use Rattle.std.specs.Option.{is_some, option_map, option_map_or}
 use Rattle.std.specs.Ordering.{nat_cmp, eq_by_cmp}
@@ -8,7 +8,7 @@ use Rattle.std.specs.FinMap as map
 use Rattle.std.specs.FinSet as set
 use Rattle.std.proofs.lemmas.Bool.{eqb-true, eq-eqb, or_cases}
 use Rattle.tg_lists.specs.Promise.Membership.{Contains}
-use Rattle.tg_rights.specs.Promise.Letters.{Letters, is_none}
+use Rattle.tg_rights.specs.Promise.Letters.{Letters, has, is_none}
 use Rattle.tg_rights.specs.declared.kind.Kind.TheVariants as kind
 use Rattle.tg_rights.specs.declared.command.Command.{Command}
 use Rattle.tg_rights.specs.declared.outcome.Outcome.{Outcome}
@@ -26,11 +26,13 @@ use Rattle.tg_graph.proofs.EdgesAreCountedLemmas.{keys_occur_once}
 use Rattle.tg_graph.proofs.EdgesAreListedLemmas.{vertex_listed}
 use Rattle.tg_graph.proofs.ListedLemmas.{ones, sum_among}
 use Rattle.tg_graph.proofs.OutcomesAgreeLemmas.{Judged-agrees}
-use Rattle.tg_graph.proofs.PartsLemmas.{same_bool}
+use Rattle.tg_graph.proofs.LabelLemmas.{contains-label}
+use Rattle.tg_graph.proofs.PartsLemmas.{same_bool, same_label, same_option}
 use Rattle.tg_graph.proofs.PartsStayLemmas.{Alike, agree_around, agree_back, alike_after, done-retired, into, known_after, out, part_of, still_known, with_text-retired}
-use Rattle.tg_graph.proofs.ProtectionLemmas.{Entitled, edge_to, entitled}
+use Rattle.tg_graph.proofs.ProtectionLemmas.{Entitled, edge_from, edge_to, entitled}
 use Rattle.tg_graph.proofs.RollLemmas.{is_any}
 use Rattle.tg_graph.proofs.SameEdgesLemmas.{same_edges}
+use Rattle.tg_graph.proofs.TriplesLemmas.{same_triples}
 use Rattle.tg_graph.proofs.VertexLemmas.{IsVertex-from_kind, with_text-next}
 
 -- it is one of its own vertices
@@ -73,6 +75,43 @@ module _ (G H : Protection) (r : IsRestriction G H (IsVertex H)) where
           listed_too v h,
           let same = ap length (same_edges G H v in_G in_H (λ y. alike.labels v y (key_vertex v h))) in omega (arith, same),
         ))
+
+    -- with as many vertices it has them all
+    pub all_kept : vertex_count H ≡ vertex_count G → (v : ℕ) → IsVertex G v → IsVertex H v
+    all_kept count v v_in = by (map.contains_key H.vertices v) refl where
+      by : (b : Bool) → map.contains_key H.vertices v ≡ b → IsVertex H v
+      by true is = is
+      by false is = absurd (
+          let more = sum_among (λ (w : ℕ). 1) (λ (w : ℕ). 1) (v ∷ map.keys H.vertices) (map.keys G.vertices)
+          (λ h. true≢false (sym (key_vertex v h) ∙ is), keys_occur_once H)
+          (λ w h. (elim h as (λ _. Contains (map.keys G.vertices) w) [ inl same ↦ subst (Contains (map.keys G.vertices)) (sym same) (vertex_listed G v v_in) | inr there ↦ listed_too w there ], omega arith)) in
+          let a = ones (v ∷ map.keys H.vertices) in
+          let b = ones (map.keys G.vertices) in
+          omega (arith, a, b, more, count))
+
+    -- so it is the graph, if all who have retired are vertices
+    pub whole : vertex_count H ≡ vertex_count G → ((v : ℕ) → has_retired G v ≡ true → IsVertex G v) → H ≡ G
+    whole count were = λ i. record { vertices = sym vertices i; next = r.next i; triples = sym triples i; names = sym alike.names i; retired = sym retired i } where
+      all : (v : ℕ) → IsVertex G v → IsVertex H v
+      all = all_kept count
+
+      vertices : G.vertices ≡ H.vertices
+      vertices = map.same_map nat_cmp_total map.nat_cmp-IsAntisymmetric _ _ (λ v.
+          same_option (vertex G v) (vertex H v)
+          (λ e is. sym (alike.vertices v (all v (ap is_some is))) ∙ is)
+          (λ e is. alike.vertices v (ap is_some is) ∙ is))
+
+      labels : (x y : ℕ) → label G x y ≡ label H x y
+      labels x y = same_label (label G x y) (label H x y)
+          (λ some. alike.labels x y (all x (edge_from G in_G x y some)))
+          (λ some. sym (alike.labels x y (edge_from H in_H x y some)))
+
+      triples : G.triples ≡ H.triples
+      triples = same_triples _ _ (λ t. contains-label G t ∙ ap (λ l. has l t.right) (labels t.from t.to) ∙ sym (contains-label H t))
+
+      retired : G.retired ≡ H.retired
+      retired = set.same_set nat_cmp_total set.nat_cmp-IsAntisymmetric _ _ (λ v.
+          same_bool (has_retired G v) (has_retired H v) (λ t. (r.retired v).1 (all v (were v t), t)) (λ t. ((r.retired v).0 t).1))
 
     module _ (x : ℕ) (s : IsSubject H x) where
       x_there : IsVertex H x

@@ -1,10 +1,11 @@
 //! Graphs from lists, and the labels that a graph lends.
-ghost use Rattle.std.specs.Prelude.{◌≡◌, ◌<◌, ℕ, map, IfOk};
+ghost use Rattle.std.specs.Prelude.{◌≡◌, ◌<◌, ℕ, map, IfOk, ◌↔◌, IsTrue, true};
 ghost use Rattle.std.specs.List.{list_any};
 ghost use Rattle.std.specs.Ordering.{eq_by_cmp, nat_cmp};
 ghost use Rattle.tg_graph.specs.Promise.Parts.{AreParts, Before, Lists, Rises};
 ghost use Rattle.tg_graph.specs.Inner.Parts.{label_entry, vertex_entry};
-ghost use Rattle.tg_graph.specs.Promise.Protection.{IsGraph};
+ghost use Rattle.tg_graph.specs.Promise.Fullness.{vertex_count};
+ghost use Rattle.tg_graph.specs.Promise.Protection.{IsGraph, IsVertex, has_retired};
 ghost use Rattle.tg_graph.specs.Promise.Views.{AreLabels};
 
 use crate::graph::Graph;
@@ -36,6 +37,25 @@ impl Graph {
         ensures { AreLabels self.now result.now.entries }
     {
         &self.labels
+    }
+
+    /// How many vertices there are.
+    pub fn vertex_count(&self) -> u64
+        ensures { result ≡ vertex_count self.now }
+    {
+        self.vertices.len() as u64
+    }
+
+    /// Whether all who have retired are vertices: in a graph from whose opening on nothing was dropped they are.
+    pub fn has_all_retired(&self) -> bool
+        ensures { IsTrue result ↔ ((v : ℕ) → has_retired self.now v ≡ true → IsVertex self.now v) }
+    {
+        for serial in &self.retired {
+            if !self.vertices.contains_key(serial) {
+                return false;
+            }
+        }
+        true
     }
 
     /// The graph that has exactly what these lists have. Vertices and those who have retired are listed by rising serial
