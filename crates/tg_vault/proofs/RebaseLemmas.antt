@@ -1,5 +1,5 @@
 -- What three cycles leave of a vault with nobody on a seat, and the vault that begins with it.
-use Rattle.std.proofs.Common.{◌≡◌, ℕ, ◌≤◌, List, [], ◌∷◌, ◌++◌, filter, cond, sum_by, true, true≢false, is_some, refl, sym, ap, subst, ◌∙◌, ◌⊎◌, inl, inr, arith}
+use Rattle.std.proofs.Common.{◌≡◌, ℕ, ◌≤◌, List, [], ◌∷◌, ◌++◌, filter, cond, sum_by, true, true≢false, is_some, refl, sym, ap, subst, ◌∙◌, ◌⊎◌, inl, inr, arith, ◌+◌}
 use Rattle.std.specs.Cmp.{nat_cmp_total}
 use Rattle.std.specs.FinSet as set
 use Rattle.std.specs.Ordering.{eq_by_cmp, nat_cmp}
@@ -11,21 +11,21 @@ use Rattle.tg_rights.specs.declared.outcome.Outcome.TheVariants as outcome
 use Rattle.tg_rights.specs.declared.outcome.Which.{Which}
 use Rattle.tg_rights.specs.declared.outcome.Which.TheVariants as which
 use Rattle.tg_graph.specs.declared.member.Member.{Member}
-use Rattle.tg_graph.specs.Promise.Fullness.{Limits, MayBeFull, Permitted}
+use Rattle.tg_graph.specs.Promise.Fullness.{Limits, MayBeFull, Permitted, vertex_count}
 use Rattle.tg_graph.specs.Promise.Laws.{RestrictionsAgree, RestrictionsPermit, RestrictionsReply, RestrictionsStay}
 use Rattle.tg_graph.specs.Promise.Protection.{has_serial, IsPart, IsRestriction, Live, Protection, IsGraph, IsVertex, has_retired, is_active, label}
 use Rattle.tg_graph.specs.Promise.Rules.{is_create, next_graph, reply_of}
-use Rattle.tg_graph.proofs.RestrictionLemmas.{by_vertices}
+use Rattle.tg_graph.proofs.RestrictionLemmas.{by_vertices, whole}
 use Rattle.tg_graph.proofs.RollLemmas.{any_is, contains_filter, filter_contains, is_any}
 use Rattle.tg_graph.proofs.VertexLemmas.{IsVertex-from_kind}
 use Rattle.tg_collect.specs.declared.note.Note.{Note}
 use Rattle.tg_collect.specs.declared.note.Phase.TheVariants.{Idle}
-use Rattle.tg_collect.specs.Promise.Readings.{phase}
+use Rattle.tg_collect.specs.Promise.Readings.{phase, free_slots, parked_count}
 use Rattle.tg_collect.specs.Promise.Runs as runs
 use Rattle.tg_collect.specs.Promise.Views.{IsStore}
 use Rattle.tg_collect.proofs.RunLemmas.{ended_idle}
 use Rattle.tg_collect.proofs.ShownLemmas.{same_key}
-use Rattle.tg_collect.proofs.StoreLemmas.{idle_unparked, same_truth}
+use Rattle.tg_collect.proofs.StoreLemmas.{idle_unparked, same_truth, idle_none_parked}
 use Rattle.tg_vault.specs.declared.entry.Entry.{Entry}
 use Rattle.tg_collect.specs.declared.note.Swept.{Swept}
 use Rattle.tg_vault.specs.Promise.History.{EntryRun, EntryStep, MayAsk}
@@ -291,3 +291,20 @@ reopened_tied w next gone tied store nobody idle G left es is kept none =
 
     was_gone : (x : ℕ) → has_retired (reopening w) x ≡ true → set.contains (set_of gone) x ≡ true
     was_gone x t = ap (λ (all : set.FinSet nat_cmp). set.contains all x) tied.retired ∙ ((kept_retired w x).0 t).1
+
+-- with as many vertices as there are slots in use, the graph of the history is what is held
+pub all_held : (w : Contents) → IsCoherent w → phase w.store ≡ Idle → vertex_count (graph_now w) + free_slots w.store ≡ w.limits.slots → ((x : ℕ) → has_retired (graph_now w) x ≡ true → IsVertex (graph_now w) x) → graph_now w ≡ reopening w
+all_held w there idle count were = sym (whole (graph_now w) (reopening w) own (graph_is w there.ties there.store) (reopening_graph w there) same were) where
+  own : IsRestriction (graph_now w) (reopening w) (IsVertex (reopening w))
+  own = record {
+    kept = λ x. (λ h. h, λ h. h);
+    part = retired_aside (graph_now w) (held_now w) (reopening w).retired there.ties.part;
+    retired = kept_retired w;
+    next = refl;
+  }
+
+  same : vertex_count (reopening w) ≡ vertex_count (graph_now w)
+  same =
+      let all : free_slots w.store + vertex_count (reopening w) + parked_count w.store ≡ w.limits.slots = (fits_are w there.ties there.store).slots in
+      let none = idle_none_parked w.store idle in
+      omega (arith, all, none, count)

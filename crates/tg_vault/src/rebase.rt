@@ -1,11 +1,12 @@
 //! A vault whose history begins anew with what is live.
-ghost use Rattle.std.specs.Prelude.{◌≡◌, [], filter, map, IfOk, IfSome, IfNone, Some};
+ghost use Rattle.std.specs.Prelude.{◌≡◌, true, [], filter, map, IfOk, IfSome, IfNone, Some};
 ghost use Rattle.std.specs.FinSet as set;
 ghost use Rattle.tg_graph.specs.Promise.Parts.{Listed};
 ghost use Rattle.tg_graph.specs.Inner.Parts.{members_of};
 ghost use Rattle.tg_graph.specs.Promise.Protection.{has_retired};
 ghost use Rattle.tg_collect.specs.Promise.Readings.{phase};
 ghost use Rattle.tg_collect.specs.declared.note.Phase.TheVariants.{Idle};
+ghost use Rattle.tg_vault.specs.Promise.Contents.{graph_now};
 ghost use Rattle.tg_vault.specs.Promise.Rebase.{HandsOver, IsNone, Rebases, ThreeCycles};
 ghost use Rattle.tg_vault.specs.Inner.Rebase.{reopening};
 ghost use Rattle.tg_vault.specs.Inner.Seen.{set_of};
@@ -82,7 +83,21 @@ impl Vault {
         let none = Past::none(self.alloc);
         match self.first_taken() {
             Some(seat) => (Rebased::Seated { vault: self, seat }, none),
-            None => self.begin_anew(none),
+            None => self.begin_anew(none, None),
+        }
+    }
+
+    /// As `rebase_with_past`, of a vault with the graph of its history, as a replay leaves it: if all of that is live,
+    /// it becomes the opening graph, and none has to be made.
+    pub fn rebase_with_graph(self, graph: Graph) -> (Rebased, Past)
+        requires { graph ≡ graph_now self }
+        ensures rebased { Rebases self result.0 }
+        ensures past { HandsOver self result.0 result.1 }
+    {
+        let none = Past::none(self.alloc);
+        match self.first_taken() {
+            Some(seat) => (Rebased::Seated { vault: self, seat }, none),
+            None => self.begin_anew(none, Some(graph)),
         }
     }
 
@@ -114,9 +129,11 @@ impl Vault {
         first_in_use(seats)
     }
 
-    /// The rebase of a vault with nobody on a seat, and what it drops, or nothing.
-    fn begin_anew(self, none: Past) -> (Rebased, Past)
+    /// The rebase of a vault with nobody on a seat, and what it drops, or nothing. The graph of the history is passed in,
+    /// if it is known.
+    fn begin_anew(self, none: Past, graph: Option<Graph>) -> (Rebased, Past)
         requires nobody { NobodySits self.seats }
+        requires graph { IfSome graph (λ g. g ≡ graph_now self) }
         requires none { IsNone none }
         ensures rebased { Rebases self result.0 }
         ensures past { HandsOver self result.0 result.1 }
@@ -130,7 +147,7 @@ impl Vault {
         restrictions_permit();
         restrictions_stay();
         restrictions_reply();
-        match vault.live_graph() {
+        match vault.opening_anew(graph) {
             Ok(opening) => {
                 let dropped = vault.count();
                 let past = vault.reopen(opening, none.history);
@@ -147,6 +164,32 @@ impl Vault {
         self.cycle();
         self.cycle();
         self.cycle();
+    }
+
+    /// What is held, as a graph of its own, and with it those of the retired that are held: the graph of the history, if
+    /// that is passed in and all of it is held.
+    fn opening_anew(&self, graph: Option<Graph>) -> Result<Graph, AllocError>
+        requires graph { IfSome graph (λ g. g ≡ graph_now self.now) }
+        requires idle { phase self.now.store ≡ Idle }
+        ensures { IfOk result (λ opening. opening ≡ reopening self.now) }
+    {
+        if let Some(whole) = graph
+            && self.holds_all(&whole)
+        {
+            return Ok(whole);
+        }
+        self.live_graph()
+    }
+
+    /// Whether all of the graph of the history is held.
+    fn holds_all(&self, whole: &Graph) -> bool
+        requires whole { whole.now ≡ graph_now self.now }
+        requires idle { phase self.now.store ≡ Idle }
+        ensures { result ≡ true → graph_now self.now ≡ reopening self.now }
+    {
+        self.soundness();
+        let held = self.slots - u64::from(self.state.store.free_slots());
+        whole.vertex_count() == held && whole.has_all_retired()
     }
 
     /// What is held, as a graph of its own, and with it those of the retired that are held.

@@ -1,9 +1,17 @@
-use Rattle.std.proofs.Common.{List, Option, Some, ℕ, [], length, ap, subst, sym, ◌∙◌}
+use Rattle.std.proofs.Common.{◌≡◌, IfSome, List, Option, Some, ℕ, [], length, ap, subst, sym, ◌∙◌}
+use Rattle.tg_graph.specs.Promise.Protection.{Protection}
 use Rattle.tg_vault.specs.Promise.World.{NobodySits}
 use Rattle.tg_vault.specs.Promise.Contents.{Contents}
 use Rattle.tg_vault.specs.Promise.Rebase.{IsRebased}
-use Rattle.tg_vault.proofs.RebaseLemmas.{is_idle, rebased, same_history, same_opening, same_seats}
+use Rattle.tg_vault.proofs.RebaseLemmas.{is_idle, rebased, same_graph, same_history, same_opening, same_seats}
 use Rattle.tg_vault.proofs.vault.Vault.begin_anew.Goals as goal
+
+pub opening_anew-requires-clause-idle : goal.opening_anew-requires-clause-idle
+opening_anew-requires-clause-idle c = is_idle c.args.self c.cycle_thrice.new.self c.cycle_thrice.ensures
+
+pub opening_anew-requires-clause-graph : goal.opening_anew-requires-clause-graph
+opening_anew-requires-clause-graph c =
+    subst (λ (G : Protection). IfSome c.args.graph (λ g. g ≡ G)) (sym (same_graph c.args.self c.cycle_thrice.new.self c.cycle_thrice.ensures)) c.requires.graph
 
 pub reopen-past-requires-clause-nobody : goal.reopen-past-requires-clause-nobody
 reopen-past-requires-clause-nobody c = subst (λ (seats : List (Option ℕ)). NobodySits seats) (sym (same_seats c.args.self c.cycle_thrice.new.self c.cycle_thrice.ensures)) c.requires.nobody
