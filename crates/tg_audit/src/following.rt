@@ -3,6 +3,7 @@ ghost use Rattle.std.specs.Prelude.{◌≡◌, ◌↔◌, IsTrue, ◌<◌, ◌+�
 ghost use Rattle.tg_rights.specs.declared.limits.TheConstants.{SEATS};
 ghost use Rattle.tg_graph.specs.Promise.Fullness.{Limits, Permitted};
 ghost use Rattle.tg_graph.specs.Promise.Rules.{next_graph};
+ghost use Rattle.tg_vault.specs.Promise.Contents.{graph_now};
 ghost use Rattle.tg_audit.specs.declared.logs.Exchange.{Exchange};
 ghost use Rattle.tg_audit.specs.declared.logs.SeatLog.{SeatLog};
 ghost use Rattle.tg_audit.specs.Inner.Following.{HasFollowed, FollowsAll, IsLeastAbove, followed, left_of, told_in};
@@ -54,21 +55,24 @@ fn next(logs: &[SeatLog], seat: u64, from: Position) -> Option<(&Exchange, Posit
     None
 }
 
+/// Whether the exchange has the actor and the command of the entry.
+fn is_asked(entry: &Entry, exchange: &Exchange) -> bool
+    ensures { IsTrue result ↔ (entry.now.actor ≡ exchange.now.actor) × (entry.now.command ≡ exchange.now.command) }
+{
+    entry.actor() == exchange.actor && *entry.command() == exchange.command
+}
+
 /// Whether the exchange is that of the entry, with the reply of the graph, which carries the entry's command out.
+// The exchange is read before the graph, which takes a while: it is rarely in the cache.
 fn is_told(graph: &mut Graph, entry: &Entry, exchange: &Exchange) -> Result<bool, AllocError>
     requires asks { IsSubjectOrRetired graph.old entry.now.actor }
     requires permitted { (limits : Limits) × Permitted limits graph.old entry.now.actor entry.now.command entry.now.outcome }
     ensures same { IfOk result (λ same. IsTrue same ↔ told_in graph.old entry.now ≡ exchange.now) }
     ensures graph { OnOk result (graph.new ≡ next_graph graph.old entry.now.actor entry.now.command entry.now.outcome) }
 {
+    let is_asked = is_asked(entry, exchange);
     let is_reply = is_reply(graph, entry, &exchange.reply)?;
-    if entry.actor() != exchange.actor {
-        return Ok(false);
-    }
-    if *entry.command() != exchange.command {
-        return Ok(false);
-    }
-    Ok(is_reply)
+    Ok(is_asked && is_reply)
 }
 
 impl Progress {
@@ -168,10 +172,16 @@ fn entry_at(vault: &Vault, number: u64) -> &Entry
     }
 }
 
-/// The progress of each seat after the whole history. Each reply is compared as the replay finds it, and none is kept.
-fn follow(alloc: Global, vault: &Vault, logs: &[SeatLog]) -> Result<[Progress; 64], AllocError>
-    ensures whole { IfOk result (λ table. length table ≡ SEATS) }
-    ensures follows { IfOk result (FollowsAll vault.now logs.now) }
+/// The progress of each seat after the whole history, and the graph that the history leaves. Each reply is compared as
+/// the replay finds it, and none is kept.
+fn follow(
+    alloc: Global,
+    vault: &Vault,
+    logs: &[SeatLog],
+) -> Result<([Progress; 64], Graph), AllocError>
+    ensures whole { IfOk result (λ found. length found.0 ≡ SEATS) }
+    ensures follows { IfOk result (λ found. FollowsAll vault.now logs.now found.0) }
+    ensures graph { IfOk result (λ found. found.1 ≡ graph_now vault.now) }
 {
     vault.soundness();
     let mut graph = vault.opening().copy()?;
@@ -185,27 +195,38 @@ fn follow(alloc: Global, vault: &Vault, logs: &[SeatLog]) -> Result<[Progress; 6
         let seat = entry.seat() as usize;
         table[seat].advance(alloc, &mut graph, logs, entry)?;
     }
-    Ok(table)
+    Ok((table, graph))
 }
 
-/// The place, a seat and an index, at which the logs first differ from the history with its replies by replay.
-/// `AllocError` if there is no memory for the graph or a reply.
+/// The place, a seat and an index, at which the logs first differ from the history, as this table has followed them.
+fn place_in(vault: &Vault, logs: &[SeatLog], table: &[Progress; 64]) -> Option<(u64, u64)>
+    requires whole { length table.now ≡ SEATS }
+    requires follows { FollowsAll vault.now logs.now table.now }
+    ensures { IsPlace vault.now logs.now result }
+{
+    vault.soundness();
+    for seat in 0..SEATS {
+        if let Some(index) = index_apart(logs, seat, table[seat as usize]) {
+            return Some((seat, index));
+        }
+    }
+    match least_above(logs) {
+        None => None,
+        Some(above) => Some((above, 0)),
+    }
+}
+
+/// The place, a seat and an index, at which the logs first differ from the history with its replies by replay, and the
+/// graph that the history leaves. `AllocError` if there is no memory for the graph or a reply.
 pub fn first_difference(
     alloc: Global,
     vault: &Vault,
     logs: &[SeatLog],
-) -> Result<Option<(u64, u64)>, AllocError>
-    ensures { IfOk result (IsPlace vault.now logs.now) }
+) -> Result<(Option<(u64, u64)>, Graph), AllocError>
+    ensures place { IfOk result (λ found. IsPlace vault.now logs.now found.0) }
+    ensures graph { IfOk result (λ found. found.1 ≡ graph_now vault.now) }
 {
-    vault.soundness();
-    let table = follow(alloc, vault, logs)?;
-    for seat in 0..SEATS {
-        if let Some(index) = index_apart(logs, seat, table[seat as usize]) {
-            return Ok(Some((seat, index)));
-        }
-    }
-    match least_above(logs) {
-        None => Ok(None),
-        Some(above) => Ok(Some((above, 0))),
-    }
+    let (table, graph) = follow(alloc, vault, logs)?;
+    let place = place_in(vault, logs, &table);
+    Ok((place, graph))
 }

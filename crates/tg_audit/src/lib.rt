@@ -15,7 +15,7 @@ pub use derivations::check;
 pub use histories::{derivation, entry_step, graph_of_history};
 pub use logs::{Exchange, SeatLog, Settled};
 pub use replaying::replay;
-pub use settling::{settle, settle_with_logs};
+pub use settling::{settle, settle_with_graph, settle_with_logs};
 
 // Laws: each function is a theorem, its contract, and costs nothing when it is called.
 

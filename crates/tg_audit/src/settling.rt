@@ -1,9 +1,10 @@
 //! Settling: the logs of all callers against the history.
-ghost use Rattle.tg_audit.specs.Promise.Settling.{GivesBack, SettledAs};
+ghost use Rattle.tg_audit.specs.Promise.Settling.{GivesBack, HandsOn, SettledAs};
 
 use crate::following::first_difference;
 use crate::logs::{SeatLog, Settled};
 use std::alloc::Global;
+use tg_graph::Graph;
 use tg_vault::Vault;
 
 /// Settles what callers received with the history: for each seat, its entries in order, each with its actor, its
@@ -25,18 +26,34 @@ pub fn settle_with_logs(alloc: Global, vault: Vault, logs: Vec<SeatLog>) -> (Set
     ensures settled { SettledAs vault logs.items result.0 }
     ensures logs { GivesBack logs.items result.0 result.1.items }
 {
+    let (settled, logs, graph) = settle_with_graph(alloc, vault, logs);
+    drop(graph);
+    (settled, logs)
+}
+
+/// As `settle_with_logs`, with the graph that the history leaves if the logs agree, which it drops: so a rebase can go on
+/// from it.
+pub fn settle_with_graph(
+    alloc: Global,
+    vault: Vault,
+    logs: Vec<SeatLog>,
+) -> (Settled, Vec<SeatLog>, Option<Graph>)
+    ensures settled { SettledAs vault logs.items result.0 }
+    ensures logs { GivesBack logs.items result.0 result.1.items }
+    ensures graph { HandsOn vault result.0 result.2 }
+{
     let none = Vec::new(alloc);
     match first_difference(alloc, &vault, logs.as_slice()) {
-        Err(_) => (Settled::NoMemory { vault, logs }, none),
-        Ok(None) => (Settled::Agreed(vault), logs),
-        Ok(Some(place)) => {
+        Err(_) => (Settled::NoMemory { vault, logs }, none, None),
+        Ok((None, graph)) => (Settled::Agreed(vault), logs, Some(graph)),
+        Ok((Some(place), _)) => {
             let settled = Settled::Differs {
                 vault,
                 logs,
                 seat: place.0,
                 index: place.1,
             };
-            (settled, none)
+            (settled, none, None)
         }
     }
 }

@@ -1,14 +1,15 @@
 -- The rounds of a server, and the lines between them.
-use Rattle.std.proofs.Common.{◌≡◌, ◌⊎◌, ◌↔◌, ℕ, zero, suc, ap, ◌+◌, ◌-◌, ◌*◌, ◌<◌, ◌≤◌, min, List, [], ◌∷◌, ◌++◌, length, Option, Bool, true, false, Result, Ok, Err, IfErr, IfOk, inl, inr, refl, sym, subst, true≢false, ◌∙◌, append_assoc, append-nil, arith}
+use Rattle.std.proofs.Common.{◌≡◌, ◌⊎◌, ◌↔◌, ℕ, zero, suc, ap, ◌+◌, ◌-◌, ◌*◌, ◌<◌, ◌≤◌, min, List, [], ◌∷◌, ◌++◌, length, Option, Bool, true, false, Result, Ok, Err, IfErr, IfOk, IfSome, inl, inr, refl, sym, subst, true≢false, ◌∙◌, append_assoc, append-nil, arith}
+use Rattle.tg_graph.specs.Promise.Protection.{Protection}
 use Rattle.tg_audit.specs.declared.logs.Settled.TheVariants as settled
-use Rattle.tg_share.specs.Promise.Closing.{IsClosed, logs_of}
+use Rattle.tg_share.specs.Promise.Closing.{HandsGraph, IsClosed, logs_of}
 use Rattle.tg_share.specs.declared.closing.Closed.{Closed}
 use Rattle.tg_share.specs.declared.closing.Closed.TheVariants as closed
 use Rattle.tg_share.specs.declared.session.Ended.{Ended}
 use Rattle.tg_talk.specs.Promise.Devices.{Sends}
 use Rattle.tg_talk.proofs.KnownBytesLemmas.{Appends-more}
 use Rattle.tg_talk.proofs.SendsLemmas.{sends_none, sent_whole}
-use Rattle.tg_vault.specs.Promise.Contents.{Contents}
+use Rattle.tg_vault.specs.Promise.Contents.{Contents, graph_now}
 use Rattle.tg_vault.specs.Promise.Rebase.{IsRebased}
 use Rattle.tg_serve.specs.declared.operating.Operating.{Operating}
 use Rattle.tg_serve.specs.declared.serve.Unsettled.{Unsettled}
@@ -24,6 +25,11 @@ closing_agrees ended _ is = tt
 pub closing_ends : {L : Type 0} (ended : List (Ended L)) (c : Closed L) → IsClosed ended c → IfErr (found_of c) EndsServer
 closing_ends ended (closed.Done (settled.Differs v logs seat index) counted) is = record { vault = v; logs = logs_of ended; place = is.settled.2; headline = is.headline }
 closing_ends ended _ is = tt
+
+-- the graph that is handed on is that of the vault's history
+pub closing_hands : {L : Type 0} (c : Closed L) (graph : Option Protection) → HandsGraph c graph → IfOk (found_of c) (λ v. IfSome graph (λ g. g ≡ graph_now v))
+closing_hands (closed.Done (settled.Agreed v) counted) graph is = subst (λ (o : Option Protection). IfSome o (λ g. g ≡ graph_now v)) (sym is) refl
+closing_hands _ graph is = tt
 
 -- bytes that are sent one after the other
 pub sends_on : (old now new : Option (List ℕ)) (first second third : Bool) (xs ys : List ℕ) → SendsOn old first now second xs → SendsOn now second new third ys → SendsOn old first new third (xs ++ ys)

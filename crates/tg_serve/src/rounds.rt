@@ -1,8 +1,9 @@
 //! A server that serves its connections in rounds: between two of them what lives becomes the opening graph, and the
 //! history is dropped.
-ghost use Rattle.std.specs.Prelude.{◌≡◌, ◌≤◌, ◌<◌, ◌+◌, ◌-◌, ◌↔◌, ◌⊎◌, [], IfErr, IfOk, false, length, min, true};
+ghost use Rattle.std.specs.Prelude.{◌≡◌, ◌≤◌, ◌<◌, ◌+◌, ◌-◌, ◌↔◌, ◌⊎◌, [], IfErr, IfOk, IfSome, false, length, min, true};
 ghost use Rattle.tg_talk.specs.Promise.Devices.{device_of, has_failed};
-ghost use Rattle.tg_vault.specs.Promise.Rebase.{IsRebased};
+ghost use Rattle.tg_vault.specs.Promise.Contents.{graph_now};
+ghost use Rattle.tg_vault.specs.Promise.Rebase.{HandsOver, IsRebased, Rebases};
 ghost use Rattle.tg_serve.specs.Promise.Serving.{Concludes, EndsServer, HasAgreed, HasRebased, IsAlone, IsCounted, IsServed, SendsOn, rebased_line, unbounded};
 ghost use Rattle.tg_serve.specs.Inner.Serving.{HasRounds};
 
@@ -175,7 +176,13 @@ fn serve_rounds<R: Threads + Wait + Clock + Sync, W: Write>(
         let size = size_of(service, left, round);
         let door = Door::new(service.listener, size);
         service.desk.begin_round(number);
-        let (found, logs) = serve_round::<Brand, R>(service, &door, Blank::new(PARTS), vault, past);
+        let (found, logs, graph) = serve_round::<Brand, R>(
+            service,
+            &door,
+            Blank::new(PARTS),
+            vault,
+            past,
+        );
         let settled = match found {
             Ok(settled) => settled,
             Err(end) => return Err(end),
@@ -189,7 +196,7 @@ fn serve_rounds<R: Threads + Wait + Clock + Sync, W: Write>(
         let Some(next) = number.checked_add(1) else {
             return Ok(settled);
         };
-        let fresh = rebase(service, writer, is_announced, settled, number)?;
+        let fresh = rebase(service, writer, is_announced, settled, graph, number)?;
         vault = fresh.vault;
         past = Some(Leavings {
             history: fresh.history,
@@ -256,20 +263,34 @@ struct Fresh {
     opening: Option<Graph>,
 }
 
-/// Rebases the vault of a round, and writes how many entries that dropped. Its history is left at the desk, if it is to
-/// be kept there, also if the rebase fails.
+/// A rebase from the graph that the history leaves, if that is known.
+fn rebase_from(settled: Vault, graph: Option<Graph>) -> (Rebased, Past)
+    requires { IfSome graph (λ graph. graph ≡ graph_now settled) }
+    ensures rebased { Rebases settled result.0 }
+    ensures past { HandsOver settled result.0 result.1 }
+{
+    match graph {
+        Some(graph) => settled.rebase_with_graph(graph),
+        None => settled.rebase_with_past(),
+    }
+}
+
+/// Rebases the vault of a round, with the graph that its history leaves, if that is known, and writes how many entries
+/// that dropped. Its history is left at the desk, if it is to be kept there, also if the rebase fails.
 fn rebase<R: Wait, W: Write>(
     service: &Service<'_, R>,
     writer: &mut Watched<W>,
     is_announced: bool,
     settled: Vault,
+    graph: Option<Graph>,
     round: u64,
 ) -> Result<Fresh, Unsettled>
+    requires { IfSome graph (λ graph. graph ≡ graph_now settled) }
     ensures fresh { IfOk result (λ fresh. IsRebased settled fresh.vault) }
     ensures ended { IfErr result EndsServer }
     ensures told { IfOk result (λ _. is_announced ≡ true → SendsOn (W.contents (device_of writer.old)) (has_failed writer.old) (W.contents (device_of writer.new)) (has_failed writer.new) (rebased_line (length settled.history) round)) }
 {
-    let (rebased, past) = settled.rebase_with_past();
+    let (rebased, past) = rebase_from(settled, graph);
     match rebased {
         Rebased::Fresh { vault, dropped } => {
             let Past { history, opening } = past;

@@ -1,6 +1,7 @@
 //! A round of a server: a vault served to several clients at once, over connections.
-ghost use Rattle.std.specs.Prelude.{◌≡◌, [], IfErr, IfOk};
+ghost use Rattle.std.specs.Prelude.{◌≡◌, [], IfErr, IfOk, IfSome};
 ghost use Rattle.tg_share.specs.declared.locked.TheConstants.{PARTS};
+ghost use Rattle.tg_vault.specs.Promise.Contents.{graph_now};
 ghost use Rattle.tg_serve.specs.Promise.Serving.{EndsServer, HasAgreed, IsFound, found_of};
 
 use crate::budget::Budget;
@@ -66,15 +67,15 @@ pub(crate) struct Service<'a, R> {
 
 /// Serves the connections that are left at the door, each in a talk of a worker on the worker's own seat, while a
 /// collector runs, and settles the logs. All threads have ended then. What the round before has left is dropped once
-/// there are workers: that takes a while, and clients need not wait for it. Returns the vault, and logs that agree with
-/// it.
+/// there are workers: that takes a while, and clients need not wait for it. Returns the vault, the graph that its history
+/// leaves, and logs that agree with it.
 pub(crate) fn serve_round<L: Ledger + Send + Sync, R: Threads + Wait + Clock + Sync>(
     service: &Service<'_, R>,
     door: &Door<'_>,
     blank: Blank,
     vault: Vault,
     past: Option<Leavings>,
-) -> (Result<Vault, Unsettled>, Vec<SeatLog>)
+) -> (Result<Vault, Unsettled>, Vec<SeatLog>, Option<Graph>)
     requires name { blank.name ≡ L.name }
     requires parts { blank.parts ≡ L.parts }
     requires all { blank.parts ≡ PARTS }
@@ -82,6 +83,7 @@ pub(crate) fn serve_round<L: Ledger + Send + Sync, R: Threads + Wait + Clock + S
     ensures found { IsFound L result.0 }
     ensures agreed { IfOk result.0 HasAgreed }
     ensures ended { IfErr result.0 EndsServer }
+    ensures graph { IfOk result.0 (λ settled. IfSome result.2 (λ graph. graph ≡ graph_now settled)) }
 {
     let shared = Shared::<L>::new(service.alloc, blank, vault);
     let budget = Budget::new(service.operating.memory, service.workers);
@@ -96,10 +98,10 @@ pub(crate) fn serve_round<L: Ledger + Send + Sync, R: Threads + Wait + Clock + S
     };
     match serve_in_threads(&round, service.workers, past) {
         Some(ended) => {
-            let (closed, logs) = shared.close_with_logs(ended);
-            (found_in(closed), logs)
+            let (closed, logs, graph) = shared.close_with_graph(ended);
+            (found_in(closed), logs, graph)
         }
-        None => (Err(Unsettled::NoMemory), Vec::new(service.alloc)),
+        None => (Err(Unsettled::NoMemory), Vec::new(service.alloc), None),
     }
 }
 

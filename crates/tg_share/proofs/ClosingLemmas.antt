@@ -1,13 +1,15 @@
 -- A shared vault that is closed: from what was settled and counted to what is promised.
 use Rattle.std.proofs.Common.{◌≡◌, ◌+◌, List, [], ◌∷◌, ◌++◌, append-nil, arith, Bool, true, length, refl, sym, ap, subst, ◌∙◌, sum_by}
 use Rattle.std.proofs.lemmas.List.Sums.{sum_by-cons}
+use Rattle.std.specs.Prelude.{Option}
+use Rattle.tg_graph.specs.Promise.Protection.{Protection}
 use Rattle.tg_vault.specs.Promise.Contents.{Contents}
 use Rattle.tg_vault.specs.Promise.Laws.{CoursesHaveTheHeadline}
 use Rattle.tg_audit.specs.declared.logs.SeatLog.{SeatLog}
 use Rattle.tg_audit.specs.declared.logs.Settled.{Settled}
 use Rattle.tg_audit.specs.declared.logs.Settled.TheVariants as settled
 use Rattle.tg_audit.specs.Promise.Laws.{AgreedCounts}
-use Rattle.tg_audit.specs.Promise.Settling.{SettledAs}
+use Rattle.tg_audit.specs.Promise.Settling.{HandsOn, SettledAs}
 use Rattle.tg_share.specs.declared.session.Ended.{Ended}
 use Rattle.tg_share.specs.Promise.Closing.{IsAgreed, IsSettled, exchange_count, logs_of, vault_in}
 use Rattle.tg_share.specs.Promise.Reached.{HasHeadline, IsReached}
@@ -27,6 +29,10 @@ count_in_logs (e ∷ ended) =
 handed_back : (v : Contents) (logs : List SeatLog) (s : Settled) → SettledAs v logs s → vault_in s ≡ v
 handed_back v logs (settled.Agreed w) is = is.0
 handed_back v logs _ is = is.0
+
+-- so the graph that is handed on is that of the vault which is handed back
+pub handed_on : (v : Contents) (logs : List SeatLog) (s : Settled) (graph : Option Protection) → SettledAs v logs s → HandsOn v s graph → HandsOn (vault_in s) s graph
+handed_on v logs s graph is on = subst (λ (w : Contents). HandsOn w s graph) (sym (handed_back v logs s is)) on
 
 -- by the law of the auditor
 counted_where_agreed : (v : Contents) (logs : List SeatLog) (s : Settled) → AgreedCounts → SettledAs v logs s → IsAgreed s → length v.history ≡ sum_by (λ l. length l.exchanges.items) logs

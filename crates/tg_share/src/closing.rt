@@ -1,12 +1,13 @@
 //! The end of a shared vault: what its sessions received, against its history.
 ghost use Rattle.std.specs.Prelude.{◌≡◌};
 ghost use Rattle.tg_share.specs.declared.locked.TheConstants.{PARTS};
-ghost use Rattle.tg_share.specs.Promise.Closing.{HandsBack, IsClosed};
+ghost use Rattle.tg_share.specs.Promise.Closing.{HandsBack, HandsGraph, IsClosed};
 
 use crate::locked::Locked;
 use crate::session::{Ended, Shared};
 use std::sync::ledger::Ledger;
-use tg_audit::{SeatLog, Settled, agreed_counts, settle_with_logs};
+use tg_audit::{SeatLog, Settled, agreed_counts, settle_with_graph};
+use tg_graph::Graph;
 use tg_vault::courses_have_the_headline;
 
 /// What `close` returns.
@@ -42,13 +43,26 @@ impl<L: Ledger> Shared<L> {
         ensures closed { IsClosed ended.items result.0 }
         ensures logs { HandsBack ended.items result.0 result.1.items }
     {
+        let (closed, logs, graph) = self.close_with_graph(ended);
+        drop(graph);
+        (closed, logs)
+    }
+
+    /// As `close_with_logs`, with the graph that the history leaves if they agree, which it drops: so a rebase can go on
+    /// from it.
+    pub fn close_with_graph(self, ended: Vec<Ended<L>>) -> (Closed<L>, Vec<SeatLog>, Option<Graph>)
+        requires { L.parts ≡ PARTS }
+        ensures closed { IsClosed ended.items result.0 }
+        ensures logs { HandsBack ended.items result.0 result.1.items }
+        ensures graph { HandsGraph result.0 result.2 }
+    {
         let none = Vec::new(self.alloc);
         let Ok(mut logs) = Vec::with_capacity(self.alloc, ended.len()) else {
             let closed = Closed::NoRoom {
                 shared: self,
                 ended,
             };
-            return (closed, none);
+            return (closed, none, None);
         };
         let Shared { locked, alloc } = self;
         let inner = locked.into_inner();
@@ -73,7 +87,7 @@ impl<L: Ledger> Shared<L> {
         entries.audit(&mut rest);
         courses_have_the_headline();
         agreed_counts();
-        let (settled, logs) = settle_with_logs(alloc, vault, logs);
-        (Closed::Done { settled, counted }, logs)
+        let (settled, logs, graph) = settle_with_graph(alloc, vault, logs);
+        (Closed::Done { settled, counted }, logs, graph)
     }
 }

@@ -3,7 +3,7 @@ use Rattle.std.specs.Prelude.{◌≡◌, ◌<◌, ℕ, List, [], ◌∷◌, ◌+
 use Rattle.tg_graph.specs.Promise.Protection.{Protection}
 use Rattle.tg_graph.specs.Promise.Rules.{next_graph, reply_of}
 use Rattle.tg_vault.specs.declared.entry.Entry.{Entry}
-use Rattle.tg_vault.specs.Promise.Contents.{Contents}
+use Rattle.tg_vault.specs.Promise.Contents.{Contents, graph_now}
 use Rattle.tg_audit.specs.declared.logs.Exchange.{Exchange}
 use Rattle.tg_audit.specs.declared.logs.SeatLog.{SeatLog}
 use Rattle.tg_audit.specs.declared.logs.Settled.{Settled}
@@ -55,3 +55,9 @@ abbrev pub GivesBack : List SeatLog → Settled → List SeatLog → Type 0
 GivesBack logs (settled.Agreed w) back = back ≡ logs
 GivesBack logs (settled.Differs w others seat index) back = back ≡ []
 GivesBack logs (settled.NoMemory w others) back = back ≡ []
+
+-- what is handed on: the graph that the history leaves, if the logs agree
+abbrev pub HandsOn : Contents → Settled → Option Protection → Type 0
+HandsOn v (settled.Agreed w) graph = graph ≡ Some (graph_now v)
+HandsOn v (settled.Differs w others seat index) graph = graph ≡ None
+HandsOn v (settled.NoMemory w others) graph = graph ≡ None

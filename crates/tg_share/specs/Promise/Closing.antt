@@ -1,10 +1,11 @@
 -- what a shared vault leaves when it is closed
-use Rattle.std.specs.Prelude.{◌≡◌, ℕ, Bool, true, List, [], length, map, sum_by}
+use Rattle.std.specs.Prelude.{◌≡◌, ℕ, Bool, true, List, [], Option, None, length, map, sum_by}
+use Rattle.tg_graph.specs.Promise.Protection.{Protection}
 use Rattle.tg_vault.specs.Promise.Contents.{Contents}
 use Rattle.tg_audit.specs.declared.logs.SeatLog.{SeatLog}
 use Rattle.tg_audit.specs.declared.logs.Settled.{Settled}
 use Rattle.tg_audit.specs.declared.logs.Settled.TheVariants as settled
-use Rattle.tg_audit.specs.Promise.Settling.{GivesBack, SettledAs}
+use Rattle.tg_audit.specs.Promise.Settling.{GivesBack, HandsOn, SettledAs}
 use Rattle.tg_share.specs.declared.session.Ended.{Ended}
 use Rattle.tg_share.specs.declared.closing.Closed.{Closed}
 use Rattle.tg_share.specs.declared.closing.Closed.TheVariants as closed
@@ -44,3 +45,8 @@ IsClosed ended (closed.NoRoom shared back) = back.items ≡ ended
 abbrev pub HandsBack : {L : Type 0} → List (Ended L) → Closed L → List SeatLog → Type 0
 HandsBack ended (closed.Done settled counted) logs = GivesBack (logs_of ended) settled logs
 HandsBack ended (closed.NoRoom shared back) logs = logs ≡ []
+
+-- and the graph that the history leaves, if they agree
+abbrev pub HandsGraph : {L : Type 0} → Closed L → Option Protection → Type 0
+HandsGraph (closed.Done settled counted) graph = HandsOn (vault_in settled) settled graph
+HandsGraph (closed.NoRoom shared back) graph = graph ≡ None

@@ -3,6 +3,7 @@ use Rattle.std.proofs.lemmas.Option.{slice_get-get_or}
 use Rattle.tg_rights.specs.declared.limits.TheConstants.{SEATS}
 use Rattle.tg_graph.specs.Promise.Rules.{reply_of}
 use Rattle.tg_audit.specs.Promise.Replies.{replies_of}
+use Rattle.tg_audit.proofs.DerivedLemmas.{graph_add}
 use Rattle.tg_audit.proofs.ReplayLemmas.{left_asks, left_permitted, replayed_none, replays}
 use Rattle.tg_audit.proofs.TableLemmas.{followed_end, followed_fresh, followed_more, start}
 use Rattle.tg_audit.proofs.following.follow.Goals as goal
@@ -14,6 +15,7 @@ loop-number-init c =
     record {
       followed = followed_fresh v c.args.logs.now;
       replayed = replayed_none v G (c.in_ok-graph.ensures.equal ∙ c.opening.ensures) c.soundness.ensures.coherent.ties.opened c.soundness.ensures.vault.legal;
+      reached = c.in_ok-graph.ensures.equal ∙ c.opening.ensures;
     }
 
 pub advance-requires-clause-asks : goal.advance-requires-clause-asks
@@ -45,6 +47,7 @@ loop-number-preserved c =
     record {
       followed = rw c.seat-seat.ensures (followed_more v c.args.logs.now (replies_of v.opening v.history) n c.loop-number.table e r p c.advance.new.self followed c.entry_at-entry.ensures.entry next.told c.entry_at-entry.ensures.seat here (rw c.seat-seat.ensures at c.in_ok-advance.ensures.follows) (rw c.seat-seat.ensures at c.in_ok-advance.ensures.count));
       replayed = next.replayed;
+      reached = graph_add v n e G c.advance.new.graph c.entry_at-entry.ensures.entry c.loop-number.invariant.reached c.in_ok-advance.ensures.graph;
     }
 
 pub returns-clause-whole : goal.returns-clause-whole

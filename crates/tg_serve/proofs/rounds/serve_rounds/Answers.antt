@@ -1,4 +1,5 @@
-use Rattle.std.proofs.Common.{◌≡◌, ◌<◌, ◌≤◌, ◌+◌, ◌-◌, ℕ, IfOk, arith, inl, subst, sym}
+use Rattle.std.proofs.Common.{◌≡◌, ◌<◌, ◌≤◌, ◌+◌, ◌-◌, ℕ, IfOk, IfSome, arith, inl, subst, sym}
+use Rattle.tg_vault.specs.Promise.Contents.{graph_now}
 use Rattle.tg_talk.specs.Promise.Devices.{device_of, has_failed}
 use Rattle.tg_serve.specs.Promise.Serving.{HasAgreed, IsAlone}
 use Rattle.tg_serve.proofs.RoundsLemmas.{GoesOn, RoundsSoFar, goes_on, is_over, rounds_end, rounds_go_on, rounds_none}
@@ -6,6 +7,9 @@ use Rattle.tg_serve.proofs.rounds.serve_rounds.Goals as goal
 
 pub rounds-init : goal.rounds-init
 rounds-init g c = record { empty = c.requires.empty; few = λ alone. omega arith; so_far = λ told. rounds_none _ _ _ _ _ }
+
+pub rebase-requires : goal.rebase-requires
+rebase-requires g c = subst (λ r. IfOk r (λ settled. IfSome c.serve_round-found.result.2 (λ graph. graph ≡ graph_now settled))) c.in-Ok.is c.serve_round-found.ensures.graph
 
 pub rounds-preserved : goal.rounds-preserved
 rounds-preserved g c =

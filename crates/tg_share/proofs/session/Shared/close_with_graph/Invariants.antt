@@ -1,6 +1,6 @@
 use Rattle.std.proofs.Common.{◌≡◌, ◌+◌, ◌≤◌, ◌++◌, length, vec_capacity}
 use Rattle.tg_share.specs.Promise.Closing.{exchange_count, logs_of}
-use Rattle.tg_share.proofs.session.Shared.close_with_logs.Given as goal
+use Rattle.tg_share.proofs.session.Shared.close_with_graph.Given as goal
 
 abbrev pub invariant-loop-one : goal.invariant-loop-one
 invariant-loop-one g l = record {
