@@ -21,8 +21,10 @@ from checking import Tests, same, skipped
 from models.graph import Graph
 from models.reading import Event, line_of, read_config, read_step
 from running import Process, Word, asked, ran, started
-from server.servers import AGREED, ANY_PORT, BYE, CONFIG, CREATE, HELLO, LOOK, PARTED, SEEN, WELCOME
-from server.servers import Server, in_rounds, is_silent, read_all, read_line, running
+from server.servers import AGREED, ANY_PORT, BYE, CONFIG, CREATE, HELLO, LOOK, PARTED, READ
+from server.servers import SEEN, WELCOME, WRITE, Server, in_rounds, is_silent, read_all, read_line
+from server.servers import running
+from server.waiting import sends_all
 
 LARGE = b'{"edges":[[1,"t",2]],"principals":["alice","bob"],"slots":4096,"cells":65536}\n'
 
@@ -151,6 +153,28 @@ def stop_while_silent(program: Path) -> None:
             same(server.end(), AGREED)
     print(f"  {took:.1f} s")
     assert 2.0 <= took < 6.0, "not in time"
+
+
+def stop_while_nobody_reads(program: Path) -> None:
+    """A client that takes no answers is left once its talk is to end in any case."""
+    with attended(program, "--workers", "1") as server, server.connection() as one:
+        one.sendall(HELLO + CREATE + WRITE % (b"a" * 4_096))
+        sends_all(one, READ * 1_000, 900)
+        wait_while_it_works(server)
+        began = time.monotonic()
+        same(server.ask(op="stop", within=1), {"ok": "stop"})
+        same(server.end(), AGREED)
+        took = time.monotonic() - began
+    print(f"  {took:.1f} s")
+    assert 1.0 <= took < 10.0, "not in time"
+
+
+def wait_while_it_works(server: Attended) -> None:
+    """Returns once a server carries out nothing for a second."""
+    before, now = -1, 0
+    while before != now:
+        time.sleep(1)
+        before, now = now, server.status()["entries"]
 
 
 def stop_twice(program: Path) -> None:
@@ -507,6 +531,7 @@ def tests() -> Tests:
     yield "stop-before-anybody-came", stop_before_anybody_came
     yield "stop-while-63-clients-work", stop_while_clients_work
     yield "stop-while-clients-are-silent", stop_while_silent
+    yield "stop-while-a-client-takes-no-answers", stop_while_nobody_reads
     yield "stop-twice", stop_twice
     yield "end-of-a-round", end_of_a_round
     yield "stop-between-rounds", stops_in_between

@@ -15,6 +15,7 @@ from running import ran
 from server.servers import AGREED, ANY_PORT, BYE, CONFIG, CREATE, DONE, HELLO, LOOK, MADE, PARTED
 from server.servers import READ, WELCOME, WRITE, Server, figure, figure_in, is_silent, read_all
 from server.servers import read_line, running, served
+from server.waiting import sends_all
 
 MEGABYTE = 1 << 20
 
@@ -106,6 +107,24 @@ def honest_beside_a_flood(program: Path) -> None:
     assert count > 0 and first.endswith(b',"round":1}\n'), first
 
 
+def memory_while_nobody_reads(program: Path) -> None:
+    """A client that takes no answers does not hold up the end of a round whose memory is used up;
+    the next round serves."""
+    bounds = ("--memory", str(4 * MEGABYTE), "--round", "3")
+    with served(program, 2, 4, *bounds, ends=None) as server, server.connection() as one:
+        one.sendall(HELLO + CREATE + LONG_TEXT)
+        sends_all(one, READ * 1_000, 900)
+        server.greet()
+        floods(server, HELLO + LOOK * 1_000, 40)
+        began = time.monotonic()
+        server.greet()
+        took = time.monotonic() - began
+        lines, status = server.end()
+    print(f"  answered after {took:.1f} s")
+    same((lines.splitlines(True)[-1], status), AGREED)
+    assert took < 5.0, "not in time"
+
+
 @contextlib.contextmanager
 def short(program: Path, files: int, warning: str, *words: str) -> Iterator[Server]:
     """A server whose process may have so many files open, of which it warns on standard error."""
@@ -170,6 +189,7 @@ def tests() -> Tests:
     yield "memory-that-reads-fill", reads_of_a_long_text
     yield "memory-that-looks-fill", looks_at_many_edges
     yield "memory-beside-a-flood", honest_beside_a_flood
+    yield "memory-while-a-client-takes-no-answers", memory_while_nobody_reads
     yield "memory-is-said", says_what_a_round_may_take
     yield "descriptors-that-are-short", waits_for_descriptors
     yield "descriptors-that-never-come", lost_for_want_of_descriptors

@@ -187,11 +187,13 @@ fn end_of_lines(bytes: &[u8], lines: u64) -> usize
 }
 
 /// What a client is answered. A write fails once the client has kept the server waiting for too long until it took its
-/// answers: all those that are written before more of its lines are read.
+/// answers: all those that are written before more of its lines are read. Once its round takes no more lines, a write
+/// also fails as soon as the client has taken nothing for a tick, or for less if a signal ends the wait.
 #[derive(Drop)]
 pub(crate) struct ClientWriter<'a, D, C> {
     device: D,
     clock: &'a C,
+    budget: &'a Budget,
     seat: Seat<'a>,
     tally: Tally,
     waiting: Waiting,
@@ -202,12 +204,14 @@ impl<'a, D: Write, C: Clock> ClientWriter<'a, D, C> {
     pub(crate) fn new(
         device: D,
         clock: &'a C,
+        budget: &'a Budget,
         seat: Seat<'a>,
         patience: Option<u64>,
     ) -> ClientWriter<'a, D, C> {
         ClientWriter {
             device,
             clock,
+            budget,
             seat,
             tally: Tally::new(),
             waiting: Waiting::new(patience),
@@ -244,6 +248,9 @@ impl<D: Write, C: Clock> Write for ClientWriter<'_, D, C> {
                     self.tell(buf.get(..count).unwrap_or(buf));
                 }
                 return Ok(count);
+            }
+            if self.budget.is_spent() || self.seat.desk.course() == Course::Over {
+                return Err(too_long());
             }
         }
         Ok(0)

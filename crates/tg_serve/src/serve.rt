@@ -254,7 +254,8 @@ fn talk_with<L: Ledger, R: Wait + Clock>(
     };
     let reader = ClientReader::new(alloc, stream, rt, round.budget, place, patience)?;
     let mut reader = Watched::new(reader);
-    let mut writer = buffered(alloc, ClientWriter::new(stream, rt, place, patience))?;
+    let writer = ClientWriter::new(stream, rt, round.budget, place, patience);
+    let mut writer = buffered(alloc, writer)?;
     let gate = Assisting {
         shared: round.shared,
         budget: round.budget,

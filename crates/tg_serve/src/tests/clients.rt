@@ -282,14 +282,22 @@ fn writes(
     patience: Option<u64>,
     flushes: bool,
 ) -> (usize, bool) {
+    let (budget, desk) = (Budget::new(None, 1), Desk::unattended(alloc));
+    writes_at(steps, patience, flushes, &budget, &desk)
+}
+
+/// The same in the round of a desk.
+fn writes_at(
+    steps: &'static [Step],
+    patience: Option<u64>,
+    flushes: bool,
+    budget: &Budget,
+    desk: &Desk,
+) -> (usize, bool) {
     let clock = Hands::new();
     let device = Scripted::new(&clock, steps);
-    let desk = Desk::unattended(alloc);
-    let seat = Seat {
-        desk: &desk,
-        worker: 0,
-    };
-    let mut writer = ClientWriter::new(device, &clock, seat, patience);
+    let seat = Seat { desk, worker: 0 };
+    let mut writer = ClientWriter::new(device, &clock, budget, seat, patience);
     let mut written = 0usize;
     for _ in 0..100u32 {
         match writer.write(b"0123456789abcdef") {
@@ -321,4 +329,40 @@ fn answers_have_their_time(rt: HostRuntime) {
     assert!(rt; writes(rt.alloc(), SLOW, Some(2), true) == (28, false));
     assert!(rt; writes(rt.alloc(), SLOW, Some(4), false) == (28, false));
     assert!(rt; writes(rt.alloc(), SLOW, None, false) == (28, false));
+}
+
+/// Two writes are taken at once, and the third one behind a tick.
+const STUCK: &[Step] = &[
+    Step::Moves(200, b"0123"),
+    Step::Moves(200, b"01234567"),
+    Step::Ticks(1),
+    Step::Moves(0, b"0123456789abcdef"),
+];
+
+/// A client has its answers, however late it takes them, until its round takes no more lines; from then on it has those
+/// that it takes without a tick in between.
+#[test]
+fn answers_end_with_their_round(rt: HostRuntime) {
+    let clock = Hands::new();
+    let desk = Desk::unattended(rt.alloc());
+    let budget = Budget::new(None, 1);
+    desk.end_round(&clock, 5);
+    clock.move_on(5_000);
+    desk.advance(&clock);
+    assert!(rt; writes_at(STUCK, None, false, &budget, &desk) == (28, false));
+    clock.move_on(1_000);
+    desk.advance(&clock);
+    assert!(rt; writes_at(STUCK, None, false, &budget, &desk) == (12, true));
+    assert!(rt; writes_at(SLOW, None, false, &budget, &desk) == (0, true));
+}
+
+/// The same if the memory of the round is used up.
+#[test]
+fn answers_end_once_no_memory_is_left(rt: HostRuntime) {
+    let desk = Desk::unattended(rt.alloc());
+    let budget = Budget::new(Some(640), 1);
+    assert!(rt; !budget.keep(&Command::leave(), &Reply::Done));
+    assert!(rt; writes_at(STUCK, None, false, &budget, &desk) == (28, false));
+    assert!(rt; budget.keep(&Command::leave(), &Reply::Done));
+    assert!(rt; writes_at(STUCK, None, false, &budget, &desk) == (12, true));
 }
