@@ -33,7 +33,6 @@ pub(crate) fn wait_in_ticks<S: OpenStream>(stream: &S) -> io::Result<()> {
 /// What a client sends. A read fails once the client has kept the server waiting for too long for a line: from the read
 /// in which its first byte is awaited to that which brings its line feed. The client's lines are at an end as soon as
 /// its round takes no more of them; and once its round waits for no more, as soon as those that have come are taken.
-#[derive(Drop)]
 pub(crate) struct ClientReader<'a, D, C> {
     device: D,
     clock: &'a C,
@@ -45,6 +44,25 @@ pub(crate) struct ClientReader<'a, D, C> {
     handed_out: usize,
     /// What is set aside for the lines that were handed out last.
     set_aside: u64,
+}
+
+/// By hand, so that what is set aside is given back however a talk ends, also if nothing is read behind its last lines.
+impl<D: Drop, C> Drop for ClientReader<'_, D, C> {
+    fn drop(self) {
+        let ClientReader {
+            device,
+            clock: _,
+            budget,
+            seat: _,
+            waiting: _,
+            read,
+            handed_out: _,
+            set_aside,
+        } = self;
+        budget.give_back(set_aside);
+        drop(device);
+        drop(read);
+    }
 }
 
 impl<'a, D: Read + Drop, C: Clock> ClientReader<'a, D, C> {

@@ -236,6 +236,32 @@ fn lines_are_handed_out_one_by_one(rt: HostRuntime) -> Result<(), AllocError> {
     Ok(())
 }
 
+/// Reads once, and then nobody reads any more; how many bytes came.
+fn reads_once(alloc: Global, budget: &Budget) -> Result<usize, AllocError> {
+    let clock = Hands::new();
+    let device = Scripted::new(&clock, LINES);
+    let desk = Desk::unattended(alloc);
+    let seat = Seat {
+        desk: &desk,
+        worker: 0,
+    };
+    let mut reader = ClientReader::new(alloc, device, &clock, budget, seat, None)?;
+    let mut buf = [0u8; 16];
+    Ok(reader.read(&mut buf).unwrap_or(0))
+}
+
+/// What is set aside for the lines of the last read, three of 2,097,440 bytes each, is given back, though no read
+/// follows.
+#[test]
+fn what_is_set_aside_is_given_back(rt: HostRuntime) -> Result<(), AllocError> {
+    let budget = Budget::new(Some(20_000_000), 1);
+    let unused = Budget::new(Some(20_000_000), 1);
+    assert!(rt; reads_once(rt.alloc(), &budget)? == 10);
+    let found = budget.set_aside(9);
+    assert!(rt; found == unused.set_aside(9) && found.lines == 9);
+    Ok(())
+}
+
 /// Once no memory is left a client's lines are at an end.
 #[test]
 fn lines_end_once_no_memory_is_left(rt: HostRuntime) -> Result<(), AllocError> {
