@@ -12,6 +12,9 @@ use tg_vault::{Entry, Room};
 /// For how many milliseconds the talks of a round go on with lines that have come, once their clients are not waited for.
 const LAST_LINES: u64 = 1_000;
 
+/// The time that never comes, in milliseconds.
+const NEVER: u64 = u64::MAX;
+
 /// How many notices are kept until they are taken; further ones are lost.
 const MOST_NOTICES: usize = 10_000;
 
@@ -101,11 +104,12 @@ pub struct Departure {
 pub struct Desk {
     pub(crate) counts: Counts,
     places: Vec<Place>,
-    /// The number of the course of this round, and when clients are no longer waited for, in milliseconds.
-    course: AtomicU64,
+    /// When clients of this round are no longer waited for, in milliseconds; `NEVER` until somebody asks for its end.
     due: AtomicU64,
-    /// Whether the server is to end with this round.
-    is_stopping: AtomicBool,
+    /// The same of a stop. It outlasts the round, so that one that comes as the next round begins is not lost.
+    stop_due: AtomicU64,
+    /// What the clock said last, in milliseconds, since the end of a round was first asked for.
+    now: AtomicU64,
     /// Whether a round ended because that was asked for.
     was_ended: AtomicBool,
     /// Whether the server has ended.
@@ -173,9 +177,9 @@ impl Desk {
         Desk {
             counts: Counts::new(),
             places: Vec::new(alloc),
-            course: none_yet(),
-            due: AtomicU64::new(u64::MAX),
-            is_stopping: AtomicBool::new(false),
+            due: AtomicU64::new(NEVER),
+            stop_due: AtomicU64::new(NEVER),
+            now: none_yet(),
             was_ended: AtomicBool::new(false),
             has_ended: AtomicBool::new(false),
             notices: Mutex::new(Vec::new(alloc)),
@@ -197,17 +201,12 @@ impl Desk {
     /// Asks that nobody is let in any more, that after so many seconds clients are no longer waited for, and that the
     /// server ends with this round. If that was asked before, the earlier time counts.
     pub fn stop<C: Clock>(&self, clock: &C, within: u64) {
-        self.is_stopping.store(true, Ordering::SeqCst);
-        self.end_round(clock, within);
+        lower(&self.stop_due, clock, within);
     }
 
     /// The same of this round alone; the next one follows.
     pub fn end_round<C: Clock>(&self, clock: &C, within: u64) {
-        let due = milliseconds(clock).saturating_add(within.saturating_mul(1_000));
-        if due < self.due.load(Ordering::SeqCst) {
-            self.due.store(due, Ordering::SeqCst);
-        }
-        self.go_on_to(Course::Closing);
+        lower(&self.due, clock, within);
     }
 
     /// Whether the server has ended; nothing more comes from it then.
@@ -238,35 +237,34 @@ impl Desk {
         self.lacks_history.load(Ordering::SeqCst)
     }
 
-    /// How far this round is from its end.
+    /// How far this round was from its end at the last look at the clock.
     pub(crate) fn course(&self) -> Course {
-        match self.course.load(Ordering::SeqCst) {
-            0 => Course::Open,
-            1 => Course::Closing,
-            2 => Course::Ending,
-            _ => Course::Over,
+        let due = self
+            .due
+            .load(Ordering::SeqCst)
+            .min(self.stop_due.load(Ordering::SeqCst));
+        if due == NEVER {
+            return Course::Open;
+        }
+        let now = self.now.load(Ordering::SeqCst);
+        if now >= due.saturating_add(LAST_LINES) {
+            Course::Over
+        } else if now >= due {
+            Course::Ending
+        } else {
+            Course::Closing
         }
     }
 
-    /// Goes on to this course, unless it is further on.
-    fn go_on_to(&self, course: Course) {
-        let number = number_of(course);
-        if self.course.load(Ordering::SeqCst) < number {
-            self.course.store(number, Ordering::SeqCst);
-        }
-    }
-
-    /// Looks at the clock, if this round is to end.
+    /// Goes on from `Closing` to `Ending` once clients are no longer waited for, and to `Over` a second later. Does
+    /// nothing while the round is `Open`.
     pub(crate) fn advance<C: Clock>(&self, clock: &C) {
         if self.course() == Course::Open {
             return;
         }
         let now = milliseconds(clock);
-        let due = self.due.load(Ordering::SeqCst);
-        if now >= due.saturating_add(LAST_LINES) {
-            self.go_on_to(Course::Over);
-        } else if now >= due {
-            self.go_on_to(Course::Ending);
+        if self.now.load(Ordering::SeqCst) < now {
+            self.now.store(now, Ordering::SeqCst);
         }
     }
 
@@ -280,10 +278,7 @@ impl Desk {
             Ordering::SeqCst,
         );
         self.was_ended.store(false, Ordering::SeqCst);
-        if !self.is_stopping() {
-            self.course.store(0, Ordering::SeqCst);
-            self.due.store(u64::MAX, Ordering::SeqCst);
-        }
+        self.due.store(NEVER, Ordering::SeqCst);
     }
 
     /// A round has ended: notes whether that was asked for.
@@ -295,7 +290,7 @@ impl Desk {
 
     /// Whether the server is to end with this round.
     pub(crate) fn is_stopping(&self) -> bool {
-        self.is_stopping.load(Ordering::SeqCst)
+        self.stop_due.load(Ordering::SeqCst) != NEVER
     }
 
     /// Whether the last round ended because that was asked for.
@@ -429,13 +424,13 @@ impl Desk {
     }
 }
 
-/// The number of a course, by which they rise.
-fn number_of(course: Course) -> u64 {
-    match course {
-        Course::Open => 0,
-        Course::Closing => 1,
-        Course::Ending => 2,
-        Course::Over => 3,
+/// Brings a time on to that in so many seconds, if that is earlier.
+fn lower<C: Clock>(due: &AtomicU64, clock: &C, within: u64) {
+    let asked = milliseconds(clock)
+        .saturating_add(within.saturating_mul(1_000))
+        .min(NEVER - 1);
+    if asked < due.load(Ordering::SeqCst) {
+        due.store(asked, Ordering::SeqCst);
     }
 }
 

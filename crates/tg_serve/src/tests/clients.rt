@@ -13,18 +13,18 @@ use tg_rights::{Command, Reply};
 
 /// A clock that is moved on by hand.
 #[derive(Drop)]
-struct Hands {
+pub(crate) struct Hands {
     milliseconds: AtomicU64,
 }
 
 impl Hands {
-    fn new() -> Hands {
+    pub(crate) fn new() -> Hands {
         Hands {
             milliseconds: AtomicU64::new(0),
         }
     }
 
-    fn move_on(&self, by: u64) {
+    pub(crate) fn move_on(&self, by: u64) {
         self.milliseconds.fetch_add(by, Ordering::SeqCst);
     }
 }

@@ -1,7 +1,9 @@
 //! What is told at the desk of a server, and what is asked there.
 
 use crate::attending::{Request, plain_request, request_in};
+use crate::desk::{Course, Desk};
 use crate::tally::{Tallied, Tally};
+use crate::tests::clients::Hands;
 
 /// Answers, and what they tell.
 const ANSWERS: &[(&[u8], (u64, u64, u64), Option<u64>)] = &[
@@ -117,4 +119,54 @@ fn what_asks_nothing_is_refused(rt: HostRuntime) {
     for (line, wanted) in REFUSED {
         assert!(rt; request_in(rt.alloc(), line) == Err(*wanted));
     }
+}
+
+/// The course of a desk, so many milliseconds later.
+fn course_after(desk: &Desk, clock: &Hands, milliseconds: u64) -> Course {
+    clock.move_on(milliseconds);
+    desk.advance(clock);
+    desk.course()
+}
+
+/// A stop that came before a round began ends that round.
+#[test]
+fn a_stop_outlasts_its_round(rt: HostRuntime) {
+    let clock = Hands::new();
+    let desk = Desk::unattended(rt.alloc());
+    assert!(rt; course_after(&desk, &clock, 9_000) == Course::Open);
+    desk.stop(&clock, 5);
+    desk.begin_round(2);
+    assert!(rt; desk.is_stopping());
+    assert!(rt; course_after(&desk, &clock, 4_999) == Course::Closing);
+    assert!(rt; course_after(&desk, &clock, 1) == Course::Ending);
+    assert!(rt; course_after(&desk, &clock, 999) == Course::Ending);
+    assert!(rt; course_after(&desk, &clock, 1) == Course::Over);
+}
+
+/// The end of a round ends no other; of several requests the earliest end counts.
+#[test]
+fn a_round_ends_for_itself(rt: HostRuntime) {
+    let clock = Hands::new();
+    let desk = Desk::unattended(rt.alloc());
+    desk.end_round(&clock, 0);
+    assert!(rt; course_after(&desk, &clock, 0) == Course::Ending);
+    desk.begin_round(2);
+    assert!(rt; course_after(&desk, &clock, 9_000) == Course::Open);
+    desk.stop(&clock, 60);
+    desk.end_round(&clock, 5);
+    desk.stop(&clock, 600);
+    assert!(rt; course_after(&desk, &clock, 5_000) == Course::Ending);
+    desk.begin_round(3);
+    assert!(rt; course_after(&desk, &clock, 0) == Course::Closing);
+    assert!(rt; course_after(&desk, &clock, 55_000) == Course::Ending);
+}
+
+/// However late the end is asked for, it is asked for.
+#[test]
+fn an_end_may_be_far(rt: HostRuntime) {
+    let clock = Hands::new();
+    let desk = Desk::unattended(rt.alloc());
+    desk.stop(&clock, u64::MAX);
+    assert!(rt; desk.is_stopping());
+    assert!(rt; course_after(&desk, &clock, 9_000) == Course::Closing);
 }
