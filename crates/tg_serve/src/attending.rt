@@ -273,8 +273,10 @@ fn plain_within(rest: &[u8]) -> Option<u64> {
 
 /// What a line asks, or the line of its refusal.
 pub(crate) fn request_in(alloc: Global, line: &[u8]) -> Result<Request, &'static str> {
-    let Ok(value) = Value::from_slice(alloc, line) else {
-        return Err(NOT_JSON);
+    let value = match Value::from_slice(alloc, line) {
+        Ok(value) => value,
+        Err(error) if error.is_memory() => return Err(NO_MEMORY),
+        Err(_) => return Err(NOT_JSON),
     };
     let Some(fields) = value.as_object() else {
         return Err(NOT_AN_OBJECT);

@@ -68,6 +68,19 @@ fn requests_are_read(rt: HostRuntime) {
     }
 }
 
+/// A request for which there is no memory is refused as such, and is read when it comes again: tests/faults/growths.py
+/// makes each allocation fail in turn.
+#[test]
+fn growth_refused_in_a_request(rt: HostRuntime) {
+    let line = b"{\"within\":7,\"op\":\"stop\"}";
+    let mut found = request_in(rt.alloc(), line);
+    if found == Err("{\"error\":\"no memory\"}\n") {
+        let _ = rt.println("no memory");
+        found = request_in(rt.alloc(), line);
+    }
+    assert!(rt; found == Ok(Request::Stop { within: 7 }));
+}
+
 /// Lines that are read without memory or, if nothing is said of them, left to be read with it.
 const PLAIN: &[(&[u8], Option<Request>)] = &[
     (b"{\"op\":\"status\"}", Some(Request::Status)),
