@@ -12,7 +12,9 @@ from running import Word, ran, started, unreadable
 from server.servers import ANY_PORT
 
 GOAL = b'{"from":1,"rights":"r","to":2}\n'
+# Configurations of which the names are refused: two are the same, and one is malformed.
 TWICE = b'{"principals":["alice","alice"]}\n'
+MALFORMED = b'{"principals":["Alice"]}\n'
 
 
 def says(wanted: bytes, *words: str, given: bytes = CONFIG, output: str = os.devnull) -> Test:
@@ -127,15 +129,18 @@ def tests() -> Tests:
     question = ("share", "--from", "1", "--to", "1", "--rights", "r")
     yield "no-space-for-share", says(full, *question, output=device)
     yield "no-input-to-read", no_reading
-    twice = b"tgdoc: the configuration is refused: two principals have the same name\n"
+    names = b"tgdoc: the configuration is refused: a name is not 1 to 32 letters a to z, "
+    names += b"or two principals have the same name\n"
     for word in ("run", "draw"):
-        yield f"configuration-explained-for-{word}", says(twice, word, given=TWICE)
+        yield f"configuration-explained-for-{word}", says(names, word, given=TWICE)
+    yield "malformed-name-explained", says(names, "run", given=MALFORMED)
     said = b"tgdoc: 0.0.0.0:0 is not an address of the loopback"
     yield "address-of-no-loopback-explained", not_served(said, "--listen", "0.0.0.0:0")
     said = b"tgdoc: here is no address with a port, as 127.0.0.1:7000 is"
     yield "address-that-is-none-explained", not_served(said, "--listen", "here")
-    unserved = not_served(twice.rstrip(), *ANY_PORT, given=TWICE)
-    yield "configuration-explained-for-serve", unserved
+    for name, given in (("configuration", TWICE), ("malformed-name", MALFORMED)):
+        unserved = not_served(names.rstrip(), *ANY_PORT, given=given)
+        yield f"{name}-explained-for-serve", unserved
     yield "port-in-use-explained", port_in_use
     yield "waits-for-its-configuration", waits_on_a_terminal
     yield "lines-explained", explains("run", CONFIG, EVENTS)

@@ -65,7 +65,7 @@ fn say_fault<N: Eprint>(rt: &N, number: u64) {
 fn sentence_of(fault: u64) -> &'static str {
     match fault {
         1 => "there are no principals, or more than 64",
-        2 => "two principals have the same name",
+        2 => "a name is not 1 to 32 letters a to z, or two principals have the same name",
         3 => "an end of an edge is no principal",
         4 => "an edge leads from a principal to itself",
         5 => "an edge has no rights",
