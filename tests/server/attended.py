@@ -1,6 +1,7 @@
 """Servers that are attended: asked at the control socket, logged, and with a history."""
 
 import contextlib
+import functools
 import json
 import os
 import pwd
@@ -12,12 +13,15 @@ import subprocess
 import tempfile
 import threading
 import time
+from collections import Counter
 from collections.abc import Callable, Iterator
 from concurrent.futures import ThreadPoolExecutor
 from pathlib import Path
 from typing import Any
 
 from checking import Tests, same, skipped
+from faults import faults
+from faults.faults import Fault, Ran
 from models.graph import Graph
 from models.reading import Event, line_of, read_config, read_step
 from running import Process, Word, asked, ran, started
@@ -478,6 +482,66 @@ def subcommand(program: Path) -> None:
         same([control("status")[1], control("shutdown")[1]], [1, 2])
 
 
+@contextlib.contextmanager
+def answering(*answers: bytes) -> Iterator[Path]:
+    """A control socket at which the first lines are answered so."""
+    with contextlib.ExitStack() as stack:
+        path = Path(stack.enter_context(tempfile.TemporaryDirectory())) / "control"
+        listener = stack.enter_context(socket.socket(socket.AF_UNIX))
+        listener.bind(str(path))
+        listener.listen()
+
+        def answer_all() -> None:
+            for answer in answers:
+                with contextlib.suppress(OSError), listener.accept()[0] as one:
+                    read_line(one)
+                    one.sendall(answer)
+
+        with ThreadPoolExecutor(1) as pool:
+            pool.submit(answer_all)
+            yield path
+            listener.shutdown(socket.SHUT_RDWR)
+
+
+NO_MEMORY = b'{"error":"no memory"}\n'
+IDLE = b'{"uptime":1,"slots":{"all":8,"free":5},"clients":[{"worker":3}]}\n'
+
+
+def watching_ends_with_an_error(program: Path) -> None:
+    """A status that is watched is a table until the answer is an error or no status: that is
+    printed as it came, and the status of the program is 1."""
+    for last in (NO_MEMORY, b"[]\n", b"no json\n"):
+        with answering(IDLE, last) as path:
+            found = ran(program, "control", path, "status", "--watch", "1")
+        tables = found.stdout.removesuffix(last)
+        assert tables != found.stdout and tables.count(b"\x1b[H\x1b[2J") == 1, found.stdout
+        assert b"] 5 free of 8\n" in tables and b"\n     3  " in tables, tables
+        same((found.stderr, found.returncode), (b"", 1))
+
+
+def memory_refused_to_ask(program: Path) -> None:
+    """Each allocation fails as a server is asked: all is done as with memory, or standard error
+    says why not, or the command line is refused."""
+    requests = ("status", "--watch", "1"), ("status",), ("stop",)
+    counts: Counter[str] = Counter()
+
+    def attempt(words: tuple[str, ...], fault: Fault) -> Ran:
+        with answering(IDLE, NO_MEMORY) as path, faults.at_fault(fault) as (environment, told):
+            how: dict[str, Any] = {"env": environment, "pass_fds": [told.fileno()]}
+            found = ran(program, "control", path, *words, **how)
+            said = found.stderr.replace(str(path).encode(), b"PATH")
+            return Ran(found.stdout + said, found.returncode, os.fstat(told.fileno()).st_size)
+
+    for words in requests:
+        asks = functools.partial(attempt, words)
+        ends = {asks(Fault())[:2]: "asked all the same"}
+        ends[b"", 2] = ends[b"error: out of memory\n", 2] = "command line refused"
+        ends[b"tgdoc: no memory\n", 1] = ends[b"tgdoc: PATH: out of memory\n", 1] = "said"
+        counts += faults.memory_refused(asks, faults.one_of(ends))
+    faults.tell_refused(counts)
+    assert counts["said"] > 0, "it was never said that memory is lacking"
+
+
 def idle_costs_little(program: Path) -> None:
     """An idle server with a control socket takes little of a processor: less than three
     hundredths, on a slow machine and in either build."""
@@ -548,4 +612,6 @@ def tests() -> Tests:
     yield "history-that-cannot-be-written", history_that_cannot_be_written
     yield "no-server-without-an-end-or-a-socket", without_an_end
     yield "control-subcommand", subcommand
+    yield "watching-ends-with-an-error", watching_ends_with_an_error
+    yield "memory-refused-to-the-control-subcommand", memory_refused_to_ask
     yield "idle-with-a-control-socket", idle_costs_little

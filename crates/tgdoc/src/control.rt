@@ -1,6 +1,7 @@
 //! Asks a server at its control socket, and shows what it answers.
 
 use crate::operation::Request;
+use crate::saying::say_no_memory;
 use serde_json::Value;
 use std::alloc::{AllocError, Global};
 use std::fmt::Write as Put;
@@ -11,6 +12,9 @@ use std::rt::Clock;
 use std::sync::Wait;
 use std::time::Duration;
 use std::{io, thread};
+
+/// The line that asks for the status.
+const STATUS: &str = "{\"op\":\"status\"}\n";
 
 /// For how many seconds an answer is waited for.
 const PATIENCE: u64 = 10;
@@ -32,7 +36,7 @@ pub(crate) fn ask<N: Wait + Clock + Net + Print + Eprint>(
         Request::Status {
             watch: Some(seconds),
         } => watch(rt, alloc, path, seconds),
-        Request::Status { watch: None } => ask_once(rt, alloc, path, "{\"op\":\"status\"}\n"),
+        Request::Status { watch: None } => ask_once(rt, alloc, path, STATUS),
         Request::Stop { within } => ask_within(rt, alloc, path, "stop", within),
         Request::EndRound { within } => ask_within(rt, alloc, path, "end round", within),
     }
@@ -46,6 +50,7 @@ fn ask_within<N: Net + Print + Eprint>(
     within: u64,
 ) -> bool {
     let Ok(line) = format!(in alloc; "{{\"op\":\"{op}\",\"within\":{within}}}\n") else {
+        say_no_memory(rt);
         return false;
     };
     ask_once(rt, alloc, path, line.as_str())
@@ -53,19 +58,29 @@ fn ask_within<N: Net + Print + Eprint>(
 
 /// Asks once, and prints the answer; whether it is no error.
 fn ask_once<N: Net + Print + Eprint>(rt: &N, alloc: Global, path: &str, line: &str) -> bool {
+    let Some(answer) = answer_or_say(rt, alloc, path, line) else {
+        return false;
+    };
+    let was_told = rt.write_all(&answer).is_ok();
+    was_told && !answer.starts_with(b"{\"error\"")
+}
+
+/// The line that the server answers. If there is none, standard error says why.
+fn answer_or_say<N: Net + Eprint>(
+    rt: &N,
+    alloc: Global,
+    path: &str,
+    line: &str,
+) -> Option<Vec<u8>> {
     match answer_of(rt, alloc, path, line) {
-        Ok(answer) => {
-            let was_told = rt.write_all(&answer).is_ok();
-            was_told && !answer.starts_with(b"{\"error\"")
-        }
+        Ok(answer) => Some(answer),
         Err(error) => {
             let _ = eprintln!(rt; "tgdoc: {path}: {error}");
-            false
+            None
         }
     }
 }
 
-/// The line that the server answers.
 fn answer_of<N: Net>(rt: &N, alloc: Global, path: &str, line: &str) -> io::Result<Vec<u8>> {
     let stream = UnixStream::connect(rt, path)?;
     let patience = Some(Duration::from_secs(PATIENCE));
@@ -97,18 +112,7 @@ fn watch<N: Wait + Clock + Net + Print + Eprint>(
     seconds: u64,
 ) -> bool {
     for _ in rt.forever() {
-        let answer = match answer_of(rt, alloc, path, "{\"op\":\"status\"}\n") {
-            Ok(answer) => answer,
-            Err(error) => {
-                let _ = eprintln!(rt; "tgdoc: {path}: {error}");
-                return false;
-            }
-        };
-        let Ok(Ok(table)) = Value::from_slice(alloc, &answer).map(|status| table_of(alloc, &status))
-        else {
-            return false;
-        };
-        if rt.write_all(table.as_bytes()).is_err() {
+        if !draw_status(rt, alloc, path) {
             return false;
         }
         thread::sleep(rt, Duration::from_secs(seconds));
@@ -116,26 +120,43 @@ fn watch<N: Wait + Clock + Net + Print + Eprint>(
     unreachable!()
 }
 
-/// The number at this place of the status; 0 if there is none.
-fn number_at(status: &Value, outer: &str, inner: &str) -> u64 {
-    let Some(found) = status.get(outer) else {
-        return 0;
+/// Asks for the status, and draws a table of it; whether that was done. An answer that is no status, such as an error,
+/// is printed as it came.
+fn draw_status<N: Net + Print + Eprint>(rt: &N, alloc: Global, path: &str) -> bool {
+    let Some(answer) = answer_or_say(rt, alloc, path, STATUS) else {
+        return false;
     };
-    match found.get(inner) {
-        Some(value) => value.as_u64().unwrap_or(0),
-        None => 0,
-    }
+    let status = match Value::from_slice(alloc, &answer) {
+        Ok(status) => Some(status).filter(|status| status.get("uptime").is_some()),
+        Err(error) if error.is_memory() => {
+            say_no_memory(rt);
+            return false;
+        }
+        Err(_) => None,
+    };
+    let Some(status) = status else {
+        let _ = rt.write_all(&answer);
+        return false;
+    };
+    let Ok(table) = table_of(alloc, &status) else {
+        say_no_memory(rt);
+        return false;
+    };
+    rt.write_all(table.as_bytes()).is_ok()
 }
 
+/// The number of this key; 0 if there is none.
 fn number(status: &Value, key: &str) -> u64 {
-    match status.get(key) {
-        Some(value) => value.as_u64().unwrap_or(0),
-        None => 0,
-    }
+    status.get(key).and_then(Value::as_u64).unwrap_or(0)
+}
+
+/// The number at this place of the status; 0 if there is none.
+fn number_at(status: &Value, outer: &str, inner: &str) -> u64 {
+    status.get(outer).map_or(0, |found| number(found, inner))
 }
 
 /// The status as a table, on a screen that is cleared before.
-pub(crate) fn table_of(alloc: Global, status: &Value) -> Result<String, AllocError> {
+fn table_of(alloc: Global, status: &Value) -> Result<String, AllocError> {
     let mut table = String::from_str(alloc, "\x1b[H\x1b[2J")?;
     let up = number(status, "uptime");
     let taken = number_at(status, "connections", "taken");
@@ -161,11 +182,14 @@ pub(crate) fn table_of(alloc: Global, status: &Value) -> Result<String, AllocErr
         number_at(status, "collector", "cycles"),
         number_at(status, "collector", "freed")
     )?;
-    let Some(clients) = status.get("clients") else {
-        return Ok(table);
-    };
-    let Some(clients) = clients.as_array() else {
-        return Ok(table);
+    write_clients(&mut table, status)?;
+    Ok(table)
+}
+
+/// A row for each client that is served.
+fn write_clients(table: &mut String, status: &Value) -> Result<(), AllocError> {
+    let Some(clients) = status.get("clients").and_then(Value::as_array) else {
+        return Ok(());
     };
     for client in clients {
         write!(
@@ -177,7 +201,7 @@ pub(crate) fn table_of(alloc: Global, status: &Value) -> Result<String, AllocErr
             number(client, "idle")
         )?;
     }
-    Ok(table)
+    Ok(())
 }
 
 /// A bar of what is free of one kind of storage.
