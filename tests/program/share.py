@@ -126,6 +126,8 @@ def no_questions() -> Tests:
         "of-a-name-in-capitals": words("Alice", "2", "r"),
         "of-a-long-name": words("a" * 33, "2", "r"),
         "of-a-serial-of-65-bits": words(str(2**64), "2", "r"),
+        "of-a-serial-with-a-sign": words("+1", "2", "r"),
+        "of-the-most-with-a-sign": ["--to", "2", "--rights", "r", "--most", "+5"],
         "of-another-right": words("1", "2", "x"),
         "of-a-right-twice": words("1", "2", "rr"),
         "of-more-words": words("1", "2", "r", "more"),

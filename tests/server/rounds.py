@@ -202,6 +202,6 @@ def tests() -> Tests:
     yield "one-waits-for-the-next-round", one_waits_for_the_next_round
     yield "many-clients-in-a-round", many_clients_in_a_round
     yield "same-before-and-after-a-rebase", same_before_and_after
-    for number in ("0", "1000001", "-1", "x", ""):
+    for number in ("0", "1000001", "-1", "+1", "x", ""):
         words = (*ANY_PORT, "--connections", "1", "--round", number)
         yield f"round-{number or 'nothing'}", refused("serve", *words)

@@ -156,6 +156,12 @@ fn a_lookup_has_its_words(rt: HostRuntime) {
     ];
     assert!(rt; looks_up(rt.alloc(), who) == Some((End::To, false, 7)));
     assert!(rt; looks_up(rt.alloc(), &who[..6]) == Some((End::To, false, 10_000)));
+    let serial = &["tgdoc", "share", "--rights", "r", "--to", "+3"];
+    assert!(rt; looks_up(rt.alloc(), serial).is_none());
+    let most = &[
+        "tgdoc", "share", "--rights", "r", "--to", "3", "--most", "+7",
+    ];
+    assert!(rt; looks_up(rt.alloc(), most).is_none());
     let what = &[
         "tgdoc", "share", "--rights", "r", "--from", "bob", "--steps",
     ];
@@ -262,6 +268,11 @@ const NUMBERS: &[([&str; 4], Option<Numbers>)] = &[
     (["--workers", "64", "--connections", "1"], None),
     (["--workers", "1", "--connections", "0"], None),
     (["--workers", "1", "--connections", "1000001"], None),
+    (["--workers", "+1", "--connections", "1"], None),
+    (["--workers", "1", "--connections", "+1"], None),
+    (["--connections", "1", "--round", "+1"], None),
+    (["--connections", "1", "--patience", "+5"], None),
+    (["--connections", "1", "--memory", "+5m"], None),
 ];
 
 #[test]
@@ -286,6 +297,8 @@ const BYTES: &[(&str, Option<u64>)] = &[
     ("1kk", None),
     ("1K", None),
     ("-1", None),
+    ("+1", None),
+    ("+1m", None),
     ("1 k", None),
 ];
 
@@ -325,6 +338,8 @@ const ASKED: &[(&[&str], Option<Request>)] = &[
     ),
     (&["tgdoc", "control", "s", "stop", "--watch", "2"], None),
     (&["tgdoc", "control", "s", "status", "--within", "2"], None),
+    (&["tgdoc", "control", "s", "stop", "--within", "+2"], None),
+    (&["tgdoc", "control", "s", "status", "--watch", "+2"], None),
     (&["tgdoc", "control", "s", "shutdown"], None),
     (&["tgdoc", "control", "s"], None),
 ];
