@@ -3,6 +3,7 @@
 import contextlib
 import resource
 import subprocess
+import tempfile
 import threading
 import time
 from collections.abc import Iterator
@@ -127,7 +128,8 @@ def memory_while_nobody_reads(program: Path) -> None:
 
 @contextlib.contextmanager
 def short(program: Path, files: int, warning: str, *words: str) -> Iterator[Server]:
-    """A server whose process may have so many files open, of which it warns on standard error."""
+    """A server whose process may have so many files open; if there is a warning, standard error has
+    it, and else none."""
 
     def fewer() -> None:
         resource.setrlimit(resource.RLIMIT_NOFILE, (files, files))
@@ -139,7 +141,20 @@ def short(program: Path, files: int, warning: str, *words: str) -> Iterator[Serv
         same(server.end(), AGREED)
         assert process.stderr
         said = process.stderr.read().decode()
-        assert warning in said, said
+        assert warning in said and bool(warning) == ("open files" in said), said
+
+
+def warns_of_descriptors(program: Path) -> None:
+    """A server warns if it may have fewer descriptors than it can need: with a control socket two
+    more, with a history one more."""
+    with tempfile.TemporaryDirectory() as folder:
+        control = ("--control", f"{folder}/control")
+        history = ("--history", f"{folder}/steps")
+        for needed, words in ((8, ()), (10, control), (9, history), (11, control + history)):
+            warning = f"4 workers need {needed} open files, and the limit is {needed - 1}"
+            for files, said in ((needed - 1, warning), (needed, "")):
+                with short(program, files, said, "--connections", "1", *words) as server:
+                    server.greet()
 
 
 def waits_for_descriptors(program: Path) -> None:
@@ -191,5 +206,6 @@ def tests() -> Tests:
     yield "memory-beside-a-flood", honest_beside_a_flood
     yield "memory-while-a-client-takes-no-answers", memory_while_nobody_reads
     yield "memory-is-said", says_what_a_round_may_take
+    yield "descriptors-warned-of", warns_of_descriptors
     yield "descriptors-that-are-short", waits_for_descriptors
     yield "descriptors-that-never-come", lost_for_want_of_descriptors
