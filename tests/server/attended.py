@@ -2,6 +2,7 @@
 
 import contextlib
 import functools
+import itertools
 import json
 import os
 import pwd
@@ -29,6 +30,10 @@ from server.servers import AGREED, ANY_PORT, BYE, CONFIG, CREATE, HELLO, LOOK, P
 from server.servers import SEEN, WELCOME, WRITE, Server, in_rounds, is_silent, read_all, read_line
 from server.servers import running
 from server.waiting import sends_all
+
+# How a server ends that lacked memory for a client's buffers, of which a worker has two.
+SHORT = (b'{"settled":"no memory"}\n', 1)
+BUFFERS = 2
 
 LARGE = b'{"edges":[[1,"t",2]],"principals":["alice","bob"],"slots":4096,"cells":65536}\n'
 
@@ -248,6 +253,39 @@ def status_tells(program: Path) -> None:
     same({key: found[key] for key in known}, known)
     same(set(found["collector"]), {"cycles", "freed"})
     assert found["bytes"] > 0 and found["uptime"] < 60, found
+
+
+def greeting(server: Server, stack: contextlib.ExitStack) -> bytes:
+    """The first answer to a client that then stays; none if its connection was closed."""
+    with contextlib.suppress(ConnectionError):
+        one = stack.enter_context(server.connection())
+        one.sendall(HELLO)
+        return read_line(one)
+    return b""
+
+
+def status_without_a_buffer(program: Path) -> None:
+    """A second client for which a worker has no buffer is not among those that are served, and is
+    logged: each allocation fails in turn, until both are served."""
+    shorts, wrong = 0, 1
+    for place in itertools.takewhile(lambda _: wrong, itertools.count(1)):
+        with faults.at_fault(Fault("memory", place, place, whose="others")) as (environment, told):
+            how: dict[str, Any] = {"env": environment, "pass_fds": [told.fileno()]}
+            with (
+                attended(program, "--workers", "2", "--log", **how) as server,
+                contextlib.ExitStack() as stack,
+            ):
+                answers = [greeting(server, stack), greeting(server, stack)]
+                wrong = os.fstat(told.fileno()).st_size
+                if answers == [WELCOME, b""]:
+                    clients = server.status()["clients"]
+                    same([client["connection"] for client in clients], [1])
+                    server.ask(op="stop", within=0)
+                    shorts += server.end() == SHORT
+                    rows = [row for row in server.errors() if "connection" in row]
+                    same([row["connection"] for row in rows], [2, 1])
+    print(f"  {place} allocations, {shorts} of them for a buffer of the second client")
+    assert shorts == BUFFERS, "not each buffer was lacking"
 
 
 def no_socket(program: Path) -> None:
@@ -601,6 +639,7 @@ def tests() -> Tests:
     yield "stop-between-rounds", stops_in_between
     yield "stop-without-memory", memory_refused_at_a_stop
     yield "status-tells", status_tells
+    yield "status-of-a-client-without-a-buffer", status_without_a_buffer
     yield "no-control-socket", no_socket
     yield "killed-and-started-again", killed_and_started_again
     yield "another-user-is-refused", another_user

@@ -235,13 +235,17 @@ fn serve_one<L: Ledger, R: Wait + Clock>(
         let _ = round.desk.part(round.rt, seat, 0, None);
         return Ok(());
     }
-    match talk_with(round, seat, &stream)? {
-        Some(ended) => Ok(all.push(ended)?),
-        None => Ok(()),
+    match talk_with(round, seat, &stream) {
+        Ok(Some(ended)) => Ok(all.push(ended)?),
+        Ok(None) => Ok(()),
+        Err(error) => {
+            see_off(round, seat, 0, Some(TalkFault::OutOfMemory));
+            Err(error)
+        }
     }
 }
 
-/// A talk over the connection.
+/// A talk over the connection. `AllocError` if there is no memory for its buffers; then the desk is told nothing.
 fn talk_with<L: Ledger, R: Wait + Clock>(
     round: &Round<'_, L, R>,
     seat: u64,
