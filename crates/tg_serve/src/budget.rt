@@ -3,7 +3,7 @@ ghost use Rattle.std.specs.Prelude.{◌≡◌, ◌-◌, ◌^◌, ◌<◌, ◌≤
 ghost use Rattle.tg_serve.specs.Inner.Keeping.{command_bytes, exchange_bytes, reply_bytes};
 
 use std::sync::atomic::{AtomicU64, Ordering};
-use tg_rights::{Command, Reply};
+use tg_rights::{Command, MAX_SLOTS, MAX_TEXT, Reply};
 use tg_vault::Room;
 
 /// What an exchange counts besides its texts and lists: its entry in the history and its place in the log, each with
@@ -17,12 +17,12 @@ const TEXT: u64 = 48;
 const EDGE: u64 = 32;
 
 /// What the text of an exchange counts at most.
-const MOST_TEXT: u64 = 4_144;
+const MOST_TEXT: u64 = TEXT + MAX_TEXT as u64;
 
 /// The most edges of a list: to all vertices but one.
-const MOST_EDGES: u64 = 65_535;
+const MOST_EDGES: u64 = MAX_SLOTS as u64 - 1;
 
-/// The most lines that one read can bring, or nearly so.
+/// More lines than one read can bring that each add an edge: such a line has 39 bytes or more.
 const MOST_LINES: u64 = 2_000;
 
 /// What a command counts. A text is kept once, since entry, log and vault share it; a name twice.
