@@ -25,7 +25,7 @@ pub(crate) struct Seat<'a> {
 const CHUNK: usize = 32_768;
 
 /// Makes each read and each write of the connection end after a tick.
-pub(crate) fn wait_in_ticks<S: OpenStream>(stream: &S) -> io::Result<()> {
+pub(crate) fn end_reads_and_writes_in_ticks<S: OpenStream>(stream: &S) -> io::Result<()> {
     stream.set_read_timeout(Some(tick()))?;
     stream.set_write_timeout(Some(tick()))
 }
@@ -169,7 +169,7 @@ impl<D: Read + Drop, C: Clock> Read for ClientReader<'_, D, C> {
         } else {
             count
         };
-        if self.seat.desk.is_attended() && lines > 0 {
+        if self.seat.desk.has_places() && lines > 0 {
             self.seat.desk.hear(self.clock, self.seat.worker, lines);
         }
         self.keep_rest(bytes, end)?;
@@ -262,7 +262,7 @@ impl<D: Write, C: Clock> Write for ClientWriter<'_, D, C> {
             let start = self.waiting.start(self.clock)?;
             let result = self.device.write(buf);
             if let Waited::Moved(count) = self.waiting.note(self.clock, start, result)? {
-                if self.seat.desk.is_attended() {
+                if self.seat.desk.has_places() {
                     self.tell(buf.get(..count).unwrap_or(buf));
                 }
                 return Ok(count);

@@ -298,8 +298,8 @@ impl Desk {
         self.was_ended.load(Ordering::SeqCst)
     }
 
-    /// A client came to a worker; returns the number of the connection.
-    pub(crate) fn welcome<C: Clock>(&self, clock: &C, worker: u64) -> u64 {
+    /// A client came to a worker.
+    pub(crate) fn welcome<C: Clock>(&self, clock: &C, worker: u64) {
         let connection = self
             .counts
             .connections
@@ -313,7 +313,6 @@ impl Desk {
             place.lines.store(0, Ordering::SeqCst);
             place.connection.store(connection, Ordering::SeqCst);
         }
-        connection
     }
 
     /// The client has left, or nobody came after all; the notice of it, if there is a place.
@@ -357,7 +356,7 @@ impl Desk {
     }
 
     /// Whether workers have places here.
-    pub(crate) fn is_attended(&self) -> bool {
+    pub(crate) fn has_places(&self) -> bool {
         !self.places.is_empty()
     }
 

@@ -95,7 +95,7 @@ pub(crate) fn tick() -> Duration {
 
 /// Makes each wait of the listener for a client end after a tick, so that a door that is closed is noticed; for ever, if
 /// that cannot be set.
-pub(crate) fn wait_in_ticks(listener: &TcpListener) -> io::Result<()> {
+pub(crate) fn end_accepts_in_ticks(listener: &TcpListener) -> io::Result<()> {
     let twin = TcpStream::from(OwnedFd::from(listener.try_clone()?));
     twin.set_read_timeout(Some(tick()))
 }

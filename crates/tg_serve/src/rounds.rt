@@ -8,7 +8,7 @@ ghost use Rattle.tg_serve.specs.Promise.Serving.{Concludes, EndsServer, HasAgree
 ghost use Rattle.tg_serve.specs.Inner.Serving.{HasRounds};
 
 use crate::desk::Desk;
-use crate::door::{Door, wait_in_ticks};
+use crate::door::{Door, end_accepts_in_ticks};
 use crate::operating::Operating;
 use crate::serve::{Leavings, Served, Service, Unsettled, serve_round};
 use crate::telling::{agree, announce, tell, tell_rebase};
@@ -105,7 +105,7 @@ pub fn serve_operated<R: Threads + Wait + Clock + Sync, W: Write>(
         desk,
     };
     // Without this the door is looked at only when a client comes.
-    let _ = wait_in_ticks(listener);
+    let _ = end_accepts_in_ticks(listener);
     let is_announced = announce(writer, listener);
     let size = at_least_one(round);
     let found = serve_rounds(&service, writer, is_announced, vault, connections, size);

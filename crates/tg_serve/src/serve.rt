@@ -5,7 +5,7 @@ ghost use Rattle.tg_vault.specs.Promise.Contents.{graph_now};
 ghost use Rattle.tg_serve.specs.Promise.Serving.{EndsServer, HasAgreed, IsFound, found_of};
 
 use crate::budget::Budget;
-use crate::client::{ClientReader, ClientWriter, Seat, wait_in_ticks};
+use crate::client::{ClientReader, ClientWriter, Seat, end_reads_and_writes_in_ticks};
 use crate::desk::{Course, Desk, Notice};
 use crate::door::{Door, Taken};
 use crate::operating::Operating;
@@ -225,13 +225,13 @@ fn serve_one<L: Ledger, R: Wait + Clock>(
     taken: Taken,
     all: &mut Vec<Ended<L>>,
 ) -> Result<(), AllocError> {
-    let _ = round.desk.welcome(round.rt, seat);
+    round.desk.welcome(round.rt, seat);
     let Taken::Client(stream) = taken else {
         let _ = round.desk.part(round.rt, seat, 0, None);
         return Ok(());
     };
     let _ = stream.set_nodelay(true);
-    if wait_in_ticks(&stream).is_err() {
+    if end_reads_and_writes_in_ticks(&stream).is_err() {
         let _ = round.desk.part(round.rt, seat, 0, None);
         return Ok(());
     }
