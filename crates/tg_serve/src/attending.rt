@@ -1,7 +1,7 @@
 //! The control socket: one line in, one line out, for those who operate the server.
 
 use crate::desk::{Desk, milliseconds};
-use crate::door::tick;
+use crate::door::{is_tick, tick};
 use crate::status::{Serving, status_line};
 use serde_json::Value;
 use std::alloc::Global;
@@ -27,6 +27,9 @@ const USUAL_WITHIN: u64 = 10;
 /// The greatest number of them: a day.
 const MOST_WITHIN: u64 = 86_400;
 
+/// The digits of that number.
+const MOST_DIGITS: usize = 5;
+
 /// What is asked.
 #[derive(Clone, Copy, Debug, PartialEq, Eq)]
 pub(crate) enum Request {
@@ -48,10 +51,7 @@ pub fn attend<R: Wait + Clock>(
     desk: &Desk,
     serving: Serving,
 ) {
-    let mut come = match Vec::with_capacity(alloc, LONGEST) {
-        Ok(room) => room,
-        Err(_) => Vec::new(alloc),
-    };
+    let mut come = Vec::with_capacity(alloc, LONGEST).unwrap_or_else(|_| Vec::new(alloc));
     for _ in rt.forever() {
         if desk.has_ended() {
             break;
@@ -93,7 +93,7 @@ fn serve_turn<R: Wait + Clock>(
                     break;
                 }
             }
-            Err(error) if crate::door::is_tick(&error) => {}
+            Err(error) if is_tick(&error) => {}
             Err(_) => break,
         }
     }
@@ -144,7 +144,7 @@ fn send<C: Clock>(clock: &C, stream: &UnixStream, bytes: &[u8], end: u64) -> boo
         match device.write(rest) {
             Ok(0) => return false,
             Ok(count) => sent = sent.saturating_add(count),
-            Err(error) if crate::door::is_tick(&error) => {}
+            Err(error) if is_tick(&error) => {}
             Err(_) => return false,
         }
     }
@@ -252,7 +252,7 @@ fn plain_within(rest: &[u8]) -> Option<u64> {
         return Some(USUAL_WITHIN);
     }
     let digits = rest.strip_prefix(b",\"within\":")?.strip_suffix(b"}")?;
-    if digits.is_empty() || digits.len() > 5 || (digits.len() > 1 && digits[0] == b'0') {
+    if digits.is_empty() || digits.len() > MOST_DIGITS || (digits.len() > 1 && digits[0] == b'0') {
         return None;
     }
     let mut seconds = 0u64;

@@ -135,10 +135,8 @@ impl Budget {
 
     /// Whether the bound is reached.
     pub(crate) fn is_spent(&self) -> bool {
-        match self.bound {
-            Some(bound) => self.kept.load(Ordering::SeqCst) >= bound,
-            None => false,
-        }
+        self.bound
+            .is_some_and(|bound| self.kept.load(Ordering::SeqCst) >= bound)
     }
 
     /// How many edges there may be once all lines that workers have taken are answered.

@@ -179,13 +179,7 @@ impl<D: Read + Drop, C: Clock> Read for ClientReader<'_, D, C> {
 
 /// How many line feeds there are.
 fn count_lines(bytes: &[u8]) -> u64 {
-    let mut lines = 0u64;
-    for byte in bytes {
-        if *byte == b'\n' {
-            lines = lines.saturating_add(1);
-        }
-    }
-    lines
+    bytes.iter().filter(|byte| **byte == b'\n').count() as u64
 }
 
 /// The place behind so many line feeds, or the end.

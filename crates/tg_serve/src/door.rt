@@ -110,10 +110,9 @@ const WANTS: [i32; 4] = [23, 24, 105, 12];
 
 /// Whether a call failed for want of descriptors or memory.
 pub(crate) fn is_want(error: &io::Error) -> bool {
-    match error.raw_os_error() {
-        Some(number) => WANTS.contains(&number),
-        None => false,
-    }
+    error
+        .raw_os_error()
+        .is_some_and(|number| WANTS.contains(&number))
 }
 
 /// The rests between tries: a millisecond at first, then twice as long each time, up to half a second.

@@ -40,10 +40,8 @@ impl Waiting {
 
     /// Whether the client has kept the server waiting for as long as it may.
     pub(crate) fn is_over(&self) -> bool {
-        match self.patience {
-            Some(patience) => self.waited >= patience,
-            None => false,
-        }
+        self.patience
+            .is_some_and(|patience| self.waited >= patience)
     }
 
     /// The time on the clock, if waits are limited.
