@@ -12,7 +12,7 @@ use std::sync::Wait;
 use std::thread;
 use std::time::Duration;
 
-/// How long nobody is looked for after nobody was there, in milliseconds.
+/// How long to rest when no client is waiting, in milliseconds.
 const REST: u64 = 50;
 
 /// For how many milliseconds a client is served.

@@ -11,9 +11,9 @@ use std::{fs, io};
 /// How many names are tried for the folder in which the socket is made.
 const NAMES: u64 = 100;
 
-/// A listener on a socket at the path that is not waited for (`set_nonblocking`). A socket there that nobody listens on
-/// is replaced; anything else is refused. The socket is made in a folder of its own that only this user may enter, is
-/// given to this user alone there, and only then has its name: so at no time can another user connect to it.
+/// A non-blocking listener on a socket at the path. A socket there that nobody listens on is replaced; anything else is
+/// refused. The socket is made in a folder of its own that only this user may enter, is given to this user alone there,
+/// and only then has its name: so at no time can another user connect to it.
 pub fn control_socket<R: Files + Net>(
     rt: &R,
     alloc: Global,
