@@ -9,6 +9,8 @@ pub mod StopsLemmas
 pub mod NumbersLemmas
 pub mod FlatLemmas
 pub mod ObjectLineLemmas
+mod BeforeLemmas
+mod DeniedLemmas
 mod EdgesLemmas
 pub mod FieldsLemmas
 pub mod LineTextLemmas

@@ -104,10 +104,6 @@ said_as (Err fault) new front same is = tt
 pub text_told : (lead s : List ℕ) (ts : List Token) → ts ≡ token.string s ∷ [] → lead ++ print ts ≡ lead ++ quoted s
 text_told lead s ts is = ap (λ l. lead ++ print l) is ∙ ap (λ l. lead ++ l) (print-outline (string s))
 
-pub four_in_a_row : (front a x b y c z d w : List ℕ)
-    → ((((front ++ (a ++ x)) ++ (b ++ y)) ++ (c ++ z)) ++ (d ++ w)) ++ 125 ∷ 10 ∷ [] ≡ front ++ ((a ++ (x ++ (b ++ (y ++ (c ++ (z ++ (d ++ (w ++ 125 ∷ [])))))))) ++ 10 ∷ [])
-four_in_a_row front a x b y c z d w = simp append_assoc
-
 pub three_in_a_row : (front a x b y c z : List ℕ)
     → (((front ++ (a ++ x)) ++ (b ++ y)) ++ (c ++ z)) ++ 125 ∷ 10 ∷ [] ≡ front ++ ((a ++ (x ++ (b ++ (y ++ (c ++ (z ++ 125 ∷ [])))))) ++ 10 ∷ [])
 three_in_a_row front a x b y c z = simp append_assoc

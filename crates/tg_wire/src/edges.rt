@@ -1,45 +1,21 @@
-//! The edges of a list, as its line has them.
-//!
-//! They are written from the last to the first into a small array, and appended to the line: so the digits of a serial
-//! are written without being counted, and the line grows once for many edges.
+//! The edges of a list, as its line has them: a few at once are written into a room, from the last to the first, and
+//! appended.
 
 ghost use Rattle.std.specs.Prelude.{◌≡◌, ◌+◌, ◌*◌, ◌<◌, ◌≤◌, ◌∷◌, ◌++◌, drop, length, OnOk};
-ghost use Rattle.json.specs.Print.{quoted};
 ghost use Rattle.serde_json.specs.Data.{array};
 ghost use Rattle.serde_json.specs.Written.{compact_text};
-ghost use Rattle.tg_rights.specs.Promise.Written.{rights_text};
 ghost use Rattle.tg_wire.specs.Promise.Replies.{edge_data, edges_data};
 ghost use Rattle.tg_wire.specs.Inner.Told.{edges_text};
 
-use itoa::write_digits;
+use crate::before::{bytes_before, letters_before, number_before};
 use std::alloc::AllocError;
 use tg_rights::Rights;
 
 /// How many edges are written at once.
 const FEW: usize = 32;
 
-/// The most bytes that an edge takes: two before its serial, twenty digits, and eight after it.
+/// The most bytes that an edge takes: twenty digits, six bytes of letters in quotes, and four more.
 const LONGEST: usize = 30;
-
-/// What follows an edge's serial, by the bits of its rights: the last so many of these bytes.
-const ENDS: [([u8; 8], usize); 16] = [
-    (*b"    ,\"\"]", 4),
-    (*b"   ,\"r\"]", 5),
-    (*b"   ,\"w\"]", 5),
-    (*b"  ,\"rw\"]", 6),
-    (*b"   ,\"t\"]", 5),
-    (*b"  ,\"rt\"]", 6),
-    (*b"  ,\"wt\"]", 6),
-    (*b" ,\"rwt\"]", 7),
-    (*b"   ,\"g\"]", 5),
-    (*b"  ,\"rg\"]", 6),
-    (*b"  ,\"wg\"]", 6),
-    (*b" ,\"rwg\"]", 7),
-    (*b"  ,\"tg\"]", 6),
-    (*b" ,\"rtg\"]", 7),
-    (*b" ,\"wtg\"]", 7),
-    (*b",\"rwtg\"]", 8),
-];
 
 /// The array of the edges.
 // Inlined, it would put its room on the stack of each answer.
@@ -88,23 +64,9 @@ fn edge_before(room: &mut [u8], end: usize, serial: u64, rights: Rights) -> usiz
     ensures high { result < end }
     ensures text { drop result room.new ≡ 44 ∷ (compact_text (edge_data (serial, rights)) ++ drop end room.old) }
 {
-    let after = rights_before(room, end, rights);
-    let first = write_digits(serial, room, after);
-    room[first - 1] = b'[';
-    room[first - 2] = b',';
-    first - 2
-}
-
-/// What follows an edge's serial, up to where the rest starts; returns where it starts.
-#[inline(always)]
-fn rights_before(room: &mut [u8], end: usize, rights: Rights) -> usize
-    requires room { 8 ≤ end }
-    requires end { end ≤ length room.old }
-    ensures low { end ≤ result + 8 }
-    ensures high { result ≤ end }
-    ensures text { drop result room.new ≡ 44 ∷ (quoted (rights_text rights) ++ 93 ∷ drop end room.old) }
-{
-    let (bytes, size) = &ENDS[rights.bits() as usize];
-    room[end - 8..end].copy_from_slice(bytes);
-    end - *size
+    let end = bytes_before(room, end, b"]");
+    let end = letters_before(room, end, rights);
+    let end = bytes_before(room, end, b",");
+    let end = number_before(room, end, serial);
+    bytes_before(room, end, b",[")
 }

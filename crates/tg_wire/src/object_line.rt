@@ -102,26 +102,7 @@ pub(crate) fn put_last_number(
     put_end(line)
 }
 
-/// The line of an object of four fields: the bytes before each value, and the value. It ends with a line feed.
-#[inline(always)]
-#[tactic(auto, using(crate::proofs::ObjectLineLemmas::four_in_a_row))]
-pub(crate) fn put_four(
-    line: &mut Vec<u8>,
-    first: (&[u8], &Told<'_>),
-    second: (&[u8], &Told<'_>),
-    third: (&[u8], &Told<'_>),
-    fourth: (&[u8], &Told<'_>),
-) -> Result<(), AllocError>
-    ensures { OnOk result (line.new.items ≡ line.old.items ++ leads_text (field_of first.entry ∷ field_of second.entry ∷ field_of third.entry ∷ field_of fourth.entry ∷ [])) }
-{
-    put_led(line, first.0, first.1)?;
-    put_led(line, second.0, second.1)?;
-    put_led(line, third.0, third.1)?;
-    put_led(line, fourth.0, fourth.1)?;
-    put_end(line)
-}
-
-/// The same for an object of three fields.
+/// The line of an object of three fields: the bytes before each value, and the value. It ends with a line feed.
 #[inline(always)]
 #[tactic(auto, using(crate::proofs::ObjectLineLemmas::three_in_a_row))]
 pub(crate) fn put_three(

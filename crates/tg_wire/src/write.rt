@@ -8,11 +8,12 @@ ghost use Rattle.tg_wire.specs.Promise.Faults.{line_text, seat_fault_text as tex
 ghost use Rattle.tg_wire.specs.Promise.Replies.{edges_data, which_text as text_of_which, rule_text, denied_data, reply_line};
 ghost use Rattle.tg_wire.specs.Promise.Answers.{denied_step_data, noted_data, answer_line, swept_line, verdict_line};
 
+use crate::before::{bytes_before, letters_before, number_before};
 use crate::edges::put_edges;
 use crate::line_room::LineRoom;
 use crate::object_line::{
-    Told, object_line, put_four, put_last_number, put_led_number, put_led_text, put_led_word,
-    put_object, put_three,
+    Told, object_line, put_last_number, put_led_number, put_led_text, put_led_word, put_object,
+    put_three,
 };
 use crate::op::command_form;
 use crate::plain::is_plain;
@@ -204,19 +205,36 @@ fn put_denied(line: &mut Vec<u8>, rule: Rule, cause: Cause) -> Result<(), AllocE
         Cause::Retired => put_denied_for(line, rule, "retired"),
         Cause::Empty => put_denied_for(line, rule, "empty"),
         Cause::NotDistinct => put_denied_for(line, rule, "not distinct"),
-        Cause::Missing { from, to, rights } => put_four(
-            line,
-            (b"{\"denied\":", &Told::Word(command_form(rule).word)),
-            (b",\"from\":", &Told::Number(from)),
-            (b",\"missing\":", &Told::Letters(rights)),
-            (b",\"to\":", &Told::Number(to)),
-        ),
+        Cause::Missing { from, to, rights } => put_missing(line, rule, from, rights, to),
         Cause::NotDocument { vertex } => put_denied_at(line, rule, "not document", vertex),
         Cause::NotSubject { vertex } => put_denied_at(line, rule, "not subject", vertex),
         Cause::NotPrincipal => put_denied_for(line, rule, "not principal"),
         Cause::NameTaken => put_denied_for(line, rule, "name taken"),
         Cause::Crowded => put_denied_for(line, rule, "crowded"),
     }
+}
+
+/// The line of a denial for rights that are missing.
+fn put_missing(
+    line: &mut Vec<u8>,
+    rule: Rule,
+    from: u64,
+    rights: Rights,
+    to: u64,
+) -> Result<(), AllocError>
+    ensures { OnOk result (line.new.items ≡ line.old.items ++ line_text (denied_data rule (Cause.Missing rights from to))) }
+{
+    let mut room = [0; 96];
+    let end = bytes_before(&mut room, 96, b"}\n");
+    let end = number_before(&mut room, end, to);
+    let end = bytes_before(&mut room, end, b",\"to\":");
+    let end = letters_before(&mut room, end, rights);
+    let end = bytes_before(&mut room, end, b",\"missing\":");
+    let end = number_before(&mut room, end, from);
+    let end = bytes_before(&mut room, end, b"\",\"from\":");
+    let end = bytes_before(&mut room, end, command_form(rule).word.as_bytes());
+    let start = bytes_before(&mut room, end, b"{\"denied\":\"");
+    line.extend_from_slice(&room[start..])
 }
 
 /// The line of a denial for a cause with no field but its word.
