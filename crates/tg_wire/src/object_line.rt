@@ -1,6 +1,7 @@
 //! The line of an object, written field by field into one buffer.
 
-ghost use Rattle.std.specs.Prelude.{◌≡◌, ◌+◌, ◌%◌, ◌∷◌, ◌++◌, [], false, decimal, OnOk};
+ghost use Rattle.std.specs.Prelude.{◌≡◌, ◌+◌, ◌%◌, ◌≤◌, ◌∷◌, ◌++◌, [], false, decimal, length, OnOk};
+ghost use Rattle.tg_wire.specs.declared.object_line.TheConstants.{LONGEST_LEAD, SHORT_TEXT};
 ghost use Rattle.json.specs.Print.{quoted};
 ghost use Rattle.serde_json.specs.Data.{object, string};
 ghost use Rattle.serde_json.specs.Written.{compact_text, members_text};
@@ -8,6 +9,7 @@ ghost use Rattle.tg_rights.specs.Promise.Written.{rights_text};
 ghost use Rattle.tg_wire.specs.Promise.Faults.{line_text};
 ghost use Rattle.tg_wire.specs.Inner.Told.{byte_if, field_of, led_text, leads_text, told_data, told_members};
 
+use crate::before::{bytes_before, number_before};
 use crate::edges::put_edges;
 use crate::line_room::LineRoom;
 use crate::plain::is_plain;
@@ -16,6 +18,12 @@ use json::Writer;
 use std::alloc::AllocError;
 use std::mem;
 use tg_rights::Rights;
+
+/// The most bytes of a line before the last of its values, where this is put in a small room with them.
+const LONGEST_LEAD: usize = 29;
+
+/// The most bytes of a text that is put there.
+const SHORT_TEXT: usize = 64;
 
 /// The value of a field to write.
 #[derive(Clone, Copy, Drop)]
@@ -63,12 +71,30 @@ pub(crate) fn put_led_word(line: &mut Vec<u8>, lead: &[u8], word: &str) -> Resul
 /// it. It ends with a line feed.
 #[inline(always)]
 pub(crate) fn put_led_text(line: &mut Vec<u8>, lead: &[u8], text: &[u8]) -> Result<(), AllocError>
+    requires { length lead.now ≤ LONGEST_LEAD }
     ensures { OnOk result (line.new.items ≡ ((line.old.items ++ lead.now) ++ text.now) ++ 34 ∷ 125 ∷ 10 ∷ []) }
 {
+    if text.len() <= SHORT_TEXT {
+        return put_short_text(line, lead, text);
+    }
     line.extend_from_slice(lead)?;
     line.extend_from_slice(text)?;
     line.extend_from_slice(b"\"}\n")?;
     Ok(())
+}
+
+/// The same of a short text: written before what stands, so that the line grows once.
+#[inline(always)]
+fn put_short_text(line: &mut Vec<u8>, lead: &[u8], text: &[u8]) -> Result<(), AllocError>
+    requires lead { length lead.now ≤ LONGEST_LEAD }
+    requires text { length text.now ≤ SHORT_TEXT }
+    ensures { OnOk result (line.new.items ≡ ((line.old.items ++ lead.now) ++ text.now) ++ 34 ∷ 125 ∷ 10 ∷ []) }
+{
+    let mut room = [0; 96];
+    let end = bytes_before(&mut room, 96, b"\"}\n");
+    let end = bytes_before(&mut room, end, text);
+    let start = bytes_before(&mut room, end, lead);
+    line.extend_from_slice(&room[start..])
 }
 
 /// The line of an object that has these bytes before a number, and these after it. It ends with a line feed.
@@ -89,17 +115,19 @@ pub(crate) fn put_led_number(
 }
 
 /// The line of an object whose last member is a number: the bytes before it, and the number. It ends with a line feed.
-#[tactic(auto, using(crate::proofs::ObjectLineLemmas::ended))]
 pub(crate) fn put_last_number(
     line: &mut Vec<u8>,
     lead: &[u8],
     number: u64,
 ) -> Result<(), AllocError>
+    requires { length lead.now ≤ LONGEST_LEAD }
     ensures { OnOk result (line.new.items ≡ line.old.items ++ (lead.now ++ ((decimal number ++ 125 ∷ []) ++ 10 ∷ []))) }
 {
-    line.extend_from_slice(lead)?;
-    put_number(line, number)?;
-    put_end(line)
+    let mut room = [0; 64];
+    let end = bytes_before(&mut room, 64, b"}\n");
+    let end = number_before(&mut room, end, number);
+    let start = bytes_before(&mut room, end, lead);
+    line.extend_from_slice(&room[start..])
 }
 
 /// The line of an object of three fields: the bytes before each value, and the value. It ends with a line feed.
