@@ -63,16 +63,14 @@ fn is_asked(entry: &Entry, exchange: &Exchange) -> bool
 }
 
 /// Whether the exchange is that of the entry, with the reply of the graph, which carries the entry's command out.
-// The exchange is read before the graph, which takes a while: it is rarely in the cache.
 fn is_told(graph: &mut Graph, entry: &Entry, exchange: &Exchange) -> Result<bool, AllocError>
     requires asks { IsSubjectOrRetired graph.old entry.now.actor }
     requires permitted { (limits : Limits) × Permitted limits graph.old entry.now.actor entry.now.command entry.now.outcome }
     ensures same { IfOk result (λ same. IsTrue same ↔ told_in graph.old entry.now ≡ exchange.now) }
     ensures graph { OnOk result (graph.new ≡ next_graph graph.old entry.now.actor entry.now.command entry.now.outcome) }
 {
-    let is_asked = is_asked(entry, exchange);
     let is_reply = is_reply(graph, entry, &exchange.reply)?;
-    Ok(is_asked && is_reply)
+    Ok(is_reply && is_asked(entry, exchange))
 }
 
 impl Progress {

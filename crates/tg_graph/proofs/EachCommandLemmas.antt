@@ -1,5 +1,5 @@
 -- When each command is allowed, and when it may be full.
-use Rattle.std.proofs.Common.{◌≡◌, ◌≢◌, ◌<◌, ◌≤◌, ◌⊎◌, ◌&&◌, ◌==◌, ℕ, ◌∷◌, [], List, Bool, true, false, cond, not, refl, sym, ap, inl, inr, arith}
+use Rattle.std.proofs.Common.{◌≡◌, ◌≢◌, ◌<◌, ◌≤◌, ◌⊎◌, ◌&&◌, ◌==◌, ℕ, ◌∷◌, [], List, Bool, true, false, cond, not, refl, sym, ap, inl, inr, arith, Some}
 use Rattle.std.proofs.lemmas.Bool.{eq-eqb, eqb-false, eqb-true, ne_eqb, not-true}
 use Rattle.tg_rights.specs.Promise.Letters.{Letters, read, write, take, grant, includes, read_alone, write_alone, take_alone, grant_alone}
 use Rattle.tg_rights.specs.declared.kind.Kind.{Kind}
@@ -11,7 +11,8 @@ use Rattle.tg_rights.proofs.LettersLemmas.{are_set_operations}
 use Rattle.tg_graph.specs.Promise.EachCommand.{HasOver, HasAllOver, IsAllowedSo, IsFullAtTheLimit, MayCreate, MayEnrol, MayGrant, MayLook, MayRemove, MayRetire, MayTake, MayUse}
 use Rattle.tg_graph.specs.Promise.Fullness.{Limits, MayBeFull, NewEdge}
 use Rattle.tg_graph.specs.Promise.Laws.{AllMet}
-use Rattle.tg_graph.specs.Promise.Protection.{Protection, label}
+use Rattle.tg_rights.specs.declared.kind.Kind.TheVariants as kind
+use Rattle.tg_graph.specs.Promise.Protection.{Protection, has_retired, kind_of, label}
 use Rattle.tg_graph.specs.Promise.Rules.{Allowed, is_create, is_new, last_serial}
 use Rattle.tg_graph.specs.Promise.Terms.{Does, need, terms}
 use Rattle.tg_graph.specs.Promise.Terms as effect
@@ -96,6 +97,10 @@ module _ (G : Protection) (x : ℕ) where
   read_allowed : (y : ℕ) → MayUse G x read y → Allowed G x (command.Read y)
   read_allowed y m =
       allowed_to_all G x (command.Read y) refl m.unretired refl (ap not (ne_eqb x y m.apart)) (has_read G x y m.own, tt) m.document tt
+
+  -- a read is allowed by what is found in the graph
+  pub read_found : (y : ℕ) → has_retired G x ≡ false → x ≢ y → includes (label G x y) read_alone ≡ true → kind_of G y ≡ Some kind.Document → Allowed G x (command.Read y)
+  read_found y unretired apart own document = read_allowed y (record { unretired = unretired; apart = apart; own = has_all G x read_alone y own read refl; document = document })
 
   may_write : (y : ℕ) (text : List ℕ) → Allowed G x (command.Write y text) → MayUse G x write y
   may_write y text a =

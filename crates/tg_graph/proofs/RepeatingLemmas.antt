@@ -6,17 +6,22 @@ use Rattle.std.proofs.lemmas.List.{length-take-le}
 use Rattle.std.proofs.lemmas.Option.{none-some, same_Some}
 use Rattle.tg_rights.specs.Promise.Letters.{Letters, number}
 use Rattle.tg_rights.specs.declared.command.Command.{Command}
+use Rattle.tg_rights.specs.declared.command.Command.TheVariants as command
 use Rattle.tg_rights.specs.declared.outcome.Outcome.TheVariants as outcome
 use Rattle.tg_rights.specs.declared.outcome.Reply.{Reply}
 use Rattle.tg_rights.specs.declared.outcome.Reply.TheVariants as reply
 use Rattle.tg_graph.specs.Promise.Protection.{Protection}
-use Rattle.tg_graph.specs.Promise.Rules.{PlainlyDecided, Repeats, after, allowed_reply}
+use Rattle.tg_graph.specs.Promise.Rules.{Allowed, PlainlyDecided, Repeats, after, allowed_reply, text_of}
 
 -- an allowed command that was carried out
 pub repeats_allowed : {E : Type 0} (G H : Protection) (x : ℕ) (c : Command) (told : Reply) (r : Result Bool E) → PlainlyDecided G x c outcome.Allowed →
     IfOk r (λ same. IsTrue same ↔ allowed_reply G x c ≡ told) → OnOk r (H ≡ after G x c) → IfOk r (λ same. Repeats G x c told same H)
 repeats_allowed G H x c told (Ok same) decided is graph = (allowed_reply G x c, (outcome.Allowed, decided, refl, graph), is)
 repeats_allowed G H x c told (Err e) decided is graph = tt
+
+-- a read that is allowed, which changes nothing
+pub repeats_read : (G : Protection) (x y : ℕ) (told : Reply) (same : Bool) → Allowed G x (command.Read y) → (IsTrue same ↔ reply.Text (text_of G y) ≡ told) → Repeats G x (command.Read y) told same G
+repeats_read G x y told same allowed is = (reply.Text (text_of G y), (outcome.Allowed, (allowed, λ new. absurd (cc new)), refl, refl), is)
 
 -- one more of the first elements
 take_more : {X : Type 0} (xs : List X) (k : ℕ) (x : X) → slice_get xs k ≡ Some x → take k xs ++ x ∷ [] ≡ take (suc k) xs

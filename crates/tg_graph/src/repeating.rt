@@ -1,5 +1,5 @@
 //! Commands whose replies are known, carried out once more.
-ghost use Rattle.std.specs.Prelude.{◌≡◌, ◌≤◌, ◌↔◌, Some, true, slice_get, IsTrue, IfOk, OnErr, OnOk};
+ghost use Rattle.std.specs.Prelude.{◌≡◌, ◌≤◌, ◌↔◌, Some, true, slice_get, IsTrue, IfOk, IfSome, OnErr, OnOk};
 ghost use Rattle.tg_rights.specs.declared.outcome.Outcome.TheVariants as outcome;
 ghost use Rattle.tg_rights.specs.declared.outcome.Reply.TheVariants as reply;
 ghost use Rattle.tg_graph.specs.Promise.Protection.{IsGraph, IsSubject};
@@ -9,7 +9,7 @@ ghost use Rattle.tg_graph.specs.Promise.Terms.{name_in, text_in};
 use crate::graph::{Graph, LAST_SERIAL};
 use crate::rules::{Effect, effect_of, is_create};
 use std::alloc::{AllocError, Global};
-use tg_rights::{Command, Name, Outcome, Reply, Rights, Text, Which};
+use tg_rights::{Command, Kind, Name, Outcome, Reply, Rights, Text, Which};
 
 impl Graph {
     /// Carries out the actor's command as `apply` does, and says whether this is the reply to it: for whoever knows what
@@ -30,12 +30,53 @@ impl Graph {
         ensures graph { IsGraph self.new }
     {
         self.soundness();
-        let answer = self.answer_again(actor, command, told);
+        let answer = self.answer_soon(actor, command, told);
         self.soundness();
         answer
     }
 
+    /// Carries out the actor's command, or finds why not, and says whether this is the reply: soon if it is a read that
+    /// the rules allow, as most are.
+    fn answer_soon(
+        &mut self,
+        actor: u64,
+        command: &Command,
+        told: &Reply,
+    ) -> Result<bool, AllocError>
+        requires { IsSubject self.old actor }
+        ensures ok { IfOk result (λ same. Repeats self.old actor command.now told.now same self.new) }
+        ensures err { OnErr result (self.new ≡ self.old) }
+        ensures needed { OnErr result (PlainlyDecided self.old actor command.now outcome.Allowed) }
+        ensures memory { OnErr result (takes_room actor command.now ≡ true) }
+    {
+        if let Command::Read { over } = command
+            && let Some(same) = self.read_again(actor, *over, told)
+        {
+            return Ok(same);
+        }
+        self.answer_again(actor, command, told)
+    }
+
+    /// Whether this is the reply to a read, if the rules allow it; the vertex is sought once.
+    fn read_again(&self, actor: u64, over: u64, told: &Reply) -> Option<bool>
+        ensures allowed { IfSome result (λ _. Allowed self.now actor (Command.Read over)) }
+        ensures same { IfSome result (λ same. IsTrue same ↔ reply.Text (text_of self.now over) ≡ told.now) }
+    {
+        if self.retired(actor) || actor == over {
+            return None;
+        }
+        if !self.rights(actor, over).contains(Rights::read()) {
+            return None;
+        }
+        let found = self.vertices.get(&over)?;
+        match found.kind {
+            Kind::Document => Some(is_text(told, &found.text)),
+            Kind::Subject => None,
+        }
+    }
+
     /// Carries out the actor's command, or finds why not, and says whether this is the reply.
+    #[inline(never)]
     fn answer_again(
         &mut self,
         actor: u64,
@@ -107,12 +148,9 @@ impl Graph {
     fn tells(&self, of: u64, told: &Reply) -> bool
         ensures { IsTrue result ↔ reply.Text (text_of self.now of) ≡ told.now }
     {
-        match told {
-            Reply::Text(text) => match self.vertices.get(&of) {
-                Some(found) => found.text == *text,
-                None => text.get().is_empty(),
-            },
-            _ => false,
+        match self.vertices.get(&of) {
+            Some(found) => is_text(told, &found.text),
+            None => is_text(told, &Text::empty(self.alloc)),
         }
     }
 
@@ -151,6 +189,16 @@ fn is_there(listed: &[(u64, Rights)], at: usize, serial: u64, label: Rights) -> 
     match listed.get(at) {
         Some(edge) => edge.0 == serial && edge.1 == label,
         None => false,
+    }
+}
+
+/// Whether the reply is this text.
+fn is_text(told: &Reply, text: &Text) -> bool
+    ensures { IsTrue result ↔ reply.Text text.now ≡ told.now }
+{
+    match told {
+        Reply::Text(other) => *text == *other,
+        _ => false,
     }
 }
 
