@@ -11,7 +11,8 @@ use Rattle.tg_rights.specs.declared.outcome.Outcome.TheVariants as outcome
 use Rattle.tg_rights.specs.declared.outcome.Reply.{Reply}
 use Rattle.tg_rights.specs.declared.outcome.Reply.TheVariants as reply
 use Rattle.tg_graph.specs.Promise.Protection.{Protection}
-use Rattle.tg_graph.specs.Promise.Rules.{Allowed, PlainlyDecided, Repeats, after, allowed_reply, text_of}
+use Rattle.tg_graph.specs.Promise.Repeating.{Repeats}
+use Rattle.tg_graph.specs.Promise.Rules.{Allowed, PlainlyDecided, after, allowed_reply, text_of}
 
 -- an allowed command that was carried out
 pub repeats_allowed : {E : Type 0} (G H : Protection) (x : ℕ) (c : Command) (told : Reply) (r : Result Bool E) → PlainlyDecided G x c outcome.Allowed →

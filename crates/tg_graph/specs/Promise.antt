@@ -1,6 +1,7 @@
 -- What public contracts rest on, of this crate or of one above it.
 pub mod Terms
 pub mod Rules
+pub mod Repeating
 pub mod Deciding
 pub mod Fullness
 pub mod EachCommand

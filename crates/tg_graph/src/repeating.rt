@@ -3,7 +3,8 @@ ghost use Rattle.std.specs.Prelude.{◌≡◌, ◌≤◌, ◌↔◌, Some, true,
 ghost use Rattle.tg_rights.specs.declared.outcome.Outcome.TheVariants as outcome;
 ghost use Rattle.tg_rights.specs.declared.outcome.Reply.TheVariants as reply;
 ghost use Rattle.tg_graph.specs.Promise.Protection.{IsGraph, IsSubject};
-ghost use Rattle.tg_graph.specs.Promise.Rules.{Allowed, PlainlyDecided, Repeats, after, allowed_reply, edges_of, is_create, last_serial, takes_room, text_of};
+ghost use Rattle.tg_graph.specs.Promise.Repeating.{Repeats, takes_room};
+ghost use Rattle.tg_graph.specs.Promise.Rules.{Allowed, PlainlyDecided, after, allowed_reply, edges_of, is_create, last_serial, text_of};
 ghost use Rattle.tg_graph.specs.Promise.Terms.{name_in, text_in};
 
 use crate::graph::{Graph, LAST_SERIAL};

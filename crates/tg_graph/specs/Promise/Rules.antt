@@ -1,5 +1,5 @@
 -- the rules: when a command is allowed, why it is denied, what it changes and what its reply is
-use Rattle.std.specs.Prelude.{◌≡◌, ◌<◌, ◌≤◌, ◌↔◌, IsTrue, ℕ, ◌+◌, Bool, true, false, if◌then◌else◌, not, ◌||◌, List, [], ◌∷◌, Option, Some, None}
+use Rattle.std.specs.Prelude.{◌≡◌, ◌<◌, ◌≤◌, ℕ, ◌+◌, Bool, true, false, if◌then◌else◌, not, ◌||◌, List, [], ◌∷◌, Option, Some, None}
 use Rattle.std.specs.Option.{option_map_or}
 use Rattle.std.specs.FinMap as map
 use Rattle.std.specs.FinSet as set
@@ -210,19 +210,3 @@ module _ (G : Protection) (x : ℕ) where
   -- the plain graph carries out or refuses a command of x: G becomes H, and this is the reply
   abbrev pub Applies : Command → Reply → Protection → Type 0
   Applies c answer H = (o : Outcome) × PlainlyDecided c o × (answer ≡ reply_of c o) × (H ≡ next_graph c o)
-
-  -- the same of a command whose reply may be this one, and whether it is
-  abbrev pub Repeats : Command → Reply → Bool → Protection → Type 0
-  Repeats c told same H = (answer : Reply) × Applies c answer H × (IsTrue same ↔ answer ≡ told)
-
--- whether carrying it out may need memory, if the reply is known, and the text or the name that it brings is copied
-abbrev pub may_store : Does → Bool
-may_store (effect.Drops α over) = false
-may_store (effect.Acts agent) = false
-may_store (effect.Tells over) = false
-may_store (effect.Lists at) = false
-may_store _ = true
-
--- a command of x that may need memory to be repeated
-abbrev pub takes_room : ℕ → Command → Bool
-takes_room x c = may_store (terms x c).does

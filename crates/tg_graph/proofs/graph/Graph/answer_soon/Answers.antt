@@ -1,6 +1,6 @@
 use Rattle.std.proofs.Common.{sym, subst, refl}
 use Rattle.tg_rights.specs.declared.command.Command.{Command}
-use Rattle.tg_graph.specs.Promise.Rules.{Repeats}
+use Rattle.tg_graph.specs.Promise.Repeating.{Repeats}
 use Rattle.tg_graph.proofs.RepeatingLemmas.{repeats_read}
 use Rattle.tg_graph.proofs.graph.Graph.answer_soon.Goals as goal
 
