@@ -186,6 +186,26 @@ def wait_while_it_works(server: Attended) -> None:
         before, now = now, server.status()["entries"]
 
 
+def stop_without_a_descriptor(program: Path) -> None:
+    """A server that had no descriptor to spare as it began, besides its streams, the socket and the
+    listener, stops though nobody comes, and rests until then: it takes less than half a processor
+    on a slow machine and in either build."""
+    most = resource.getrlimit(resource.RLIMIT_NOFILE)[1]
+
+    def few() -> None:
+        resource.setrlimit(resource.RLIMIT_NOFILE, (5, most))
+
+    with attended(program, preexec_fn=few) as server:
+        resource.prlimit(server.process.pid, resource.RLIMIT_NOFILE, (most, most))
+        server.greet()
+        before = processor_time(server.process)
+        time.sleep(2)
+        used = processor_time(server.process) - before
+        server.stop()
+    print(f"  {used * 500:.1f} ms a second")
+    assert used < 1.0, "too much"
+
+
 def stop_twice(program: Path) -> None:
     """A second stop ends a silent client at once."""
     with attended(program, "--workers", "1") as server, server.connection() as one:
@@ -634,6 +654,7 @@ def tests() -> Tests:
     yield "stop-while-63-clients-work", stop_while_clients_work
     yield "stop-while-clients-are-silent", stop_while_silent
     yield "stop-while-a-client-takes-no-answers", stop_while_nobody_reads
+    yield "stop-without-a-descriptor", stop_without_a_descriptor
     yield "stop-twice", stop_twice
     yield "end-of-a-round", end_of_a_round
     yield "stop-between-rounds", stops_in_between

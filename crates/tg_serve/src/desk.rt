@@ -423,7 +423,7 @@ impl Desk {
     }
 }
 
-/// Brings a time on to that in so many seconds, if that is earlier.
+/// Brings a time forward to that in so many seconds, if that is earlier.
 fn lower<C: Clock>(due: &AtomicU64, clock: &C, within: u64) {
     let asked = milliseconds(clock)
         .saturating_add(within.saturating_mul(1_000))

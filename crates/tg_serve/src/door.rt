@@ -1,5 +1,6 @@
 //! The door of a server, at which its workers take clients.
 
+use crate::desk::milliseconds;
 use std::io::ErrorKind;
 use std::net::{TcpListener, TcpStream};
 use std::os::fd::OwnedFd;
@@ -14,6 +15,9 @@ const TICK: u64 = 250;
 
 /// For how long, in milliseconds, a client that cannot be accepted for want of descriptors or memory is tried again.
 const MOST_RESTS: u64 = 10_000;
+
+/// How long to rest between two looks at a listener that does not wait, in milliseconds.
+const REST: u64 = 50;
 
 /// The longest rest between two tries, in milliseconds.
 const LONGEST_REST: u64 = 500;
@@ -56,12 +60,13 @@ impl<'a> Door<'a> {
             if *left == 0 || self.is_closed() {
                 return None;
             }
+            let start = milliseconds(rt);
             match self.listener.accept() {
                 Ok((stream, _)) => {
                     *left = left.saturating_sub(1);
                     return Some(Taken::Client(stream));
                 }
-                Err(error) if is_tick(&error) => {}
+                Err(error) if is_tick(&error) => rest_since(rt, start),
                 Err(error) if is_want(&error) && rests.rest(rt) => {}
                 Err(_) => {
                     *left = left.saturating_sub(1);
@@ -93,11 +98,27 @@ pub(crate) fn tick() -> Duration {
     Duration::from_millis(TICK)
 }
 
-/// Makes each wait of the listener for a client end after a tick, so that a door that is closed is noticed; for ever, if
-/// that cannot be set.
+/// Makes each wait of the listener for a client end after a tick, so that a door that is closed is noticed. That takes a
+/// descriptor for a moment; if there is none, the listener does not wait at all. An error if neither can be set: then it
+/// waits for ever.
 pub(crate) fn end_accepts_in_ticks(listener: &TcpListener) -> io::Result<()> {
+    match set_ticks(listener) {
+        Ok(()) => Ok(()),
+        Err(_) => listener.set_nonblocking(true),
+    }
+}
+
+fn set_ticks(listener: &TcpListener) -> io::Result<()> {
     let twin = TcpStream::from(OwnedFd::from(listener.try_clone()?));
     twin.set_read_timeout(Some(tick()))
+}
+
+/// Rests until a rest has passed since this time, in milliseconds; not at all if the listener has waited for a tick.
+fn rest_since<R: Clock>(rt: &R, start: u64) {
+    let passed = milliseconds(rt).saturating_sub(start);
+    if passed < REST {
+        thread::sleep(rt, Duration::from_millis(REST - passed));
+    }
 }
 
 /// Whether a call ended only because it had waited for a tick.

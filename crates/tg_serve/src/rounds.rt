@@ -5,7 +5,7 @@ ghost use Rattle.tg_talk.specs.Promise.Devices.{device_of, has_failed};
 ghost use Rattle.tg_vault.specs.Promise.Contents.{graph_now};
 ghost use Rattle.tg_vault.specs.Promise.Rebase.{HandsOver, IsRebased, Rebases};
 ghost use Rattle.tg_serve.specs.Promise.Serving.{Concludes, EndsServer, HasAgreed, HasRebased, IsAlone, IsCounted, IsServed, SendsOn, rebased_line, unbounded};
-ghost use Rattle.tg_serve.specs.Inner.Serving.{HasRounds};
+ghost use Rattle.tg_serve.specs.Inner.Serving.{Announces, HasRounds};
 
 use crate::desk::Desk;
 use crate::door::{Door, end_accepts_in_ticks};
@@ -67,11 +67,13 @@ pub fn serve_on<R: Threads + Wait + Clock + Sync, W: Write>(
 /// log differs and the least index in it; `no memory`, if an allocation or the start of a thread failed; or `out of
 /// memory`, if a rebase lacked it; or there is none, if a seat was in use between two rounds, as no talk leaves one. If
 /// the address cannot be written, clients are served all the same, nothing more is written, and nothing is settled; nor
-/// is anything written after another line that failed.
+/// is anything written after another line that failed. The address is not written either if the listener cannot be kept
+/// from waiting for ever: a server that is to end would wait for one more client then.
 ///
 /// A client that keeps the server waiting for longer than its patience is left: a read fails if a whole line takes
 /// longer, from the read in which its first byte is awaited to its line feed, and so does a write, if it takes longer
-/// until the client has taken all answers that are written before more of its lines are read.
+/// until the client has taken all answers that are written before more of its lines are read. Once its round takes no
+/// more lines, a client is also left if it takes nothing of an answer for a quarter of a second.
 ///
 /// Once the history and the logs of a round take as much memory as they may, its talks end as at the end of their
 /// clients' lines, it takes no further connection, and it is settled. The next round follows, if the connections are
@@ -104,14 +106,21 @@ pub fn serve_operated<R: Threads + Wait + Clock + Sync, W: Write>(
         operating,
         desk,
     };
-    // Without this the door is looked at only when a client comes.
-    let _ = end_accepts_in_ticks(listener);
-    let is_announced = announce(writer, listener);
+    let is_announced = announce_in_ticks(writer, listener);
     let size = at_least_one(round);
     let found = serve_rounds(&service, writer, is_announced, vault, connections, size);
     let served = conclude(writer, is_announced, &found);
     keep_last(&service, found);
     served
+}
+
+/// Makes each wait for a client end after a tick, and writes the address; returns whether that was done. Without ticks
+/// the door would be looked at only when a client comes.
+fn announce_in_ticks<W: Write>(writer: &mut Watched<W>, listener: &TcpListener) -> bool
+    ensures unfailed { result ≡ true → has_failed writer.new ≡ false }
+    ensures announced { result ≡ true → Announces (W.contents (device_of writer.old)) (W.contents (device_of writer.new)) }
+{
+    end_accepts_in_ticks(listener).is_ok() && announce(writer, listener)
 }
 
 /// Leaves the history of the last round at the desk, if it was settled.
