@@ -577,6 +577,43 @@ def watching_ends_with_an_error(program: Path) -> None:
         same((found.stderr, found.returncode), (b"", 1))
 
 
+def all_attend(folder: str) -> tuple[str, ...]:
+    """The words of a server at which everybody attends, who have their files in this folder."""
+    return ("--control", f"{folder}/control", "--log", "--history", f"{folder}/steps")
+
+
+def thread_refused_to_attendants(program: Path) -> None:
+    """If no thread can be started for one who attends, standard error says so, and nobody is
+    served. The socket is gone then, as it is if a thread of the server itself cannot be started."""
+    for number in range(1, 5):
+        fault = Fault("thread", number, number)
+        with tempfile.TemporaryDirectory() as folder, faults.at_fault(fault) as (given, told):
+            how: dict[str, Any] = {"env": given, "pass_fds": [told.fileno()], "given": CONFIG}
+            found = ran(program, "serve", *ANY_PORT, *all_attend(folder), **how)
+            left = set(os.listdir(folder))
+        answer = found.stdout.partition(b"\n")[2] if number == 4 else found.stdout
+        said = b"tgdoc: a thread for --control, --log or --history cannot be started\n"
+        same(answer, b'{"settled":"no memory"}\n' if number == 4 else b"", f"at thread {number}")
+        same((found.stderr.count(said), found.returncode), (int(number < 4), 1))
+        assert left <= {"steps"}, left
+
+
+def memory_refused_to_attendants(program: Path) -> None:
+    """Each allocation of a server fails that has nowhere to listen: it ends by itself, and its
+    socket is gone."""
+
+    def attempt(fault: Fault) -> Ran:
+        with tempfile.TemporaryDirectory() as folder, faults.at_fault(fault) as (given, told):
+            words = ("--listen", "here", *all_attend(folder))
+            how: dict[str, Any] = {"env": given, "pass_fds": [told.fileno()], "given": CONFIG}
+            found = ran(program, "serve", *words, **how)
+            left = b"a socket" if os.path.lexists(f"{folder}/control") else b"none"
+            return Ran(left, found.returncode, os.fstat(told.fileno()).st_size)
+
+    ends = {(b"none", 1): "not served", (b"none", 2): "command line refused"}
+    faults.tell_refused(faults.memory_refused(attempt, faults.one_of(ends)))
+
+
 def memory_refused_to_ask(program: Path) -> None:
     """Each allocation fails as a server is asked: all is done as with memory, or standard error
     says why not, or the command line is refused."""
@@ -674,4 +711,6 @@ def tests() -> Tests:
     yield "control-subcommand", subcommand
     yield "watching-ends-with-an-error", watching_ends_with_an_error
     yield "memory-refused-to-the-control-subcommand", memory_refused_to_ask
+    yield "thread-refused-to-attendants", thread_refused_to_attendants
+    yield "memory-refused-to-attendants", memory_refused_to_attendants
     yield "idle-with-a-control-socket", idle_costs_little

@@ -1,35 +1,20 @@
-//! A server and those who attend to it, each in a thread of its own: at the control socket, over the log, and over the
-//! history.
+//! Those who attend to a server beside the control socket: over the log, and over the history.
 
-use std::alloc::{AllocError, Global};
+use std::alloc::Global;
 use std::fs::{Files, OpenOptions};
 use std::io::{BufWriter, Eprint, Write};
-use std::os::unix::net::UnixListener;
 use std::rt::Clock;
 use std::sync::Wait;
 use std::time::Duration;
-use std::{fs, io, thread};
+use std::{io, thread};
 use tg_audit::entry_step;
-use tg_serve::{Departure, Desk, Notice, Serving, attend};
+use tg_serve::{Departure, Desk, Notice};
 use tg_talk::TalkFault;
 use tg_vault::Entry;
 use tg_wire::{LineRoom, write_step_in};
 
 /// How long nothing is looked for after nothing was there, in milliseconds.
 const REST: u64 = 100;
-
-/// Attends to the control socket until the server has ended, and takes its file away then.
-pub(crate) fn attend_control<N: Wait + Clock + Files>(
-    rt: &N,
-    alloc: Global,
-    listener: &UnixListener,
-    path: &str,
-    desk: &Desk,
-    serving: Serving,
-) {
-    attend(rt, alloc, listener, desk, serving);
-    let _ = fs::remove_file(rt, path);
-}
 
 /// Writes the server's notices on standard error, a line of JSON for each, until it has ended.
 pub(crate) fn keep_log<N: Wait + Clock + Eprint>(rt: &N, alloc: Global, desk: &Desk) {
@@ -102,17 +87,18 @@ fn word_of(fault: Option<TalkFault>) -> &'static str {
 
 /// Appends the histories of the server's rounds to the file until it has ended; whether all was written. What cannot be
 /// is said once on standard error, and nothing more is written then.
-pub(crate) fn keep_history<N: Wait + Clock + Files + Eprint>(
+pub(crate) fn keep_history<N: Wait + Clock, H: Files + Eprint>(
     rt: &N,
+    host: &H,
     alloc: Global,
     desk: &Desk,
     path: &str,
 ) -> bool {
-    let mut is_whole = append_or_say(rt, alloc, path, &[]);
+    let mut is_whole = append_or_say(host, alloc, path, &[]);
     for _ in rt.forever() {
         let is_last = desk.has_ended();
         for history in desk.take_histories(rt, alloc) {
-            is_whole = is_whole && append_or_say(rt, alloc, path, &history);
+            is_whole = is_whole && append_or_say(host, alloc, path, &history);
         }
         if is_last {
             break;
@@ -120,7 +106,7 @@ pub(crate) fn keep_history<N: Wait + Clock + Files + Eprint>(
         thread::sleep(rt, Duration::from_millis(REST));
     }
     if desk.lacks_history() {
-        let _ = eprintln!(rt; "tgdoc: {path}: no memory for the history of a round");
+        let _ = eprintln!(host; "tgdoc: {path}: no memory for the history of a round");
         return false;
     }
     is_whole

@@ -56,6 +56,11 @@ pub(crate) fn say_no_memory<N: Eprint>(rt: &N) {
     let _ = eprintln!(rt; "tgdoc: no memory");
 }
 
+/// Says that a thread cannot be started for one who attends to a server.
+pub(crate) fn say_no_thread<N: Eprint>(rt: &N) {
+    let _ = eprintln!(rt; "tgdoc: a thread for --control, --log or --history cannot be started");
+}
+
 /// Says what is wrong with a configuration of this fault.
 fn say_fault<N: Eprint>(rt: &N, number: u64) {
     let what = sentence_of(number);

@@ -4,6 +4,8 @@ ghost use Rattle.std.specs.Process.{exit_status};
 ghost use Rattle.tg_talk.specs.Promise.Devices.{device_of, has_failed};
 ghost use Rattle.tg_serve.specs.Promise.Serving.{IsServed};
 
+use crate::attended::{keep_history, keep_log};
+use crate::saying::{say_no_memory, say_no_thread};
 use std::alloc::{AllocError, Global};
 use std::fs::Files;
 use std::io::{Eprint, Read, Write};
@@ -11,8 +13,10 @@ use std::net::Net;
 use std::os::unix::net::UnixListener;
 use std::process::ExitCode;
 use std::rt::Clock;
-use std::sync::Arc;
-use tg_serve::{Desk, Operating, Platform, Served, Serving, control_socket, serve_lines_operated};
+use std::{fs, thread};
+use tg_serve::{
+    Desk, Operating, Platform, Served, Serving, attend, control_socket, serve_lines_operated,
+};
 use tg_talk::{Watched, send_line};
 
 const CONTROL: &[u8] = b"{\"error\":\"control\"}\n";
@@ -25,10 +29,14 @@ pub(crate) struct Asked {
     pub(crate) connections: u64,
     pub(crate) round: u64,
     pub(crate) operating: Operating,
+    /// The path of the control socket.
+    pub(crate) control: Option<String>,
+    /// The file to which the history of each round is appended.
+    pub(crate) history: Option<String>,
 }
 
 /// The control socket at this path. If there cannot be one, the answer is `control`, and standard error says why.
-pub(crate) fn socket_at<N: Files + Net + Eprint, W: Write>(
+fn socket_at<N: Files + Net + Eprint, W: Write>(
     rt: &N,
     alloc: Global,
     writer: &mut Watched<W>,
@@ -47,19 +55,115 @@ pub(crate) fn socket_at<N: Files + Net + Eprint, W: Write>(
     }
 }
 
-/// A desk with a place for each worker, if anybody attends.
-pub(crate) fn desk_of(alloc: Global, asked: &Asked) -> Result<Arc<Desk>, AllocError> {
-    let operating = asked.operating;
-    let desk = if operating.is_attended || operating.notifies {
-        Desk::new(alloc, asked.workers)?
-    } else {
-        Desk::unattended(alloc)
+/// Serves clients as asked, and whoever asks at the control socket at this path, as `serve_attended` does. The socket's
+/// file is gone then.
+pub(crate) fn serve_at_socket<N: Platform + Files + Eprint, R: Read, W: Write>(
+    rt: &N,
+    host: &HostRuntime,
+    reader: &mut Watched<R>,
+    writer: &mut Watched<W>,
+    asked: &Asked,
+    path: &str,
+) -> ExitCode
+    requires reads { has_failed reader.old ≡ false }
+    requires writes { has_failed writer.old ≡ false }
+{
+    let Some(listener) = socket_at(rt, host.alloc(), writer, path) else {
+        return ExitCode::FAILURE;
     };
-    Ok(Arc::new(alloc, desk)?)
+    let status = serve_attended(rt, host, reader, writer, asked, Some(&listener));
+    // While the socket is open, no other server takes its name.
+    let _ = fs::remove_file(rt, path);
+    status
+}
+
+/// Serves clients as asked, beside those who attend to the server; one of them at this socket, if there is one.
+pub(crate) fn serve_attended<N: Platform + Eprint, R: Read, W: Write>(
+    rt: &N,
+    host: &HostRuntime,
+    reader: &mut Watched<R>,
+    writer: &mut Watched<W>,
+    asked: &Asked,
+    socket: Option<&UnixListener>,
+) -> ExitCode
+    requires reads { has_failed reader.old ≡ false }
+    requires writes { has_failed writer.old ≡ false }
+{
+    let Ok(desk) = desk_of(host.alloc(), asked) else {
+        say_no_memory(rt);
+        return ExitCode::FAILURE;
+    };
+    serve_beside(rt, host, reader, writer, asked, socket, &desk)
+}
+
+/// Serves clients as asked, and has a thread for each who attends to the server; all these have ended then. If one of
+/// them cannot be started, nobody is served, and standard error says so.
+fn serve_beside<N: Platform + Eprint, R: Read, W: Write>(
+    rt: &N,
+    host: &HostRuntime,
+    reader: &mut Watched<R>,
+    writer: &mut Watched<W>,
+    asked: &Asked,
+    socket: Option<&UnixListener>,
+    desk: &Desk,
+) -> ExitCode
+    requires reads { has_failed reader.old ≡ false }
+    requires writes { has_failed writer.old ≡ false }
+{
+    let alloc = host.alloc();
+    let serving = serving_of(rt, asked);
+    thread::scope(
+        thread::scope_env(),
+        rt,
+        |scope| -> ExitCode
+            requires reads { has_failed reader.now ≡ false }
+            requires writes { has_failed writer.now ≡ false }
+        {
+            let mut is_attended = true;
+            if let Some(listener) = socket {
+                is_attended = scope
+                    .spawn(move || attend(rt, alloc, listener, desk, serving))
+                    .is_ok();
+            }
+            if asked.operating.notifies {
+                let is_logged = scope.spawn(move || keep_log(rt, alloc, desk)).is_ok();
+                is_attended = is_attended && is_logged;
+            }
+            let mut keeper = None;
+            if let Some(path) = asked.history.as_deref() {
+                keeper = scope
+                    .spawn(move || keep_history(rt, host, alloc, desk, path))
+                    .ok();
+                is_attended = is_attended && keeper.is_some();
+            }
+            let served = if is_attended {
+                serve_clients(rt, alloc, reader, writer, asked, desk)
+            } else {
+                say_no_thread(rt);
+                ExitCode::FAILURE
+            };
+            desk.end();
+            let is_kept = match keeper {
+                Some(thread) => thread.join(rt),
+                None => true,
+            };
+            if is_kept { served } else { ExitCode::FAILURE }
+        },
+    )
+}
+
+/// A desk with a place for each worker, if anybody attends.
+fn desk_of(alloc: Global, asked: &Asked) -> Result<Desk, AllocError> {
+    let operating = asked.operating;
+    if operating.is_attended || operating.notifies {
+        Desk::new(alloc, asked.workers)
+    } else {
+        Ok(Desk::unattended(alloc))
+    }
 }
 
 /// The numbers of a server that begins now, for its status.
-pub(crate) fn serving_of<N: Clock>(rt: &N, asked: &Asked) -> Serving {
+fn serving_of<N: Clock>(rt: &N, asked: &Asked) -> Serving {
     if asked.operating.is_endless {
         Serving::now(rt, None)
     } else {
@@ -69,7 +173,7 @@ pub(crate) fn serving_of<N: Clock>(rt: &N, asked: &Asked) -> Serving {
 
 /// Serves clients on the loopback, after a configuration line from the reader. The status is 0 if everything agrees and
 /// that was written.
-pub(crate) fn serve_clients<N: Platform, R: Read, W: Write>(
+fn serve_clients<N: Platform, R: Read, W: Write>(
     rt: &N,
     alloc: Global,
     reader: &mut Watched<R>,
