@@ -37,16 +37,17 @@ def no_reading(program: Path) -> None:
     assert found.stderr.startswith(begin), found.stderr
 
 
-BAD = b"a value that may not be in the field "
-OTHER = b"with the field, which this op does not have: "
+BAD = b"bad value in the field "
+OTHER = b"this op has no field "
 # Lines of a run, and what is said of them: nothing if they are not refused for themselves.
 EVENTS: list[tuple[bytes, bytes | None]] = [
     (b'{"op":"hello","name":"alice"}', None),
     (b'{"op":"read","over":9}', None),
     (b"no json", b"not one JSON value in UTF-8"),
     (b"[]", b"not an object"),
-    (b'{"op":"shutdown"}', b"no op that there is here"),
-    (b'{"op":"take","rights":"r","over":2}', b"without the field from"),
+    (b'{"op":"shutdown"}', b"unknown or missing op"),
+    (b'{"from":1}', b"unknown or missing op"),
+    (b'{"op":"take","rights":"r","over":2}', b"missing field from"),
     (b'{"op":"take","rights":"rr","over":"x","from":1}', BAD + b"rights"),
     (b'{"op":"look","at":1,"seat":"0"}', BAD + b"seat"),
     (b'{"op":"look","at":1,"to":2}', OTHER + b"to"),
@@ -57,8 +58,8 @@ EVENTS: list[tuple[bytes, bytes | None]] = [
 ]
 
 STEPS: list[tuple[bytes, bytes | None]] = [
-    (b'{"op":"create","kind":"document","rights":"r"}', b"without the field actor"),
-    (b'{"op":"enrol","actor":1,"name":"bob","rights":"r"}', b"no op that there is here"),
+    (b'{"op":"create","kind":"document","rights":"r"}', b"missing field actor"),
+    (b'{"op":"enrol","actor":1,"name":"bob","rights":"r"}', b"unknown or missing op"),
     (b'{"op":"create","actor":1,"kind":"document","rights":"r","seat":0}', OTHER + b"seat"),
 ]
 

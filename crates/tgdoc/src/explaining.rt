@@ -113,10 +113,10 @@ fn words_of(fault: WireFault) -> &'static str {
     match fault {
         WireFault::NotJson => "not one JSON value in UTF-8",
         WireFault::NotObject => "not an object",
-        WireFault::NoOp => "no op that there is here",
-        WireFault::MissingField => "without the field",
-        WireFault::BadField => "a value that may not be in the field",
-        WireFault::UnknownField => "with the field, which this op does not have:",
+        WireFault::NoOp => "unknown or missing op",
+        WireFault::MissingField => "missing field",
+        WireFault::BadField => "bad value in the field",
+        WireFault::UnknownField => "this op has no field",
         WireFault::TooLong => "more than 16384 bytes",
         WireFault::OutOfMemory => "no memory to read it",
     }
