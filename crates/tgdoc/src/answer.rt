@@ -50,7 +50,7 @@ pub(crate) fn answer(
     }
 }
 
-/// Carries out what a line asks for, which stays in its place, and writes the answer's line into the room.
+/// Carries out what a line asks for, without moving it, and writes the answer's line into the room.
 #[inline(always)]
 fn carry_out(vault: &mut Vault, line: &mut Line, room: &mut LineRoom) -> Text
     ensures { (bytes : List ℕ) → line_of bytes ≡ Ok line.old → AnswersLine vault.old bytes vault.new (shown_line room.new result) (one_if (is_wrong result)) }

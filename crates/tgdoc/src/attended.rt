@@ -13,7 +13,7 @@ use tg_talk::TalkFault;
 use tg_vault::Entry;
 use tg_wire::{LineRoom, write_step_in};
 
-/// How long nothing is looked for after nothing was there, in milliseconds.
+/// How long to rest before looking again for what is to be written, in milliseconds.
 const REST: u64 = 100;
 
 /// Writes the server's notices on standard error, a line of JSON for each, until it has ended.

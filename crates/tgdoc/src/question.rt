@@ -50,7 +50,7 @@ pub struct Lookup {
     pub vertex: VertexName,
     /// The rights.
     pub rights: Rights,
-    /// How much may be tried: how many vertices may be asked for who could, or of how many steps the derivation may be of
-    /// all that one could have.
+    /// How much may be tried: with `End::To` how many vertices may be asked about, with `End::From` how many steps may
+    /// lead to all that the vertex could have.
     pub most: usize,
 }
