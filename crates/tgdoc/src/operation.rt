@@ -12,17 +12,6 @@ pub struct Operation {
     pub history: Option<String>,
 }
 
-impl Operation {
-    /// No bounds, and nobody attends.
-    pub fn none() -> Operation {
-        Operation {
-            operating: Operating::none(),
-            control: None,
-            history: None,
-        }
-    }
-}
-
 /// What is asked of a server through its control socket.
 #[derive(Clone, Copy, PartialEq, Eq, Debug)]
 pub enum Request {
