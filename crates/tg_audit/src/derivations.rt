@@ -64,8 +64,8 @@ fn weigh(graph: &Graph, goal: Goal) -> Verdict
 /// from 0, that cannot be carried out, with the first of these that holds: its actor is no subject of the graph as it
 /// then is; the rules (Lipton and Snyder 1977; Bishop) deny it, for the first cause; it makes a vertex and no serial is
 /// left. After all steps, the rights of the goal that the label lacks, or `Shared`, so that the goal's rights can be
-/// shared, by these steps. Enrols, retires, assumes and leaves are steps like others, though they give nobody rights that
-/// creates do not. `AllocError` only if there was no memory for a step.
+/// shared, by these steps. Enrols, retires, assumes and leaves are steps like others, though they give nobody rights
+/// that creates do not. `AllocError` only if there was no memory for a step.
 pub fn check(
     alloc: Global,
     mut graph: Graph,

@@ -31,8 +31,8 @@ pub fn settle_with_logs(alloc: Global, vault: Vault, logs: Vec<SeatLog>) -> (Set
     (settled, logs)
 }
 
-/// As `settle_with_logs`, with the graph that the history leaves if the logs agree, which it drops: so a rebase can go on
-/// from it.
+/// As `settle_with_logs`, with the graph that the history leaves if the logs agree, which it drops: so a rebase can go
+/// on from it.
 pub fn settle_with_graph(
     alloc: Global,
     vault: Vault,

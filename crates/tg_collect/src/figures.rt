@@ -114,8 +114,8 @@ impl Machine {
         }
     }
 
-    /// Adds the edges from a slot's vertex, of this serial, to those that have a slot, in the order of its cells; none if
-    /// no serial is given.
+    /// Adds the edges from a slot's vertex, of this serial, to those that have a slot, in the order of its cells; none
+    /// if no serial is given.
     fn add_arrows(
         &self,
         found: &mut Vec<(u64, Rights, u64)>,

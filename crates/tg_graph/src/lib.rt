@@ -92,8 +92,8 @@ pub fn principals_come_and_go()
     ensures { PrincipalsComeAndGo }
 {}
 
-/// An assume is allowed exactly to who has not retired and has take and grant over another vertex, a subject; a leave is
-/// always allowed, and is the only command that a retired actor may ask. Neither changes the graph.
+/// An assume is allowed exactly to who has not retired and has take and grant over another vertex, a subject; a leave
+/// is always allowed, and is the only command that a retired actor may ask. Neither changes the graph.
 pub fn agents_are_assumed_and_left()
     ensures { AgentsAreAssumedAndLeft }
 {}
@@ -104,8 +104,8 @@ pub fn each_is_allowed_so()
     ensures { EachIsAllowedSo }
 {}
 
-/// What each command that changes rights does, and what it replies, right by right: who has them over whom afterwards. A
-/// denial for missing rights names such as are missing.
+/// What each command that changes rights does, and what it replies, right by right: who has them over whom afterwards.
+/// A denial for missing rights names such as are missing.
 pub fn each_does_so()
     ensures { EachDoesSo }
 {}
@@ -135,7 +135,8 @@ pub fn restrictions_permit()
     ensures { RestrictionsPermit }
 {}
 
-/// A restriction of a graph stays one when a command of one of its subjects has an outcome that the restriction permits.
+/// A restriction of a graph stays one when a command of one of its subjects has an outcome that the restriction
+/// permits.
 pub fn restrictions_stay()
     ensures { RestrictionsStay }
 {}

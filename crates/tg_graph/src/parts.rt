@@ -31,8 +31,8 @@ pub struct Parts {
 }
 
 impl Graph {
-    /// Lends the labels by the ends of their edges: first the vertex that has the rights, then the one over which it has
-    /// them. Each edge is there once, by rising ends; a pair with an empty label is no edge.
+    /// Lends the labels by the ends of their edges: first the vertex that has the rights, then the one over which it
+    /// has them. Each edge is there once, by rising ends; a pair with an empty label is no edge.
     pub fn labels(&self) -> &BTreeMap<(u64, u64), Rights>
         ensures { AreLabels self.now result.now.entries }
     {
@@ -58,10 +58,10 @@ impl Graph {
         true
     }
 
-    /// The graph that has exactly what these lists have. Vertices and those who have retired are listed by rising serial
-    /// and edges by rising pairs of ends; the ends of an edge are two different vertices, and its label is not empty;
-    /// there are at most 64 principals, subjects of different names and serials, and none of them has retired; who has
-    /// retired is a vertex; and the next serial is above all. `AllocError` if there is no memory for the graph.
+    /// The graph that has exactly what these lists have. Vertices and those who have retired are listed by rising
+    /// serial and edges by rising pairs of ends; the ends of an edge are two different vertices, and its label is not
+    /// empty; there are at most 64 principals, subjects of different names and serials, and none of them has retired;
+    /// who has retired is a vertex; and the next serial is above all. `AllocError` if there is no memory for the graph.
     pub fn from_parts(alloc: Global, parts: Parts) -> Result<Graph, AllocError>
         requires { AreParts parts }
         ensures lists { IfOk result (Lists parts) }
@@ -105,7 +105,8 @@ fn vertices_of(
         .collect(alloc)
 }
 
-/// The labels by the ends of their edges, which rise: so the map is built at once, with no search for the place of each.
+/// The labels by the ends of their edges, which rise: so the map is built at once, with no search for the place of
+/// each.
 fn labels_of(
     alloc: Global,
     listed: &[(u64, Rights, u64)],

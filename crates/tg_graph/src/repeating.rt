@@ -13,10 +13,10 @@ use std::alloc::{AllocError, Global};
 use tg_rights::{Command, Kind, Name, Outcome, Reply, Rights, Text, Which};
 
 impl Graph {
-    /// Carries out the actor's command as `apply` does, and says whether this is the reply to it: for whoever knows what
-    /// the reply was, and wants to know if it was right. Nothing is copied but a text that is written and a name that is
-    /// enrolled. `AllocError` only for a command that would otherwise be carried out and needs memory for what is
-    /// stored, so never for a denial, a read, a look, a remove, an assume or a leave; the graph then stays.
+    /// Carries out the actor's command as `apply` does, and says whether this is the reply to it: for whoever knows
+    /// what the reply was, and wants to know if it was right. Nothing is copied but a text that is written and a name
+    /// that is enrolled. `AllocError` only for a command that would otherwise be carried out and needs memory for what
+    /// is stored, so never for a denial, a read, a look, a remove, an assume or a leave; the graph then stays.
     pub fn repeat(
         &mut self,
         actor: u64,

@@ -152,8 +152,8 @@ impl Budget {
             .saturating_add(taken)
     }
 
-    /// Sets aside what a worker needs for as many of these lines as it may take now; none may be taken once the bound is
-    /// reached.
+    /// Sets aside what a worker needs for as many of these lines as it may take now; none may be taken once the bound
+    /// is reached.
     pub(crate) fn set_aside(&self, lines: u64) -> SetAside {
         let Some(bound) = self.bound else {
             return SetAside { lines, bytes: 0 };

@@ -9,7 +9,8 @@ use tg_share::Worked;
 use tg_talk::TalkFault;
 use tg_vault::{Entry, Room};
 
-/// For how many milliseconds the talks of a round go on with lines that have come, once their clients are not waited for.
+/// For how many milliseconds the talks of a round go on with lines that have come, once their clients are not waited
+/// for.
 const LAST_LINES: u64 = 1_000;
 
 /// The time that never comes, in milliseconds.
@@ -98,8 +99,8 @@ pub struct Departure {
     pub seconds: u64,
 }
 
-/// What those who attend to a server have from it, and what they ask of it. Nobody at the desk makes the server wait but
-/// for a few instructions.
+/// What those who attend to a server have from it, and what they ask of it. Nobody at the desk makes the server wait
+/// but for a few instructions.
 #[derive(Drop)]
 pub struct Desk {
     pub(crate) counts: Counts,

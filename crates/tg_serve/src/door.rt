@@ -50,9 +50,9 @@ impl<'a> Door<'a> {
         }
     }
 
-    /// Waits for a client, and takes it from the connections left. None once none is left or the door is closed. One that
-    /// cannot be accepted for want of descriptors or memory is tried again for ten seconds, with growing rests, before it
-    /// counts as a connection; one that fails otherwise counts at once.
+    /// Waits for a client, and takes it from the connections left. None once none is left or the door is closed. One
+    /// that cannot be accepted for want of descriptors or memory is tried again for ten seconds, with growing rests,
+    /// before it counts as a connection; one that fails otherwise counts at once.
     pub(crate) fn take<R: Wait + Clock>(&self, rt: &R) -> Option<Taken> {
         let mut left = self.left.lock(rt);
         let mut rests = Rests::new();
@@ -98,9 +98,9 @@ pub(crate) fn tick() -> Duration {
     Duration::from_millis(TICK)
 }
 
-/// Makes each wait of the listener for a client end after a tick, so that a door that is closed is noticed. That takes a
-/// descriptor for a moment; if there is none, the listener does not wait at all. An error if neither can be set: then it
-/// waits for ever.
+/// Makes each wait of the listener for a client end after a tick, so that a door that is closed is noticed. That takes
+/// a descriptor for a moment; if there is none, the listener does not wait at all. An error if neither can be set: then
+/// it waits for ever.
 pub(crate) fn end_accepts_in_ticks(listener: &TcpListener) -> io::Result<()> {
     match set_ticks(listener) {
         Ok(()) => Ok(()),
@@ -126,7 +126,8 @@ pub(crate) fn is_tick(error: &io::Error) -> bool {
     matches!(error.kind(), ErrorKind::WouldBlock | ErrorKind::TimedOut)
 }
 
-/// The system's numbers for: too many files open in the system, too many in the process, no room for a buffer, no memory.
+/// The system's numbers for: too many files open in the system, too many in the process, no room for a buffer, no
+/// memory.
 const WANTS: [i32; 4] = [23, 24, 105, 12];
 
 /// Whether a call failed for want of descriptors or memory.

@@ -4,7 +4,8 @@ ghost use Rattle.std.specs.Prelude.{◌≡◌, ◌%◌, ◌/◌, ◌^◌, bit_or
 use std::random::RandomSource;
 use tg_vault::Key;
 
-/// A key of random numbers, of which the source promises that nobody can guess them; or the fixed one if it returns none.
+/// A key of random numbers, of which the source promises that nobody can guess them; or the fixed one if it returns
+/// none.
 pub(crate) fn key_or_fixed<S: RandomSource>(source: &S) -> Key {
     let mut bytes = [0; 16];
     match source.fill_bytes(&mut bytes) {

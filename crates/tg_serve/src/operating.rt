@@ -5,11 +5,11 @@ ghost use Rattle.tg_serve.specs.Promise.Serving.{unbounded};
 /// What bounds a server, besides its numbers of workers and connections, and what those who attend to it want.
 #[derive(Clone, Copy, Debug, PartialEq, Eq)]
 pub struct Operating {
-    /// Seconds for which a client may keep the server waiting, for a line or until it takes its answers: 1 to 86,400; for
-    /// ever if there is no number.
+    /// Seconds for which a client may keep the server waiting, for a line or until it takes its answers: 1 to 86,400;
+    /// for ever if there is no number.
     pub patience: Option<u64>,
-    /// Bytes that the history and the logs of a round may take, as they are counted (PROTOCOL says how), before the round
-    /// ends; no bound if there is no number.
+    /// Bytes that the history and the logs of a round may take, as they are counted (PROTOCOL says how), before the
+    /// round ends; no bound if there is no number.
     pub memory: Option<u64>,
     /// Whether the server serves until it is asked to stop, whatever its number of connections.
     pub is_endless: bool,

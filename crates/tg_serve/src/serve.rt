@@ -67,8 +67,8 @@ pub(crate) struct Service<'a, R> {
 
 /// Serves the connections that are left at the door, each in a talk of a worker on the worker's own seat, while a
 /// collector runs, and settles the logs. All threads have ended then. What the round before has left is dropped once
-/// there are workers: that takes a while, and clients need not wait for it. Returns the vault, the graph that its history
-/// leaves, and logs that agree with it.
+/// there are workers: that takes a while, and clients need not wait for it. Returns the vault, the graph that its
+/// history leaves, and logs that agree with it.
 pub(crate) fn serve_round<L: Ledger + Send + Sync, R: Threads + Wait + Clock + Sync>(
     service: &Service<'_, R>,
     door: &Door<'_>,

@@ -48,8 +48,8 @@ impl<L: Ledger> Shared<L> {
         (closed, logs)
     }
 
-    /// As `close_with_logs`, with the graph that the history leaves if they agree, which it drops: so a rebase can go on
-    /// from it.
+    /// As `close_with_logs`, with the graph that the history leaves if they agree, which it drops: so a rebase can go
+    /// on from it.
     pub fn close_with_graph(self, ended: Vec<Ended<L>>) -> (Closed<L>, Vec<SeatLog>, Option<Graph>)
         requires { L.parts ≡ PARTS }
         ensures closed { IsClosed ended.items result.0 }

@@ -57,14 +57,15 @@ impl Past {
 }
 
 impl Vault {
-    /// `Seated` if somebody sits on a seat, whatever memory there is, and nothing changes. Otherwise makes three cycles,
-    /// makes what is live the opening graph, and drops the history. Names, the next serial and the numbers of slots and
-    /// cells stay, and so does the store, which then holds what is live and nothing else; of those who have retired the
-    /// vault keeps the ones that are held. `NoMemory` if an allocation failed, after the cycles, with the whole history.
+    /// `Seated` if somebody sits on a seat, whatever memory there is, and nothing changes. Otherwise makes three
+    /// cycles, makes what is live the opening graph, and drops the history. Names, the next serial and the numbers of
+    /// slots and cells stay, and so does the store, which then holds what is live and nothing else; of those who have
+    /// retired the vault keeps the ones that are held. `NoMemory` if an allocation failed, after the cycles, with the
+    /// whole history.
     ///
     /// The new opening graph is the graph of the history restricted to its live vertices, agrees with it for each
-    /// principal, and each history that is legal from the new graph is legal from the old one's, with the same replies, and
-    /// leads to a restriction again: so nobody can tell, however many rebases follow one another.
+    /// principal, and each history that is legal from the new graph is legal from the old one's, with the same replies,
+    /// and leads to a restriction again: so nobody can tell, however many rebases follow one another.
     pub fn rebase(self) -> Rebased
         ensures { Rebases self result }
     {
@@ -129,8 +130,8 @@ impl Vault {
         first_in_use(seats)
     }
 
-    /// The rebase of a vault with nobody on a seat, and what it drops, or nothing. The graph of the history is passed in,
-    /// if it is known.
+    /// The rebase of a vault with nobody on a seat, and what it drops, or nothing. The graph of the history is passed
+    /// in, if it is known.
     fn begin_anew(self, none: Past, graph: Option<Graph>) -> (Rebased, Past)
         requires nobody { NobodySits self.seats }
         requires graph { IfSome graph (λ g. g ≡ graph_now self) }
@@ -166,8 +167,8 @@ impl Vault {
         self.cycle();
     }
 
-    /// What is held, as a graph of its own, and with it those of the retired that are held: the graph of the history, if
-    /// that is passed in and all of it is held.
+    /// What is held, as a graph of its own, and with it those of the retired that are held: the graph of the history,
+    /// if that is passed in and all of it is held.
     fn opening_anew(&self, graph: Option<Graph>) -> Result<Graph, AllocError>
         requires graph { IfSome graph (λ g. g ≡ graph_now self.now) }
         requires idle { phase self.now.store ≡ Idle }
@@ -214,8 +215,8 @@ impl Vault {
         Ok(graph)
     }
 
-    /// Puts the graph of what is held in the place of the opening graph, and this history without entries in the place of
-    /// the other; returns both. Allocates nothing.
+    /// Puts the graph of what is held in the place of the opening graph, and this history without entries in the place
+    /// of the other; returns both. Allocates nothing.
     fn reopen(&mut self, opening: Graph, none: Vec<Entry>) -> Past
         requires none { none.items ≡ [] }
         requires nobody { NobodySits self.old.seats }

@@ -76,12 +76,13 @@ pub fn draw_lines<R: Read, W: Write + Drop>(
 
 /// Carries out lines as `run_lines` does, without their answers, and then answers whether rights can ever be shared in
 /// the graph to which they led, whatever its subjects do: in the plain graph of all commands that were carried out, of
-/// which no vertex is collected. For a yes it writes a derivation for `audit_lines`: the configuration line, the goal, the
-/// commands that changed edges, and steps that lead to the goal; or these steps alone, if the question asks for that. A
-/// no is `{"verdict":"never"}`. `{"verdict":"no serial"}` says that it took more new vertices than serials are left. If a
-/// word of the question names no vertex, the answer is `{"error":"no vertex","vertex":N}` or `{"error":"no principal"}`. A
-/// refused configuration, and a line that ends the run, are answered as by `run_lines`, and the question is not; nor is
-/// it if the reader or the writer fails. If there is no memory for the answer, `out of memory` is written in its place.
+/// which no vertex is collected. For a yes it writes a derivation for `audit_lines`: the configuration line, the goal,
+/// the commands that changed edges, and steps that lead to the goal; or these steps alone, if the question asks for
+/// that. A no is `{"verdict":"never"}`. `{"verdict":"no serial"}` says that it took more new vertices than serials are
+/// left. If a word of the question names no vertex, the answer is `{"error":"no vertex","vertex":N}` or `{"error":"no
+/// principal"}`. A refused configuration, and a line that ends the run, are answered as by `run_lines`, and the
+/// question is not; nor is it if the reader or the writer fails. If there is no memory for the answer, `out of memory`
+/// is written in its place.
 pub fn share_lines<R: Read, W: Write + Drop>(
     alloc: Global,
     question: &Question,

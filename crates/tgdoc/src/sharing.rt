@@ -27,8 +27,8 @@ use tg_wire::{
     write_step_in,
 };
 
-/// Answers the question after the last line, if neither a line ended the run before nor the reader or the writer failed.
-/// `first` is the line that opened the vault.
+/// Answers the question after the last line, if neither a line ended the run before nor the reader or the writer
+/// failed. `first` is the line that opened the vault.
 pub(crate) fn end_sharing<W: Write + Drop>(
     alloc: Global,
     vault: &Vault,
