@@ -304,14 +304,13 @@ def own_memory_refused(program: Path, tried: Servers) -> None:
     """One allocation of the server's own thread fails, which never serves a client."""
     early, opening, server = stages(tried)
     last = max(at for at, one in enumerate(early) if one.end == "command line refused")
-    words, texts, desk = early[: last + 1], early[last + 1 : -1], early[-1]
+    words, texts = early[: last + 1], early[last + 1 :]
     unharmed = [one for one in words if one.end != "command line refused"]
     what = "one growth for words changes nothing, each other refuses the command line"
     all_end(what, unharmed, "agreed")
     all_heard(what, unharmed)
     assert len(unharmed) <= 1, what
     check_system_texts("growths for what the system says", texts)
-    same(desk.end, "nothing written", "the growth for the desk")
     what = "growths for the opening: as many as that of a run, and one for the lines"
     same(len(opening), 1 + openings_refused(program), what)
     all_end("growths for the opening", opening, "opening refused")
@@ -352,13 +351,11 @@ def told_to_clients(tried: Servers) -> None:
 def memory_refused_from_then_on(program: Path, tried: Servers) -> None:
     """An allocation and all after it fail. Settling needs memory, so nothing is agreed."""
     early, opening, server = stages(tried)
-    last = sum(one.end == "command line refused" for one in early)
-    all_end("growths for words", early[:last], "command line refused")
-    all_end("then growths for the desk", early[last:], "nothing written")
-    all_end("then growths for the opening", opening, "opening refused")
+    all_end("growths for words", early, "command line refused")
+    all_end("then growths for the system's texts and the opening", opening, "opening refused")
     all_end("and then growths of the server", server, NOT_SETTLED)
-    assert len(early) - last > SYSTEM_TEXTS, "too few growths for the desk"
-    assert len(opening) >= 1 + openings_refused(program), "too few growths for the opening"
+    before = SYSTEM_TEXTS + 1
+    assert len(opening) >= before + openings_refused(program), "too few growths for the opening"
     assert len(server) > LAST_GROWTHS, "too few growths of the server"
 
 

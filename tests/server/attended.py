@@ -629,9 +629,12 @@ def memory_refused_to_ask(program: Path) -> None:
 
     for words in requests:
         asks = functools.partial(attempt, words)
-        ends = {asks(Fault())[:2]: "asked all the same"}
+        whole, status, _ = asks(Fault())
+        ends = {(whole, status): "asked all the same"}
         ends[b"", 2] = ends[b"error: out of memory\n", 2] = "command line refused"
-        ends[b"tgdoc: no memory\n", 1] = ends[b"tgdoc: PATH: out of memory\n", 1] = "said"
+        for before in (b"", whole.removesuffix(NO_MEMORY)):
+            for said in (b"tgdoc: no memory\n", b"tgdoc: PATH: out of memory\n"):
+                ends[before + said, 1] = "said"
         counts += faults.memory_refused(asks, faults.one_of(ends))
     faults.tell_refused(counts)
     assert counts["said"] > 0, "it was never said that memory is lacking"
