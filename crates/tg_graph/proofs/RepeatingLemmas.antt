@@ -1,5 +1,5 @@
 -- Whether a reply is the one that a command gets: a list compared from its first element on.
-use Rattle.std.proofs.Common.{◌≡◌, ℕ, ◌+◌, ◌≤◌, ◌↔◌, zero, suc, List, [], ◌∷◌, ◌++◌, Bool, true, false, IsTrue, Some, Result, Ok, Err, IfOk, OnOk, take, length, slice_get, nat_eq, refl, sym, ap, ◌∙◌, arith, Decides}
+use Rattle.std.proofs.Common.{◌≡◌, ℕ, ◌+◌, ◌≤◌, ◌↔◌, zero, suc, List, [], ◌∷◌, ◌++◌, Bool, true, IsTrue, Some, Result, Ok, Err, IfOk, OnOk, take, length, slice_get, nat_eq, refl, sym, ap, ◌∙◌, arith, Decides}
 use Rattle.std.proofs.lemmas.Bool.{eqb-true, eq-eqb}
 use Rattle.std.proofs.lemmas.Bool.Decides.{nat_tests}
 use Rattle.std.proofs.lemmas.List.{length-take-le}

@@ -1,4 +1,4 @@
-use Rattle.std.proofs.Common.{ap, sym, ◌∙◌}
+use Rattle.std.proofs.Common.{sym, ◌∙◌}
 use Rattle.tg_rights.specs.declared.outcome.Reply.TheVariants as reply
 use Rattle.tg_rights.proofs.EqualityLemmas.{replies_decided}
 use Rattle.tg_graph.proofs.repeating.is_text.Goals as goal

@@ -1,4 +1,4 @@
-use Rattle.std.proofs.Common.{sym, subst, refl}
+use Rattle.std.proofs.Common.{sym, subst}
 use Rattle.tg_rights.specs.declared.command.Command.{Command}
 use Rattle.tg_graph.specs.Promise.Repeating.{Repeats}
 use Rattle.tg_graph.proofs.RepeatingLemmas.{repeats_read}

@@ -1,10 +1,9 @@
 use Rattle.std.proofs.Common.{◌≡◌, ◌∙◌, [], Some, true, false, ap, sym}
 use Rattle.std.specs.Option.{option_map, option_map_or}
 use Rattle.tg_rights.specs.Promise.Letters.{Letters, includes, read_alone}
-use Rattle.tg_rights.specs.declared.kind.Kind.TheVariants as kind
 use Rattle.tg_rights.specs.declared.outcome.Reply.TheVariants as reply
 use Rattle.tg_graph.specs.declared.vertex.Vertex.{Vertex}
-use Rattle.tg_graph.specs.Promise.Protection.{Protection, has_retired, kind_of, label, vertex}
+use Rattle.tg_graph.specs.Promise.Protection.{Protection, has_retired, label, vertex}
 use Rattle.tg_graph.specs.Promise.Rules.{text_of}
 use Rattle.tg_graph.proofs.EachCommandLemmas.{read_found}
 use Rattle.tg_graph.proofs.ViewsLemmas.{vertex-shown}
