@@ -125,7 +125,7 @@ def serve(
     """A server with these options, and for each of these talks a client, one after the other."""
     port, connections, answers = free_port(), str(len(talks)), []
     words = ("--listen", f"127.0.0.1:{port}", *options, "--connections", connections)
-    opening = faults.source_of(scripts.OPENING + b"\n")
+    opening = faults.source_of(scripts.SERVED + b"\n")
     with opening as source, faults.at_fault(fault) as (environment, told):
         how: dict[str, Any] = {"stdin": source, "stderr": subprocess.DEVNULL}
         how |= {"env": environment, "pass_fds": [told.fileno()], "seconds": SECONDS}
@@ -277,10 +277,10 @@ def openings_refused(program: Path) -> int:
 # lists of all workers are moved: two sessions fit into its first room. One is for the list of logs.
 # Then settling copies the opening graph: its vertices are one node of a map and its edges another,
 # and its two principals have a list and two names. And it carries the commands out once more, of
-# which these need memory: the two looks that are allowed, the two enrols of a principal that has not
-# retired, whose names are copied, and the first retire. A write and a read need none, since a text of
-# few bytes lies in the command, and copies of any other share it.
-LAST_GROWTHS = 1 + 1 + (2 + 3) + (2 + 2 + 1)
+# which these need memory: the enrol that is allowed, whose name is copied, and the first retire. A
+# reply is compared where it stands, and a write needs none, since a text of few bytes lies in the
+# command, and copies of any other share it.
+LAST_GROWTHS = 1 + 1 + (2 + 3) + (1 + 1)
 
 
 def stages(tried: Servers) -> tuple[Servers, Servers, Servers]:
