@@ -53,9 +53,9 @@ FLAG_LINES = [
 # Each place, by file, function, what is handed on, and what is made of it; and how often.
 LISTED = {
     # The faults of the lower crates are the refusals of lists, maps and texts.
-    ("tg_audit/src/settling.rt", "settle_with_logs", "first_difference", "Settled::NoMemory"): 1,
+    ("tg_audit/src/settling.rt", "settle_with_graph", "first_difference", "Settled::NoMemory"): 1,
     ("tg_graph/src/graph.rt", "build", "Graph::open", "OpenFault::OutOfMemory"): 1,
-    ("tg_vault/src/rebase.rt", "begin_anew", "vault.live_graph", "Rebased::NoMemory"): 1,
+    ("tg_vault/src/rebase.rt", "begin_anew", "vault.opening_anew", "Rebased::NoMemory"): 1,
     ("tg_vault/src/vault.rt", "with_key", "Store::with_key", "OpenFault::OutOfMemory"): 1,
     ("tg_vault/src/vault.rt", "with_key", "opening.principals().copy", "OpenFault::OutOfMemory"): 1,
     ("tg_vault/src/vault.rt", "with_key", "empty_seats", "OpenFault::OutOfMemory"): 1,
@@ -65,7 +65,7 @@ LISTED = {
     # A session submits nothing without room in its log and a copy of the command.
     ("tg_share/src/session.rt", "carry_out", "self.log.try_reserve", "AskFault::OutOfMemory"): 1,
     ("tg_share/src/session.rt", "carry_out", "command.copy", "AskFault::OutOfMemory"): 1,
-    ("tg_share/src/closing.rt", "close_with_logs", "Vec::with_capacity", "Closed::NoRoom"): 1,
+    ("tg_share/src/closing.rt", "close_with_graph", "Vec::with_capacity", "Closed::NoRoom"): 1,
     # Lines: each lack of memory is one fault, and the parser says which of its own errors mean that
     # memory ran out.
     ("tg_wire/src/fault.rt", "from", "AllocError", "WireFault::OutOfMemory"): 1,
@@ -90,6 +90,7 @@ LISTED = {
     # threads among it; settling; a rebase.
     ("tg_serve/src/listening.rt", "read_vault", "InputLines::new", "WireFault::OutOfMemory"): 1,
     ("tg_serve/src/serve.rt", "work", "serve_one", "None"): 1,
+    ("tg_serve/src/serve.rt", "serve_one", "talk_with", "TalkFault::OutOfMemory"): 1,
     ("tg_serve/src/serve.rt", "serve_in_threads", FLAG, "None"): 1,
     ("tg_serve/src/serve.rt", "serve_round", "serve_in_threads", "Unsettled::NoMemory"): 1,
     ("tg_serve/src/serve.rt", "found_in", "Settled::NoMemory", "Unsettled::NoMemory"): 1,
@@ -118,7 +119,7 @@ SIZES = {
     ("tg_load/src/crowd.rt", "act_at_once", "threads.try_reserve", "1"): 1,
     ("tg_serve/src/attending.rt", "attend", "Vec::with_capacity", "LONGEST"): 1,
     ("tg_serve/src/client.rt", "new", "Vec::with_capacity", "room"): 1,
-    ("tg_share/src/closing.rt", "close_with_logs", "Vec::with_capacity", "ended.len()"): 1,
+    ("tg_share/src/closing.rt", "close_with_graph", "Vec::with_capacity", "ended.len()"): 1,
     ("tg_share/src/session.rt", "carry_out", "self.log.try_reserve", "1"): 1,
     ("tg_talk/src/line_buffer.rt", "new", "vec!", "CAPACITY"): 1,
     ("tg_sharing/src/search.rt", "near_of", "Vec::with_capacity", "serials.len()"): 1,
